@@ -1,0 +1,8 @@
+//! The records that the compiler leaves for the debugger.
+#![tactic(auto)]
+
+pub mod code;
+#[cfg(test)]
+mod tests;
+
+pub use code::{Code, Letter, codes_in_use};

@@ -1,0 +1,2 @@
+//! Runs as lists of events, and what it means that one run follows another.
+#![tactic(auto)]

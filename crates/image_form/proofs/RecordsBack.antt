@@ -1,0 +1,171 @@
+-- Each record of an image is what its numbers say.
+use Rattle.std.proofs.Common.{◌≡◌, ℕ, ◌<◌, false, List, [], ◌∷◌, length, Option, Some, None, refl, ap, ◌∙◌, arith}
+use Rattle.std.specs.Prelude.{slice_get, unwrap_or, IsSomeAnd, ◌==◌}
+use Rattle.std.specs.List.{AllByRecursion}
+use Rattle.std.proofs.lemmas.Bool.{ne_eqb}
+use Rattle.std.proofs.lemmas.Option.{slice_get_within}
+use Rattle.image_form.specs.declared.format.Mode.{Mode}
+use Rattle.image_form.specs.declared.format.Mode.TheVariants.{Slots, Registers}
+use Rattle.image_form.specs.declared.recipes.Node.{Node}
+use Rattle.image_form.specs.declared.recipes.Node.TheVariants as node
+use Rattle.image_form.specs.declared.recipes.NodeOperation.{NodeOperation}
+use Rattle.image_form.specs.declared.recipes.NodeOperation.TheVariants.{Add, Sub, Mul, Div, Divu, Rem, Remu, Sll, Srl, Sra, And, Or, Xor, Slt, Sltu, TruncateU8, TruncateI16, TruncateU16, TruncateI8}
+use Rattle.image_form.specs.declared.tables.Change.{Change}
+use Rattle.image_form.specs.declared.tables.Kind.{Kind}
+use Rattle.image_form.specs.declared.tables.Kind.TheVariants.{Removed, Moved, Reused, Replaced}
+use Rattle.image_form.specs.declared.variables.ElementType.{ElementType}
+use Rattle.image_form.specs.declared.variables.ElementType.TheVariants.{U8, I8, U16, I16, U32, I32, Pointer}
+use Rattle.image_form.specs.declared.variables.Storage.{Storage}
+use Rattle.image_form.specs.declared.variables.Storage.TheVariants.{Static, Frame, Register, Slot}
+use Rattle.image_form.specs.declared.variables.Variable.{Variable}
+use Rattle.image_form.specs.declared.verdicts.Verdict.{Verdict}
+use Rattle.image_form.specs.declared.verdicts.Verdict.TheVariants.{Home, Recovered, Noncurrent, Nonresident}
+use Rattle.image_form.specs.declared.verdicts.VisibleRow.{VisibleRow}
+use Rattle.image_form.specs.Decoding.{mode_of, owner_of, element_of, storage_of, variable_of, kind_of, change_of, writer_of, row_of, operation_of, node_of}
+use Rattle.image_form.specs.Form.{Form, numbered}
+use Rattle.image_form.specs.Numbers.{mode_number, no_function, element_number, storage_number, storage_value, variable_numbers, kind_number, change_numbers, verdict_numbers, row_numbers, operation_number, node_numbers}
+use Rattle.image_form.specs.RulesOfFunctions.{code_start}
+use Rattle.image_form.specs.RulesOfRows.{IsWriter, IsEvidence, IsVerdict}
+use Rattle.image_form.specs.RulesOfVariables.{IsVariable, IsKept}
+
+-- What holds of each record holds of each in a list.
+pub all_of : {A : Type 0} {P Q : A → Type 0} → ((x : A) → P x → Q x) → (xs : List A) → AllByRecursion P xs → AllByRecursion Q xs
+all_of step [] all = tt
+all_of step (x ∷ xs) all = (step x all.0, all_of step xs all.1)
+
+pub all_always : {A : Type 0} {Q : A → Type 0} → ((x : A) → Q x) → (xs : List A) → AllByRecursion Q xs
+all_always step [] = tt
+all_always step (x ∷ xs) = (step x, all_always step xs)
+
+pub mode_back : (m : Mode) → mode_of (mode_number m) ≡ m
+mode_back Slots = refl
+mode_back Registers = refl
+
+element_back : (e : ElementType) → element_of (element_number e) ≡ e
+element_back U8 = refl
+element_back I8 = refl
+element_back U16 = refl
+element_back I16 = refl
+element_back U32 = refl
+element_back I32 = refl
+element_back Pointer = refl
+
+storage_back : (s : Storage) → storage_of (storage_number s) (storage_value s) ≡ s
+storage_back (Static address) = refl
+storage_back (Frame offset) = refl
+storage_back (Register number) = refl
+storage_back (Slot offset) = refl
+
+kind_back : (k : Kind) → kind_of (kind_number k) ≡ k
+kind_back Removed = refl
+kind_back Moved = refl
+kind_back Reused = refl
+kind_back Replaced = refl
+
+pub change_back : (c : Change) → change_of (change_numbers c) ≡ c
+change_back c = ap (λ (k : Kind). let r : Change = record c { kind = k } in r) (kind_back c.kind)
+
+operation_back : (o : NodeOperation) → operation_of (operation_number o) ≡ o
+operation_back Add = refl
+operation_back Sub = refl
+operation_back Mul = refl
+operation_back Div = refl
+operation_back Divu = refl
+operation_back Rem = refl
+operation_back Remu = refl
+operation_back Sll = refl
+operation_back Srl = refl
+operation_back Sra = refl
+operation_back And = refl
+operation_back Or = refl
+operation_back Xor = refl
+operation_back Slt = refl
+operation_back Sltu = refl
+operation_back TruncateU8 = refl
+operation_back TruncateI16 = refl
+operation_back TruncateU16 = refl
+operation_back TruncateI8 = refl
+
+-- An operation's number is none of a leaf's.
+operation_node : (o : NodeOperation) (left right : ℕ) → node_of (operation_number o ∷ left ∷ right ∷ []) ≡ node.Operation (operation_of (operation_number o)) left right
+operation_node Add left right = refl
+operation_node Sub left right = refl
+operation_node Mul left right = refl
+operation_node Div left right = refl
+operation_node Divu left right = refl
+operation_node Rem left right = refl
+operation_node Remu left right = refl
+operation_node Sll left right = refl
+operation_node Srl left right = refl
+operation_node Sra left right = refl
+operation_node And left right = refl
+operation_node Or left right = refl
+operation_node Xor left right = refl
+operation_node Slt left right = refl
+operation_node Sltu left right = refl
+operation_node TruncateU8 left right = refl
+operation_node TruncateI16 left right = refl
+operation_node TruncateU16 left right = refl
+operation_node TruncateI8 left right = refl
+
+pub node_back : (n : Node) → node_of (node_numbers n) ≡ n
+node_back (node.Constant value) = refl
+node_back (node.Variable variable) = refl
+node_back (node.Home home) = refl
+node_back (node.Operation operation left right) = operation_node operation left right ∙ ap (λ (o : NodeOperation). node.Operation o left right) (operation_back operation)
+
+-- What holds of an option's value holds of the value that is there.
+pub some_and : {A : Type 0} (o : Option A) (P : A → Type 0) → IsSomeAnd o P → (x : A) × (o ≡ Some x) × P x
+some_and None P h = absurd h
+some_and (Some x) P h = (x, refl, h)
+
+-- A record of which something holds is there.
+pub number_there : {A : Type 0} (xs : List A) (k : ℕ) (P : A → Type 0) → IsSomeAnd (slice_get xs k) P → k < length xs
+number_there xs k P h = let x = some_and (slice_get xs k) P h in slice_get_within xs k x.0 x.1
+
+kept_there : (f : Form) (k : ℕ) (storage : Storage) → IsKept f (Some k) storage → k < length f.functions
+kept_there f k (Static address) kept = absurd kept
+kept_there f k (Frame offset) kept = number_there f.functions k _ kept
+kept_there f k (Register number) kept = kept.0
+kept_there f k (Slot offset) kept = number_there f.functions k _ kept
+
+-- A function that is there has a number below the one that stands for none.
+owner_back : (f : Form) (function : Option ℕ) (storage : Storage) → length f.functions < no_function → IsKept f function storage → owner_of (unwrap_or function no_function) ≡ function
+owner_back f None storage few kept = refl
+owner_back f (Some k) storage few kept =
+    let there = kept_there f k storage kept in
+    let other : (k == no_function) ≡ false = ne_eqb k no_function (λ e. omega (arith, e, there, few)) in
+    rw other refl
+
+pub variable_back : (f : Form) → length f.functions < no_function → (v : Variable) → IsVariable f v → variable_of (variable_numbers v) ≡ v
+variable_back f few v valid = λ i. record {
+  name_length = v.name_length;
+  function = owner_back f v.function v.storage few valid.kept i;
+  position = v.position;
+  element = element_back v.element i;
+  storage = storage_back v.storage i;
+  count = v.count;
+}
+
+-- A writer's address is not 0.
+writer_back : (f : Form) (kind : Kind) (writer : Option ℕ) → IsWriter f kind writer → writer_of (unwrap_or writer 0) ≡ writer
+unfolding code_start
+writer_back f kind None valid = refl
+writer_back f kind (Some address) valid = let other : (address == 0) ≡ false = ne_eqb address 0 (λ e. omega (arith, e, valid.1.1)) in rw other refl
+
+evidence_back : (f : Form) (variable change start : ℕ) (writer : Option ℕ) → IsEvidence f variable change start writer → writer_of (unwrap_or writer 0) ≡ writer
+evidence_back f variable change start writer valid = let c = some_and (numbered f.changes change) _ valid.0 in writer_back f c.0.kind writer c.2.1
+
+with_verdict : ℕ → ℕ → Verdict → VisibleRow
+with_verdict place variable verdict = record { place = place; variable = variable; verdict = verdict }
+
+verdict_back : (f : Form) (place variable : ℕ) (v : Verdict) → IsVerdict f variable v → row_of (place ∷ variable ∷ verdict_numbers v) ≡ with_verdict place variable v
+unfolding with_verdict
+verdict_back f place variable Home valid = refl
+verdict_back f place variable (Recovered change node) valid = refl
+verdict_back f place variable (Noncurrent change start writer) valid = ap (λ (w : Option ℕ). with_verdict place variable (Noncurrent change start w)) (evidence_back f variable change start writer valid)
+verdict_back f place variable (Nonresident change start writer) valid = ap (λ (w : Option ℕ). with_verdict place variable (Nonresident change start w)) (evidence_back f variable change start writer valid)
+
+pub row_back : (f : Form) (r : VisibleRow) → IsVerdict f r.variable r.verdict → row_of (row_numbers r) ≡ r
+unfolding with_verdict
+row_back f r valid = verdict_back f r.place r.variable r.verdict valid

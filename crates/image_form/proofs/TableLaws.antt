@@ -1,0 +1,71 @@
+-- Laws of tables: what holds of each record, and of records in order.
+use Rattle.std.proofs.Common.{◌≡◌, ◌≢◌, ℕ, zero, suc, ◌+◌, ◌<◌, List, [], ◌∷◌, length, inl, inr, Some, refl, sym, ap, ◌∙◌, arith, subst}
+use Rattle.std.specs.Prelude.{slice_get}
+use Rattle.std.specs.List.{AllByRecursion}
+use Rattle.std.proofs.lemmas.Option.{same_Some, slice_get_cases}
+use Rattle.image_form.specs.Lists.{BeforeFirst, EachToNext, AreDistinct}
+
+-- What holds of each record holds of the one with that number.
+pub each_at : {A : Type 0} (P : A → Type 0) (xs : List A) (i : ℕ) (x : A) → AllByRecursion P xs → slice_get xs i ≡ Some x → P x
+each_at P [] i x all e = absurd cc
+each_at P (y ∷ ys) zero x all e = subst P (same_Some y x e) all.0
+each_at P (y ∷ ys) (suc i) x all e = each_at P ys i x all.1 e
+
+-- What holds of the record with each number holds of each record.
+pub each_from : {A : Type 0} (P : A → Type 0) (xs : List A) → ((i : ℕ) (x : A) → slice_get xs i ≡ Some x → P x) → AllByRecursion P xs
+each_from P [] at = tt
+each_from P (x ∷ xs) at = (at 0 x refl, each_from P xs (λ i y e. at (suc i) y e))
+
+-- A record whose key is below the next one's, in a table whose keys ascend, has a key below every later one's.
+below_later : {A : Type 0} (key : A → ℕ) (x : A) (xs : List A) (j : ℕ) (y : A) → BeforeFirst (λ a b. key a < key b) x xs → EachToNext (λ a b. key a < key b) xs → slice_get xs j ≡ Some y → key x < key y
+below_later key x [] j y first ascend e = absurd cc
+below_later key x (z ∷ zs) zero y first ascend e = subst (λ w. key x < key w) (same_Some z y e) first
+below_later key x (z ∷ zs) (suc j) y first ascend e = let later = below_later key z zs j y ascend.0 ascend.1 e in omega (arith, first, later)
+
+-- Records whose keys ascend have different keys.
+pub ascending_distinct : {A : Type 0} (key : A → ℕ) (xs : List A) → EachToNext (λ a b. key a < key b) xs → AreDistinct key xs
+ascending_distinct key [] ascend i j x y ei ej same = absurd cc
+ascending_distinct key (z ∷ zs) ascend zero zero x y ei ej same = refl
+ascending_distinct key (z ∷ zs) ascend zero (suc j) x y ei ej same =
+    let later : key z < key y = below_later key z zs j y ascend.0 ascend.1 ej in
+    let first : key z ≡ key x = ap key (same_Some z x ei) in
+    absurd (omega (arith, later, first, same))
+ascending_distinct key (z ∷ zs) ascend (suc i) zero x y ei ej same =
+    let later : key z < key x = below_later key z zs i x ascend.0 ascend.1 ei in
+    let first : key z ≡ key y = ap key (same_Some z y ej) in
+    absurd (omega (arith, later, first, same))
+ascending_distinct key (z ∷ zs) ascend (suc i) (suc j) x y ei ej same = ap suc (ascending_distinct key zs ascend.1 i j x y ei ej same)
+
+-- A fact of each record and its number, counted from one on.
+abbrev pub EachNumbered : {A : Type 0} → (ℕ → A → Type 0) → ℕ → List A → Type 0
+EachNumbered P n [] = Unit {0}
+EachNumbered P n (x ∷ xs) = P n x × EachNumbered P (suc n) xs
+
+-- It holds of the record with a number.
+pub numbered_at : {A : Type 0} (P : ℕ → A → Type 0) (n : ℕ) (xs : List A) (i : ℕ) (x : A) → EachNumbered P n xs → slice_get xs i ≡ Some x → P (n + i) x
+numbered_at P n [] i x all e = absurd cc
+numbered_at P n (y ∷ ys) zero x all e = let same : n ≡ n + 0 = omega arith in subst (λ m. P m x) same (subst (P n) (same_Some y x e) all.0)
+numbered_at P n (y ∷ ys) (suc i) x all e = let same : suc n + i ≡ n + suc i = omega arith in subst (λ m. P m x) same (numbered_at P (suc n) ys i x all.1 e)
+
+pub numbered_from_zero : {A : Type 0} (P : ℕ → A → Type 0) (xs : List A) (i : ℕ) (x : A) → EachNumbered P 0 xs → slice_get xs i ≡ Some x → P i x
+numbered_from_zero P xs i x all e = let same : 0 + i ≡ i = omega arith in subst (λ m. P m x) same (numbered_at P 0 xs i x all e)
+
+-- A fact of each number below the length.
+pub each_number : {A : Type 0} (P : ℕ → Type 0) (xs : List A) → EachNumbered (λ i x. P i) 0 xs → (i : ℕ) → i < length xs → P i
+each_number P xs all i lt =
+    elim (slice_get_cases xs i).1 [
+      | inl there ↦ numbered_from_zero (λ i x. P i) xs i there.0 all there.2
+      | inr past ↦ absurd (omega (arith, past.0, lt))
+    ]
+
+-- Each record has another key than each later one.
+abbrev pub DiffersFromLater : {A B : Type 0} → (A → B) → List A → Type 0
+DiffersFromLater key [] = Unit {0}
+DiffersFromLater key (x ∷ xs) = AllByRecursion (λ y. key x ≢ key y) xs × DiffersFromLater key xs
+
+pub different_distinct : {A B : Type 0} (key : A → B) (xs : List A) → DiffersFromLater key xs → AreDistinct key xs
+different_distinct key [] differ i j x y ei ej same = absurd cc
+different_distinct key (z ∷ zs) differ zero zero x y ei ej same = refl
+different_distinct key (z ∷ zs) differ zero (suc j) x y ei ej same = absurd (each_at (λ w. key z ≢ key w) zs j y differ.0 ej (ap key (same_Some z x ei) ∙ same))
+different_distinct key (z ∷ zs) differ (suc i) zero x y ei ej same = absurd (each_at (λ w. key z ≢ key w) zs i x differ.0 ei (ap key (same_Some z y ej) ∙ sym same))
+different_distinct key (z ∷ zs) differ (suc i) (suc j) x y ei ej same = ap suc (different_distinct key zs differ.1 i j x y ei ej same)

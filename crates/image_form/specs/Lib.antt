@@ -1,0 +1,16 @@
+pub mod Decoding
+pub mod Form
+pub mod Lists
+pub mod Names
+pub mod Numbers
+pub mod Rules
+pub mod RulesOfChanges
+pub mod RulesOfFunctions
+pub mod RulesOfNames
+pub mod RulesOfNodes
+pub mod RulesOfPlaces
+pub mod RulesOfRows
+pub mod RulesOfVariables
+pub mod Samples
+pub mod Spelling
+pub mod Unique

@@ -1,0 +1,115 @@
+-- The numbers that stand for each record, in the order of its fields.
+use Rattle.std.specs.Prelude.{ℕ, List, [], ◌∷◌, unwrap_or}
+use Rattle.image_form.specs.declared.format.Mode.{Mode}
+use Rattle.image_form.specs.declared.format.Mode.TheVariants.{Slots, Registers}
+use Rattle.image_form.specs.declared.recipes.Node.{Node}
+use Rattle.image_form.specs.declared.recipes.Node.TheVariants as node
+use Rattle.image_form.specs.declared.recipes.NodeOperation.{NodeOperation}
+use Rattle.image_form.specs.declared.recipes.NodeOperation.TheVariants.{Add, Sub, Mul, Div, Divu, Rem, Remu, Sll, Srl, Sra, And, Or, Xor, Slt, Sltu, TruncateU8, TruncateI16, TruncateU16, TruncateI8}
+use Rattle.image_form.specs.declared.tables.AssignedPair.{AssignedPair}
+use Rattle.image_form.specs.declared.tables.Change.{Change}
+use Rattle.image_form.specs.declared.tables.FlowPair.{FlowPair}
+use Rattle.image_form.specs.declared.tables.Function.{Function}
+use Rattle.image_form.specs.declared.tables.Kind.{Kind}
+use Rattle.image_form.specs.declared.tables.Kind.TheVariants.{Removed, Moved, Reused, Replaced}
+use Rattle.image_form.specs.declared.tables.Place.{Place}
+use Rattle.image_form.specs.declared.variables.ElementType.{ElementType}
+use Rattle.image_form.specs.declared.variables.ElementType.TheVariants.{U8, I8, U16, I16, U32, I32, Pointer}
+use Rattle.image_form.specs.declared.variables.Storage.{Storage}
+use Rattle.image_form.specs.declared.variables.Storage.TheVariants.{Static, Frame, Register, Slot}
+use Rattle.image_form.specs.declared.variables.Variable.{Variable}
+use Rattle.image_form.specs.declared.verdicts.Verdict.{Verdict}
+use Rattle.image_form.specs.declared.verdicts.Verdict.TheVariants.{Home, Recovered, Noncurrent, Nonresident}
+use Rattle.image_form.specs.declared.verdicts.VisibleRow.{VisibleRow}
+
+abbrev pub mode_number : Mode → ℕ
+mode_number Slots = 0
+mode_number Registers = 1
+
+abbrev pub function_numbers : Function → List ℕ
+function_numbers f = f.name_length ∷ f.first ∷ f.end ∷ f.frame ∷ f.entry ∷ []
+
+abbrev pub place_numbers : Place → List ℕ
+place_numbers p = p.position ∷ p.line ∷ p.function ∷ p.address ∷ []
+
+-- The greatest number of 32 bits stands for no function.
+abbrev pub no_function : ℕ
+no_function = 4294967295
+
+abbrev pub element_number : ElementType → ℕ
+element_number U8 = 0
+element_number I8 = 1
+element_number U16 = 2
+element_number I16 = 3
+element_number U32 = 4
+element_number I32 = 5
+element_number Pointer = 6
+
+abbrev pub storage_number : Storage → ℕ
+storage_number (Static address) = 0
+storage_number (Frame offset) = 1
+storage_number (Register number) = 2
+storage_number (Slot offset) = 3
+
+abbrev pub storage_value : Storage → ℕ
+storage_value (Static address) = address
+storage_value (Frame offset) = offset
+storage_value (Register number) = number
+storage_value (Slot offset) = offset
+
+abbrev pub variable_numbers : Variable → List ℕ
+variable_numbers v =
+    v.name_length ∷ unwrap_or v.function no_function ∷ v.position ∷ element_number v.element
+    ∷ storage_number v.storage ∷ storage_value v.storage ∷ v.count ∷ 0 ∷ []
+
+abbrev pub kind_number : Kind → ℕ
+kind_number Removed = 0
+kind_number Moved = 1
+kind_number Reused = 2
+kind_number Replaced = 3
+
+abbrev pub change_numbers : Change → List ℕ
+change_numbers c = c.pass_length ∷ kind_number c.kind ∷ c.place ∷ c.variable ∷ 0 ∷ []
+
+abbrev pub flow_numbers : FlowPair → List ℕ
+flow_numbers p = p.from ∷ p.to ∷ []
+
+abbrev pub assigned_numbers : AssignedPair → List ℕ
+assigned_numbers p = p.place ∷ p.variable ∷ []
+
+-- The verdict, the change, the node or the start place, and the writer's address, 0 where there is none.
+abbrev pub verdict_numbers : Verdict → List ℕ
+verdict_numbers Home = 0 ∷ 0 ∷ 0 ∷ 0 ∷ []
+verdict_numbers (Recovered change node) = 1 ∷ change ∷ node ∷ 0 ∷ []
+verdict_numbers (Noncurrent change start writer) = 2 ∷ change ∷ start ∷ unwrap_or writer 0 ∷ []
+verdict_numbers (Nonresident change start writer) = 3 ∷ change ∷ start ∷ unwrap_or writer 0 ∷ []
+
+abbrev pub row_numbers : VisibleRow → List ℕ
+row_numbers r = r.place ∷ r.variable ∷ verdict_numbers r.verdict
+
+abbrev pub operation_number : NodeOperation → ℕ
+operation_number Add = 3
+operation_number Sub = 4
+operation_number Mul = 5
+operation_number Div = 6
+operation_number Divu = 7
+operation_number Rem = 8
+operation_number Remu = 9
+operation_number Sll = 10
+operation_number Srl = 11
+operation_number Sra = 12
+operation_number And = 13
+operation_number Or = 14
+operation_number Xor = 15
+operation_number Slt = 16
+operation_number Sltu = 17
+operation_number TruncateU8 = 18
+operation_number TruncateI16 = 19
+operation_number TruncateU16 = 20
+operation_number TruncateI8 = 21
+
+abbrev pub node_numbers : Node → List ℕ
+node_numbers (node.Constant value) = 0 ∷ value ∷ 0 ∷ []
+node_numbers (node.Variable variable) = 1 ∷ variable ∷ 0 ∷ []
+node_numbers (node.Home home) = 2 ∷ home ∷ 0 ∷ []
+node_numbers (node.Operation operation left right) = operation_number operation ∷ left ∷ right ∷ []

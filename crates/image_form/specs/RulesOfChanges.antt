@@ -1,0 +1,25 @@
+-- The rules of changes and of the tables of flow and assignments.
+use Rattle.std.specs.Prelude.{◌≡◌, ℕ, ◌<◌, ◌≤◌, ◌⊎◌, length}
+use Rattle.std.specs.List.{AllByRecursion}
+use Rattle.image_form.specs.declared.tables.Change.{Change}
+use Rattle.image_form.specs.Form.{Form}
+use Rattle.image_form.specs.Lists.{EachToNext}
+use Rattle.image_form.specs.RulesOfFunctions.{IsPlaceNumber}
+
+pub record IsChange (f : Form) (c : Change) : Type 0 where
+  pub named : 1 ≤ c.pass_length
+  pub short_name : c.pass_length ≤ 16
+  pub at_place : IsPlaceNumber f c.place
+  pub of_variable : c.variable < length f.variables
+
+-- The pair (a, b) comes before the pair (c, d): by the first number, then by the second.
+abbrev pub IsPairBefore : ℕ → ℕ → ℕ → ℕ → Type 0
+IsPairBefore a b c d = (a < c) ⊎ ((a ≡ c) × (b < d))
+
+pub record FlowRules (f : Form) : Type 0 where
+  pub each : AllByRecursion (λ p. IsPlaceNumber f p.from × IsPlaceNumber f p.to) f.flow
+  pub ascend : EachToNext (λ p q. IsPairBefore p.from p.to q.from q.to) f.flow
+
+pub record AssignedRules (f : Form) : Type 0 where
+  pub each : AllByRecursion (λ p. IsPlaceNumber f p.place × (p.variable < length f.variables)) f.assigned
+  pub ascend : EachToNext (λ p q. IsPairBefore p.place p.variable q.place q.variable) f.assigned

@@ -1,0 +1,41 @@
+-- The rules of functions.
+use Rattle.std.specs.Prelude.{◌≡◌, ℕ, ◌+◌, ◌*◌, ◌%◌, ◌<◌, ◌≤◌, length}
+use Rattle.std.specs.List.{AllByRecursion}
+use Rattle.image_form.specs.declared.tables.Function.{Function}
+use Rattle.image_form.specs.Form.{Form}
+use Rattle.image_form.specs.Lists.{EachToNext}
+
+-- The address of the first code word.
+unfoldable pub code_start : ℕ
+code_start = 0x00010000
+
+-- The address behind the last code word.
+abbrev pub code_end : Form → ℕ
+code_end f = code_start + 4 * length f.code
+
+-- A multiple of 4 at which a code word stands.
+abbrev pub IsCodeAddress : Form → ℕ → Type 0
+IsCodeAddress f address = (address % 4 ≡ 0) × (code_start ≤ address) × (address < code_end f)
+
+-- A number of a place.
+abbrev pub IsPlaceNumber : Form → ℕ → Type 0
+IsPlaceNumber f n = (1 ≤ n) × (n ≤ length f.places)
+
+-- What a function must be by itself.
+pub record IsFunction (f : Form) (g : Function) : Type 0 where
+  pub named : 1 ≤ g.name_length
+  pub short_name : g.name_length ≤ 63
+  pub first_in_code : IsCodeAddress f g.first
+  pub end_aligned : g.end % 4 ≡ 0
+  pub not_empty : g.first < g.end
+  pub end_in_code : g.end ≤ code_end f
+  pub frame_aligned : g.frame % 16 ≡ 0
+  pub frame_some : 16 ≤ g.frame
+  pub frame_small : g.frame ≤ 16384
+  pub entry_is_place : IsPlaceNumber f g.entry
+
+pub record FunctionRules (f : Form) : Type 0 where
+  pub each : AllByRecursion (IsFunction f) f.functions
+  -- They stand in order and do not overlap.
+  pub apart : EachToNext (λ g h. g.end ≤ h.first) f.functions
+  pub entries_ascend : EachToNext (λ g h. g.entry < h.entry) f.functions

@@ -1,0 +1,39 @@
+-- The rules of visible rows.
+use Rattle.std.specs.Prelude.{◌≡◌, ◌≢◌, ℕ, ◌<◌, Option, Some, None, slice_get, IsSomeAnd, length, ⊤}
+use Rattle.std.specs.List.{AllByRecursion}
+use Rattle.image_form.specs.declared.tables.Kind.{Kind}
+use Rattle.image_form.specs.declared.tables.Kind.TheVariants.{Removed}
+use Rattle.image_form.specs.declared.verdicts.Verdict.{Verdict}
+use Rattle.image_form.specs.declared.verdicts.Verdict.TheVariants.{Home, Recovered, Noncurrent, Nonresident}
+use Rattle.image_form.specs.Form.{Form, numbered}
+use Rattle.image_form.specs.Lists.{EachToNext}
+use Rattle.image_form.specs.RulesOfChanges.{IsPairBefore}
+use Rattle.image_form.specs.RulesOfFunctions.{IsCodeAddress, IsPlaceNumber}
+
+-- The variable belongs to the function of the place.
+abbrev pub IsVisible : Form → ℕ → ℕ → Type 0
+IsVisible f place variable =
+    IsSomeAnd (numbered f.places place) (λ p. IsSomeAnd (slice_get f.variables variable) (λ v. v.function ≡ Some p.function))
+
+-- The writer of a change of this kind: none where an assignment was removed, else the address of a code word.
+abbrev pub IsWriter : Form → Kind → Option ℕ → Type 0
+IsWriter f kind None = kind ≡ Removed
+IsWriter f kind (Some address) = (kind ≢ Removed) × IsCodeAddress f address
+
+-- A change of the variable, a start place, and a writer that fits the change.
+abbrev pub IsEvidence : Form → ℕ → ℕ → ℕ → Option ℕ → Type 0
+IsEvidence f variable change start writer =
+    IsSomeAnd (numbered f.changes change) (λ c. (c.variable ≡ variable) × IsWriter f c.kind writer) × IsPlaceNumber f start
+
+-- What a verdict on the variable may name.
+abbrev pub IsVerdict : Form → ℕ → Verdict → Type 0
+IsVerdict f variable Home = ⊤
+IsVerdict f variable (Recovered change node) =
+    IsSomeAnd (numbered f.changes change) (λ c. c.variable ≡ variable) × (node < length f.nodes)
+IsVerdict f variable (Noncurrent change start writer) = IsEvidence f variable change start writer
+IsVerdict f variable (Nonresident change start writer) = IsEvidence f variable change start writer
+
+pub record RowRules (f : Form) : Type 0 where
+  pub visible : AllByRecursion (λ r. IsVisible f r.place r.variable) f.rows
+  pub verdicts : AllByRecursion (λ r. IsVerdict f r.variable r.verdict) f.rows
+  pub ascend : EachToNext (λ r s. IsPairBefore r.place r.variable s.place s.variable) f.rows

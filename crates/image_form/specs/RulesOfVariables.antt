@@ -1,0 +1,81 @@
+-- The rules of variables.
+use Rattle.std.specs.Prelude.{◌≡◌, ℕ, ◌+◌, ◌%◌, ◌<◌, ◌≤◌, ◌⊎◌, ◌==◌, if◌then◌else◌, Option, Some, None, slice_get, IsSomeAnd, length, ⊤}
+use Rattle.std.specs.List.{AllByRecursion}
+use Rattle.image_form.specs.declared.variables.Storage.{Storage}
+use Rattle.image_form.specs.declared.variables.Storage.TheVariants.{Static, Frame, Register, Slot}
+use Rattle.image_form.specs.declared.variables.Variable.{Variable}
+use Rattle.image_form.specs.Form.{Form}
+use Rattle.image_form.specs.Lists.{EachToNext}
+
+-- The address at which static memory begins.
+unfoldable pub static_start : ℕ
+static_start = 0x00400000
+
+-- How many bytes static memory has.
+unfoldable pub static_size : ℕ
+static_size = 1048576
+
+abbrev pub IsStaticAddress : ℕ → Type 0
+IsStaticAddress address = (static_start ≤ address) × (address < static_start + static_size)
+
+-- The registers that keep scalars: s1, and s2 to s11, t3 to t6.
+abbrev pub IsHomeRegister : ℕ → Type 0
+IsHomeRegister r = (r ≡ 9) ⊎ ((18 ≤ r) × (r ≤ 31))
+
+-- A multiple of 4 within the frame of the k-th function, which is there.
+abbrev pub IsFrameOffset : Form → ℕ → ℕ → Type 0
+IsFrameOffset f k offset = IsSomeAnd (slice_get f.functions k) (λ g. (offset % 4 ≡ 0) × (offset < g.frame))
+
+-- A variable of the k-th function may be kept there.
+abbrev pub IsKeptInFunction : Form → ℕ → Storage → Type 0
+IsKeptInFunction f k (Static address) = ⊥
+IsKeptInFunction f k (Frame offset) = IsFrameOffset f k offset
+IsKeptInFunction f k (Register number) = (k < length f.functions) × IsHomeRegister number
+IsKeptInFunction f k (Slot offset) = IsFrameOffset f k offset
+
+-- A static variable may be kept there.
+abbrev pub IsKeptStatically : Storage → Type 0
+IsKeptStatically (Static address) = IsStaticAddress address
+IsKeptStatically (Frame offset) = ⊥
+IsKeptStatically (Register number) = ⊥
+IsKeptStatically (Slot offset) = ⊥
+
+-- Static memory is for static variables; the others belong to a function that is there.
+abbrev pub IsKept : Form → Option ℕ → Storage → Type 0
+IsKept f None storage = IsKeptStatically storage
+IsKept f (Some k) storage = IsKeptInFunction f k storage
+
+-- Only a variable in memory may be an array: a home has count 0.
+abbrev pub IsCount : Storage → ℕ → Type 0
+IsCount (Static address) count = ⊤
+IsCount (Frame offset) count = ⊤
+IsCount (Register number) count = count ≡ 0
+IsCount (Slot offset) count = count ≡ 0
+
+-- Only a static one may lack a name, which then is a literal.
+abbrev pub IsNamed : Option ℕ → ℕ → Type 0
+IsNamed None name_length = ⊤
+IsNamed (Some k) name_length = 1 ≤ name_length
+
+-- What a variable must be by itself.
+pub record IsVariable (f : Form) (v : Variable) : Type 0 where
+  pub short_name : v.name_length ≤ 63
+  pub named : IsNamed v.function v.name_length
+  pub kept : IsKept f v.function v.storage
+  pub counted : IsCount v.storage v.count
+
+-- Named static variables come first, then literals, then those of functions.
+abbrev pub group_of : Option ℕ → ℕ → ℕ
+group_of None name_length = if name_length == 0 then 1 else 0
+group_of (Some k) name_length = 2
+
+abbrev pub group : Variable → ℕ
+group v = group_of v.function v.name_length
+
+-- The first is of an earlier group, or of the same at an earlier position.
+abbrev pub IsDeclaredBefore : Variable → Variable → Type 0
+IsDeclaredBefore u v = (group u < group v) ⊎ ((group u ≡ group v) × (u.position < v.position))
+
+pub record VariableRules (f : Form) : Type 0 where
+  pub each : AllByRecursion (IsVariable f) f.variables
+  pub in_order : EachToNext IsDeclaredBefore f.variables

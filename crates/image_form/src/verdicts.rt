@@ -1,0 +1,35 @@
+//! What the debugger shows of a variable at a place.
+
+/// What the debugger shows of a variable.
+#[derive(Clone, Copy, Debug, PartialEq, Eq)]
+pub enum Verdict {
+    /// What its home holds.
+    Home,
+    /// The value of a recipe, after the assignment was removed.
+    Recovered {
+        change: u32,
+        node: u32,
+    },
+    /// No value: a path from a start place shows that its home does not hold what the source says. The writer is the
+    /// address of the code word that wrote too early or too late, none where the assignment was removed.
+    Noncurrent {
+        change: u32,
+        start: u32,
+        writer: Option<u32>,
+    },
+    /// No value: a path from a start place shows that its home is another name's. The writer is the address of the code
+    /// word that wrote it.
+    Nonresident {
+        change: u32,
+        start: u32,
+        writer: Option<u32>,
+    },
+}
+
+/// The verdict on a variable that is visible at a place.
+#[derive(Clone, Copy, Debug, PartialEq, Eq)]
+pub struct VisibleRow {
+    pub place: u32,
+    pub variable: u32,
+    pub verdict: Verdict,
+}

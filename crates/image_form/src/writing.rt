@@ -1,0 +1,96 @@
+//! The bytes of an image.
+
+ghost use Rattle.std.specs.Prelude.{◌≡◌, ◌<◌, ◌^◌, ◌++◌, IfOk, OnOk};
+ghost use Rattle.image_form.specs.Form.{form};
+ghost use Rattle.image_form.specs.Numbers.{mode_number};
+ghost use Rattle.image_form.specs.Rules.{IsImage};
+ghost use Rattle.image_form.specs.Spelling.{header, size, spelling};
+ghost use Rattle.image_form.specs.Unique.{SpellsOneImage};
+
+use crate::format::{Image, Mode};
+use crate::records::{put_numbers, put_records};
+use std::alloc::{AllocError, Global};
+
+/// The bytes that spell an image: a header of 64 bytes, then its sections.
+///
+/// The only error is want of memory.
+pub fn write(alloc: Global, image: &Image) -> Result<Vec<u8>, AllocError>
+    requires { IsImage (form image.now) }
+    ensures { IfOk result (λ v. v.items ≡ spelling (form image.now)) }
+{
+    write_all(alloc, image)
+}
+
+#[tactic(auto, unfolding(crate::specs::Spelling::spelling))]
+fn write_all(alloc: Global, image: &Image) -> Result<Vec<u8>, AllocError>
+    requires { size (form image.now) < 2 ^ 32 }
+    ensures { IfOk result (λ v. v.items ≡ spelling (form image.now)) }
+{
+    let mut out = Vec::new(alloc);
+    out.extend_from_slice(b"CDBG")?;
+    put_numbers(&mut out, &header_of(image))?;
+    put_numbers(&mut out, &image.code)?;
+    out.extend_from_slice(&image.initial)?;
+    put_records(&mut out, &image.functions)?;
+    put_records(&mut out, &image.places)?;
+    put_numbers(&mut out, &image.owners)?;
+    put_records(&mut out, &image.variables)?;
+    put_records(&mut out, &image.changes)?;
+    put_records(&mut out, &image.flow)?;
+    put_records(&mut out, &image.assigned)?;
+    put_records(&mut out, &image.rows)?;
+    put_records(&mut out, &image.nodes)?;
+    out.extend_from_slice(&image.names)?;
+    Ok(out)
+}
+
+fn mode_number(mode: Mode) -> u32
+    ensures { result ≡ mode_number mode }
+{
+    match mode {
+        Mode::Slots => 0,
+        Mode::Registers => 1,
+    }
+}
+
+#[tactic(auto, unfolding(crate::specs::Spelling::size))]
+fn size_of(image: &Image) -> usize
+    requires { size (form image.now) < 2 ^ 32 }
+    ensures { result ≡ size (form image.now) }
+{
+    let code = 4 * image.code.len() + image.initial.len();
+    let places = 20 * image.functions.len() + 16 * image.places.len() + 4 * image.owners.len();
+    let changes = 32 * image.variables.len() + 20 * image.changes.len();
+    let pairs = 8 * image.flow.len() + 8 * image.assigned.len();
+    let rows = 24 * image.rows.len() + 12 * image.nodes.len();
+    64 + code + places + changes + pairs + rows + image.names.len()
+}
+
+#[tactic(auto, unfolding(crate::specs::Spelling::size))]
+fn header_of(image: &Image) -> [u32; 15]
+    requires { size (form image.now) < 2 ^ 32 }
+    ensures { result ≡ header (form image.now) }
+{
+    [
+        1,
+        size_of(image) as u32,
+        mode_number(image.mode),
+        image.code.len() as u32,
+        image.initial.len() as u32,
+        image.functions.len() as u32,
+        image.places.len() as u32,
+        image.variables.len() as u32,
+        image.changes.len() as u32,
+        image.flow.len() as u32,
+        image.assigned.len() as u32,
+        image.rows.len() as u32,
+        image.nodes.len() as u32,
+        image.names.len() as u32,
+        0,
+    ]
+}
+
+/// A law: images that are spelled alike are alike, so bytes spell one image at most.
+pub fn spelling_is_unique()
+    ensures { SpellsOneImage }
+{}

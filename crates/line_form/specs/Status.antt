@@ -1,0 +1,31 @@
+-- How a session ends: the number that the program ends with, and the message.
+use Rattle.std.specs.Prelude.{ℕ, List, [], ◌++◌, codes}
+use Rattle.debug_records.specs.declared.code.Code.{Code}
+use Rattle.debug_records.specs.Code.{code_text}
+use Rattle.line_form.specs.Decimal.{decimal}
+use Rattle.line_form.specs.declared.status.Status.{Status}
+use Rattle.line_form.specs.declared.status.Status.TheVariants.{Done, Usage, SourceRefused, ScriptRefused, ReadFault, WriteFault, NoMemory}
+
+-- the number that the program ends with
+abbrev pub status_number : Status → ℕ
+status_number Done = 0
+status_number Usage = 2
+status_number (SourceRefused code line) = 3
+status_number (ScriptRefused code line) = 4
+status_number ReadFault = 5
+status_number WriteFault = 6
+status_number NoMemory = 7
+
+-- what was refused, the code, and the line, as `cdbg: source refused E29 line 1`
+abbrev pub refusal_text : List ℕ → Code → ℕ → List ℕ
+refusal_text what code line = codes "cdbg: " ++ (what ++ (codes " refused " ++ (code_text code ++ (codes " line " ++ decimal line))))
+
+-- the message without its line end; none for a job that was done
+abbrev pub fault_text : Status → List ℕ
+fault_text Done = []
+fault_text Usage = codes "cdbg: usage"
+fault_text (SourceRefused code line) = refusal_text (codes "source") code line
+fault_text (ScriptRefused code line) = refusal_text (codes "script") code line
+fault_text ReadFault = codes "cdbg: read failed"
+fault_text WriteFault = codes "cdbg: write failed"
+fault_text NoMemory = codes "cdbg: out of memory"

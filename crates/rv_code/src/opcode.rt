@@ -1,0 +1,27 @@
+//! The opcodes of RV32IM: the low seven bits of a code word, which name the group of its instruction.
+
+pub const LUI: u32 = 0b0110111;
+
+pub const AUIPC: u32 = 0b0010111;
+
+pub const JAL: u32 = 0b1101111;
+
+pub const JALR: u32 = 0b1100111;
+
+pub const BRANCH: u32 = 0b1100011;
+
+pub const LOAD: u32 = 0b0000011;
+
+pub const STORE: u32 = 0b0100011;
+
+pub const OP_IMM: u32 = 0b0010011;
+
+pub const OP: u32 = 0b0110011;
+
+pub const MISC_MEM: u32 = 0b0001111;
+
+/// The whole word of ECALL.
+pub const ECALL: u32 = 0x00000073;
+
+/// The whole word of EBREAK.
+pub const EBREAK: u32 = 0x00100073;

@@ -1,0 +1,5 @@
+pub mod CodeBytes
+pub mod Effects
+pub mod Laws
+pub mod Memory
+pub mod Rows

@@ -1,0 +1,250 @@
+-- What each instruction does: RV32IM, as the RISC-V unprivileged ISA has it, over three regions of memory, with four calls of the environment.
+use Rattle.std.specs.Prelude.{◌≡◌, ℕ, zero, suc, ◌+◌, ◌-◌, ◌*◌, ◌/◌, ◌%◌, ◌==◌, nat_lt, ◌++◌, Bool, not, Option, Some, None, option_map, List, [], ◌∷◌, length, replicate, slice_get, slice_set, int_lt, bit_and, bit_or, bit_xor, if◌then◌else◌}
+use Rattle.word_base.specs.Words.{signed}
+use Rattle.word_base.specs.Arithmetic.{added, subtracted, multiplied, multiplied_high, multiplied_high_unsigned, multiplied_high_mixed, divided, divided_unsigned, remaining, remaining_unsigned, shifted_left, shifted_right, shifted_right_signed, less, less_unsigned}
+use Rattle.rv_code.specs.declared.instruction.BranchOperation.{BranchOperation}
+use Rattle.rv_code.specs.declared.instruction.BranchOperation.TheVariants.{Beq, Bne, Blt, Bge, Bltu, Bgeu}
+use Rattle.rv_code.specs.declared.instruction.LoadOperation.{LoadOperation}
+use Rattle.rv_code.specs.declared.instruction.LoadOperation.TheVariants.{Lb, Lh, Lw, Lbu, Lhu}
+use Rattle.rv_code.specs.declared.instruction.StoreOperation.{StoreOperation}
+use Rattle.rv_code.specs.declared.instruction.StoreOperation.TheVariants.{Sb, Sh, Sw}
+use Rattle.rv_code.specs.declared.instruction.ImmediateOperation.{ImmediateOperation}
+use Rattle.rv_code.specs.declared.instruction.ImmediateOperation.TheVariants.{Addi, Slti, Sltiu, Xori, Ori, Andi, Slli, Srli, Srai}
+use Rattle.rv_code.specs.declared.instruction.RegisterOperation.{RegisterOperation}
+use Rattle.rv_code.specs.declared.instruction.RegisterOperation.TheVariants.{Add, Sub, Sll, Slt, Sltu, Xor, Srl, Sra, Or, And, Mul, Mulh, Mulhsu, Mulhu, Div, Divu, Rem, Remu}
+use Rattle.rv_code.specs.declared.instruction.Instruction.{Instruction}
+use Rattle.rv_code.specs.declared.instruction.Instruction.TheVariants.{Lui, Auipc, Jal, Jalr, Branch, Load, Store, Immediate, Register, Fence, Ecall, Ebreak}
+use Rattle.rv_code.specs.Decoding.{decoded}
+use Rattle.std.specs.Int.{cast_signed, w32}
+use Rattle.rv_machine.specs.declared.event.Event.{Event}
+use Rattle.rv_machine.specs.declared.event.Event.TheVariants.{Went, Out, Exited, Depth, Fault}
+use Rattle.rv_machine.specs.State.{State, reg, with_reg, word}
+use Rattle.rv_machine.specs.Memory.{byte_in, half_in, word_in, with_byte, with_half, with_word, bytes_of_words}
+
+-- What comes of an instruction: what it shows, and the state after it.
+pub record Effect : Type 0 where
+  pub event : Event
+  pub after : State
+
+-- ---- Where a program goes on
+
+-- It goes on at an address, with a value written to a register; to write none, register 0 is named.
+abbrev pub goes : State → ℕ → ℕ → ℕ → Effect
+goes s to r v = record { event = Went; after = record s { pc = to; registers = with_reg s.registers r v } }
+
+-- It ends, or stops at an instruction that cannot be carried out. The state stays as it was, so the same comes of every further step.
+abbrev pub stays : State → Event → Effect
+stays s e = record { event = e; after = s }
+
+-- The address of the instruction after this one.
+abbrev pub next : State → ℕ
+next s = word (s.pc + 4)
+
+-- It jumps to an address, with a value written to a register, or faults where the address is no multiple of 4.
+abbrev pub jumps : State → ℕ → ℕ → ℕ → Effect
+jumps s to r v = if to % 4 == 0 then goes s to r v else stays s (Fault s.pc)
+
+-- ---- Arithmetic
+
+-- What an operation computes of two registers.
+unfoldable pub operated : RegisterOperation → ℕ → ℕ → ℕ
+operated Add a b = added a b
+operated Sub a b = subtracted a b
+operated Sll a b = shifted_left a b
+operated Slt a b = less a b
+operated Sltu a b = less_unsigned a b
+operated Xor a b = bit_xor a b
+operated Srl a b = shifted_right a b
+operated Sra a b = shifted_right_signed a b
+operated Or a b = bit_or a b
+operated And a b = bit_and a b
+operated Mul a b = multiplied a b
+operated Mulh a b = multiplied_high a b
+operated Mulhsu a b = multiplied_high_mixed a b
+operated Mulhu a b = multiplied_high_unsigned a b
+operated Div a b = divided a b
+operated Divu a b = divided_unsigned a b
+operated Rem a b = remaining a b
+operated Remu a b = remaining_unsigned a b
+
+-- What an operation computes of a register and an immediate.
+unfoldable pub operated_immediate : ImmediateOperation → ℕ → ℕ → ℕ
+operated_immediate Addi a n = added a n
+operated_immediate Slti a n = less a n
+operated_immediate Sltiu a n = less_unsigned a n
+operated_immediate Xori a n = bit_xor a n
+operated_immediate Ori a n = bit_or a n
+operated_immediate Andi a n = bit_and a n
+operated_immediate Slli a n = shifted_left a n
+operated_immediate Srli a n = shifted_right a n
+operated_immediate Srai a n = shifted_right_signed a n
+
+-- Whether a branch is taken.
+unfoldable pub taken : BranchOperation → ℕ → ℕ → Bool
+taken Beq a b = a == b
+taken Bne a b = not (a == b)
+taken Blt a b = int_lt (signed a) (signed b)
+taken Bge a b = not (int_lt (signed a) (signed b))
+taken Bltu a b = nat_lt a b
+taken Bgeu a b = not (nat_lt a b)
+
+-- ---- Memory
+
+-- A region of memory and an offset of a byte in it.
+pub data Place : Type 0 where
+  InCode : (offset : ℕ) → Place
+  InBytes : (offset : ℕ) → Place
+  InStack : (offset : ℕ) → Place
+
+-- The place of an address, if one of the regions has it: the code has four bytes a word, the other two have the sizes that their lists have.
+unfoldable pub place_of : State → ℕ → Option Place
+place_of s a =
+    if nat_lt a 65536 then None
+    else if nat_lt a (65536 + 4 * length s.code) then Some (InCode (a - 65536))
+    else if nat_lt a 4194304 then None
+    else if nat_lt a 5242880 then Some (InBytes (a - 4194304))
+    else if nat_lt a 16777216 then None
+    else if nat_lt a 33554432 then Some (InStack (a - 16777216))
+    else None
+
+-- The place of an address that is a multiple of the size of what lies there.
+abbrev pub aligned_place : State → ℕ → ℕ → Option Place
+aligned_place s size a = if a % size == 0 then place_of s a else None
+
+-- The number of bytes that a load or a store moves.
+abbrev pub load_size : LoadOperation → ℕ
+load_size Lb = 1
+load_size Lh = 2
+load_size Lw = 4
+load_size Lbu = 1
+load_size Lhu = 2
+
+abbrev pub store_size : StoreOperation → ℕ
+store_size Sb = 1
+store_size Sh = 2
+store_size Sw = 4
+
+-- A byte or a halfword taken as a signed number, as a word: its sign is copied upwards.
+abbrev pub signed_byte : ℕ → ℕ
+signed_byte n = if nat_lt n 128 then n else n + 4294967040
+
+abbrev pub signed_half : ℕ → ℕ
+signed_half n = if nat_lt n 32768 then n else n + 4294901760
+
+-- What a load gets from bytes, at an offset.
+unfoldable pub loaded_from : LoadOperation → List ℕ → ℕ → ℕ
+loaded_from Lb xs i = signed_byte (byte_in xs i)
+loaded_from Lh xs i = signed_half (half_in xs i)
+loaded_from Lw xs i = word_in xs i
+loaded_from Lbu xs i = byte_in xs i
+loaded_from Lhu xs i = half_in xs i
+
+-- Bytes after a store of a value at an offset.
+unfoldable pub stored_in : StoreOperation → List ℕ → ℕ → ℕ → List ℕ
+stored_in Sb xs i v = with_byte xs i v
+stored_in Sh xs i v = with_half xs i v
+stored_in Sw xs i v = with_word xs i v
+
+-- What a load gets at a place.
+abbrev pub loaded_at : State → LoadOperation → Place → ℕ
+loaded_at s op (InCode i) = loaded_from op (bytes_of_words s.code) i
+loaded_at s op (InBytes i) = loaded_from op s.bytes i
+loaded_at s op (InStack i) = loaded_from op s.stack i
+
+-- The state after a store at a place. The code is not written.
+abbrev pub stored_at : State → StoreOperation → ℕ → Place → Option State
+stored_at s op v (InCode i) = None
+stored_at s op v (InBytes i) = Some (record s { bytes = stored_in op s.bytes i v })
+stored_at s op v (InStack i) = Some (record s { stack = stored_in op s.stack i v })
+
+-- What is done at a place, if there is one.
+abbrev pub stored_where : State → StoreOperation → ℕ → Option Place → Option State
+stored_where s op v None = None
+stored_where s op v (Some p) = stored_at s op v p
+
+-- What a load gets at an address, if it may read there.
+unfoldable pub loaded : State → LoadOperation → ℕ → Option ℕ
+loaded s op a = option_map (loaded_at s op) (aligned_place s (load_size op) a)
+
+-- The state after a store at an address, if it may write there; the pc is not moved.
+unfoldable pub stored : State → StoreOperation → ℕ → ℕ → Option State
+stored s op a v = stored_where s op v (aligned_place s (store_size op) a)
+
+-- ---- The rows of the table
+
+-- It writes to a register what was loaded and goes on, or faults.
+abbrev pub on_load : State → ℕ → Option ℕ → Effect
+on_load s r None = stays s (Fault s.pc)
+on_load s r (Some v) = goes s (next s) r v
+
+-- It goes on from what was stored, or faults.
+abbrev pub on_store : State → Option State → Effect
+on_store s None = stays s (Fault s.pc)
+on_store s (Some t) = record { event = Went; after = record t { pc = next s } }
+
+-- Call 1: the next byte of input goes to a0 (register 10), or -1 where there is none.
+abbrev pub on_input : State → List ℕ → Effect
+on_input s [] = goes s (next s) 10 4294967295
+on_input s (b ∷ rest) = record { event = Went; after = record s { pc = next s; registers = with_reg s.registers 10 b; input = rest } }
+
+-- A call of the environment, by the number in a7 (register 17).
+-- 1 reads a byte; 2 puts out the low 8 bits of a0, which become a0; 3 says that calls nest too deep; 10 exits with a0. Another number faults.
+unfoldable pub on_call : State → Effect
+on_call s =
+    if reg s 17 == 1 then on_input s s.input
+    else if reg s 17 == 2 then (record { event = Out (reg s 10 % 256); after = record s { pc = next s; registers = with_reg s.registers 10 (reg s 10 % 256) } })
+    else if reg s 17 == 3 then stays s Depth
+    else if reg s 17 == 10 then stays s (Exited (cast_signed w32 (reg s 10)))
+    else stays s (Fault s.pc)
+
+-- What an instruction does. An offset or a distance is a word, so a sum with it is taken modulo 2^32.
+unfoldable pub acted : State → Instruction → Effect
+acted s (Lui r n) = goes s (next s) r (n * 4096)
+acted s (Auipc r n) = goes s (next s) r (word (s.pc + n * 4096))
+acted s (Jal r n) = jumps s (word (s.pc + n)) r (next s)
+acted s (Jalr r a n) = jumps s (word (reg s a + n) / 2 * 2) r (next s)
+acted s (Branch op a b n) = if taken op (reg s a) (reg s b) then jumps s (word (s.pc + n)) 0 0 else goes s (next s) 0 0
+acted s (Load op r a n) = on_load s r (loaded s op (word (reg s a + n)))
+acted s (Store op b a n) = on_store s (stored s op (word (reg s a + n)) (reg s b))
+acted s (Immediate op r a n) = goes s (next s) r (operated_immediate op (reg s a) n)
+acted s (Register op r a b) = goes s (next s) r (operated op (reg s a) (reg s b))
+acted s (Fence r a n) = goes s (next s) 0 0
+acted s Ecall = on_call s
+acted s Ebreak = stays s (Fault s.pc)
+
+-- ---- One instruction
+
+-- The word that the pc names: it is a multiple of 4 and lies in the code.
+unfoldable pub fetched : State → Option ℕ
+fetched s = if s.pc % 4 == 0 then (if nat_lt s.pc 65536 then None else slice_get s.code ((s.pc - 65536) / 4)) else None
+
+-- What a decoded word does; it faults where the word spells no instruction.
+abbrev pub effect_of_instruction : State → Option Instruction → Effect
+effect_of_instruction s None = stays s (Fault s.pc)
+effect_of_instruction s (Some i) = acted s i
+
+-- What a fetched word does; it faults where the pc names none.
+abbrev pub effect_of_word : State → Option ℕ → Effect
+effect_of_word s None = stays s (Fault s.pc)
+effect_of_word s (Some w) = effect_of_instruction s (decoded w)
+
+-- What the next instruction does.
+unfoldable pub effect : State → Effect
+effect s = effect_of_word s (fetched s)
+
+-- ---- The start
+
+-- So many zeros: not to be computed, since there may be many.
+unfoldable pub zeros : ℕ → List ℕ
+zeros n = replicate n 0
+
+-- The state in which the machine starts: the pc at the first word of the code, the registers 0, the region of bytes with its initial bytes at its front, and 0 elsewhere.
+unfoldable pub started : List ℕ → List ℕ → List ℕ → State
+started code initial input = record {
+  code = code;
+  pc = 65536;
+  registers = replicate 32 0;
+  bytes = initial ++ zeros (1048576 - length initial);
+  stack = zeros 16777216;
+  input = input;
+}

@@ -1,0 +1,344 @@
+//! The machine: its state, and its steps.
+
+ghost use Rattle.std.specs.Prelude.{◌≡◌, ◌+◌, ◌-◌, ◌≤◌, ◌<◌, ◌*◌, ◌/◌, ◌%◌, ◌++◌, ℕ, length, map, drop, option_and_then, All, IfSome, IfOk};
+ghost use Rattle.rv_code.specs.InForm.{IsRegister, IsInForm};
+ghost use Rattle.rv_code.specs.Decoding.{decoded};
+ghost use Rattle.rv_machine.specs.State.{State, reg, word};
+ghost use Rattle.rv_machine.specs.Table.{Effect, goes, jumps, stays, zeros, started, fetched, loaded, stored, on_store, on_input, on_call, acted, effect};
+ghost use Rattle.rv_machine.specs.Reading.{byte_at, stack_rest};
+
+use crate::access::{
+    BYTES_END, BYTES_SIZE, BYTES_START, CODE_START, STACK_END, STACK_SIZE, STACK_START,
+    byte_of_code, load_from, load_from_code, size_of_load, size_of_store, store_in,
+};
+use crate::arithmetic::{is_taken, operate, operate_immediate};
+use crate::event::Event;
+use rv_code::decode;
+use rv_code::instruction::{Instruction, LoadOperation, StoreOperation};
+use std::alloc::{AllocError, Global};
+use std::marker::Model;
+
+/// A machine between two instructions. Contracts see it as its `State`.
+#[derive(Drop)]
+pub struct Machine {
+    code: Vec<u32>,
+    instructions: Vec<Option<Instruction>>,
+    pc: u32,
+    registers: [u32; 32],
+    bytes: Vec<u8>,
+    stack: Vec<u8>,
+    input: Vec<u8>,
+    input_read: usize,
+}
+
+impl Model for Machine {
+    ghost Value = { State };
+
+    ghost view = { λ m. record { code = m.code.items; pc = m.pc; registers = m.registers; bytes = m.bytes.items; stack = m.stack.items; input = drop m.input_read m.input.items } };
+
+    ghost invariant = { λ m. (m.instructions.items ≡ map decoded m.code.items) × All (λ row. IfSome row IsInForm) m.instructions.items × (length m.code.items ≤ 262144) × (length m.bytes.items ≡ 1048576) × (length m.stack.items ≡ 16777216) };
+}
+
+// So many bytes, each of them 0.
+#[tactic(auto, unfolding(crate::specs::Table::zeros))]
+fn zero_bytes(alloc: Global, count: usize) -> Result<Vec<u8>, AllocError>
+    ensures zeros { IfOk result (λ v. v.items ≡ zeros count) }
+    ensures len { IfOk result (λ v. length v.items ≡ count) }
+{
+    Ok(vec![in alloc; 0; count]?)
+}
+
+// A region of so many bytes as it starts: the initial bytes, and 0 after them.
+#[tactic(auto, unfolding(crate::specs::Table::zeros))]
+fn initial_bytes(alloc: Global, initial: &[u8], size: usize) -> Result<Vec<u8>, AllocError>
+    requires { length initial.now ≤ size }
+    ensures bytes { IfOk result (λ v. v.items ≡ initial.now ++ zeros (size - length initial.now)) }
+    ensures len { IfOk result (λ v. length v.items ≡ size) }
+{
+    let mut bytes = Vec::with_capacity(alloc, size)?;
+    bytes.extend_from_slice(initial)?;
+    bytes.resize(size, 0)?;
+    Ok(bytes)
+}
+
+// The instruction of each word of the code.
+fn decoded_code(alloc: Global, code: &[u32]) -> Result<Vec<Option<Instruction>>, AllocError>
+    ensures rows { IfOk result (λ v. v.items ≡ map decoded code.now) }
+    ensures in_form { IfOk result (λ v. All (λ row. IfSome row IsInForm) v.items) }
+{
+    code.iter().map(|word| decode(*word)).collect(alloc)
+}
+
+impl Machine {
+    /// The machine as it starts on code, initial bytes and input. It takes all the memory that the machine ever needs.
+    ///
+    /// Errors: `AllocError` where that memory is refused.
+    #[tactic(auto, unfolding(crate::specs::Table::started))]
+    pub fn load(
+        alloc: Global,
+        code: &[u32],
+        bytes: &[u8],
+        input: &[u8],
+    ) -> Result<Machine, AllocError>
+        requires code { length code.now ≤ 262144 }
+        requires bytes { length bytes.now ≤ 1048576 }
+        ensures { IfOk result (λ m. m ≡ started code.now bytes.now input.now) }
+    {
+        Ok(Machine {
+            code: code.to_vec(alloc)?,
+            instructions: decoded_code(alloc, code)?,
+            pc: CODE_START,
+            registers: [0; 32],
+            bytes: initial_bytes(alloc, bytes, BYTES_SIZE)?,
+            stack: zero_bytes(alloc, STACK_SIZE)?,
+            input: input.to_vec(alloc)?,
+            input_read: 0,
+        })
+    }
+
+    /// Carries out one instruction, and tells what came of it. After an ending it tells the same again, and nothing changes.
+    #[tactic(auto, using(crate::proofs::Effects::effect_none, crate::proofs::Effects::effect_some))]
+    pub fn step(&mut self) -> Event
+        ensures { record { event = result; after = self.new } ≡ effect self.old }
+    {
+        match self.fetch() {
+            None => Event::Fault(self.pc),
+            Some(instruction) => self.act(instruction),
+        }
+    }
+
+    /// The address of the instruction that comes next.
+    pub fn pc(&self) -> u32
+        ensures { result ≡ self.now.pc }
+    {
+        self.pc
+    }
+
+    /// The 32 registers.
+    pub fn registers(&self) -> &[u32; 32]
+        ensures { result.now ≡ self.now.registers }
+    {
+        &self.registers
+    }
+
+    /// The byte at an address, and 0 where no region has the address.
+    #[tactic(auto, unfolding(crate::specs::Reading::byte_at, crate::specs::Table::place_of))]
+    pub fn byte(&self, address: u32) -> u8
+        ensures { result ≡ byte_at self.now address }
+    {
+        if address < CODE_START {
+            0
+        } else if address < self.code_end() {
+            byte_of_code(&self.code, (address - CODE_START) as usize)
+        } else if address < BYTES_START {
+            0
+        } else if address < BYTES_END {
+            self.bytes[(address - BYTES_START) as usize]
+        } else if address < STACK_START {
+            0
+        } else if address < STACK_END {
+            self.stack[(address - STACK_START) as usize]
+        } else {
+            0
+        }
+    }
+
+    /// The bytes of the stack from an address to the stack's end, and none where the address is not one of the stack.
+    #[tactic(auto, unfolding(crate::specs::Reading::stack_rest))]
+    pub fn stack_from(&self, address: u32) -> &[u8]
+        ensures { result.now ≡ stack_rest self.now address }
+    {
+        if address < STACK_START || address >= STACK_END {
+            &[]
+        } else {
+            &self.stack.as_slice()[(address - STACK_START) as usize..]
+        }
+    }
+
+    // The address after the last word of the code.
+    fn code_end(&self) -> u32
+        ensures value { result ≡ 65536 + 4 * length self.now.code }
+        ensures low { result ≤ 4194304 }
+    {
+        CODE_START + 4 * self.code.len() as u32
+    }
+
+    // The instruction at the pc, if there is one.
+    #[tactic(auto, unfolding(crate::specs::Table::fetched), using(crate::proofs::Rows::row_in_form))]
+    fn fetch(&self) -> Option<Instruction>
+        ensures value { result ≡ option_and_then decoded (fetched self.now) }
+        ensures in_form { IfSome result IsInForm }
+    {
+        if self.pc % 4 != 0 || self.pc < CODE_START {
+            return None;
+        }
+        match self.instructions.get(((self.pc - CODE_START) / 4) as usize) {
+            None => None,
+            Some(row) => *row,
+        }
+    }
+
+    // The value of a register.
+    fn register(&self, number: u8) -> u32
+        requires { IsRegister number }
+        ensures { result ≡ reg self.now number }
+    {
+        self.registers[number as usize]
+    }
+
+    // The address that a register and an offset name.
+    fn address(&self, base: u8, offset: u32) -> u32
+        requires { IsRegister base }
+        ensures { result ≡ word (reg self.now base + offset) }
+    {
+        self.register(base).wrapping_add(offset)
+    }
+
+    // Writes a register, but for register 0, and goes on at an address.
+    fn go(&mut self, to: u32, number: u8, value: u32) -> Event
+        requires { IsRegister number }
+        ensures { record { event = result; after = self.new } ≡ goes self.old to number value }
+    {
+        if number != 0 {
+            self.registers[number as usize] = value;
+        }
+        self.pc = to;
+        Event::Went
+    }
+
+    // The same, where the address is a multiple of 4.
+    fn jump(&mut self, to: u32, number: u8, value: u32) -> Event
+        requires { IsRegister number }
+        ensures { record { event = result; after = self.new } ≡ jumps self.old to number value }
+    {
+        if to % 4 == 0 {
+            self.go(to, number, value)
+        } else {
+            Event::Fault(self.pc)
+        }
+    }
+
+    // What an instruction does.
+    #[tactic(auto, unfolding(crate::specs::Table::acted))]
+    fn act(&mut self, instruction: Instruction) -> Event
+        requires { IsInForm instruction }
+        ensures { record { event = result; after = self.new } ≡ acted self.old instruction }
+    {
+        let next = self.pc.wrapping_add(4);
+        match instruction {
+            Instruction::Lui(rd, upper) => self.go(next, rd, upper * 4096),
+            Instruction::Auipc(rd, upper) => {
+                self.go(next, rd, self.pc.wrapping_add(upper * 4096))
+            }
+            Instruction::Jal(rd, distance) => self.jump(self.pc.wrapping_add(distance), rd, next),
+            Instruction::Jalr(rd, base, offset) => {
+                self.jump(self.address(base, offset) / 2 * 2, rd, next)
+            }
+            Instruction::Branch(operation, left, right, distance) => {
+                if is_taken(operation, self.register(left), self.register(right)) {
+                    self.jump(self.pc.wrapping_add(distance), 0, 0)
+                } else {
+                    self.go(next, 0, 0)
+                }
+            }
+            Instruction::Load(operation, rd, base, offset) => {
+                match self.load_at(operation, self.address(base, offset)) {
+                    None => Event::Fault(self.pc),
+                    Some(value) => self.go(next, rd, value),
+                }
+            }
+            Instruction::Store(operation, value, base, offset) => {
+                self.store_at(operation, self.address(base, offset), self.register(value))
+            }
+            Instruction::Immediate(operation, rd, source, immediate) => {
+                let value = operate_immediate(operation, self.register(source), immediate);
+                self.go(next, rd, value)
+            }
+            Instruction::Register(operation, rd, left, right) => {
+                let value = operate(operation, self.register(left), self.register(right));
+                self.go(next, rd, value)
+            }
+            Instruction::Fence(_, _, _) => self.go(next, 0, 0),
+            Instruction::Ecall => self.call(),
+            Instruction::Ebreak => Event::Fault(self.pc),
+        }
+    }
+
+    // What a load gets at an address, if it may read there.
+    #[tactic(auto, unfolding(crate::specs::Table::loaded, crate::specs::Table::place_of))]
+    fn load_at(&self, operation: LoadOperation, address: u32) -> Option<u32>
+        ensures { result ≡ loaded self.now operation address }
+    {
+        if address % size_of_load(operation) != 0 || address < CODE_START {
+            None
+        } else if address < self.code_end() {
+            let offset = (address - CODE_START) as usize;
+            Some(load_from_code(operation, &self.code, offset))
+        } else if address < BYTES_START {
+            None
+        } else if address < BYTES_END {
+            let offset = (address - BYTES_START) as usize;
+            Some(load_from(operation, &self.bytes, offset))
+        } else if address < STACK_START || address >= STACK_END {
+            None
+        } else {
+            let offset = (address - STACK_START) as usize;
+            Some(load_from(operation, &self.stack, offset))
+        }
+    }
+
+    // Stores a value at an address and goes on, if it may write there.
+    #[tactic(auto, unfolding(crate::specs::Table::stored, crate::specs::Table::place_of))]
+    fn store_at(&mut self, operation: StoreOperation, address: u32, value: u32) -> Event
+        ensures { record { event = result; after = self.new } ≡ on_store self.old (stored self.old operation address value) }
+    {
+        if address % size_of_store(operation) != 0 || address < BYTES_START {
+            return Event::Fault(self.pc);
+        }
+        if address < BYTES_END {
+            let offset = (address - BYTES_START) as usize;
+            store_in(operation, self.bytes.as_mut_slice(), offset, value);
+        } else if address < STACK_START || address >= STACK_END {
+            return Event::Fault(self.pc);
+        } else {
+            let offset = (address - STACK_START) as usize;
+            store_in(operation, self.stack.as_mut_slice(), offset, value);
+        }
+        self.pc = self.pc.wrapping_add(4);
+        Event::Went
+    }
+
+    // A call of the environment.
+    #[tactic(auto, unfolding(crate::specs::Table::on_call))]
+    fn call(&mut self) -> Event
+        ensures { record { event = result; after = self.new } ≡ on_call self.old }
+    {
+        let next = self.pc.wrapping_add(4);
+        let first = self.register(10);
+        match self.register(17) {
+            1 => self.read_input(),
+            2 => {
+                self.go(next, 10, first % 256);
+                Event::Out((first % 256) as u8)
+            }
+            3 => Event::Depth,
+            10 => Event::Exited(first.cast_signed()),
+            _ => Event::Fault(self.pc),
+        }
+    }
+
+    // Reads the next byte of input into a0, or -1 where there is none.
+    #[tactic(auto, using(crate::proofs::Effects::input_more, crate::proofs::Effects::input_end))]
+    fn read_input(&mut self) -> Event
+        ensures { record { event = result; after = self.new } ≡ on_input self.old self.old.input }
+    {
+        let next = self.pc.wrapping_add(4);
+        if self.input_read < self.input.len() {
+            let byte = self.input[self.input_read];
+            self.input_read += 1;
+            self.go(next, 10, u32::from(byte))
+        } else {
+            self.go(next, 10, u32::MAX)
+        }
+    }
+}

@@ -1,0 +1,4 @@
+pub mod Run
+pub mod Reading
+pub mod Transcript
+pub mod Plain

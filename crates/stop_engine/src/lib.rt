@@ -1,0 +1,2 @@
+//! Runs an image from stop to stop.
+#![tactic(auto)]

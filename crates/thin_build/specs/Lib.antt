@@ -1,0 +1,4 @@
+pub mod Code
+pub mod Image
+pub mod Truthful
+pub mod Growing

@@ -1,0 +1,10 @@
+//! From a straight-line `main` to its image.
+#![tactic(auto)]
+
+mod building;
+mod code;
+mod draft;
+pub mod placed;
+mod sections;
+
+pub use building::build;

@@ -1,0 +1,16 @@
+pub mod Steps
+pub mod TextSteps
+pub mod TreeSteps
+pub mod Weights
+pub mod Runs
+pub mod Ascii
+pub mod Digits
+pub mod WordLaws
+pub mod WordsSpelled
+pub mod TextLaws
+pub mod NameLaws
+pub mod TreeLaws
+pub mod StatementLaws
+pub mod ThinLaws
+pub mod SoundLaws
+pub mod Headline

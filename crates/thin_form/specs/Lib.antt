@@ -1,0 +1,14 @@
+pub mod Tree
+pub mod Program
+pub mod Places
+pub mod Meaning
+pub mod MeaningWorked
+pub mod Words
+pub mod Texts
+pub mod Grammar
+pub mod Thin
+pub mod Outcome
+pub mod WordReading
+pub mod Names
+pub mod TreeReading
+pub mod TextReading
