@@ -1,5 +1,5 @@
 -- The fields of a word that was put together of fields, and the word of the fields of a word.
-use Rattle.std.proofs.Common.{◌≡◌, ℕ, ◌+◌, ◌*◌, ◌/◌, ◌%◌, ◌<◌, ◌≤◌, ◌⊎◌, ap, sym, ◌∙◌, arith}
+use Rattle.std.proofs.Common.{◌≡◌, ℕ, ◌+◌, ◌*◌, ◌/◌, ◌%◌, ◌<◌, ◌≤◌, ◌⊎◌, ap, ◌∙◌, arith}
 use Rattle.std.proofs.lemmas.Bool.Decides.{nat_tests}
 use Rattle.rv_code.specs.Fields.{opcode, rd, funct3, rs1, rs2, funct7, upper, signed_12, signed_13, signed_21, immediate, store_offset, branch_distance, jump_distance}
 use Rattle.rv_code.specs.InForm.{IsRegister, IsSigned12, IsBranchDistance, IsJumpDistance}

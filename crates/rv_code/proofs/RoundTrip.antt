@@ -1,5 +1,5 @@
 -- Encoding and decoding undo each other.
-use Rattle.std.proofs.Common.{◌≡◌, ℕ, ◌+◌, ◌*◌, ◌/◌, ◌%◌, ◌<◌, refl, sym, ap, subst, arith, Bool, true, false, Option, Some, None, IfSome, option_map, nat_eq, cond}
+use Rattle.std.proofs.Common.{◌≡◌, ℕ, ◌+◌, ◌*◌, ◌/◌, ◌%◌, ◌<◌, refl, sym, subst, arith, Bool, true, false, Option, Some, None, IfSome, option_map, nat_eq, cond}
 use Rattle.std.proofs.Common.{lit<}
 use Rattle.std.proofs.lemmas.Bool.{eqb-true}
 use Rattle.rv_code.specs.declared.instruction.BranchOperation.{BranchOperation}
@@ -15,10 +15,10 @@ use Rattle.rv_code.specs.declared.instruction.RegisterOperation.TheVariants.{Add
 use Rattle.rv_code.specs.declared.instruction.Instruction.{Instruction}
 use Rattle.rv_code.specs.declared.instruction.Instruction.TheVariants.{Lui, Auipc, Jal, Jalr, Branch, Load, Store, Immediate, Register, Fence, Ecall, Ebreak}
 use Rattle.rv_code.specs.Fields.{opcode, rd, funct3, rs1, rs2, funct7, upper, immediate, store_offset, branch_distance, jump_distance}
-use Rattle.rv_code.specs.Operations.{branch_funct3, branch_operation, load_funct3, load_operation, store_funct3, store_operation, immediate_funct3, immediate_operation, register_funct3, register_funct7, base_operation, alternate_operation, product_operation, register_operation}
-use Rattle.rv_code.specs.Encoding.{register_word, immediate_word, store_word, branch_word, upper_word, jump_word, encoded}
+use Rattle.rv_code.specs.Operations.{branch_funct3, branch_operation, load_funct3, load_operation, store_funct3, store_operation, immediate_operation, register_funct3, register_funct7, register_operation}
+use Rattle.rv_code.specs.Encoding.{immediate_word, encoded}
 use Rattle.rv_code.specs.Decoding.{immediate_of, decoded}
-use Rattle.rv_code.specs.InForm.{IsRegister, IsSigned12, IsBranchDistance, IsJumpDistance, IsImmediateOf, IsInForm}
+use Rattle.rv_code.specs.InForm.{IsRegister, IsSigned12, IsBranchDistance, IsJumpDistance, IsInForm}
 use Rattle.rv_code.proofs.Fields.{RegisterFields, register_fields, ImmediateFields, immediate_fields, StoreFields, store_fields, BranchFields, branch_fields, UpperFields, upper_fields, JumpFields, jump_fields, register_word_of, immediate_word_of, store_word_of, branch_word_of, upper_word_of, jump_word_of, signed_12_fits, signed_13_fits, signed_21_fits}
 
 -- ---- The instruction of a word whose fields are known

@@ -38,24 +38,24 @@ fn row_of(word: u32) -> Option<Instruction>
         opcode::JAL => Some(Instruction::Jal(rd, jump_distance(word))),
         opcode::JALR if funct3 == 0 => Some(Instruction::Jalr(rd, rs1, immediate(word))),
         opcode::BRANCH => {
-            let op = BranchOperation::from_funct3(funct3)?;
-            Some(Instruction::Branch(op, rs1, rs2, branch_distance(word)))
+            let operation = BranchOperation::from_funct3(funct3)?;
+            Some(Instruction::Branch(operation, rs1, rs2, branch_distance(word)))
         }
         opcode::LOAD => {
-            let op = LoadOperation::from_funct3(funct3)?;
-            Some(Instruction::Load(op, rd, rs1, immediate(word)))
+            let operation = LoadOperation::from_funct3(funct3)?;
+            Some(Instruction::Load(operation, rd, rs1, immediate(word)))
         }
         opcode::STORE => {
-            let op = StoreOperation::from_funct3(funct3)?;
-            Some(Instruction::Store(op, rs2, rs1, store_offset(word)))
+            let operation = StoreOperation::from_funct3(funct3)?;
+            Some(Instruction::Store(operation, rs2, rs1, store_offset(word)))
         }
         opcode::OP_IMM => {
-            let op = ImmediateOperation::from_functs(funct3, funct7)?;
-            Some(Instruction::Immediate(op, rd, rs1, immediate_of(op, word)))
+            let operation = ImmediateOperation::from_functs(funct3, funct7)?;
+            Some(Instruction::Immediate(operation, rd, rs1, immediate_of(operation, word)))
         }
         opcode::OP => {
-            let op = RegisterOperation::from_functs(funct3, funct7)?;
-            Some(Instruction::Register(op, rd, rs1, rs2))
+            let operation = RegisterOperation::from_functs(funct3, funct7)?;
+            Some(Instruction::Register(operation, rd, rs1, rs2))
         }
         opcode::MISC_MEM if funct3 == 0 => Some(Instruction::Fence(rd, rs1, immediate(word))),
         _ if word == opcode::ECALL => Some(Instruction::Ecall),
@@ -72,10 +72,10 @@ fn immediate(word: u32) -> u32
 }
 
 // The immediate of an operation: the amount of a shift stands where rs2 does.
-fn immediate_of(op: ImmediateOperation, word: u32) -> u32
-    ensures { result ≡ immediate_of op word }
+fn immediate_of(operation: ImmediateOperation, word: u32) -> u32
+    ensures { result ≡ immediate_of operation word }
 {
-    match op {
+    match operation {
         ImmediateOperation::Slli | ImmediateOperation::Srli | ImmediateOperation::Srai => {
             word / 1048576 % 32
         }

@@ -20,20 +20,27 @@ pub fn encode(instruction: Instruction) -> u32
         Instruction::Auipc(rd, upper) => upper_word(upper, rd, opcode::AUIPC),
         Instruction::Jal(rd, distance) => jump_word(distance, rd),
         Instruction::Jalr(rd, base, offset) => immediate_word(offset, base, 0, rd, opcode::JALR),
-        Instruction::Branch(op, left, right, distance) => {
-            branch_word(distance, right, left, op.funct3())
+        Instruction::Branch(operation, left, right, distance) => {
+            branch_word(distance, right, left, operation.funct3())
         }
-        Instruction::Load(op, rd, base, offset) => {
-            immediate_word(offset, base, op.funct3(), rd, opcode::LOAD)
+        Instruction::Load(operation, rd, base, offset) => {
+            immediate_word(offset, base, operation.funct3(), rd, opcode::LOAD)
         }
-        Instruction::Store(op, value, base, offset) => {
-            store_word(offset, value, base, op.funct3())
+        Instruction::Store(operation, value, base, offset) => {
+            store_word(offset, value, base, operation.funct3())
         }
-        Instruction::Immediate(op, rd, source, immediate) => {
-            immediate_operation_word(op, rd, source, immediate)
+        Instruction::Immediate(operation, rd, source, immediate) => {
+            immediate_operation_word(operation, rd, source, immediate)
         }
-        Instruction::Register(op, rd, left, right) => {
-            register_word(op.funct7(), right, left, op.funct3(), rd, opcode::OP)
+        Instruction::Register(operation, rd, left, right) => {
+            register_word(
+                operation.funct7(),
+                right,
+                left,
+                operation.funct3(),
+                rd,
+                opcode::OP,
+            )
         }
         Instruction::Fence(rd, rs1, immediate) => {
             immediate_word(immediate, rs1, 0, rd, opcode::MISC_MEM)
@@ -132,19 +139,38 @@ fn jump_word(distance: u32, rd: u8) -> u32
 }
 
 // An operation on a register and an immediate: a shift has the R format, with its amount for rs2, and the others have the I format.
-fn immediate_operation_word(op: ImmediateOperation, rd: u8, source: u8, immediate: u32) -> u32
+fn immediate_operation_word(
+    operation: ImmediateOperation,
+    rd: u8,
+    source: u8,
+    immediate: u32,
+) -> u32
     requires rd { IsRegister rd }
     requires source { IsRegister source }
-    requires immediate { IsImmediateOf op immediate }
-    ensures { result ≡ immediate_operation_word op rd source immediate }
+    requires immediate { IsImmediateOf operation immediate }
+    ensures { result ≡ immediate_operation_word operation rd source immediate }
 {
-    match op {
+    match operation {
         ImmediateOperation::Slli | ImmediateOperation::Srli => {
-            register_word(0, immediate as u8, source, op.funct3(), rd, opcode::OP_IMM)
+            register_word(
+                0,
+                immediate as u8,
+                source,
+                operation.funct3(),
+                rd,
+                opcode::OP_IMM,
+            )
         }
         ImmediateOperation::Srai => {
-            register_word(32, immediate as u8, source, op.funct3(), rd, opcode::OP_IMM)
+            register_word(
+                32,
+                immediate as u8,
+                source,
+                operation.funct3(),
+                rd,
+                opcode::OP_IMM,
+            )
         }
-        _ => immediate_word(immediate, source, op.funct3(), rd, opcode::OP_IMM),
+        _ => immediate_word(immediate, source, operation.funct3(), rd, opcode::OP_IMM),
     }
 }

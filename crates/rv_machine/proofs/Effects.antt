@@ -1,12 +1,11 @@
 -- What the next instruction does, by the row of the table that the pc names, and what a read of input does.
-use Rattle.std.proofs.Common.{◌≡◌, ℕ, zero, suc, ◌+◌, ◌<◌, ◌≤◌, ap, sym, ◌∙◌, arith, refl, List, [], ◌∷◌, length, get_or, drop, Option, Some, None, option_and_then}
+use Rattle.std.proofs.Common.{◌≡◌, ℕ, ◌+◌, ◌<◌, ◌≤◌, ap, sym, ◌∙◌, refl, List, ◌∷◌, length, get_or, drop, Option, Some, None, option_and_then}
 use Rattle.std.proofs.lemmas.List.{drop_more, drop_all}
 use Rattle.rv_code.specs.declared.instruction.Instruction.{Instruction}
 use Rattle.rv_code.specs.Decoding.{decoded}
-use Rattle.rv_machine.specs.declared.event.Event.{Event}
-use Rattle.rv_machine.specs.declared.event.Event.TheVariants.{Went, Out, Exited, Depth, Fault}
-use Rattle.rv_machine.specs.State.{State, with_reg}
-use Rattle.rv_machine.specs.Table.{Effect, stays, goes, next, on_input, fetched, acted, effect, effect_of_word, effect_of_instruction}
+use Rattle.rv_machine.specs.declared.event.Event.TheVariants.{Fault}
+use Rattle.rv_machine.specs.State.{State}
+use Rattle.rv_machine.specs.Table.{stays, goes, next, on_input, fetched, acted, effect, effect_of_word, effect_of_instruction}
 
 of_word : (s : State) (o : Option ℕ) → effect_of_word s o ≡ effect_of_instruction s (option_and_then decoded o)
 of_word s None = refl

@@ -1,18 +1,17 @@
 -- What holds of every instruction, by the rows of the table.
-use Rattle.std.proofs.Common.{◌≡◌, ℕ, zero, suc, ◌+◌, ◌*◌, ◌/◌, ◌%◌, sym, ap, ◌∙◌, arith, refl, List, [], ◌∷◌, length, Bool, true, false, cond, Option, Some, None, option_and_then, nat_eq}
-use Rattle.std.specs.Prelude.{slice_index, slice_set}
+use Rattle.std.proofs.Common.{◌≡◌, ℕ, zero, suc, ◌+◌, ◌/◌, ◌%◌, ap, ◌∙◌, refl, List, [], ◌∷◌, length, Bool, true, false, cond, Option, Some, None, nat_eq}
+use Rattle.std.specs.Prelude.{slice_index}
 use Rattle.std.proofs.Math.ListN.{length-set}
-use Rattle.rv_code.specs.declared.instruction.LoadOperation.{LoadOperation}
 use Rattle.rv_code.specs.declared.instruction.StoreOperation.{StoreOperation}
 use Rattle.rv_code.specs.declared.instruction.StoreOperation.TheVariants.{Sb, Sh, Sw}
 use Rattle.rv_code.specs.declared.instruction.Instruction.{Instruction}
 use Rattle.rv_code.specs.declared.instruction.Instruction.TheVariants.{Lui, Auipc, Jal, Jalr, Branch, Load, Store, Immediate, Register, Fence, Ecall, Ebreak}
 use Rattle.rv_code.specs.Decoding.{decoded}
 use Rattle.rv_machine.specs.declared.event.Event.{Event}
-use Rattle.rv_machine.specs.declared.event.Event.TheVariants.{Went, Out, Exited, Depth, Fault}
+use Rattle.rv_machine.specs.declared.event.Event.TheVariants.{Out, Exited, Depth, Fault}
 use Rattle.rv_machine.specs.State.{State, reg, with_reg, word}
-use Rattle.rv_machine.specs.Memory.{with_byte, with_half, with_word}
-use Rattle.rv_machine.specs.Table.{Effect, Place, InCode, InBytes, InStack, goes, stays, next, jumps, taken, aligned_place, store_size, loaded, stored, stored_in, stored_at, stored_where, on_load, on_store, on_input, on_call, operated, operated_immediate, acted, fetched, effect, effect_of_word, effect_of_instruction}
+use Rattle.rv_machine.specs.Memory.{with_half}
+use Rattle.rv_machine.specs.Table.{Effect, Place, InCode, InBytes, InStack, goes, stays, next, jumps, taken, aligned_place, store_size, loaded, stored, stored_in, stored_at, stored_where, on_load, on_store, on_input, on_call, acted, fetched, effect, effect_of_word, effect_of_instruction}
 use Rattle.rv_machine.specs.Laws.{IsEnding, Kept}
 use Rattle.rv_machine.proofs.Memory.{length_with_word}
 
@@ -93,13 +92,13 @@ end_of_input s (x ∷ xs) = λ e. absurd e
 
 ends_hold : (s : State) → Holds s (StaysAtEnd s)
 unfolding StaysAtEnd
-ends_hold s = record
-  { going = λ to r v e. absurd e
-  ; staying = λ e end f. refl
-  ; storing = λ op a v. end_of_store s (stored s op a v)
-  ; reading = end_of_input s s.input
-  ; writing = λ b e. absurd e
-  }
+ends_hold s = record {
+  going = λ to r v e. absurd e;
+  staying = λ e end f. refl;
+  storing = λ op a v. end_of_store s (stored s op a v);
+  reading = end_of_input s s.input;
+  writing = λ b e. absurd e;
+}
 
 pub ending_stays : (s : State) → IsEnding (effect s).event → (effect s).after ≡ s
 unfolding StaysAtEnd
@@ -151,10 +150,10 @@ kept_input s (x ∷ xs) = kept_written s (next s) 10 x xs
 
 -- Every instruction leaves as it was what `Kept` names.
 pub effects_keep : (s : State) → Kept s (effect s).after
-effects_keep s = effect_holds s (λ e. Kept s e.after) (record
-  { going = λ to r v. kept_written s to r v s.input
-  ; staying = λ e end. kept_same s
-  ; storing = kept_stored s
-  ; reading = kept_input s s.input
-  ; writing = λ b. kept_written s (next s) 10 b s.input
-  })
+effects_keep s = effect_holds s (λ e. Kept s e.after) (record {
+  going = λ to r v. kept_written s to r v s.input;
+  staying = λ e end. kept_same s;
+  storing = kept_stored s;
+  reading = kept_input s s.input;
+  writing = λ b. kept_written s (next s) 10 b s.input;
+})

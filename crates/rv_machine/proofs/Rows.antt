@@ -1,5 +1,5 @@
 -- The decoded words of the code.
-use Rattle.std.proofs.Common.{◌≡◌, ℕ, zero, suc, ◌+◌, ◌<◌, ◌≤◌, ap, sym, subst, ◌∙◌, arith, refl, List, [], ◌∷◌, length, get_or, map, Option, Some, None, IfSome}
+use Rattle.std.proofs.Common.{◌≡◌, ℕ, ◌<◌, sym, subst, refl, List, length, get_or, map, Option, IfSome}
 use Rattle.std.specs.List.{All}
 use Rattle.std.proofs.lemmas.List.Elements.{All-map, All-from_get_or}
 use Rattle.rv_code.specs.declared.instruction.Instruction.{Instruction}

@@ -1,9 +1,9 @@
 -- What holds of every instruction.
-use Rattle.std.specs.Prelude.{◌≡◌, ℕ, length}
+use Rattle.std.specs.Prelude.{◌≡◌, length}
 use Rattle.rv_machine.specs.declared.event.Event.{Event}
 use Rattle.rv_machine.specs.declared.event.Event.TheVariants.{Went, Out, Exited, Depth, Fault}
 use Rattle.rv_machine.specs.State.{State, reg}
-use Rattle.rv_machine.specs.Table.{Effect, effect}
+use Rattle.rv_machine.specs.Table.{effect}
 
 -- The program does not go on after the event.
 abbrev pub IsEnding : Event → Type 0

@@ -1,5 +1,5 @@
 -- What each instruction does: RV32IM, as the RISC-V unprivileged ISA has it, over three regions of memory, with four calls of the environment.
-use Rattle.std.specs.Prelude.{◌≡◌, ℕ, zero, suc, ◌+◌, ◌-◌, ◌*◌, ◌/◌, ◌%◌, ◌==◌, nat_lt, ◌++◌, Bool, not, Option, Some, None, option_map, List, [], ◌∷◌, length, replicate, slice_get, slice_set, int_lt, bit_and, bit_or, bit_xor, if◌then◌else◌}
+use Rattle.std.specs.Prelude.{ℕ, ◌+◌, ◌-◌, ◌*◌, ◌/◌, ◌%◌, ◌==◌, nat_lt, ◌++◌, Bool, not, Option, Some, None, option_map, List, [], ◌∷◌, length, replicate, slice_get, int_lt, bit_and, bit_or, bit_xor, if◌then◌else◌}
 use Rattle.word_base.specs.Words.{signed}
 use Rattle.word_base.specs.Arithmetic.{added, subtracted, multiplied, multiplied_high, multiplied_high_unsigned, multiplied_high_mixed, divided, divided_unsigned, remaining, remaining_unsigned, shifted_left, shifted_right, shifted_right_signed, less, less_unsigned}
 use Rattle.rv_code.specs.declared.instruction.BranchOperation.{BranchOperation}

@@ -6,12 +6,10 @@ ghost use Rattle.rv_machine.specs.Laws.{EndingsRepeat, EffectsKeep};
 #[tactic(auto, using(crate::proofs::Laws::endings_repeat))]
 pub fn endings_repeat()
     ensures { EndingsRepeat }
-{
-}
+{}
 
 /// No instruction changes the code, the sizes of the regions, or register 0.
 #[tactic(auto, using(crate::proofs::Laws::effects_keep))]
 pub fn effects_keep()
     ensures { EffectsKeep }
-{
-}
+{}

@@ -4,7 +4,7 @@ ghost use Rattle.std.specs.Prelude.{◌≡◌, ◌+◌, ◌-◌, ◌≤◌, ◌<
 ghost use Rattle.rv_code.specs.InForm.{IsRegister, IsInForm};
 ghost use Rattle.rv_code.specs.Decoding.{decoded};
 ghost use Rattle.rv_machine.specs.State.{State, reg, word};
-ghost use Rattle.rv_machine.specs.Table.{Effect, goes, jumps, stays, zeros, started, fetched, loaded, stored, on_store, on_input, on_call, acted, effect};
+ghost use Rattle.rv_machine.specs.Table.{Effect, goes, jumps, stays, zeros, started, fetched, loaded, stored, on_load, on_store, on_input, on_call, acted, effect};
 ghost use Rattle.rv_machine.specs.Reading.{byte_at, stack_rest};
 
 use crate::access::{
@@ -36,6 +36,7 @@ impl Model for Machine {
 
     ghost view = { λ m. record { code = m.code.items; pc = m.pc; registers = m.registers; bytes = m.bytes.items; stack = m.stack.items; input = drop m.input_read m.input.items } };
 
+    // Beside each word of the code stands its instruction, the code is at most 1 MiB, and the regions have their sizes.
     ghost invariant = { λ m. (m.instructions.items ≡ map decoded m.code.items) × All (λ row. IfSome row IsInForm) m.instructions.items × (length m.code.items ≤ 262144) × (length m.bytes.items ≡ 1048576) × (length m.stack.items ≡ 16777216) };
 }
 
@@ -242,10 +243,7 @@ impl Machine {
                 }
             }
             Instruction::Load(operation, rd, base, offset) => {
-                match self.load_at(operation, self.address(base, offset)) {
-                    None => Event::Fault(self.pc),
-                    Some(value) => self.go(next, rd, value),
-                }
+                self.load_into(rd, operation, self.address(base, offset))
             }
             Instruction::Store(operation, value, base, offset) => {
                 self.store_at(operation, self.address(base, offset), self.register(value))
@@ -261,6 +259,17 @@ impl Machine {
             Instruction::Fence(_, _, _) => self.go(next, 0, 0),
             Instruction::Ecall => self.call(),
             Instruction::Ebreak => Event::Fault(self.pc),
+        }
+    }
+
+    // Writes a register with what a load gets at an address and goes on, if it may read there.
+    fn load_into(&mut self, rd: u8, operation: LoadOperation, address: u32) -> Event
+        requires { IsRegister rd }
+        ensures { record { event = result; after = self.new } ≡ on_load self.old rd (loaded self.old operation address) }
+    {
+        match self.load_at(operation, address) {
+            None => Event::Fault(self.pc),
+            Some(value) => self.go(self.pc.wrapping_add(4), rd, value),
         }
     }
 

@@ -12,7 +12,7 @@ abbrev pub RefusedOnlyWhere : Type 0 → ScriptErr → Type 0
 RefusedOnlyWhere fact (Refused code line) = (code ≡ UNKNOWN_COMMAND) × (line ≡ 1) × fact
 RefusedOnlyWhere fact NoMemory = Unit {0}
 
--- the text is a script of no orders at all
+-- the text is no script, whatever the orders
 abbrev pub IsNoScript : List ℕ → Type 0
 IsNoScript text = (os : List Order) → ¬ IsScript text os
 
@@ -21,7 +21,7 @@ pub record IsLineOf (line : List ℕ) (o : Order) : Type 0 where
   pub spelled : line ≡ order_text o
   pub named : IsNamed o
 
--- the line asks for no order at all
+-- the line is that of no order, whatever the order
 abbrev pub IsNoLine : List ℕ → Type 0
 IsNoLine line = (o : Order) → ¬ IsLineOf line o
 

@@ -1,0 +1,6 @@
+pub mod Words
+pub mod Given
+pub mod Causes
+pub mod Outcome
+pub mod Stages
+pub mod Prepared

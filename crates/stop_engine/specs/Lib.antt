@@ -2,3 +2,9 @@ pub mod Run
 pub mod Reading
 pub mod Transcript
 pub mod Plain
+pub mod Halting
+pub mod Standing
+pub mod StopTable
+pub mod EngineState
+pub mod Sight
+pub mod Samples

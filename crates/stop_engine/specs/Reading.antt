@@ -46,9 +46,9 @@ abbrev pub frames_from : ℕ → Form → State → (place sp : ℕ) → List �
 frames_from zero m s place sp = []
 frames_from (suc n) m s place sp =
     place ∷ (if is_stack_address sp && sp % 4 == 0
-      then (if owner_of m (word (word_in s.stack (sp - 16777216) + 4294967292)) == 0 then []
-        else frames_from n m s (owner_of m (word (word_in s.stack (sp - 16777216) + 4294967292))) (word (sp + frame_of m place)))
-      else [])
+    then (if owner_of m (word (word_in s.stack (sp - 16777216) + 4294967292)) == 0 then []
+    else frames_from n m s (owner_of m (word (word_in s.stack (sp - 16777216) + 4294967292))) (word (sp + frame_of m place)))
+    else [])
 
 -- how many activations may be live: not to be computed with
 unfoldable pub greatest_depth : ℕ

@@ -65,9 +65,9 @@ module _ (L : LaidCode) where
         few = sets.fits;
         held = λ y lt. ⊎_elim
             (λ (e : y ≡ x). ap (λ l. word_in l (cell L (slot y))) a.stack ∙ ap (λ z. word_in (with_word s.stack (cell L (slot x)) w) (cell L (slot z))) e
-              ∙ word_in_with_word s.stack (cell L (slot x)) w within (word_below v int) ∙ ap (cast_unsigned w32) (sym sets.here) ∙ ap (λ z. cast_unsigned w32 (get_or new z (pos 0))) (sym e))
+            ∙ word_in_with_word s.stack (cell L (slot x)) w within (word_below v int) ∙ ap (cast_unsigned w32) (sym sets.here) ∙ ap (λ z. cast_unsigned w32 (get_or new z (pos 0))) (sym e))
             (λ (other : y ≡ x → ⊥). let was = sets.there y lt other in
-              ap (λ l. word_in l (cell L (slot y))) a.stack ∙ word_in_other s.stack (cell L (slot x)) (cell L (slot y)) w (cells_apart x y other) ∙ main.held y was.0 ∙ ap (cast_unsigned w32) (sym was.1))
+            ap (λ l. word_in l (cell L (slot y))) a.stack ∙ word_in_other s.stack (cell L (slot x)) (cell L (slot y)) w (cells_apart x y other) ∙ main.held y was.0 ∙ ap (cast_unsigned w32) (sym was.1))
             (cases_eq y x);
         ints = λ y lt. ⊎_elim
             (λ (e : y ≡ x). ap (λ z. is_int (get_or new z (pos 0))) e ∙ ap is_int sets.here ∙ int)

@@ -28,10 +28,10 @@ on_next p code more places more_places place declared after s rest grown grown_p
     let len : 65536 + 4 * length more ≡ 65536 + 4 * length code + 4 * length is_code = omega (arith, ap length grown, length-append code (at_place place is_code), at_place_length place is_code) in
     record {
       emitted = ap (λ d. more ++ body_code (frame_size p) (place + 1) d rest p.returned) is ∙ ap (λ l. l ++ body_code (frame_size p) (place + 1) (declared_after declared s.action) rest p.returned) grown
-        ∙ append_assoc code (at_place place is_code) (body_code (frame_size p) (place + 1) (declared_after declared s.action) rest p.returned) ∙ on.emitted;
+          ∙ append_assoc code (at_place place is_code) (body_code (frame_size p) (place + 1) (declared_after declared s.action) rest p.returned) ∙ on.emitted;
       placed = ap (λ d. more_places ++ places_from (65536 + 4 * length more) d rest p.last) is ∙ ap (λ a. more_places ++ places_from a (declared_after declared s.action) rest p.last) len
-        ∙ ap (λ l. l ++ places_from (65536 + 4 * length code + 4 * length is_code) (declared_after declared s.action) rest p.last) grown_places
-        ∙ append_assoc places (place_of s.spot (65536 + 4 * length code) ∷ []) (places_from (65536 + 4 * length code + 4 * length is_code) (declared_after declared s.action) rest p.last) ∙ on.placed;
+          ∙ ap (λ l. l ++ places_from (65536 + 4 * length code + 4 * length is_code) (declared_after declared s.action) rest p.last) grown_places
+          ∙ append_assoc places (place_of s.spot (65536 + 4 * length code) ∷ []) (places_from (65536 + 4 * length code + 4 * length is_code) (declared_after declared s.action) rest p.last) ∙ on.placed;
       fits = subst (λ d. BodyFits d rest p.returned) (sym is) on.fits.1;
       count = let c = on.count in omega (arith, is, declared_more declared s, length-append (declared_by s.spot s.action) (variables_of rest));
     }

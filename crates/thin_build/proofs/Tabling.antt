@@ -87,16 +87,16 @@ glued old new piece rest whole grown e = ap (λ l. l ++ rest) grown ∙ append_a
 pub tabled_next : (p : ProgramTree) (t u : Sections) (before declared after : ℕ) (s : StatementTree) (rest : List StatementTree) → AddsStatement t u before declared s → after ≡ declared_after declared s.action → IsTabled p t before declared (s ∷ rest) → IsTabled p u (before + 1) after rest
 tabled_next p t u before declared after s rest added is h = record {
   variables = ap (λ d. u.variables.items ++ variables_from d (variables_of rest)) is
-    ∙ glued t.variables.items u.variables.items (variables_from declared (declared_by s.spot s.action)) (variables_from (declared_after declared s.action) (variables_of rest)) (image_of p).variables added.variables
-    (ap (λ l. t.variables.items ++ l) (sym (variables_split declared s.spot s.action (variables_of rest))) ∙ h.variables);
+      ∙ glued t.variables.items u.variables.items (variables_from declared (declared_by s.spot s.action)) (variables_from (declared_after declared s.action) (variables_of rest)) (image_of p).variables added.variables
+      (ap (λ l. t.variables.items ++ l) (sym (variables_split declared s.spot s.action (variables_of rest))) ∙ h.variables);
   names = glued t.names.items u.names.items (names_by s.action) (flat_map (λ name. name) (names_of rest)) (image_of p).names added.names (ap (λ l. t.names.items ++ l) (sym (names_split s rest)) ∙ h.names);
   flow = glued t.flow.items u.flow.items (flow_pair_of (record { from = before; to = before + 1 }) ∷ []) (map flow_pair_of (flow_from (before + 1) rest)) (image_of p).flow added.flow h.flow;
   assigned = ap (λ d. u.assigned.items ++ map assigned_pair_of (assigned_from (before + 1 + 1) d rest)) is
-    ∙ glued t.assigned.items u.assigned.items (map assigned_pair_of (assigned_by (before + 1) declared s.action)) (map assigned_pair_of (assigned_from (before + 1 + 1) (declared_after declared s.action) rest)) (image_of p).assigned added.assigned
-    (ap (λ l. t.assigned.items ++ l) (sym (map-append assigned_pair_of (assigned_by (before + 1) declared s.action) (assigned_from (before + 1 + 1) (declared_after declared s.action) rest))) ∙ h.assigned);
+      ∙ glued t.assigned.items u.assigned.items (map assigned_pair_of (assigned_by (before + 1) declared s.action)) (map assigned_pair_of (assigned_from (before + 1 + 1) (declared_after declared s.action) rest)) (image_of p).assigned added.assigned
+      (ap (λ l. t.assigned.items ++ l) (sym (map-append assigned_pair_of (assigned_by (before + 1) declared s.action) (assigned_from (before + 1 + 1) (declared_after declared s.action) rest))) ∙ h.assigned);
   rows = ap (λ d. u.rows.items ++ map row_of (visible_from (before + 1 + 1) d rest)) is
-    ∙ glued t.rows.items u.rows.items (map row_of (each_at (before + 1) 0 declared)) (map row_of (visible_from (before + 1 + 1) (declared_after declared s.action) rest)) (image_of p).rows added.rows
-    (ap (λ l. t.rows.items ++ l) (sym (map-append row_of (each_at (before + 1) 0 declared) (visible_from (before + 1 + 1) (declared_after declared s.action) rest))) ∙ h.rows);
+      ∙ glued t.rows.items u.rows.items (map row_of (each_at (before + 1) 0 declared)) (map row_of (visible_from (before + 1 + 1) (declared_after declared s.action) rest)) (image_of p).rows added.rows
+      (ap (λ l. t.rows.items ++ l) (sym (map-append row_of (each_at (before + 1) 0 declared) (visible_from (before + 1 + 1) (declared_after declared s.action) rest))) ∙ h.rows);
   count = let c = h.count in omega (arith, is, declared_more declared s, length-append (declared_by s.spot s.action) (variables_of rest));
   identifiers = identifiers_behind s rest h.identifiers;
 }

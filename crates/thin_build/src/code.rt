@@ -18,12 +18,19 @@ use thin_form::tree::{Action, Sum, Term};
 
 /// The registers by their names in the RISC-V calling convention.
 pub const RA: u8 = 1;
+
 pub const SP: u8 = 2;
+
 pub const TP: u8 = 4;
+
 pub const T0: u8 = 5;
+
 pub const T1: u8 = 6;
+
 pub const T2: u8 = 7;
+
 pub const A0: u8 = 10;
+
 pub const A7: u8 = 17;
 
 /// `rd = source + immediate`; the immediate is a word, sign-extended from 12 bits.
@@ -108,7 +115,12 @@ fn slot_offset(variable: u32) -> u32
     4 + 4 * variable
 }
 
-fn emit_term(out: &mut Vec<Instruction>, rd: u8, declared: u32, term: Term) -> Result<(), AllocError>
+fn emit_term(
+    out: &mut Vec<Instruction>,
+    rd: u8,
+    declared: u32,
+    term: Term,
+) -> Result<(), AllocError>
     requires few { declared ≤ 4000 }
     requires fits { TermFits declared term }
     ensures { OnOk result (out.new.items ≡ out.old.items ++ term_code rd term) }

@@ -7,7 +7,9 @@ ghost use Rattle.thin_form.specs.Places.{declared_after};
 ghost use Rattle.thin_build.specs.Code.{inner, at_place, stub_code, begin_code, frame_size, main_code};
 ghost use Rattle.thin_build.specs.Image.{place_of, main_start, image_of};
 
-use crate::code::{action_instructions, begin_instructions, return_instructions, stub_instructions};
+use crate::code::{
+    action_instructions, begin_instructions, return_instructions, stub_instructions,
+};
 use crate::placed::Placed;
 use image_form::Place;
 use rv_code::instruction::Instruction;
@@ -90,7 +92,12 @@ impl Draft {
     }
 
     // A place with its instructions, behind what is there.
-    fn add(&mut self, spot: Spot, place: u32, instructions: &[Instruction]) -> Result<(), AllocError>
+    fn add(
+        &mut self,
+        spot: Spot,
+        place: u32,
+        instructions: &[Instruction],
+    ) -> Result<(), AllocError>
         requires { length self.old.code.items ≤ 100000 }
         ensures { OnOk result (Grows self.old self.new spot place instructions.now) }
     {

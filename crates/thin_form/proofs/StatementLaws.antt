@@ -80,7 +80,8 @@ declaration_stands names a tokens s rest h = by_target (target_at tokens) refl h
     by_number name spot b more None fresh h =
         let e = parts (sum_to_semicolon (names_from names) more) (λ e. Some (record { spot = spot; action = Declares name e.0 }, e.1)) (s, rest) h in
         let stands = to_semicolon_stands names more e.0.0 e.0.1 e.1 in
-        stands_as names _ _ s e.0.1 rest (declaration fresh stands.1) e.2
+        stands_as names (token Int a ∷ token (Name name) spot ∷ token Assign b ∷ more) (record { spot = spot; action = Declares name e.0.0 }) s e.0.1 rest
+        (declaration {e = e.0.0} {rest = e.0.1} {c = stands.0} fresh stands.1) e.2
 
     by_target : (o : Option (List ℕ × Spot × List Lexeme)) → target_at tokens ≡ o
         → (o >>= λ t. cond {A = Option (StatementTree × List Lexeme)} (is_some (number_of names t.0)) None (sum_to_semicolon (names_from names) t.2 >>= λ e. Some (record { spot = t.1; action = Declares t.0 e.0 }, e.1))) ≡ Some (s, rest)
@@ -99,7 +100,8 @@ assignment_stands names tokens s rest h =
     let e = parts (sum_to_semicolon (names_from names) t.0.2) (λ e. Some (record { spot = t.0.1; action = Assigns x.0 e.0 }, e.1)) (s, rest) x.2 in
     let stands = to_semicolon_stands names t.0.2 e.0.0 e.0.1 e.1 in
     let front = target_stands tokens t.0.0 t.0.1 t.0.2 t.1 in
-    subst (λ (ts : List Lexeme). BeginsWithStatement names ts s rest) (sym front.1) (stands_as names _ _ s e.0.1 rest (assignment x.1 stands.1) e.2)
+    subst (λ (ts : List Lexeme). BeginsWithStatement names ts s rest) (sym front.1) (stands_as names (token (Name t.0.0) t.0.1 ∷ token Assign front.0 ∷ t.0.2) (record { spot = t.0.1; action = Assigns x.0 e.0.0 }) s e.0.1 rest
+    (assignment {e = e.0.0} {rest = e.0.1} {c = stands.0} x.1 stands.1) e.2)
 
 output_stands : (names : List (List ℕ)) (spot b : Spot) (tokens : List Lexeme) (s : StatementTree) (rest : List Lexeme)
     → output_in (names_from names) spot tokens ≡ Some (s, rest) → BeginsWithStatement names (token Putchar spot ∷ token Open b ∷ tokens) s rest
@@ -112,7 +114,8 @@ output_stands names spot b tokens s rest h =
     let semicolon = semicolon_stands c.0 d.0 d.1 in
     let behind : e.0.1 ≡ token Close close.0 ∷ token Semicolon semicolon.0 ∷ d.0 = close.1 ∙ ap (λ ts. token Close close.0 ∷ ts) semicolon.1 in
     let stands = subst (λ (us : List Lexeme). BeginsWithSum names tokens e.0.0 us) behind (sum_stands names tokens e.0.0 e.0.1 e.1) in
-    stands_as names _ _ s d.0 rest (output stands) d.2
+    stands_as names (token Putchar spot ∷ token Open b ∷ tokens) (record { spot = spot; action = Puts e.0.0 }) s d.0 rest
+    (output {e = e.0.0} {rest = d.0} {c = close.0} {d = semicolon.0} stands) d.2
 
 pub statement_stands : (names : List (List ℕ)) (tokens : List Lexeme) (s : StatementTree) (rest : List Lexeme) → statement_in (names_from names) tokens ≡ Some (s, rest) → BeginsWithStatement names tokens s rest
 unfolding statement_in

@@ -11,10 +11,10 @@ abbrev pub worked : ProgramTree
 worked = record {
   entry = record { position = 23; line = 2 };
   body =
-    record { spot = record { position = 38; line = 2 }; action = Declares (120 ∷ []) (record { first = Constant 2; rest = [] }) }
-    ∷ record { spot = record { position = 43; line = 2 }; action = Assigns 0 (record { first = Variable 0; rest = Constant 3 ∷ [] }) }
-    ∷ record { spot = record { position = 50; line = 2 }; action = Puts (record { first = Constant 65; rest = [] }) }
-    ∷ [];
+      record { spot = record { position = 38; line = 2 }; action = Declares (120 ∷ []) (record { first = Constant 2; rest = [] }) }
+      ∷ record { spot = record { position = 43; line = 2 }; action = Assigns 0 (record { first = Variable 0; rest = Constant 3 ∷ [] }) }
+      ∷ record { spot = record { position = 50; line = 2 }; action = Puts (record { first = Constant 65; rest = [] }) }
+      ∷ [];
   last = record { position = 63; line = 2 };
   returned = record { first = Variable 0; rest = [] };
 }

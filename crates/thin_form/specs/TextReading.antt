@@ -9,6 +9,7 @@ use Rattle.thin_form.specs.WordReading.{word_at}
 use Rattle.thin_form.specs.Outcome.{◌>>=◌}
 use Rattle.thin_form.specs.TreeReading.{main_in}
 
+-- a token before others
 abbrev pub with_token : Lexeme → Option (List Lexeme) → Option (List Lexeme)
 with_token t read = read >>= λ tokens. Some (t ∷ tokens)
 
@@ -28,6 +29,7 @@ behind_include text = if bytes_eq (take 19 text) include_line then Some (drop 19
 unfoldable pub light : ProgramTree → Option ProgramTree
 light p = if nat_le (weight p) 3000 then Some p else None
 
+-- the program of a whole text
 unfoldable pub program_in : List ℕ → Option ProgramTree
 program_in text =
     if nat_lt 1048576 (length text) then None

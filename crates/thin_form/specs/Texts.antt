@@ -15,6 +15,7 @@ is_white b = b == 32 || (nat_le 9 b && nat_le b 13)
 abbrev pub line_behind : ℕ → ℕ → ℕ
 line_behind line b = if b == 10 then line + 1 else line
 
+-- a position and its line
 abbrev pub spot_at : ℕ → ℕ → Spot
 spot_at at line = record { position = at; line = line }
 

@@ -45,12 +45,15 @@ has_leading_zero (b ∷ c ∷ s) = b == 48
 unfoldable pub value_in : List ℕ → Option ℕ
 value_in s = if list_all is_digit s && nat_le (value_of s) 2147483647 then Some (value_of s) else None
 
+-- the number that a word is: one that does not begin with a needless 0
 unfoldable pub number_in : List ℕ → Option ℕ
 number_in s = if has_leading_zero s then None else value_in s
 
+-- the variable's name that letters and digits are
 unfoldable pub name_in : List ℕ → Option (List ℕ)
 name_in s = if nat_lt 63 (length s) then None else (if is_reserved s then None else Some s)
 
+-- the first byte is a digit
 abbrev pub begins_with_digit : List ℕ → Bool
 begins_with_digit [] = false
 begins_with_digit (b ∷ s) = is_digit b
@@ -66,6 +69,7 @@ abbrev pub is_cut : ℕ → List ℕ → Bool
 is_cut b [] = false
 is_cut b (c ∷ rest) = (b == 61 && c == 61) || (b == 43 && (c == 43 || c == 61))
 
+-- the punctuator that a byte is
 unfoldable pub mark_in : ℕ → Option Word
 mark_in b =
     if b == 40 then Some Open

@@ -61,7 +61,8 @@ fn return_at(tokens: &[Token]) -> Option<(Spot, &[Token])>
 /// The statements of a body, the last one's place and what it returns.
 fn body(alloc: Global, tokens: &[Token]) -> Result<(Vec<Statement>, Spot, Sum), ThinErr>
     requires { length tokens.now < 4294967296 }
-    ensures { Gives (λ x. (map statement_view x.0.items, x.1, sum_view x.2)) result (body_in (length tokens.now) no_names (lexemes tokens.now)) }
+    ensures { Gives (λ x. (map statement_view x.0.items, x.1, sum_view x.2)) result
+        (body_in (length tokens.now) no_names (lexemes tokens.now)) }
 {
     let mut scope = Scope::new(alloc);
     let mut statements = Vec::new(alloc);

@@ -42,6 +42,7 @@ fn light(program: Program) -> Result<Program, ThinErr>
     Ok(program)
 }
 
+/// The program of a whole text, by one step behind another.
 #[tactic(auto, unfolding(crate::specs::TextReading::program_in))]
 fn program_in(alloc: Global, text: &[u8]) -> Result<Program, ThinErr>
     ensures { Gives program_view result (program_in text.now) }
@@ -64,7 +65,8 @@ fn program_in(alloc: Global, text: &[u8]) -> Result<Program, ThinErr>
 /// The program that a text of the thin form spells. `Refused` exactly where the text is not of the form.
 pub fn read(alloc: Global, text: &[u8]) -> Result<Program, ThinErr>
     ensures accepted { IfOk result (λ p. IsThin text.now (program_view p)) }
-    ensures only { IfOk result (λ p. (other : ProgramTree) → IsThin text.now other → other ≡ program_view p) }
+    ensures only { IfOk result (λ p. (other : ProgramTree) → IsThin text.now other → other
+        ≡ program_view p) }
     ensures refused { result ≡ Err Refused → (p : ProgramTree) → ¬ IsThin text.now p }
     ensures sound { IfOk result (λ p. IsProgram (program_view p)) }
 {

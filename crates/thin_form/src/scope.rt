@@ -13,6 +13,7 @@ pub struct Scope {
 }
 
 impl Scope {
+    /// No name is declared.
     pub fn new(alloc: Global) -> Self
         ensures { names_in result ≡ no_names }
     {
@@ -32,7 +33,8 @@ impl Scope {
     pub fn declare(&mut self, name: String) -> Result<(), AllocError>
         requires fresh { (names_in self.old).number (string_bytes name) ≡ None }
         requires room { (names_in self.old).count < 2 ^ 32 }
-        ensures { OnOk result (names_in self.new ≡ with_name (names_in self.old) (string_bytes name)) }
+        ensures { OnOk result (names_in self.new
+            ≡ with_name (names_in self.old) (string_bytes name)) }
     {
         let number = self.numbers.len() as u32;
         self.numbers.insert(name, number)?;

@@ -16,7 +16,8 @@ use std::alloc::Global;
 
 /// The name at the front, where it stands and the tokens behind its `=`.
 fn target_at(tokens: &[Token]) -> Option<(&String, Spot, &[Token])>
-    ensures reads { option_map (λ x. (string_bytes x.0.now, x.1, lexemes x.2.now)) result ≡ target_at (lexemes tokens.now) }
+    ensures reads { option_map (λ x. (string_bytes x.0.now, x.1, lexemes x.2.now)) result
+        ≡ target_at (lexemes tokens.now) }
     ensures shorter { IfSome result (λ x. length x.2.now < length tokens.now) }
 {
     match tokens {
@@ -43,8 +44,11 @@ fn declaration<'t>(
     tokens: &'t [Token],
 ) -> Result<(Statement, &'t [Token]), ThinErr>
     requires { (names_in scope.old).count < 4294967296 }
-    ensures reads { Gives (λ x. (statement_view x.0, lexemes x.1.now)) result (declaration_in (names_in scope.old) (lexemes tokens.now)) }
-    ensures names { IfOk result (λ x. names_in scope.new ≡ names_behind (names_in scope.old) (action_view x.0.action)) }
+    ensures reads { Gives (λ x. (statement_view x.0, lexemes x.1.now)) result
+        (declaration_in (names_in scope.old) (lexemes tokens.now)) }
+    ensures names { IfOk result (λ x.
+        names_in scope.new
+        ≡ names_behind (names_in scope.old) (action_view x.0.action)) }
     ensures shorter { IfOk result (λ x. length x.1.now < length tokens.now) }
 {
     let Some((name, spot, rest)) = target_at(tokens) else {
@@ -66,8 +70,11 @@ fn assignment<'t>(
     scope: &Scope,
     tokens: &'t [Token],
 ) -> Result<(Statement, &'t [Token]), ThinErr>
-    ensures reads { Gives (λ x. (statement_view x.0, lexemes x.1.now)) result (assignment_in (names_in scope.now) (lexemes tokens.now)) }
-    ensures names { IfOk result (λ x. names_in scope.now ≡ names_behind (names_in scope.now) (action_view x.0.action)) }
+    ensures reads { Gives (λ x. (statement_view x.0, lexemes x.1.now)) result
+        (assignment_in (names_in scope.now) (lexemes tokens.now)) }
+    ensures names { IfOk result (λ x.
+        names_in scope.now
+        ≡ names_behind (names_in scope.now) (action_view x.0.action)) }
     ensures shorter { IfOk result (λ x. length x.1.now < length tokens.now) }
 {
     let Some((name, spot, rest)) = target_at(tokens) else {
@@ -89,8 +96,11 @@ fn output<'t>(
     spot: Spot,
     tokens: &'t [Token],
 ) -> Result<(Statement, &'t [Token]), ThinErr>
-    ensures reads { Gives (λ x. (statement_view x.0, lexemes x.1.now)) result (output_in (names_in scope.now) spot (lexemes tokens.now)) }
-    ensures names { IfOk result (λ x. names_in scope.now ≡ names_behind (names_in scope.now) (action_view x.0.action)) }
+    ensures reads { Gives (λ x. (statement_view x.0, lexemes x.1.now)) result
+        (output_in (names_in scope.now) spot (lexemes tokens.now)) }
+    ensures names { IfOk result (λ x.
+        names_in scope.now
+        ≡ names_behind (names_in scope.now) (action_view x.0.action)) }
     ensures shorter { IfOk result (λ x. length x.1.now < length tokens.now) }
 {
     let (value, behind) = sum(alloc, scope, tokens)?;
@@ -108,8 +118,11 @@ pub fn statement<'t>(
     tokens: &'t [Token],
 ) -> Result<(Statement, &'t [Token]), ThinErr>
     requires { (names_in scope.old).count < 4294967296 }
-    ensures reads { Gives (λ x. (statement_view x.0, lexemes x.1.now)) result (statement_in (names_in scope.old) (lexemes tokens.now)) }
-    ensures names { IfOk result (λ x. names_in scope.new ≡ names_behind (names_in scope.old) (action_view x.0.action)) }
+    ensures reads { Gives (λ x. (statement_view x.0, lexemes x.1.now)) result
+        (statement_in (names_in scope.old) (lexemes tokens.now)) }
+    ensures names { IfOk result (λ x.
+        names_in scope.new
+        ≡ names_behind (names_in scope.old) (action_view x.0.action)) }
     ensures shorter { IfOk result (λ x. length x.1.now < length tokens.now) }
 {
     match tokens {

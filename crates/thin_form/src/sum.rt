@@ -47,6 +47,7 @@ pub fn behind_close(tokens: &[Token]) -> Result<&[Token], ThinErr>
     }
 }
 
+/// The term that a token is: a declared name or a number.
 fn term(scope: &Scope, token: &Token) -> Result<Term, ThinErr>
     ensures { Gives (λ x. x) result (term_in (names_in scope.now) (lexeme token.now)) }
 {
@@ -62,7 +63,8 @@ fn term(scope: &Scope, token: &Token) -> Result<Term, ThinErr>
 
 /// What stands behind the `+` at the front, if there is one, and the tokens behind that.
 fn plus_at(tokens: &[Token]) -> Option<(&Token, &[Token])>
-    ensures reads { option_map (λ x. (lexeme x.0.now, lexemes x.1.now)) result ≡ plus_at (lexemes tokens.now) }
+    ensures reads { option_map (λ x. (lexeme x.0.now, lexemes x.1.now)) result
+        ≡ plus_at (lexemes tokens.now) }
     ensures shorter { IfSome result (λ x. length x.1.now < length tokens.now) }
 {
     match tokens {
@@ -84,7 +86,8 @@ fn terms<'t>(
     scope: &Scope,
     tokens: &'t [Token],
 ) -> Result<(Vec<Term>, &'t [Token]), ThinErr>
-    ensures reads { Gives (λ x. (x.0.items, lexemes x.1.now)) result (terms_in (names_in scope.now) (lexemes tokens.now)) }
+    ensures reads { Gives (λ x. (x.0.items, lexemes x.1.now)) result
+        (terms_in (names_in scope.now) (lexemes tokens.now)) }
     ensures shorter { IfOk result (λ x. length x.1.now ≤ length tokens.now) }
 {
     let mut terms = Vec::new(alloc);
@@ -103,7 +106,8 @@ pub fn sum<'t>(
     scope: &Scope,
     tokens: &'t [Token],
 ) -> Result<(Sum, &'t [Token]), ThinErr>
-    ensures reads { Gives (λ x. (sum_view x.0, lexemes x.1.now)) result (sum_in (names_in scope.now) (lexemes tokens.now)) }
+    ensures reads { Gives (λ x. (sum_view x.0, lexemes x.1.now)) result
+        (sum_in (names_in scope.now) (lexemes tokens.now)) }
     ensures shorter { IfOk result (λ x. length x.1.now < length tokens.now) }
 {
     let [first, behind @ ..] = tokens else {
@@ -121,7 +125,8 @@ pub fn sum_to_semicolon<'t>(
     scope: &Scope,
     tokens: &'t [Token],
 ) -> Result<(Sum, &'t [Token]), ThinErr>
-    ensures reads { Gives (λ x. (sum_view x.0, lexemes x.1.now)) result (sum_to_semicolon (names_in scope.now) (lexemes tokens.now)) }
+    ensures reads { Gives (λ x. (sum_view x.0, lexemes x.1.now)) result
+        (sum_to_semicolon (names_in scope.now) (lexemes tokens.now)) }
     ensures shorter { IfOk result (λ x. length x.1.now < length tokens.now) }
 {
     let (sum, behind) = sum(alloc, scope, tokens)?;

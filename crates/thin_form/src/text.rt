@@ -23,7 +23,8 @@ fn is_white(byte: u8) -> bool
 pub fn tokens(alloc: Global, from: Spot, text: &[u8]) -> Result<Vec<Token>, ThinErr>
     requires positions { from.position + length text.now ≤ 1048576 }
     requires lines { from.line ≤ 1048576 }
-    ensures reads { Gives (λ v. lexemes v.items) result (tokens_in (length text.now) from.position from.line text.now) }
+    ensures reads { Gives (λ v. lexemes v.items) result
+        (tokens_in (length text.now) from.position from.line text.now) }
     ensures few { IfOk result (λ v. length v.items ≤ length text.now) }
 {
     let mut tokens = Vec::new(alloc);

@@ -13,7 +13,8 @@ const WEIGHT_LIMIT: usize = 3000;
 fn left_behind_sum(left: usize, nodes: usize, sum: &Sum) -> Option<usize>
     requires left { left ≤ 3000 }
     requires nodes { nodes ≤ 3 }
-    ensures { SomeIff result (nodes + sum_weight (sum_view sum.now) ≤ left) (left - (nodes + sum_weight (sum_view sum.now))) }
+    ensures { SomeIff result (nodes + sum_weight (sum_view sum.now) ≤ left)
+        (left - (nodes + sum_weight (sum_view sum.now))) }
 {
     let added = sum.rest.len();
     if added > left {
@@ -25,7 +26,8 @@ fn left_behind_sum(left: usize, nodes: usize, sum: &Sum) -> Option<usize>
 /// What is left of a weight behind a statement.
 fn left_behind(left: usize, action: &Action) -> Option<usize>
     requires { left ≤ 3000 }
-    ensures { SomeIff result (action_weight (action_view action.now) ≤ left) (left - action_weight (action_view action.now)) }
+    ensures { SomeIff result (action_weight (action_view action.now) ≤ left)
+        (left - action_weight (action_view action.now)) }
 {
     match action {
         Action::Declare(_, value) => left_behind_sum(left, 2, value),

@@ -14,18 +14,21 @@ use crate::token::Kind;
 use std::alloc::Global;
 use std::str::from_utf8;
 
+/// A decimal digit.
 fn is_digit(byte: u8) -> bool
     ensures { result ≡ is_digit byte }
 {
     b'0' <= byte && byte <= b'9'
 }
 
+/// A letter or the underscore.
 fn is_letter(byte: u8) -> bool
     ensures { result ≡ is_letter byte }
 {
     (b'A' <= byte && byte <= b'Z') || (b'a' <= byte && byte <= b'z') || byte == b'_'
 }
 
+/// A byte of an identifier or of a number.
 fn is_word_byte(byte: u8) -> bool
     ensures { result ≡ is_word_byte byte }
 {
@@ -95,6 +98,7 @@ static RESERVED: [&[u8]; 46] = [
     b"putchar",
 ];
 
+/// The word is one of the table.
 fn is_listed(table: &[&[u8]], word: &[u8]) -> bool
     ensures { result ≡ list_any (bytes_eq word.now) (map (λ w. w.now) table.now) }
 {

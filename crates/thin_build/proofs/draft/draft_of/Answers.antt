@@ -41,8 +41,8 @@ loop-statement-preserved c =
     let on = subst (IsOn p c.loop-statement.draft.code.items c.loop-statement.draft.places.items c.loop-statement.place c.loop-statement.declared) here c.loop-statement.invariant.on in
     record {
       on = on_next p c.loop-statement.draft.code.items c.add.new.self.code.items c.loop-statement.draft.places.items c.add.new.self.places.items c.loop-statement.place c.loop-statement.declared c.declared_behind-declared.result (statement_view c.statement-item.result) _
-        (c.in_ok-add.ensures.code ∙ ap (λ l. c.loop-statement.draft.code.items ++ at_place c.loop-statement.place l) (c.deref.ensures.value ∙ c.in_ok-instructions.ensures))
-        c.in_ok-add.ensures.places c.declared_behind-declared.ensures on;
+          (c.in_ok-add.ensures.code ∙ ap (λ l. c.loop-statement.draft.code.items ++ at_place c.loop-statement.place l) (c.deref.ensures.value ∙ c.in_ok-instructions.ensures))
+          c.in_ok-add.ensures.places c.declared_behind-declared.ensures on;
       numbered = let n = c.loop-statement.invariant.numbered in omega arith;
     }
 

@@ -47,6 +47,6 @@ loop-statement-preserved c =
     let here = left_is c.args.program.now.body.items c.loop-statement.statement-index c.statement-item.result (omega (arith, ap length c.deref-statement-items.ensures.value)) (c.statement-item.is ∙ ap (λ l. get_or l c.loop-statement.statement-index c.statement-item.result) c.deref-statement-items.ensures.value) in
     record {
       tabled = tabled_next p c.loop-statement.sections c.add.new.self c.loop-statement.before c.loop-statement.declared c.declared_behind-declared.result (statement_view c.statement-item.result) _ c.in_ok-add.ensures c.declared_behind-declared.ensures
-        (subst (IsTabled p c.loop-statement.sections c.loop-statement.before c.loop-statement.declared) here c.loop-statement.invariant.tabled);
+          (subst (IsTabled p c.loop-statement.sections c.loop-statement.before c.loop-statement.declared) here c.loop-statement.invariant.tabled);
       numbered = let n = c.loop-statement.invariant.numbered in omega arith;
     }

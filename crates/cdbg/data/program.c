@@ -1,0 +1,2 @@
+#include <stdio.h>
+int main(void){int x=2; x=x+3; putchar(65); return x;}

@@ -1,0 +1,55 @@
+//! cdbg: compiles a C program to RISC-V code, and debugs it at source level.
+#![tactic(auto)]
+
+#[cfg(test)]
+mod tests;
+
+use line_form::{Status, fault_text};
+use outside::{FileShelf, StdoutSink};
+use session::session;
+use std::process::ExitCode;
+use std::{env, io};
+
+/// All words of the command line, the program's own name first.
+fn words_of(rt: &HostRuntime) -> io::Result<Vec<String>> {
+    let mut words = Vec::new(rt.alloc());
+    for word in env::args(rt)? {
+        words.push(word)?;
+    }
+    Ok(words)
+}
+
+/// The status of a session over the real files and standard output. A word that is no text is no job.
+fn status_of(rt: &HostRuntime) -> Status {
+    let words = match words_of(rt) {
+        Ok(words) => words,
+        Err(error) if error.kind() == io::ErrorKind::OutOfMemory => return Status::NoMemory,
+        Err(_) => return Status::Usage,
+    };
+    let Ok(files) = rt.clone() else {
+        return Status::NoMemory;
+    };
+    let Ok(output) = rt.clone() else {
+        return Status::NoMemory;
+    };
+    let mut shelf = FileShelf::new(files);
+    let mut sink = StdoutSink::new(output);
+    session(rt.alloc(), &words, &mut shelf, &mut sink)
+}
+
+/// Says on standard error why the session was not done.
+fn tell(rt: &HostRuntime, status: Status) {
+    if status == Status::Done {
+        return;
+    }
+    let _ = match fault_text(rt.alloc(), &status) {
+        Ok(text) => eprintln!(rt; "{text}"),
+        Err(_) => eprintln!(rt; "cdbg: out of memory"),
+    };
+}
+
+fn main(rt: HostRuntime) -> ExitCode {
+    let status = status_of(&rt);
+    tell(&rt, status);
+    ExitCode::from(status.number())
+}

@@ -1,0 +1,260 @@
+//! Sessions over a shelf and a sink in memory.
+
+use debug_records::Code;
+use line_form::{Status, fault_text};
+use outside::{MemShelf, MemSink};
+use session::session;
+use std::alloc::{AllocError, Global};
+use std::process::Abort;
+use std::test::Fail;
+
+const PROGRAM: &[u8] =
+    b"#include <stdio.h>\nint main(void){int x=2; x=x+3; putchar(65); return x;}\n";
+
+const SCRIPT: &[u8] = b"step\nstep\nprint x\nstep\nprint x\nstep\nstep\n";
+
+const TRANSCRIPT: &[u8] =
+    b"at 2 line 2 main depth 1\nat 3 line 2 main depth 1\nx = 2\nat 4 line 2 main depth 1\nx = 5\nout \"A\"\nat 5 line 2 main depth 1\nexit 5\n";
+
+fn words(alloc: Global, texts: &[&str]) -> Result<Vec<String>, AllocError> {
+    let mut words = Vec::new(alloc);
+    for text in texts {
+        words.push(String::from_str(alloc, text)?)?;
+    }
+    Ok(words)
+}
+
+/// The words of the one job.
+fn job(alloc: Global) -> Result<Vec<String>, AllocError> {
+    let texts = [
+        "cdbg",
+        "debug",
+        "--passes",
+        "none",
+        "--homes",
+        "slots",
+        "program.c",
+        "script",
+        "input",
+        "image",
+    ];
+    words(alloc, texts.as_slice())
+}
+
+/// A shelf with a source, a script and the empty input, whose calls of these numbers fail.
+fn shelf(
+    alloc: Global,
+    source: &[u8],
+    script: &[u8],
+    fails: &[u64],
+) -> Result<MemShelf, AllocError> {
+    let mut shelf = MemShelf::new(alloc, fails)?;
+    shelf.place(alloc, "program.c", source)?;
+    shelf.place(alloc, "script", script)?;
+    shelf.place(alloc, "input", b"".as_slice())?;
+    Ok(shelf)
+}
+
+#[test]
+fn a_program_runs_from_its_bytes_to_its_transcript(rt: HostRuntime) -> Result<(), Fail> {
+    let mut shelf = shelf(rt.alloc(), PROGRAM, SCRIPT, [].as_slice())?;
+    let mut sink = MemSink::new(rt.alloc(), [].as_slice())?;
+    let words = job(rt.alloc())?;
+    assert_eq!(rt;
+        session(rt.alloc(), &words, &mut shelf, &mut sink),
+        Status::Done
+    );
+    assert_eq!(rt; sink.bytes(), TRANSCRIPT);
+    Ok(())
+}
+
+#[test]
+fn an_empty_script_saves_the_image_and_says_nothing(rt: HostRuntime) -> Result<(), Fail> {
+    let mut shelf = shelf(rt.alloc(), PROGRAM, b"".as_slice(), [].as_slice())?;
+    let mut sink = MemSink::new(rt.alloc(), [].as_slice())?;
+    let words = job(rt.alloc())?;
+    assert_eq!(rt;
+        session(rt.alloc(), &words, &mut shelf, &mut sink),
+        Status::Done
+    );
+    assert_eq!(rt; sink.bytes(), b"".as_slice());
+    assert!(rt; shelf.held("image").is_some());
+    Ok(())
+}
+
+#[test]
+fn a_sink_that_fails_at_its_second_line_has_taken_the_first(rt: HostRuntime) -> Result<(), Fail> {
+    let mut whole = shelf(rt.alloc(), PROGRAM, SCRIPT, [].as_slice())?;
+    let mut all = MemSink::new(rt.alloc(), [].as_slice())?;
+    let mut shelf = shelf(rt.alloc(), PROGRAM, SCRIPT, [].as_slice())?;
+    let mut sink = MemSink::new(rt.alloc(), [2].as_slice())?;
+    let words = job(rt.alloc())?;
+    assert_eq!(rt;
+        session(rt.alloc(), &words, &mut whole, &mut all),
+        Status::Done
+    );
+    assert_eq!(rt;
+        session(rt.alloc(), &words, &mut shelf, &mut sink),
+        Status::WriteFault
+    );
+    assert_eq!(rt; sink.bytes(), b"at 2 line 2 main depth 1\n".as_slice());
+    assert_eq!(rt;
+        shelf.held("image").ok_or("no image")?,
+        whole.held("image").ok_or("no image")?
+    );
+    Ok(())
+}
+
+#[test]
+fn a_load_that_fails_ends_the_session(rt: HostRuntime) -> Result<(), Fail> {
+    let mut shelf = shelf(rt.alloc(), PROGRAM, SCRIPT, [2].as_slice())?;
+    let mut sink = MemSink::new(rt.alloc(), [].as_slice())?;
+    let words = job(rt.alloc())?;
+    assert_eq!(rt;
+        session(rt.alloc(), &words, &mut shelf, &mut sink),
+        Status::ReadFault
+    );
+    assert_eq!(rt; sink.bytes(), b"".as_slice());
+    Ok(())
+}
+
+#[test]
+fn a_save_that_fails_leaves_no_image_and_says_nothing(rt: HostRuntime) -> Result<(), Fail> {
+    let mut shelf = shelf(rt.alloc(), PROGRAM, SCRIPT, [4].as_slice())?;
+    let mut sink = MemSink::new(rt.alloc(), [].as_slice())?;
+    let words = job(rt.alloc())?;
+    assert_eq!(rt;
+        session(rt.alloc(), &words, &mut shelf, &mut sink),
+        Status::WriteFault
+    );
+    assert_eq!(rt; sink.bytes(), b"".as_slice());
+    assert!(rt; shelf.held("image").is_none());
+    Ok(())
+}
+
+#[test]
+fn an_unknown_command_refuses_the_script(rt: HostRuntime) -> Result<(), Fail> {
+    let mut shelf = shelf(rt.alloc(), PROGRAM, b"jump 3\n".as_slice(), [].as_slice())?;
+    let mut sink = MemSink::new(rt.alloc(), [].as_slice())?;
+    let words = job(rt.alloc())?;
+    let status = session(rt.alloc(), &words, &mut shelf, &mut sink);
+    assert_eq!(rt; status, Status::ScriptRefused(Code::UNKNOWN_COMMAND, 1));
+    assert_eq!(rt; status.number(), 4);
+    assert_eq!(rt;
+        fault_text(rt.alloc(), &status)?.as_str(),
+        "cdbg: script refused S01 line 1"
+    );
+    assert!(rt; shelf.held("image").is_none());
+    Ok(())
+}
+
+#[test]
+fn the_empty_source_is_refused(rt: HostRuntime) -> Result<(), Fail> {
+    let mut shelf = shelf(rt.alloc(), b"".as_slice(), SCRIPT, [].as_slice())?;
+    let mut sink = MemSink::new(rt.alloc(), [].as_slice())?;
+    let words = job(rt.alloc())?;
+    let status = session(rt.alloc(), &words, &mut shelf, &mut sink);
+    assert_eq!(rt; status, Status::SourceRefused(Code::UNEXPECTED_KEYWORD, 1));
+    assert_eq!(rt; status.number(), 3);
+    assert_eq!(rt;
+        fault_text(rt.alloc(), &status)?.as_str(),
+        "cdbg: source refused E11 line 1"
+    );
+    Ok(())
+}
+
+#[test]
+fn a_source_is_refused_before_its_script(rt: HostRuntime) -> Result<(), Fail> {
+    let mut shelf = shelf(
+        rt.alloc(),
+        b"int".as_slice(),
+        b"jump 3\n".as_slice(),
+        [].as_slice(),
+    )?;
+    let mut sink = MemSink::new(rt.alloc(), [].as_slice())?;
+    let words = job(rt.alloc())?;
+    let status = session(rt.alloc(), &words, &mut shelf, &mut sink);
+    assert_eq!(rt; status, Status::SourceRefused(Code::UNEXPECTED_KEYWORD, 1));
+    Ok(())
+}
+
+/// The number of four bytes at an offset, the lowest first.
+fn number_at(rt: &impl Abort, bytes: &[u8], offset: usize) -> u32
+    requires { offset < 1000 }
+{
+    assert!(rt; offset + 4 <= bytes.len());
+    u32::from_le_bytes([
+        bytes[offset],
+        bytes[offset + 1],
+        bytes[offset + 2],
+        bytes[offset + 3],
+    ])
+}
+
+#[test]
+fn the_image_has_the_size_of_its_parts(rt: HostRuntime) -> Result<(), Fail> {
+    let mut shelf = shelf(rt.alloc(), PROGRAM, b"".as_slice(), [].as_slice())?;
+    let mut sink = MemSink::new(rt.alloc(), [].as_slice())?;
+    let words = job(rt.alloc())?;
+    assert_eq!(rt;
+        session(rt.alloc(), &words, &mut shelf, &mut sink),
+        Status::Done
+    );
+    let image = shelf.held("image").ok_or("no image")?;
+    let words_of_code = number_at(&rt, image, 16) as usize;
+    assert_eq!(rt; image.len(), 321 + 8 * words_of_code);
+    assert_eq!(rt; number_at(&rt, image, 24), 1, "functions");
+    assert_eq!(rt; number_at(&rt, image, 28), 5, "places");
+    assert_eq!(rt; number_at(&rt, image, 32), 1, "variables");
+    assert_eq!(rt; number_at(&rt, image, 40), 4, "flow pairs");
+    assert_eq!(rt; number_at(&rt, image, 44), 2, "assigned pairs");
+    assert_eq!(rt; number_at(&rt, image, 48), 3, "visible rows");
+    assert_eq!(rt; number_at(&rt, image, 56), 5, "bytes of names");
+    Ok(())
+}
+
+#[test]
+fn other_words_are_no_job(rt: HostRuntime) -> Result<(), Fail> {
+    let mut shelf = shelf(rt.alloc(), PROGRAM, SCRIPT, [].as_slice())?;
+    let mut sink = MemSink::new(rt.alloc(), [].as_slice())?;
+    let none = words(rt.alloc(), ["cdbg"].as_slice())?;
+    assert_eq!(rt;
+        session(rt.alloc(), &none, &mut shelf, &mut sink),
+        Status::Usage
+    );
+    let texts = [
+        "cdbg",
+        "debug",
+        "--passes",
+        "none",
+        "--homes",
+        "slots",
+        "program.c",
+        "script",
+        "-input",
+        "image",
+    ];
+    let dash = words(rt.alloc(), texts.as_slice())?;
+    let status = session(rt.alloc(), &dash, &mut shelf, &mut sink);
+    assert_eq!(rt; status, Status::Usage);
+    assert_eq!(rt; status.number(), 2);
+    assert_eq!(rt; fault_text(rt.alloc(), &status)?.as_str(), "cdbg: usage");
+    Ok(())
+}
+
+#[test]
+fn an_ending_is_said_again_and_no_stop_is_shown_there(rt: HostRuntime) -> Result<(), Fail> {
+    let source = b"#include <stdio.h>\nint main(void){return 7;}".as_slice();
+    let script = b"print x\nstep\nprint y\nstep\nstep\nprint x\n".as_slice();
+    let mut shelf = shelf(rt.alloc(), source, script, [].as_slice())?;
+    let mut sink = MemSink::new(rt.alloc(), [].as_slice())?;
+    let words = job(rt.alloc())?;
+    assert_eq!(rt;
+        session(rt.alloc(), &words, &mut shelf, &mut sink),
+        Status::Done
+    );
+    let expected =
+        b"no stop\nat 2 line 2 main depth 1\nno y here\nexit 7\nexit 7\nno stop\n".as_slice();
+    assert_eq!(rt; sink.bytes(), expected);
+    Ok(())
+}

@@ -1,0 +1,4 @@
+pub mod TenWords
+pub mod Parts
+pub mod Orders
+pub mod Sessions

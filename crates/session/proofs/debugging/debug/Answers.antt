@@ -1,0 +1,72 @@
+use Rattle.std.proofs.Common.{◌≡◌, ℕ, List, ◌++◌, true, inl, inr, sym, ap, ◌∙◌, subst, Some}
+use Rattle.std.specs.List.{flat_map}
+use Rattle.image_form.specs.Form.{form}
+use Rattle.outside.specs.Held.{Loads}
+use Rattle.outside.specs.Taken.{TakesPart}
+use Rattle.line_form.specs.Lines.{line}
+use Rattle.script_form.specs.Script.{orders}
+use Rattle.stop_engine.specs.EngineState.{fresh_engine, lines_of}
+use Rattle.session.specs.declared.preparing.Prepared.{Prepared}
+use Rattle.session.specs.Given.{names_given}
+use Rattle.session.specs.Outcome.{IsPlayed}
+use Rattle.session.specs.Prepared.{IsPrepared}
+use Rattle.session.specs.Stages.{PrepareEnds}
+use Rattle.session.proofs.Sessions.{source_refused, script_refused, both_accepted, session_played}
+use Rattle.session.proofs.debugging.debug.Goals as goal
+
+pub returns-in-Err-prepare-clause-source : goal.returns-in-Err-prepare-clause-source
+returns-in-Err-prepare-clause-source g c = λ code at e told.
+    source_refused Prepared c.in-Err-prepare.status code at c.deref.result.now c.deref-2.result.now _ e c.in-Err-prepare.ensures.ends
+    (subst (Loads (g.S.Shelf.held c.args.shelf.now c.args.names.source.now) 1048576) (sym c.deref.ensures.value) (c.in-Ok.ensures.source told))
+
+pub returns-in-Err-prepare-clause-script : goal.returns-in-Err-prepare-clause-script
+returns-in-Err-prepare-clause-script g c = λ code at e told.
+    script_refused Prepared c.in-Err-prepare.status code at c.deref.result.now c.deref-2.result.now _ _ e c.in-Err-prepare.ensures.ends
+    (subst (Loads (g.S.Shelf.held c.args.shelf.now c.args.names.source.now) 1048576) (sym c.deref.ensures.value) (c.in-Ok.ensures.source told))
+    (subst (Loads (g.S.Shelf.held c.args.shelf.now c.args.names.script.now) 1048576) (sym c.deref-2.ensures.value) (c.in-Ok.ensures.script told))
+
+pub returns-in-Err-save_image-clause-accepted : goal.returns-in-Err-save_image-clause-accepted
+returns-in-Err-save_image-clause-accepted g c = λ e told.
+    both_accepted c.deref.result.now c.deref-2.result.now c.in-Ok-prepare.prepared _ _ c.in-Ok-prepare.ensures.prepared
+    (subst (Loads (g.S.Shelf.held c.args.shelf.now c.args.names.source.now) 1048576) (sym c.deref.ensures.value) (c.in-Ok.ensures.source told))
+    (subst (Loads (g.S.Shelf.held c.args.shelf.now c.args.names.script.now) 1048576) (sym c.deref-2.ensures.value) (c.in-Ok.ensures.script told))
+
+pub returns-clause-accepted : goal.returns-clause-accepted
+returns-clause-accepted g c = λ e told.
+    both_accepted c.deref.result.now c.deref-2.result.now c.in-Ok-prepare.prepared _ _ c.in-Ok-prepare.ensures.prepared
+    (subst (Loads (g.S.Shelf.held c.args.shelf.now c.args.names.source.now) 1048576) (sym c.deref.ensures.value) (c.in-Ok.ensures.source told))
+    (subst (Loads (g.S.Shelf.held c.args.shelf.now c.args.names.script.now) 1048576) (sym c.deref-2.ensures.value) (c.in-Ok.ensures.script told))
+
+pub returns-in-Ok-play-clause-done : goal.returns-in-Ok-play-clause-done
+returns-in-Ok-play-clause-done g c = λ e told told_sink.
+    let played = session_played (g.S.Shelf.held c.args.shelf.now) (g.S.Shelf.held c.save_image.new.shelf) (names_given c.args.names) c.deref.result.now c.deref-2.result.now c.in-Ok.texts.input.items c.in-Ok-prepare.prepared c.in-Ok-new.engine
+    (subst (Loads (g.S.Shelf.held c.args.shelf.now c.args.names.source.now) 1048576) (sym c.deref.ensures.value) (c.in-Ok.ensures.source told))
+    (subst (Loads (g.S.Shelf.held c.args.shelf.now c.args.names.script.now) 1048576) (sym c.deref-2.ensures.value) (c.in-Ok.ensures.script told))
+    (c.in-Ok.ensures.input told) c.in-Ok-prepare.ensures.prepared
+    (c.in-Ok-save_image.ensures.saved (c.in-Ok.ensures.telling ∙ told) ∙ ap Some c.deref-3.ensures.value)
+    (c.in-Ok-new.ensures ∙ ap (λ i. fresh_engine (form c.in-Ok-prepare.prepared.image) i c.most_instructions.result) c.deref-4.ensures.value ∙ ap (fresh_engine (form c.in-Ok-prepare.prepared.image) c.in-Ok.texts.input.items) c.most_instructions.ensures) in
+    record {
+      printed = flat_map line (lines_of c.in-Ok-new.engine (orders c.in-Ok-prepare.prepared.commands.items));
+      played = played;
+      whole = c.in-Ok-play.ensures.whole told_sink ∙ ap (λ cs. g.K.Sink.taken c.args.sink.now ++ flat_map line (lines_of c.in-Ok-new.engine (orders cs))) c.deref-5.ensures.value;
+    }
+
+pub returns-clause-part : goal.returns-clause-part
+returns-clause-part g c = λ cut told told_sink.
+    let played = session_played (g.S.Shelf.held c.args.shelf.now) (g.S.Shelf.held c.save_image.new.shelf) (names_given c.args.names) c.deref.result.now c.deref-2.result.now c.in-Ok.texts.input.items c.in-Ok-prepare.prepared c.in-Ok-new.engine
+    (subst (Loads (g.S.Shelf.held c.args.shelf.now c.args.names.source.now) 1048576) (sym c.deref.ensures.value) (c.in-Ok.ensures.source told))
+    (subst (Loads (g.S.Shelf.held c.args.shelf.now c.args.names.script.now) 1048576) (sym c.deref-2.ensures.value) (c.in-Ok.ensures.script told))
+    (c.in-Ok.ensures.input told) c.in-Ok-prepare.ensures.prepared
+    (c.in-Ok-save_image.ensures.saved (c.in-Ok.ensures.telling ∙ told) ∙ ap Some c.deref-3.ensures.value)
+    (c.in-Ok-new.ensures ∙ ap (λ i. fresh_engine (form c.in-Ok-prepare.prepared.image) i c.most_instructions.result) c.deref-4.ensures.value ∙ ap (fresh_engine (form c.in-Ok-prepare.prepared.image) c.in-Ok.texts.input.items) c.most_instructions.ensures) in
+    inr (record {
+      printed = flat_map line (lines_of c.in-Ok-new.engine (orders c.in-Ok-prepare.prepared.commands.items));
+      played = played;
+      part = subst (λ cs. TakesPart (flat_map line (lines_of c.in-Ok-new.engine (orders cs))) (g.K.Sink.taken c.args.sink.now) (g.K.Sink.taken c.play.new.sink)) c.deref-5.ensures.value (c.in-Err-play.ensures.part told_sink);
+    })
+
+pub returns-in-Ok-play-clause-others : goal.returns-in-Ok-play-clause-others
+returns-in-Ok-play-clause-others g c = λ told n other. c.save_image.ensures.others n other (c.load_texts.ensures.telling ∙ told) ∙ c.load_texts.ensures.same n told
+
+pub returns-clause-others : goal.returns-clause-others
+returns-clause-others g c = λ told n other. c.save_image.ensures.others n other (c.load_texts.ensures.telling ∙ told) ∙ c.load_texts.ensures.same n told

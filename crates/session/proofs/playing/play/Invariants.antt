@@ -1,0 +1,14 @@
+use Rattle.std.proofs.Common.{◌≡◌, true, drop, map}
+use Rattle.std.specs.List.{flat_map}
+use Rattle.line_form.specs.Lines.{line}
+use Rattle.script_form.specs.Script.{orders}
+use Rattle.stop_engine.specs.EngineState.{lines_of}
+use Rattle.session.proofs.Parts.{IsUnderWay}
+use Rattle.session.proofs.playing.play.Given as goal
+
+abbrev pub invariant-loop-command : goal.invariant-loop-command
+invariant-loop-command g l = record {
+  count : g.K.Sink.fault_count l.sink ≡ g.K.Sink.fault_count l.fn.sink;
+  telling : g.K.Sink.tells l.sink ≡ g.K.Sink.tells l.fn.sink;
+  taken : g.K.Sink.tells l.fn.sink ≡ true → IsUnderWay (flat_map line (lines_of l.fn.engine (orders l.commands))) (flat_map line (lines_of l.engine (orders (drop l.command-index l.commands)))) (g.K.Sink.taken l.fn.sink) (g.K.Sink.taken l.sink);
+}

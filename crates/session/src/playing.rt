@@ -1,0 +1,69 @@
+//! The run of a script, whose lines are put out.
+
+ghost use Rattle.std.specs.Prelude.{◌≡◌, ℕ, true, List, ◌++◌, IfOk, OnOk, OnErr, map};
+ghost use Rattle.std.specs.List.{flat_map};
+ghost use Rattle.outside.specs.Taken.{TakesPart};
+ghost use Rattle.line_form.specs.Lines.{line};
+ghost use Rattle.script_form.specs.Script.{orders};
+ghost use Rattle.stop_engine.specs.EngineState.{lines_of};
+ghost use Rattle.session.specs.Stages.{WriteEnds};
+
+use line_form::Status;
+use outside::{PutErr, Sink};
+use script_form::Command;
+use std::alloc::Global;
+use stop_engine::Engine;
+
+// Puts a text as a line, in one piece.
+fn put_line<K: Sink>(alloc: Global, text: &[u8], sink: &mut K) -> Result<(), Status>
+    ensures ends { WriteEnds result (K.fault_count sink.old) (K.fault_count sink.new) }
+    ensures telling { K.tells sink.new ≡ K.tells sink.old }
+    ensures whole { OnOk result (K.tells sink.old ≡ true → K.taken sink.new ≡ K.taken sink.old ++ line text.now) }
+    ensures part { OnErr result (K.tells sink.old ≡ true → TakesPart (line text.now) (K.taken sink.old) (K.taken sink.new)) }
+{
+    let Ok(mut piece) = text.to_vec(alloc) else {
+        return Err(Status::NoMemory);
+    };
+    let Ok(()) = piece.push(b'\n') else {
+        return Err(Status::NoMemory);
+    };
+    match sink.put(alloc, &piece) {
+        Ok(()) => Ok(()),
+        Err(PutErr::Failed) => Err(Status::WriteFault),
+        Err(PutErr::NoMemory) => Err(Status::NoMemory),
+    }
+}
+
+// Puts the lines one after the other.
+fn put_lines<K: Sink>(alloc: Global, lines: &[Vec<u8>], sink: &mut K) -> Result<(), Status>
+    ensures ends { WriteEnds result (K.fault_count sink.old) (K.fault_count sink.new) }
+    ensures telling { K.tells sink.new ≡ K.tells sink.old }
+    ensures whole { OnOk result (K.tells sink.old ≡ true → K.taken sink.new ≡ K.taken sink.old ++ flat_map line (map (λ l. l.items) lines.now)) }
+    ensures part { OnErr result (K.tells sink.old ≡ true → TakesPart (flat_map line (map (λ l. l.items) lines.now)) (K.taken sink.old) (K.taken sink.new)) }
+{
+    for text in lines {
+        put_line(alloc, text, sink)?;
+    }
+    Ok(())
+}
+
+/// Carries out the commands, and puts each line that they print.
+pub fn play<K: Sink>(
+    alloc: Global,
+    engine: &mut Engine<'_>,
+    commands: &[Command],
+    sink: &mut K,
+) -> Result<(), Status>
+    ensures ends { WriteEnds result (K.fault_count sink.old) (K.fault_count sink.new) }
+    ensures telling { K.tells sink.new ≡ K.tells sink.old }
+    ensures whole { OnOk result (K.tells sink.old ≡ true → K.taken sink.new ≡ K.taken sink.old ++ flat_map line (lines_of engine.old (orders commands.now))) }
+    ensures part { OnErr result (K.tells sink.old ≡ true → TakesPart (flat_map line (lines_of engine.old (orders commands.now))) (K.taken sink.old) (K.taken sink.new)) }
+{
+    for command in commands {
+        let Ok(lines) = engine.answer(alloc, command) else {
+            return Err(Status::NoMemory);
+        };
+        put_lines(alloc, &lines, sink)?;
+    }
+    Ok(())
+}

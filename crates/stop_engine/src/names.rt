@@ -1,0 +1,81 @@
+//! The names of an image.
+
+ghost use Rattle.std.specs.Prelude.{◌≡◌, IfSome, option_map, ◌<◌, ◌≤◌, ◌+◌, ◌^◌, length, drop, map, sum, take};
+ghost use Rattle.image_form.specs.Form.{form};
+ghost use Rattle.image_form.specs.Names.{function_name, variable_name};
+ghost use Rattle.image_form.specs.Rules.{IsImage};
+ghost use Rattle.stop_engine.specs.Transcript.{row_of};
+
+use image_form::{Function, Image, Variable};
+
+/// How many bytes the names of functions have.
+fn function_bytes(functions: &[Function]) -> usize
+    requires { sum (map (λ f. f.name_length) functions.now) < 2 ^ 64 }
+    ensures { result ≡ sum (map (λ f. f.name_length) functions.now) }
+{
+    functions
+        .iter()
+        .map(|function| function.name_length as usize)
+        .sum()
+}
+
+/// How many bytes the names of variables have.
+fn variable_bytes(variables: &[Variable]) -> usize
+    requires { sum (map (λ v. v.name_length) variables.now) < 2 ^ 64 }
+    ensures { result ≡ sum (map (λ v. v.name_length) variables.now) }
+{
+    variables
+        .iter()
+        .map(|variable| variable.name_length as usize)
+        .sum()
+}
+
+/// So many bytes from one on.
+fn piece(bytes: &[u8], start: usize, count: usize) -> &[u8]
+    requires { start + count ≤ length bytes.now }
+    ensures { result.now ≡ take count (drop start bytes.now) }
+{
+    &bytes[start..start + count]
+}
+
+/// The name of a function, by its number.
+pub fn function_name(image: &Image, number: usize) -> &[u8]
+    requires image { IsImage (form image.now) }
+    requires number { number < length image.now.functions.items }
+    ensures { result.now ≡ function_name (form image.now) number }
+{
+    let start = function_bytes(&image.functions[..number]);
+    piece(
+        &image.names,
+        start,
+        image.functions[number].name_length as usize,
+    )
+}
+
+/// The name of a variable, by its number; a literal's is empty.
+pub fn variable_name(image: &Image, number: usize) -> &[u8]
+    requires image { IsImage (form image.now) }
+    requires number { number < length image.now.variables.items }
+    ensures { result.now ≡ variable_name (form image.now) number }
+{
+    let start = function_bytes(&image.functions) + variable_bytes(&image.variables[..number]);
+    piece(
+        &image.names,
+        start,
+        image.variables[number].name_length as usize,
+    )
+}
+
+/// The number of the variable of a name that is visible at a place, if there is one; of several the one whose row comes first.
+pub fn visible_variable(image: &Image, place: u32, name: &[u8]) -> Option<u32>
+    requires { IsImage (form image.now) }
+    ensures row { result ≡ option_map (λ r. r.variable) (row_of (form image.now) place name.now image.now.rows.items) }
+    ensures variable { IfSome result (λ v. v < length image.now.variables.items) }
+{
+    for row in &image.rows {
+        if row.place == place && variable_name(image, row.variable as usize) == name {
+            return Some(row.variable);
+        }
+    }
+    None
+}

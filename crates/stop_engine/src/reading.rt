@@ -1,0 +1,89 @@
+//! What is read of the machine where a session stands.
+
+ghost use Rattle.std.specs.Prelude.{◌≡◌, ◌<◌, ◌^◌, length, slice_index, IfOk};
+ghost use Rattle.image_form.specs.Form.{form};
+ghost use Rattle.rv_machine.specs.Memory.{word_in};
+ghost use Rattle.stop_engine.specs.Plain.{IsPlain};
+ghost use Rattle.stop_engine.specs.Reading.{depth, slot_word};
+ghost use Rattle.stop_engine.specs.Transcript.{shown_text};
+
+use image_form::{Image, Storage};
+use rv_machine::machine::Machine;
+use std::alloc::{AllocError, Global};
+
+/// How many activations may be live.
+const ACTIVATIONS: u32 = 1024;
+
+/// The register that holds the address of the innermost activation's frame.
+const STACK_POINTER: usize = 2;
+
+/// The register that counts how many activations may still begin.
+const THREAD_POINTER: usize = 4;
+
+/// The address at which the stack begins.
+const STACK_START: u32 = 0x0100_0000;
+
+/// The address behind its end.
+const STACK_END: u32 = 0x0200_0000;
+
+/// The depth of the innermost activation, 1 for the first of main.
+pub fn depth(machine: &Machine) -> u32
+    ensures { result ≡ depth machine.now }
+{
+    ACTIVATIONS.wrapping_sub(machine.registers()[THREAD_POINTER])
+}
+
+/// The byte at an index, and 0 behind the end.
+fn byte_at(bytes: &[u8], index: usize) -> u32
+    ensures value { result ≡ slice_index bytes.now index }
+    ensures byte { result < 256 }
+{
+    u32::from(bytes.get(index).copied().unwrap_or(0))
+}
+
+/// The word of the four bytes from an index on, the lowest first.
+#[tactic(auto, unfolding(rv_machine::specs::Memory::word_in))]
+fn word_in(bytes: &[u8], index: usize) -> u32
+    requires { index < 2 ^ 32 }
+    ensures { result ≡ word_in bytes.now index }
+{
+    let low = byte_at(bytes, index) + byte_at(bytes, index + 1) * 0x100;
+    let high = byte_at(bytes, index + 2) * 0x1_0000 + byte_at(bytes, index + 3) * 0x100_0000;
+    low + high
+}
+
+/// The word in a slot of the innermost activation, at an offset in its frame; 0 where it does not lie wholly in the stack.
+#[tactic(auto, using(crate::proofs::Slots::word_in_rest), unfolding(rv_machine::specs::Reading::stack_rest))]
+fn slot_word(machine: &Machine, offset: u32) -> u32
+    ensures { result ≡ slot_word machine.now offset }
+{
+    let frame = machine.registers()[STACK_POINTER];
+    if frame < STACK_START {
+        return 0;
+    }
+    if frame >= STACK_END {
+        return 0;
+    }
+    if u64::from(frame) + u64::from(offset) + 4 > u64::from(STACK_END) {
+        return 0;
+    }
+    word_in(machine.stack_from(frame), offset as usize)
+}
+
+/// The value of a variable of the image, as text. `AllocError` where memory for it was refused.
+pub fn value_text(
+    alloc: Global,
+    image: &Image,
+    machine: &Machine,
+    variable: usize,
+) -> Result<Vec<u8>, AllocError>
+    requires plain { IsPlain (form image.now) }
+    requires variable { variable < length image.now.variables.items }
+    ensures { IfOk result (λ text. text.items ≡ shown_text (form image.now) machine.now variable) }
+{
+    let Storage::Slot(offset) = image.variables[variable].storage else {
+        unreachable!()
+    };
+    let value = slot_word(machine, offset).cast_signed();
+    Ok(format!(in alloc; "{value}")?.into_bytes())
+}
