@@ -1,24 +1,16 @@
 -- The lines of a session, by what its engine answers.
-use Rattle.std.proofs.Common.{◌≡◌, ℕ, ◌+◌, Option, Some, None, List, [], ◌∷◌, ◌++◌, length, subst, sym, ap, refl, ◌∙◌, arith}
+use Rattle.std.proofs.Common.{◌≡◌, ℕ, ◌+◌, Option, Some, None, List, [], ◌∷◌, subst, refl, arith}
 use Rattle.std.proofs.lemmas.Option.{slice_get_within}
-use Rattle.std.specs.Option.{option_map_or}
 use Rattle.image_form.specs.Form.{Form}
 use Rattle.image_form.specs.RulesOfFunctions.{IsPlaceNumber}
-use Rattle.image_form.specs.declared.verdicts.VisibleRow.{VisibleRow}
-use Rattle.line_form.specs.Lines.{nothing_here_line, value_line}
-use Rattle.rv_machine.specs.State.{State}
-use Rattle.script_form.specs.Script.{Order, Step, Print}
+use Rattle.script_form.specs.Script.{Print}
 use Rattle.stop_engine.specs.declared.halt.Halt.{Halt}
 use Rattle.stop_engine.specs.declared.halt.Halt.TheVariants.{At}
-use Rattle.stop_engine.specs.declared.halt.Standing.{Standing as CodeStanding}
-use Rattle.stop_engine.specs.declared.halt.Standing.TheVariants as standing
-use Rattle.stop_engine.specs.EngineState.{Answers, EngineState, HasStepped, lines_of}
-use Rattle.stop_engine.specs.Halting.{IsHaltOf, halt_at, halt_line, halt_of, halted_at}
-use Rattle.stop_engine.specs.Standing.{IsStanding, position_of}
+use Rattle.stop_engine.specs.EngineState.{Answers, EngineState}
+use Rattle.stop_engine.specs.Halting.{IsHaltOf, halt_at, halt_line, halt_of}
 use Rattle.stop_engine.specs.Reading.{depth, place_at}
-use Rattle.stop_engine.specs.Sight.{NoName, Value, sight, sight_line}
-use Rattle.stop_engine.specs.Transcript.{Ending, Exits, NestsTooDeep, Faults, Limit, Position, Fresh, Standing, Over, ending_line, lines_from, position_line, print_line, row_of, shown_text, step_lines, stepped}
-use Rattle.stop_engine.proofs.PlacesByAddress.{Found, place_from-found}
+use Rattle.stop_engine.specs.Transcript.{Ending, Exits, NestsTooDeep, Faults, Limit, Position, Fresh, Standing, Over, ending_line, position_line, print_line}
+use Rattle.stop_engine.proofs.PlacesByAddress.{place_from-found}
 
 -- a place that begins at an address has a number of the image
 place_at-number : (m : Form) (a k : ℕ) → place_at m a ≡ Some k → IsPlaceNumber m k

@@ -1,5 +1,5 @@
 -- The image of the tests that calls keeps every rule.
-use Rattle.std.proofs.Common.{◌≡◌, ◌≢◌, ℕ, ◌+◌, ◌*◌, ◌^◌, ◌<◌, Some, List, length, slice_get, refl, arith, rules}
+use Rattle.std.proofs.Common.{◌≡◌, ◌≢◌, ℕ, ◌+◌, ◌*◌, ◌^◌, ◌<◌, Some, slice_get, refl, arith, rules}
 use Rattle.image_form.specs.Rules.{SizeRules, FitRules, IsImage}
 use Rattle.image_form.specs.RulesOfFunctions.{FunctionRules, code_start}
 use Rattle.image_form.specs.RulesOfNames.{NameRules}

@@ -1,11 +1,11 @@
 -- The names of an image lie in its section of names.
-use Rattle.std.proofs.Common.{◌≡◌, ℕ, ◌+◌, ◌<◌, ◌≤◌, ◌^◌, List, length, map, sum, take, drop, slice_index, slice_index_or, refl, sym, arith}
+use Rattle.std.proofs.Common.{◌≡◌, ℕ, ◌+◌, ◌<◌, ◌≤◌, ◌^◌, List, length, map, sum, take, drop, slice_index_or, refl, arith}
 use Rattle.std.proofs.lemmas.List.{drop-drop, get_or-map, length-map, take-map}
 use Rattle.std.proofs.lemmas.List.Sums.{sum_by-take-le, sum_by_more_le}
 use Rattle.image_form.specs.Form.{Form}
 use Rattle.image_form.specs.declared.tables.Function.{Function}
 use Rattle.image_form.specs.declared.variables.Variable.{Variable}
-use Rattle.image_form.specs.Names.{function_name, function_name_lengths, variable_name, variable_name_lengths}
+use Rattle.image_form.specs.Names.{function_name, variable_name}
 use Rattle.image_form.specs.Rules.{IsImage}
 use Rattle.image_form.specs.Spelling.{size}
 

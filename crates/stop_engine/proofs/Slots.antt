@@ -1,5 +1,5 @@
 -- Words of the stack.
-use Rattle.std.proofs.Common.{◌≡◌, ℕ, ◌+◌, List, drop, slice_index, sym, refl, ◌∙◌, arith, add_assoc}
+use Rattle.std.proofs.Common.{◌≡◌, ℕ, ◌+◌, List, drop, add_assoc}
 use Rattle.std.proofs.lemmas.List.{get_or-drop}
 use Rattle.rv_machine.specs.Memory.{word_in}
 

@@ -1,5 +1,5 @@
 -- Runs to a stop, over the events that they answer.
-use Rattle.std.proofs.Common.{◌≡◌, ℕ, Option, Some, None, List, [], ◌∷◌, ◌++◌, ap, refl, ◌∙◌, inl, OnErr, Result, Ok, Err}
+use Rattle.std.proofs.Common.{◌≡◌, ℕ, None, List, [], ◌∷◌, ◌++◌, ap, refl, ◌∙◌, inl, OnErr, Result, Ok, Err}
 use Rattle.rv_machine.specs.State.{State}
 use Rattle.image_form.specs.Form.{Form}
 use Rattle.rv_machine.specs.Run.{MachineEvent, run}
@@ -11,7 +11,7 @@ use Rattle.stop_engine.specs.declared.halt.Halt.{Halt}
 use Rattle.stop_engine.specs.declared.halt.Halt.TheVariants.{At, Exited, Depth, Fault, Limit}
 use Rattle.stop_engine.specs.Halting.{byte_events, from_halt, halted_at, left_behind}
 use Rattle.stop_engine.specs.Standing.{ending_of, not_answered, position_of, unanswered}
-use Rattle.stop_engine.specs.Transcript.{Reach, reached, stepped, with_output}
+use Rattle.stop_engine.specs.Transcript.{reached, stepped, with_output}
 
 -- what is reached behind output and a halt
 pub reached-from_halt : (bytes : List ℕ) (h : Halt) (s : State) (events : List MachineEvent)

@@ -1,5 +1,5 @@
 -- The images that the tests run.
-use Rattle.std.specs.Prelude.{ℕ, ◌+◌, ◌*◌, Some, List, [], ◌∷◌, codes}
+use Rattle.std.specs.Prelude.{ℕ, ◌+◌, ◌*◌, Some, [], ◌∷◌, codes}
 use Rattle.image_form.specs.declared.format.Mode.TheVariants.{Slots}
 use Rattle.image_form.specs.declared.variables.ElementType.TheVariants.{I32}
 use Rattle.image_form.specs.declared.variables.Storage.TheVariants.{Slot}

@@ -1,5 +1,5 @@
 -- What a session sees of a name where it stands.
-use Rattle.std.specs.Prelude.{ℕ, Option, Some, None, List}
+use Rattle.std.specs.Prelude.{ℕ, List}
 use Rattle.std.specs.Option.{option_map_or}
 use Rattle.image_form.specs.Form.{Form}
 use Rattle.image_form.specs.declared.verdicts.VisibleRow.{VisibleRow}

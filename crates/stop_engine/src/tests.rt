@@ -1,5 +1,4 @@
-//! Sessions over two small images. Their lines were computed by another engine, written in Python; those of the addition are the
-//! ones that a debugger of that program must print.
+//! Sessions over two small images. Their lines were computed outside of this program; those of the addition can be followed by hand.
 
 ghost use Rattle.image_form.specs.Form.{form};
 ghost use Rattle.image_form.specs.Rules.{IsImage};

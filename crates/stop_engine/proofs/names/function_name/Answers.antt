@@ -1,4 +1,4 @@
-use Rattle.std.proofs.Common.{◌≡◌, ◌<◌, length, ◌∙◌, arith}
+use Rattle.std.proofs.Common.{arith}
 use Rattle.image_form.specs.Form.{form}
 use Rattle.image_form.specs.declared.tables.Function.{Function}
 use Rattle.stop_engine.proofs.NameBounds.{function_name-ends, function_name-piece, function_names-within, names-fit, sum-front}

@@ -1,4 +1,4 @@
-use Rattle.std.proofs.Common.{◌≡◌, ◌<◌, length, ◌∙◌, arith}
+use Rattle.std.proofs.Common.{arith}
 use Rattle.image_form.specs.Form.{form}
 use Rattle.image_form.specs.declared.variables.Variable.{Variable}
 use Rattle.stop_engine.proofs.NameBounds.{names-fit, sum-front, variable_name-ends, variable_name-piece, variable_names-within}

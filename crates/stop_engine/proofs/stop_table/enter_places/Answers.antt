@@ -1,4 +1,4 @@
-use Rattle.std.proofs.Common.{◌≡◌, ◌<◌, ◌≤◌, length, ◌∙◌, sym, ap, refl, arith, rules}
+use Rattle.std.proofs.Common.{◌≡◌, ◌<◌, ◌≤◌, length, ◌∙◌, sym, refl, arith}
 use Rattle.image_form.specs.Form.{form}
 use Rattle.image_form.specs.RulesOfPlaces.{word_address}
 use Rattle.stop_engine.proofs.PlacesByAddress.{entered-all, entered-more, place-at_word, places-fit, word-within}

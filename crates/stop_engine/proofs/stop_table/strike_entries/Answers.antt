@@ -1,8 +1,7 @@
-use Rattle.std.proofs.Common.{◌≡◌, ◌-◌, ◌<◌, ◌≤◌, length, slice_index_or, ◌∙◌, sym, ap}
+use Rattle.std.proofs.Common.{◌≡◌, ◌<◌, length, ◌∙◌}
 use Rattle.image_form.specs.Form.{form}
-use Rattle.image_form.specs.RulesOfPlaces.{word_address}
 use Rattle.stop_engine.proofs.PlacesByAddress.{IsWordOf, word-within}
-use Rattle.stop_engine.proofs.StopTables.{entry-at_word, struck-all, struck-more}
+use Rattle.stop_engine.proofs.StopTables.{entry-at_word, struck-more}
 use Rattle.stop_engine.proofs.stop_table.strike_entries.Goals as goal
 
 pub word_of-requires : goal.word_of-requires

@@ -1,4 +1,4 @@
-use Rattle.std.proofs.Common.{◌≡◌, ◌∙◌}
+use Rattle.std.proofs.Common.{◌≡◌}
 use Rattle.stop_engine.specs.Transcript.{print_line}
 use Rattle.stop_engine.proofs.Answering.{answers-print}
 use Rattle.stop_engine.proofs.engine.Engine.answer.Goals as goal

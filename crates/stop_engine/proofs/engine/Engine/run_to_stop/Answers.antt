@@ -1,4 +1,4 @@
-use Rattle.std.proofs.Common.{◌≡◌, ◌++◌, ap, refl, ◌∙◌}
+use Rattle.std.proofs.Common.{◌++◌, ap, refl, ◌∙◌}
 use Rattle.rv_machine.specs.Run.{run}
 use Rattle.stop_engine.specs.Halting.{byte_events}
 use Rattle.stop_engine.specs.Run.{stop_addresses}
