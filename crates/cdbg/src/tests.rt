@@ -1,5 +1,7 @@
 //! Sessions over a shelf and a sink in memory.
 
+ghost use Rattle.std.specs.Prelude.{◌<◌};
+
 use debug_records::Code;
 use line_form::{Status, fault_text};
 use outside::{MemShelf, MemSink};
