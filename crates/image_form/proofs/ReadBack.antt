@@ -1,11 +1,12 @@
 -- Numbers and records that were spelled are read back.
 use Rattle.std.proofs.Common.{◌≡◌, ℕ, ◌+◌, ◌*◌, ◌^◌, ◌<◌, List, [], ◌∷◌, ◌++◌, length, take, drop, refl, sym, ap, ◌∙◌, append_assoc, arith}
 use Rattle.std.specs.Int.{w32, from_le_bytes, to_le_bytes}
-use Rattle.std.specs.List.{AllByRecursion}
+use Rattle.std.specs.Prelude.{map}
 use Rattle.std.proofs.lemmas.List.{take_at, drop_at, length-append}
 use Rattle.std.proofs.lemmas.List.Concat.{flat_map-cons}
 use Rattle.std.proofs.lemmas.Nat.{from_le_bytes-to_le_bytes_4}
-use Rattle.image_form.specs.Decoding.{number_at, numbers_at, records_at}
+use Rattle.image_form.specs.Decoding.{word_numbers}
+use Rattle.image_form.specs.Sections.{number_at, numbers_at, rows_at}
 use Rattle.image_form.specs.Rules.{AllFit, RecordsFit}
 use Rattle.image_form.specs.Spelling.{section, spelled}
 
@@ -39,23 +40,24 @@ pub after_numbers : (ns rest : List ℕ) → drop (4 * length ns) (spelled ns ++
 after_numbers ns rest = drop_at (spelled ns) rest (4 * length ns) (length-spelled ns)
 
 -- Records of `width` numbers each.
-module _ {A : Type 0} (width : ℕ) (numbers : A → List ℕ) (of_numbers : List ℕ → A) (sized : (x : A) → length (numbers x) ≡ width) where
+module _ {A : Type 0} (width : ℕ) (numbers : A → List ℕ) (sized : (x : A) → length (numbers x) ≡ width) where
   section-cons : (x : A) (xs : List A) (rest : List ℕ) → section numbers (x ∷ xs) ++ rest ≡ spelled (numbers x) ++ (section numbers xs ++ rest)
   section-cons x xs rest = ap (λ (b : List ℕ). b ++ rest) (flat_map-cons (λ (r : A). spelled (numbers r)) x xs) ∙ append_assoc (spelled (numbers x)) (section numbers xs) rest
 
   length-record : (x : A) → length (spelled (numbers x)) ≡ 4 * width
   length-record x = length-spelled (numbers x) ∙ ap (λ (n : ℕ). 4 * n) (sized x)
 
-  record_back : (x : A) (rest : List ℕ) → AllFit (numbers x) → of_numbers (numbers x) ≡ x → of_numbers (numbers_at width 0 (spelled (numbers x) ++ rest)) ≡ x
-  record_back x rest fit back = ap (λ (n : ℕ). of_numbers (numbers_at n 0 (spelled (numbers x) ++ rest))) (sym (sized x)) ∙ ap of_numbers (numbers_back (numbers x) rest [] 0 refl fit) ∙ back
+  record_back : (x : A) (rest : List ℕ) → AllFit (numbers x) → numbers_at width 0 (spelled (numbers x) ++ rest) ≡ numbers x
+  record_back x rest fit = ap (λ (n : ℕ). numbers_at n 0 (spelled (numbers x) ++ rest)) (sym (sized x)) ∙ numbers_back (numbers x) rest [] 0 refl fit
 
-  pub records_back : (xs : List A) (rest : List ℕ) → RecordsFit numbers xs → AllByRecursion (λ x. of_numbers (numbers x) ≡ x) xs → records_at width of_numbers (length xs) (section numbers xs ++ rest) ≡ xs
-  records_back [] rest fit back = refl
-  records_back (x ∷ xs) rest fit back =
+  -- Rows that were spelled are read back.
+  pub rows_back : (xs : List A) (rest : List ℕ) → RecordsFit numbers xs → rows_at width (length xs) (section numbers xs ++ rest) ≡ map numbers xs
+  rows_back [] rest fit = refl
+  rows_back (x ∷ xs) rest fit =
       let behind = section numbers xs ++ rest in
-      let head : of_numbers (numbers_at width 0 (section numbers (x ∷ xs) ++ rest)) ≡ x = ap (λ (b : List ℕ). of_numbers (numbers_at width 0 b)) (section-cons x xs rest) ∙ record_back x behind fit.0 back.0 in
+      let head : numbers_at width 0 (section numbers (x ∷ xs) ++ rest) ≡ numbers x = ap (numbers_at width 0) (section-cons x xs rest) ∙ record_back x behind fit.0 in
       let after : drop (4 * width) (section numbers (x ∷ xs) ++ rest) ≡ behind = ap (drop (4 * width)) (section-cons x xs rest) ∙ drop_at (spelled (numbers x)) behind (4 * width) (length-record x) in
-      let tail : records_at width of_numbers (length xs) (drop (4 * width) (section numbers (x ∷ xs) ++ rest)) ≡ xs = ap (records_at width of_numbers (length xs)) after ∙ records_back xs rest fit.1 back.1 in
+      let tail : rows_at width (length xs) (drop (4 * width) (section numbers (x ∷ xs) ++ rest)) ≡ map numbers xs = ap (rows_at width (length xs)) after ∙ rows_back xs rest fit.1 in
       (λ i. head i ∷ tail i)
 
   pub length-section : (xs : List A) → length (section numbers xs) ≡ 4 * width * length xs
@@ -64,3 +66,19 @@ module _ {A : Type 0} (width : ℕ) (numbers : A → List ℕ) (of_numbers : Lis
 
   pub after_section : (xs : List A) (rest : List ℕ) → drop (4 * width * length xs) (section numbers xs ++ rest) ≡ rest
   after_section xs rest = drop_at (section numbers xs) rest (4 * width * length xs) (length-section xs)
+
+-- Words are spelled like records of one number.
+pub section-words : (ns : List ℕ) → section word_numbers ns ≡ spelled ns
+section-words [] = refl
+section-words (n ∷ ns) =
+    flat_map-cons (λ (r : ℕ). spelled (word_numbers r)) n ns ∙ (λ i. one i ++ section-words ns i) ∙ sym (flat_map-cons (to_le_bytes w32) n ns)
+  where
+    one : spelled (word_numbers n) ≡ to_le_bytes w32 n
+    one = refl
+
+pub words_fit : (ns : List ℕ) → AllFit ns → RecordsFit word_numbers ns
+words_fit [] fit = tt
+words_fit (n ∷ ns) fit = ((fit.0, tt), words_fit ns fit.1)
+
+pub words_back : (ns : List ℕ) (rest : List ℕ) → AllFit ns → rows_at 1 (length ns) (spelled ns ++ rest) ≡ map word_numbers ns
+words_back ns rest fit = ap (λ (b : List ℕ). rows_at 1 (length ns) (b ++ rest)) (sym (section-words ns)) ∙ rows_back 1 word_numbers (λ x. refl) ns rest (words_fit ns fit)

@@ -123,7 +123,7 @@ some_and (Some x) P h = (x, refl, h)
 pub number_there : {A : Type 0} (xs : List A) (k : ℕ) (P : A → Type 0) → IsSomeAnd (slice_get xs k) P → k < length xs
 number_there xs k P h = let x = some_and (slice_get xs k) P h in slice_get_within xs k x.0 x.1
 
-kept_there : (f : Form) (k : ℕ) (storage : Storage) → IsKept f (Some k) storage → k < length f.functions
+pub kept_there : (f : Form) (k : ℕ) (storage : Storage) → IsKept f (Some k) storage → k < length f.functions
 kept_there f k (Static address) kept = absurd kept
 kept_there f k (Frame offset) kept = number_there f.functions k _ kept
 kept_there f k (Register number) kept = kept.0

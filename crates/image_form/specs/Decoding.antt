@@ -1,6 +1,5 @@
--- The image that bytes spell, if they spell one: each number is taken where it stands, whatever it is.
-use Rattle.std.specs.Prelude.{ℕ, zero, suc, ◌+◌, ◌-◌, ◌*◌, ◌==◌, if◌then◌else◌, List, [], ◌∷◌, Option, Some, None, take, drop, slice_index, slice_index_or}
-use Rattle.std.specs.Int.{w32, from_le_bytes}
+-- What rows of numbers say, and the numbers that say an image.
+use Rattle.std.specs.Prelude.{ℕ, ◌-◌, ◌==◌, if◌then◌else◌, List, [], ◌∷◌, Option, Some, None, map, slice_index, slice_index_or}
 use Rattle.image_form.specs.declared.format.Mode.{Mode}
 use Rattle.image_form.specs.declared.format.Mode.TheVariants.{Slots, Registers}
 use Rattle.image_form.specs.declared.recipes.Node.{Node}
@@ -23,41 +22,45 @@ use Rattle.image_form.specs.declared.verdicts.Verdict.{Verdict}
 use Rattle.image_form.specs.declared.verdicts.Verdict.TheVariants.{Home, Recovered, Noncurrent, Nonresident}
 use Rattle.image_form.specs.declared.verdicts.VisibleRow.{VisibleRow}
 use Rattle.image_form.specs.Form.{Form}
-use Rattle.image_form.specs.Numbers.{no_function}
+use Rattle.image_form.specs.Numbers.{mode_number, function_numbers, place_numbers, no_function, variable_numbers, change_numbers, flow_numbers, assigned_numbers, row_numbers, node_numbers}
+use Rattle.image_form.specs.Sections.{Sections}
 
--- The number whose four bytes begin at a byte.
-unfoldable pub number_at : List ℕ → ℕ → ℕ
-number_at bytes at = from_le_bytes w32 (take 4 (drop at bytes))
-
--- So many numbers from a byte on.
-abbrev pub numbers_at : ℕ → ℕ → List ℕ → List ℕ
-numbers_at zero at bytes = []
-numbers_at (suc n) at bytes = number_at bytes at ∷ numbers_at n (at + 4) bytes
-
--- So many records from the first byte on, each of `width` numbers.
-abbrev pub records_at : {A : Type 0} → ℕ → (List ℕ → A) → ℕ → List ℕ → List A
-records_at width of_numbers zero bytes = []
-records_at width of_numbers (suc n) bytes = of_numbers (numbers_at width 0 bytes) ∷ records_at width of_numbers n (drop (4 * width) bytes)
-
+-- The mode of a number.
 abbrev pub mode_of : ℕ → Mode
 mode_of n = if n == 0 then Slots else Registers
 
+-- The function of five numbers.
 abbrev pub function_of : List ℕ → Function
-function_of ns = record { name_length = slice_index ns 0; first = slice_index ns 1; end = slice_index ns 2; frame = slice_index ns 3; entry = slice_index ns 4 }
+function_of ns = record {
+  name_length = slice_index ns 0;
+  first = slice_index ns 1;
+  end = slice_index ns 2;
+  frame = slice_index ns 3;
+  entry = slice_index ns 4;
+}
 
+-- The place of four numbers.
 abbrev pub place_of : List ℕ → Place
-place_of ns = record { position = slice_index ns 0; line = slice_index ns 1; function = slice_index ns 2; address = slice_index ns 3 }
+place_of ns = record {
+  position = slice_index ns 0;
+  line = slice_index ns 1;
+  function = slice_index ns 2;
+  address = slice_index ns 3;
+}
 
 -- The number of a variable's function, if it has one.
 abbrev pub owner_of : ℕ → Option ℕ
 owner_of n = if n == no_function then None else Some n
 
+-- The element type of a number; the greatest one stands for all above it.
 abbrev pub element_of : ℕ → ElementType
 element_of n = slice_index_or (U8 ∷ I8 ∷ U16 ∷ I16 ∷ U32 ∷ I32 ∷ []) n Pointer
 
+-- The storage of its number and its value.
 abbrev pub storage_of : ℕ → ℕ → Storage
 storage_of n value = slice_index_or (Static value ∷ Frame value ∷ Register value ∷ []) n (Slot value)
 
+-- The variable of eight numbers.
 abbrev pub variable_of : List ℕ → Variable
 variable_of ns = record {
   name_length = slice_index ns 0;
@@ -68,15 +71,24 @@ variable_of ns = record {
   count = slice_index ns 6;
 }
 
+-- The kind of a change, of its number.
 abbrev pub kind_of : ℕ → Kind
 kind_of n = slice_index_or (Removed ∷ Moved ∷ Reused ∷ []) n Replaced
 
+-- The change of five numbers.
 abbrev pub change_of : List ℕ → Change
-change_of ns = record { pass_length = slice_index ns 0; kind = kind_of (slice_index ns 1); place = slice_index ns 2; variable = slice_index ns 3 }
+change_of ns = record {
+  pass_length = slice_index ns 0;
+  kind = kind_of (slice_index ns 1);
+  place = slice_index ns 2;
+  variable = slice_index ns 3;
+}
 
+-- The flow pair of two numbers.
 abbrev pub flow_of : List ℕ → FlowPair
 flow_of ns = record { from = slice_index ns 0; to = slice_index ns 1 }
 
+-- The assigned pair of two numbers.
 abbrev pub assigned_of : List ℕ → AssignedPair
 assigned_of ns = record { place = slice_index ns 0; variable = slice_index ns 1 }
 
@@ -84,10 +96,13 @@ assigned_of ns = record { place = slice_index ns 0; variable = slice_index ns 1 
 abbrev pub writer_of : ℕ → Option ℕ
 writer_of n = if n == 0 then None else Some n
 
+-- The verdict of its number, the change, the node or start place, and the writer.
 abbrev pub verdict_of : ℕ → ℕ → ℕ → ℕ → Verdict
 verdict_of n change first second =
-    slice_index_or (Home ∷ Recovered change first ∷ Noncurrent change first (writer_of second) ∷ []) n (Nonresident change first (writer_of second))
+    slice_index_or (Home ∷ Recovered change first ∷ Noncurrent change first (writer_of second) ∷ []) n
+    (Nonresident change first (writer_of second))
 
+-- The visible row of six numbers.
 abbrev pub row_of : List ℕ → VisibleRow
 row_of ns = record {
   place = slice_index ns 0;
@@ -95,42 +110,65 @@ row_of ns = record {
   verdict = verdict_of (slice_index ns 2) (slice_index ns 3) (slice_index ns 4) (slice_index ns 5);
 }
 
+-- The operation of a number, from 3 on.
 abbrev pub operation_of : ℕ → NodeOperation
 operation_of n =
-    slice_index_or (Add ∷ Sub ∷ Mul ∷ Div ∷ Divu ∷ Rem ∷ Remu ∷ Sll ∷ Srl ∷ Sra ∷ And ∷ Or ∷ Xor ∷ Slt ∷ Sltu ∷ TruncateU8 ∷ TruncateI16 ∷ TruncateU16 ∷ []) (n - 3) TruncateI8
+    slice_index_or
+    (
+    Add ∷ Sub ∷ Mul ∷ Div ∷ Divu ∷ Rem ∷ Remu ∷ Sll ∷ Srl ∷ Sra ∷ And ∷ Or ∷ Xor ∷ Slt ∷ Sltu
+    ∷ TruncateU8 ∷ TruncateI16 ∷ TruncateU16 ∷ []
+    )
+    (n - 3)
+    TruncateI8
 
+-- The node of three numbers.
 abbrev pub node_of : List ℕ → Node
 node_of ns =
-    slice_index_or (node.Constant (slice_index ns 1) ∷ node.Variable (slice_index ns 1) ∷ node.Home (slice_index ns 1) ∷ []) (slice_index ns 0)
+    slice_index_or
+    (node.Constant (slice_index ns 1) ∷ node.Variable (slice_index ns 1) ∷ node.Home (slice_index ns 1) ∷ [])
+    (slice_index ns 0)
     (node.Operation (operation_of (slice_index ns 0)) (slice_index ns 1) (slice_index ns 2))
 
--- The image: its header says how many records each section has.
-unfoldable pub form_of : List ℕ → Form
-form_of bytes =
-    let rest1 = drop 64 bytes in
-    let rest2 = drop (4 * number_at bytes 16) rest1 in
-    let rest3 = drop (number_at bytes 20) rest2 in
-    let rest4 = drop (20 * number_at bytes 24) rest3 in
-    let rest5 = drop (16 * number_at bytes 28) rest4 in
-    let rest6 = drop (4 * number_at bytes 16) rest5 in
-    let rest7 = drop (32 * number_at bytes 32) rest6 in
-    let rest8 = drop (20 * number_at bytes 36) rest7 in
-    let rest9 = drop (8 * number_at bytes 40) rest8 in
-    let rest10 = drop (8 * number_at bytes 44) rest9 in
-    let rest11 = drop (24 * number_at bytes 48) rest10 in
-    let rest12 = drop (12 * number_at bytes 52) rest11 in
-    record {
-      mode = mode_of (number_at bytes 12);
-      code = numbers_at (number_at bytes 16) 0 rest1;
-      initial = take (number_at bytes 20) rest2;
-      functions = records_at 5 function_of (number_at bytes 24) rest3;
-      places = records_at 4 place_of (number_at bytes 28) rest4;
-      owners = numbers_at (number_at bytes 16) 0 rest5;
-      variables = records_at 8 variable_of (number_at bytes 32) rest6;
-      changes = records_at 5 change_of (number_at bytes 36) rest7;
-      flow = records_at 2 flow_of (number_at bytes 40) rest8;
-      assigned = records_at 2 assigned_of (number_at bytes 44) rest9;
-      rows = records_at 6 row_of (number_at bytes 48) rest10;
-      nodes = records_at 3 node_of (number_at bytes 52) rest11;
-      names = rest12;
-    }
+-- The only number of a row.
+abbrev pub word_of : List ℕ → ℕ
+word_of ns = slice_index ns 0
+
+-- The image that the sections say.
+unfoldable pub decoded : Sections → Form
+decoded s = record {
+  mode = mode_of s.mode;
+  code = map word_of s.code;
+  initial = s.initial;
+  functions = map function_of s.functions;
+  places = map place_of s.places;
+  owners = map word_of s.owners;
+  variables = map variable_of s.variables;
+  changes = map change_of s.changes;
+  flow = map flow_of s.flow;
+  assigned = map assigned_of s.assigned;
+  rows = map row_of s.rows;
+  nodes = map node_of s.nodes;
+  names = s.names;
+}
+
+-- The numbers of a word.
+abbrev pub word_numbers : ℕ → List ℕ
+word_numbers n = n ∷ []
+
+-- The sections that say an image.
+abbrev pub sections_of : Form → Sections
+sections_of f = record {
+  mode = mode_number f.mode;
+  code = map word_numbers f.code;
+  initial = f.initial;
+  functions = map function_numbers f.functions;
+  places = map place_numbers f.places;
+  owners = map word_numbers f.owners;
+  variables = map variable_numbers f.variables;
+  changes = map change_numbers f.changes;
+  flow = map flow_numbers f.flow;
+  assigned = map assigned_numbers f.assigned;
+  rows = map row_numbers f.rows;
+  nodes = map node_numbers f.nodes;
+  names = f.names;
+}

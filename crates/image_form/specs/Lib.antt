@@ -1,8 +1,11 @@
+pub mod Breaches
 pub mod Decoding
 pub mod Form
+pub mod Layouts
 pub mod Lists
 pub mod Names
 pub mod Numbers
+pub mod Reading
 pub mod Rules
 pub mod RulesOfChanges
 pub mod RulesOfFunctions
@@ -12,5 +15,12 @@ pub mod RulesOfPlaces
 pub mod RulesOfRows
 pub mod RulesOfVariables
 pub mod Samples
+pub mod Sections
 pub mod Spelling
+pub mod TestsOfChanges
+pub mod TestsOfCode
+pub mod TestsOfNames
+pub mod TestsOfNodes
+pub mod TestsOfTables
+pub mod TestsOfVariables
 pub mod Unique

@@ -22,13 +22,16 @@ use Rattle.image_form.specs.declared.verdicts.Verdict.{Verdict}
 use Rattle.image_form.specs.declared.verdicts.Verdict.TheVariants.{Home, Recovered, Noncurrent, Nonresident}
 use Rattle.image_form.specs.declared.verdicts.VisibleRow.{VisibleRow}
 
+-- The number of a mode.
 abbrev pub mode_number : Mode → ℕ
 mode_number Slots = 0
 mode_number Registers = 1
 
+-- The numbers of a function.
 abbrev pub function_numbers : Function → List ℕ
 function_numbers f = f.name_length ∷ f.first ∷ f.end ∷ f.frame ∷ f.entry ∷ []
 
+-- The numbers of a place.
 abbrev pub place_numbers : Place → List ℕ
 place_numbers p = p.position ∷ p.line ∷ p.function ∷ p.address ∷ []
 
@@ -36,6 +39,7 @@ place_numbers p = p.position ∷ p.line ∷ p.function ∷ p.address ∷ []
 abbrev pub no_function : ℕ
 no_function = 4294967295
 
+-- The number of an element type.
 abbrev pub element_number : ElementType → ℕ
 element_number U8 = 0
 element_number I8 = 1
@@ -45,35 +49,42 @@ element_number U32 = 4
 element_number I32 = 5
 element_number Pointer = 6
 
+-- The number of a storage.
 abbrev pub storage_number : Storage → ℕ
 storage_number (Static address) = 0
 storage_number (Frame offset) = 1
 storage_number (Register number) = 2
 storage_number (Slot offset) = 3
 
+-- The number behind it: an address, an offset or a register.
 abbrev pub storage_value : Storage → ℕ
 storage_value (Static address) = address
 storage_value (Frame offset) = offset
 storage_value (Register number) = number
 storage_value (Slot offset) = offset
 
+-- The numbers of a variable.
 abbrev pub variable_numbers : Variable → List ℕ
 variable_numbers v =
     v.name_length ∷ unwrap_or v.function no_function ∷ v.position ∷ element_number v.element
     ∷ storage_number v.storage ∷ storage_value v.storage ∷ v.count ∷ 0 ∷ []
 
+-- The number of a kind.
 abbrev pub kind_number : Kind → ℕ
 kind_number Removed = 0
 kind_number Moved = 1
 kind_number Reused = 2
 kind_number Replaced = 3
 
+-- The numbers of a change.
 abbrev pub change_numbers : Change → List ℕ
 change_numbers c = c.pass_length ∷ kind_number c.kind ∷ c.place ∷ c.variable ∷ 0 ∷ []
 
+-- The numbers of a flow pair.
 abbrev pub flow_numbers : FlowPair → List ℕ
 flow_numbers p = p.from ∷ p.to ∷ []
 
+-- The numbers of an assigned pair.
 abbrev pub assigned_numbers : AssignedPair → List ℕ
 assigned_numbers p = p.place ∷ p.variable ∷ []
 
@@ -84,9 +95,11 @@ verdict_numbers (Recovered change node) = 1 ∷ change ∷ node ∷ 0 ∷ []
 verdict_numbers (Noncurrent change start writer) = 2 ∷ change ∷ start ∷ unwrap_or writer 0 ∷ []
 verdict_numbers (Nonresident change start writer) = 3 ∷ change ∷ start ∷ unwrap_or writer 0 ∷ []
 
+-- The numbers of a visible row.
 abbrev pub row_numbers : VisibleRow → List ℕ
 row_numbers r = r.place ∷ r.variable ∷ verdict_numbers r.verdict
 
+-- The number of an operation.
 abbrev pub operation_number : NodeOperation → ℕ
 operation_number Add = 3
 operation_number Sub = 4
@@ -108,6 +121,7 @@ operation_number TruncateI16 = 19
 operation_number TruncateU16 = 20
 operation_number TruncateI8 = 21
 
+-- The numbers of a node.
 abbrev pub node_numbers : Node → List ℕ
 node_numbers (node.Constant value) = 0 ∷ value ∷ 0 ∷ []
 node_numbers (node.Variable variable) = 1 ∷ variable ∷ 0 ∷ []

@@ -1,17 +1,31 @@
 //! The image: machine code and the tables of its debugger in one file.
 #![tactic(auto)]
 
+mod change_rules;
+mod code_rules;
+mod fault;
 mod format;
+mod header;
+mod layout;
+mod name_rules;
+mod node_rules;
+mod reading;
 mod recipes;
 mod records;
+mod rule;
+mod starts;
+mod table;
 mod tables;
 #[cfg(test)]
 mod tests;
+mod variable_rules;
 mod variables;
 mod verdicts;
 mod writing;
 
+pub use fault::{Code, ImageErr};
 pub use format::{Image, Mode};
+pub use reading::read;
 pub use recipes::{Node, NodeOperation};
 pub use tables::{AssignedPair, Change, FlowPair, Function, Kind, Place};
 pub use variables::{ElementType, Storage, Variable};

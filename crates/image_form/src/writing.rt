@@ -8,6 +8,7 @@ ghost use Rattle.image_form.specs.Spelling.{header, size, spelling};
 ghost use Rattle.image_form.specs.Unique.{SpellsOneImage};
 
 use crate::format::{Image, Mode};
+use crate::header::{FORMAT_VERSION, HEADER_SIZE, MAGIC};
 use crate::records::{put_numbers, put_records};
 use std::alloc::{AllocError, Global};
 
@@ -27,7 +28,7 @@ fn write_all(alloc: Global, image: &Image) -> Result<Vec<u8>, AllocError>
     ensures { IfOk result (λ v. v.items ≡ spelling (form image.now)) }
 {
     let mut out = Vec::new(alloc);
-    out.extend_from_slice(b"CDBG")?;
+    out.extend_from_slice(MAGIC)?;
     put_numbers(&mut out, &header_of(image))?;
     put_numbers(&mut out, &image.code)?;
     out.extend_from_slice(&image.initial)?;
@@ -63,7 +64,7 @@ fn size_of(image: &Image) -> usize
     let changes = 32 * image.variables.len() + 20 * image.changes.len();
     let pairs = 8 * image.flow.len() + 8 * image.assigned.len();
     let rows = 24 * image.rows.len() + 12 * image.nodes.len();
-    64 + code + places + changes + pairs + rows + image.names.len()
+    HEADER_SIZE + code + places + changes + pairs + rows + image.names.len()
 }
 
 #[tactic(auto, unfolding(crate::specs::Spelling::size))]
@@ -72,7 +73,7 @@ fn header_of(image: &Image) -> [u32; 15]
     ensures { result ≡ header (form image.now) }
 {
     [
-        1,
+        FORMAT_VERSION,
         size_of(image) as u32,
         mode_number(image.mode),
         image.code.len() as u32,

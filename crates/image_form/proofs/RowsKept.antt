@@ -1,0 +1,248 @@
+-- Visible rows keep their rules where their numbers keep their tests.
+use Rattle.std.proofs.Common.{◌≡◌, ◌≢◌, ℕ, zero, suc, ◌-◌, ◌<◌, true, ◌&&◌, [], ◌∷◌, length, get_or, Option, Some, None, refl, ap, arith}
+use Rattle.std.specs.Prelude.{map, slice_get, unwrap_or, ◌==◌, nat_le, nat_lt, if◌then◌else◌}
+use Rattle.std.specs.List.{AllByRecursion}
+use Rattle.std.proofs.lemmas.Bool.{eq-eqb, eqb-true, and_parts, and_from}
+use Rattle.std.proofs.lemmas.Bool.Decides.{nat_tests}
+use Rattle.std.proofs.lemmas.List.{length-map}
+use Rattle.std.proofs.lemmas.Option.{slice_get_within, slice_get-get_or}
+use Rattle.image_form.specs.declared.tables.Change.{Change}
+use Rattle.image_form.specs.declared.tables.Kind.{Kind}
+use Rattle.image_form.specs.declared.tables.Kind.TheVariants.{Removed, Moved, Reused, Replaced}
+use Rattle.image_form.specs.declared.tables.Place.{Place}
+use Rattle.image_form.specs.declared.variables.ElementType.TheVariants.{U8}
+use Rattle.image_form.specs.declared.variables.Storage.TheVariants.{Static}
+use Rattle.image_form.specs.declared.variables.Variable.{Variable}
+use Rattle.image_form.specs.declared.verdicts.Verdict.{Verdict}
+use Rattle.image_form.specs.declared.verdicts.Verdict.TheVariants.{Home, Recovered, Noncurrent, Nonresident}
+use Rattle.image_form.specs.declared.verdicts.VisibleRow.{VisibleRow}
+use Rattle.image_form.specs.Decoding.{sections_of, word_numbers}
+use Rattle.image_form.specs.Form.{Form, numbered}
+use Rattle.image_form.specs.Numbers.{place_numbers, no_function, variable_numbers, kind_number, change_numbers, verdict_numbers, row_numbers, node_numbers}
+use Rattle.image_form.specs.RulesOfChanges.{IsPairBefore}
+use Rattle.image_form.specs.RulesOfFunctions.{IsCodeAddress, IsPlaceNumber, code_start}
+use Rattle.image_form.specs.RulesOfPlaces.{IsPlace, PlaceRules}
+use Rattle.image_form.specs.RulesOfRows.{IsVisible, IsWriter, IsVerdict, RowRules}
+use Rattle.image_form.specs.Sections.{cell}
+use Rattle.image_form.specs.TestsOfChanges.{is_visible, is_change, is_node_or_start, is_writer, row_tests}
+use Rattle.image_form.specs.TestsOfTables.{within, is_place, is_not_below, is_pair_above, is_code_address}
+use Rattle.image_form.proofs.Kept.{AllTrue, row_is, next_from, next_at, before_at, at_each}
+use Rattle.image_form.proofs.RecordsBack.{some_and, number_there}
+use Rattle.image_form.proofs.TableLaws.{each_at, each_from}
+
+-- No writer has the address that stands for none.
+abbrev pub TellsWriter : Verdict → Type 0
+TellsWriter Home = Unit {0}
+TellsWriter (Recovered change node) = Unit {0}
+TellsWriter (Noncurrent change start writer) = writer ≢ Some 0
+TellsWriter (Nonresident change start writer) = writer ≢ Some 0
+
+abbrev pub TellsWriters : Form → Type 0
+TellsWriters f = AllByRecursion (λ r. TellsWriter r.verdict) f.rows
+
+no_place : Place
+no_place = record { position = 0; line = 0; function = 0; address = 0 }
+
+no_change : Change
+no_change = record { pass_length = 0; kind = Removed; place = 0; variable = 0 }
+
+no_variable : Variable
+no_variable = record { name_length = 0; function = None; position = 0; element = U8; storage = Static 0; count = 0 }
+
+removed_is : (k : Kind) → kind_number k ≡ 0 → k ≡ Removed
+removed_is Removed e = refl
+removed_is Moved e = absurd cc
+removed_is Reused e = absurd cc
+removed_is Replaced e = absurd cc
+
+module _ (f : Form) where
+  abbrev pub RowsKept : Type 0
+  RowsKept = (i : ℕ) → i < length f.rows → AllTrue (row_tests (sections_of f) i)
+
+  -- The variable of a place.
+  visible_sound : (place variable : ℕ) → length f.functions < no_function → PlaceRules f → IsPlaceNumber f place → variable < length f.variables
+      → cell (map variable_numbers f.variables) variable 1 ≡ cell (map place_numbers f.places) (place - 1) 2 → IsVisible f place variable
+  visible_sound zero variable few rules is there same = absurd (omega (arith, is.0))
+  visible_sound (suc m) variable few rules is there same =
+      let one_less : suc m - 1 ≡ m = omega arith in
+      let at_p = slice_get-get_or f.places m no_place (omega (arith, is.1)) in
+      let p = get_or f.places m no_place in
+      let at_v = slice_get-get_or f.variables variable no_variable there in
+      let v = get_or f.variables variable no_variable in
+      let here = number_there f.functions p.function _ (each_at (IsPlace f) f.places m p rules.each at_p).in_function in
+      let told : unwrap_or v.function no_function ≡ p.function = rw (one_less, row_is variable_numbers f.variables variable v at_v, row_is place_numbers f.places m p at_p) at same in
+      rw (at_p, at_v) (go v.function p.function told (omega (arith, here, few)))
+    where
+      go : (function : Option ℕ) (k : ℕ) → unwrap_or function no_function ≡ k → k < no_function → function ≡ Some k
+      go None k told few = absurd (omega (arith, told, few))
+      go (Some n) k told few = ap Some told
+
+  visible_complete : (place variable : ℕ) → IsVisible f place variable
+      → IsPlaceNumber f place × (variable < length f.variables) × (cell (map variable_numbers f.variables) variable 1 ≡ cell (map place_numbers f.places) (place - 1) 2)
+  visible_complete zero variable is = absurd is
+  visible_complete (suc m) variable is =
+      let one_less : suc m - 1 ≡ m = omega arith in
+      let p = some_and (slice_get f.places m) _ is in
+      let v = some_and (slice_get f.variables variable) _ p.2 in
+      let there = slice_get_within f.places m p.0 p.1 in (
+        (omega arith, omega (arith, there)),
+        slice_get_within f.variables variable v.0 v.1,
+        rw (one_less, row_is variable_numbers f.variables variable v.0 v.1, row_is place_numbers f.places m p.0 p.1, v.2) refl,
+      )
+
+  -- The change of a number, with its variable.
+  change_sound : (change variable : ℕ) → (within 1 (length f.changes) change && cell (map change_numbers f.changes) (change - 1) 3 == variable) ≡ true
+      → (c : Change) × (numbered f.changes change ≡ Some c) × (c.variable ≡ variable) × (cell (map change_numbers f.changes) (change - 1) 1 ≡ kind_number c.kind)
+  change_sound zero variable kept = absurd cc
+  change_sound (suc m) variable kept =
+      let one_less : suc m - 1 ≡ m = omega arith in
+      let parts = and_parts (within 1 (length f.changes) (suc m)) (cell (map change_numbers f.changes) (suc m - 1) 3 == variable) kept in
+      let there : m < length f.changes = grind (arith, nat_tests, parts.0) in
+      let c = get_or f.changes m no_change in
+      let at = slice_get-get_or f.changes m no_change there in
+      let its : (c.variable == variable) ≡ true = rw (one_less, row_is change_numbers f.changes m c at) at parts.1 in
+      (c, at, eqb-true c.variable variable its, rw (one_less, row_is change_numbers f.changes m c at) refl)
+
+  change_complete : (change variable : ℕ) (c : Change) → numbered f.changes change ≡ Some c → c.variable ≡ variable
+      → ((within 1 (length f.changes) change && cell (map change_numbers f.changes) (change - 1) 3 == variable) ≡ true) × (cell (map change_numbers f.changes) (change - 1) 1 ≡ kind_number c.kind)
+  change_complete zero variable c at same = absurd cc
+  change_complete (suc m) variable c at same =
+      let one_less : suc m - 1 ≡ m = omega arith in
+      let there = slice_get_within f.changes m c at in
+      rw (one_less, row_is change_numbers f.changes m c at) (and_from (within 1 (length f.changes) (suc m)) (c.variable == variable) (grind (arith, nat_tests, there)) (eq-eqb c.variable variable same), refl)
+
+  code_sound : (a : ℕ) → is_code_address (sections_of f) a ≡ true → IsCodeAddress f a
+  unfolding is_code_address
+  code_sound a kept = let k = rw (length-map f.code word_numbers) at kept in grind (arith, nat_tests, k)
+
+  code_complete : (a : ℕ) → IsCodeAddress f a → is_code_address (sections_of f) a ≡ true
+  unfolding is_code_address
+  code_complete a is = rw (length-map f.code word_numbers) (grind (arith, nat_tests, is))
+
+  place_sound : (n : ℕ) → is_place (sections_of f) n ≡ true → IsPlaceNumber f n
+  unfolding is_place
+  place_sound n kept = let k = rw (length-map f.places place_numbers) at kept in grind (arith, nat_tests, k)
+
+  place_complete : (n : ℕ) → IsPlaceNumber f n → is_place (sections_of f) n ≡ true
+  unfolding is_place
+  place_complete n is = rw (length-map f.places place_numbers) (grind (arith, nat_tests, is))
+
+  -- The writer of a change.
+  writer_sound : (kind : Kind) (writer : Option ℕ) → writer ≢ Some 0 → (if kind_number kind == 0 then unwrap_or writer 0 == 0 else is_code_address (sections_of f) (unwrap_or writer 0)) ≡ true → IsWriter f kind writer
+  unfolding code_start
+  writer_sound Removed None told kept = refl
+  writer_sound Removed (Some a) told kept = absurd (told (ap Some (eqb-true a 0 kept)))
+  writer_sound Moved None told kept = absurd (let a = code_sound 0 kept in omega (arith, a.1))
+  writer_sound Moved (Some a) told kept = ((λ e. absurd cc), code_sound a kept)
+  writer_sound Reused None told kept = absurd (let a = code_sound 0 kept in omega (arith, a.1))
+  writer_sound Reused (Some a) told kept = ((λ e. absurd cc), code_sound a kept)
+  writer_sound Replaced None told kept = absurd (let a = code_sound 0 kept in omega (arith, a.1))
+  writer_sound Replaced (Some a) told kept = ((λ e. absurd cc), code_sound a kept)
+
+  writer_complete : (kind : Kind) (writer : Option ℕ) → IsWriter f kind writer → (if kind_number kind == 0 then unwrap_or writer 0 == 0 else is_code_address (sections_of f) (unwrap_or writer 0)) ≡ true
+  writer_complete Removed None is = refl
+  writer_complete Removed (Some a) is = absurd (is.0 refl)
+  writer_complete Moved None is = absurd cc
+  writer_complete Moved (Some a) is = code_complete a is.1
+  writer_complete Reused None is = absurd cc
+  writer_complete Reused (Some a) is = code_complete a is.1
+  writer_complete Replaced None is = absurd cc
+  writer_complete Replaced (Some a) is = code_complete a is.1
+
+  -- What a verdict may name.
+  verdict_sound : (i place variable : ℕ) (v : Verdict) → get_or (map row_numbers f.rows) i [] ≡ place ∷ variable ∷ verdict_numbers v → TellsWriter v
+      → is_change (sections_of f) i ≡ true → is_node_or_start (sections_of f) i ≡ true → is_writer (sections_of f) i ≡ true → IsVerdict f variable v
+  unfolding is_change is_node_or_start is_writer
+  verdict_sound i place variable Home row told change node writer = tt
+  verdict_sound i place variable (Recovered n k) row told change node writer =
+      let c = change_sound n variable (rw (row, length-map f.changes change_numbers) at change) in
+      let there = rw (row, length-map f.nodes node_numbers) at node in
+      (rw c.1 c.2, grind (arith, nat_tests, there))
+  verdict_sound i place variable (Noncurrent n start w) row told change node writer =
+      let c = change_sound n variable (rw (row, length-map f.changes change_numbers) at change) in
+      let its = writer_sound c.0.kind w told (rw (row, c.3) at writer) in
+      (rw c.1 (c.2, its), place_sound start (rw row at node))
+  verdict_sound i place variable (Nonresident n start w) row told change node writer =
+      let c = change_sound n variable (rw (row, length-map f.changes change_numbers) at change) in
+      let its = writer_sound c.0.kind w told (rw (row, c.3) at writer) in
+      (rw c.1 (c.2, its), place_sound start (rw row at node))
+
+  verdict_complete : (i place variable : ℕ) (v : Verdict) → get_or (map row_numbers f.rows) i [] ≡ place ∷ variable ∷ verdict_numbers v → IsVerdict f variable v
+      → (is_change (sections_of f) i ≡ true) × (is_node_or_start (sections_of f) i ≡ true) × (is_writer (sections_of f) i ≡ true)
+  unfolding is_change is_node_or_start is_writer
+  verdict_complete i place variable Home row is = rw row (refl, refl, refl)
+  verdict_complete i place variable (Recovered n k) row is =
+      let c = some_and (numbered f.changes n) _ is.0 in
+      let its = change_complete n variable c.0 c.1 c.2 in
+      let there = is.1 in
+      rw (row, length-map f.changes change_numbers, length-map f.nodes node_numbers, its.0) (refl, grind (arith, nat_tests, there), refl)
+  verdict_complete i place variable (Noncurrent n start w) row is =
+      let c = some_and (numbered f.changes n) _ is.0 in
+      let its = change_complete n variable c.0 c.1 c.2.0 in
+      let writer = writer_complete c.0.kind w c.2.1 in
+      rw (row, length-map f.changes change_numbers, its.0, its.1, writer) (refl, place_complete start is.1, refl)
+  verdict_complete i place variable (Nonresident n start w) row is =
+      let c = some_and (numbered f.changes n) _ is.0 in
+      let its = change_complete n variable c.0 c.1 c.2.0 in
+      let writer = writer_complete c.0.kind w c.2.1 in
+      rw (row, length-map f.changes change_numbers, its.0, its.1, writer) (refl, place_complete start is.1, refl)
+
+  verdict_known : (v : Verdict) → nat_le (get_or (verdict_numbers v) 0 0) 3 ≡ true
+  verdict_known Home = refl
+  verdict_known (Recovered change node) = refl
+  verdict_known (Noncurrent change start writer) = refl
+  verdict_known (Nonresident change start writer) = refl
+
+  one_sound : (i : ℕ) (r : VisibleRow) → slice_get f.rows i ≡ Some r → length f.functions < no_function → PlaceRules f → TellsWriter r.verdict → AllTrue (row_tests (sections_of f) i)
+      → IsVisible f r.place r.variable × IsVerdict f r.variable r.verdict
+  unfolding is_visible
+  one_sound i r at few rules told kept =
+      let row = row_is row_numbers f.rows i r at in
+      let place = place_sound r.place (rw row at (and_parts (is_place (sections_of f) (cell (map row_numbers f.rows) i 0)) (is_not_below (map row_numbers f.rows) 0 i) kept.0).0) in
+      let visible = and_parts (nat_lt r.variable (length f.variables) && cell (map variable_numbers f.variables) r.variable 1 == cell (map place_numbers f.places) (r.place - 1) 2) (is_pair_above (map row_numbers f.rows) i) (rw (row, length-map f.variables variable_numbers) at kept.1.0) in
+      let parts = and_parts (nat_lt r.variable (length f.variables)) (cell (map variable_numbers f.variables) r.variable 1 == cell (map place_numbers f.places) (r.place - 1) 2) visible.0 in
+      let there : r.variable < length f.variables = grind (arith, nat_tests, parts.0) in (
+        visible_sound r.place r.variable few rules place there (eqb-true _ _ parts.1),
+        verdict_sound i r.place r.variable r.verdict row told kept.1.1.1.0 kept.1.1.1.1.0 kept.1.1.1.1.1.0,
+      )
+
+  next_sound : (j : ℕ) (r s : VisibleRow) → slice_get f.rows j ≡ Some r → slice_get f.rows (suc j) ≡ Some s → AllTrue (row_tests (sections_of f) (suc j)) → IsPairBefore r.place r.variable s.place s.variable
+  unfolding is_visible is_pair_above
+  next_sound j r s at_r at_s kept =
+      let k = rw (row_is row_numbers f.rows j r at_r, row_is row_numbers f.rows (suc j) s at_s) at kept.1.0 in
+      grind (arith, nat_tests, k)
+
+  pub rows_sound : length f.functions < no_function → PlaceRules f → TellsWriters f → RowsKept → RowRules f
+  rows_sound few rules told kept =
+      let own = λ (i : ℕ) (r : VisibleRow) (at : slice_get f.rows i ≡ Some r). one_sound i r at few rules (each_at _ f.rows i r told at) (kept i (slice_get_within f.rows i r at)) in
+      record {
+        visible = each_from _ f.rows (λ i r at. (own i r at).0);
+        verdicts = each_from _ f.rows (λ i r at. (own i r at).1);
+        ascend = next_from _ f.rows (λ j r s at_r at_s. next_sound j r s at_r at_s (kept (suc j) (slice_get_within f.rows (suc j) s at_s)));
+      }
+
+  above_complete : (i : ℕ) (r : VisibleRow) → slice_get f.rows i ≡ Some r → RowRules f → (is_not_below (map row_numbers f.rows) 0 i ≡ true) × (is_pair_above (map row_numbers f.rows) i ≡ true)
+  unfolding is_not_below is_pair_above
+  above_complete zero r at rules = (grind (arith, nat_tests), refl)
+  above_complete (suc j) r at rules =
+      let before = before_at f.rows j r at in
+      let above = next_at _ f.rows rules.ascend j before.0 r before.1 at in
+      rw (row_is row_numbers f.rows j before.0 before.1, row_is row_numbers f.rows (suc j) r at) (grind (arith, nat_tests, above), grind (arith, nat_tests, above))
+
+  one_complete : (i : ℕ) (r : VisibleRow) → slice_get f.rows i ≡ Some r → RowRules f → AllTrue (row_tests (sections_of f) i)
+  unfolding is_visible
+  one_complete i r at rules =
+      let row = row_is row_numbers f.rows i r at in
+      let visible = visible_complete r.place r.variable (each_at _ f.rows i r rules.visible at) in
+      let verdict = verdict_complete i r.place r.variable r.verdict row (each_at _ f.rows i r rules.verdicts at) in
+      let above = above_complete i r at rules in
+      let place = place_complete r.place visible.0 in
+      let there = visible.1 in
+      let known : nat_le (cell (map row_numbers f.rows) i 2) 3 ≡ true = rw row (verdict_known r.verdict) in
+      let first : (is_place (sections_of f) (cell (map row_numbers f.rows) i 0) && is_not_below (map row_numbers f.rows) 0 i) ≡ true = and_from _ _ (rw row place) above.0 in
+      let second : (nat_lt (cell (map row_numbers f.rows) i 1) (length (map variable_numbers f.variables)) && cell (map variable_numbers f.variables) (cell (map row_numbers f.rows) i 1) 1 == cell (map place_numbers f.places) (cell (map row_numbers f.rows) i 0 - 1) 2) ≡ true =
+      rw (row, length-map f.variables variable_numbers) (and_from (nat_lt r.variable (length f.variables)) (cell (map variable_numbers f.variables) r.variable 1 == cell (map place_numbers f.places) (r.place - 1) 2) (grind (arith, nat_tests, there)) (eq-eqb _ _ visible.2)) in
+      (first, (and_from _ _ second above.1, (known, (verdict.0, (verdict.1, (verdict.2, tt))))))
+
+  pub rows_complete : RowRules f → RowsKept
+  rows_complete rules = at_each f.rows _ (λ i r at. one_complete i r at rules)
