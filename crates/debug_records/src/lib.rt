@@ -2,7 +2,9 @@
 #![tactic(auto)]
 
 pub mod code;
+pub mod source;
 #[cfg(test)]
 mod tests;
 
 pub use code::{Code, Letter, codes_in_use};
+pub use source::{SourceErr, Spot};
