@@ -1,0 +1,19 @@
+//! The tokens of a C source.
+#![tactic(auto)]
+
+mod bytes;
+mod comment;
+mod constant;
+mod context;
+mod directive;
+mod escape;
+mod fault;
+mod item;
+mod literal;
+mod punctuator;
+mod text;
+mod token;
+mod word;
+
+pub use text::tokens;
+pub use token::{Constant, Header, Keyword, Kind, Punctuator, Token};
