@@ -1,5 +1,5 @@
 -- The first byte of a word and of a constant.
-use Rattle.std.proofs.Common.{◌≡◌, ℕ, ◌+◌, Bool, true, false, ◌&&◌, ◌||◌, eqb, List, get_or, refl, ap}
+use Rattle.std.proofs.Common.{◌≡◌, ℕ, ◌+◌, Bool, true, false, ◌&&◌, ◌||◌, eqb, List, get_or, refl}
 use Rattle.c_token.specs.Bytes.{is_letter, is_digit, is_word_byte}
 use Rattle.c_token.specs.Constants.{is_number_byte}
 use Rattle.c_token.specs.Items.{begins_constant}

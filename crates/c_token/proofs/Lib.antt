@@ -4,4 +4,5 @@ pub mod Ascii
 pub mod Steps
 pub mod Firsts
 pub mod TextSteps
-pub mod Laws
+pub mod Readings
+pub mod Longest

@@ -11,3 +11,4 @@ pub mod Includes
 pub mod Items
 pub mod Texts
 pub mod Spells
+pub mod Laws

@@ -6,7 +6,7 @@ use Rattle.c_token.specs.Items.{behind, item_at, item_view}
 use Rattle.c_token.specs.Lexemes.{Lexeme, lexeme, lexemes, word_view}
 use Rattle.c_token.specs.Spells.{Takes, Spells, too_long}
 use Rattle.c_token.specs.Texts.{line_of, tokens_at, located, with_tokens, tokens_from, tokens_of}
-use Rattle.c_token.proofs.Laws.{one_more, one_later, at_end, located_ok, refused_there, fails_there}
+use Rattle.c_token.proofs.Readings.{one_more, one_later, at_end, located_ok, refused_there, fails_there}
 use Rattle.c_token.proofs.TextSteps.{token_view, goes_on, begins_with, line_on, no_token, few_feeds}
 use Rattle.c_token.proofs.TextSteps as steps
 use Rattle.c_token.proofs.text.tokens.Goals as goal

@@ -12,8 +12,11 @@ use Rattle.c_token.specs.Items.{Piece, item_at, behind}
 use Rattle.c_token.specs.Lexemes.{Lexeme}
 use Rattle.c_token.specs.Reading.{◌>>=◌}
 use Rattle.c_token.specs.Texts.{line_of, tokens_at, located, with_tokens, tokens_from, tokens_of, Fails}
-use Rattle.c_token.specs.Spells.{Takes, SpellsFrom, nothing, piece, FaultsFrom, here, later, Spells, Breaks, first, IsRefusal}
-use Rattle.c_token.proofs.TextSteps.{one_piece, one_fault, breaks_off}
+use Rattle.c_token.specs.Spells.{Takes, SpellsFrom, nothing, piece, FaultsFrom, here, later, Spells, Breaks, too_long, first, IsRefusal}
+use Rattle.c_token.specs.Laws.{SpelledIsRead, BreachIsTold}
+use Rattle.c_token.proofs.TextSteps as steps
+use Rattle.c_token.proofs.TextSteps.{one_piece, one_fault, breaks_off, begins_with}
+use Rattle.std.proofs.lemmas.Bool.{le-ltb}
 
 -- what is spelled so is read
 pub spelled_is_read : {text : List ℕ} {at : ℕ} {c : Context} {ts : List Lexeme} → SpellsFrom text at c ts → tokens_from text 0 at c (drop at text) ≡ Ok ts
@@ -69,3 +72,11 @@ pub one_later : (text : List ℕ) (at end : ℕ) (c : Context) (p : Piece) → T
     → ((f : Fault) → FaultsFrom text at c f → FaultsFrom text 0 start f)
     → (f : Fault) → FaultsFrom text end (behind c p) f → FaultsFrom text 0 start f
 one_later text at end c p t so_far f s = so_far f (later t s)
+
+pub spells_reads : SpelledIsRead
+unfolding tokens_of
+spells_reads text tokens s = let short : ltb 1048576 (length text) ≡ false = le-ltb 1048576 (length text) s.fits in rw short (spelled_is_read s.from_start)
+
+pub breach_told : BreachIsTold
+breach_told text code line (too_long lt) = steps.too_long text lt
+breach_told text code line (first {f = f} fits s) = sym (begins_with text fits) ∙ ap (with_tokens []) (fault_is_told s)
