@@ -1,7 +1,7 @@
 //! What images say, and what altered and truncated bytes are refused for.
 
 use crate::tests::samples::{LARGE, N, SMALL};
-use crate::{ElementType, ImageErr, Mode, Storage, Verdict, read, write};
+use crate::{ElementType, ImageErr, Mode, Storage, Variable, read, write};
 use debug_records::Code;
 use std::alloc::{AllocError, Global};
 use std::test::Fail;
@@ -37,15 +37,20 @@ fn the_small_image_says_what_it_was_made_of(rt: HostRuntime) -> Result<(), Fail>
     let image = read(rt.alloc(), SMALL.as_slice())?;
     assert_eq!(rt; image.mode, Mode::Slots);
     assert_eq!(rt; image.code.len(), N);
-    assert_eq!(rt; image.functions[0].frame, 16);
     let positions = [23, 38, 43, 50, 63];
     assert_eq!(rt; image.places.len(), positions.len());
     for (place, position) in image.places.iter().zip(positions.iter()) {
         assert_eq!(rt; place.position, *position);
     }
-    assert_eq!(rt; image.variables[0].element, ElementType::I32);
-    assert_eq!(rt; image.variables[0].storage, Storage::Slot(4));
-    assert_eq!(rt; image.rows[0].verdict, Verdict::Home);
+    let variable = Variable {
+        name_length: 1,
+        function: Some(0),
+        position: 38,
+        element: ElementType::I32,
+        storage: Storage::Slot(4),
+        count: 0,
+    };
+    assert_eq!(rt; image.variables.as_slice(), [variable].as_slice());
     assert_eq!(rt; image.names.as_slice(), b"mainx".as_slice());
     Ok(())
 }
