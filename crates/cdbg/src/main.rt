@@ -38,11 +38,11 @@ fn status_of(rt: &HostRuntime) -> Status {
 }
 
 /// Says on standard error why the session was not done.
-fn tell(rt: &HostRuntime, status: Status) {
-    if status == Status::Done {
+fn tell(rt: &HostRuntime, status: &Status) {
+    if *status == Status::Done {
         return;
     }
-    let _ = match fault_text(rt.alloc(), &status) {
+    let _ = match fault_text(rt.alloc(), status) {
         Ok(text) => eprintln!(rt; "{text}"),
         Err(_) => eprintln!(rt; "cdbg: out of memory"),
     };
@@ -50,6 +50,6 @@ fn tell(rt: &HostRuntime, status: Status) {
 
 fn main(rt: HostRuntime) -> ExitCode {
     let status = status_of(&rt);
-    tell(&rt, status);
+    tell(&rt, &status);
     ExitCode::from(status.number())
 }

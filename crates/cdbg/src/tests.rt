@@ -215,32 +215,115 @@ fn the_image_has_the_size_of_its_parts(rt: HostRuntime) -> Result<(), Fail> {
     Ok(())
 }
 
+/// The status of a session with these words, which stand between spaces, over an empty shelf.
+fn status_of_words(alloc: Global, text: &str) -> Result<Status, AllocError> {
+    let mut shelf = MemShelf::new(alloc, [].as_slice())?;
+    let mut sink = MemSink::new(alloc, [].as_slice())?;
+    let mut words = Vec::new(alloc);
+    for word in text.split(' ') {
+        words.push(String::from_str(alloc, word)?)?;
+    }
+    Ok(session(alloc, &words, &mut shelf, &mut sink))
+}
+
 #[test]
 fn other_words_are_no_job(rt: HostRuntime) -> Result<(), Fail> {
+    // A job that is served would answer `ReadFault` over an empty shelf.
+    let texts = [
+        "cdbg",
+        "cdbg debug --passes none --homes slots p.c s i",
+        "cdbg debug --passes none --homes slots p.c s -i image",
+        "cdbg debug --passes none --homes slots p.c s - image",
+        "cdbg debug --passes none --homes slots -- p.c s i image",
+        "cdbg debug --passes none --homes slots --homes=slots p.c s i image",
+        "cdbg debug --passes none --homes slots --limit 1000000001 p.c s i image",
+        "cdbg debug --passes none --homes slots --limit=-5 p.c s i image",
+        "cdbg debug --passes none --homes slots --limit p.c s i image",
+        "cdbg debug --passes none p.c s i image",
+        "cdbg debug --homes slots p.c s i image",
+        "cdbg debug --passes copy,nosuch --homes slots p.c s i image",
+        "cdbg compile --passes none --homes slots p.c image",
+    ];
+    for text in texts {
+        assert_eq!(rt; status_of_words(rt.alloc(), text)?, Status::Usage);
+    }
+    let status = status_of_words(rt.alloc(), "cdbg help")?;
+    assert_eq!(rt; status.number(), 2);
+    assert_eq!(rt; fault_text(rt.alloc(), &status)?.as_str(), "cdbg: usage");
+    let served = "cdbg debug --passes=none p.c s --limit=0001000000000 i image --homes=slots";
+    assert_eq!(rt; status_of_words(rt.alloc(), served)?, Status::ReadFault);
+    Ok(())
+}
+
+#[test]
+fn options_stand_in_any_order_and_the_limit_is_kept(rt: HostRuntime) -> Result<(), Fail> {
     let mut shelf = shelf(rt.alloc(), PROGRAM, SCRIPT, [].as_slice())?;
     let mut sink = MemSink::new(rt.alloc(), [].as_slice())?;
-    let none = words(rt.alloc(), ["cdbg"].as_slice())?;
-    assert_eq!(rt;
-        session(rt.alloc(), &none, &mut shelf, &mut sink),
-        Status::Usage
-    );
     let texts = [
         "cdbg",
         "debug",
-        "--passes",
-        "none",
-        "--homes",
-        "slots",
         "program.c",
+        "--limit=5000",
         "script",
-        "-input",
+        "--homes=slots",
+        "input",
         "image",
+        "--passes=none",
     ];
-    let dash = words(rt.alloc(), texts.as_slice())?;
-    let status = session(rt.alloc(), &dash, &mut shelf, &mut sink);
-    assert_eq!(rt; status, Status::Usage);
-    assert_eq!(rt; status.number(), 2);
-    assert_eq!(rt; fault_text(rt.alloc(), &status)?.as_str(), "cdbg: usage");
+    let reordered = words(rt.alloc(), texts.as_slice())?;
+    assert_eq!(rt;
+        session(rt.alloc(), &reordered, &mut shelf, &mut sink),
+        Status::Done
+    );
+    assert_eq!(rt; sink.bytes(), TRANSCRIPT);
+
+    shelf.place(rt.alloc(), "script", b"step\n".as_slice())?;
+    let mut stopped = MemSink::new(rt.alloc(), [].as_slice())?;
+    let mut no_instruction = job(rt.alloc())?;
+    no_instruction.push(String::from_str(rt.alloc(), "--limit")?)?;
+    no_instruction.push(String::from_str(rt.alloc(), "0")?)?;
+    assert_eq!(rt;
+        session(rt.alloc(), &no_instruction, &mut shelf, &mut stopped),
+        Status::Done
+    );
+    assert_eq!(rt; stopped.bytes(), b"limit 0\n".as_slice());
+    Ok(())
+}
+
+/// So many spaces.
+fn spaces(alloc: Global, count: usize) -> Result<Vec<u8>, AllocError> {
+    let mut text = Vec::new(alloc);
+    for _ in 0..count {
+        text.push(b' ')?;
+    }
+    Ok(text)
+}
+
+#[test]
+fn a_script_or_an_input_may_be_too_long(rt: HostRuntime) -> Result<(), Fail> {
+    let script = spaces(rt.alloc(), 1048577)?;
+    let mut shelf = shelf(rt.alloc(), b"int".as_slice(), &script, [3].as_slice())?;
+    let mut sink = MemSink::new(rt.alloc(), [].as_slice())?;
+    let words = job(rt.alloc())?;
+    // The third load would fail: that of the input does not come.
+    let status = session(rt.alloc(), &words, &mut shelf, &mut sink);
+    assert_eq!(rt; status.number(), 9);
+    assert_eq!(rt;
+        fault_text(rt.alloc(), &status)?.as_str(),
+        "cdbg: too long script"
+    );
+    assert_eq!(rt; sink.bytes(), b"".as_slice());
+    assert!(rt; shelf.held("image").is_none());
+
+    let mut larger = MemShelf::new(rt.alloc(), [].as_slice())?;
+    larger.place(rt.alloc(), "program.c", b"int".as_slice())?;
+    larger.place(rt.alloc(), "script", b"jump 3\n".as_slice())?;
+    larger.place(rt.alloc(), "input", &spaces(rt.alloc(), 16777217)?)?;
+    let status = session(rt.alloc(), &words, &mut larger, &mut sink);
+    assert_eq!(rt;
+        fault_text(rt.alloc(), &status)?.as_str(),
+        "cdbg: too long input"
+    );
     Ok(())
 }
 

@@ -1,10 +1,10 @@
 -- How a session ends: the number that the program ends with, and the message.
-use Rattle.std.specs.Prelude.{ℕ, List, [], ◌++◌, codes}
+use Rattle.std.specs.Prelude.{ℕ, List, [], ◌++◌, codes, string_bytes}
 use Rattle.debug_records.specs.declared.code.Code.{Code}
 use Rattle.debug_records.specs.Code.{code_text}
 use Rattle.line_form.specs.Decimal.{decimal}
 use Rattle.line_form.specs.declared.status.Status.{Status}
-use Rattle.line_form.specs.declared.status.Status.TheVariants.{Done, Usage, SourceRefused, ScriptRefused, ReadFault, WriteFault, NoMemory}
+use Rattle.line_form.specs.declared.status.Status.TheVariants.{Done, Usage, SourceRefused, ScriptRefused, ReadFault, WriteFault, NoMemory, TooLong}
 
 -- the number that the program ends with
 abbrev pub status_number : Status → ℕ
@@ -15,6 +15,7 @@ status_number (ScriptRefused code line) = 4
 status_number ReadFault = 5
 status_number WriteFault = 6
 status_number NoMemory = 7
+status_number (TooLong name) = 9
 
 -- what was refused, the code, and the line, as `cdbg: source refused E29 line 1`
 abbrev pub refusal_text : List ℕ → Code → ℕ → List ℕ
@@ -29,3 +30,4 @@ fault_text (ScriptRefused code line) = refusal_text (codes "script") code line
 fault_text ReadFault = codes "cdbg: read failed"
 fault_text WriteFault = codes "cdbg: write failed"
 fault_text NoMemory = codes "cdbg: out of memory"
+fault_text (TooLong name) = codes "cdbg: too long " ++ string_bytes name

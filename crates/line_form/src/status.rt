@@ -7,7 +7,7 @@ use debug_records::Code;
 use std::alloc::{AllocError, Global};
 
 /// How a session ends.
-#[derive(Clone, Copy, Debug, PartialEq, Eq)]
+#[derive(Debug, Drop, PartialEq, Eq)]
 pub enum Status {
     /// The job was done to its end.
     Done,
@@ -23,6 +23,8 @@ pub enum Status {
     WriteFault,
     /// Memory was wanting.
     NoMemory,
+    /// The text of this name is longer than its limit.
+    TooLong(String),
 }
 
 impl Status {
@@ -38,6 +40,7 @@ impl Status {
             Status::ReadFault => 5,
             Status::WriteFault => 6,
             Status::NoMemory => 7,
+            Status::TooLong(_) => 9,
         }
     }
 }
@@ -58,5 +61,6 @@ pub fn fault_text(alloc: Global, status: &Status) -> Result<String, AllocError>
         Status::ReadFault => String::from_str(alloc, "cdbg: read failed"),
         Status::WriteFault => String::from_str(alloc, "cdbg: write failed"),
         Status::NoMemory => String::from_str(alloc, "cdbg: out of memory"),
+        Status::TooLong(name) => format!(in alloc; "cdbg: too long {name}"),
     }
 }

@@ -153,6 +153,11 @@ fn statuses_have_numbers_and_texts(rt: HostRuntime) -> Result<(), Fail> {
         (Status::ReadFault, 5, "cdbg: read failed"),
         (Status::WriteFault, 6, "cdbg: write failed"),
         (Status::NoMemory, 7, "cdbg: out of memory"),
+        (
+            Status::TooLong(String::from_str(rt.alloc(), "a script")?),
+            9,
+            "cdbg: too long a script",
+        ),
     ];
     for (status, number, text) in cases {
         assert_eq!(rt; status.number(), number);

@@ -1,4 +1,5 @@
-pub mod TenWords
 pub mod Parts
 pub mod Orders
 pub mod Sessions
+pub mod AskedLemmas
+pub mod Completeness

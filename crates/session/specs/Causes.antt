@@ -1,12 +1,13 @@
 -- What a refusal says of the texts, and what comes behind it.
-use Rattle.std.specs.Prelude.{◌≡◌, ℕ, List, Option, Some, None}
+use Rattle.std.specs.Prelude.{◌≡◌, ℕ, List, Option}
 use Rattle.debug_records.specs.declared.code.Code.{Code}
 use Rattle.debug_records.specs.declared.code.TheConstants.Code.{UNEXPECTED_KEYWORD, UNKNOWN_COMMAND}
 use Rattle.line_form.specs.declared.status.Status.{Status}
-use Rattle.line_form.specs.declared.status.Status.TheVariants.{Done, Usage, SourceRefused, ScriptRefused, ReadFault, WriteFault, NoMemory}
+use Rattle.line_form.specs.declared.status.Status.TheVariants.{Done, Usage, SourceRefused, ScriptRefused, ReadFault, WriteFault, NoMemory, TooLong}
 use Rattle.script_form.specs.Script.{Order, IsScript}
 use Rattle.thin_form.specs.Tree.{ProgramTree}
 use Rattle.thin_form.specs.Thin.{IsThin}
+use Rattle.session.specs.Limits.{Holds}
 
 -- the text is the source of a program
 abbrev pub IsSource : List ℕ → Type 0
@@ -15,11 +16,6 @@ IsSource text = (p : ProgramTree) × IsThin text p
 -- the text is a script
 abbrev pub IsScriptText : List ℕ → Type 0
 IsScriptText text = (os : List Order) × IsScript text os
-
--- the name holds a text of which this is true
-abbrev pub Holds : Option (List ℕ) → (List ℕ → Type 0) → Type 0
-Holds None P = ⊥
-Holds (Some text) P = P text
 
 -- The source is refused where it is of no program, with E11 and line 1.
 pub record SourceIsRefused (held : Option (List ℕ)) (c : Code) (l : ℕ) : Type 0 where
@@ -48,6 +44,18 @@ IsEarly (ScriptRefused code line) = Unit {0}
 IsEarly ReadFault = Unit {0}
 IsEarly WriteFault = ⊥
 IsEarly NoMemory = ⊥
+IsEarly (TooLong name) = Unit {0}
+
+-- the session came to the source, with all texts loaded
+abbrev pub HasLoaded : Status → Type 0
+HasLoaded Done = Unit {0}
+HasLoaded Usage = ⊥
+HasLoaded (SourceRefused code line) = Unit {0}
+HasLoaded (ScriptRefused code line) = Unit {0}
+HasLoaded ReadFault = ⊥
+HasLoaded WriteFault = Unit {0}
+HasLoaded NoMemory = ⊥
+HasLoaded (TooLong name) = ⊥
 
 -- the session was cut off
 abbrev pub IsCut : Status → Type 0
@@ -58,3 +66,4 @@ IsCut (ScriptRefused code line) = ⊥
 IsCut ReadFault = ⊥
 IsCut WriteFault = Unit {0}
 IsCut NoMemory = Unit {0}
+IsCut (TooLong name) = ⊥

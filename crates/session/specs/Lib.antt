@@ -1,5 +1,5 @@
-pub mod Words
-pub mod Given
+pub mod Served
+pub mod Limits
 pub mod Causes
 pub mod Outcome
 pub mod Stages

@@ -1,6 +1,5 @@
 -- What a session leaves behind.
 use Rattle.std.specs.Prelude.{◌≡◌, ℕ, ◌⊎◌, List, ◌++◌, Option, Some}
-use Rattle.outside.specs.Held.{Loads}
 use Rattle.outside.specs.Taken.{TakesPart}
 use Rattle.image_form.specs.Form.{Form}
 use Rattle.image_form.specs.Rules.{IsImage}
@@ -11,51 +10,40 @@ use Rattle.stop_engine.specs.Transcript.{transcript_bytes}
 use Rattle.thin_form.specs.Tree.{ProgramTree}
 use Rattle.thin_form.specs.Thin.{IsThin}
 use Rattle.thin_build.specs.Truthful.{Truthful}
-use Rattle.session.specs.Words.{Names}
-
--- how many instructions a session executes at most: not to be computed with
-unfoldable pub instruction_limit : ℕ
-instruction_limit = 10000000
-
--- how many bytes of the input are read at most, but for one
-unfoldable pub input_limit : ℕ
-input_limit = 16777216
-
--- What a shelf holds, by name.
-abbrev pub Held : Type 0
-Held = List ℕ → Option (List ℕ)
+use Rattle.command_line.specs.Job.{DebugGiven}
+use Rattle.session.specs.Limits.{Held}
 
 -- From the source, the script and the input that the shelf held before, the session saved an image; it is truthful to the source,
--- and its transcript is made of it alone, by the script, the input and the limit.
-pub record IsPlayed (held held' : Held) (names : Names) (printed : List ℕ) : Type 0 where
+-- and its transcript is made of it alone, by the script, the input and the limit that was asked for.
+pub record IsPlayed (held held' : Held) (asked : DebugGiven) (printed : List ℕ) : Type 0 where
   pub source : List ℕ
   pub program : ProgramTree
-  pub source_held : held names.source ≡ Some source
+  pub source_held : held asked.source ≡ Some source
   pub source_is : IsThin source program
   pub script : List ℕ
   pub orders : List Order
-  pub script_held : held names.script ≡ Some script
+  pub script_held : held asked.script ≡ Some script
   pub script_is : IsScript script orders
   pub input : List ℕ
-  pub input_loaded : Loads (held names.input) input_limit input
+  pub input_held : held asked.input ≡ Some input
   pub image : Form
   pub image_is : IsImage image
   pub image_plain : IsPlain image
-  pub image_held : held' names.image ≡ Some (spelling image)
+  pub image_held : held' asked.image ≡ Some (spelling image)
   pub truthful : Truthful program image input
-  pub printed_is : printed ≡ transcript_bytes image orders input instruction_limit
+  pub printed_is : printed ≡ transcript_bytes image orders input asked.limit
 
 -- the sink took the whole transcript
-pub record IsDone (held held' : Held) (names : Names) (taken taken' : List ℕ) : Type 0 where
+pub record IsDone (held held' : Held) (asked : DebugGiven) (taken taken' : List ℕ) : Type 0 where
   pub printed : List ℕ
-  pub played : IsPlayed held held' names printed
+  pub played : IsPlayed held held' asked printed
   pub whole : taken' ≡ taken ++ printed
 
 -- the sink took nothing, or the first part of the transcript
-pub record IsCutOff (held held' : Held) (names : Names) (taken taken' : List ℕ) : Type 0 where
+pub record IsCutOff (held held' : Held) (asked : DebugGiven) (taken taken' : List ℕ) : Type 0 where
   pub printed : List ℕ
-  pub played : IsPlayed held held' names printed
+  pub played : IsPlayed held held' asked printed
   pub part : TakesPart printed taken taken'
 
-abbrev pub TookPart : (held held' : Held) → Names → (taken taken' : List ℕ) → Type 0
-TookPart held held' names taken taken' = (taken' ≡ taken) ⊎ IsCutOff held held' names taken taken'
+abbrev pub TookPart : (held held' : Held) → DebugGiven → (taken taken' : List ℕ) → Type 0
+TookPart held held' asked taken taken' = (taken' ≡ taken) ⊎ IsCutOff held held' asked taken taken'

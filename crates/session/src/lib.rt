@@ -1,11 +1,11 @@
 //! The top call.
 #![tactic(auto)]
 
+mod asking;
 mod debugging;
 mod loading;
 mod playing;
 mod preparing;
 mod top;
-mod words;
 
 pub use top::session;

@@ -1,11 +1,12 @@
 //! The texts of a session.
 
-ghost use Rattle.std.specs.Prelude.{◌≡◌, ◌≢◌, ℕ, ◌<◌, true, List, Some, IfOk, OnOk};
+ghost use Rattle.std.specs.Prelude.{◌≡◌, ◌≢◌, ℕ, ◌<◌, ◌≤◌, true, List, Some, IfOk, OnOk, length};
 ghost use Rattle.outside.specs.Held.{Loads};
-ghost use Rattle.session.specs.Outcome.{input_limit};
-ghost use Rattle.session.specs.Stages.{LoadEnds, WriteEnds};
+ghost use Rattle.command_line.specs.Job.{debug_given};
+ghost use Rattle.session.specs.Limits.{IsBeyond, IsTooLong, input_limit};
+ghost use Rattle.session.specs.Stages.{LoadEnds, SaysTooLong, WriteEnds};
 
-use crate::words::TextNames;
+use command_line::Debug;
 use line_form::Status;
 use outside::{Shelf, ShelfErr};
 use std::alloc::Global;
@@ -13,7 +14,7 @@ use std::alloc::Global;
 /// How many bytes a source or a script has at most.
 const TEXT_LIMIT: u32 = 1048576;
 
-/// The bytes of the three texts. Of a text that is longer than its limit there is one byte more than that.
+/// The bytes of the three texts. Of a source that is longer than its limit there is one byte more than that.
 #[derive(Drop)]
 pub struct Texts {
     pub source: Vec<u8>,
@@ -21,8 +22,8 @@ pub struct Texts {
     pub input: Vec<u8>,
 }
 
-// How many bytes of the input are read at most, but for one.
-#[tactic(auto, unfolding(crate::specs::Outcome::input_limit))]
+// How many bytes an input has at most.
+#[tactic(auto, unfolding(crate::specs::Limits::input_limit))]
 fn most_input() -> u32
     ensures is { result ≡ input_limit }
     ensures small { result < 4294967295 }
@@ -37,7 +38,7 @@ fn load_text<S: Shelf>(
     limit: u32,
 ) -> Result<Vec<u8>, Status>
     requires { limit < 4294967295 }
-    ensures ends { LoadEnds result (S.load_count shelf.old) (S.load_count shelf.new) }
+    ensures ends { LoadEnds result (S.load_count shelf.old) (S.load_count shelf.new) (λ _. ⊥) }
     ensures saves { S.save_count shelf.new ≡ S.save_count shelf.old }
     ensures telling { S.tells shelf.new ≡ S.tells shelf.old }
     ensures same { (n : List ℕ) → S.tells shelf.old ≡ true → S.held shelf.new n ≡ S.held shelf.old n }
@@ -50,23 +51,53 @@ fn load_text<S: Shelf>(
     }
 }
 
-/// Loads the source, the script and the input, in this order.
-pub fn load_texts<S: Shelf>(
+// Says that the text of this name is too long.
+fn too_long(alloc: Global, name: &str) -> Status
+    ensures { SaysTooLong result name.now }
+{
+    match String::from_str(alloc, name) {
+        Ok(name) => Status::TooLong(name),
+        Err(_) => Status::NoMemory,
+    }
+}
+
+// Loads a text that has at most so many bytes.
+fn load_whole<S: Shelf>(
     alloc: Global,
     shelf: &mut S,
-    names: TextNames<'_>,
-) -> Result<Texts, Status>
-    ensures ends { LoadEnds result (S.load_count shelf.old) (S.load_count shelf.new) }
+    name: &str,
+    limit: u32,
+) -> Result<Vec<u8>, Status>
+    requires { limit < 4294967295 }
+    ensures ends { LoadEnds result (S.load_count shelf.old) (S.load_count shelf.new) (λ said. (said ≡ name.now) × (S.tells shelf.old ≡ true → IsBeyond limit (S.held shelf.old name.now))) }
     ensures saves { S.save_count shelf.new ≡ S.save_count shelf.old }
     ensures telling { S.tells shelf.new ≡ S.tells shelf.old }
     ensures same { (n : List ℕ) → S.tells shelf.old ≡ true → S.held shelf.new n ≡ S.held shelf.old n }
-    ensures source { IfOk result (λ t. S.tells shelf.old ≡ true → Loads (S.held shelf.old names.entry.source.now) 1048576 t.source.items) }
-    ensures script { IfOk result (λ t. S.tells shelf.old ≡ true → Loads (S.held shelf.old names.entry.script.now) 1048576 t.script.items) }
-    ensures input { IfOk result (λ t. S.tells shelf.old ≡ true → Loads (S.held shelf.old names.entry.input.now) input_limit t.input.items) }
+    ensures whole { IfOk result (λ v. S.tells shelf.old ≡ true → S.held shelf.old name.now ≡ Some v.items) }
+    ensures within { IfOk result (λ v. length v.items ≤ limit) }
 {
-    let source = load_text(alloc, shelf, names.source, TEXT_LIMIT)?;
-    let script = load_text(alloc, shelf, names.script, TEXT_LIMIT)?;
-    let input = load_text(alloc, shelf, names.input, most_input())?;
+    let text = load_text(alloc, shelf, name, limit)?;
+    if text.len() > limit as usize {
+        return Err(too_long(alloc, name));
+    }
+    Ok(text)
+}
+
+/// Loads the source, the script and the input, in this order. The script and the input are refused directly where they are too long.
+pub fn load_texts<S: Shelf>(alloc: Global, shelf: &mut S, job: &Debug) -> Result<Texts, Status>
+    ensures ends { LoadEnds result (S.load_count shelf.old) (S.load_count shelf.new) (λ said. S.tells shelf.old ≡ true → IsTooLong (S.held shelf.old) (debug_given job.now) said) }
+    ensures saves { S.save_count shelf.new ≡ S.save_count shelf.old }
+    ensures telling { S.tells shelf.new ≡ S.tells shelf.old }
+    ensures same { (n : List ℕ) → S.tells shelf.old ≡ true → S.held shelf.new n ≡ S.held shelf.old n }
+    ensures source { IfOk result (λ t. S.tells shelf.old ≡ true → Loads (S.held shelf.old (debug_given job.now).source) 1048576 t.source.items) }
+    ensures script { IfOk result (λ t. S.tells shelf.old ≡ true → S.held shelf.old (debug_given job.now).script ≡ Some t.script.items) }
+    ensures input { IfOk result (λ t. S.tells shelf.old ≡ true → S.held shelf.old (debug_given job.now).input ≡ Some t.input.items) }
+    ensures script_within { IfOk result (λ t. length t.script.items ≤ 1048576) }
+    ensures input_within { IfOk result (λ t. length t.input.items ≤ input_limit) }
+{
+    let source = load_text(alloc, shelf, job.source.as_str(), TEXT_LIMIT)?;
+    let script = load_whole(alloc, shelf, job.script.as_str(), TEXT_LIMIT)?;
+    let input = load_whole(alloc, shelf, job.input.as_str(), most_input())?;
     Ok(Texts {
         source,
         script,

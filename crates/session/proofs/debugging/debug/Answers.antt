@@ -1,4 +1,4 @@
-use Rattle.std.proofs.Common.{◌≡◌, ℕ, List, ◌++◌, true, inl, inr, sym, ap, ◌∙◌, subst, Some}
+use Rattle.std.proofs.Common.{◌≡◌, ℕ, List, ◌++◌, true, inl, inr, sym, ap, ◌∙◌, subst, Some, rules}
 use Rattle.std.specs.List.{flat_map}
 use Rattle.image_form.specs.Form.{form}
 use Rattle.outside.specs.Held.{Loads}
@@ -7,7 +7,7 @@ use Rattle.line_form.specs.Lines.{line}
 use Rattle.script_form.specs.Script.{orders}
 use Rattle.stop_engine.specs.EngineState.{fresh_engine, lines_of}
 use Rattle.session.specs.declared.preparing.Prepared.{Prepared}
-use Rattle.session.specs.Given.{names_given}
+use Rattle.command_line.specs.Job.{debug_given}
 use Rattle.session.specs.Outcome.{IsPlayed}
 use Rattle.session.specs.Prepared.{IsPrepared}
 use Rattle.session.specs.Stages.{PrepareEnds}
@@ -17,34 +17,36 @@ use Rattle.session.proofs.debugging.debug.Goals as goal
 pub returns-in-Err-prepare-clause-source : goal.returns-in-Err-prepare-clause-source
 returns-in-Err-prepare-clause-source g c = λ code at e told.
     source_refused Prepared c.in-Err-prepare.status code at c.deref.result.now c.deref-2.result.now _ e c.in-Err-prepare.ensures.ends
-    (subst (Loads (g.S.Shelf.held c.args.shelf.now c.args.names.source.now) 1048576) (sym c.deref.ensures.value) (c.in-Ok.ensures.source told))
+    (subst (Loads (g.S.Shelf.held c.args.shelf.now (debug_given c.args.job.now).source) 1048576) (sym c.deref.ensures.value) (c.in-Ok.ensures.source told))
 
 pub returns-in-Err-prepare-clause-script : goal.returns-in-Err-prepare-clause-script
 returns-in-Err-prepare-clause-script g c = λ code at e told.
     script_refused Prepared c.in-Err-prepare.status code at c.deref.result.now c.deref-2.result.now _ _ e c.in-Err-prepare.ensures.ends
-    (subst (Loads (g.S.Shelf.held c.args.shelf.now c.args.names.source.now) 1048576) (sym c.deref.ensures.value) (c.in-Ok.ensures.source told))
-    (subst (Loads (g.S.Shelf.held c.args.shelf.now c.args.names.script.now) 1048576) (sym c.deref-2.ensures.value) (c.in-Ok.ensures.script told))
+    (subst (Loads (g.S.Shelf.held c.args.shelf.now (debug_given c.args.job.now).source) 1048576) (sym c.deref.ensures.value) (c.in-Ok.ensures.source told))
+    (c.in-Ok.ensures.script told ∙ ap Some (sym c.deref-2.ensures.value))
 
 pub returns-in-Err-save_image-clause-accepted : goal.returns-in-Err-save_image-clause-accepted
 returns-in-Err-save_image-clause-accepted g c = λ e told.
     both_accepted c.deref.result.now c.deref-2.result.now c.in-Ok-prepare.prepared _ _ c.in-Ok-prepare.ensures.prepared
-    (subst (Loads (g.S.Shelf.held c.args.shelf.now c.args.names.source.now) 1048576) (sym c.deref.ensures.value) (c.in-Ok.ensures.source told))
-    (subst (Loads (g.S.Shelf.held c.args.shelf.now c.args.names.script.now) 1048576) (sym c.deref-2.ensures.value) (c.in-Ok.ensures.script told))
+    (subst (Loads (g.S.Shelf.held c.args.shelf.now (debug_given c.args.job.now).source) 1048576) (sym c.deref.ensures.value) (c.in-Ok.ensures.source told))
+    (c.in-Ok.ensures.script told ∙ ap Some (sym c.deref-2.ensures.value))
 
 pub returns-clause-accepted : goal.returns-clause-accepted
 returns-clause-accepted g c = λ e told.
     both_accepted c.deref.result.now c.deref-2.result.now c.in-Ok-prepare.prepared _ _ c.in-Ok-prepare.ensures.prepared
-    (subst (Loads (g.S.Shelf.held c.args.shelf.now c.args.names.source.now) 1048576) (sym c.deref.ensures.value) (c.in-Ok.ensures.source told))
-    (subst (Loads (g.S.Shelf.held c.args.shelf.now c.args.names.script.now) 1048576) (sym c.deref-2.ensures.value) (c.in-Ok.ensures.script told))
+    (subst (Loads (g.S.Shelf.held c.args.shelf.now (debug_given c.args.job.now).source) 1048576) (sym c.deref.ensures.value) (c.in-Ok.ensures.source told))
+    (c.in-Ok.ensures.script told ∙ ap Some (sym c.deref-2.ensures.value))
 
 pub returns-in-Ok-play-clause-done : goal.returns-in-Ok-play-clause-done
 returns-in-Ok-play-clause-done g c = λ e told told_sink.
-    let played = session_played (g.S.Shelf.held c.args.shelf.now) (g.S.Shelf.held c.save_image.new.shelf) (names_given c.args.names) c.deref.result.now c.deref-2.result.now c.in-Ok.texts.input.items c.in-Ok-prepare.prepared c.in-Ok-new.engine
-    (subst (Loads (g.S.Shelf.held c.args.shelf.now c.args.names.source.now) 1048576) (sym c.deref.ensures.value) (c.in-Ok.ensures.source told))
-    (subst (Loads (g.S.Shelf.held c.args.shelf.now c.args.names.script.now) 1048576) (sym c.deref-2.ensures.value) (c.in-Ok.ensures.script told))
+    let image : c.as_str.result.now ≡ (debug_given c.args.job.now).image = search rules in
+    let limit : c.from-limit.result ≡ (debug_given c.args.job.now).limit = search rules in
+    let played = session_played (g.S.Shelf.held c.args.shelf.now) (g.S.Shelf.held c.save_image.new.shelf) (debug_given c.args.job.now) c.deref.result.now c.deref-2.result.now c.in-Ok.texts.input.items c.in-Ok-prepare.prepared c.in-Ok-new.engine
+    (subst (Loads (g.S.Shelf.held c.args.shelf.now (debug_given c.args.job.now).source) 1048576) (sym c.deref.ensures.value) (c.in-Ok.ensures.source told))
+    (c.in-Ok.ensures.script told ∙ ap Some (sym c.deref-2.ensures.value))
     (c.in-Ok.ensures.input told) c.in-Ok-prepare.ensures.prepared
-    (c.in-Ok-save_image.ensures.saved (c.in-Ok.ensures.telling ∙ told) ∙ ap Some c.deref-3.ensures.value)
-    (c.in-Ok-new.ensures ∙ ap (λ i. fresh_engine (form c.in-Ok-prepare.prepared.image) i c.most_instructions.result) c.deref-4.ensures.value ∙ ap (fresh_engine (form c.in-Ok-prepare.prepared.image) c.in-Ok.texts.input.items) c.most_instructions.ensures) in
+    (ap (g.S.Shelf.held c.save_image.new.shelf) (sym image) ∙ c.in-Ok-save_image.ensures.saved (c.in-Ok.ensures.telling ∙ told) ∙ ap Some c.deref-3.ensures.value)
+    (c.in-Ok-new.ensures ∙ ap (λ i. fresh_engine (form c.in-Ok-prepare.prepared.image) i c.from-limit.result) c.deref-4.ensures.value ∙ ap (fresh_engine (form c.in-Ok-prepare.prepared.image) c.in-Ok.texts.input.items) limit) in
     record {
       printed = flat_map line (lines_of c.in-Ok-new.engine (orders c.in-Ok-prepare.prepared.commands.items));
       played = played;
@@ -53,12 +55,14 @@ returns-in-Ok-play-clause-done g c = λ e told told_sink.
 
 pub returns-clause-part : goal.returns-clause-part
 returns-clause-part g c = λ cut told told_sink.
-    let played = session_played (g.S.Shelf.held c.args.shelf.now) (g.S.Shelf.held c.save_image.new.shelf) (names_given c.args.names) c.deref.result.now c.deref-2.result.now c.in-Ok.texts.input.items c.in-Ok-prepare.prepared c.in-Ok-new.engine
-    (subst (Loads (g.S.Shelf.held c.args.shelf.now c.args.names.source.now) 1048576) (sym c.deref.ensures.value) (c.in-Ok.ensures.source told))
-    (subst (Loads (g.S.Shelf.held c.args.shelf.now c.args.names.script.now) 1048576) (sym c.deref-2.ensures.value) (c.in-Ok.ensures.script told))
+    let image : c.as_str.result.now ≡ (debug_given c.args.job.now).image = search rules in
+    let limit : c.from-limit.result ≡ (debug_given c.args.job.now).limit = search rules in
+    let played = session_played (g.S.Shelf.held c.args.shelf.now) (g.S.Shelf.held c.save_image.new.shelf) (debug_given c.args.job.now) c.deref.result.now c.deref-2.result.now c.in-Ok.texts.input.items c.in-Ok-prepare.prepared c.in-Ok-new.engine
+    (subst (Loads (g.S.Shelf.held c.args.shelf.now (debug_given c.args.job.now).source) 1048576) (sym c.deref.ensures.value) (c.in-Ok.ensures.source told))
+    (c.in-Ok.ensures.script told ∙ ap Some (sym c.deref-2.ensures.value))
     (c.in-Ok.ensures.input told) c.in-Ok-prepare.ensures.prepared
-    (c.in-Ok-save_image.ensures.saved (c.in-Ok.ensures.telling ∙ told) ∙ ap Some c.deref-3.ensures.value)
-    (c.in-Ok-new.ensures ∙ ap (λ i. fresh_engine (form c.in-Ok-prepare.prepared.image) i c.most_instructions.result) c.deref-4.ensures.value ∙ ap (fresh_engine (form c.in-Ok-prepare.prepared.image) c.in-Ok.texts.input.items) c.most_instructions.ensures) in
+    (ap (g.S.Shelf.held c.save_image.new.shelf) (sym image) ∙ c.in-Ok-save_image.ensures.saved (c.in-Ok.ensures.telling ∙ told) ∙ ap Some c.deref-3.ensures.value)
+    (c.in-Ok-new.ensures ∙ ap (λ i. fresh_engine (form c.in-Ok-prepare.prepared.image) i c.from-limit.result) c.deref-4.ensures.value ∙ ap (fresh_engine (form c.in-Ok-prepare.prepared.image) c.in-Ok.texts.input.items) limit) in
     inr (record {
       printed = flat_map line (lines_of c.in-Ok-new.engine (orders c.in-Ok-prepare.prepared.commands.items));
       played = played;
@@ -66,7 +70,11 @@ returns-clause-part g c = λ cut told told_sink.
     })
 
 pub returns-in-Ok-play-clause-others : goal.returns-in-Ok-play-clause-others
-returns-in-Ok-play-clause-others g c = λ told n other. c.save_image.ensures.others n other (c.load_texts.ensures.telling ∙ told) ∙ c.load_texts.ensures.same n told
+returns-in-Ok-play-clause-others g c = λ told n other.
+    let image : c.as_str.result.now ≡ (debug_given c.args.job.now).image = search rules in
+    c.save_image.ensures.others n (λ same. other (same ∙ image)) (c.load_texts.ensures.telling ∙ told) ∙ c.load_texts.ensures.same n told
 
 pub returns-clause-others : goal.returns-clause-others
-returns-clause-others g c = λ told n other. c.save_image.ensures.others n other (c.load_texts.ensures.telling ∙ told) ∙ c.load_texts.ensures.same n told
+returns-clause-others g c = λ told n other.
+    let image : c.as_str.result.now ≡ (debug_given c.args.job.now).image = search rules in
+    c.save_image.ensures.others n (λ same. other (same ∙ image)) (c.load_texts.ensures.telling ∙ told) ∙ c.load_texts.ensures.same n told

@@ -1,0 +1,16 @@
+//! What a command line means: the job that its words are.
+#![tactic(auto)]
+
+mod command;
+mod job;
+mod laws;
+mod matching;
+mod reading;
+#[cfg(test)]
+mod tests;
+mod values;
+
+pub use job::{Attach, Compile, Debug, Job, Passes, Sweep};
+pub use laws::words_are_one_job_at_most;
+pub use reading::job_of;
+pub use values::Mode;

@@ -1,0 +1,45 @@
+//! What the words ask for.
+
+ghost use Rattle.std.specs.Prelude.{◌≡◌, ◌↔◌, IsTrue, MatchOption, [], map, string_bytes};
+ghost use Rattle.command_line.specs.declared.values.Mode.TheVariants.{Slots};
+ghost use Rattle.command_line.specs.Job.{DebugGiven, debug_given, job_given};
+ghost use Rattle.session.specs.Served.{Serves};
+ghost use Rattle.session.specs.Stages.{AskEnds};
+
+use command_line::{Debug, Job, Mode, job_of};
+use line_form::Status;
+use std::alloc::Global;
+
+// No pass is named, and the homes are slots.
+fn is_plain(job: &Debug) -> bool
+    ensures { IsTrue result ↔ ((debug_given job.now).passes ≡ []) × ((debug_given job.now).mode ≡ Slots) }
+{
+    job.passes.is_empty() && job.mode == Mode::Slots
+}
+
+// The job, if the program serves it: so far `debug` with no pass and with homes in slots.
+fn served(job: Job) -> Option<Debug>
+    ensures { MatchOption result ((asked : DebugGiven) → ¬ Serves (job_given job) asked) (λ d. Serves (job_given job) (debug_given d)) }
+{
+    match job {
+        Job::Debug(debug) if is_plain(&debug) => Some(debug),
+        Job::Debug(_debug) => None,
+        Job::Compile(_compile) => None,
+        Job::Attach(_attach) => None,
+        Job::Passes(_passes) => None,
+        Job::Sweep(_sweep) => None,
+    }
+}
+
+/// The job that the words are. `Usage` where they are none that the program serves, and `NoMemory` where memory was wanting.
+pub fn asked(alloc: Global, words: &[String]) -> Result<Debug, Status>
+    ensures { AskEnds result (map string_bytes words.now) }
+{
+    let Ok(job) = job_of(alloc, words) else {
+        return Err(Status::NoMemory);
+    };
+    match job {
+        Some(job) => served(job).ok_or(Status::Usage),
+        None => Err(Status::Usage),
+    }
+}
