@@ -6,3 +6,4 @@ pub mod Firsts
 pub mod TextSteps
 pub mod Readings
 pub mod Longest
+pub mod Bounds

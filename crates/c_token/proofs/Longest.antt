@@ -20,9 +20,9 @@ stops p [] at none = none
 stops p (b ∷ text) (suc at) none = let next : suc at + prefix_len p (drop at text) ≡ suc (at + prefix_len p (drop at text)) = omega arith in rw next (stops p text at none)
 stops p (b ∷ text) zero none = by_test (p b) refl (stops p text zero none)
   where
-  by_test : (t : Bool) → p b ≡ t → p (get_or text (0 + prefix_len p text) 0) ≡ false → p (get_or (b ∷ text) (0 + cond t (1 + prefix_len p text) 0) 0) ≡ false
-  by_test true e behind = let next : 0 + (1 + prefix_len p text) ≡ suc (0 + prefix_len p text) = omega arith in rw next behind
-  by_test false e behind = e
+    by_test : (t : Bool) → p b ≡ t → p (get_or text (0 + prefix_len p text) 0) ≡ false → p (get_or (b ∷ text) (0 + cond t (1 + prefix_len p text) 0) 0) ≡ false
+    by_test true e behind = let next : 0 + (1 + prefix_len p text) ≡ suc (0 + prefix_len p text) = omega arith in rw next behind
+    by_test false e behind = e
 
 word_end : (r : Result Word Fault) (size end : ℕ) (w : Word) → ◌>>=◌ {B = Word × ℕ} r (λ v. Ok (v, size)) ≡ Ok (w, end) → size ≡ end
 word_end (Err f) size end w e = absurd cc

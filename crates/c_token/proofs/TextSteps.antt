@@ -1,7 +1,7 @@
 -- Going over a text, from what stands at an offset to what stands behind it.
-use Rattle.std.proofs.Common.{◌≡◌, ℕ, zero, suc, ◌+◌, ◌-◌, ◌≤◌, ◌<◌, Bool, true, false, cond, ltb, List, [], ◌∷◌, ◌++◌, length, get_or, take, drop, Result, Ok, Err, refl, sym, ap, ◌∙◌, append_assoc, arith, length-drop}
+use Rattle.std.proofs.Common.{◌≡◌, ℕ, zero, suc, ◌+◌, ◌-◌, ◌≤◌, ◌<◌, Bool, true, false, cond, ltb, List, [], ◌∷◌, ◌++◌, length, get_or, take, drop, Result, Ok, Err, refl, sym, ap, ◌∙◌, append_assoc, arith, length-drop, length-append}
 use Rattle.std.specs.Prelude.{count_by, ◌==◌}
-use Rattle.std.proofs.lemmas.List.{drop-drop, length-take}
+use Rattle.std.proofs.lemmas.List.{drop-drop, length-take, length-map}
 use Rattle.std.proofs.lemmas.Bool.{le-ltb, lt-ltb}
 use Rattle.std.proofs.lemmas.List.Sums.{sum_by-append}
 use Rattle.std.proofs.Math.Seq.{take-add}
@@ -10,10 +10,12 @@ use Rattle.debug_records.specs.declared.code.TheConstants.Code.{TEXT_SIZE}
 use Rattle.c_token.specs.declared.item.Item.{Item}
 use Rattle.c_token.specs.declared.item.Item.TheVariants as item
 use Rattle.c_token.specs.declared.token.Kind.{Kind}
+use Rattle.c_token.specs.declared.token.Token.{Token}
+use Rattle.c_token.specs.Items as items
 use Rattle.c_token.specs.declared.context.Context.{Context}
 use Rattle.c_token.specs.Includes.{start}
-use Rattle.c_token.specs.Items.{Piece, item_view, item_at, behind}
-use Rattle.c_token.specs.Lexemes.{Word, Lexeme}
+use Rattle.c_token.specs.Items.{Piece, LineFeed, Blank, item_view, item_at, behind}
+use Rattle.c_token.specs.Lexemes.{Word, Lexeme, lexeme, lexemes}
 use Rattle.c_token.specs.Reading.{◌>>=◌}
 use Rattle.c_token.specs.Texts.{line_of, tokens_at, located, with_tokens, tokens_from, tokens_of}
 use Rattle.c_token.proofs.Steps.{cut}
@@ -95,3 +97,12 @@ too_long text lt = let long : ltb 1048576 (length text) ≡ true = lt-ltb 104857
 
 pub few_feeds : (text : List ℕ) (at end n : ℕ) → n ≤ length (take (end - at) (drop at text)) → n ≤ end - at
 few_feeds text at end n le = omega (arith, length-take (end - at) (drop at text))
+
+at_most_one : (text : List ℕ) (at : ℕ) (p : Piece) → length (tokens_at text at p) ≤ 1
+at_most_one text at LineFeed = omega arith
+at_most_one text at Blank = omega arith
+at_most_one text at (items.Token word) = omega arith
+
+-- at most one token more
+pub grown : (text : List ℕ) (at : ℕ) (p : Piece) (old new : List Token) → lexemes new ≡ lexemes old ++ tokens_at text at p → length new ≤ length old + 1
+grown text at p old new e = omega (arith, ap length e, length-map new lexeme, length-map old lexeme, length-append (lexemes old) (tokens_at text at p), at_most_one text at p)

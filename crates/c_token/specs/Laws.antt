@@ -1,5 +1,5 @@
 -- What the definitions together say of a text.
-use Rattle.std.specs.Prelude.{◌≡◌, ℕ, ◌+◌, ◌≤◌, Bool, true, false, List, length, Option, Some, Result, Ok, Err, slice_index}
+use Rattle.std.specs.Prelude.{◌≡◌, ◌↔◌, ℕ, ◌+◌, ◌≤◌, Bool, true, false, List, length, Option, Some, Result, Ok, Err, slice_index}
 use Rattle.std.specs.List.{AllByRecursion}
 use Rattle.debug_records.specs.declared.code.Code.{Code}
 use Rattle.c_token.specs.declared.token.Constant as constant
@@ -14,11 +14,11 @@ use Rattle.c_token.specs.Words.{word_at}
 
 -- the tokens that a text spells are those that are read from it
 abbrev pub SpelledIsRead : Type 0
-SpelledIsRead = (text : List ℕ) (tokens : List Lexeme) → Spells text tokens → tokens_of text ≡ Ok tokens
+SpelledIsRead = (text : List ℕ) (tokens : List Lexeme) → (Spells text tokens) ↔ (tokens_of text ≡ Ok tokens)
 
 -- why a text breaks a rule is told by its code and line
 abbrev pub BreachIsTold : Type 0
-BreachIsTold = (text : List ℕ) (code : Code) (line : ℕ) → Breaks text code line → tokens_of text ≡ Err (code, line)
+BreachIsTold = (text : List ℕ) (code : Code) (line : ℕ) → (Breaks text code line) ↔ (tokens_of text ≡ Err (code, line))
 
 -- no byte of an identifier stands behind a word
 abbrev pub WordsAreLongest : Type 0

@@ -17,10 +17,7 @@ pub fn stands(text: &[u8], at: usize, word: &[u8]) -> bool
     ensures exact { result ≡ stands text.now at word.now }
     ensures within { IsTrue result → at + length word.now ≤ length text.now }
 {
-    match word {
-        [first, ..] if byte_at(text, at) != *first => false,
-        _ => text[at..].starts_with(word),
-    }
+    text[at..].starts_with(word)
 }
 
 /// A letter or the underscore (6.4.2.1).

@@ -2,7 +2,7 @@
 
 ghost use Rattle.c_token.specs.Laws.{BreachIsTold, ConstantsAreLongest, PunctuatorsAreLongest, SpelledIsRead, WordsAreLongest};
 
-/// A law: a text spells at most one list of tokens, or breaks a rule first at one place, and never both.
+/// A law: a text spells the tokens that are read from it and no others, and breaks the rule that is told, on that line, and no other.
 pub fn a_text_has_one_reading()
     ensures spelled { SpelledIsRead }
     ensures broken { BreachIsTold }

@@ -1,12 +1,12 @@
 //! Punctuators (6.4.6).
 
-ghost use Rattle.std.specs.Prelude.{◌≡◌, ◌≤◌, ◌<◌, length, map, IfOk, IfSome};
+ghost use Rattle.std.specs.Prelude.{◌≡◌, ◌≤◌, ◌<◌, ◌+◌, ◌&&◌, length, map, nat_lt, slice_index, IfOk, IfSome, IsTrue};
 ghost use Rattle.std.specs.List.{list_any};
 ghost use Rattle.c_token.specs.Bytes.{stands};
 ghost use Rattle.c_token.specs.Punctuators.{find_punctuator, is_digraph_at, longest_punctuator, punctuator_at};
 ghost use Rattle.c_token.specs.Tables.{spelled};
 
-use crate::bytes::stands;
+use crate::bytes::{byte_at, stands};
 use crate::fault::Fault;
 use crate::token::Punctuator;
 use debug_records::Code;
@@ -86,6 +86,21 @@ fn is_digraph_at(text: &[u8], at: usize) -> bool
     is_listed_at(&DIGRAPHS, text, at)
 }
 
+/// A spelling that is not empty stands at an offset, where `first` is the byte there.
+#[tactic(auto, unfolding(crate::specs::Bytes::stands))]
+fn stands_behind(first: u8, text: &[u8], at: usize, spelling: &[u8]) -> bool
+    requires inside { at ≤ length text.now }
+    requires first { first ≡ slice_index text.now at }
+    ensures exact { result ≡ (nat_lt 0 (length spelling.now) && stands text.now at spelling.now) }
+    ensures some { IsTrue result → 0 < length spelling.now }
+    ensures within { IsTrue result → at + length spelling.now ≤ length text.now }
+{
+    match spelling {
+        [byte, ..] if *byte == first => stands(text, at, spelling),
+        _ => false,
+    }
+}
+
 /// The first punctuator of the table that stands at an offset, and where it ends.
 fn find_punctuator(
     table: &[(&[u8], Punctuator)],
@@ -96,8 +111,9 @@ fn find_punctuator(
     ensures first { result ≡ find_punctuator (spelled table.now) text.now at }
     ensures within { IfSome result (λ x. (at < x.1) × (x.1 ≤ length text.now)) }
 {
+    let first = byte_at(text, at);
     for entry in table {
-        if !entry.0.is_empty() && stands(text, at, entry.0) {
+        if stands_behind(first, text, at, entry.0) {
             return Some((entry.1, at + entry.0.len()));
         }
     }

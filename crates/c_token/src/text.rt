@@ -75,6 +75,7 @@ fn behind(context: Context, item: &Item) -> Context
 pub fn tokens(alloc: Global, text: &[u8]) -> Result<Vec<Token>, SourceErr>
     ensures exact { Gives (λ v. lexemes v.items) result (tokens_of text.now) }
     ensures spells { IfOk result (λ v. Spells text.now (lexemes v.items)) }
+    ensures few { IfOk result (λ v. length v.items ≤ length text.now) }
     ensures refused { IfErr result (IsRefusal text.now) }
 {
     if text.len() > TEXT_LIMIT {

@@ -7,7 +7,7 @@ use Rattle.c_token.specs.Lexemes.{Lexeme, lexeme, lexemes, word_view}
 use Rattle.c_token.specs.Spells.{Takes, Spells, too_long}
 use Rattle.c_token.specs.Texts.{line_of, tokens_at, located, with_tokens, tokens_from, tokens_of}
 use Rattle.c_token.proofs.Readings.{one_more, one_later, at_end, located_ok, refused_there, fails_there}
-use Rattle.c_token.proofs.TextSteps.{token_view, goes_on, begins_with, line_on, no_token, few_feeds}
+use Rattle.c_token.proofs.TextSteps.{token_view, goes_on, begins_with, line_on, no_token, few_feeds, grown}
 use Rattle.c_token.proofs.TextSteps as steps
 use Rattle.c_token.proofs.text.tokens.Goals as goal
 use Rattle.c_token.proofs.text.tokens.Goals.{in-Token+in_ok-push, in_default}
@@ -30,6 +30,7 @@ loop-at-init c =
       line = refl;
       few_lines = omega arith;
       deep = rw c.start-context.ensures (omega arith);
+      few = rw c.new-tokens.ensures.items (omega arith);
     }
 
 pub returns-in_err-item-clause-exact : goal.returns-in_err-item-clause-exact
@@ -62,6 +63,7 @@ loop-at-preserved c =
       line = ap (λ n. n + c.line_feeds.result) c.loop-at.invariant.line ∙ rw c.line_feeds.ensures.count (sym (line_on text at end (omega (arith, within.0))));
       few_lines = omega (arith, feeds, within.0);
       deep = omega (arith, c.behind-context.ensures.within, within.0);
+      few = omega (arith, grown text at piece c.loop-at.tokens.items c.match-item.tokens.items pushed, within.0);
     }
 
 pub returns-clause-spells : goal.returns-clause-spells

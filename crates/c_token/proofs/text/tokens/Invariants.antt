@@ -16,6 +16,7 @@ invariant-loop-at l = record {
   line : l.line ≡ line_of l.text l.at;
   few_lines : l.line ≤ l.at + 1;
   deep : l.context.depth ≤ l.at;
+  few : length l.tokens.items ≤ l.at;
 }
 
 abbrev pub decreases-loop-at : goal.decreases-loop-at
