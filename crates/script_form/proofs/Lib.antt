@@ -1,10 +1,4 @@
-pub mod Arguments
-pub mod Cuts
 pub mod FirstLine
-pub mod FirstWord
-pub mod Heads
-pub mod LineLaws
 pub mod Names
-pub mod Numbers
+pub mod Orders
 pub mod Progress
-pub mod ScriptLaws

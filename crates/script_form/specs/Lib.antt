@@ -1,4 +1,2 @@
-pub mod Reading
 pub mod Refusal
 pub mod Script
-pub mod Words

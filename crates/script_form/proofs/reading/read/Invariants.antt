@@ -1,0 +1,15 @@
+use Rattle.std.proofs.Common.{◌≡◌, ◌++◌, length}
+use Rattle.std.specs.Prelude.{All}
+use Rattle.script_form.specs.Script.{IsNamed, orders, script_text}
+use Rattle.script_form.proofs.Progress.{LeavesOrders}
+use Rattle.script_form.proofs.reading.read.Given as goal
+
+abbrev pub invariant-loop-rest : goal.invariant-loop-rest
+invariant-loop-rest l = record {
+  so_far : script_text (orders l.commands.items) ++ l.rest ≡ l.text;
+  named : All IsNamed (orders l.commands.items);
+  leaves : LeavesOrders l.text l.rest;
+}
+
+abbrev pub decreases-loop-rest : goal.decreases-loop-rest
+decreases-loop-rest l = length l.rest
