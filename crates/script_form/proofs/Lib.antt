@@ -1,4 +1,10 @@
+pub mod Arguments
+pub mod Cuts
 pub mod FirstLine
+pub mod FirstWord
+pub mod Heads
+pub mod LineLaws
 pub mod Names
-pub mod Orders
+pub mod Numbers
 pub mod Progress
+pub mod ScriptLaws

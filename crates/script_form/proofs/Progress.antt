@@ -1,67 +1,60 @@
 -- What is known of a script while it is read.
-use Rattle.std.proofs.Common.{◌≡◌, ℕ, ◌<◌, false, List, [], ◌∷◌, ◌++◌, length, sym, ap, ◌∙◌, append_assoc}
-use Rattle.std.specs.Prelude.{◌==◌, All}
-use Rattle.std.specs.List.{list_any}
+use Rattle.std.proofs.Common.{◌≡◌, ℕ, ◌+◌, List, [], ◌∷◌, ◌++◌, Some, None, refl, sym, ap, ◌∙◌, append_assoc}
+use Rattle.std.specs.Prelude.{Result, Ok, Err}
+use Rattle.std.specs.Str.Lines.{lines}
 use Rattle.std.proofs.lemmas.List.{append-nil, map_push}
-use Rattle.std.proofs.lemmas.List.Concat.{flat_map-append}
-use Rattle.std.proofs.lemmas.List.Elements.{All-push, All-same}
+use Rattle.debug_records.specs.declared.code.Code.{Code}
 use Rattle.script_form.specs.declared.command.Command.{Command}
-use Rattle.script_form.specs.Script.{Order, IsNamed, order_of, order_text, order_line, orders, script_text}
-use Rattle.script_form.specs.Refusal.{IsNoLine, IsNoScript}
-use Rattle.script_form.proofs.Orders.{IsOrders, first_of_orders, no_orders_unended}
+use Rattle.script_form.specs.Reading.{Fault, ◌>>=◌, at_line, order_of_line, orders_from, with_front}
+use Rattle.script_form.specs.Script.{Order, order_of, orders}
 
--- Where the whole text is orders, what is left of it is orders.
-pub record LeavesOrders (text rest : List ℕ) : Type 0 where
-  pub left : (os : List Order) → IsOrders text os → (ps : List Order) × IsOrders rest ps
+-- orders that were read, and what the rest gives
+abbrev pub behind : List Order → Result (List Order) Fault → Result (List Order) Fault
+behind before rest = rest >>= λ os. Ok (before ++ os)
 
--- nothing was read yet
-pub leaves_whole : (text : List ℕ) → LeavesOrders text text
-leaves_whole text = record { left = λ os is_orders. (os, is_orders) }
+behind_none : (before : List Order) (rest : Result (List Order) Fault) → behind before (rest >>= λ os. Ok (with_front None os)) ≡ behind before rest
+behind_none before (Ok os) = refl
+behind_none before (Err e) = refl
 
--- a line was read
-pub leaves_behind : (text rest line behind : List ℕ) → LeavesOrders text rest → rest ≡ line ++ 10 ∷ behind → list_any (λ byte. byte == 10) line ≡ false
-    → LeavesOrders text behind
-leaves_behind text rest line behind leaves cut one_line = record {
-  left = λ os is_orders.
-      let left = leaves.left os is_orders in
-      let begins = first_of_orders line behind left.0 one_line (record { spelled = sym cut ∙ left.1.spelled; named = left.1.named }) in
-      (begins.others, begins.there);
-}
+behind_some : (before : List Order) (o : Order) (rest : Result (List Order) Fault)
+    → behind before (rest >>= λ os. Ok (with_front (Some o) os)) ≡ behind (before ++ o ∷ []) rest
+behind_some before o (Ok os) = ap Ok (sym (append_assoc before (o ∷ []) os))
+behind_some before o (Err e) = refl
 
--- what is left has no line feed
-pub no_script_unended : (text rest : List ℕ) → LeavesOrders text rest → 0 < length rest → list_any (λ byte. byte == 10) rest ≡ false → IsNoScript text
-no_script_unended text rest leaves some unended os script =
-    let left = leaves.left os (record { spelled = script.spelled; named = script.named }) in
-    no_orders_unended rest left.0 some unended left.1
+-- what the first line of a text gives, and then its other lines
+front : (n : ℕ) (rest line more : List ℕ) → lines rest ≡ line ∷ lines more
+    → orders_from n (lines rest) ≡ (at_line n (order_of_line line) >>= λ o. orders_from (n + 1) (lines more) >>= λ os. Ok (with_front o os))
+front n rest line more cut = ap (orders_from n) cut
 
--- what is left begins with a line that is no order
-pub no_script_by_line : (text rest line behind : List ℕ) → LeavesOrders text rest → rest ≡ line ++ 10 ∷ behind → list_any (λ byte. byte == 10) line ≡ false
-    → IsNoLine line → IsNoScript text
-no_script_by_line text rest line behind leaves cut one_line none os script =
-    let left = leaves.left os (record { spelled = script.spelled; named = script.named }) in
-    let begins = first_of_orders line behind left.0 one_line (record { spelled = sym cut ∙ left.1.spelled; named = left.1.named }) in
-    none begins.first begins.here
+-- a line without words
+pub line_without_words : (n : ℕ) (rest line more : List ℕ) (before : List Order) → lines rest ≡ line ∷ lines more
+    → at_line n (order_of_line line) ≡ Ok None → behind before (orders_from n (lines rest)) ≡ behind before (orders_from (n + 1) (lines more))
+line_without_words n rest line more before cut none =
+    ap (behind before) (front n rest line more cut ∙ ap (λ r. r >>= λ o. orders_from (n + 1) (lines more) >>= λ os. Ok (with_front o os)) none)
+    ∙ behind_none before (orders_from (n + 1) (lines more))
 
--- the orders of one command more
-orders_more : (commands more : List Command) (command : Command) → more ≡ commands ++ command ∷ [] → orders more ≡ orders commands ++ order_of command ∷ []
-orders_more commands more command pushed = ap orders pushed ∙ map_push order_of commands command
+-- a line with a command
+pub line_with_command : (n : ℕ) (rest line more : List ℕ) (before after : List Command) (command : Command) → lines rest ≡ line ∷ lines more
+    → at_line n (order_of_line line) ≡ Ok (Some (order_of command)) → after ≡ before ++ command ∷ []
+    → behind (orders before) (orders_from n (lines rest)) ≡ behind (orders after) (orders_from (n + 1) (lines more))
+line_with_command n rest line more before after command cut some pushed =
+    ap (behind (orders before)) (front n rest line more cut ∙ ap (λ r. r >>= λ o. orders_from (n + 1) (lines more) >>= λ os. Ok (with_front o os)) some)
+    ∙ behind_some (orders before) (order_of command) (orders_from (n + 1) (lines more))
+    ∙ ap (λ os. behind os (orders_from (n + 1) (lines more))) (sym (ap orders pushed ∙ map_push order_of before command))
 
--- the line of a command that was read
-pub one_line_more : (commands more : List Command) (command : Command) (text rest line behind : List ℕ) → more ≡ commands ++ command ∷ []
-    → rest ≡ line ++ 10 ∷ behind → line ≡ order_text (order_of command) → script_text (orders commands) ++ rest ≡ text
-    → script_text (orders more) ++ behind ≡ text
-one_line_more commands more command text rest line behind pushed cut spelled so_far =
-    let front : List ℕ = script_text (orders commands) in
-    let last : List ℕ = order_line (order_of command) in
-    ap (λ os. script_text os ++ behind) (orders_more commands more command pushed)
-    ∙ ap (λ bytes. bytes ++ behind) (flat_map-append order_line (orders commands) (order_of command ∷ []) ∙ ap (λ bytes. front ++ bytes) (append-nil last))
-    ∙ append_assoc front last behind
-    ∙ ap (λ bytes. front ++ bytes) (append_assoc (order_text (order_of command)) (10 ∷ []) behind ∙ ap (λ bytes. bytes ++ 10 ∷ behind) (sym spelled) ∙ sym cut)
-    ∙ so_far
+-- a line that breaks a rule
+pub line_with_fault : (n : ℕ) (rest line more : List ℕ) (before : List Order) (fault : Fault) → lines rest ≡ line ∷ lines more
+    → at_line n (order_of_line line) ≡ Err fault → behind before (orders_from n (lines rest)) ≡ Err fault
+line_with_fault n rest line more before fault cut broken =
+    ap (behind before) (front n rest line more cut ∙ ap (λ r. r >>= λ o. orders_from (n + 1) (lines more) >>= λ os. Ok (with_front o os)) broken)
 
--- the name of a command that was read
-pub one_name_more : (commands more : List Command) (command : Command) → more ≡ commands ++ command ∷ [] → IsNamed (order_of command)
-    → All IsNamed (orders commands) → All IsNamed (orders more)
-one_name_more commands more command pushed named so_far =
-    All-same IsNamed (orders more) (orders commands ++ order_of command ∷ []) (orders_more commands more command pushed)
-    (All-push IsNamed (orders commands) (order_of command) so_far named)
+-- the end of the text
+pub at_end : (before : List Order) (n : ℕ) → behind before (orders_from n (lines [])) ≡ Ok before
+at_end before n = ap Ok (append-nil before)
+
+-- the code of a line's fault has its number
+pub fault_line : {A : Type 0} → (n m : ℕ) (r : Result A Code) (code : Code) → at_line n r ≡ Err (code, m) → m ≡ n
+fault_line n m (Ok x) code fault = cc
+fault_line n m (Err c) code fault =
+    let pairs : ◌≡◌ {A = Code × ℕ} (code, m) (c, n) = cc in
+    ap (λ p. p.1) pairs

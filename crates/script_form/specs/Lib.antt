@@ -1,2 +1,4 @@
+pub mod Reading
 pub mod Refusal
 pub mod Script
+pub mod Words

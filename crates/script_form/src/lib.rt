@@ -2,11 +2,13 @@
 #![tactic(auto)]
 
 mod command;
+mod lines;
 mod reading;
 mod refusal;
 #[cfg(test)]
 mod tests;
+mod words;
 
-pub use command::Command;
-pub use reading::{orders_are_one, read};
+pub use command::{Command, Target};
+pub use reading::{read, readings_are_one};
 pub use refusal::ScriptErr;

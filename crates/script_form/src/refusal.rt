@@ -1,35 +1,22 @@
 //! How a script is refused.
 
-ghost use Rattle.std.specs.Prelude.{◌≡◌, Some};
-ghost use Rattle.script_form.specs.Refusal.{error_text};
+ghost use Rattle.std.specs.Prelude.{◌≡◌};
 ghost use Rattle.script_form.specs.declared.refusal.ScriptErr.TheVariants.{NoMemory};
 
 use debug_records::Code;
 use std::alloc::{AllocError, AllocFailed};
-use std::error::Error;
-use std::fmt;
+use thiserror::Error;
 
 /// Why a script was not read.
-#[derive(Clone, Copy, Debug, PartialEq, Eq)]
+#[derive(Clone, Copy, Debug, PartialEq, Eq, Error)]
 pub enum ScriptErr {
-    /// The text breaks the rule of the code, on this line.
-    Refused(Code, u32),
+    /// The text breaks the rule of the code, on this line, counted from 1.
+    #[error("script refused {0} line {1}")]
+    Refused(Code, usize),
     /// Memory was wanting.
+    #[error("out of memory")]
     NoMemory,
 }
-
-impl fmt::Display for ScriptErr {
-    ghost output = { λ error. Some (error_text error) };
-
-    fn fmt<W: fmt::Write>(&self, f: &mut fmt::Formatter<W>) -> fmt::Result {
-        match self {
-            ScriptErr::Refused(code, line) => write!(f, "script refused {code} line {line}"),
-            ScriptErr::NoMemory => write!(f, "out of memory"),
-        }
-    }
-}
-
-impl Error for ScriptErr {}
 
 impl From<AllocError> for ScriptErr {
     ghost from_gives = { λ _ error. error ≡ NoMemory };

@@ -11,7 +11,7 @@ use Rattle.outside.specs.Taken.{TakesPart}
 use Rattle.line_form.specs.Lines.{line}
 use Rattle.line_form.specs.declared.status.Status.{Status}
 use Rattle.line_form.specs.declared.status.Status.TheVariants.{SourceRefused, ScriptRefused, TooLong}
-use Rattle.script_form.specs.Script.{IsScript, orders}
+use Rattle.thin_script.specs.Script.{IsScript, orders}
 use Rattle.stop_engine.specs.EngineState.{EngineState, fresh_engine, lines_of}
 use Rattle.thin_form.specs.Thin.{IsThin}
 use Rattle.session.specs.declared.preparing.Prepared.{Prepared}

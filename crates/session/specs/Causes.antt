@@ -4,7 +4,7 @@ use Rattle.debug_records.specs.declared.code.Code.{Code}
 use Rattle.debug_records.specs.declared.code.TheConstants.Code.{UNEXPECTED_KEYWORD, UNKNOWN_COMMAND}
 use Rattle.line_form.specs.declared.status.Status.{Status}
 use Rattle.line_form.specs.declared.status.Status.TheVariants.{Done, Usage, SourceRefused, ScriptRefused, ReadFault, WriteFault, NoMemory, TooLong}
-use Rattle.script_form.specs.Script.{Order, IsScript}
+use Rattle.thin_script.specs.Script.{Order, IsScript}
 use Rattle.thin_form.specs.Tree.{ProgramTree}
 use Rattle.thin_form.specs.Thin.{IsThin}
 use Rattle.session.specs.Limits.{Holds}

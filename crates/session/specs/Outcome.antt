@@ -4,7 +4,7 @@ use Rattle.outside.specs.Taken.{TakesPart}
 use Rattle.image_form.specs.Form.{Form}
 use Rattle.image_form.specs.Rules.{IsImage}
 use Rattle.image_form.specs.Spelling.{spelling}
-use Rattle.script_form.specs.Script.{Order, IsScript}
+use Rattle.thin_script.specs.Script.{Order, IsScript}
 use Rattle.stop_engine.specs.Plain.{IsPlain}
 use Rattle.stop_engine.specs.Transcript.{transcript_bytes}
 use Rattle.thin_form.specs.Tree.{ProgramTree}

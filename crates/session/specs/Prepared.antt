@@ -3,7 +3,7 @@ use Rattle.std.specs.Prelude.{◌≡◌, ℕ, List}
 use Rattle.image_form.specs.Form.{Form, form}
 use Rattle.image_form.specs.Rules.{IsImage}
 use Rattle.image_form.specs.Spelling.{spelling}
-use Rattle.script_form.specs.Script.{IsScript, orders}
+use Rattle.thin_script.specs.Script.{IsScript, orders}
 use Rattle.stop_engine.specs.Plain.{IsPlain}
 use Rattle.thin_form.specs.Tree.{ProgramTree}
 use Rattle.thin_form.specs.Thin.{IsThin}

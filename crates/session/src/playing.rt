@@ -4,13 +4,13 @@ ghost use Rattle.std.specs.Prelude.{◌≡◌, ℕ, true, List, ◌++◌, IfOk, 
 ghost use Rattle.std.specs.List.{flat_map};
 ghost use Rattle.outside.specs.Taken.{TakesPart};
 ghost use Rattle.line_form.specs.Lines.{line};
-ghost use Rattle.script_form.specs.Script.{orders};
+ghost use Rattle.thin_script.specs.Script.{orders};
 ghost use Rattle.stop_engine.specs.EngineState.{lines_of};
 ghost use Rattle.session.specs.Stages.{WriteEnds};
 
 use line_form::Status;
 use outside::{PutErr, Sink};
-use script_form::Command;
+use thin_script::Command;
 use std::alloc::Global;
 use stop_engine::Engine;
 

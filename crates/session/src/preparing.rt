@@ -7,7 +7,7 @@ ghost use Rattle.session.specs.Prepared.{IsPrepared};
 use debug_records::Code;
 use image_form::{Image, write};
 use line_form::Status;
-use script_form::{Command, ScriptErr};
+use thin_script::{Command, ScriptErr};
 use std::alloc::{AllocError, Global};
 use thin_build::build;
 use thin_form::ThinErr;
@@ -32,7 +32,7 @@ pub fn prepare(alloc: Global, source: &[u8], script: &[u8]) -> Result<Prepared, 
         Err(ThinErr::Refused) => return Err(Status::SourceRefused(Code::UNEXPECTED_KEYWORD, 1)),
         Err(ThinErr::NoMemory) => return Err(Status::NoMemory),
     };
-    let commands = match script_form::read(alloc, script) {
+    let commands = match thin_script::read(alloc, script) {
         Ok(commands) => commands,
         Err(ScriptErr::Refused(code, line)) => return Err(Status::ScriptRefused(code, line)),
         Err(ScriptErr::NoMemory) => return Err(Status::NoMemory),

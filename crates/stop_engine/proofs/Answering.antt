@@ -3,7 +3,7 @@ use Rattle.std.proofs.Common.{◌≡◌, ℕ, ◌+◌, Option, Some, None, List,
 use Rattle.std.proofs.lemmas.Option.{slice_get_within}
 use Rattle.image_form.specs.Form.{Form}
 use Rattle.image_form.specs.RulesOfFunctions.{IsPlaceNumber}
-use Rattle.script_form.specs.Script.{Print}
+use Rattle.thin_script.specs.Script.{Print}
 use Rattle.stop_engine.specs.declared.halt.Halt.{Halt}
 use Rattle.stop_engine.specs.declared.halt.Halt.TheVariants.{At}
 use Rattle.stop_engine.specs.EngineState.{Answers, EngineState}

@@ -7,7 +7,7 @@ use Rattle.stop_engine.specs.declared.course.TheConstants.{ROOM}
 use Rattle.stop_engine.specs.declared.halt.Standing.{Standing}
 use Rattle.stop_engine.specs.Halting.{byte_events}
 use Rattle.stop_engine.specs.Standing.{position_of, unanswered}
-use Rattle.script_form.specs.Script.{Order}
+use Rattle.thin_script.specs.Script.{Order}
 use Rattle.stop_engine.specs.Run.{image_run, stop_addresses}
 use Rattle.stop_engine.specs.Transcript.{Position, Fresh, lines_from, stepped}
 

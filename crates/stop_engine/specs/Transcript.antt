@@ -13,7 +13,7 @@ use Rattle.rv_machine.specs.State.{State, reg}
 use Rattle.rv_machine.specs.Run.{MachineEvent, Byte, Arrival, Exit, TooDeep, Faulted}
 use Rattle.line_form.specs.Decimal.{signed_decimal}
 use Rattle.line_form.specs.Lines.{line, out_lines, stop_line, exit_line, depth_line, fault_line, limit_line, value_line, nothing_here_line, no_stop_line}
-use Rattle.script_form.specs.Script.{Order, Step, Print}
+use Rattle.thin_script.specs.Script.{Order, Step, Print}
 use Rattle.stop_engine.specs.Run.{image_run}
 use Rattle.stop_engine.specs.Reading.{place_at, depth, slot_word, int_of_word}
 

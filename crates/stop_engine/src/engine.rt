@@ -4,7 +4,7 @@ ghost use Rattle.std.specs.Prelude.{◌≡◌, ◌≤◌, ◌^◌, ◌<◌, ◌+
 ghost use Rattle.image_form.specs.Form.{form};
 ghost use Rattle.image_form.specs.Rules.{IsImage};
 ghost use Rattle.rv_machine.specs.Run.{MachineEvent};
-ghost use Rattle.script_form.specs.Script.{order_of};
+ghost use Rattle.thin_script.specs.Script.{order_of};
 ghost use Rattle.stop_engine.specs.EngineState.{Answers, HasStepped, LeavesOff, Wants, fresh_engine};
 ghost use Rattle.stop_engine.specs.Halting.{byte_events, halt_at};
 ghost use Rattle.stop_engine.specs.Standing.{ending_of, not_answered};
@@ -22,7 +22,7 @@ use crate::stop_table::StopTable;
 use image_form::Image;
 use line_form::out_lines;
 use rv_machine::machine::Machine;
-use script_form::Command;
+use thin_script::Command;
 use std::alloc::{AllocError, Global};
 use std::marker::Model;
 

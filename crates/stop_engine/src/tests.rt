@@ -6,7 +6,7 @@ ghost use Rattle.stop_engine.specs.Plain.{IsPlain};
 
 use crate::{Engine, Halt, Shown};
 use image_form::Image;
-use script_form::Command;
+use thin_script::Command;
 use std::alloc::{AllocError, Global};
 use std::process::Abort;
 use std::test::Fail;

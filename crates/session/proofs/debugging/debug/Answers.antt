@@ -4,7 +4,7 @@ use Rattle.image_form.specs.Form.{form}
 use Rattle.outside.specs.Held.{Loads}
 use Rattle.outside.specs.Taken.{TakesPart}
 use Rattle.line_form.specs.Lines.{line}
-use Rattle.script_form.specs.Script.{orders}
+use Rattle.thin_script.specs.Script.{orders}
 use Rattle.stop_engine.specs.EngineState.{fresh_engine, lines_of}
 use Rattle.session.specs.declared.preparing.Prepared.{Prepared}
 use Rattle.command_line.specs.Job.{debug_given}

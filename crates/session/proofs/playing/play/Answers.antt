@@ -3,7 +3,7 @@ use Rattle.std.specs.Prelude.{Vec}
 use Rattle.std.specs.Global.{Global}
 use Rattle.std.specs.List.{flat_map}
 use Rattle.line_form.specs.Lines.{line}
-use Rattle.script_form.specs.Script.{orders, order_of}
+use Rattle.thin_script.specs.Script.{orders, order_of}
 use Rattle.stop_engine.specs.EngineState.{lines_of}
 use Rattle.session.proofs.Parts.{IsUnderWay, on_err_anyway}
 use Rattle.session.proofs.Orders.{order_left, order_part, order_taken}

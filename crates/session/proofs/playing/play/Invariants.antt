@@ -1,7 +1,7 @@
 use Rattle.std.proofs.Common.{◌≡◌, true, drop, map}
 use Rattle.std.specs.List.{flat_map}
 use Rattle.line_form.specs.Lines.{line}
-use Rattle.script_form.specs.Script.{orders}
+use Rattle.thin_script.specs.Script.{orders}
 use Rattle.stop_engine.specs.EngineState.{lines_of}
 use Rattle.session.proofs.Parts.{IsUnderWay}
 use Rattle.session.proofs.playing.play.Given as goal

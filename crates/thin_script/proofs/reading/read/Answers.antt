@@ -1,5 +1,5 @@
-use Rattle.script_form.proofs.Progress.{leaves_behind, one_line_more, one_name_more}
-use Rattle.script_form.proofs.reading.read.Goals as goal
+use Rattle.thin_script.proofs.Progress.{leaves_behind, one_line_more, one_name_more}
+use Rattle.thin_script.proofs.reading.read.Goals as goal
 
 pub loop-rest-preserved : goal.loop-rest-preserved
 loop-rest-preserved c =

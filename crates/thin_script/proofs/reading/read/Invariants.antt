@@ -1,8 +1,8 @@
 use Rattle.std.proofs.Common.{◌≡◌, ◌++◌, length}
 use Rattle.std.specs.Prelude.{All}
-use Rattle.script_form.specs.Script.{IsNamed, orders, script_text}
-use Rattle.script_form.proofs.Progress.{LeavesOrders}
-use Rattle.script_form.proofs.reading.read.Given as goal
+use Rattle.thin_script.specs.Script.{IsNamed, orders, script_text}
+use Rattle.thin_script.proofs.Progress.{LeavesOrders}
+use Rattle.thin_script.proofs.reading.read.Given as goal
 
 abbrev pub invariant-loop-rest : goal.invariant-loop-rest
 invariant-loop-rest l = record {

@@ -6,8 +6,8 @@ use Rattle.std.proofs.lemmas.Bool.{and_parts, or_parts, or_left, or_right, ne_eq
 use Rattle.std.proofs.lemmas.List.{length-append}
 use Rattle.std.proofs.lemmas.List.Elements.{All-head, All-tail}
 use Rattle.std.proofs.lemmas.List.Folds.{list_any-append}
-use Rattle.script_form.specs.Script.{Order, Step, Print, IsNamed, is_name_byte, order_text, order_line, script_text}
-use Rattle.script_form.specs.Refusal.{IsLineOf}
+use Rattle.thin_script.specs.Script.{Order, Step, Print, IsNamed, is_name_byte, order_text, order_line, script_text}
+use Rattle.thin_script.specs.Refusal.{IsLineOf}
 
 -- a line feed is among the bytes
 abbrev has_feed : List ℕ → Bool

@@ -1,0 +1,4 @@
+pub mod FirstLine
+pub mod Names
+pub mod Orders
+pub mod Progress
