@@ -57,13 +57,18 @@ fn shelf(
     Ok(shelf)
 }
 
+/// A session in memory. What its contract says is left out here, so that a test owes no proof of what it looks at.
+fn run(alloc: Global, words: &[String], shelf: &mut MemShelf, sink: &mut MemSink) -> Status {
+    session(alloc, words, shelf, sink)
+}
+
 #[test]
 fn a_program_runs_from_its_bytes_to_its_transcript(rt: HostRuntime) -> Result<(), Fail> {
     let mut shelf = shelf(rt.alloc(), PROGRAM, SCRIPT, [].as_slice())?;
     let mut sink = MemSink::new(rt.alloc(), [].as_slice())?;
     let words = job(rt.alloc())?;
     assert_eq!(rt;
-        session(rt.alloc(), &words, &mut shelf, &mut sink),
+        run(rt.alloc(), &words, &mut shelf, &mut sink),
         Status::Done
     );
     assert_eq!(rt; sink.bytes(), TRANSCRIPT);
@@ -76,7 +81,7 @@ fn an_empty_script_saves_the_image_and_says_nothing(rt: HostRuntime) -> Result<(
     let mut sink = MemSink::new(rt.alloc(), [].as_slice())?;
     let words = job(rt.alloc())?;
     assert_eq!(rt;
-        session(rt.alloc(), &words, &mut shelf, &mut sink),
+        run(rt.alloc(), &words, &mut shelf, &mut sink),
         Status::Done
     );
     assert_eq!(rt; sink.bytes(), b"".as_slice());
@@ -92,11 +97,11 @@ fn a_sink_that_fails_at_its_second_line_has_taken_the_first(rt: HostRuntime) -> 
     let mut sink = MemSink::new(rt.alloc(), [2].as_slice())?;
     let words = job(rt.alloc())?;
     assert_eq!(rt;
-        session(rt.alloc(), &words, &mut whole, &mut all),
+        run(rt.alloc(), &words, &mut whole, &mut all),
         Status::Done
     );
     assert_eq!(rt;
-        session(rt.alloc(), &words, &mut shelf, &mut sink),
+        run(rt.alloc(), &words, &mut shelf, &mut sink),
         Status::WriteFault
     );
     assert_eq!(rt; sink.bytes(), b"at 2 line 2 main depth 1\n".as_slice());
@@ -113,7 +118,7 @@ fn a_load_that_fails_ends_the_session(rt: HostRuntime) -> Result<(), Fail> {
     let mut sink = MemSink::new(rt.alloc(), [].as_slice())?;
     let words = job(rt.alloc())?;
     assert_eq!(rt;
-        session(rt.alloc(), &words, &mut shelf, &mut sink),
+        run(rt.alloc(), &words, &mut shelf, &mut sink),
         Status::ReadFault
     );
     assert_eq!(rt; sink.bytes(), b"".as_slice());
@@ -126,7 +131,7 @@ fn a_save_that_fails_leaves_no_image_and_says_nothing(rt: HostRuntime) -> Result
     let mut sink = MemSink::new(rt.alloc(), [].as_slice())?;
     let words = job(rt.alloc())?;
     assert_eq!(rt;
-        session(rt.alloc(), &words, &mut shelf, &mut sink),
+        run(rt.alloc(), &words, &mut shelf, &mut sink),
         Status::WriteFault
     );
     assert_eq!(rt; sink.bytes(), b"".as_slice());
@@ -139,7 +144,7 @@ fn an_unknown_command_refuses_the_script(rt: HostRuntime) -> Result<(), Fail> {
     let mut shelf = shelf(rt.alloc(), PROGRAM, b"jump 3\n".as_slice(), [].as_slice())?;
     let mut sink = MemSink::new(rt.alloc(), [].as_slice())?;
     let words = job(rt.alloc())?;
-    let status = session(rt.alloc(), &words, &mut shelf, &mut sink);
+    let status = run(rt.alloc(), &words, &mut shelf, &mut sink);
     assert_eq!(rt; status, Status::ScriptRefused(Code::UNKNOWN_COMMAND, 1));
     assert_eq!(rt; status.number(), 4);
     assert_eq!(rt;
@@ -155,7 +160,7 @@ fn the_empty_source_is_refused(rt: HostRuntime) -> Result<(), Fail> {
     let mut shelf = shelf(rt.alloc(), b"".as_slice(), SCRIPT, [].as_slice())?;
     let mut sink = MemSink::new(rt.alloc(), [].as_slice())?;
     let words = job(rt.alloc())?;
-    let status = session(rt.alloc(), &words, &mut shelf, &mut sink);
+    let status = run(rt.alloc(), &words, &mut shelf, &mut sink);
     assert_eq!(rt; status, Status::SourceRefused(Code::UNEXPECTED_KEYWORD, 1));
     assert_eq!(rt; status.number(), 3);
     assert_eq!(rt;
@@ -175,7 +180,7 @@ fn a_source_is_refused_before_its_script(rt: HostRuntime) -> Result<(), Fail> {
     )?;
     let mut sink = MemSink::new(rt.alloc(), [].as_slice())?;
     let words = job(rt.alloc())?;
-    let status = session(rt.alloc(), &words, &mut shelf, &mut sink);
+    let status = run(rt.alloc(), &words, &mut shelf, &mut sink);
     assert_eq!(rt; status, Status::SourceRefused(Code::UNEXPECTED_KEYWORD, 1));
     Ok(())
 }
@@ -199,7 +204,7 @@ fn the_image_has_the_size_of_its_parts(rt: HostRuntime) -> Result<(), Fail> {
     let mut sink = MemSink::new(rt.alloc(), [].as_slice())?;
     let words = job(rt.alloc())?;
     assert_eq!(rt;
-        session(rt.alloc(), &words, &mut shelf, &mut sink),
+        run(rt.alloc(), &words, &mut shelf, &mut sink),
         Status::Done
     );
     let image = shelf.held("image").ok_or("no image")?;
@@ -223,7 +228,7 @@ fn status_of_words(alloc: Global, text: &str) -> Result<Status, AllocError> {
     for word in text.split(' ') {
         words.push(String::from_str(alloc, word)?)?;
     }
-    Ok(session(alloc, &words, &mut shelf, &mut sink))
+    Ok(run(alloc, &words, &mut shelf, &mut sink))
 }
 
 #[test]
@@ -272,7 +277,7 @@ fn options_stand_in_any_order_and_the_limit_is_kept(rt: HostRuntime) -> Result<(
     ];
     let reordered = words(rt.alloc(), texts.as_slice())?;
     assert_eq!(rt;
-        session(rt.alloc(), &reordered, &mut shelf, &mut sink),
+        run(rt.alloc(), &reordered, &mut shelf, &mut sink),
         Status::Done
     );
     assert_eq!(rt; sink.bytes(), TRANSCRIPT);
@@ -283,7 +288,7 @@ fn options_stand_in_any_order_and_the_limit_is_kept(rt: HostRuntime) -> Result<(
     no_instruction.push(String::from_str(rt.alloc(), "--limit")?)?;
     no_instruction.push(String::from_str(rt.alloc(), "0")?)?;
     assert_eq!(rt;
-        session(rt.alloc(), &no_instruction, &mut shelf, &mut stopped),
+        run(rt.alloc(), &no_instruction, &mut shelf, &mut stopped),
         Status::Done
     );
     assert_eq!(rt; stopped.bytes(), b"limit 0\n".as_slice());
@@ -306,7 +311,7 @@ fn a_script_or_an_input_may_be_too_long(rt: HostRuntime) -> Result<(), Fail> {
     let mut sink = MemSink::new(rt.alloc(), [].as_slice())?;
     let words = job(rt.alloc())?;
     // The third load would fail: that of the input does not come.
-    let status = session(rt.alloc(), &words, &mut shelf, &mut sink);
+    let status = run(rt.alloc(), &words, &mut shelf, &mut sink);
     assert_eq!(rt; status.number(), 9);
     assert_eq!(rt;
         fault_text(rt.alloc(), &status)?.as_str(),
@@ -319,7 +324,7 @@ fn a_script_or_an_input_may_be_too_long(rt: HostRuntime) -> Result<(), Fail> {
     larger.place(rt.alloc(), "program.c", b"int".as_slice())?;
     larger.place(rt.alloc(), "script", b"jump 3\n".as_slice())?;
     larger.place(rt.alloc(), "input", &spaces(rt.alloc(), 16777217)?)?;
-    let status = session(rt.alloc(), &words, &mut larger, &mut sink);
+    let status = run(rt.alloc(), &words, &mut larger, &mut sink);
     assert_eq!(rt;
         fault_text(rt.alloc(), &status)?.as_str(),
         "cdbg: too long input"
@@ -335,7 +340,7 @@ fn an_ending_is_said_again_and_no_stop_is_shown_there(rt: HostRuntime) -> Result
     let mut sink = MemSink::new(rt.alloc(), [].as_slice())?;
     let words = job(rt.alloc())?;
     assert_eq!(rt;
-        session(rt.alloc(), &words, &mut shelf, &mut sink),
+        run(rt.alloc(), &words, &mut shelf, &mut sink),
         Status::Done
     );
     let expected =

@@ -5,7 +5,6 @@ pub mod FirstAt
 pub mod Gathered
 pub mod FunctionsKept
 pub mod Kept
-pub mod LargeImage
 pub mod NamesKept
 pub mod NodesKept
 pub mod OneSpelling
@@ -15,7 +14,6 @@ pub mod ReadBack
 pub mod RecordsBack
 pub mod RowLaws
 pub mod RowsKept
-pub mod SmallImage
 pub mod Sound
 pub mod SpelledRows
 pub mod TableLaws

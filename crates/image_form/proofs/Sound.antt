@@ -6,8 +6,8 @@ use Rattle.std.specs.Option.{option_map_or}
 use Rattle.std.proofs.lemmas.Bool.{leb-true, ltb-false, eqb-true, and_parts}
 use Rattle.std.proofs.lemmas.List.{length-map, length-take-le, drop-drop}
 use Rattle.std.proofs.lemmas.Slice.Eq.{bytes_eq-Decides}
-use Rattle.image_form.specs.declared.fault.Code.{Code}
-use Rattle.image_form.specs.declared.fault.Code.TheVariants.{I01, I12}
+use Rattle.debug_records.specs.declared.code.Code.{Code}
+use Rattle.debug_records.specs.declared.code.TheConstants.Code.{HEADER_SIZE, NODES_AND_NAMES}
 use Rattle.image_form.specs.declared.fault.ImageErr.{ImageErr}
 use Rattle.image_form.specs.declared.format.Image.{Image}
 use Rattle.image_form.specs.Breaches.{Fault, ◌>>=◌, Check, first_breach, first_broken, breach_in, Gives}
@@ -45,7 +45,7 @@ kept_of code start size tests n e i lt =
     let same : 0 + i ≡ i = omega arith in
     subst (λ j. AllTrue (tests j)) same (rows_kept tests n 0 (none_in code start size (first_broken tests n 0) e) i lt)
 
-no_misfit : (start : ℕ) (o : Option ℕ) → option_map_or {U = Result (Unit {0}) Fault} (λ k. Err (I12, start + k)) o (Ok tt) ≡ Ok tt → o ≡ None
+no_misfit : (start : ℕ) (o : Option ℕ) → option_map_or {U = Result (Unit {0}) Fault} (λ k. Err (NODES_AND_NAMES, start + k)) o (Ok tt) ≡ Ok tt → o ≡ None
 no_misfit start None e = refl
 no_misfit start (Some k) e = absurd cc
 
@@ -493,7 +493,7 @@ same_ok x y e = cc
 pub read_sound : (bytes : List ℕ) (f : Form) → AreBytes bytes → read_of bytes ≡ Ok f → IsImage f × (bytes ≡ spelling f)
 unfolding read_of
 read_sound bytes f are e =
-    let long = ok_of (ltb (length bytes) 64) (I01, length bytes) _ f e in
+    let long = ok_of (ltb (length bytes) 64) (HEADER_SIZE, length bytes) _ f e in
     let checks = bind_ok (first_breach (header_checks bytes)) _ f long.1 in
     let program = bind_ok (breach_of_program (sections_at bytes)) _ f checks.1 in
     let tables = bind_ok (breach_of_tables (sections_at bytes)) _ f program.1 in

@@ -1,7 +1,7 @@
 -- The first rule that is broken, in the order of the file.
 use Rattle.std.specs.Prelude.{◌≡◌, ℕ, zero, suc, ◌+◌, ◌*◌, Bool, true, false, if◌then◌else◌, List, [], ◌∷◌, Option, Some, None, Result, Ok, Err}
 use Rattle.std.specs.Option.{option_map, option_map_or}
-use Rattle.image_form.specs.declared.fault.Code.{Code}
+use Rattle.debug_records.specs.declared.code.Code.{Code}
 use Rattle.image_form.specs.declared.fault.ImageErr.{ImageErr}
 use Rattle.image_form.specs.declared.fault.ImageErr.TheVariants as errors
 

@@ -14,7 +14,6 @@ pub mod RulesOfNodes
 pub mod RulesOfPlaces
 pub mod RulesOfRows
 pub mod RulesOfVariables
-pub mod Samples
 pub mod Sections
 pub mod Spelling
 pub mod TestsOfChanges

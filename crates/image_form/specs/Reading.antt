@@ -2,7 +2,7 @@
 use Rattle.std.specs.Prelude.{ℕ, ◌+◌, ◌*◌, ◌%◌, ◌&&◌, ◌==◌, nat_lt, nat_le, if◌then◌else◌, List, [], ◌∷◌, length, take, Result, Ok, Err, codes}
 use Rattle.std.specs.Option.{option_map_or}
 use Rattle.std.specs.Str.{bytes_eq}
-use Rattle.image_form.specs.declared.fault.Code.TheVariants.{I01, I02, I03, I04, I05, I06, I07, I08, I09, I10, I11, I12}
+use Rattle.debug_records.specs.declared.code.TheConstants.Code.{HEADER_SIZE, MAGIC, VERSION, LENGTH, HEADER_NUMBERS, FUNCTIONS, PLACES, OWNERS, VARIABLES, CHANGES, PAIRS_AND_ROWS, NODES_AND_NAMES}
 use Rattle.image_form.specs.Breaches.{Fault, ◌>>=◌, Check, first_breach, first_broken, breach_in}
 use Rattle.image_form.specs.Decoding.{decoded}
 use Rattle.image_form.specs.Form.{Form}
@@ -23,21 +23,21 @@ size_told bytes =
 -- The rules of the mode and the counts.
 abbrev pub count_checks : List ℕ → List Check
 count_checks bytes =
-    record { code = I05; at = 12; kept = nat_le (number_at bytes 12) 1 }
-    ∷ record { code = I05; at = 16; kept = nat_le (number_at bytes 16) 262144 }
-    ∷ record { code = I05; at = 20; kept = nat_le (number_at bytes 20) 1048576 && number_at bytes 20 % 4 == 0 }
-    ∷ record { code = I05; at = 24; kept = nat_le 1 (number_at bytes 24) }
-    ∷ record { code = I05; at = 28; kept = nat_le 1 (number_at bytes 28) }
-    ∷ record { code = I05; at = 48; kept = nat_le (number_at bytes 48) 1000000 }
-    ∷ record { code = I05; at = 60; kept = number_at bytes 60 == 0 }
+    record { code = HEADER_NUMBERS; at = 12; kept = nat_le (number_at bytes 12) 1 }
+    ∷ record { code = HEADER_NUMBERS; at = 16; kept = nat_le (number_at bytes 16) 262144 }
+    ∷ record { code = HEADER_NUMBERS; at = 20; kept = nat_le (number_at bytes 20) 1048576 && number_at bytes 20 % 4 == 0 }
+    ∷ record { code = HEADER_NUMBERS; at = 24; kept = nat_le 1 (number_at bytes 24) }
+    ∷ record { code = HEADER_NUMBERS; at = 28; kept = nat_le 1 (number_at bytes 28) }
+    ∷ record { code = HEADER_NUMBERS; at = 48; kept = nat_le (number_at bytes 48) 1000000 }
+    ∷ record { code = HEADER_NUMBERS; at = 60; kept = number_at bytes 60 == 0 }
     ∷ []
 
 -- The rules of the header, of at least 64 bytes.
 abbrev pub header_checks : List ℕ → List Check
 header_checks bytes =
-    record { code = I02; at = 0; kept = bytes_eq (codes "CDBG") (take 4 bytes) }
-    ∷ record { code = I03; at = 4; kept = number_at bytes 4 == 1 }
-    ∷ record { code = I04; at = 8; kept = number_at bytes 8 == length bytes && size_told bytes == length bytes }
+    record { code = MAGIC; at = 0; kept = bytes_eq (codes "CDBG") (take 4 bytes) }
+    ∷ record { code = VERSION; at = 4; kept = number_at bytes 4 == 1 }
+    ∷ record { code = LENGTH; at = 8; kept = number_at bytes 8 == length bytes && size_told bytes == length bytes }
     ∷ count_checks bytes
 
 -- Where sections begin.
@@ -74,24 +74,24 @@ names_start s = nodes_start s + 12 * length s.nodes
 -- The first breach of functions, places, owners, variables and changes.
 unfoldable pub breach_of_program : Sections → Result (Unit {0}) Fault
 breach_of_program s =
-    breach_in I06 (functions_start s) 20 (first_broken (function_tests s) (length s.functions) 0) >>= λ _.
-    breach_in I07 (places_start s) 16 (first_broken (place_tests s) (length s.places) 0) >>= λ _.
-    breach_in I08 (owners_start s) 4 (first_broken (owner_tests s) (length s.owners) 0) >>= λ _.
-    breach_in I09 (variables_start s) 32 (first_broken (variable_tests s) (length s.variables) 0) >>= λ _.
-    breach_in I10 (changes_start s) 20 (first_broken (change_tests s) (length s.changes) 0)
+    breach_in FUNCTIONS (functions_start s) 20 (first_broken (function_tests s) (length s.functions) 0) >>= λ _.
+    breach_in PLACES (places_start s) 16 (first_broken (place_tests s) (length s.places) 0) >>= λ _.
+    breach_in OWNERS (owners_start s) 4 (first_broken (owner_tests s) (length s.owners) 0) >>= λ _.
+    breach_in VARIABLES (variables_start s) 32 (first_broken (variable_tests s) (length s.variables) 0) >>= λ _.
+    breach_in CHANGES (changes_start s) 20 (first_broken (change_tests s) (length s.changes) 0)
 
 -- The first breach of pairs, visible rows, nodes and names.
 unfoldable pub breach_of_tables : Sections → Result (Unit {0}) Fault
 breach_of_tables s =
-    breach_in I11 (flow_start s) 8 (first_broken (flow_tests s) (length s.flow) 0) >>= λ _.
-    breach_in I11 (assigned_start s) 8 (first_broken (assigned_tests s) (length s.assigned) 0) >>= λ _.
-    breach_in I11 (rows_start s) 24 (first_broken (row_tests s) (length s.rows) 0) >>= λ _.
-    breach_in I12 (nodes_start s) 12 (first_broken (node_tests s) (length s.nodes) 0) >>= λ _.
-    option_map_or (λ k. Err (I12, names_start s + k)) (first_misfit (name_tests s) s.names) (Ok tt)
+    breach_in PAIRS_AND_ROWS (flow_start s) 8 (first_broken (flow_tests s) (length s.flow) 0) >>= λ _.
+    breach_in PAIRS_AND_ROWS (assigned_start s) 8 (first_broken (assigned_tests s) (length s.assigned) 0) >>= λ _.
+    breach_in PAIRS_AND_ROWS (rows_start s) 24 (first_broken (row_tests s) (length s.rows) 0) >>= λ _.
+    breach_in NODES_AND_NAMES (nodes_start s) 12 (first_broken (node_tests s) (length s.nodes) 0) >>= λ _.
+    option_map_or (λ k. Err (NODES_AND_NAMES, names_start s + k)) (first_misfit (name_tests s) s.names) (Ok tt)
 
 -- The image that bytes spell, or their first breach in the order of the file.
 unfoldable pub read_of : List ℕ → Result Form Fault
 read_of bytes =
-    if nat_lt (length bytes) 64 then Err (I01, length bytes)
+    if nat_lt (length bytes) 64 then Err (HEADER_SIZE, length bytes)
     else first_breach (header_checks bytes) >>= λ _. breach_of_program (sections_at bytes) >>= λ _.
     breach_of_tables (sections_at bytes) >>= λ _. Ok (decoded (sections_at bytes))

@@ -35,7 +35,7 @@ unfoldable pub is_place_address : Sections → ℕ → Bool
 is_place_address s i =
     cell s.places i 3 % 4 == 0 && is_in_function s (cell s.places i 2) (cell s.places i 3) && is_first_place s i (cell s.places i 3)
 
--- The the line, the function and the address of the i-th place.
+-- The position, the line, the function and the address of the i-th place.
 abbrev pub place_tests : Sections → ℕ → List Bool
 place_tests s i =
     is_above s.places 0 i ∷ (nat_le 1 (cell s.places i 1) && is_not_below s.places 1 i)

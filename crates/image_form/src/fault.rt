@@ -3,43 +3,18 @@
 ghost use Rattle.std.specs.Prelude.{◌≡◌};
 ghost use Rattle.image_form.specs.declared.fault.ImageErr.TheVariants.{NoMemory};
 
+use debug_records::Code;
 use std::alloc::{AllocError, AllocFailed};
-
-/// The rule that bytes break.
-#[derive(Clone, Copy, Debug, PartialEq, Eq)]
-pub enum Code {
-    /// Fewer bytes than a header has.
-    I01,
-    /// The first four bytes.
-    I02,
-    /// The version.
-    I03,
-    /// The length.
-    I04,
-    /// The mode, or how many records a section has.
-    I05,
-    /// A function.
-    I06,
-    /// A place.
-    I07,
-    /// The owner of a code word.
-    I08,
-    /// A variable.
-    I09,
-    /// A change.
-    I10,
-    /// A flow pair, an assigned pair or a visible row.
-    I11,
-    /// A node or a name.
-    I12,
-}
+use thiserror::Error;
 
 /// Why bytes were not read.
-#[derive(Clone, Copy, Debug, PartialEq, Eq)]
+#[derive(Clone, Copy, Debug, PartialEq, Eq, Error)]
 pub enum ImageErr {
-    /// The bytes are no image: the first rule that they break, and the byte at which they do.
+    /// The bytes are no image: the code of the first rule that they break, and the byte, counted from 0, at which they do.
+    #[error("image refused {0} offset {1}")]
     Refused(Code, usize),
-    /// Memory ran out.
+    /// Memory was wanting.
+    #[error("out of memory")]
     NoMemory,
 }
 

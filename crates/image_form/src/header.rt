@@ -5,8 +5,9 @@ ghost use Rattle.image_form.specs.Breaches.{Gives, first_breach};
 ghost use Rattle.image_form.specs.Reading.{count_checks, header_checks, size_told};
 ghost use Rattle.image_form.specs.Sections.{number_at};
 
-use crate::fault::{Code, ImageErr};
+use crate::fault::ImageErr;
 use crate::table::number_at;
+use debug_records::Code;
 
 /// How many bytes a header has.
 pub const HEADER_SIZE: usize = 64;
@@ -78,13 +79,13 @@ pub fn check_header(bytes: &[u8]) -> Result<(), ImageErr>
     ensures size { OnOk result (size_told bytes.now ≡ length bytes.now) }
 {
     if !bytes.starts_with(MAGIC) {
-        return Err(ImageErr::Refused(Code::I02, 0));
+        return Err(ImageErr::Refused(Code::MAGIC, 0));
     }
     if number_at(bytes, VERSION) != FORMAT_VERSION {
-        return Err(ImageErr::Refused(Code::I03, VERSION));
+        return Err(ImageErr::Refused(Code::VERSION, VERSION));
     }
     if number_at(bytes, LENGTH) as usize != bytes.len() || size_told(bytes) != bytes.len() as u64 {
-        return Err(ImageErr::Refused(Code::I04, LENGTH));
+        return Err(ImageErr::Refused(Code::LENGTH, LENGTH));
     }
     check_counts(bytes)
 }
@@ -94,27 +95,27 @@ fn check_counts(bytes: &[u8]) -> Result<(), ImageErr>
     ensures { Gives (λ _. tt) result (first_breach (count_checks bytes.now)) }
 {
     if number_at(bytes, MODE) > 1 {
-        return Err(ImageErr::Refused(Code::I05, MODE));
+        return Err(ImageErr::Refused(Code::HEADER_NUMBERS, MODE));
     }
     if number_at(bytes, CODE_WORDS) > MOST_CODE_WORDS {
-        return Err(ImageErr::Refused(Code::I05, CODE_WORDS));
+        return Err(ImageErr::Refused(Code::HEADER_NUMBERS, CODE_WORDS));
     }
     if number_at(bytes, INITIAL_BYTES) > MOST_INITIAL_BYTES
         || number_at(bytes, INITIAL_BYTES) % 4 != 0
     {
-        return Err(ImageErr::Refused(Code::I05, INITIAL_BYTES));
+        return Err(ImageErr::Refused(Code::HEADER_NUMBERS, INITIAL_BYTES));
     }
     if number_at(bytes, FUNCTIONS) == 0 {
-        return Err(ImageErr::Refused(Code::I05, FUNCTIONS));
+        return Err(ImageErr::Refused(Code::HEADER_NUMBERS, FUNCTIONS));
     }
     if number_at(bytes, PLACES) == 0 {
-        return Err(ImageErr::Refused(Code::I05, PLACES));
+        return Err(ImageErr::Refused(Code::HEADER_NUMBERS, PLACES));
     }
     if number_at(bytes, VISIBLE_ROWS) > MOST_VISIBLE_ROWS {
-        return Err(ImageErr::Refused(Code::I05, VISIBLE_ROWS));
+        return Err(ImageErr::Refused(Code::HEADER_NUMBERS, VISIBLE_ROWS));
     }
     if number_at(bytes, ZERO) != 0 {
-        return Err(ImageErr::Refused(Code::I05, ZERO));
+        return Err(ImageErr::Refused(Code::HEADER_NUMBERS, ZERO));
     }
     Ok(())
 }

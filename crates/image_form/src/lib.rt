@@ -23,7 +23,7 @@ mod variables;
 mod verdicts;
 mod writing;
 
-pub use fault::{Code, ImageErr};
+pub use fault::ImageErr;
 pub use format::{Image, Mode};
 pub use reading::read;
 pub use recipes::{Node, NodeOperation};

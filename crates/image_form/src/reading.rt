@@ -12,7 +12,7 @@ ghost use Rattle.image_form.specs.Spelling.{spelling};
 
 use crate::change_rules::{AssignedRule, ChangeRule, FlowRule, VisibleRule};
 use crate::code_rules::{FunctionRule, OwnerRule, PlaceRule, first_places};
-use crate::fault::{Code, ImageErr};
+use crate::fault::ImageErr;
 use crate::format::{Image, Mode};
 use crate::header::{HEADER_SIZE, check_header};
 use crate::layout::{Layout, layout_of};
@@ -25,6 +25,7 @@ use crate::starts::{
     owners_start, places_start, rows_start, variables_start,
 };
 use crate::variable_rules::VariableRule;
+use debug_records::Code;
 use std::alloc::{AllocError, Global};
 
 /// The image that the bytes spell.
@@ -49,7 +50,7 @@ fn read_exactly(alloc: Global, bytes: &[u8]) -> Result<Image, ImageErr>
     ensures { Gives form result (read_of bytes.now) }
 {
     if bytes.len() < HEADER_SIZE {
-        return Err(ImageErr::Refused(Code::I01, bytes.len()));
+        return Err(ImageErr::Refused(Code::HEADER_SIZE, bytes.len()));
     }
     check_header(bytes)?;
     let layout = layout_of(bytes);
@@ -84,7 +85,7 @@ fn check_program(alloc: Global, layout: &Layout<'_>) -> Result<(), ImageErr>
     let start = functions_start(layout);
     let count = layout.functions.len();
     breach(
-        Code::I06,
+        Code::FUNCTIONS,
         start,
         20,
         first_fault(&FunctionRule { layout }, count),
@@ -96,18 +97,18 @@ fn check_program(alloc: Global, layout: &Layout<'_>) -> Result<(), ImageErr>
         layout,
         firsts: &firsts,
     };
-    breach(Code::I07, start, 16, first_fault(&rule, count))?;
+    breach(Code::PLACES, start, 16, first_fault(&rule, count))?;
     let start = owners_start(layout);
     let count = layout.owners.len();
     let rule = OwnerRule {
         layout,
         firsts: &firsts,
     };
-    breach(Code::I08, start, 4, first_fault(&rule, count))?;
+    breach(Code::OWNERS, start, 4, first_fault(&rule, count))?;
     let start = variables_start(layout);
     let count = layout.variables.len();
     breach(
-        Code::I09,
+        Code::VARIABLES,
         start,
         32,
         first_fault(&VariableRule { layout }, count),
@@ -115,7 +116,7 @@ fn check_program(alloc: Global, layout: &Layout<'_>) -> Result<(), ImageErr>
     let start = changes_start(layout);
     let count = layout.changes.len();
     breach(
-        Code::I10,
+        Code::CHANGES,
         start,
         20,
         first_fault(&ChangeRule { layout }, count),
@@ -130,7 +131,7 @@ fn check_tables(alloc: Global, layout: &Layout<'_>) -> Result<(), ImageErr>
     let start = flow_start(layout);
     let count = layout.flow.len();
     breach(
-        Code::I11,
+        Code::PAIRS_AND_ROWS,
         start,
         8,
         first_fault(&FlowRule { layout }, count),
@@ -138,7 +139,7 @@ fn check_tables(alloc: Global, layout: &Layout<'_>) -> Result<(), ImageErr>
     let start = assigned_start(layout);
     let count = layout.assigned.len();
     breach(
-        Code::I11,
+        Code::PAIRS_AND_ROWS,
         start,
         8,
         first_fault(&AssignedRule { layout }, count),
@@ -146,7 +147,7 @@ fn check_tables(alloc: Global, layout: &Layout<'_>) -> Result<(), ImageErr>
     let start = rows_start(layout);
     let count = layout.rows.len();
     breach(
-        Code::I11,
+        Code::PAIRS_AND_ROWS,
         start,
         24,
         first_fault(&VisibleRule { layout }, count),
@@ -158,9 +159,9 @@ fn check_tables(alloc: Global, layout: &Layout<'_>) -> Result<(), ImageErr>
         layout,
         firsts: &firsts,
     };
-    breach(Code::I12, start, 12, first_fault(&rule, count))?;
+    breach(Code::NODES_AND_NAMES, start, 12, first_fault(&rule, count))?;
     match first_misfit(layout) {
-        Some(at) => Err(ImageErr::Refused(Code::I12, names_start(layout) + at)),
+        Some(at) => Err(ImageErr::Refused(Code::NODES_AND_NAMES, names_start(layout) + at)),
         None => Ok(()),
     }
 }

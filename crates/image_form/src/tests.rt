@@ -1,5 +1,4 @@
-//! Two images, their bytes as a separate program in Python spells them, and what it says of altered bytes.
+//! Two images as a separate program in Python spells them, what they say, and what altered and truncated bytes are refused for.
 
 mod reading;
 mod samples;
-mod writing;

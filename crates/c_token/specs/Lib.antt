@@ -1,0 +1,14 @@
+pub mod Tables
+pub mod Lexemes
+pub mod Reading
+pub mod Bytes
+pub mod Blanks
+pub mod Words
+pub mod Constants
+pub mod Literals
+pub mod Punctuators
+pub mod Includes
+pub mod Items
+pub mod Texts
+pub mod Spells
+pub mod Laws

@@ -1,0 +1,5 @@
+pub mod Numbers
+pub mod Orders
+pub mod Searched
+pub mod Taking
+pub mod Tracing

@@ -1,0 +1,35 @@
+use Rattle.std.proofs.Common.{◌<◌, ◌≤◌, All, length, sym, subst, rules}
+use Rattle.places.specs.declared.flow.Step.{Step}
+use Rattle.places.specs.Path.{IsLeastRoute, quest}
+use Rattle.places.specs.Search.{AreBlocked, Expanded, IsWayTo, Searched}
+use Rattle.places.proofs.Searched.{best_way, no_route}
+use Rattle.places.proofs.Taking.{first_visit}
+use Rattle.places.proofs.routes.route.Goals as goal
+
+pub loop-head-init : goal.loop-head-init
+loop-head-init c =
+    let q = quest c.args.table.now c.args.var c.args.start c.args.via c.args.stop in
+    let above : All (λ (s : Step). s.to.0 < c.place_bound-bound.result) c.args.table.now.steps.items = subst (λ ss. All (λ (s : Step). s.to.0 < c.place_bound-bound.result) ss) c.deref.ensures.value c.place_bound-bound.ensures.above in
+    let flags = subst (λ given. AreBlocked given c.args.var.0 c.in_ok-closed.closed.items) c.deref-2.ensures.value c.in_ok-closed.ensures.flags in
+    subst (λ vs. Searched q 0 0 vs c.in_ok-closed.closed.items) (sym c.in_ok-visits.ensures.items) (first_visit q c.in_ok-closed.closed.items c.place_bound-bound.result above c.in_ok-closed.ensures.size flags)
+
+pub trace-requires : goal.trace-requires
+trace-requires c =
+    let q = quest c.args.table.now c.args.var c.args.start c.args.via c.args.stop in
+    let answered = subst (λ b. Expanded q c.loop-head.head b c.expand.new.visits.items c.expand.new.closed) c.if-branch.true c.in_ok-expand.ensures in
+    let best = best_way q c.loop-head.head c.expand.new.visits.items answered in
+    (best.way, subst (λ vs. IsWayTo vs c.loop-head.head best.way) (sym c.deref-then-branch.ensures.value) best.leads)
+
+pub returns-then-branch-clause-found : goal.returns-then-branch-clause-found
+returns-then-branch-clause-found c =
+    let q = quest c.args.table.now c.args.var c.args.start c.args.via c.args.stop in
+    let answered = subst (λ b. Expanded q c.loop-head.head b c.expand.new.visits.items c.expand.new.closed) c.if-branch.true c.in_ok-expand.ensures in
+    let best = best_way q c.loop-head.head c.expand.new.visits.items answered in
+    let path = c.in_ok-path.ensures best.way (subst (λ vs. IsWayTo vs c.loop-head.head best.way) (sym c.deref-then-branch.ensures.value) best.leads) in
+    subst (IsLeastRoute q) (sym path) best.least
+
+pub returns-clause-none : goal.returns-clause-none
+returns-clause-none c =
+    let q = quest c.args.table.now c.args.var c.args.start c.args.via c.args.stop in
+    let past : length c.loop-head.visits.items ≤ c.loop-head.head = search rules in
+    no_route q c.loop-head.head 0 c.loop-head.visits.items c.loop-head.closed.items c.loop-head.invariant past

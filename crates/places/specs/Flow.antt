@@ -1,0 +1,22 @@
+-- Where execution may go from place to place, and what the places assign.
+use Rattle.std.specs.Prelude.{◌≡◌, ℕ, ◌<◌, ◌⊎◌, ◌==◌, ◌&&◌, Bool, List, AllPairs}
+use Rattle.std.specs.List.{list_any}
+use Rattle.places.specs.declared.flow.Step.{Step}
+use Rattle.places.specs.declared.flow.Assignment.{Assignment}
+use Rattle.places.specs.declared.flow.FlowTable.{FlowTable}
+
+-- whether execution may go from place p directly to place q
+abbrev pub can_go : FlowTable → (p q : ℕ) → Bool
+can_go t p q = list_any (λ (s : Step). s.from.0 == p && s.to.0 == q) t.steps.items
+
+-- whether place p assigns variable x
+abbrev pub assigns : FlowTable → (p x : ℕ) → Bool
+assigns t p x = list_any (λ (a : Assignment). a.place.0 == p && a.var.0 == x) t.assignments.items
+
+-- one step comes before another: by the places that they lead from, then by those that they lead to
+abbrev pub IsStepBefore : Step → Step → Type 0
+IsStepBefore s u = (s.from.0 < u.from.0) ⊎ ((s.from.0 ≡ u.from.0) × (s.to.0 < u.to.0))
+
+-- the steps are in order, and each stands once
+abbrev pub AreInOrder : List Step → Type 0
+AreInOrder steps = AllPairs IsStepBefore steps

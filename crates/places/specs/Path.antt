@@ -1,0 +1,65 @@
+-- Paths by flow, and the least of those that lead from a place by way of another to a third.
+use Rattle.std.specs.Prelude.{◌≡◌, ℕ, ◌<◌, ◌⊎◌, ◌==◌, ◌||◌, Bool, true, false, List, [], ◌∷◌, length, map, ⊤}
+use Rattle.debug_records.specs.declared.change.Place.{Place}
+use Rattle.debug_records.specs.declared.change.Var.{Var}
+use Rattle.places.specs.declared.flow.FlowTable.{FlowTable}
+use Rattle.places.specs.declared.paths.Path.{Path}
+use Rattle.places.specs.Flow.{can_go, assigns}
+
+-- the numbers of places
+abbrev pub numbers : List Place → List ℕ
+numbers places = map (λ (p : Place). p.0) places
+
+-- the places of a path, by number
+abbrev pub places : Path → List ℕ
+places path = numbers path.places.items
+
+-- Execution may go from each place directly to the next one.
+abbrev pub GoesOn : FlowTable → List ℕ → Type 0
+GoesOn t [] = ⊤
+GoesOn t (p ∷ []) = ⊤
+GoesOn t (p ∷ q ∷ path) = (can_go t p q ≡ true) × GoesOn t (q ∷ path)
+
+-- What a route is asked for: from a start by way of a place to a stop, while a variable is not assigned.
+pub record Quest : Type 0 where
+  pub table : FlowTable
+  pub var : ℕ
+  pub start : ℕ
+  pub via : ℕ
+  pub stop : ℕ
+
+abbrev pub quest : FlowTable → Var → (start via stop : Place) → Quest
+quest table var start via stop = record { table = table; var = var.0; start = start.0; via = via.0; stop = stop.0 }
+
+-- These places lead on from a place p to the stop. To each of them execution may go directly from the one before. Those before the last
+-- do not assign the variable, the last is the stop, and the place to go by was passed before it.
+abbrev pub LeadOn : Quest → (passed : Bool) → (p : ℕ) → List ℕ → Type 0
+LeadOn quest passed p [] = ⊥
+LeadOn quest passed p (q ∷ []) = (can_go quest.table p q ≡ true) × (q ≡ quest.stop) × (passed ≡ true)
+LeadOn quest passed p (q ∷ r ∷ path) =
+    (can_go quest.table p q ≡ true) × (assigns quest.table q quest.var ≡ false) × LeadOn quest (passed || q == quest.via) q (r ∷ path)
+
+-- The path begins at the start, and leads on to the stop.
+pub record IsRoute (quest : Quest) (path : List ℕ) : Type 0 where
+  pub rest : List ℕ
+  pub begins : path ≡ quest.start ∷ rest
+  pub leads : LeadOn quest (quest.start == quest.via) quest.start rest
+
+-- At the first place where two lists of one length differ, the one has the lesser number.
+abbrev pub IsLess : List ℕ → List ℕ → Type 0
+IsLess [] ys = ⊥
+IsLess (x ∷ xs) [] = ⊥
+IsLess (x ∷ xs) (y ∷ ys) = (x < y) ⊎ ((x ≡ y) × IsLess xs ys)
+
+-- One path comes before another: it is shorter, or as long and less.
+abbrev pub IsBefore : List ℕ → List ℕ → Type 0
+IsBefore xs ys = (length xs < length ys) ⊎ ((length xs ≡ length ys) × IsLess xs ys)
+
+-- The path is the one or comes before the other.
+abbrev pub IsNotBehind : List ℕ → List ℕ → Type 0
+IsNotBehind xs ys = (xs ≡ ys) ⊎ IsBefore xs ys
+
+-- The path is a route, and every other route comes behind it.
+pub record IsLeastRoute (quest : Quest) (path : List ℕ) : Type 0 where
+  pub route : IsRoute quest path
+  pub least : (other : List ℕ) → IsRoute quest other → IsNotBehind path other

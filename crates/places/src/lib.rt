@@ -1,0 +1,13 @@
+//! The places of a source, and the paths along which its execution may go.
+#![tactic(auto)]
+
+mod flow;
+mod paths;
+mod routes;
+mod search;
+//#[cfg(test)]
+//mod tests;
+
+pub use flow::{Assignment, FlowTable, Step};
+pub use paths::{Path, is_path};
+pub use routes::route;
