@@ -9,7 +9,7 @@ use Rattle.std.specs.Prelude.{Result, Ok, Err, IfOk, IfSome, IfNone, option_map,
 use Rattle.command_line.specs.Words.{Form, Text, Use, Uses, in_place, is_dashed, is_equals, is_used, job_named, long_word, name_and_value, uses_from, uses_of, with_use}
 use Rattle.command_line.specs.Forms.{attach_form, compile_form, debug_form, jobs, of_job, passes_form, reading, sweep_form}
 use Rattle.command_line.specs.Grammar.{AreItems, AreNew, AreOneJobAtMost, IsJob, IsNoJob, Item, Spells, apart, joined, positional, spellings, uses_in}
-use Rattle.command_line.specs.Job.{JobGiven, job_by, job_given, job_in, read_job, word_of}
+use Rattle.command_line.specs.Job.{JobGiven, job_given, job_in, read_job}
 use Rattle.command_line.specs.declared.job.Job.{Job}
 
 -- a form's option names hold no `=` and are not empty, so their spellings read back

@@ -1,6 +1,6 @@
 -- What `clap` makes of the words of one job, beside what the form of the job gives.
 use Rattle.std.proofs.Common.{arith, refl, sym, ap, ap₂, ◌∙◌, ◌≡◌, ℕ, ◌+◌, ◌<◌, ◌==◌, ◌&&◌, ◌||◌, cond, Bool, true, false, not, zero, suc, List, [], ◌∷◌, ◌++◌, map, length, min, Option, Some, None, true≢false}
-use Rattle.std.specs.Prelude.{fold, find, is_some, slice_get, option_map, if◌then◌else◌}
+use Rattle.std.specs.Prelude.{fold, find, slice_get, option_map, if◌then◌else◌}
 use Rattle.std.specs.List.{list_all, list_any}
 use Rattle.std.specs.Str.{bytes_eq}
 use Rattle.std.proofs.lemmas.Slice.Eq.{bytes_eq-Decides}

@@ -1,5 +1,5 @@
 -- The word of an option, with its dashes and without.
-use Rattle.std.proofs.Common.{arith, sym, refl, ap, ap₂, ◌∙◌, ◌≡◌, ℕ, ◌+◌, ◌==◌, Bool, true, false, not, suc, List, [], ◌∷◌, drop, Option, Some, None, true≢false, subst}
+use Rattle.std.proofs.Common.{arith, sym, refl, ap, ◌≡◌, ℕ, ◌+◌, ◌==◌, Bool, true, false, not, suc, [], ◌∷◌, drop, Option, Some, None, true≢false, subst}
 use Rattle.std.specs.Prelude.{is_some}
 use Rattle.std.specs.List.{after_first, list_any, position_or_len}
 use Rattle.std.proofs.lemmas.Bool.{eqb-true}

@@ -1,6 +1,6 @@
 -- What the whole command makes of all the words.
 use Rattle.std.proofs.Common.{arith, refl, sym, ap, subst, ◌∙◌, ◌≡◌, ℕ, ◌&&◌, ◌||◌, Bool, true, false, not, ◌+◌, List, [], ◌∷◌, ◌++◌, map, Option, Some, None, codes, true≢false, ⊎_elim}
-use Rattle.std.specs.Prelude.{find, is_some, option_map, slice_get}
+use Rattle.std.specs.Prelude.{find, option_map, slice_get}
 use Rattle.std.specs.List.{list_all}
 use Rattle.std.specs.Str.{bytes_eq}
 use Rattle.std.proofs.lemmas.Bool.{eqb-true}

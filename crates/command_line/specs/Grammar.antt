@@ -17,6 +17,7 @@ spelling (joined name value) = (45 ∷ 45 ∷ name ++ 61 ∷ value) ∷ []
 spelling (apart name value) = (45 ∷ 45 ∷ name) ∷ value ∷ []
 spelling (positional word) = word ∷ []
 
+-- what the items spell, one after the other
 abbrev pub spellings : List Item → List Text
 spellings items = flat_map spelling items
 

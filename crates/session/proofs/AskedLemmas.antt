@@ -1,11 +1,11 @@
 -- What the words ask for.
-use Rattle.std.proofs.Common.{◌≡◌, ◌⊎◌, ◌∙◌, inr, refl, sym, ap, subst, List, ℕ}
-use Rattle.std.specs.Prelude.{Option, Some, None, Result, Ok, Err, IfNone, IfSome, MatchOption}
+use Rattle.std.proofs.Common.{◌≡◌, ◌⊎◌, ◌∙◌, inr, refl, sym, subst, List, ℕ}
+use Rattle.std.specs.Prelude.{Option, Some, None, Result, Err, IfNone, IfSome, MatchOption}
 use Rattle.std.specs.Option.{ok_or}
 use Rattle.line_form.specs.declared.status.Status.{Status}
 use Rattle.line_form.specs.declared.status.Status.TheVariants.{Done, Usage, SourceRefused, ScriptRefused, ReadFault, WriteFault, NoMemory, TooLong}
 use Rattle.command_line.specs.Grammar.{IsJob, IsNoJob}
-use Rattle.command_line.specs.Job.{DebugGiven, JobGiven, debug, debug_given, job_given}
+use Rattle.command_line.specs.Job.{DebugGiven, debug, debug_given, job_given}
 use Rattle.command_line.specs.declared.job.Debug.{Debug}
 use Rattle.command_line.specs.declared.job.Job.{Job}
 use Rattle.command_line.proofs.GrammarLemmas.{one_job}

@@ -1,5 +1,5 @@
 -- What a sink has taken of a text that is put piece by piece.
-use Rattle.std.proofs.Common.{◌≡◌, ℕ, zero, suc, ◌+◌, ◌<◌, ◌≤◌, sym, ap, ◌∙◌, subst, arith, refl, List, [], ◌∷◌, ◌++◌, length, drop, map, get_or, append_assoc, append-nil}
+use Rattle.std.proofs.Common.{◌≡◌, ℕ, zero, suc, ◌+◌, ◌<◌, ◌≤◌, sym, ap, ◌∙◌, arith, refl, List, [], ◌∷◌, ◌++◌, length, drop, map, get_or, append_assoc, append-nil}
 use Rattle.std.specs.Prelude.{Result, Ok, Err, OnErr, Vec}
 use Rattle.std.specs.Global.{Global}
 use Rattle.line_form.specs.Lines.{line}

@@ -1,22 +1,20 @@
 -- What the stages of a session say together.
-use Rattle.std.proofs.Common.{◌≡◌, ℕ, ◌+◌, ◌<◌, ◌≤◌, ◌⊎◌, inl, inr, sym, ap, ◌∙◌, subst, arith, List, ◌++◌, length, take}
-use Rattle.std.specs.Prelude.{Option, Some, None, Result, Ok, Err, String, string_bytes}
+use Rattle.std.proofs.Common.{◌≡◌, ℕ, ◌+◌, ◌<◌, ◌≤◌, sym, ap, ◌∙◌, subst, arith, List, length, take}
+use Rattle.std.specs.Prelude.{Option, Some, None, Err, String, string_bytes}
 use Rattle.std.specs.List.{flat_map}
 use Rattle.std.proofs.lemmas.List.{take_all, length-take}
 use Rattle.debug_records.specs.declared.code.Code.{Code}
-use Rattle.image_form.specs.Form.{Form, form}
+use Rattle.image_form.specs.Form.{form}
 use Rattle.std.specs.Global.{Global}
 use Rattle.outside.specs.Held.{Loads}
-use Rattle.outside.specs.Taken.{TakesPart}
 use Rattle.line_form.specs.Lines.{line}
 use Rattle.line_form.specs.declared.status.Status.{Status}
 use Rattle.line_form.specs.declared.status.Status.TheVariants.{SourceRefused, ScriptRefused, TooLong}
-use Rattle.thin_script.specs.Script.{IsScript, orders}
+use Rattle.thin_script.specs.Script.{orders}
 use Rattle.stop_engine.specs.EngineState.{EngineState, fresh_engine, lines_of}
-use Rattle.thin_form.specs.Thin.{IsThin}
 use Rattle.session.specs.declared.preparing.Prepared.{Prepared}
 use Rattle.command_line.specs.Job.{DebugGiven}
-use Rattle.session.specs.Limits.{Held, Holds, AreWithin, InputIsTooLong, IsBeyond, IsTooLong, IsWithin, input_limit}
+use Rattle.session.specs.Limits.{Held, Holds, AreWithin, IsBeyond, IsWithin, input_limit}
 use Rattle.session.specs.Causes.{IsSource, IsScriptText, SourceIsRefused, ScriptIsRefused, AreAccepted}
 use Rattle.session.specs.Stages.{LoadEnds, PrepareEnds}
 use Rattle.session.specs.Prepared.{IsPrepared}

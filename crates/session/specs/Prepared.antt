@@ -1,6 +1,6 @@
 -- What stands between the texts of a session and its run.
 use Rattle.std.specs.Prelude.{◌≡◌, ℕ, List}
-use Rattle.image_form.specs.Form.{Form, form}
+use Rattle.image_form.specs.Form.{form}
 use Rattle.image_form.specs.Rules.{IsImage}
 use Rattle.image_form.specs.Spelling.{spelling}
 use Rattle.thin_script.specs.Script.{IsScript, orders}

@@ -1,5 +1,5 @@
 -- What each stage of a session answers.
-use Rattle.std.specs.Prelude.{◌≡◌, ℕ, List, Option, Some, None, Result, Ok, Err, string_bytes}
+use Rattle.std.specs.Prelude.{◌≡◌, ℕ, List, Result, Ok, Err, string_bytes}
 use Rattle.outside.specs.Counts.{RoseOrStands}
 use Rattle.debug_records.specs.declared.code.TheConstants.Code.{UNEXPECTED_KEYWORD, UNKNOWN_COMMAND}
 use Rattle.line_form.specs.declared.status.Status.{Status}

@@ -1,5 +1,4 @@
-use Rattle.std.proofs.Common.{refl, sym, ap, subst, arith, ◌≡◌, ◌∙◌, take, map, true, List, Some, Bor}
-use Rattle.std.specs.List.{list_all}
+use Rattle.std.proofs.Common.{sym, ap, subst, ◌∙◌, map, Some}
 use Rattle.std.proofs.lemmas.List.{take_all}
 use Rattle.debug_records.specs.Change.{IsPassName}
 use Rattle.command_line.proofs.NamesLemmas.{all_are_named, none_named}

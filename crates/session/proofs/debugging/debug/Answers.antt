@@ -1,4 +1,4 @@
-use Rattle.std.proofs.Common.{◌≡◌, ℕ, List, ◌++◌, true, inl, inr, sym, ap, ◌∙◌, subst, Some, rules}
+use Rattle.std.proofs.Common.{◌≡◌, ◌++◌, inr, sym, ap, ◌∙◌, subst, Some, rules}
 use Rattle.std.specs.List.{flat_map}
 use Rattle.image_form.specs.Form.{form}
 use Rattle.outside.specs.Held.{Loads}
@@ -8,9 +8,6 @@ use Rattle.thin_script.specs.Script.{orders}
 use Rattle.stop_engine.specs.EngineState.{fresh_engine, lines_of}
 use Rattle.session.specs.declared.preparing.Prepared.{Prepared}
 use Rattle.command_line.specs.Job.{debug_given}
-use Rattle.session.specs.Outcome.{IsPlayed}
-use Rattle.session.specs.Prepared.{IsPrepared}
-use Rattle.session.specs.Stages.{PrepareEnds}
 use Rattle.session.proofs.Sessions.{source_refused, script_refused, both_accepted, session_played}
 use Rattle.session.proofs.debugging.debug.Goals as goal
 

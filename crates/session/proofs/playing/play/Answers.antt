@@ -1,4 +1,4 @@
-use Rattle.std.proofs.Common.{◌≡◌, ℕ, true, List, ◌∷◌, ◌+◌, ◌++◌, length, drop, map, sym, ap, ◌∙◌, subst, arith}
+use Rattle.std.proofs.Common.{ℕ, List, ◌++◌, map, sym, ap, ◌∙◌, subst, arith}
 use Rattle.std.specs.Prelude.{Vec}
 use Rattle.std.specs.Global.{Global}
 use Rattle.std.specs.List.{flat_map}
@@ -6,7 +6,7 @@ use Rattle.line_form.specs.Lines.{line}
 use Rattle.thin_script.specs.Script.{orders, order_of}
 use Rattle.stop_engine.specs.EngineState.{lines_of}
 use Rattle.session.proofs.Parts.{IsUnderWay, on_err_anyway}
-use Rattle.session.proofs.Orders.{order_left, order_part, order_taken}
+use Rattle.session.proofs.Orders.{order_left, order_part}
 use Rattle.session.proofs.playing.play.Goals as goal
 
 pub returns-in_err-put_lines-clause-part : goal.returns-in_err-put_lines-clause-part

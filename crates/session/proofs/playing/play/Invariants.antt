@@ -1,4 +1,4 @@
-use Rattle.std.proofs.Common.{◌≡◌, true, drop, map}
+use Rattle.std.proofs.Common.{◌≡◌, true, drop}
 use Rattle.std.specs.List.{flat_map}
 use Rattle.line_form.specs.Lines.{line}
 use Rattle.thin_script.specs.Script.{orders}

@@ -1,7 +1,7 @@
-use Rattle.std.proofs.Common.{◌≡◌, ℕ, true, List, ◌+◌, ◌++◌, length, drop, map, sym, ap, ◌∙◌, subst, arith}
+use Rattle.std.proofs.Common.{ℕ, List, ◌+◌, ◌++◌, drop, map, sym, ap, ◌∙◌, subst, arith}
 use Rattle.std.specs.List.{flat_map}
 use Rattle.line_form.specs.Lines.{line}
-use Rattle.session.proofs.Parts.{IsUnderWay, under_way_part, under_way_next, under_way_last, pieces_left, pieces_none, pieces_map, on_err_anyway, text_left, texts_none}
+use Rattle.session.proofs.Parts.{IsUnderWay, under_way_part, on_err_anyway, text_left}
 use Rattle.session.proofs.playing.put_lines.Goals as goal
 
 pub returns-in_err-put_line-clause-part : goal.returns-in_err-put_line-clause-part

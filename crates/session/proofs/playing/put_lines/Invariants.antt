@@ -1,6 +1,5 @@
 use Rattle.std.proofs.Common.{◌≡◌, true, drop, map}
 use Rattle.std.specs.List.{flat_map}
-use Rattle.std.specs.Prelude.{Vec}
 use Rattle.line_form.specs.Lines.{line}
 use Rattle.session.proofs.Parts.{IsUnderWay}
 use Rattle.session.proofs.playing.put_lines.Given as goal

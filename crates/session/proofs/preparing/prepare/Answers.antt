@@ -1,4 +1,4 @@
-use Rattle.std.proofs.Common.{◌≡◌, ◌∙◌, ap, refl, Err}
+use Rattle.std.proofs.Common.{◌∙◌, ap, refl, Err}
 use Rattle.session.proofs.preparing.prepare.Goals as goal
 
 pub returns-in-Err-Refused-clause-ends : goal.returns-in-Err-Refused-clause-ends

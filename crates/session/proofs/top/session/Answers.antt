@@ -1,5 +1,4 @@
-use Rattle.std.proofs.Common.{◌≡◌, inr, sym, ap, ◌∙◌, subst, List, map, string_bytes}
-use Rattle.line_form.specs.declared.status.Status.TheVariants.{SourceRefused, ScriptRefused}
+use Rattle.std.proofs.Common.{sym, ap, ◌∙◌, subst, map, string_bytes}
 use Rattle.command_line.specs.Job.{DebugGiven, debug_given}
 use Rattle.session.specs.Limits.{AreWithin, IsTooLong}
 use Rattle.session.specs.Causes.{SourceIsRefused, ScriptIsRefused, AreAccepted}
