@@ -55,3 +55,8 @@ pub variable_name-piece : (m : Form) (k : ℕ) (d : Variable) → k < length m.v
 variable_name-piece m k d within =
     let name_length : Variable → ℕ = λ v. v.name_length in
     rw (← take-map name_length k m.variables, ← get_or-map name_length m.variables k d 0 within) (simp drop-drop)
+
+-- there are fewer variables than numbers of 32 bits
+pub variables_fit : (m : Form) → IsImage m → length m.variables < 4294967295
+unfolding size
+variables_fit m image = let whole : size m < 2 ^ 32 = image.sizes.whole in omega arith
