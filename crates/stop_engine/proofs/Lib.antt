@@ -9,3 +9,4 @@ mod StopTables
 pub mod Callers
 pub mod Targets
 pub mod Elements
+pub mod FlowOrder

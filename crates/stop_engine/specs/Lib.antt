@@ -13,3 +13,5 @@ pub mod Words
 pub mod Recipes
 pub mod Pointers
 pub mod Values
+pub mod Rows
+pub mod Shown

@@ -14,7 +14,7 @@ use rv_machine::machine::Machine;
 use std::alloc::{AllocError, Global};
 
 /// The number of the place that a code word belongs to, by the word's address, or 0 for none.
-fn owner_of(image: &Image, address: u32) -> u32
+pub fn owner_of(image: &Image, address: u32) -> u32
     ensures { result ≡ owner_of (form image.now) address }
 {
     if address % 4 != 0 {

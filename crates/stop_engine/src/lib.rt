@@ -10,6 +10,7 @@ mod names;
 mod pointers;
 mod reading;
 mod recipes;
+mod rows;
 mod shown;
 mod stop_table;
 #[cfg(test)]
