@@ -1,2 +1,3 @@
 pub mod HexadecimalLemmas
 pub mod Pieces
+pub mod Sequences

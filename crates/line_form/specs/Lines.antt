@@ -60,3 +60,32 @@ nothing_here_line name = codes "no " ++ (name ++ codes " here")
 -- no stop, where the program stands at no stop
 unfoldable pub no_stop_line : List ℕ
 no_stop_line = codes "no stop"
+
+-- no locals, where no variable is visible
+unfoldable pub no_locals_line : List ℕ
+no_locals_line = codes "no locals"
+
+-- a number with a space in front
+abbrev pub spaced_number : ℕ → List ℕ
+spaced_number n = codes " " ++ decimal n
+
+-- numbers, each with a space in front
+abbrev pub spaced : List ℕ → List ℕ
+spaced numbers = flat_map spaced_number numbers
+
+-- break at PLACE PLACE .., for the places that are marked
+unfoldable pub break_line : List ℕ → List ℕ
+break_line places = codes "break at" ++ spaced places
+
+-- no place on line LINE
+unfoldable pub no_place_line : ℕ → List ℕ
+no_place_line source_line = codes "no place on line " ++ decimal source_line
+
+-- no function NAME
+unfoldable pub no_function_line : List ℕ → List ℕ
+no_function_line name = codes "no function " ++ name
+
+-- #NUMBER FUNCTION line LINE place PLACE, for an activation, the innermost one with number 0
+unfoldable pub frame_line : ℕ → List ℕ → ℕ → ℕ → List ℕ
+frame_line number function source_line place =
+    codes "#" ++ (decimal number ++ (codes " " ++ (function ++ (codes " line " ++ (decimal source_line ++ (codes " place " ++ decimal place))))))

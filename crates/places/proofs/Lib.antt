@@ -3,3 +3,4 @@ pub mod Orders
 pub mod Searched
 pub mod Taking
 pub mod Tracing
+pub mod LeastByPlaces

@@ -9,7 +9,6 @@ use Rattle.std.proofs.lemmas.Bool.Decides.{nat_tests}
 use Rattle.std.proofs.lemmas.List.{get_or-set_same, get_or-set_other, length-set, length-append, map-append}
 use Rattle.std.proofs.lemmas.Option.{slice_get_within, get_or_from_slice_get, none-some, same_Some}
 use Rattle.places.specs.declared.flow.Step.{Step}
-use Rattle.places.specs.declared.flow.FlowTable.{FlowTable}
 use Rattle.places.specs.declared.search.Visit.{Visit}
 use Rattle.places.specs.Flow.{can_go, assigns, IsStepBefore, AreInOrder}
 use Rattle.places.specs.Path.{Quest, LeadOn, IsRoute, IsBefore, IsNotBehind, IsLeastRoute}
@@ -92,7 +91,7 @@ abbrev pub next_row : Quest → (head : ℕ) → Row → (place : ℕ) → Row
 next_row quest head h place = record { place = place; passed = passes quest h place; parent = head; way = h.way ++ place ∷ [] }
 
 -- whatever leads on from the next visit makes a route
-lead_next : (quest : Quest) (h : Row) (place : ℕ) (rest : List ℕ) → can_go quest.table h.place place ≡ true → assigns quest.table place quest.var ≡ false
+lead_next : (quest : Quest) (h : Row) (place : ℕ) (rest : List ℕ) → can_go quest.steps h.place place ≡ true → assigns quest.assignments place quest.var ≡ false
     → ((rest : List ℕ) → LeadOn quest h.passed h.place rest → IsRoute quest (h.way ++ rest)) → LeadOn quest (passes quest h place) place rest
     → IsRoute quest ((h.way ++ place ∷ []) ++ rest)
 lead_next quest h place [] go free lead l = absurd l
@@ -101,23 +100,23 @@ lead_next quest h place (q ∷ rest) go free lead l = subst (IsRoute quest) (sym
 -- one step of a visit is taken: the step, the visit, and what it leads to
 pub record TakesStep (quest : Quest) (head k : ℕ) (rows : List Row) (h : Row) (s : Step) : Type 0 where
   pub visit : slice_get rows head ≡ Some h
-  pub step : slice_get quest.table.steps.items k ≡ Some s
+  pub step : slice_get quest.steps k ≡ Some s
   pub from : s.from.0 ≡ h.place
-  pub go : can_go quest.table h.place s.to.0 ≡ true
+  pub go : can_go quest.steps h.place s.to.0 ≡ true
   pub no_answer : h.passed ≡ true → s.to.0 ≢ quest.stop
-  pub order : AreInOrder quest.table.steps.items
+  pub order : AreInOrder quest.steps
 
 -- what became of the steps taken, where the one at k was settled
 settled_next : (quest : Quest) (head k : ℕ) (rows : List Row) (h : Row) (s : Step) → TakesStep quest head k rows h s → Settled quest rows h s.to.0
-    → ((i j : ℕ) (r : Row) (u : Step) → slice_get rows i ≡ Some r → slice_get quest.table.steps.items j ≡ Some u → u.from.0 ≡ r.place → IsTaken i j head k → Settled quest rows r u.to.0)
-    → (i j : ℕ) (r : Row) (u : Step) → slice_get rows i ≡ Some r → slice_get quest.table.steps.items j ≡ Some u → u.from.0 ≡ r.place → IsTaken i j head (k + 1) → Settled quest rows r u.to.0
+    → ((i j : ℕ) (r : Row) (u : Step) → slice_get rows i ≡ Some r → slice_get quest.steps j ≡ Some u → u.from.0 ≡ r.place → IsTaken i j head k → Settled quest rows r u.to.0)
+    → (i j : ℕ) (r : Row) (u : Step) → slice_get rows i ≡ Some r → slice_get quest.steps j ≡ Some u → u.from.0 ≡ r.place → IsTaken i j head (k + 1) → Settled quest rows r u.to.0
 settled_next quest head k rows h s t done old i j r u g e same (inl lt) = old i j r u g e same (inl lt)
 settled_next quest head k rows h s t done old i j r u g e same (inr here) = elim (cases_eq j k) [ inl at_k ↦ now at_k | inr other ↦ old i j r u g e same (inr (here.0, omega (arith, here.1))) ]
   where
     now : j ≡ k → Settled quest rows r u.to.0
     now at_k =
         let row : h ≡ r = one_get rows head h r t.visit (subst (λ n. slice_get rows n ≡ Some r) here.0 g) in
-        let step : s ≡ u = one_get quest.table.steps.items k s u t.step (subst (λ n. slice_get quest.table.steps.items n ≡ Some u) at_k e) in
+        let step : s ≡ u = one_get quest.steps k s u t.step (subst (λ n. slice_get quest.steps n ≡ Some u) at_k e) in
         subst (λ x. Settled quest rows x u.to.0) row (subst (λ (y : Step). Settled quest rows h y.to.0) step done)
 
 -- The search came there before, or will never.
@@ -141,13 +140,13 @@ skip quest head k visits closed s found h t is_closed = (
   refl,
 )
   where
-    came : IsClosed quest found.rows s.to.0 (passes quest h s.to.0) → (assigns quest.table s.to.0 quest.var ≡ true) ⊎ Came quest found.rows h s.to.0
+    came : IsClosed quest found.rows s.to.0 (passes quest h s.to.0) → (assigns quest.assignments s.to.0 quest.var ≡ true) ⊎ Came quest found.rows h s.to.0
     came (Assigned a) = inl a
     came (Visited index row is p b) = inr (record { index = index; row = row; is = is; place_is = p; passed_is = b; early = inr (found.beyond index k row h s is t.visit t.step t.from (omega arith)) })
 
 -- The search comes there for the first time.
 pub come : (quest : Quest) (head k : ℕ) (visits : List Visit) (closed : List Bool) (s : Step) (found : Searched quest head k visits closed) (h : Row) → TakesStep quest head k found.rows h s
-    → assigns quest.table s.to.0 quest.var ≡ false
+    → assigns quest.assignments s.to.0 quest.var ≡ false
     → (next : Searched quest head (k + 1) (visits ++ visit_of (next_row quest head h s.to.0) ∷ []) closed) × IsClosed quest next.rows s.to.0 (passes quest h s.to.0)
 come quest head k visits closed s found h t free = (
   record {
@@ -181,7 +180,7 @@ come quest head k visits closed s found h t free = (
         let from_h : u.from.0 ≡ h.place = d ∙ ap (λ (x : Row). x.place) (sym same) in
         subst (λ (x : Row). IsBefore r.way (x.way ++ u.to.0 ∷ [])) same (elim (snoc_cases rows new i r a) [
           | inl old ↦ found.beyond i j r h u old t.visit c from_h (omega arith)
-          | inr now ↦ subst (λ (x : Row). IsBefore x.way (h.way ++ u.to.0 ∷ [])) (sym now.1) (before_last h.way s.to.0 u.to.0 (step_order quest.table.steps.items k j s u t.order t.step c (omega arith) (t.from ∙ sym from_h)))
+          | inr now ↦ subst (λ (x : Row). IsBefore x.way (h.way ++ u.to.0 ∷ [])) (sym now.1) (before_last h.way s.to.0 u.to.0 (step_order quest.steps k j s u t.order t.step c (omega arith) (t.from ∙ sym from_h)))
         ]);
     settled = λ i j r u a b c taken. elim (snoc_cases rows new i r a) [
       | inl old ↦ elim taken [
@@ -212,10 +211,10 @@ come quest head k visits closed s found h t free = (
     within : head < length rows
     within = slice_get_within rows head h t.visit
 
-    now : (i j : ℕ) (r : Row) (u : Step) → slice_get rows i ≡ Some r → slice_get quest.table.steps.items j ≡ Some u → i ≡ head → j ≡ k → Settled quest rows' r u.to.0
+    now : (i j : ℕ) (r : Row) (u : Step) → slice_get rows i ≡ Some r → slice_get quest.steps j ≡ Some u → i ≡ head → j ≡ k → Settled quest rows' r u.to.0
     now i j r u g e at_head at_k =
         let row : h ≡ r = one_get rows head h r t.visit (subst (λ n. slice_get rows n ≡ Some r) at_head g) in
-        let step : s ≡ u = one_get quest.table.steps.items k s u t.step (subst (λ n. slice_get quest.table.steps.items n ≡ Some u) at_k e) in
+        let step : s ≡ u = one_get quest.steps k s u t.step (subst (λ n. slice_get quest.steps n ≡ Some u) at_k e) in
         let done : Settled quest rows' h s.to.0 = record { no_answer = t.no_answer; came = inr (record { index = length rows; row = new; is = snoc_new rows new; place_is = refl; passed_is = refl; early = inl refl }) } in
         subst (λ x. Settled quest rows' x u.to.0) row (subst (λ (y : Step). Settled quest rows' h y.to.0) step done)
 
@@ -247,7 +246,7 @@ close quest head k visits closed place passed found is_closed = record {
 
 -- Steps that are not from the visit are passed over.
 pub pass_over : (quest : Quest) (head k m : ℕ) (visits : List Visit) (closed : List Bool) (found : Searched quest head k visits closed) (h : Row) → slice_get found.rows head ≡ Some h → k ≤ m
-    → ((j : ℕ) (s : Step) → slice_get quest.table.steps.items j ≡ Some s → k ≤ j → j < m → s.from.0 ≢ h.place) → Searched quest head m visits closed
+    → ((j : ℕ) (s : Step) → slice_get quest.steps j ≡ Some s → k ≤ j → j < m → s.from.0 ≢ h.place) → Searched quest head m visits closed
 pass_over quest head k m visits closed found h is le others = record {
   rows = found.rows;
   visits_are = found.visits_are;
@@ -276,7 +275,7 @@ way_some quest rows i r (Later parent is lt w) = omega (arith, ap length w, leng
 
 -- All steps of a visit are taken, and the search goes on to the next one.
 pub go_on : (quest : Quest) (head k : ℕ) (visits : List Visit) (closed : List Bool) (found : Searched quest head k visits closed) (h : Row) → slice_get found.rows head ≡ Some h
-    → ((j : ℕ) (s : Step) → slice_get quest.table.steps.items j ≡ Some s → k ≤ j → s.from.0 ≢ h.place) → Searched quest (head + 1) 0 visits closed
+    → ((j : ℕ) (s : Step) → slice_get quest.steps j ≡ Some s → k ≤ j → s.from.0 ≢ h.place) → Searched quest (head + 1) 0 visits closed
 go_on quest head k visits closed found h is others = record {
   rows = found.rows;
   visits_are = found.visits_are;
@@ -309,8 +308,8 @@ go_on quest head k visits closed found h is others = record {
 
 -- the search begins with a visit of the start
 pub begins : (quest : Quest) (visit : Visit) (closed : List Bool) → visit ≡ record { place = record { 0 = quest.start }; passed = quest.start == quest.via; parent = 0 }
-    → ((j : ℕ) (s : Step) → slice_get quest.table.steps.items j ≡ Some s → 2 * s.to.0 + 1 < length closed) → ((n : ℕ) → length closed ≤ n → get_or closed n false ≡ false)
-    → AreBlocked quest.table.assignments.items quest.var closed → Searched quest 0 0 (visit ∷ []) closed
+    → ((j : ℕ) (s : Step) → slice_get quest.steps j ≡ Some s → 2 * s.to.0 + 1 < length closed) → ((n : ℕ) → length closed ≤ n → get_or closed n false ≡ false)
+    → AreBlocked quest.assignments quest.var closed → Searched quest 0 0 (visit ∷ []) closed
 begins quest visit closed is room beyond blocked = record {
   rows = first ∷ [];
   visits_are = ap (λ v. v ∷ []) is;
@@ -367,15 +366,15 @@ pub record StepOf (steps : List Step) (p q : ℕ) : Type 0 where
   pub from : step.from.0 ≡ p
   pub to : step.to.0 ≡ q
 
-pub step_of : (t : FlowTable) (p q : ℕ) → can_go t p q ≡ true → StepOf t.steps.items p q
-step_of t p q go =
-    let found = any_found (λ (s : Step). s.from.0 == p && s.to.0 == q) t.steps.items go in
+pub step_of : (steps : List Step) (p q : ℕ) → can_go steps p q ≡ true → StepOf steps p q
+step_of steps p q go =
+    let found = any_found (λ (s : Step). s.from.0 == p && s.to.0 == q) steps go in
     let s : Step = found.1 in
     let test : (s.from.0 == p && s.to.0 == q) ≡ true = found.3 in
     record { index = found.0; step = s; is = found.2; from = grind (arith, nat_tests, test); to = grind (arith, nat_tests, test) }
 
-pub step_goes : (t : FlowTable) (j : ℕ) (s : Step) (p : ℕ) → slice_get t.steps.items j ≡ Some s → s.from.0 ≡ p → can_go t p s.to.0 ≡ true
-step_goes t j s p is from = any_at (λ (u : Step). u.from.0 == p && u.to.0 == s.to.0) t.steps.items j s is (grind (arith, nat_tests, from))
+pub step_goes : (steps : List Step) (j : ℕ) (s : Step) (p : ℕ) → slice_get steps j ≡ Some s → s.from.0 ≡ p → can_go steps p s.to.0 ≡ true
+step_goes steps j s p is from = any_at (λ (u : Step). u.from.0 == p && u.to.0 == s.to.0) steps j s is (grind (arith, nat_tests, from))
 
 -- where the search has come to the next place, it leads on from there
 pub record ComesOn (quest : Quest) (rows : List Row) (r : Row) (q : ℕ) (rest : List ℕ) : Type 0 where
@@ -388,10 +387,10 @@ pub record ComesOn (quest : Quest) (rows : List Row) (r : Row) (q : ℕ) (rest :
 comes_on : (quest : Quest) (head k : ℕ) (visits : List Visit) (closed : List Bool) (found : Searched quest head k visits closed) (i : ℕ) (r : Row) (q n : ℕ) (rest : List ℕ)
     → slice_get found.rows i ≡ Some r → i < head → LeadOn quest r.passed r.place (q ∷ n ∷ rest) → ComesOn quest found.rows r q (n ∷ rest)
 comes_on quest head k visits closed found i r q n rest is lt leads =
-    let s = step_of quest.table r.place q leads.0 in
+    let s = step_of quest.steps r.place q leads.0 in
     let settled : Settled quest found.rows r q = subst (Settled quest found.rows r) s.to (found.settled i s.index r s.step is s.is s.from (inl lt)) in
     elim settled.came [
-      | inl a ↦ absurd (let free : assigns quest.table q quest.var ≡ false = leads.1 in cc)
+      | inl a ↦ absurd (let free : assigns quest.assignments q quest.var ≡ false = leads.1 in cc)
       | inr c ↦ came c
     ]
   where
@@ -408,7 +407,7 @@ comes_on quest head k visits closed found i r q n rest is lt leads =
 no_step : (quest : Quest) (head k : ℕ) (visits : List Visit) (closed : List Bool) (found : Searched quest head k visits closed) (i : ℕ) (r : Row) (q : ℕ)
     → slice_get found.rows i ≡ Some r → i < head → LeadOn quest r.passed r.place (q ∷ []) → ⊥
 no_step quest head k visits closed found i r q is lt leads =
-    let s = step_of quest.table r.place q leads.0 in
+    let s = step_of quest.steps r.place q leads.0 in
     (found.settled i s.index r s.step is s.is s.from (inl lt)).no_answer leads.2 (s.to ∙ leads.1)
 
 -- no way to a visit that is not taken yet comes before the way to the one at hand
@@ -497,7 +496,7 @@ best_way quest head visits answered =
     let row = map_get visit_of found.rows head answered.visit (ap (λ vs. slice_get vs head) (sym found.visits_are) ∙ answered.is) in
     let h : Row = row.0 in
     let passed : h.passed ≡ true = ap (λ (v : Visit). v.passed) (sym row.2) ∙ answered.answer.passed in
-    let go : can_go quest.table h.place quest.stop ≡ true = subst (λ (v : Visit). can_go quest.table v.place.0 quest.stop ≡ true) row.2 answered.answer.step in
+    let go : can_go quest.steps h.place quest.stop ≡ true = subst (λ (v : Visit). can_go quest.steps v.place.0 quest.stop ≡ true) row.2 answered.answer.step in
     record {
       way = h.way;
       leads = way_below quest head answered.step visits answered.closed found (suc head) head h (omega arith) row.1;

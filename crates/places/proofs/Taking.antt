@@ -52,7 +52,7 @@ row_of quest head k visits closed found visit is = map_get visit_of found.rows h
 
 -- The first step from the visit comes next.
 pub start_steps : (quest : Quest) (head : ℕ) (visits : List Visit) (closed : List Bool) (visit : Visit) (first : ℕ) → Searched quest head 0 visits closed → slice_get visits head ≡ Some visit
-    → IsFirstFrom quest.table.steps.items visit.place.0 first → Searched quest head first visits closed
+    → IsFirstFrom quest.steps visit.place.0 first → Searched quest head first visits closed
 start_steps quest head visits closed visit first found is firsts =
     let row = row_of quest head 0 visits closed found visit is in
     let place : visit.place.0 ≡ row.0.place = ap (λ (v : Visit). v.place.0) row.2 in
@@ -60,7 +60,7 @@ start_steps quest head visits closed visit first found is firsts =
 
 -- A step from a greater place follows the last one from the visit.
 pub stop_steps : (quest : Quest) (head k : ℕ) (visits : List Visit) (closed : List Bool) (visit : Visit) (step : Step) (first : ℕ) → Searched quest head k visits closed → slice_get visits head ≡ Some visit
-    → AreInOrder quest.table.steps.items → IsFirstFrom quest.table.steps.items visit.place.0 first → first ≤ k → slice_get quest.table.steps.items k ≡ Some step → step.from.0 ≢ visit.place.0
+    → AreInOrder quest.steps → IsFirstFrom quest.steps visit.place.0 first → first ≤ k → slice_get quest.steps k ≡ Some step → step.from.0 ≢ visit.place.0
     → Searched quest (head + 1) 0 visits closed
 stop_steps quest head k visits closed visit step first found is order firsts le at_k other =
     let row = row_of quest head k visits closed found visit is in
@@ -69,22 +69,22 @@ stop_steps quest head k visits closed visit step first found is order firsts le 
     let beyond : visit.place.0 < step.from.0 = omega (arith, here, other) in
     go_on quest head k visits closed found row.0 row.1 (λ j s at past same. elim (cases_eq j k) [
       | inl at_j ↦
-          let one : step ≡ s = one_get quest.table.steps.items k step s at_k (subst (λ n. slice_get quest.table.steps.items n ≡ Some s) at_j at) in
+          let one : step ≡ s = one_get quest.steps k step s at_k (subst (λ n. slice_get quest.steps n ≡ Some s) at_j at) in
           let from : step.from.0 ≡ s.from.0 = ap (λ (u : Step). u.from.0) one in
           omega (arith, from, beyond, place, same)
-      | inr later ↦ let up = steps_order quest.table.steps.items k j step s order at_k at (omega arith) in omega (arith, up, beyond, place, same)
+      | inr later ↦ let up = steps_order quest.steps k j step s order at_k at (omega arith) in omega (arith, up, beyond, place, same)
     ])
 
 -- No step is left.
 pub end_steps : (quest : Quest) (head k : ℕ) (visits : List Visit) (closed : List Bool) (visit : Visit) → Searched quest head k visits closed → slice_get visits head ≡ Some visit
-    → length quest.table.steps.items ≤ k → Searched quest (head + 1) 0 visits closed
+    → length quest.steps ≤ k → Searched quest (head + 1) 0 visits closed
 end_steps quest head k visits closed visit found is le =
     let row = row_of quest head k visits closed found visit is in
-    go_on quest head k visits closed found row.0 row.1 (λ j s at past same. let within = slice_get_within quest.table.steps.items j s at in absurd (omega arith))
+    go_on quest head k visits closed found row.0 row.1 (λ j s at past same. let within = slice_get_within quest.steps j s at in absurd (omega arith))
 
 -- A step to the stop is an answer.
 pub answer_step : (quest : Quest) (head k : ℕ) (visits : List Visit) (closed : List Bool) (visit : Visit) (step : Step) → Searched quest head k visits closed → slice_get visits head ≡ Some visit
-    → slice_get quest.table.steps.items k ≡ Some step → step.from.0 ≡ visit.place.0 → (visit.passed && step.to.0 == quest.stop) ≡ true → Answered quest head visits
+    → slice_get quest.steps k ≡ Some step → step.from.0 ≡ visit.place.0 → (visit.passed && step.to.0 == quest.stop) ≡ true → Answered quest head visits
 answer_step quest head k visits closed visit step found is at_k from test =
     let stop : step.to.0 ≡ quest.stop = grind (arith, nat_tests, test) in
     record {
@@ -93,17 +93,17 @@ answer_step quest head k visits closed visit step found is at_k from test =
       searched = found;
       visit = visit;
       is = is;
-      answer = record { passed = grind (arith, nat_tests, test); step = subst (λ q. can_go quest.table visit.place.0 q ≡ true) stop (step_goes quest.table k step visit.place.0 at_k from) };
+      answer = record { passed = grind (arith, nat_tests, test); step = subst (λ q. can_go quest.steps visit.place.0 q ≡ true) stop (step_goes quest.steps k step visit.place.0 at_k from) };
     }
 
 -- the place that a step leads to has flags
-pub step_room : (quest : Quest) (head k : ℕ) (visits : List Visit) (closed : List Bool) (step : Step) (passed : Bool) → Searched quest head k visits closed → slice_get quest.table.steps.items k ≡ Some step
+pub step_room : (quest : Quest) (head k : ℕ) (visits : List Visit) (closed : List Bool) (step : Step) (passed : Bool) → Searched quest head k visits closed → slice_get quest.steps k ≡ Some step
     → state_number step.to.0 passed < length closed
 step_room quest head k visits closed step passed found at_k = state_below step.to.0 (length closed) passed (found.room k step at_k)
 
 -- Another step is taken.
 pub take_step : (quest : Quest) (head k : ℕ) (visits visits' : List Visit) (closed closed' : List Bool) (visit : Visit) (step : Step) → Searched quest head k visits closed → slice_get visits head ≡ Some visit
-    → AreInOrder quest.table.steps.items → slice_get quest.table.steps.items k ≡ Some step → step.from.0 ≡ visit.place.0 → (visit.passed && step.to.0 == quest.stop) ≡ false
+    → AreInOrder quest.steps → slice_get quest.steps k ≡ Some step → step.from.0 ≡ visit.place.0 → (visit.passed && step.to.0 == quest.stop) ≡ false
     → visits' ≡ (if get_or closed (state_number step.to.0 (visit.passed || step.to.0 == quest.via)) false then visits else visits ++ record { place = step.to; passed = visit.passed || step.to.0 == quest.via; parent = head } ∷ [])
     → closed' ≡ set closed (state_number step.to.0 (visit.passed || step.to.0 == quest.via)) true
     → Searched quest head (k + 1) visits' closed' × (slice_get visits' head ≡ Some visit)
@@ -127,12 +127,12 @@ take_step quest head k visits visits' closed closed' visit step found is order a
       visit = row.1;
       step = at_k;
       from = from ∙ ap (λ (v : Visit). v.place.0) row.2;
-      go = step_goes quest.table k step h.place at_k (from ∙ ap (λ (v : Visit). v.place.0) row.2);
+      go = step_goes quest.steps k step h.place at_k (from ∙ ap (λ (v : Visit). v.place.0) row.2);
       no_answer = λ p stop. let p' : visit.passed ≡ true = ap (λ (v : Visit). v.passed) row.2 ∙ p in absurd (let t : (visit.passed && step.to.0 == quest.stop) ≡ true = grind (arith, nat_tests, p', stop) in cc);
       order = order;
     }
 
-    free_place : (a : Bool) → assigns quest.table step.to.0 quest.var ≡ a → get_or closed state false ≡ false → assigns quest.table step.to.0 quest.var ≡ false
+    free_place : (a : Bool) → assigns quest.assignments step.to.0 quest.var ≡ a → get_or closed state false ≡ false → assigns quest.assignments step.to.0 quest.var ≡ false
     free_place true a flag = absurd (let on = found.blocked step.to.0 (visit.passed || step.to.0 == quest.via) (step_room quest head k visits closed step (visit.passed || step.to.0 == quest.via) found at_k) a in cc)
     free_place false a flag = a
 
@@ -146,20 +146,20 @@ take_step quest head k visits visits' closed closed' visit step found is order a
     by_flag false flag =
         let new : Visit = record { place = step.to; passed = visit.passed || step.to.0 == quest.via; parent = head } in
         let same : visits' ≡ visits ++ new ∷ [] = grown ∙ ap (λ b. if b then visits else visits ++ new ∷ []) flag in
-        let next = come quest head k visits closed step found h takes (free_place (assigns quest.table step.to.0 quest.var) refl flag) in
+        let next = come quest head k visits closed step found h takes (free_place (assigns quest.assignments step.to.0 quest.var) refl flag) in
         let shut = close quest head (k + 1) _ closed step.to.0 (passes quest h step.to.0) next.0 next.1 in
         let turned : Searched quest head (k + 1) (visits ++ new ∷ []) (set closed state true)
         = subst (λ b. Searched quest head (k + 1) (visits ++ record { place = step.to; passed = b; parent = head } ∷ []) (set closed (state_number step.to.0 b) true)) (sym passed_is) shut in
         (subst (λ vs. Searched quest head (k + 1) vs closed') (sym same) (subst (Searched quest head (k + 1) (visits ++ new ∷ [])) (sym set_is) turned), ap (λ vs. slice_get vs head) same ∙ snoc_old visits new head visit is)
 
 -- The search begins.
-pub first_visit : (quest : Quest) (closed : List Bool) (bound : ℕ) → All (λ (s : Step). s.to.0 < bound) quest.table.steps.items → length closed ≡ 2 * bound
-    → AreBlocked quest.table.assignments.items quest.var closed
+pub first_visit : (quest : Quest) (closed : List Bool) (bound : ℕ) → All (λ (s : Step). s.to.0 < bound) quest.steps → length closed ≡ 2 * bound
+    → AreBlocked quest.assignments quest.var closed
     → Searched quest 0 0 (record { place = record { 0 = quest.start }; passed = quest.start == quest.via; parent = 0 } ∷ []) closed
 first_visit quest closed bound above size blocked = begins quest _ closed refl
     (λ j s is.
-    let same : get_or quest.table.steps.items j s ≡ s = get_or_from_slice_get quest.table.steps.items j s s is in
-    let below : (get_or quest.table.steps.items j s).to.0 < bound = above j s (slice_get_within quest.table.steps.items j s is) in
+    let same : get_or quest.steps j s ≡ s = get_or_from_slice_get quest.steps j s s is in
+    let below : (get_or quest.steps j s).to.0 < bound = above j s (slice_get_within quest.steps j s is) in
     let to : s.to.0 < bound = subst (λ (u : Step). u.to.0 < bound) same below in
     omega (arith, size, to))
     (λ n le. get_or_past closed n false le) blocked
@@ -167,7 +167,7 @@ first_visit quest closed bound above size blocked = begins quest _ closed refl
 -- the same, where the bit of the next visit has a name
 pub take_one : (quest : Quest) (head k : ℕ) (visits visits' : List Visit) (closed closed' : List Bool) (visit : Visit) (step : Step) (passed : Bool) → passed ≡ (visit.passed || step.to.0 == quest.via)
     → Searched quest head k visits closed → slice_get visits head ≡ Some visit
-    → AreInOrder quest.table.steps.items → slice_get quest.table.steps.items k ≡ Some step → step.from.0 ≡ visit.place.0 → (visit.passed && step.to.0 == quest.stop) ≡ false
+    → AreInOrder quest.steps → slice_get quest.steps k ≡ Some step → step.from.0 ≡ visit.place.0 → (visit.passed && step.to.0 == quest.stop) ≡ false
     → visits' ≡ (if get_or closed (state_number step.to.0 passed) false then visits else visits ++ record { place = step.to; passed = passed; parent = head } ∷ [])
     → closed' ≡ set closed (state_number step.to.0 passed) true
     → Searched quest head (k + 1) visits' closed' × (slice_get visits' head ≡ Some visit)

@@ -3,15 +3,14 @@ use Rattle.std.specs.Prelude.{◌≡◌, ℕ, ◌<◌, ◌⊎◌, ◌==◌, ◌&
 use Rattle.std.specs.List.{list_any}
 use Rattle.places.specs.declared.flow.Step.{Step}
 use Rattle.places.specs.declared.flow.Assignment.{Assignment}
-use Rattle.places.specs.declared.flow.FlowTable.{FlowTable}
 
 -- whether execution may go from place p directly to place q
-abbrev pub can_go : FlowTable → (p q : ℕ) → Bool
-can_go t p q = list_any (λ (s : Step). s.from.0 == p && s.to.0 == q) t.steps.items
+abbrev pub can_go : List Step → (p q : ℕ) → Bool
+can_go steps p q = list_any (λ (s : Step). s.from.0 == p && s.to.0 == q) steps
 
 -- whether place p assigns variable x
-abbrev pub assigns : FlowTable → (p x : ℕ) → Bool
-assigns t p x = list_any (λ (a : Assignment). a.place.0 == p && a.var.0 == x) t.assignments.items
+abbrev pub assigns : List Assignment → (p x : ℕ) → Bool
+assigns assignments p x = list_any (λ (a : Assignment). a.place.0 == p && a.var.0 == x) assignments
 
 -- one step comes before another: by the places that they lead from, then by those that they lead to
 abbrev pub IsStepBefore : Step → Step → Type 0

@@ -1,3 +1,4 @@
 pub mod Flow
 pub mod Path
+pub mod Route
 pub mod Search

@@ -2,6 +2,8 @@
 use Rattle.std.specs.Prelude.{◌≡◌, ℕ, ◌<◌, ◌⊎◌, ◌==◌, ◌||◌, Bool, true, false, List, [], ◌∷◌, length, map, ⊤}
 use Rattle.debug_records.specs.declared.change.Place.{Place}
 use Rattle.debug_records.specs.declared.change.Var.{Var}
+use Rattle.places.specs.declared.flow.Step.{Step}
+use Rattle.places.specs.declared.flow.Assignment.{Assignment}
 use Rattle.places.specs.declared.flow.FlowTable.{FlowTable}
 use Rattle.places.specs.declared.paths.Path.{Path}
 use Rattle.places.specs.Flow.{can_go, assigns}
@@ -15,29 +17,30 @@ abbrev pub places : Path → List ℕ
 places path = numbers path.places.items
 
 -- Execution may go from each place directly to the next one.
-abbrev pub GoesOn : FlowTable → List ℕ → Type 0
-GoesOn t [] = ⊤
-GoesOn t (p ∷ []) = ⊤
-GoesOn t (p ∷ q ∷ path) = (can_go t p q ≡ true) × GoesOn t (q ∷ path)
+abbrev pub GoesOn : List Step → List ℕ → Type 0
+GoesOn steps [] = ⊤
+GoesOn steps (p ∷ []) = ⊤
+GoesOn steps (p ∷ q ∷ path) = (can_go steps p q ≡ true) × GoesOn steps (q ∷ path)
 
 -- What a route is asked for: from a start by way of a place to a stop, while a variable is not assigned.
 pub record Quest : Type 0 where
-  pub table : FlowTable
+  pub steps : List Step
+  pub assignments : List Assignment
   pub var : ℕ
   pub start : ℕ
   pub via : ℕ
   pub stop : ℕ
 
 abbrev pub quest : FlowTable → Var → (start via stop : Place) → Quest
-quest table var start via stop = record { table = table; var = var.0; start = start.0; via = via.0; stop = stop.0 }
+quest table var start via stop = record { steps = table.steps.items; assignments = table.assignments.items; var = var.0; start = start.0; via = via.0; stop = stop.0 }
 
 -- These places lead on from a place p to the stop. To each of them execution may go directly from the one before. Those before the last
 -- do not assign the variable, the last is the stop, and the place to go by was passed before it.
 abbrev pub LeadOn : Quest → (passed : Bool) → (p : ℕ) → List ℕ → Type 0
 LeadOn quest passed p [] = ⊥
-LeadOn quest passed p (q ∷ []) = (can_go quest.table p q ≡ true) × (q ≡ quest.stop) × (passed ≡ true)
+LeadOn quest passed p (q ∷ []) = (can_go quest.steps p q ≡ true) × (q ≡ quest.stop) × (passed ≡ true)
 LeadOn quest passed p (q ∷ r ∷ path) =
-    (can_go quest.table p q ≡ true) × (assigns quest.table q quest.var ≡ false) × LeadOn quest (passed || q == quest.via) q (r ∷ path)
+    (can_go quest.steps p q ≡ true) × (assigns quest.assignments q quest.var ≡ false) × LeadOn quest (passed || q == quest.via) q (r ∷ path)
 
 -- The path begins at the start, and leads on to the stop.
 pub record IsRoute (quest : Quest) (path : List ℕ) : Type 0 where

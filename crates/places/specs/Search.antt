@@ -59,11 +59,11 @@ pub record Came (quest : Quest) (rows : List Row) (r : Row) (place : ℕ) : Type
 -- What became of a step from a visit to a place: it does not lead to the stop, and it leads nowhere or the search came there.
 pub record Settled (quest : Quest) (rows : List Row) (r : Row) (place : ℕ) : Type 0 where
   pub no_answer : r.passed ≡ true → place ≢ quest.stop
-  pub came : (assigns quest.table place quest.var ≡ true) ⊎ Came quest rows r place
+  pub came : (assigns quest.assignments place quest.var ≡ true) ⊎ Came quest rows r place
 
 -- A flag is set for a place that assigns the variable, or that the search came to.
 pub data IsClosed (quest : Quest) (rows : List Row) (place : ℕ) (passed : Bool) : Type 0 where
-  Assigned : assigns quest.table place quest.var ≡ true → IsClosed quest rows place passed
+  Assigned : assigns quest.assignments place quest.var ≡ true → IsClosed quest rows place passed
   Visited : (index : ℕ) (row : Row) → slice_get rows index ≡ Some row → row.place ≡ place → row.passed ≡ passed → IsClosed quest rows place passed
 
 -- the step was taken from the visit, where the search has come to this step of this visit
@@ -84,13 +84,13 @@ pub record Searched (quest : Quest) (head k : ℕ) (visits : List Visit) (closed
   -- the ways come one behind the other
   pub ascend : (i j : ℕ) (r s : Row) → slice_get rows i ≡ Some r → slice_get rows j ≡ Some s → i < j → IsBefore r.way s.way
   -- and all of them before those that the search comes to next
-  pub beyond : (i j : ℕ) (r h : Row) (s : Step) → slice_get rows i ≡ Some r → slice_get rows head ≡ Some h → slice_get quest.table.steps.items j ≡ Some s
+  pub beyond : (i j : ℕ) (r h : Row) (s : Step) → slice_get rows i ≡ Some r → slice_get rows head ≡ Some h → slice_get quest.steps j ≡ Some s
       → s.from.0 ≡ h.place → k ≤ j → IsBefore r.way (h.way ++ s.to.0 ∷ [])
-  pub settled : (i j : ℕ) (r : Row) (s : Step) → slice_get rows i ≡ Some r → slice_get quest.table.steps.items j ≡ Some s → s.from.0 ≡ r.place
+  pub settled : (i j : ℕ) (r : Row) (s : Step) → slice_get rows i ≡ Some r → slice_get quest.steps j ≡ Some s → s.from.0 ≡ r.place
       → IsTaken i j head k → Settled quest rows r s.to.0
-  pub room : (j : ℕ) (s : Step) → slice_get quest.table.steps.items j ≡ Some s → 2 * s.to.0 + 1 < length closed
+  pub room : (j : ℕ) (s : Step) → slice_get quest.steps j ≡ Some s → 2 * s.to.0 + 1 < length closed
   pub flags : (place : ℕ) (passed : Bool) → slice_index_or closed (state_number place passed) false ≡ true → IsClosed quest rows place passed
-  pub blocked : (place : ℕ) (passed : Bool) → state_number place passed < length closed → assigns quest.table place quest.var ≡ true
+  pub blocked : (place : ℕ) (passed : Bool) → state_number place passed < length closed → assigns quest.assignments place quest.var ≡ true
       → slice_index_or closed (state_number place passed) false ≡ true
 
 -- This is the way to a visit, by the parents.
@@ -102,7 +102,7 @@ pub data IsWayTo (visits : List Visit) : ℕ → List ℕ → Type 0 where
 -- A visit that passed via, and a step from it to the stop.
 pub record IsAnswer (quest : Quest) (visit : Visit) : Type 0 where
   pub passed : visit.passed ≡ true
-  pub step : can_go quest.table visit.place.0 quest.stop ≡ true
+  pub step : can_go quest.steps visit.place.0 quest.stop ≡ true
 
 -- The search came to an answer at a visit.
 pub record Answered (quest : Quest) (head : ℕ) (visits : List Visit) : Type 0 where

@@ -30,7 +30,7 @@ pub struct FlowTable {
 impl FlowTable {
     /// Whether execution may go from a place directly to another.
     pub fn can_go(&self, from: Place, to: Place) -> bool
-        ensures { result ≡ can_go self.now from.0 to.0 }
+        ensures { result ≡ can_go self.now.steps.items from.0 to.0 }
     {
         self.steps
             .iter()
@@ -39,7 +39,7 @@ impl FlowTable {
 
     /// Whether a place assigns a variable.
     pub fn assigns(&self, place: Place, var: Var) -> bool
-        ensures { result ≡ assigns self.now place.0 var.0 }
+        ensures { result ≡ assigns self.now.assignments.items place.0 var.0 }
     {
         self.assignments.iter().any(|assignment| assignment.place.0 == place.0
             && assignment.var.0 == var.0)

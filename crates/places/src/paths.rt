@@ -15,7 +15,7 @@ pub struct Path {
 
 /// Whether execution may go from each place of a list directly to the next one.
 fn goes_on(table: &FlowTable, places: &[Place]) -> bool
-    ensures { IsTrue result ↔ GoesOn table.now (numbers places.now) }
+    ensures { IsTrue result ↔ GoesOn table.now.steps.items (numbers places.now) }
 {
     match places {
         [from, rest @ ..] => match rest {
@@ -28,7 +28,7 @@ fn goes_on(table: &FlowTable, places: &[Place]) -> bool
 
 /// Whether execution may go from each place of a path directly to the next one.
 pub fn is_path(table: &FlowTable, path: &Path) -> bool
-    ensures { IsTrue result ↔ GoesOn table.now (places path.now) }
+    ensures { IsTrue result ↔ GoesOn table.now.steps.items (places path.now) }
 {
     goes_on(table, &path.places)
 }

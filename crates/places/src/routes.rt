@@ -1,8 +1,9 @@
 //! The least route by way of a place.
 
-ghost use Rattle.std.specs.Prelude.{◌≡◌, ℕ, List, IfOk, IfNone, IfSome};
+ghost use Rattle.std.specs.Prelude.{◌≡◌, ℕ, List, IfOk, IfNone, IfSome, option_map};
 ghost use Rattle.places.specs.Flow.{AreInOrder};
 ghost use Rattle.places.specs.Path.{IsLeastRoute, IsRoute, places, quest};
+ghost use Rattle.places.specs.Route.{route_of};
 
 use crate::flow::FlowTable;
 use crate::paths::Path;
@@ -23,6 +24,7 @@ pub fn route(
 ) -> Result<Option<Path>, AllocError>
     requires { AreInOrder table.now.steps.items }
     ensures found { IfOk result (λ answer. IfSome answer (λ path. IsLeastRoute (quest table.now var start via stop) (places path))) }
+    ensures value { IfOk result (λ answer. option_map (λ path. places path) answer ≡ route_of (quest table.now var start via stop)) }
     ensures none { IfOk result (λ answer. IfNone answer ((path : List ℕ) → IsRoute (quest table.now var start via stop) path → ⊥)) }
 {
     let request = Request {

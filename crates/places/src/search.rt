@@ -148,7 +148,8 @@ pub fn expand(
 /// The way to a visit, and the stop behind it.
 pub fn trace(alloc: Global, visits: &[Visit], head: usize, stop: Place) -> Result<Path, AllocError>
     requires { (way : List ℕ) × IsWayTo visits.now head way }
-    ensures { IfOk result (λ path. (way : List ℕ) → IsWayTo visits.now head way → places path ≡ way ++ stop.0 ∷ []) }
+    ensures way { IfOk result (λ path. (way : List ℕ) → IsWayTo visits.now head way → places path ≡ way ++ stop.0 ∷ []) }
+    ensures short { IfOk result (λ path. length path.places.items < 18446744073709551616) }
 {
     let mut back = vec![in alloc; stop]?;
     let mut at = head;

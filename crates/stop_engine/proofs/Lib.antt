@@ -6,3 +6,7 @@ mod PlacesByAddress
 mod Slots
 mod Stepping
 mod StopTables
+pub mod Callers
+pub mod Targets
+pub mod Elements
+pub mod FlowOrder

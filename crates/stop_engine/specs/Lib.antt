@@ -8,3 +8,10 @@ pub mod StopTable
 pub mod EngineState
 pub mod Sight
 pub mod Samples
+pub mod Frames
+pub mod Words
+pub mod Recipes
+pub mod Pointers
+pub mod Values
+pub mod Rows
+pub mod Shown

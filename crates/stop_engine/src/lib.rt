@@ -3,14 +3,19 @@
 
 mod course;
 mod engine;
+mod frames;
 mod halt;
 mod lines;
 mod names;
+mod pointers;
 mod reading;
+mod recipes;
+mod rows;
 mod shown;
 mod stop_table;
 #[cfg(test)]
 mod tests;
+mod values;
 
 pub use engine::Engine;
 pub use halt::Halt;

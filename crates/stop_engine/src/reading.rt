@@ -3,6 +3,7 @@
 ghost use Rattle.std.specs.Prelude.{◌≡◌, ◌<◌, ◌^◌, length, slice_index, IfOk};
 ghost use Rattle.image_form.specs.Form.{form};
 ghost use Rattle.rv_machine.specs.Memory.{word_in};
+ghost use Rattle.rv_machine.specs.State.{reg};
 ghost use Rattle.stop_engine.specs.Plain.{IsPlain};
 ghost use Rattle.stop_engine.specs.Reading.{depth, slot_word};
 ghost use Rattle.stop_engine.specs.Transcript.{shown_text};
@@ -20,17 +21,27 @@ const STACK_POINTER: usize = 2;
 /// The register that counts how many activations may still begin.
 const THREAD_POINTER: usize = 4;
 
+/// The address of the first code word.
+pub const CODE_START: u32 = 0x0001_0000;
+
 /// The address at which the stack begins.
-const STACK_START: u32 = 0x0100_0000;
+pub const STACK_START: u32 = 0x0100_0000;
 
 /// The address behind its end.
-const STACK_END: u32 = 0x0200_0000;
+pub const STACK_END: u32 = 0x0200_0000;
 
 /// The depth of the innermost activation, 1 for the first of main.
 pub fn depth(machine: &Machine) -> u32
     ensures { result ≡ depth machine.now }
 {
     ACTIVATIONS.wrapping_sub(machine.registers()[THREAD_POINTER])
+}
+
+/// The address at which the frame of the innermost activation starts.
+pub fn stack_pointer(machine: &Machine) -> u32
+    ensures { result ≡ reg machine.now 2 }
+{
+    machine.registers()[STACK_POINTER]
 }
 
 /// The byte at an index, and 0 behind the end.
@@ -43,7 +54,7 @@ fn byte_at(bytes: &[u8], index: usize) -> u32
 
 /// The word of the four bytes from an index on, the lowest first.
 #[tactic(auto, unfolding(rv_machine::specs::Memory::word_in))]
-fn word_in(bytes: &[u8], index: usize) -> u32
+pub fn word_in(bytes: &[u8], index: usize) -> u32
     requires { index < 2 ^ 32 }
     ensures { result ≡ word_in bytes.now index }
 {
@@ -54,7 +65,7 @@ fn word_in(bytes: &[u8], index: usize) -> u32
 
 /// The word in a slot of the innermost activation, at an offset in its frame; 0 where it does not lie wholly in the stack.
 #[tactic(auto, using(crate::proofs::Slots::word_in_rest), unfolding(rv_machine::specs::Reading::stack_rest))]
-fn slot_word(machine: &Machine, offset: u32) -> u32
+pub fn slot_word(machine: &Machine, offset: u32) -> u32
     ensures { result ≡ slot_word machine.now offset }
 {
     let frame = machine.registers()[STACK_POINTER];

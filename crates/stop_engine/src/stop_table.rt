@@ -9,12 +9,10 @@ ghost use Rattle.stop_engine.specs.Reading.{place_at};
 ghost use Rattle.stop_engine.specs.Run.{stop_addresses};
 ghost use Rattle.stop_engine.specs.StopTable.{entry_at, is_entry_address};
 
+use crate::reading::CODE_START;
 use image_form::Image;
 use std::alloc::{AllocError, Global};
 use std::marker::Model;
-
-/// The address of the first code word.
-const CODE_START: u32 = 0x0001_0000;
 
 /// An image with a table of its stop places, which finds the place of an address by one look-up.
 #[derive(Drop)]

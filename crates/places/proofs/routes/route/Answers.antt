@@ -1,8 +1,10 @@
-use Rattle.std.proofs.Common.{◌<◌, ◌≤◌, All, length, sym, subst, rules}
+use Rattle.std.proofs.Common.{arith, ◌≡◌, ◌<◌, ◌≤◌, All, length, sym, subst, rules}
+use Rattle.debug_records.specs.declared.change.Place.{Place}
 use Rattle.places.specs.declared.flow.Step.{Step}
-use Rattle.places.specs.Path.{IsLeastRoute, quest}
+use Rattle.places.specs.Path.{IsLeastRoute, places, quest}
 use Rattle.places.specs.Search.{AreBlocked, Expanded, IsWayTo, Searched}
-use Rattle.places.proofs.Searched.{best_way, no_route}
+use Rattle.places.proofs.LeastByPlaces.{found_route, no_route_of}
+use Rattle.places.proofs.Searched.{best_way, length_map, no_route}
 use Rattle.places.proofs.Taking.{first_visit}
 use Rattle.places.proofs.routes.route.Goals as goal
 
@@ -25,7 +27,7 @@ returns-then-branch-clause-found c =
     let q = quest c.args.table.now c.args.var c.args.start c.args.via c.args.stop in
     let answered = subst (λ b. Expanded q c.loop-head.head b c.expand.new.visits.items c.expand.new.closed) c.if-branch.true c.in_ok-expand.ensures in
     let best = best_way q c.loop-head.head c.expand.new.visits.items answered in
-    let path = c.in_ok-path.ensures best.way (subst (λ vs. IsWayTo vs c.loop-head.head best.way) (sym c.deref-then-branch.ensures.value) best.leads) in
+    let path = c.in_ok-path.ensures.way best.way (subst (λ vs. IsWayTo vs c.loop-head.head best.way) (sym c.deref-then-branch.ensures.value) best.leads) in
     subst (IsLeastRoute q) (sym path) best.least
 
 pub returns-clause-none : goal.returns-clause-none
@@ -33,3 +35,18 @@ returns-clause-none c =
     let q = quest c.args.table.now c.args.var c.args.start c.args.via c.args.stop in
     let past : length c.loop-head.visits.items ≤ c.loop-head.head = search rules in
     no_route q c.loop-head.head 0 c.loop-head.visits.items c.loop-head.closed.items c.loop-head.invariant past
+
+pub returns-then-branch-clause-value : goal.returns-then-branch-clause-value
+returns-then-branch-clause-value c =
+    let q = quest c.args.table.now c.args.var c.args.start c.args.via c.args.stop in
+    let answered = subst (λ b. Expanded q c.loop-head.head b c.expand.new.visits.items c.expand.new.closed) c.if-branch.true c.in_ok-expand.ensures in
+    let best = best_way q c.loop-head.head c.expand.new.visits.items answered in
+    let path = c.in_ok-path.ensures.way best.way (subst (λ vs. IsWayTo vs c.loop-head.head best.way) (sym c.deref-then-branch.ensures.value) best.leads) in
+    let many : length (places c.in_ok-path.path) ≡ length c.in_ok-path.path.places.items = length_map (λ (p : Place). p.0) c.in_ok-path.path.places.items in
+    found_route q (places c.in_ok-path.path) c.requires (subst (IsLeastRoute q) (sym path) best.least) (omega (arith, many, c.in_ok-path.ensures.short))
+
+pub returns-clause-value : goal.returns-clause-value
+returns-clause-value c =
+    let q = quest c.args.table.now c.args.var c.args.start c.args.via c.args.stop in
+    let past : length c.loop-head.visits.items ≤ c.loop-head.head = search rules in
+    no_route_of q c.requires (no_route q c.loop-head.head 0 c.loop-head.visits.items c.loop-head.closed.items c.loop-head.invariant past)

@@ -23,8 +23,8 @@ loop-at-preserved c = (trace_goes _ _ _ c.loop-at.invariant.0 c.loop-at-test.tru
 pub bounds-visits-at-2 : goal.bounds-visits-at-2
 bounds-visits-at-2 c = trace_within _ _ c.loop-at.invariant.0
 
-pub returns : goal.returns
-returns c = λ whole w.
+pub returns-clause-way : goal.returns-clause-way
+returns-clause-way c = λ whole w.
     let first = slice_get-get_or c.args.visits.now c.loop-at.at _ (trace_within _ _ c.loop-at.invariant.0) in
     let turned = c.in_ok-from_slice.ensures.ok ∙ c.deref.ensures.value ∙ c.reverse.ensures.items in
     trace_end c.args.visits.now c.loop-at.at _ c.loop-at.back.items c.push-2.new.self.items _ _ c.loop-at-test.false first c.in_ok-push-2.ensures.items turned (c.loop-at.invariant.1 whole w)

@@ -1,0 +1,53 @@
+-- What is shown where the session stands at a place.
+use Rattle.std.specs.Prelude.{ℕ, ◌+◌, ◌==◌, ◌&&◌, nat_lt, Bool, not, if◌then◌else◌, bytes_eq, Option, Some, None, List, [], ◌∷◌}
+use Rattle.std.specs.Option.{option_map_or, is_some}
+use Rattle.image_form.specs.Form.{Form, numbered}
+use Rattle.image_form.specs.Names.{variable_name}
+use Rattle.image_form.specs.declared.tables.Place.{Place}
+use Rattle.image_form.specs.declared.variables.Variable.{Variable}
+use Rattle.image_form.specs.declared.verdicts.VisibleRow.{VisibleRow}
+use Rattle.line_form.specs.Lines.{value_line, nothing_here_line, no_locals_line}
+use Rattle.rv_machine.specs.State.{State}
+use Rattle.stop_engine.specs.Frames.{frame_lines}
+use Rattle.stop_engine.specs.Reading.{frames}
+use Rattle.stop_engine.specs.Rows.{held_text, row_line}
+use Rattle.stop_engine.specs.Transcript.{row_of}
+
+-- the byte of the text at which a place begins
+abbrev pub position_of_place : Form → ℕ → ℕ
+position_of_place m place = option_map_or (λ (p : Place). p.position) (numbered m.places place) 0
+
+-- a static variable that is declared before a position
+abbrev pub is_static_before : (position : ℕ) → Variable → Bool
+is_static_before position v = not (is_some v.function) && nat_lt v.position position
+
+-- the first static variable of a name that is declared before a position, of variables that are counted on from a number
+abbrev pub static_of : Form → (position : ℕ) → (name : List ℕ) → (number : ℕ) → List Variable → Option ℕ
+static_of m position name number [] = None
+static_of m position name number (v ∷ variables) =
+    if is_static_before position v && bytes_eq (variable_name m number) name then Some number else static_of m position name (number + 1) variables
+
+-- what is said of a name: of the first visible variable that has it, else of the first static one that is declared before the place
+abbrev pub name_line : Form → State → (place : ℕ) → (name : List ℕ) → List ℕ
+name_line m s place name =
+    option_map_or (λ (r : VisibleRow). row_line m s name r) (row_of m place name m.rows)
+    (option_map_or (λ variable. value_line name (held_text m s place variable)) (static_of m (position_of_place m place) name 0 m.variables) (nothing_here_line name))
+
+-- the lines of the rows of a place
+abbrev pub lines_of_rows : Form → State → (place : ℕ) → List VisibleRow → List (List ℕ)
+lines_of_rows m s place [] = []
+lines_of_rows m s place (r ∷ rows) =
+    if r.place == place then row_line m s (variable_name m r.variable) r ∷ lines_of_rows m s place rows else lines_of_rows m s place rows
+
+-- the one line where there is none
+abbrev pub or_no_locals : List (List ℕ) → List (List ℕ)
+or_no_locals [] = no_locals_line ∷ []
+or_no_locals (line ∷ lines) = line ∷ lines
+
+-- the lines of all visible variables
+abbrev pub locals_lines : Form → State → (place : ℕ) → List (List ℕ)
+locals_lines m s place = or_no_locals (lines_of_rows m s place m.rows)
+
+-- the lines of the activations that are live
+abbrev pub where_lines : Form → State → (place : ℕ) → List (List ℕ)
+where_lines m s place = frame_lines m 0 (frames m s place)

@@ -1,0 +1,333 @@
+//! The lines of the variables that are visible at a place.
+
+ghost use Rattle.std.specs.Prelude.{◌≡◌, ◌<◌, ◌≤◌, [], IfOk, length, map, option_map, unwrap_or};
+ghost use Rattle.image_form.specs.Form.{form};
+ghost use Rattle.image_form.specs.Rules.{IsImage};
+ghost use Rattle.image_form.specs.RulesOfFunctions.{IsPlaceNumber};
+ghost use Rattle.image_form.specs.declared.verdicts.Verdict.TheVariants.{Home, Recovered};
+ghost use Rattle.line_form.specs.Changes.{noncurrent_line, nonresident_line};
+ghost use Rattle.places.specs.Flow.{AreInOrder};
+ghost use Rattle.places.specs.Path.{numbers, places};
+ghost use Rattle.places.specs.Route.{route_of};
+ghost use Rattle.stop_engine.specs.Rows.{IsChangeNumber, IsFlowOf, IsRow, assignment_of, change_words, held_text, kind_of, recipe_levels, recovered_text, row_line, row_path, row_quest, step_of, verdict_line, via_of};
+
+use crate::frames::owner_of;
+use crate::names::pass_name;
+use crate::recipes::recipe_value;
+use crate::values::{variable_text, word_text};
+use debug_records::{Kind, Place, Var};
+use image_form::{AssignedPair, FlowPair, Image, Verdict, VisibleRow};
+use line_form::{change_text, noncurrent_line, nonresident_line, recovered_line, value_line};
+use places::{Assignment, FlowTable, Path, Step, route};
+use rv_machine::machine::Machine;
+use std::alloc::{AllocError, Global};
+
+/// The steps of an image.
+fn flow_steps(alloc: Global, flow: &[FlowPair]) -> Result<Vec<Step>, AllocError>
+    ensures { IfOk result (λ steps. steps.items ≡ map step_of flow.now) }
+{
+    flow.iter()
+        .map(|pair| Step {
+            from: Place(pair.from),
+            to: Place(pair.to),
+        })
+        .collect(alloc)
+}
+
+/// The assignments of an image.
+fn flow_assignments(
+    alloc: Global,
+    assigned: &[AssignedPair],
+) -> Result<Vec<Assignment>, AllocError>
+    ensures { IfOk result (λ assignments. assignments.items ≡ map assignment_of assigned.now) }
+{
+    assigned
+        .iter()
+        .map(|pair| Assignment {
+            place: Place(pair.place),
+            var: Var(pair.variable),
+        })
+        .collect(alloc)
+}
+
+/// Where execution may go, and what is assigned, by the tables of an image. `AllocError` where memory for it was refused.
+pub fn flow_table(alloc: Global, image: &Image) -> Result<FlowTable, AllocError>
+    requires { IsImage (form image.now) }
+    ensures flow { IfOk result (IsFlowOf (form image.now)) }
+    ensures order { IfOk result (λ table. AreInOrder table.steps.items) }
+{
+    let steps = flow_steps(alloc, &image.flow)?;
+    let assignments = flow_assignments(alloc, &image.assigned)?;
+    Ok(FlowTable { steps, assignments })
+}
+
+/// What a change did.
+fn kind_of(kind: image_form::Kind) -> Kind
+    ensures { result ≡ kind_of kind }
+{
+    match kind {
+        image_form::Kind::Removed => Kind::Removed,
+        image_form::Kind::Moved => Kind::Moved,
+        image_form::Kind::Reused => Kind::Reused,
+        image_form::Kind::Replaced => Kind::Replaced,
+    }
+}
+
+/// The text of a change, by its number.
+fn change_words(alloc: Global, image: &Image, number: u32) -> Result<Vec<u8>, AllocError>
+    requires image { IsImage (form image.now) }
+    requires some { 1 ≤ number }
+    requires known { number ≤ length image.now.changes.items }
+    ensures { IfOk result (λ text. text.items ≡ change_words (form image.now) number) }
+{
+    let index = number as usize - 1;
+    let change = image.changes[index];
+    let pass = pass_name(image, index);
+    Ok(change_text(
+        alloc,
+        number,
+        pass,
+        kind_of(change.kind),
+        change.place,
+    )?)
+}
+
+/// The place by which a path goes: that of the change, or that of the code word that wrote.
+fn via_of(image: &Image, change: u32, writer: Option<u32>) -> u32
+    requires some { 1 ≤ change }
+    requires known { change ≤ length image.now.changes.items }
+    ensures { result ≡ via_of (form image.now) change writer }
+{
+    match writer {
+        None => image.changes[change as usize - 1].place,
+        Some(address) => owner_of(image, address),
+    }
+}
+
+/// A variable at a place, and what is said of it there.
+#[derive(Clone, Copy)]
+pub struct Evidence {
+    pub variable: u32,
+    pub place: u32,
+    pub change: u32,
+    pub start: u32,
+    pub writer: Option<u32>,
+}
+
+/// The path that shows why a variable is not shown, if there is one.
+fn evidence_path(
+    alloc: Global,
+    image: &Image,
+    table: &FlowTable,
+    evidence: Evidence,
+) -> Result<Option<Path>, AllocError>
+    requires some { 1 ≤ evidence.change }
+    requires known { evidence.change ≤ length image.now.changes.items }
+    requires flow { IsFlowOf (form image.now) table.now }
+    requires order { AreInOrder table.now.steps.items }
+    ensures { IfOk result (λ path. option_map (λ p. places p) path
+        ≡ route_of (row_quest (form image.now) evidence.variable evidence.change evidence.start evidence.writer evidence.place)) }
+{
+    let via = via_of(image, evidence.change, evidence.writer);
+    let start = Place(evidence.start);
+    let stop = Place(evidence.place);
+    Ok(route(
+        alloc,
+        table,
+        Var(evidence.variable),
+        start,
+        Place(via),
+        stop,
+    )?)
+}
+
+/// The places of a path, and none where there is no path.
+fn path_places(path: &Option<Path>) -> &[Place]
+    ensures { numbers result.now ≡ unwrap_or (option_map (λ p. places p) path.now) [] }
+{
+    match path {
+        Some(path) => &path.places,
+        None => &[],
+    }
+}
+
+/// How many levels a recipe has at most.
+#[tactic(auto, unfolding(crate::specs::Rows::recipe_levels))]
+fn recipe_levels() -> usize
+    ensures { result ≡ recipe_levels }
+{
+    4
+}
+
+/// The text of the value of a recipe, as one of a variable's type.
+fn recovered_text(
+    alloc: Global,
+    image: &Image,
+    machine: &Machine,
+    place: u32,
+    variable: u32,
+    node: u32,
+) -> Result<Vec<u8>, AllocError>
+    requires image { IsImage (form image.now) }
+    requires place { IsPlaceNumber (form image.now) place }
+    requires variable { variable < length image.now.variables.items }
+    ensures { IfOk result (λ text. text.items ≡ recovered_text (form image.now) machine.now place variable node) }
+{
+    let element = image.variables[variable as usize].element;
+    let word = recipe_value(image, machine, recipe_levels(), node);
+    Ok(word_text(alloc, image, machine, place, element, word)?)
+}
+
+/// The text of the value that a variable's home holds.
+pub fn held_text(
+    alloc: Global,
+    image: &Image,
+    machine: &Machine,
+    place: u32,
+    variable: u32,
+) -> Result<Vec<u8>, AllocError>
+    requires image { IsImage (form image.now) }
+    requires place { IsPlaceNumber (form image.now) place }
+    requires variable { variable < length image.now.variables.items }
+    ensures { IfOk result (λ text. text.items ≡ held_text (form image.now) machine.now place variable) }
+{
+    let kept = image.variables[variable as usize];
+    Ok(variable_text(alloc, image, machine, place, kept)?)
+}
+
+/// The line of a variable that its home shows.
+fn home_line(
+    alloc: Global,
+    image: &Image,
+    machine: &Machine,
+    name: &[u8],
+    place: u32,
+    variable: u32,
+) -> Result<Vec<u8>, AllocError>
+    requires image { IsImage (form image.now) }
+    requires place { IsPlaceNumber (form image.now) place }
+    requires variable { variable < length image.now.variables.items }
+    ensures { IfOk result (λ line. line.items ≡ verdict_line (form image.now) machine.now name.now place variable Home) }
+{
+    let text = held_text(alloc, image, machine, place, variable)?;
+    Ok(value_line(alloc, name, &text)?)
+}
+
+/// The line of a variable whose value is computed anew.
+fn anew_line(
+    alloc: Global,
+    image: &Image,
+    machine: &Machine,
+    name: &[u8],
+    row: VisibleRow,
+    change: u32,
+    node: u32,
+) -> Result<Vec<u8>, AllocError>
+    requires image { IsImage (form image.now) }
+    requires place { IsPlaceNumber (form image.now) row.place }
+    requires variable { row.variable < length image.now.variables.items }
+    requires change { IsChangeNumber (form image.now) change }
+    ensures { IfOk result (λ line. line.items ≡ verdict_line (form image.now) machine.now name.now row.place row.variable (Recovered change node)) }
+{
+    let text = recovered_text(alloc, image, machine, row.place, row.variable, node)?;
+    let words = change_words(alloc, image, change)?;
+    Ok(recovered_line(alloc, name, &text, &words)?)
+}
+
+/// The line of a variable that is not current.
+fn stale_line(
+    alloc: Global,
+    image: &Image,
+    table: &FlowTable,
+    name: &[u8],
+    evidence: Evidence,
+) -> Result<Vec<u8>, AllocError>
+    requires image { IsImage (form image.now) }
+    requires change { IsChangeNumber (form image.now) evidence.change }
+    requires flow { IsFlowOf (form image.now) table.now }
+    requires order { AreInOrder table.now.steps.items }
+    ensures { IfOk result (λ line. line.items ≡ noncurrent_line name.now (change_words (form image.now) evidence.change)
+        (row_path (form image.now) evidence.variable evidence.change evidence.start evidence.writer evidence.place)) }
+{
+    let path = evidence_path(alloc, image, table, evidence)?;
+    let words = change_words(alloc, image, evidence.change)?;
+    Ok(noncurrent_line(alloc, name, &words, path_places(&path))?)
+}
+
+/// The line of a variable that is not resident.
+fn gone_line(
+    alloc: Global,
+    image: &Image,
+    table: &FlowTable,
+    name: &[u8],
+    evidence: Evidence,
+) -> Result<Vec<u8>, AllocError>
+    requires image { IsImage (form image.now) }
+    requires change { IsChangeNumber (form image.now) evidence.change }
+    requires flow { IsFlowOf (form image.now) table.now }
+    requires order { AreInOrder table.now.steps.items }
+    ensures { IfOk result (λ line. line.items ≡ nonresident_line name.now (change_words (form image.now) evidence.change)
+        (row_path (form image.now) evidence.variable evidence.change evidence.start evidence.writer evidence.place)) }
+{
+    let path = evidence_path(alloc, image, table, evidence)?;
+    let words = change_words(alloc, image, evidence.change)?;
+    Ok(nonresident_line(alloc, name, &words, path_places(&path))?)
+}
+
+/// The line of a row, under a name. `AllocError` where memory for it was refused.
+pub fn row_line(
+    alloc: Global,
+    image: &Image,
+    machine: &Machine,
+    table: &FlowTable,
+    name: &[u8],
+    row: VisibleRow,
+) -> Result<Vec<u8>, AllocError>
+    requires image { IsImage (form image.now) }
+    requires row { IsRow (form image.now) row }
+    requires flow { IsFlowOf (form image.now) table.now }
+    requires order { AreInOrder table.now.steps.items }
+    ensures { IfOk result (λ line. line.items ≡ row_line (form image.now) machine.now name.now row) }
+{
+    match row.verdict {
+        Verdict::Home => Ok(home_line(
+            alloc,
+            image,
+            machine,
+            name,
+            row.place,
+            row.variable,
+        )?),
+        Verdict::Recovered { change, node } => {
+            Ok(anew_line(alloc, image, machine, name, row, change, node)?)
+        }
+        Verdict::Noncurrent {
+            change,
+            start,
+            writer,
+        } => {
+            let evidence = Evidence {
+                variable: row.variable,
+                place: row.place,
+                change,
+                start,
+                writer,
+            };
+            Ok(stale_line(alloc, image, table, name, evidence)?)
+        }
+        Verdict::Nonresident {
+            change,
+            start,
+            writer,
+        } => {
+            let evidence = Evidence {
+                variable: row.variable,
+                place: row.place,
+                change,
+                start,
+                writer,
+            };
+            Ok(gone_line(alloc, image, table, name, evidence)?)
+        }
+    }
+}
