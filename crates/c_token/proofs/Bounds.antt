@@ -1,7 +1,6 @@
 -- What stands at an offset ends behind it, and within the text.
-use Rattle.std.proofs.Common.{◌≡◌, ℕ, zero, suc, ◌+◌, ◌-◌, ◌≤◌, ◌<◌, Bool, true, false, cond, not, ◌&&◌, ◌||◌, leb, ltb, eqb, min, List, [], ◌∷◌, ◌++◌, length, get_or, take, drop, Option, Some, None, Result, Ok, Err, refl, sym, ap, subst, ◌∙◌, arith, length-drop}
+use Rattle.std.proofs.Common.{◌≡◌, ℕ, zero, suc, ◌+◌, ◌-◌, ◌≤◌, ◌<◌, Bool, true, false, cond, not, ◌&&◌, ◌||◌, ltb, eqb, List, [], ◌∷◌, length, get_or, take, drop, Option, Some, None, Result, Ok, Err, refl, ap, ◌∙◌, arith, length-drop}
 use Rattle.std.specs.Prelude.{codes}
-use Rattle.std.specs.Bool.{Decides}
 use Rattle.std.specs.List.{prefix_len}
 use Rattle.std.specs.Option.{option_map_or}
 use Rattle.std.specs.Str.{bytes_eq}
@@ -21,7 +20,7 @@ use Rattle.c_token.specs.Constants.{is_number_byte, constant_of, constant_at}
 use Rattle.c_token.specs.Includes.{header_at, is_include_at, is_line_end, is_inside, include_at}
 use Rattle.c_token.specs.Items.{Piece, begins_constant, plain_token_at, token_at, item_at}
 use Rattle.c_token.specs.Lexemes.{Word}
-use Rattle.c_token.specs.Literals.{unit_at, literal_from, literal_at, character_at, only_byte, with_bytes}
+use Rattle.c_token.specs.Literals.{unit_at, literal_from, literal_at, character_at, only_byte}
 use Rattle.c_token.specs.Punctuators.{punctuators, is_digraph_at, find_punctuator, longest_punctuator, punctuator_at}
 use Rattle.c_token.specs.Reading.{◌>>=◌, fault}
 use Rattle.c_token.specs.Words.{word_in, word_at}

@@ -1,5 +1,5 @@
 -- Each token is the longest at its byte.
-use Rattle.std.proofs.Common.{◌≡◌, ℕ, zero, suc, ◌+◌, ◌≤◌, Bool, true, false, cond, ◌&&◌, leb, ltb, ◌⊎◌, inl, inr, List, [], ◌∷◌, length, get_or, take, drop, Option, Some, None, Result, Ok, Err, refl, sym, ap, ◌∙◌, arith}
+use Rattle.std.proofs.Common.{◌≡◌, ℕ, zero, suc, ◌+◌, ◌≤◌, Bool, true, false, cond, ◌&&◌, leb, ltb, ◌⊎◌, inl, inr, List, [], ◌∷◌, length, get_or, drop, Option, Some, None, Result, Ok, Err, refl, ap, arith}
 use Rattle.std.specs.List.{AllByRecursion, list_all, prefix_len}
 use Rattle.std.specs.Option.{option_map_or}
 use Rattle.std.proofs.lemmas.Bool.{leb-true}
@@ -7,12 +7,12 @@ use Rattle.c_token.specs.declared.fault.Fault.{Fault}
 use Rattle.c_token.specs.declared.token.Constant as constant
 use Rattle.c_token.specs.declared.token.Punctuator.{Punctuator}
 use Rattle.c_token.specs.Bytes.{is_letter, is_digit, is_word_byte, stands}
-use Rattle.c_token.specs.Constants.{is_number_byte, constant_of, constant_at}
+use Rattle.c_token.specs.Constants.{is_number_byte, constant_at}
 use Rattle.c_token.specs.Laws.{WordsAreLongest, ConstantsAreLongest, PunctuatorsAreLongest}
 use Rattle.c_token.specs.Lexemes.{Word}
 use Rattle.c_token.specs.Punctuators.{punctuators, find_punctuator, longest_punctuator}
 use Rattle.c_token.specs.Reading.{◌>>=◌}
-use Rattle.c_token.specs.Words.{word_in, word_at}
+use Rattle.c_token.specs.Words.{word_at}
 
 -- what stands behind the longest front that passes does not pass
 stops : (p : ℕ → Bool) (text : List ℕ) (at : ℕ) → p 0 ≡ false → p (get_or text (at + prefix_len p (drop at text)) 0) ≡ false

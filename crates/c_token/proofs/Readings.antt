@@ -1,5 +1,5 @@
 -- The tokens that a text spells are those that are read, and the first fault is the one that is told.
-use Rattle.std.proofs.Common.{◌≡◌, ◌⊎◌, inl, inr, ℕ, zero, suc, ◌+◌, ◌≤◌, ◌<◌, true, false, cond, ltb, List, [], ◌∷◌, ◌++◌, length, take, drop, Result, Ok, Err, refl, sym, ap, subst, ◌∙◌, arith, append_assoc}
+use Rattle.std.proofs.Common.{◌≡◌, ◌⊎◌, inl, inr, ℕ, zero, suc, ◌+◌, ◌≤◌, ◌<◌, false, ltb, List, [], ◌++◌, length, drop, Result, Ok, Err, refl, sym, ap, subst, ◌∙◌, arith, append_assoc}
 use Rattle.std.proofs.lemmas.List.{append-nil}
 use Rattle.std.proofs.Math.ListN.{drop_of_length-le}
 use Rattle.debug_records.specs.declared.code.Code.{Code}
@@ -10,7 +10,6 @@ use Rattle.c_token.specs.declared.fault.Fault.{Fault}
 use Rattle.c_token.specs.Includes.{start}
 use Rattle.c_token.specs.Items.{Piece, item_at, behind}
 use Rattle.c_token.specs.Lexemes.{Lexeme}
-use Rattle.c_token.specs.Reading.{◌>>=◌}
 use Rattle.c_token.specs.Texts.{line_of, tokens_at, located, with_tokens, tokens_from, tokens_of, Fails}
 use Rattle.c_token.specs.Spells.{Takes, SpellsFrom, nothing, piece, FaultsFrom, here, later, Spells, Breaks, too_long, first, IsRefusal}
 use Rattle.c_token.specs.Laws.{SpelledIsRead, BreachIsTold}

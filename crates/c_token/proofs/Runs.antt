@@ -1,5 +1,5 @@
 -- The longest front of a text whose bytes all pass.
-use Rattle.std.proofs.Common.{◌≡◌, ℕ, zero, suc, ◌+◌, ◌<◌, get_or, Bool, true, false, cond, ◌&&◌, List, [], ◌∷◌, ◌++◌, length, take, drop, refl, arith}
+use Rattle.std.proofs.Common.{◌≡◌, ℕ, zero, suc, ◌+◌, ◌<◌, get_or, Bool, true, false, cond, ◌&&◌, List, [], ◌∷◌, length, take, drop, refl, arith}
 use Rattle.std.specs.List.{list_all, prefix_len}
 
 pub and_left : (a b : Bool) → (a && b) ≡ true → a ≡ true

@@ -8,7 +8,7 @@ use Rattle.c_token.specs.declared.fault.Fault.{Fault}
 use Rattle.c_token.specs.Bytes.{stands, is_replaced}
 use Rattle.c_token.specs.Blanks.{block_comment, blank_at, blanks_from, blanks_end}
 use Rattle.c_token.specs.Literals.{unit_at, literal_from, with_bytes}
-use Rattle.c_token.specs.Reading.{◌>>=◌, fault}
+use Rattle.c_token.specs.Reading.{fault}
 
 -- the bytes from an offset on are the byte there and those behind it
 pub cut : (text : List ℕ) (at : ℕ) → at < length text → drop at text ≡ get_or text at 0 ∷ drop (at + 1) text

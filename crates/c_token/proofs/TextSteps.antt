@@ -1,5 +1,5 @@
 -- Going over a text, from what stands at an offset to what stands behind it.
-use Rattle.std.proofs.Common.{◌≡◌, ℕ, zero, suc, ◌+◌, ◌-◌, ◌≤◌, ◌<◌, Bool, true, false, cond, ltb, List, [], ◌∷◌, ◌++◌, length, get_or, take, drop, Result, Ok, Err, refl, sym, ap, ◌∙◌, append_assoc, arith, length-drop, length-append}
+use Rattle.std.proofs.Common.{◌≡◌, ℕ, zero, suc, ◌+◌, ◌-◌, ◌≤◌, ◌<◌, true, false, ltb, List, [], ◌∷◌, ◌++◌, length, take, drop, Result, Ok, Err, refl, sym, ap, ◌∙◌, append_assoc, arith, length-drop, length-append}
 use Rattle.std.specs.Prelude.{count_by, ◌==◌}
 use Rattle.std.proofs.lemmas.List.{drop-drop, length-take, length-map}
 use Rattle.std.proofs.lemmas.Bool.{le-ltb, lt-ltb}
@@ -16,7 +16,6 @@ use Rattle.c_token.specs.declared.context.Context.{Context}
 use Rattle.c_token.specs.Includes.{start}
 use Rattle.c_token.specs.Items.{Piece, LineFeed, Blank, item_view, item_at, behind}
 use Rattle.c_token.specs.Lexemes.{Word, Lexeme, lexeme, lexemes}
-use Rattle.c_token.specs.Reading.{◌>>=◌}
 use Rattle.c_token.specs.Texts.{line_of, tokens_at, located, with_tokens, tokens_from, tokens_of}
 use Rattle.c_token.proofs.Steps.{cut}
 

@@ -1,5 +1,5 @@
 -- White space within a line, and comments (ISO/IEC 9899:2011, 6.4.9).
-use Rattle.std.specs.Prelude.{ℕ, zero, suc, ◌+◌, ◌-◌, ◌==◌, ◌||◌, if◌then◌else◌, List, [], ◌∷◌, drop, Option, Some, None, Result, Ok, Err, slice_index, codes}
+use Rattle.std.specs.Prelude.{ℕ, zero, suc, ◌+◌, ◌-◌, ◌==◌, if◌then◌else◌, List, [], ◌∷◌, drop, Option, Some, None, Result, Ok, Err, slice_index, codes}
 use Rattle.std.specs.Option.{option_map_or}
 use Rattle.debug_records.specs.declared.code.TheConstants.Code.{UNKNOWN_BYTE, UNENDED_COMMENT}
 use Rattle.c_token.specs.declared.fault.Fault.{Fault}

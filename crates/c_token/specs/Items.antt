@@ -1,5 +1,5 @@
 -- What stands at an offset between two tokens: white space, a comment or a token.
-use Rattle.std.specs.Prelude.{ℕ, ◌+◌, ◌==◌, ◌&&◌, ◌||◌, if◌then◌else◌, Bool, true, List, Option, Some, None, Result, Ok, Err, slice_index}
+use Rattle.std.specs.Prelude.{ℕ, ◌+◌, ◌==◌, ◌&&◌, ◌||◌, if◌then◌else◌, Bool, true, List, Result, Ok, Err, slice_index}
 use Rattle.std.specs.Option.{option_map_or}
 use Rattle.debug_records.specs.declared.code.TheConstants.Code.{UNKNOWN_BYTE}
 use Rattle.c_token.specs.declared.context.Context.{Context}

@@ -1,5 +1,5 @@
 -- What the definitions together say of a text.
-use Rattle.std.specs.Prelude.{◌≡◌, ◌↔◌, ℕ, ◌+◌, ◌≤◌, Bool, true, false, List, length, Option, Some, Result, Ok, Err, slice_index}
+use Rattle.std.specs.Prelude.{◌≡◌, ◌↔◌, ℕ, ◌+◌, ◌≤◌, true, false, List, length, Some, Ok, Err, slice_index}
 use Rattle.std.specs.List.{AllByRecursion}
 use Rattle.debug_records.specs.declared.code.Code.{Code}
 use Rattle.c_token.specs.declared.token.Constant as constant

@@ -12,3 +12,4 @@ pub mod Items
 pub mod Texts
 pub mod Spells
 pub mod Laws
+pub mod TextsWorked

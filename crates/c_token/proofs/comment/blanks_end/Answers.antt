@@ -1,6 +1,5 @@
-use Rattle.std.proofs.Common.{◌≡◌, ◌<◌, ◌≤◌, length, Some, Ok, sym, ◌∙◌, arith}
+use Rattle.std.proofs.Common.{◌<◌, ◌≤◌, length, sym, arith}
 use Rattle.std.proofs.lemmas.Result.{err_from_is_err_and}
-use Rattle.c_token.specs.Blanks.{blank_at}
 use Rattle.c_token.proofs.Steps.{blanks_on, blanks_stop, blanks_fail}
 use Rattle.c_token.proofs.comment.blanks_end.Goals as goal
 

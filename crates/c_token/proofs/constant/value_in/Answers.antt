@@ -1,6 +1,5 @@
 use Rattle.std.proofs.Common.{◌+◌, arith}
 use Rattle.std.proofs.lemmas.Grind.{common_steps}
-use Rattle.c_token.specs.Constants.{value_of}
 use Rattle.c_token.proofs.Digits.{value_grows}
 use Rattle.c_token.proofs.constant.value_in.Goals as goal
 

@@ -1,4 +1,4 @@
-use Rattle.std.proofs.Common.{◌≡◌, ◌-◌, ◌<◌, ◌≤◌, length, get_or, drop}
+use Rattle.std.proofs.Common.{◌≡◌, ◌-◌, ◌<◌, ◌≤◌, length, drop}
 use Rattle.c_token.specs.Literals.{literal_from, literal_at, with_bytes}
 use Rattle.c_token.proofs.literal.literal_at.Given as goal
 

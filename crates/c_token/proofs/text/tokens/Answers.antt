@@ -1,11 +1,10 @@
-use Rattle.std.proofs.Common.{◌≡◌, ℕ, ◌≤◌, ◌∷◌, ◌+◌, ◌-◌, ◌++◌, List, [], length, take, drop, get_or, ap, sym, ◌∙◌, refl, arith, Ok, Err}
-use Rattle.std.proofs.lemmas.List.{map_push, append-nil, length-take}
+use Rattle.std.proofs.Common.{◌≡◌, ℕ, ◌≤◌, ◌∷◌, ◌+◌, ◌-◌, ◌++◌, List, [], length, ap, sym, ◌∙◌, refl, arith}
+use Rattle.std.proofs.lemmas.List.{map_push, append-nil}
 use Rattle.std.proofs.lemmas.Result.{err_from_is_err_and}
-use Rattle.c_token.specs.Includes.{start}
-use Rattle.c_token.specs.Items.{behind, item_at, item_view}
+use Rattle.c_token.specs.Items.{item_view}
 use Rattle.c_token.specs.Lexemes.{Lexeme, lexeme, lexemes, word_view}
-use Rattle.c_token.specs.Spells.{Takes, Spells, too_long}
-use Rattle.c_token.specs.Texts.{line_of, tokens_at, located, with_tokens, tokens_from, tokens_of}
+use Rattle.c_token.specs.Spells.{Takes, too_long}
+use Rattle.c_token.specs.Texts.{tokens_at, tokens_of}
 use Rattle.c_token.proofs.Readings.{one_more, one_later, at_end, located_ok, refused_there, fails_there}
 use Rattle.c_token.proofs.TextSteps.{token_view, goes_on, begins_with, line_on, no_token, few_feeds, grown}
 use Rattle.c_token.proofs.TextSteps as steps

@@ -1,4 +1,3 @@
-use Rattle.std.proofs.Common.{◌<◌, ◌+◌, arith}
 use Rattle.c_token.specs.Bytes.{is_word_byte}
 use Rattle.c_token.proofs.Runs.{all_of_prefix}
 use Rattle.c_token.proofs.word.word_at.Goals as goal
