@@ -1,8 +1,13 @@
+use crate::changes::{change_line, change_text, noncurrent_line, nonresident_line, recovered_line};
+use crate::commands::{break_line, frame_line, no_function_line, no_locals_line, no_place_line};
 use crate::ending::{depth_line, exit_line, fault_line, limit_line};
 use crate::output::{end_line, out_line, out_lines};
 use crate::shown::{no_stop_line, nothing_here_line, stop_line, value_line};
 use crate::status::{Status, fault_text};
-use debug_records::{Code, Letter};
+use crate::values::{
+    array_text, frame_pointer, literal_pointer, null_text, static_pointer, unknown_pointer,
+};
+use debug_records::{Code, Kind, Letter, Place};
 use std::test::Fail;
 
 #[test]
@@ -163,5 +168,93 @@ fn statuses_have_numbers_and_texts(rt: HostRuntime) -> Result<(), Fail> {
         assert_eq!(rt; status.number(), number);
         assert_eq!(rt; fault_text(rt.alloc(), &status)?.as_str(), text);
     }
+    Ok(())
+}
+
+#[test]
+fn places_and_activations_are_listed(rt: HostRuntime) -> Result<(), Fail> {
+    let places = [Place(3), Place(12)];
+    assert_eq!(rt;
+        break_line(rt.alloc(), &places)?.as_slice(),
+        b"break at 3 12".as_slice()
+    );
+    assert_eq!(rt;
+        no_place_line(rt.alloc(), 999)?.as_slice(),
+        b"no place on line 999".as_slice()
+    );
+    assert_eq!(rt;
+        no_function_line(rt.alloc(), b"f")?.as_slice(),
+        b"no function f".as_slice()
+    );
+    assert_eq!(rt;
+        no_locals_line(rt.alloc())?.as_slice(),
+        b"no locals".as_slice()
+    );
+    assert_eq!(rt;
+        frame_line(rt.alloc(), 1, b"main", 7, 9)?.as_slice(),
+        b"#1 main line 7 place 9".as_slice()
+    );
+    Ok(())
+}
+
+#[test]
+fn changes_hide_and_recover_values(rt: HostRuntime) -> Result<(), Fail> {
+    let change = change_text(rt.alloc(), 3, b"dead", Kind::Removed, 8)?;
+    assert_eq!(rt; change.as_slice(), b"3 dead removed 8".as_slice());
+    assert_eq!(rt;
+        change_line(rt.alloc(), 1, b"motion", Kind::Moved, b"x", 4)?.as_slice(),
+        b"1 motion moved x 4".as_slice()
+    );
+    assert_eq!(rt;
+        recovered_line(rt.alloc(), b"x", b"-2", &change)?.as_slice(),
+        b"x = -2 (recovered: 3 dead removed 8)".as_slice()
+    );
+    let path = [Place(8), Place(9)];
+    assert_eq!(rt;
+        noncurrent_line(rt.alloc(), b"x", &change, &path)?.as_slice(),
+        b"x noncurrent: 3 dead removed 8, path 8 9".as_slice()
+    );
+    assert_eq!(rt;
+        nonresident_line(rt.alloc(), b"x", &change, &[])?.as_slice(),
+        b"x nonresident: 3 dead removed 8, path none".as_slice()
+    );
+    Ok(())
+}
+
+#[test]
+fn pointers_name_their_objects(rt: HostRuntime) -> Result<(), Fail> {
+    assert_eq!(rt; null_text(rt.alloc())?.as_slice(), b"null".as_slice());
+    assert_eq!(rt;
+        static_pointer(rt.alloc(), b"g", 4)?.as_slice(),
+        b"&g+4".as_slice()
+    );
+    assert_eq!(rt;
+        literal_pointer(rt.alloc(), 2, 0)?.as_slice(),
+        b"&#2+0".as_slice()
+    );
+    assert_eq!(rt;
+        frame_pointer(rt.alloc(), b"a", 3, 8)?.as_slice(),
+        b"&a@3+8".as_slice()
+    );
+    assert_eq!(rt;
+        unknown_pointer(rt.alloc(), 0x400)?.as_slice(),
+        b"?0x00000400".as_slice()
+    );
+    Ok(())
+}
+
+#[test]
+fn an_array_lists_its_elements(rt: HostRuntime) -> Result<(), Fail> {
+    let one = Vec::from_slice(rt.alloc(), b"1")?;
+    let two = Vec::from_slice(rt.alloc(), b"-2")?;
+    let values = vec![in rt.alloc(); one, two]?;
+    assert_eq!(rt;
+        array_text(rt.alloc(), &values, false)?.as_slice(),
+        b"{1, -2}".as_slice()
+    );
+    assert_eq!(rt;
+        array_text(rt.alloc(), &values, true)?.as_slice(),
+        b"{1, -2, ...}".as_slice()
+    );
     Ok(())
 }

@@ -5,8 +5,8 @@ mod flow;
 mod paths;
 mod routes;
 mod search;
-//#[cfg(test)]
-//mod tests;
+#[cfg(test)]
+mod tests;
 
 pub use flow::{Assignment, FlowTable, Step};
 pub use paths::{Path, is_path};

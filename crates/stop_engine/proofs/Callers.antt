@@ -1,18 +1,19 @@
 -- The activations that called the innermost one.
-use Rattle.std.proofs.Common.{◌≡◌, ◌≢◌, ℕ, zero, suc, ◌+◌, ◌-◌, ◌*◌, ◌/◌, ◌%◌, ◌<◌, ◌≤◌, ◌==◌, Bool, true, false, if◌then◌else◌, Option, Some, None, List, [], ◌∷◌, ◌++◌, length, get_or, IsSomeAnd, refl, sym, ap, ◌∙◌, subst, inl, inr, append_assoc, arith}
-use Rattle.std.specs.Prelude.{◌&&◌, nat_le, slice_get, slice_index}
+use Rattle.std.proofs.Common.{◌≡◌, ◌≢◌, ℕ, zero, suc, ◌+◌, ◌-◌, ◌/◌, ◌%◌, ◌<◌, ◌≤◌, ◌==◌, Bool, true, false, if◌then◌else◌, Option, Some, None, List, [], ◌∷◌, ◌++◌, length, get_or, IsSomeAnd, refl, sym, ap, ◌∙◌, subst, inl, inr, append_assoc, arith, All}
+use Rattle.std.specs.Prelude.{◌&&◌, nat_le, slice_index}
 use Rattle.std.proofs.lemmas.Bool.{cases_lt}
 use Rattle.std.proofs.lemmas.Bool.Decides.{nat_tests}
-use Rattle.std.proofs.lemmas.List.{get_or_past}
+use Rattle.std.proofs.lemmas.List.{get_or_past, get_or_append_left, length-append}
+use Rattle.std.proofs.Math.Seq.{get_or-append_seam}
 use Rattle.std.proofs.lemmas.Option.{slice_get-get_or, slice_get_within}
 use Rattle.image_form.specs.Form.{Form, numbered}
 use Rattle.image_form.specs.declared.tables.Place.{Place}
 use Rattle.image_form.specs.Rules.{IsImage}
 use Rattle.image_form.specs.RulesOfFunctions.{IsPlaceNumber}
-use Rattle.image_form.specs.RulesOfPlaces.{IsOwner, IsInFunction, word_address}
-use Rattle.rv_machine.specs.State.{State, word}
-use Rattle.stop_engine.specs.Reading.{frames_from, frame_of, is_stack_address, owner_of}
-use Rattle.stop_engine.specs.Frames.{calling_place, place_before, return_address}
+use Rattle.image_form.specs.RulesOfPlaces.{IsInFunction, word_address}
+use Rattle.rv_machine.specs.State.{State, reg, word}
+use Rattle.stop_engine.specs.Reading.{frames, frames_from, frame_of, greatest_depth, is_stack_address, owner_of}
+use Rattle.stop_engine.specs.Frames.{calling_place, return_address}
 
 -- a number of which something is known is a number of the places
 numbered_place : (m : Form) (n : ℕ) (P : Place → Type 0) (o : Option Place) → numbered m.places n ≡ o → IsSomeAnd o P → IsPlaceNumber m n
@@ -72,3 +73,29 @@ frames_last n m s place sp caller before after whole is none pushed so_far =
     let next : frames_from (suc n) m s place sp ≡ place ∷ [] =
     frames_next n m s place sp ∙ ap (λ b. place ∷ (if b then [] else frames_from n m s (calling_place m s sp) (word (sp + frame_of m place)))) test in
     pushed ∙ ap (λ l. before ++ l) (sym next) ∙ so_far
+
+-- what holds of each of some numbers and of one more holds of each
+pub all_more : (P : ℕ → Type 0) (xs ys : List ℕ) (y : ℕ) → ys ≡ xs ++ y ∷ [] → P y → All P xs → All P ys
+all_more P xs ys y same last all = subst (All P) (sym same) (λ k d lt. elim (cases_lt k (length xs)) [
+  | inl before ↦ subst P (sym (get_or_append_left xs (y ∷ []) d k before)) (all k d before)
+  | inr behind ↦
+      let at : k ≡ length xs = omega (arith, lt, length-append xs (y ∷ [])) in
+      subst P (sym (ap (λ n. get_or (xs ++ y ∷ []) n d) at ∙ get_or-append_seam xs y [] d)) last
+])
+
+-- there are no more activations than are counted
+frames_short : (n : ℕ) (m : Form) (s : State) (place sp : ℕ) → length (frames_from n m s place sp) ≤ n
+frames_short zero m s place sp = omega arith
+frames_short (suc n) m s place sp = by_test (calling_place m s sp == 0) refl (frames_short n m s (calling_place m s sp) (word (sp + frame_of m place)))
+  where
+    by_test : (b : Bool) → (calling_place m s sp == 0) ≡ b → length (frames_from n m s (calling_place m s sp) (word (sp + frame_of m place))) ≤ n → length (frames_from (suc n) m s place sp) ≤ suc n
+    by_test true t rest =
+        let next : frames_from (suc n) m s place sp ≡ place ∷ [] = frames_next n m s place sp ∙ ap (λ b. place ∷ (if b then [] else frames_from n m s (calling_place m s sp) (word (sp + frame_of m place)))) t in
+        omega (arith, ap length next)
+    by_test false t rest =
+        let next : frames_from (suc n) m s place sp ≡ place ∷ frames_from n m s (calling_place m s sp) (word (sp + frame_of m place)) = frames_next n m s place sp ∙ ap (λ b. place ∷ (if b then [] else frames_from n m s (calling_place m s sp) (word (sp + frame_of m place)))) t in
+        omega (arith, ap length next, rest)
+
+pub frames_few : (m : Form) (s : State) (place : ℕ) → length (frames m s place) < 4294967296
+unfolding greatest_depth
+frames_few m s place = let most = frames_short greatest_depth m s place (reg s 2) in omega (arith, most)

@@ -1,6 +1,5 @@
 -- The steps of an image stand in order.
-use Rattle.std.proofs.Common.{◌≡◌, ℕ, zero, suc, ◌+◌, ◌<◌, ◌⊎◌, List, [], ◌∷◌, length, map, get_or, inl, inr, ◌∙◌, arith}
-use Rattle.image_form.specs.Form.{Form}
+use Rattle.std.proofs.Common.{ℕ, zero, suc, ◌<◌, List, [], ◌∷◌, length, map, get_or, inl, inr, ◌∙◌, arith}
 use Rattle.image_form.specs.declared.tables.FlowPair.{FlowPair}
 use Rattle.image_form.specs.Lists.{EachToNext}
 use Rattle.image_form.specs.RulesOfChanges.{IsPairBefore}

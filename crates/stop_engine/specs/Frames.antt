@@ -1,13 +1,13 @@
 -- The activations that are live at a stop.
-use Rattle.std.specs.Prelude.{ℕ, zero, suc, ◌+◌, ◌-◌, ◌%◌, ◌==◌, ◌&&◌, if◌then◌else◌, Option, Some, None, List, [], ◌∷◌}
+use Rattle.std.specs.Prelude.{ℕ, ◌+◌, ◌-◌, ◌%◌, ◌==◌, ◌&&◌, if◌then◌else◌, List, [], ◌∷◌}
 use Rattle.std.specs.Option.{option_map_or}
 use Rattle.image_form.specs.Form.{Form, numbered}
 use Rattle.image_form.specs.Names.{function_name}
 use Rattle.image_form.specs.declared.tables.Place.{Place}
-use Rattle.rv_machine.specs.State.{State, reg, word}
+use Rattle.rv_machine.specs.State.{State, word}
 use Rattle.rv_machine.specs.Memory.{word_in}
 use Rattle.line_form.specs.Lines.{frame_line}
-use Rattle.stop_engine.specs.Reading.{is_stack_address, owner_of, frame_of, frames}
+use Rattle.stop_engine.specs.Reading.{is_stack_address, owner_of}
 
 -- The place of the word of code in front of an address, or 0 for none.
 abbrev pub place_before : Form → ℕ → ℕ
@@ -22,9 +22,11 @@ return_address s sp = word_in s.stack (sp - 16777216)
 abbrev pub calling_place : Form → State → (sp : ℕ) → ℕ
 calling_place m s sp = if is_stack_address sp && sp % 4 == 0 then place_before m (return_address s sp) else 0
 
+-- The line of the activation of a number that stands at a place.
+abbrev pub frame_line_at : Form → (number place : ℕ) → List ℕ
+frame_line_at m number place = option_map_or (λ (p : Place). frame_line number (function_name m p.function) p.line place) (numbered m.places place) []
+
 -- The lines of the activations that stand at these places, the first with this number.
 abbrev pub frame_lines : Form → (number : ℕ) → List ℕ → List (List ℕ)
 frame_lines m number [] = []
-frame_lines m number (place ∷ places) =
-    option_map_or (λ (p : Place). frame_line number (function_name m p.function) p.line place) (numbered m.places place) []
-    ∷ frame_lines m (number + 1) places
+frame_lines m number (place ∷ places) = frame_line_at m number place ∷ frame_lines m (number + 1) places

@@ -1,5 +1,5 @@
 -- The images that the debugger can show so far.
-use Rattle.std.specs.Prelude.{◌≡◌, ℕ}
+use Rattle.std.specs.Prelude.{◌≡◌}
 use Rattle.std.specs.List.{AllByRecursion}
 use Rattle.image_form.specs.Form.{Form}
 use Rattle.image_form.specs.declared.variables.ElementType.TheVariants.{I32}

@@ -1,11 +1,11 @@
 -- The lines of the variables that are visible at a place.
-use Rattle.std.specs.Prelude.{◌≡◌, ℕ, ◌-◌, ◌<◌, ◌≤◌, ◌==◌, if◌then◌else◌, Option, Some, None, unwrap_or, List, [], ◌∷◌, map, length, slice_get}
+use Rattle.std.specs.Prelude.{◌≡◌, ℕ, ◌-◌, ◌<◌, ◌≤◌, Option, Some, None, unwrap_or, List, [], map, length, slice_get}
 use Rattle.std.specs.Option.{option_map_or}
 use Rattle.debug_records.specs.declared.change.Kind.{Kind}
 use Rattle.debug_records.specs.declared.change.Kind.TheVariants as shown
 use Rattle.image_form.specs.Form.{Form, numbered}
 use Rattle.image_form.specs.RulesOfFunctions.{IsPlaceNumber}
-use Rattle.image_form.specs.Names.{pass_name, variable_name}
+use Rattle.image_form.specs.Names.{pass_name}
 use Rattle.image_form.specs.declared.tables.AssignedPair.{AssignedPair}
 use Rattle.image_form.specs.declared.tables.Change.{Change}
 use Rattle.image_form.specs.declared.tables.FlowPair.{FlowPair}
@@ -20,7 +20,6 @@ use Rattle.line_form.specs.Changes.{change_text, recovered_line, noncurrent_line
 use Rattle.places.specs.declared.flow.Step.{Step}
 use Rattle.places.specs.declared.flow.Assignment.{Assignment}
 use Rattle.places.specs.declared.flow.FlowTable.{FlowTable}
-use Rattle.places.specs.Flow.{AreInOrder}
 use Rattle.places.specs.Path.{Quest}
 use Rattle.places.specs.Route.{route_of}
 use Rattle.rv_machine.specs.State.{State}

@@ -1,5 +1,5 @@
 -- The run of an image: of the image it reads the code, the initial bytes and the addresses of the stop places, and nothing else.
-use Rattle.std.specs.Prelude.{ℕ, zero, suc, ◌+◌, ◌==◌, Bool, List, [], ◌∷◌, map, if◌then◌else◌}
+use Rattle.std.specs.Prelude.{ℕ, ◌+◌, ◌==◌, Bool, List, [], ◌∷◌, if◌then◌else◌}
 use Rattle.std.specs.List.{list_any}
 use Rattle.image_form.specs.Form.{Form}
 use Rattle.image_form.specs.declared.tables.Function.{Function}

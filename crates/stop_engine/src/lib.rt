@@ -16,6 +16,7 @@ mod stop_table;
 #[cfg(test)]
 mod tests;
 mod values;
+mod views;
 
 pub use engine::Engine;
 pub use halt::Halt;

@@ -35,10 +35,7 @@ fn flow_steps(alloc: Global, flow: &[FlowPair]) -> Result<Vec<Step>, AllocError>
 }
 
 /// The assignments of an image.
-fn flow_assignments(
-    alloc: Global,
-    assigned: &[AssignedPair],
-) -> Result<Vec<Assignment>, AllocError>
+fn flow_assignments(alloc: Global, assigned: &[AssignedPair]) -> Result<Vec<Assignment>, AllocError>
     ensures { IfOk result (λ assignments. assignments.items ≡ map assignment_of assigned.now) }
 {
     assigned
@@ -83,13 +80,7 @@ fn change_words(alloc: Global, image: &Image, number: u32) -> Result<Vec<u8>, Al
     let index = number as usize - 1;
     let change = image.changes[index];
     let pass = pass_name(image, index);
-    Ok(change_text(
-        alloc,
-        number,
-        pass,
-        kind_of(change.kind),
-        change.place,
-    )?)
+    Ok(change_text(alloc, number, pass, kind_of(change.kind), change.place)?)
 }
 
 /// The place by which a path goes: that of the change, or that of the code word that wrote.
@@ -184,14 +175,14 @@ pub fn held_text(
     image: &Image,
     machine: &Machine,
     place: u32,
-    variable: u32,
+    variable: usize,
 ) -> Result<Vec<u8>, AllocError>
     requires image { IsImage (form image.now) }
     requires place { IsPlaceNumber (form image.now) place }
     requires variable { variable < length image.now.variables.items }
     ensures { IfOk result (λ text. text.items ≡ held_text (form image.now) machine.now place variable) }
 {
-    let kept = image.variables[variable as usize];
+    let kept = image.variables[variable];
     Ok(variable_text(alloc, image, machine, place, kept)?)
 }
 
@@ -209,7 +200,7 @@ fn home_line(
     requires variable { variable < length image.now.variables.items }
     ensures { IfOk result (λ line. line.items ≡ verdict_line (form image.now) machine.now name.now place variable Home) }
 {
-    let text = held_text(alloc, image, machine, place, variable)?;
+    let text = held_text(alloc, image, machine, place, variable as usize)?;
     Ok(value_line(alloc, name, &text)?)
 }
 
@@ -290,14 +281,7 @@ pub fn row_line(
     ensures { IfOk result (λ line. line.items ≡ row_line (form image.now) machine.now name.now row) }
 {
     match row.verdict {
-        Verdict::Home => Ok(home_line(
-            alloc,
-            image,
-            machine,
-            name,
-            row.place,
-            row.variable,
-        )?),
+        Verdict::Home => Ok(home_line(alloc, image, machine, name, row.place, row.variable)?),
         Verdict::Recovered { change, node } => {
             Ok(anew_line(alloc, image, machine, name, row, change, node)?)
         }

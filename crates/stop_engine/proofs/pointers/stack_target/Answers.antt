@@ -1,4 +1,4 @@
-use Rattle.std.proofs.Common.{◌≡◌, suc, ◌+◌, ◌-◌, Some, None, sym, ap, ◌∙◌, subst, arith}
+use Rattle.std.proofs.Common.{◌≡◌, suc, ◌+◌, ◌-◌, sym, ◌∙◌, subst, arith}
 use Rattle.image_form.specs.Form.{form}
 use Rattle.rv_machine.specs.State.{reg, word}
 use Rattle.stop_engine.specs.Pointers.{stack_target}

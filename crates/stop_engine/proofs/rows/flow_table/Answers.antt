@@ -1,5 +1,4 @@
 use Rattle.std.proofs.Common.{sym, subst, ap, ◌∙◌, map}
-use Rattle.image_form.specs.Form.{form}
 use Rattle.places.specs.Flow.{AreInOrder}
 use Rattle.stop_engine.specs.Rows.{assignment_of, step_of}
 use Rattle.stop_engine.proofs.FlowOrder.{steps_in_order}

@@ -1,0 +1,149 @@
+//! What is shown where the session stands at a place.
+
+ghost use Rattle.std.specs.Prelude.{◌≡◌, ◌<◌, IfOk, IfSome, length, map};
+ghost use Rattle.image_form.specs.Form.{form};
+ghost use Rattle.image_form.specs.Rules.{IsImage};
+ghost use Rattle.image_form.specs.RulesOfFunctions.{IsPlaceNumber};
+ghost use Rattle.places.specs.Flow.{AreInOrder};
+ghost use Rattle.stop_engine.specs.Rows.{IsFlowOf, IsRow};
+ghost use Rattle.stop_engine.specs.Shown.{is_static_before, lines_of_rows, locals_lines, name_line, position_of_place, static_of, where_lines};
+ghost use Rattle.stop_engine.specs.Transcript.{row_of};
+
+use crate::frames::{frame_lines, frame_places};
+use crate::names::variable_name;
+use crate::rows::{held_text, row_line};
+use image_form::{Image, Variable, VisibleRow};
+use line_form::{no_locals_line, nothing_here_line, value_line};
+use places::FlowTable;
+use rv_machine::machine::Machine;
+use std::alloc::{AllocError, Global};
+
+/// The byte of the text at which a place begins.
+fn position_of_place(image: &Image, place: u32) -> u32
+    requires { IsPlaceNumber (form image.now) place }
+    ensures { result ≡ position_of_place (form image.now) place }
+{
+    image.places[place as usize - 1].position
+}
+
+/// Whether a variable is a static one that is declared before a position.
+fn is_static_before(position: u32, variable: &Variable) -> bool
+    ensures { result ≡ is_static_before position variable.now }
+{
+    variable.function.is_none() && variable.position < position
+}
+
+/// The number of the first static variable of a name that is declared before a position, if there is one.
+fn static_of(image: &Image, position: u32, name: &[u8]) -> Option<usize>
+    requires { IsImage (form image.now) }
+    ensures found { result ≡ static_of (form image.now) position name.now 0 image.now.variables.items }
+    ensures number { IfSome result (λ variable. variable < length image.now.variables.items) }
+{
+    for (number, variable) in image.variables.iter().enumerate() {
+        if is_static_before(position, variable) && variable_name(image, number) == name {
+            return Some(number);
+        }
+    }
+    None
+}
+
+/// The row of the first variable of a name that is visible at a place, if there is one.
+fn visible_row(image: &Image, place: u32, name: &[u8]) -> Option<VisibleRow>
+    requires { IsImage (form image.now) }
+    ensures found { result ≡ row_of (form image.now) place name.now image.now.rows.items }
+    ensures row { IfSome result (IsRow (form image.now)) }
+{
+    for row in &image.rows {
+        if row.place == place && variable_name(image, row.variable as usize) == name {
+            return Some(*row);
+        }
+    }
+    None
+}
+
+/// What is said of a name: of the first visible variable that has it, else of the first static one that is declared before the place.
+/// `AllocError` where memory for the text was refused, as for the other lines.
+pub fn name_line(
+    alloc: Global,
+    image: &Image,
+    machine: &Machine,
+    table: &FlowTable,
+    place: u32,
+    name: &[u8],
+) -> Result<Vec<u8>, AllocError>
+    requires image { IsImage (form image.now) }
+    requires place { IsPlaceNumber (form image.now) place }
+    requires flow { IsFlowOf (form image.now) table.now }
+    requires order { AreInOrder table.now.steps.items }
+    ensures { IfOk result (λ line. line.items ≡ name_line (form image.now) machine.now place name.now) }
+{
+    if let Some(row) = visible_row(image, place, name) {
+        return Ok(row_line(alloc, image, machine, table, name, row)?);
+    }
+    match static_of(image, position_of_place(image, place), name) {
+        Some(variable) => {
+            let text = held_text(alloc, image, machine, place, variable)?;
+            Ok(value_line(alloc, name, &text)?)
+        }
+        None => Ok(nothing_here_line(alloc, name)?),
+    }
+}
+
+/// The lines of the rows of a place.
+fn lines_of_rows(
+    alloc: Global,
+    image: &Image,
+    machine: &Machine,
+    table: &FlowTable,
+    place: u32,
+) -> Result<Vec<Vec<u8>>, AllocError>
+    requires image { IsImage (form image.now) }
+    requires flow { IsFlowOf (form image.now) table.now }
+    requires order { AreInOrder table.now.steps.items }
+    ensures { IfOk result (λ lines. map (λ line. line.items) lines.items ≡ lines_of_rows (form image.now) machine.now place image.now.rows.items) }
+{
+    let mut lines = Vec::new(alloc);
+    for row in &image.rows {
+        if row.place == place {
+            let name = variable_name(image, row.variable as usize);
+            let line = row_line(alloc, image, machine, table, name, *row)?;
+            lines.push(line)?;
+        }
+    }
+    Ok(lines)
+}
+
+/// The lines of all visible variables, or the one line where there is none.
+pub fn locals_lines(
+    alloc: Global,
+    image: &Image,
+    machine: &Machine,
+    table: &FlowTable,
+    place: u32,
+) -> Result<Vec<Vec<u8>>, AllocError>
+    requires image { IsImage (form image.now) }
+    requires flow { IsFlowOf (form image.now) table.now }
+    requires order { AreInOrder table.now.steps.items }
+    ensures { IfOk result (λ lines. map (λ line. line.items) lines.items ≡ locals_lines (form image.now) machine.now place) }
+{
+    let mut lines = lines_of_rows(alloc, image, machine, table, place)?;
+    if lines.is_empty() {
+        lines.push(no_locals_line(alloc)?)?;
+    }
+    Ok(lines)
+}
+
+/// The lines of the activations that are live, the innermost first.
+pub fn where_lines(
+    alloc: Global,
+    image: &Image,
+    machine: &Machine,
+    place: u32,
+) -> Result<Vec<Vec<u8>>, AllocError>
+    requires image { IsImage (form image.now) }
+    requires place { IsPlaceNumber (form image.now) place }
+    ensures { IfOk result (λ lines. map (λ line. line.items) lines.items ≡ where_lines (form image.now) machine.now place) }
+{
+    let places = frame_places(alloc, image, machine, place)?;
+    frame_lines(alloc, image, &places)
+}
