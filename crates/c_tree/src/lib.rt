@@ -1,0 +1,34 @@
+//! Trees of C sources.
+//!
+//! A tree is what the grammar reads from the tokens, before names and types are looked at. A program is an accepted tree, with every name resolved and every type known.
+#![tactic(auto)]
+
+pub mod declaration;
+pub mod expression;
+pub mod extent;
+pub mod object_type;
+pub mod operator;
+pub mod program;
+pub mod statement;
+pub mod typed_expression;
+pub mod typed_statement;
+pub mod types;
+
+pub use declaration::{
+    Brackets, Declaration, Declarator, Function, Header, Initializer, Item, Parameter, Tree,
+};
+pub use expression::{Expression, Suffix};
+pub use extent::{Extent, Identifier};
+pub use object_type::{Object, ObjectType, Scalar, ValueType};
+pub use operator::{AssignmentOperator, BinaryOperator, PrefixOperator};
+pub use program::{
+    AutomaticVariable, Program, Relocation, StaticVariable, StringLiteral, TypedFunction, weight,
+};
+pub use statement::{Block, Branch, ForStart, Label, Statement};
+pub use typed_expression::{
+    Arguments, Arithmetic, Callee, Comparison, Direction, Given, Lvalue, Rvalue, Sign,
+};
+pub use typed_statement::{
+    Declared, Initial, TypedStart, TypedStatement, TypedStatements, TypedStep,
+};
+pub use types::{Base, IntegerType, TypeName};

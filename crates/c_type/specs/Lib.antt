@@ -1,0 +1,6 @@
+pub mod Codes
+pub mod Findings
+pub mod Names
+pub mod Judgements
+pub mod Expressions
+pub mod Chains

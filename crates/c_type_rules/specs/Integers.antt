@@ -1,0 +1,139 @@
+-- Integer types: their ranges, promotions and conversions (ISO/IEC 9899:2011, 6.2.5 and 6.3.1).
+use Rattle.std.specs.Prelude.{ℕ, zero, suc, ◌+◌, ◌*◌, ◌/◌, ℤ, pos, negsuc, ◌-ℤ◌, Bool, true, false, ◌&&◌, not, nat_lt, ◌==◌, unsigned_abs, if◌then◌else◌}
+use Rattle.std.specs.Int.{int_rem_euclid}
+use Rattle.std.specs.Int.RustNames.{int_le}
+use Rattle.c_tree.specs.declared.types.IntegerType.{IntegerType}
+use Rattle.c_tree.specs.declared.types.IntegerType.TheVariants.{Char, SignedChar, UnsignedChar, Short, UnsignedShort, Int, UnsignedInt, Long, UnsignedLong}
+use Rattle.c_tree.specs.declared.object_type.Scalar.{Scalar}
+use Rattle.c_tree.specs.declared.object_type.ObjectType.{ObjectType}
+use Rattle.c_tree.specs.declared.object_type.ObjectType.TheVariants as type
+
+-- the types that have negative numbers; `char` has none
+abbrev pub is_signed : IntegerType → Bool
+is_signed Char = false
+is_signed SignedChar = true
+is_signed UnsignedChar = false
+is_signed Short = true
+is_signed UnsignedShort = false
+is_signed Int = true
+is_signed UnsignedInt = false
+is_signed Long = true
+is_signed UnsignedLong = false
+
+-- the rank of a type: that of the character types, of `short`, of `int`, of `long`
+abbrev pub rank : IntegerType → ℕ
+rank Char = 1
+rank SignedChar = 1
+rank UnsignedChar = 1
+rank Short = 2
+rank UnsignedShort = 2
+rank Int = 3
+rank UnsignedInt = 3
+rank Long = 4
+rank UnsignedLong = 4
+
+-- how many bytes a type has
+abbrev pub size : IntegerType → ℕ
+size Char = 1
+size SignedChar = 1
+size UnsignedChar = 1
+size Short = 2
+size UnsignedShort = 2
+size Int = 4
+size UnsignedInt = 4
+size Long = 4
+size UnsignedLong = 4
+
+-- how many bits a type has
+abbrev pub bits : IntegerType → ℕ
+bits t = 8 * size t
+
+-- how many numbers a type has
+abbrev pub modulus : IntegerType → ℕ
+modulus Char = 256
+modulus SignedChar = 256
+modulus UnsignedChar = 256
+modulus Short = 65536
+modulus UnsignedShort = 65536
+modulus Int = 4294967296
+modulus UnsignedInt = 4294967296
+modulus Long = 4294967296
+modulus UnsignedLong = 4294967296
+
+-- the least number of a type
+abbrev pub lowest : IntegerType → ℤ
+lowest Char = pos 0
+lowest SignedChar = negsuc 127
+lowest UnsignedChar = pos 0
+lowest Short = negsuc 32767
+lowest UnsignedShort = pos 0
+lowest Int = negsuc 2147483647
+lowest UnsignedInt = pos 0
+lowest Long = negsuc 2147483647
+lowest UnsignedLong = pos 0
+
+-- the greatest number of a type
+abbrev pub greatest : IntegerType → ℕ
+greatest Char = 255
+greatest SignedChar = 127
+greatest UnsignedChar = 255
+greatest Short = 32767
+greatest UnsignedShort = 65535
+greatest Int = 2147483647
+greatest UnsignedInt = 4294967295
+greatest Long = 2147483647
+greatest UnsignedLong = 4294967295
+
+-- a number is one of a type's
+abbrev pub fits : IntegerType → ℤ → Bool
+fits t z = int_le (lowest t) z && int_le z (pos (greatest t))
+
+-- the residue of a number, from 0 to below the modulus
+unfoldable pub residue : ℤ → ℕ → ℕ
+residue z m = unsigned_abs (int_rem_euclid z (pos m))
+
+-- the number of a type that has this residue: that itself, where it is one of the type's numbers
+abbrev pub of_residue : IntegerType → ℕ → ℤ
+of_residue t r = if nat_lt (greatest t) r then pos r -ℤ pos (modulus t) else pos r
+
+-- a number converted to a type: the one of the type's numbers that differs from it by a multiple of how many there are (6.3.1.3)
+unfoldable pub wrapped : IntegerType → ℤ → ℤ
+wrapped t z = of_residue t (residue z (modulus t))
+
+-- the integer promotions: a type of lesser rank than `int` becomes `int` (6.3.1.1)
+abbrev pub promoted : IntegerType → IntegerType
+promoted t = if nat_lt (rank t) 3 then Int else t
+
+-- the unsigned type of the same rank
+abbrev pub unsigned_of : IntegerType → IntegerType
+unsigned_of Char = UnsignedChar
+unsigned_of SignedChar = UnsignedChar
+unsigned_of UnsignedChar = UnsignedChar
+unsigned_of Short = UnsignedShort
+unsigned_of UnsignedShort = UnsignedShort
+unsigned_of Int = UnsignedInt
+unsigned_of UnsignedInt = UnsignedInt
+unsigned_of Long = UnsignedLong
+unsigned_of UnsignedLong = UnsignedLong
+
+-- the common type of two promoted types, the first of no lesser rank: it is the first, but where the first is signed and the other unsigned it is the first's unsigned type.
+-- For a signed type of greater rank holds no more numbers here than an unsigned one of lesser rank has.
+abbrev pub joined : IntegerType → IntegerType → IntegerType
+joined t u = if is_signed t && not (is_signed u) then unsigned_of t else t
+
+-- the usual arithmetic conversions (6.3.1.8)
+abbrev pub common : IntegerType → IntegerType → IntegerType
+common a b = if nat_lt (rank (promoted a)) (rank (promoted b)) then joined (promoted b) (promoted a) else joined (promoted a) (promoted b)
+
+-- how many bytes an object of a scalar type has; a pointer has 4
+abbrev pub scalar_size : Scalar → ℕ
+scalar_size s = if s.stars == 0 then size s.base else 4
+
+-- how many bytes an object of a type has
+abbrev pub object_size : ObjectType → ℕ
+object_size (type.Scalar s) = scalar_size s
+object_size (type.Array element count) = scalar_size element * count
+
+-- how many bytes an object takes where it stands: its size, rounded up to whole words, and a word behind it
+abbrev pub room : ℕ → ℕ
+room size = (size + 3) / 4 * 4 + 4

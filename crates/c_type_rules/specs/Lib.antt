@@ -1,0 +1,4 @@
+pub mod Integers
+pub mod Constants
+pub mod Types
+pub mod Constancies

@@ -1,0 +1,4 @@
+pub mod Values
+pub mod Operations
+pub mod Pointers
+pub mod Writing

@@ -1,0 +1,520 @@
+//! Operators on values (6.5).
+
+ghost use Rattle.std.specs.Prelude.{◌≡◌, IfOk};
+ghost use Rattle.std.specs.Option.{option_map};
+ghost use Rattle.c_type_values.specs.Values.{value_view};
+ghost use Rattle.c_type_values.specs.Operations.{arithmetic_value, both, calculated_value, chosen, chosen_integer, combined, compared_value, conditional, difference, discarded, either, integers_compared, is_equality, is_scalar, is_shift, moved, moved_from, negated, operation_of, pointers_compared, sequenced, signed_value};
+
+use crate::conversion::{null, to_integer};
+use crate::value::Value;
+use c_tree::{
+    Arithmetic, BinaryOperator, Comparison, Direction, IntegerType, ObjectType, Rvalue, Sign,
+    ValueType,
+};
+use c_type_rules::{
+    Constancy, and_constant, arithmetic_constant, common, comparison_constant,
+    conditional_constant, not_constant, or_constant, promoted, same_object, same_value,
+    sign_constant,
+};
+use std::alloc::{AllocError, Global};
+
+/// What an operator between two operands does.
+#[derive(Clone, Copy, Debug, PartialEq, Eq)]
+pub enum Operation {
+    Calculates(Arithmetic),
+    Compares(Comparison),
+    /// `&&`
+    Both,
+    /// `||`
+    Either,
+}
+
+fn operation_of(operator: BinaryOperator) -> Operation
+    ensures { result ≡ operation_of operator }
+{
+    match operator {
+        BinaryOperator::Multiply => Operation::Calculates(Arithmetic::Multiply),
+        BinaryOperator::Divide => Operation::Calculates(Arithmetic::Divide),
+        BinaryOperator::Remainder => Operation::Calculates(Arithmetic::Remainder),
+        BinaryOperator::Add => Operation::Calculates(Arithmetic::Add),
+        BinaryOperator::Subtract => Operation::Calculates(Arithmetic::Subtract),
+        BinaryOperator::ShiftLeft => Operation::Calculates(Arithmetic::ShiftLeft),
+        BinaryOperator::ShiftRight => Operation::Calculates(Arithmetic::ShiftRight),
+        BinaryOperator::Less => Operation::Compares(Comparison::Less),
+        BinaryOperator::Greater => Operation::Compares(Comparison::Greater),
+        BinaryOperator::LessEqual => Operation::Compares(Comparison::LessEqual),
+        BinaryOperator::GreaterEqual => Operation::Compares(Comparison::GreaterEqual),
+        BinaryOperator::Equal => Operation::Compares(Comparison::Equal),
+        BinaryOperator::NotEqual => Operation::Compares(Comparison::NotEqual),
+        BinaryOperator::BitAnd => Operation::Calculates(Arithmetic::BitAnd),
+        BinaryOperator::BitXor => Operation::Calculates(Arithmetic::BitXor),
+        BinaryOperator::BitOr => Operation::Calculates(Arithmetic::BitOr),
+        BinaryOperator::LogicalAnd => Operation::Both,
+        BinaryOperator::LogicalOr => Operation::Either,
+    }
+}
+
+/// Whether each operand keeps a type of its own.
+pub fn is_shift(operator: Arithmetic) -> bool
+    ensures { result ≡ is_shift operator }
+{
+    matches!(operator, Arithmetic::ShiftLeft | Arithmetic::ShiftRight)
+}
+
+fn is_equality(operator: Comparison) -> bool
+    ensures { result ≡ is_equality operator }
+{
+    matches!(operator, Comparison::Equal | Comparison::NotEqual)
+}
+
+/// Whether a value is an integer or a pointer.
+pub fn is_scalar(of: ValueType) -> bool
+    ensures { result ≡ is_scalar of }
+{
+    !matches!(of, ValueType::Void)
+}
+
+/// `+a`, `-a`, `~a`, in the promoted type; none of what is no integer.
+pub fn signed_value(alloc: Global, sign: Sign, value: Value) -> Result<Option<Value>, AllocError>
+    ensures { IfOk result (λ v. option_map value_view v ≡ signed_value sign (value_view value)) }
+{
+    match value.of {
+        ValueType::Integer(own) => {
+            let integer_type = promoted(own);
+            let operand = to_integer(alloc, value, integer_type)?;
+            Ok(Some(Value {
+                of: ValueType::Integer(integer_type),
+                tree: Rvalue::Signed {
+                    sign,
+                    integer_type,
+                    operand: Box::new(alloc, operand.tree)?,
+                },
+                constant: sign_constant(sign, integer_type, operand.constant),
+            }))
+        }
+        _ => Ok(None),
+    }
+}
+
+/// `!a`; none of what is no scalar.
+pub fn negated(alloc: Global, value: Value) -> Result<Option<Value>, AllocError>
+    ensures { IfOk result (λ v. option_map value_view v ≡ negated (value_view value)) }
+{
+    if !is_scalar(value.of) {
+        return Ok(None);
+    }
+    Ok(Some(Value {
+        of: ValueType::Integer(IntegerType::Int),
+        tree: Rvalue::Not(Box::new(alloc, value.tree)?),
+        constant: not_constant(value.constant),
+    }))
+}
+
+/// `(void)a`
+pub fn discarded(alloc: Global, value: Value) -> Result<Value, AllocError>
+    ensures { IfOk result (λ v. value_view v ≡ discarded (value_view value)) }
+{
+    Ok(Value {
+        of: ValueType::Void,
+        tree: Rvalue::Discard(Box::new(alloc, value.tree)?),
+        constant: Constancy::Varies,
+    })
+}
+
+/// Arithmetic on two integers: of a shift each operand is promoted, of the others both are of the common type.
+#[tactic(auto, unfolding(crate::specs::Operations::arithmetic_value))]
+fn arithmetic_value(
+    alloc: Global,
+    operator: Arithmetic,
+    left: Value,
+    right: Value,
+    left_type: IntegerType,
+    right_type: IntegerType,
+) -> Result<Value, AllocError>
+    ensures { IfOk result (λ v. value_view v ≡ arithmetic_value operator left_type right_type (value_view left) (value_view right)) }
+{
+    let integer_type = if is_shift(operator) {
+        promoted(left_type)
+    } else {
+        common(left_type, right_type)
+    };
+    let other_type = if is_shift(operator) {
+        promoted(right_type)
+    } else {
+        integer_type
+    };
+    let left = to_integer(alloc, left, integer_type)?;
+    let right = to_integer(alloc, right, other_type)?;
+    Ok(Value {
+        of: ValueType::Integer(integer_type),
+        tree: Rvalue::Arithmetic {
+            operator,
+            integer_type,
+            left: Box::new(alloc, left.tree)?,
+            right: Box::new(alloc, right.tree)?,
+        },
+        constant: arithmetic_constant(operator, integer_type, left.constant, right.constant),
+    })
+}
+
+/// A pointer moved by an integer in its promoted type.
+fn moved(
+    alloc: Global,
+    direction: Direction,
+    element: ObjectType,
+    pointer: Value,
+    by: Value,
+    by_type: IntegerType,
+) -> Result<Value, AllocError>
+    ensures { IfOk result (λ v. value_view v ≡ moved direction element by_type (value_view pointer) (value_view by)) }
+{
+    let by = to_integer(alloc, by, promoted(by_type))?;
+    Ok(Value {
+        of: ValueType::Pointer(element),
+        tree: Rvalue::Move {
+            direction,
+            element,
+            pointer: Box::new(alloc, pointer.tree)?,
+            by: Box::new(alloc, by.tree)?,
+        },
+        constant: Constancy::Varies,
+    })
+}
+
+/// A pointer moved by an integer that stands before it.
+fn moved_from(
+    alloc: Global,
+    element: ObjectType,
+    by: Value,
+    by_type: IntegerType,
+    pointer: Value,
+) -> Result<Value, AllocError>
+    ensures { IfOk result (λ v. value_view v ≡ moved_from element by_type (value_view by) (value_view pointer)) }
+{
+    let by = to_integer(alloc, by, promoted(by_type))?;
+    Ok(Value {
+        of: ValueType::Pointer(element),
+        tree: Rvalue::MoveFrom {
+            by: Box::new(alloc, by.tree)?,
+            element,
+            pointer: Box::new(alloc, pointer.tree)?,
+        },
+        constant: Constancy::Varies,
+    })
+}
+
+/// How many elements lie between two pointers of one type.
+fn difference(
+    alloc: Global,
+    element: ObjectType,
+    left: Value,
+    right: Value,
+) -> Result<Value, AllocError>
+    ensures { IfOk result (λ v. value_view v ≡ difference element (value_view left) (value_view right)) }
+{
+    Ok(Value {
+        of: ValueType::Integer(IntegerType::Int),
+        tree: Rvalue::Difference {
+            element,
+            left: Box::new(alloc, left.tree)?,
+            right: Box::new(alloc, right.tree)?,
+        },
+        constant: Constancy::Varies,
+    })
+}
+
+/// Arithmetic: on two integers, a pointer plus or minus an integer, an integer plus a pointer, or the difference of two pointers of one type; none of others.
+fn calculated_value(
+    alloc: Global,
+    operator: Arithmetic,
+    left: Value,
+    right: Value,
+) -> Result<Option<Value>, AllocError>
+    ensures { IfOk result (λ v. option_map value_view v ≡ calculated_value operator (value_view left) (value_view right)) }
+{
+    match (left.of, right.of) {
+        (ValueType::Integer(left_type), ValueType::Integer(right_type)) => {
+            let made = arithmetic_value(alloc, operator, left, right, left_type, right_type)?;
+            Ok(Some(made))
+        }
+        (ValueType::Pointer(element), ValueType::Integer(by_type)) => match operator {
+            Arithmetic::Add => {
+                let made = moved(alloc, Direction::Up, element, left, right, by_type)?;
+                Ok(Some(made))
+            }
+            Arithmetic::Subtract => {
+                let made = moved(alloc, Direction::Down, element, left, right, by_type)?;
+                Ok(Some(made))
+            }
+            _ => Ok(None),
+        },
+        (ValueType::Integer(by_type), ValueType::Pointer(element)) => match operator {
+            Arithmetic::Add => {
+                let made = moved_from(alloc, element, left, by_type, right)?;
+                Ok(Some(made))
+            }
+            _ => Ok(None),
+        },
+        (ValueType::Pointer(element), ValueType::Pointer(other)) => match operator {
+            Arithmetic::Subtract => {
+                if same_object(element, other) {
+                    let made = difference(alloc, element, left, right)?;
+                    Ok(Some(made))
+                } else {
+                    Ok(None)
+                }
+            }
+            _ => Ok(None),
+        },
+        _ => Ok(None),
+    }
+}
+
+/// A comparison of two pointers.
+fn pointers_compared(
+    alloc: Global,
+    operator: Comparison,
+    left: Value,
+    right: Value,
+) -> Result<Value, AllocError>
+    ensures { IfOk result (λ v. value_view v ≡ pointers_compared operator (value_view left) (value_view right)) }
+{
+    Ok(Value {
+        of: ValueType::Integer(IntegerType::Int),
+        tree: Rvalue::ComparePointers {
+            operator,
+            left: Box::new(alloc, left.tree)?,
+            right: Box::new(alloc, right.tree)?,
+        },
+        constant: Constancy::Varies,
+    })
+}
+
+/// A comparison of two integers in their common type.
+fn integers_compared(
+    alloc: Global,
+    operator: Comparison,
+    left: Value,
+    right: Value,
+    integer_type: IntegerType,
+) -> Result<Value, AllocError>
+    ensures { IfOk result (λ v. value_view v ≡ integers_compared operator integer_type (value_view left) (value_view right)) }
+{
+    let left = to_integer(alloc, left, integer_type)?;
+    let right = to_integer(alloc, right, integer_type)?;
+    Ok(Value {
+        of: ValueType::Integer(IntegerType::Int),
+        tree: Rvalue::Compare {
+            operator,
+            integer_type,
+            left: Box::new(alloc, left.tree)?,
+            right: Box::new(alloc, right.tree)?,
+        },
+        constant: comparison_constant(operator, left.constant, right.constant),
+    })
+}
+
+/// A comparison: of two integers, of two pointers of one type, or for equality of a pointer and a constant token 0; none of others.
+fn compared_value(
+    alloc: Global,
+    operator: Comparison,
+    left: Value,
+    right: Value,
+    left_zero: bool,
+    right_zero: bool,
+) -> Result<Option<Value>, AllocError>
+    ensures { IfOk result (λ v. option_map value_view v ≡ compared_value operator (value_view left) (value_view right) left_zero right_zero) }
+{
+    match (left.of, right.of) {
+        (ValueType::Integer(left_type), ValueType::Integer(right_type)) => {
+            let made = integers_compared(
+                alloc,
+                operator,
+                left,
+                right,
+                common(left_type, right_type),
+            )?;
+            Ok(Some(made))
+        }
+        (ValueType::Pointer(element), ValueType::Pointer(other)) => {
+            if same_object(element, other) {
+                let made = pointers_compared(alloc, operator, left, right)?;
+                Ok(Some(made))
+            } else {
+                Ok(None)
+            }
+        }
+        (ValueType::Pointer(_), ValueType::Integer(_)) => {
+            if is_equality(operator) && right_zero {
+                let nothing = null(left.of);
+                let made = pointers_compared(alloc, operator, left, nothing)?;
+                Ok(Some(made))
+            } else {
+                Ok(None)
+            }
+        }
+        (ValueType::Integer(_), ValueType::Pointer(_)) => {
+            if is_equality(operator) && left_zero {
+                let nothing = null(right.of);
+                let made = pointers_compared(alloc, operator, nothing, right)?;
+                Ok(Some(made))
+            } else {
+                Ok(None)
+            }
+        }
+        _ => Ok(None),
+    }
+}
+
+/// `a&&b`, of two scalars.
+fn both(alloc: Global, left: Value, right: Value) -> Result<Option<Value>, AllocError>
+    ensures { IfOk result (λ v. option_map value_view v ≡ both (value_view left) (value_view right)) }
+{
+    if !is_scalar(left.of) || !is_scalar(right.of) {
+        return Ok(None);
+    }
+    Ok(Some(Value {
+        of: ValueType::Integer(IntegerType::Int),
+        tree: Rvalue::And(Box::new(alloc, left.tree)?, Box::new(alloc, right.tree)?),
+        constant: and_constant(left.constant, right.constant),
+    }))
+}
+
+/// `a||b`, of two scalars.
+fn either(alloc: Global, left: Value, right: Value) -> Result<Option<Value>, AllocError>
+    ensures { IfOk result (λ v. option_map value_view v ≡ either (value_view left) (value_view right)) }
+{
+    if !is_scalar(left.of) || !is_scalar(right.of) {
+        return Ok(None);
+    }
+    Ok(Some(Value {
+        of: ValueType::Integer(IntegerType::Int),
+        tree: Rvalue::Or(Box::new(alloc, left.tree)?, Box::new(alloc, right.tree)?),
+        constant: or_constant(left.constant, right.constant),
+    }))
+}
+
+/// An operator between two values, of which may be told that they are constant tokens 0; none where it does not take their types.
+pub fn combined(
+    alloc: Global,
+    operator: BinaryOperator,
+    left: Value,
+    right: Value,
+    left_zero: bool,
+    right_zero: bool,
+) -> Result<Option<Value>, AllocError>
+    ensures { IfOk result (λ v. option_map value_view v ≡ combined (operation_of operator) (value_view left) (value_view right) left_zero right_zero) }
+{
+    match operation_of(operator) {
+        Operation::Calculates(arithmetic) => calculated_value(alloc, arithmetic, left, right),
+        Operation::Compares(comparison) => compared_value(
+            alloc, comparison, left, right, left_zero, right_zero,
+        ),
+        Operation::Both => both(alloc, left, right),
+        Operation::Either => either(alloc, left, right),
+    }
+}
+
+/// `a,b`
+pub fn sequenced(alloc: Global, left: Value, right: Value) -> Result<Value, AllocError>
+    ensures { IfOk result (λ v. value_view v ≡ sequenced (value_view left) (value_view right)) }
+{
+    Ok(Value {
+        of: right.of,
+        tree: Rvalue::Comma(Box::new(alloc, left.tree)?, Box::new(alloc, right.tree)?),
+        constant: Constancy::Varies,
+    })
+}
+
+/// `a?b:c` with both arms of one type.
+fn chosen(
+    alloc: Global,
+    of: ValueType,
+    condition: Value,
+    then: Value,
+    otherwise: Value,
+    constant: Constancy,
+) -> Result<Value, AllocError>
+    ensures { IfOk result (λ v. value_view v ≡ chosen of (value_view condition) (value_view then) (value_view otherwise) constant) }
+{
+    Ok(Value {
+        of,
+        tree: Rvalue::Conditional {
+            condition: Box::new(alloc, condition.tree)?,
+            then: Box::new(alloc, then.tree)?,
+            otherwise: Box::new(alloc, otherwise.tree)?,
+        },
+        constant,
+    })
+}
+
+/// `a?b:c` on two integers, in their common type.
+fn chosen_integer(
+    alloc: Global,
+    integer_type: IntegerType,
+    condition: Value,
+    then: Value,
+    otherwise: Value,
+) -> Result<Value, AllocError>
+    ensures { IfOk result (λ v. value_view v ≡ chosen_integer integer_type (value_view condition) (value_view then) (value_view otherwise)) }
+{
+    let then = to_integer(alloc, then, integer_type)?;
+    let otherwise = to_integer(alloc, otherwise, integer_type)?;
+    let constant = conditional_constant(condition.constant, then.constant, otherwise.constant);
+    chosen(
+        alloc,
+        ValueType::Integer(integer_type),
+        condition,
+        then,
+        otherwise,
+        constant,
+    )
+}
+
+/// `a?b:c`: the condition is a scalar, and the arms are two integers, of one type, or a pointer and a constant token 0; none of others.
+pub fn conditional(
+    alloc: Global,
+    condition: Value,
+    then: Value,
+    otherwise: Value,
+    then_zero: bool,
+    other_zero: bool,
+) -> Result<Option<Value>, AllocError>
+    ensures { IfOk result (λ v. option_map value_view v ≡ conditional (value_view condition) (value_view then) (value_view otherwise) then_zero other_zero) }
+{
+    if !is_scalar(condition.of) {
+        return Ok(None);
+    }
+    match (then.of, otherwise.of) {
+        (ValueType::Integer(left), ValueType::Integer(right)) => {
+            let made = chosen_integer(alloc, common(left, right), condition, then, otherwise)?;
+            Ok(Some(made))
+        }
+        (ValueType::Pointer(_), ValueType::Integer(_)) => {
+            if other_zero {
+                let of = then.of;
+                let made = chosen(alloc, of, condition, then, null(of), Constancy::Varies)?;
+                Ok(Some(made))
+            } else {
+                Ok(None)
+            }
+        }
+        (ValueType::Integer(_), ValueType::Pointer(_)) => {
+            if then_zero {
+                let of = otherwise.of;
+                let made = chosen(alloc, of, condition, null(of), otherwise, Constancy::Varies)?;
+                Ok(Some(made))
+            } else {
+                Ok(None)
+            }
+        }
+        (of, other) => {
+            if same_value(of, other) {
+                let made = chosen(alloc, of, condition, then, otherwise, Constancy::Varies)?;
+                Ok(Some(made))
+            } else {
+                Ok(None)
+            }
+        }
+    }
+}
