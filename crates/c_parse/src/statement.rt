@@ -1,0 +1,484 @@
+//! Statements (ISO/IEC 9899:2011, 6.8).
+
+ghost use Rattle.std.specs.Prelude.{◌≡◌, ◌+◌, ◌<◌, ◌≤◌, [], length, map, IfOk, IfSome};
+ghost use Rattle.std.specs.Option.{option_map};
+ghost use Rattle.c_token.specs.Lexemes.{word_view, lexemes};
+ghost use Rattle.c_tree.specs.Expressions.{expression_view};
+ghost use Rattle.c_tree.specs.Statements.{start_view, label_view, statement_view, block_view, branch_view};
+ghost use Rattle.c_parse.specs.Outcome.{Gives};
+ghost use Rattle.c_parse.specs.Expressions.{nesting};
+ghost use Rattle.c_parse.specs.Headers.{header_view};
+ghost use Rattle.c_parse.specs.Statements.{is_statement_word, begins_statement, condition, optional, for_start, for_header, begins_header, expression_statement, return_statement, label, labels, nested_statement, statement_in, unlabeled, block, branch, if_statement, while_statement, do_statement, for_statement, switch_statement, statements};
+
+use crate::declaration::declaration;
+use crate::expression::{Sort, comma, conditional, nested};
+use crate::fault::ParseErr;
+use crate::front::{
+    behind, deeper, extent_before, is_at, last_before, refusal, spot_at, stuck, want,
+};
+use crate::mark::Mark;
+use crate::operators::begins_expression;
+use crate::specifiers::begins_type;
+use c_token::{Keyword, Kind, Punctuator, Token};
+use c_tree::{Block, Branch, Expression, ForStart, Label, Statement};
+use debug_records::Spot;
+use std::alloc::Global;
+
+/// The token begins a statement and no expression.
+fn is_statement_word(kind: &Kind) -> bool
+    ensures { result ≡ is_statement_word (word_view kind.now) }
+{
+    match kind {
+        Kind::Keyword(word) => matches!(
+            word,
+            Keyword::If
+                | Keyword::While
+                | Keyword::Do
+                | Keyword::For
+                | Keyword::Switch
+                | Keyword::Case
+                | Keyword::Default
+                | Keyword::Break
+                | Keyword::Continue
+                | Keyword::Return
+        ),
+        Kind::Punctuator(punctuator) => {
+            matches!(punctuator, Punctuator::Semicolon | Punctuator::OpenBrace)
+        }
+        _ => false,
+    }
+}
+
+/// The first token begins a statement.
+#[tactic(auto, unfolding(crate::specs::Statements::begins_statement))]
+fn begins_statement(tokens: &[Token]) -> bool
+    ensures { result ≡ begins_statement (lexemes tokens.now) }
+{
+    match tokens {
+        [] => false,
+        [first, ..] => is_statement_word(&first.kind) || begins_expression(tokens),
+    }
+}
+
+/// An expression in parentheses, as behind `if`.
+#[tactic(auto, unfolding(crate::specs::Statements::condition))]
+fn condition(
+    alloc: Global,
+    depth: u32,
+    tokens: &[Token],
+) -> Result<(Expression, &[Token]), ParseErr>
+    ensures reads { Gives (λ x. (expression_view x.0, lexemes x.1.now)) result (condition (nesting depth) (lexemes tokens.now)) }
+    ensures shorter { IfOk result (λ x. length x.1.now < length tokens.now) }
+{
+    let rest = want(Mark::OpenParenthesis, tokens)?;
+    let (condition, rest) = nested(alloc, depth, Sort::Comma, rest)?;
+    let rest = want(Mark::CloseParenthesis, rest)?;
+    Ok((condition, rest))
+}
+
+/// An expression, if the mark that ends it does not stand at the front.
+#[tactic(auto, unfolding(crate::specs::Statements::optional))]
+fn optional(
+    alloc: Global,
+    depth: u32,
+    end: Mark,
+    tokens: &[Token],
+) -> Result<(Option<Expression>, &[Token]), ParseErr>
+    ensures reads { Gives (λ x. (option_map expression_view x.0, lexemes x.1.now)) result (optional (nesting depth) end (lexemes tokens.now)) }
+    ensures not_longer { IfOk result (λ x. length x.1.now ≤ length tokens.now) }
+{
+    if is_at(end, tokens) {
+        return Ok((None, tokens));
+    }
+    let (value, rest) = comma(alloc, depth, tokens)?;
+    Ok((Some(value), rest))
+}
+
+/// The first part of a `for`, up to behind its semicolon.
+#[tactic(auto, unfolding(crate::specs::Statements::for_start))]
+fn for_start(alloc: Global, depth: u32, tokens: &[Token]) -> Result<(ForStart, &[Token]), ParseErr>
+    ensures reads { Gives (λ x. (start_view x.0, lexemes x.1.now)) result (for_start depth (lexemes tokens.now)) }
+    ensures shorter { IfOk result (λ x. length x.1.now < length tokens.now) }
+{
+    if begins_type(tokens) {
+        let (start, rest) = declaration(alloc, depth, tokens)?;
+        return Ok((ForStart::Declaration(start), rest));
+    }
+    let (start, rest) = optional(alloc, depth, Mark::Semicolon, tokens)?;
+    let rest = want(Mark::Semicolon, rest)?;
+    match start {
+        None => Ok((ForStart::Nothing, rest)),
+        Some(value) => Ok((ForStart::Expression(value), rest)),
+    }
+}
+
+/// What stands between the parentheses of a `for`.
+#[derive(Drop)]
+struct ForHeader {
+    start: ForStart,
+    condition: Option<Expression>,
+    step: Option<Expression>,
+}
+
+/// The three parts of a `for`, up to its closing parenthesis.
+#[tactic(auto, unfolding(crate::specs::Statements::for_header))]
+fn for_header(
+    alloc: Global,
+    depth: u32,
+    tokens: &[Token],
+) -> Result<(ForHeader, &[Token]), ParseErr>
+    ensures reads { Gives (λ x. (header_view x.0, lexemes x.1.now)) result (for_header depth (lexemes tokens.now)) }
+    ensures shorter { IfOk result (λ x. length x.1.now < length tokens.now) }
+{
+    let (start, rest) = for_start(alloc, depth, tokens)?;
+    let (condition, rest) = optional(alloc, depth, Mark::Semicolon, rest)?;
+    let rest = want(Mark::Semicolon, rest)?;
+    let (step, rest) = optional(alloc, depth, Mark::CloseParenthesis, rest)?;
+    let header = ForHeader {
+        start,
+        condition,
+        step,
+    };
+    Ok((header, rest))
+}
+
+/// The first token begins the first part of a `for`.
+#[tactic(auto, unfolding(crate::specs::Statements::begins_header))]
+fn begins_header(tokens: &[Token]) -> bool
+    ensures { result ≡ begins_header (lexemes tokens.now) }
+{
+    is_at(Mark::Semicolon, tokens) || begins_type(tokens) || begins_expression(tokens)
+}
+
+/// An expression and its semicolon.
+#[tactic(auto, unfolding(crate::specs::Statements::expression_statement))]
+fn expression_statement(
+    alloc: Global,
+    depth: u32,
+    tokens: &[Token],
+) -> Result<(Statement, &[Token]), ParseErr>
+    ensures reads { Gives (λ x. (statement_view x.0, lexemes x.1.now)) result (expression_statement (nesting depth) (lexemes tokens.now)) }
+    ensures shorter { IfOk result (λ x. length x.1.now < length tokens.now) }
+{
+    let (value, rest) = comma(alloc, depth, tokens)?;
+    let rest = want(Mark::Semicolon, rest)?;
+    let last = last_before(tokens, rest);
+    Ok((Statement::Expression { value, last }, rest))
+}
+
+/// A `return`, from its word on.
+#[tactic(auto, unfolding(crate::specs::Statements::return_statement))]
+fn return_statement<'t>(
+    alloc: Global,
+    depth: u32,
+    tokens: &'t [Token],
+    rest: &'t [Token],
+) -> Result<(Statement, &'t [Token]), ParseErr>
+    requires { length rest.now < length tokens.now }
+    ensures reads { Gives (λ x. (statement_view x.0, lexemes x.1.now)) result (return_statement (nesting depth) (lexemes tokens.now) (lexemes rest.now)) }
+    ensures shorter { IfOk result (λ x. length x.1.now < length rest.now) }
+{
+    let (value, rest) = optional(alloc, depth, Mark::Semicolon, rest)?;
+    let rest = want(Mark::Semicolon, rest)?;
+    let extent = extent_before(tokens, rest);
+    Ok((Statement::Return { extent, value }, rest))
+}
+
+/// A label, if one stands at the front.
+#[tactic(auto, unfolding(crate::specs::Statements::label))]
+fn label(alloc: Global, depth: u32, tokens: &[Token]) -> Result<Option<(Label, &[Token])>, ParseErr>
+    ensures reads { Gives (λ x. option_map (λ l. (label_view l.0, lexemes l.1.now)) x) result (label (nesting depth) (lexemes tokens.now)) }
+    ensures shorter { IfOk result (λ x. IfSome x (λ l. length l.1.now < length tokens.now)) }
+{
+    match tokens {
+        [
+            Token {
+                kind: Kind::Keyword(Keyword::Case),
+                ..
+            },
+            rest @ ..,
+        ] => {
+            let (value, behind_value) = conditional(alloc, depth, rest)?;
+            let rest = want(Mark::Colon, behind_value)?;
+            let extent = extent_before(tokens, rest);
+            Ok(Some((Label::Case { extent, value }, rest)))
+        }
+        [
+            Token {
+                kind: Kind::Keyword(Keyword::Default),
+                ..
+            },
+            rest @ ..,
+        ] => {
+            let rest = want(Mark::Colon, rest)?;
+            Ok(Some((Label::Default(extent_before(tokens, rest)), rest)))
+        }
+        _ => Ok(None),
+    }
+}
+
+/// The labels at the front.
+fn labels(alloc: Global, depth: u32, tokens: &[Token]) -> Result<(Vec<Label>, &[Token]), ParseErr>
+    ensures reads { Gives (λ x. (map label_view x.0.items, lexemes x.1.now)) result (labels (length (lexemes tokens.now) + 1) (nesting depth) [] (lexemes tokens.now)) }
+    ensures not_longer { IfOk result (λ x. length x.1.now ≤ length tokens.now) }
+{
+    let mut labels = Vec::new(alloc);
+    let mut rest = tokens;
+    while let Some((next, behind)) = label(alloc, depth, rest)? {
+        labels.push(next)?;
+        rest = behind;
+    }
+    Ok((labels, rest))
+}
+
+/// A statement within another, or in a block where declarations may stand too, where the nesting allows one more.
+#[cycle(statement)]
+#[tactic(auto, unfolding(crate::specs::Statements::nested_statement, crate::specs::Statements::statements))]
+fn nested_statement(
+    alloc: Global,
+    depth: u32,
+    may_declare: bool,
+    tokens: &[Token],
+) -> Result<(Statement, &[Token]), ParseErr>
+    ensures reads { Gives (λ x. (statement_view x.0, lexemes x.1.now)) result (nested_statement (statements depth) may_declare (lexemes tokens.now)) }
+    ensures shorter { IfOk result (λ x. length x.1.now < length tokens.now) }
+{
+    let declares = may_declare && begins_type(tokens);
+    if depth == 0 {
+        return Err(ParseErr::Stuck(refusal(declares || begins_statement(tokens), tokens)));
+    }
+    if declares {
+        let (declaration, rest) = declaration(alloc, depth - 1, tokens)?;
+        return Ok((Statement::Declaration(declaration), rest));
+    }
+    statement(alloc, depth - 1, tokens)
+}
+
+/// A statement with its labels.
+#[cycle(statement)]
+#[tactic(auto, unfolding(crate::specs::Statements::statement_in))]
+fn statement(alloc: Global, depth: u32, tokens: &[Token]) -> Result<(Statement, &[Token]), ParseErr>
+    ensures reads { Gives (λ x. (statement_view x.0, lexemes x.1.now)) result (statement_in depth (statements depth) (lexemes tokens.now)) }
+    ensures shorter { IfOk result (λ x. length x.1.now < length tokens.now) }
+{
+    let (labels, rest) = labels(alloc, depth, tokens)?;
+    let (statement, rest) = unlabeled(alloc, depth, rest)?;
+    if labels.is_empty() {
+        return Ok((statement, rest));
+    }
+    let statement = Box::new(alloc, statement)?;
+    Ok((Statement::Labeled { labels, statement }, rest))
+}
+
+/// A statement without labels.
+#[cycle(statement)]
+#[tactic(auto, unfolding(crate::specs::Statements::unlabeled))]
+fn unlabeled(alloc: Global, depth: u32, tokens: &[Token]) -> Result<(Statement, &[Token]), ParseErr>
+    ensures reads { Gives (λ x. (statement_view x.0, lexemes x.1.now)) result (unlabeled depth (statements depth) (lexemes tokens.now)) }
+    ensures shorter { IfOk result (λ x. length x.1.now < length tokens.now) }
+{
+    let [first, rest @ ..] = tokens else {
+        return Err(ParseErr::Stuck(stuck(tokens)));
+    };
+    match &first.kind {
+        Kind::Punctuator(Punctuator::Semicolon) => Ok((Statement::Empty(first.spot), rest)),
+        Kind::Punctuator(Punctuator::OpenBrace) => {
+            let (block, rest) = block(alloc, depth, true, tokens)?;
+            Ok((Statement::Block(block), rest))
+        }
+        Kind::Keyword(keyword) => match keyword {
+            Keyword::If => if_statement(alloc, depth, tokens),
+            Keyword::While => while_statement(alloc, depth, first.spot, rest),
+            Keyword::Do => do_statement(alloc, depth, tokens, rest),
+            Keyword::For => for_statement(alloc, depth, first.spot, rest),
+            Keyword::Switch => switch_statement(alloc, depth, first.spot, rest),
+            Keyword::Break => {
+                let rest = want(Mark::Semicolon, rest)?;
+                Ok((Statement::Break(extent_before(tokens, rest)), rest))
+            }
+            Keyword::Continue => {
+                let rest = want(Mark::Semicolon, rest)?;
+                Ok((Statement::Continue(extent_before(tokens, rest)), rest))
+            }
+            Keyword::Return => return_statement(alloc, depth, tokens, rest),
+            _ => expression_statement(alloc, depth, tokens),
+        },
+        _ => expression_statement(alloc, depth, tokens),
+    }
+}
+
+/// Statements in braces, from the opening brace on.
+#[cycle(statement)]
+#[tactic(auto, unfolding(crate::specs::Statements::block))]
+pub fn block(
+    alloc: Global,
+    depth: u32,
+    may_declare: bool,
+    tokens: &[Token],
+) -> Result<(Block, &[Token]), ParseErr>
+    ensures reads { Gives (λ x. (block_view x.0, lexemes x.1.now)) result (block (statements depth) may_declare (lexemes tokens.now)) }
+    ensures shorter { IfOk result (λ x. length x.1.now < length tokens.now) }
+{
+    let mut rest = want(Mark::OpenBrace, tokens)?;
+    let mut statements = Vec::new(alloc);
+    loop {
+        if let Some(behind) = behind(Mark::CloseBrace, rest) {
+            let block = Block {
+                opening: spot_at(tokens),
+                statements,
+                closing: spot_at(rest),
+            };
+            return Ok((block, behind));
+        }
+        let (next, behind) = nested_statement(alloc, depth, may_declare, rest)?;
+        statements.push(next)?;
+        rest = behind;
+    }
+}
+
+/// `if`, its condition and what stands behind it.
+#[cycle(statement)]
+#[tactic(auto, unfolding(crate::specs::Statements::branch))]
+fn branch(alloc: Global, depth: u32, tokens: &[Token]) -> Result<(Branch, &[Token]), ParseErr>
+    ensures reads { Gives (λ x. (branch_view x.0, lexemes x.1.now)) result (branch (nesting depth) (statements depth) (lexemes tokens.now)) }
+    ensures shorter { IfOk result (λ x. length x.1.now < length tokens.now) }
+{
+    let rest = want(Mark::If, tokens)?;
+    let (condition, rest) = condition(alloc, depth, rest)?;
+    let (then, rest) = nested_statement(alloc, depth, false, rest)?;
+    let branch = Branch {
+        spot: spot_at(tokens),
+        condition,
+        then,
+    };
+    Ok((branch, rest))
+}
+
+/// `if`, each `else if` behind it, which nests no deeper, and the last `else`.
+#[cycle(statement)]
+#[tactic(auto, unfolding(crate::specs::Statements::if_statement))]
+fn if_statement(
+    alloc: Global,
+    depth: u32,
+    tokens: &[Token],
+) -> Result<(Statement, &[Token]), ParseErr>
+    ensures reads { Gives (λ x. (statement_view x.0, lexemes x.1.now)) result (if_statement (nesting depth) (statements depth) (lexemes tokens.now)) }
+    ensures shorter { IfOk result (λ x. length x.1.now < length tokens.now) }
+{
+    let (first, mut rest) = branch(alloc, depth, tokens)?;
+    let first = Box::new(alloc, first)?;
+    let mut others = Vec::new(alloc);
+    while let Some(after) = behind(Mark::Else, rest) {
+        if !is_at(Mark::If, after) {
+            let (last, rest) = nested_statement(alloc, depth, false, after)?;
+            let otherwise = Some(Box::new(alloc, last)?);
+            let statement = Statement::If {
+                first,
+                others,
+                otherwise,
+            };
+            return Ok((statement, rest));
+        }
+        let (next, behind) = branch(alloc, depth, after)?;
+        others.push(next)?;
+        rest = behind;
+    }
+    let statement = Statement::If {
+        first,
+        others,
+        otherwise: None,
+    };
+    Ok((statement, rest))
+}
+
+/// The condition and the body of a `while`, behind its word.
+#[cycle(statement)]
+#[tactic(auto, unfolding(crate::specs::Statements::while_statement))]
+fn while_statement(
+    alloc: Global,
+    depth: u32,
+    spot: Spot,
+    tokens: &[Token],
+) -> Result<(Statement, &[Token]), ParseErr>
+    ensures reads { Gives (λ x. (statement_view x.0, lexemes x.1.now)) result (while_statement (nesting depth) (statements depth) spot (lexemes tokens.now)) }
+    ensures shorter { IfOk result (λ x. length x.1.now < length tokens.now) }
+{
+    let (condition, rest) = condition(alloc, depth, tokens)?;
+    let (body, rest) = nested_statement(alloc, depth, false, rest)?;
+    let statement = Statement::While {
+        spot,
+        condition,
+        body: Box::new(alloc, body)?,
+    };
+    Ok((statement, rest))
+}
+
+/// A `do`, from its word on.
+#[cycle(statement)]
+#[tactic(auto, unfolding(crate::specs::Statements::do_statement))]
+fn do_statement<'t>(
+    alloc: Global,
+    depth: u32,
+    tokens: &'t [Token],
+    rest: &'t [Token],
+) -> Result<(Statement, &'t [Token]), ParseErr>
+    requires { length rest.now < length tokens.now }
+    ensures reads { Gives (λ x. (statement_view x.0, lexemes x.1.now)) result (do_statement (nesting depth) (statements depth) (lexemes tokens.now) (lexemes rest.now)) }
+    ensures shorter { IfOk result (λ x. length x.1.now < length rest.now) }
+{
+    let (body, rest) = nested_statement(alloc, depth, false, rest)?;
+    let rest = want(Mark::While, rest)?;
+    let (condition, rest) = condition(alloc, depth, rest)?;
+    let rest = want(Mark::Semicolon, rest)?;
+    let statement = Statement::DoWhile {
+        extent: extent_before(tokens, rest),
+        body: Box::new(alloc, body)?,
+        condition,
+    };
+    Ok((statement, rest))
+}
+
+/// The parts and the body of a `for`, behind its word.
+#[cycle(statement)]
+#[tactic(auto, unfolding(crate::specs::Statements::for_statement))]
+fn for_statement(
+    alloc: Global,
+    depth: u32,
+    spot: Spot,
+    tokens: &[Token],
+) -> Result<(Statement, &[Token]), ParseErr>
+    ensures reads { Gives (λ x. (statement_view x.0, lexemes x.1.now)) result (for_statement depth (statements depth) spot (lexemes tokens.now)) }
+    ensures shorter { IfOk result (λ x. length x.1.now < length tokens.now) }
+{
+    let rest = want(Mark::OpenParenthesis, tokens)?;
+    let inside = deeper(depth, begins_header(rest), rest)?;
+    let (header, rest) = for_header(alloc, inside, rest)?;
+    let rest = want(Mark::CloseParenthesis, rest)?;
+    let (body, rest) = nested_statement(alloc, depth, false, rest)?;
+    let statement = Statement::For {
+        spot,
+        start: header.start,
+        condition: header.condition,
+        step: header.step,
+        body: Box::new(alloc, body)?,
+    };
+    Ok((statement, rest))
+}
+
+/// The value and the block of a `switch`, behind its word.
+#[cycle(statement)]
+#[tactic(auto, unfolding(crate::specs::Statements::switch_statement))]
+fn switch_statement(
+    alloc: Global,
+    depth: u32,
+    spot: Spot,
+    tokens: &[Token],
+) -> Result<(Statement, &[Token]), ParseErr>
+    ensures reads { Gives (λ x. (statement_view x.0, lexemes x.1.now)) result (switch_statement (nesting depth) (statements depth) spot (lexemes tokens.now)) }
+    ensures shorter { IfOk result (λ x. length x.1.now < length tokens.now) }
+{
+    let (value, rest) = condition(alloc, depth, tokens)?;
+    let inside = deeper(depth, is_at(Mark::OpenBrace, rest), rest)?;
+    let (body, rest) = block(alloc, inside, false, rest)?;
+    Ok((Statement::Switch { spot, value, body }, rest))
+}
