@@ -41,12 +41,24 @@ fn parentheses_nest_up_to_the_limit(rt: HostRuntime) -> Result<(), Fail> {
 #[test]
 fn texts_are_refused_at_the_first_token_that_nothing_takes(rt: HostRuntime) {
     let cases: [(&[u8], Code, u32); 12] = [
-        (b"int main(void){goto a;a:return 0;}", Code::UNEXPECTED_KEYWORD, 1),
-        (b"int main(void){int x\n;goto y;}", Code::UNEXPECTED_KEYWORD, 2),
+        (
+            b"int main(void){goto a;a:return 0;}",
+            Code::UNEXPECTED_KEYWORD,
+            1,
+        ),
+        (
+            b"int main(void){int x\n;goto y;}",
+            Code::UNEXPECTED_KEYWORD,
+            2,
+        ),
         (b"union u;\n", Code::UNEXPECTED_KEYWORD, 1),
         (b"long long x;\n", Code::UNEXPECTED_KEYWORD, 1),
         (b"int main(void){if(1) int x;}", Code::UNEXPECTED_KEYWORD, 1),
-        (b"int main(void){switch(1){int x;}}", Code::UNEXPECTED_KEYWORD, 1),
+        (
+            b"int main(void){switch(1){int x;}}",
+            Code::UNEXPECTED_KEYWORD,
+            1,
+        ),
         (b"int main(void){return 0;\n", Code::UNEXPECTED_TOKEN, 1),
         (b"int main(void){return 1}", Code::UNEXPECTED_TOKEN, 1),
         (b"x;\n", Code::UNEXPECTED_TOKEN, 1),
@@ -55,7 +67,10 @@ fn texts_are_refused_at_the_first_token_that_nothing_takes(rt: HostRuntime) {
         (b"int main(void){int a[];}", Code::UNEXPECTED_TOKEN, 1),
     ];
     for (text, code, line) in cases {
-        assert_eq!(rt; refusal(rt.alloc(), text), Some(SourceErr::Refused(code, line)));
+        assert_eq!(rt;
+            refusal(rt.alloc(), text),
+            Some(SourceErr::Refused(code, line))
+        );
     }
 }
 

@@ -96,10 +96,7 @@ fn a_sink_that_fails_at_its_second_line_has_taken_the_first(rt: HostRuntime) -> 
     let mut shelf = shelf(rt.alloc(), PROGRAM, SCRIPT, [].as_slice())?;
     let mut sink = MemSink::new(rt.alloc(), [2].as_slice())?;
     let words = job(rt.alloc())?;
-    assert_eq!(rt;
-        run(rt.alloc(), &words, &mut whole, &mut all),
-        Status::Done
-    );
+    assert_eq!(rt; run(rt.alloc(), &words, &mut whole, &mut all), Status::Done);
     assert_eq!(rt;
         run(rt.alloc(), &words, &mut shelf, &mut sink),
         Status::WriteFault

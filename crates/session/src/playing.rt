@@ -10,9 +10,9 @@ ghost use Rattle.session.specs.Stages.{WriteEnds};
 
 use line_form::Status;
 use outside::{PutErr, Sink};
-use thin_script::Command;
 use std::alloc::Global;
 use stop_engine::Engine;
+use thin_script::Command;
 
 // Puts a text as a line, in one piece.
 fn put_line<K: Sink>(alloc: Global, text: &[u8], sink: &mut K) -> Result<(), Status>

@@ -7,11 +7,11 @@ ghost use Rattle.session.specs.Prepared.{IsPrepared};
 use debug_records::Code;
 use image_form::{Image, write};
 use line_form::Status;
-use thin_script::{Command, ScriptErr};
 use std::alloc::{AllocError, Global};
 use thin_build::build;
 use thin_form::ThinErr;
 use thin_form::tree::Program;
+use thin_script::{Command, ScriptErr};
 
 /// The image of a source, its bytes, and the commands of a script.
 #[derive(Drop)]

@@ -22,9 +22,9 @@ use crate::stop_table::StopTable;
 use image_form::Image;
 use line_form::out_lines;
 use rv_machine::machine::Machine;
-use thin_script::Command;
 use std::alloc::{AllocError, Global};
 use std::marker::Model;
+use thin_script::Command;
 
 /// A run of an image from stop to stop, and what is seen where it stands.
 #[derive(Drop)]

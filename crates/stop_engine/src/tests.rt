@@ -6,10 +6,10 @@ ghost use Rattle.stop_engine.specs.Plain.{IsPlain};
 
 use crate::{Engine, Halt, Shown};
 use image_form::Image;
-use thin_script::Command;
 use std::alloc::{AllocError, Global};
 use std::process::Abort;
 use std::test::Fail;
+use thin_script::Command;
 
 mod images;
 

@@ -15,7 +15,7 @@ use Rattle.c_parse.proofs.statement.+statement.Goals as goal
 pub block-loop-behind-preserved : goal.block-loop-behind-preserved
 block-loop-behind-preserved t c =
     let pushed : map statement_view c.push.new.self.items ≡ map statement_view c.loop-behind.statements.items ++ statement_view c.in_ok-next.next ∷ [] =
-        rw c.in_ok-push.ensures.items (map_push statement_view c.loop-behind.statements.items c.in_ok-next.next) in
+    rw c.in_ok-push.ensures.items (map_push statement_view c.loop-behind.statements.items c.in_ok-next.next) in
     let open_still : behind mark.CloseBrace (lexemes c.loop-behind.rest.now) ≡ None = sym c.in_default.ensures.reads in
     record {
       shorter = omega (arith, c.in_ok-next.ensures.shorter, c.loop-behind.invariant.shorter);
@@ -31,7 +31,7 @@ if_statement-loop-after-init t c = record {
 pub if_statement-loop-after-preserved : goal.if_statement-loop-after-preserved
 if_statement-loop-after-preserved t c =
     let pushed : map branch_view c.push.new.self.items ≡ map branch_view c.loop-after.others.items ++ branch_view c.in_ok-next.next ∷ [] =
-        rw c.in_ok-push.ensures.items (map_push branch_view c.loop-after.others.items c.in_ok-next.next) in
+    rw c.in_ok-push.ensures.items (map_push branch_view c.loop-after.others.items c.in_ok-next.next) in
     let chained : is_at mark.If (lexemes c.in-Some.after.now) ≡ true = sym c.is_at.ensures ∙ c.if-not-is_at.false in
     record {
       shorter = omega (arith, c.in_ok-next.ensures.shorter, c.in-Some.ensures.shorter, c.loop-after.invariant.shorter);
