@@ -1,0 +1,83 @@
+-- What expressions mean (6.5), each part before what holds it, in text order.
+use Rattle.std.specs.Prelude.{ℕ, ◌+◌, ◌==◌, nat_le, pos, List, [], ◌∷◌, length, Bool, true, false, Option, Some, None, slice_get}
+use Rattle.std.specs.Option.{option_map}
+use Rattle.debug_records.specs.declared.source.Spot.{Spot}
+use Rattle.c_tree.specs.declared.object_type.Scalar.{Scalar}
+use Rattle.c_tree.specs.declared.typed_expression.Direction.TheVariants.{Up, Down}
+use Rattle.c_tree.specs.declared.typed_expression.Given.TheVariants.{Old}
+use Rattle.c_tree.specs.Expressions.{ExpressionTree, Name, Constant, Literal, Parenthesized, Index, Call, PostIncrement, PostDecrement, Prefix, Cast, SizeofExpression, SizeofType, SizeofArray, Binary, Conditional, Assignment, Comma, ExpressionTrees}
+use Rattle.c_tree.specs.Expressions as tree
+use Rattle.c_tree.specs.TypedExpressions as typed-tree
+use Rattle.c_tree.specs.Ends.{first_of, last_of}
+use Rattle.c_type_rules.specs.Integers.{scalar_size}
+use Rattle.c_type_values.specs.Values.{ValueTree, MeantTree, IsValue}
+use Rattle.c_type_values.specs.Pointers.{element_of}
+use Rattle.c_type_values.specs.Operations.{operation_of, combined, conditional, sequenced}
+use Rattle.c_type_expressions.specs.declared.names.Meaning.{Meaning}
+use Rattle.c_type_expressions.specs.declared.names.Meaning.TheVariants.{Variable, Function, EndOfFile}
+use Rattle.c_type_expressions.specs.Codes.{E22}
+use Rattle.c_type_expressions.specs.Names.{Names, SignatureTree, meaning_of}
+use Rattle.c_type_expressions.specs.Findings.{FoundTree, Checked, gives, next, with_one, with_two, with_three, judged, restored}
+use Rattle.c_type_expressions.specs.Judgements.{Meant, valued, number_of, named, literal_met, stepping, prefixed, cast, size_value, measured, sized, arithmetic_of, assignment_by, Passed, passed_to, before, uncallable, noted, called}
+
+-- a constant token of value 0, perhaps in parentheses
+abbrev pub is_zero : ExpressionTree → Bool
+is_zero (Constant spot value type) = value == 0
+is_zero (Parenthesized extent e) = is_zero e
+is_zero _ = false
+
+-- the number of a function, where a name means one
+abbrev pub function_meant : Option Meaning → Option ℕ
+function_meant (Some (Function k)) = Some k
+function_meant _ = None
+
+-- the number of the function that an expression names, perhaps in parentheses
+abbrev pub function_number : Names → ExpressionTree → Option ℕ
+function_number names (Name n) = function_meant (meaning_of names n.name)
+function_number names (Parenthesized extent e) = function_number names e
+function_number names _ = None
+
+-- the function of a number
+abbrev pub function_at : Names → Option ℕ → Option SignatureTree
+function_at names (Some k) = slice_get names.signatures k
+function_at names None = None
+
+-- the function that an expression names
+abbrev pub function_named : Names → ExpressionTree → Option SignatureTree
+function_named names e = function_at names (function_number names e)
+
+-- a call, whose operand is looked at as an expression where it names no function
+abbrev pub call_of : Option SignatureTree → Checked (Option ValueTree) → (List Scalar → ℕ → FoundTree → Checked Passed) → Spot → ℕ → FoundTree → Meant
+call_of (Some g) operand arguments first last s = next (arguments g.parameters 0 (noted g.callee first s)) (called g first last)
+call_of None operand arguments first last s = next operand (λ f t. next (arguments [] 0 t) (λ q. uncallable first last f))
+
+module _ (names : Names) where
+  abbrev mutual
+    pub typed : ExpressionTree → FoundTree → Meant
+    typed (Name n) s = named (meaning_of names n.name) n.spot s
+    typed (Constant spot value type) s = gives (Some (number_of type (pos value))) s
+    typed (Literal extent bytes) s = literal_met extent.first bytes s
+    typed (Parenthesized extent e) s = typed e s
+    typed (Index e i last) s = next (valued (typed e s)) (λ a t. next (valued (typed i t)) (λ b. with_two a b (λ v w. judged (element_of v w) E22 (first_of e) last)))
+    typed (Call e all last) s = call_of (function_named names e) (valued (typed e s)) (typed_all all) (first_of e) last s
+    typed (PostIncrement e last) s = next (typed e s) (λ a. with_one a (stepping Up Old (first_of e) last))
+    typed (PostDecrement e last) s = next (typed e s) (λ a. with_one a (stepping Down Old (first_of e) last))
+    typed (Prefix spot o e) s = next (typed e s) (λ a. with_one a (prefixed o spot (last_of e)))
+    typed (Cast spot to e) s = next (valued (typed e s)) (cast to spot (last_of e))
+    typed (SizeofExpression spot e) s = next (typed e s) (λ a t. with_one a (measured spot (last_of e)) (restored (length s.undefined) (length s.literals) t))
+    typed (SizeofType extent type stars) s = gives (Some (size_value (scalar_size (record { base = type; stars = stars })))) s
+    typed (SizeofArray extent type stars e) s =
+        next (valued (typed e s)) (λ a. with_one a (sized (scalar_size (record { base = type; stars = stars })) extent.first extent.last))
+    typed (Binary o a b) s =
+        next (valued (typed a s)) (λ x t. next (valued (typed b t)) (λ y. with_two x y (λ v w. judged (option_map IsValue (combined (operation_of o) v w (is_zero a) (is_zero b))) E22 (first_of a) (last_of b))))
+    typed (Conditional c a b) s =
+        next (valued (typed c s)) (λ x t. next (valued (typed a t)) (λ y u. next (valued (typed b u)) (λ z. with_three x y z (λ v w r. judged (option_map IsValue (conditional v w r (is_zero a) (is_zero b))) E22 (first_of c) (last_of b)))))
+    typed (Assignment o a b) s =
+        next (typed a s) (λ x t. next (valued (typed b t)) (λ y. with_two x y (assignment_by (arithmetic_of o) (is_zero b) (first_of a) (last_of b))))
+    typed (Comma a b) s = next (valued (typed a s)) (λ x t. next (valued (typed b t)) (λ y. with_two x y (λ v w. gives (Some (IsValue (sequenced v w))))))
+
+    -- arguments, each for its parameter, from that of a number on; there is one for each parameter
+    pub typed_all : ExpressionTrees → List Scalar → ℕ → FoundTree → Checked Passed
+    typed_all tree.none parameters at s = gives (record { trees = typed-tree.none; fit = nat_le (length parameters) at }) s
+    typed_all (tree.first e rest) parameters at s =
+        next (valued (typed e s)) (λ v t. next (typed_all rest parameters (at + 1) t) (before (passed_to (slice_get parameters at) v (is_zero e))))

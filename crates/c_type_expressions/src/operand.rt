@@ -1,0 +1,102 @@
+//! What an operand is as it is written.
+
+ghost use Rattle.std.specs.Prelude.{◌≡◌};
+ghost use Rattle.c_tree.specs.Expressions.{expression_view};
+ghost use Rattle.std.specs.Option.{option_map};
+ghost use Rattle.c_type_expressions.specs.Expressions.{function_meant, function_named, function_number, is_zero};
+ghost use Rattle.c_type_expressions.specs.Names.{names_view, signature_view};
+
+use crate::names::{Meaning, Names, Signature};
+use c_tree::Expression;
+
+/// Whether an expression is a constant token of value 0, perhaps in parentheses.
+pub fn is_zero(e: &Expression) -> bool
+    ensures { result ≡ is_zero (expression_view e.now) }
+{
+    match e {
+        Expression::Constant { value, .. } => *value == 0,
+        Expression::Parenthesized { inner, .. } => is_zero(inner),
+        Expression::Postfix { operand, suffixes } => {
+            if suffixes.is_empty() {
+                return is_zero(operand);
+            }
+            false
+        }
+        Expression::Binary { first, operations } => {
+            if operations.is_empty() {
+                return is_zero(first);
+            }
+            false
+        }
+        Expression::Comma { first, rest } => {
+            if rest.is_empty() {
+                return is_zero(first);
+            }
+            false
+        }
+        Expression::Name(_)
+        | Expression::Literal { .. }
+        | Expression::Prefix { .. }
+        | Expression::Cast { .. }
+        | Expression::SizeofExpression { .. }
+        | Expression::SizeofType { .. }
+        | Expression::Conditional { .. }
+        | Expression::Assignment { .. } => false,
+    }
+}
+
+/// The number of a function, where a name means one.
+fn function_meant(meaning: Option<Meaning>) -> Option<u32>
+    ensures { result ≡ function_meant meaning }
+{
+    match meaning {
+        Some(Meaning::Function(number)) => Some(number),
+        _ => None,
+    }
+}
+
+/// The number of the function that an expression names, perhaps in parentheses.
+pub fn function_number(names: &Names, e: &Expression) -> Option<u32>
+    ensures { result ≡ function_number (names_view names.now) (expression_view e.now) }
+{
+    match e {
+        Expression::Name(identifier) => function_meant(names.meaning(&identifier.name)),
+        Expression::Parenthesized { inner, .. } => function_number(names, inner),
+        Expression::Postfix { operand, suffixes } => {
+            if suffixes.is_empty() {
+                return function_number(names, operand);
+            }
+            None
+        }
+        Expression::Binary { first, operations } => {
+            if operations.is_empty() {
+                return function_number(names, first);
+            }
+            None
+        }
+        Expression::Comma { first, rest } => {
+            if rest.is_empty() {
+                return function_number(names, first);
+            }
+            None
+        }
+        Expression::Constant { .. }
+        | Expression::Literal { .. }
+        | Expression::Prefix { .. }
+        | Expression::Cast { .. }
+        | Expression::SizeofExpression { .. }
+        | Expression::SizeofType { .. }
+        | Expression::Conditional { .. }
+        | Expression::Assignment { .. } => None,
+    }
+}
+
+/// The function that an expression names, perhaps in parentheses.
+pub fn function_named<'a>(names: &'a Names, e: &Expression) -> Option<&'a Signature>
+    ensures { option_map (λ s. signature_view s.now) result ≡ function_named (names_view names.now) (expression_view e.now) }
+{
+    match function_number(names, e) {
+        None => None,
+        Some(number) => names.signatures.get(number as usize),
+    }
+}
