@@ -6,7 +6,6 @@ use Rattle.image_form.specs.RulesOfNames.{NameRules}
 use Rattle.image_form.specs.RulesOfPlaces.{PlaceRules, OwnerRules, IsOwner, word_address}
 use Rattle.image_form.specs.Spelling.{size}
 use Rattle.image_form.proofs.TableLaws.{ascending_distinct, numbered_from_zero}
-use Rattle.stop_engine.specs.Plain.{IsPlain}
 use Rattle.stop_engine.specs.Samples.{addition_form}
 
 sizes : SizeRules addition_form
@@ -85,7 +84,3 @@ is_image = record {
   nodes = record { homes = tt; tidy = tt; earlier = λ i n e. absurd cc; shallow = λ i lt. absurd (omega (arith, lt)); differ = λ i j x y ei ej same. absurd cc };
   names = names;
 }
-
-pub is_plain : IsPlain addition_form
-unfolding addition_form
-is_plain = record { variables = search rules; shown = search rules }

@@ -1,19 +1,27 @@
 -- The lines of a session, by what its engine answers.
-use Rattle.std.proofs.Common.{◌≡◌, ℕ, ◌+◌, Option, Some, None, List, [], ◌∷◌, subst, refl, arith}
+use Rattle.std.proofs.Common.{◌≡◌, ℕ, ◌+◌, ◌||◌, Bool, true, false, Option, Some, None, List, [], ◌∷◌, ◌++◌, if◌then◌else◌, subst, refl, sym, ap, ◌∙◌, append_assoc, arith}
+use Rattle.std.specs.Option.{option_map_or}
 use Rattle.std.proofs.lemmas.Option.{slice_get_within}
-use Rattle.image_form.specs.Form.{Form}
+use Rattle.image_form.specs.Form.{Form, form}
 use Rattle.image_form.specs.RulesOfFunctions.{IsPlaceNumber}
-use Rattle.thin_script.specs.Script.{Print}
+use Rattle.line_form.specs.Lines.{no_stop_line}
+use Rattle.rv_machine.specs.Run.{MachineEvent, Byte, Arrival, Exit, TooDeep, Faulted}
+use Rattle.rv_machine.specs.State.{State}
+use Rattle.script_form.specs.Script.{Order, Break, Step, Continue, Print, Locals, Where, Quit, Mark}
 use Rattle.stop_engine.specs.declared.halt.Halt.{Halt}
 use Rattle.stop_engine.specs.declared.halt.Halt.TheVariants.{At}
-use Rattle.stop_engine.specs.EngineState.{Answers, EngineState}
+use Rattle.stop_engine.specs.declared.run.Stop.{Stop}
+use Rattle.stop_engine.specs.Breaks.{break_places}
+use Rattle.stop_engine.specs.EngineState.{Answers, EngineState, HasMarked, HasRun, RunState, lines_of, session_of, with_run}
 use Rattle.stop_engine.specs.Halting.{IsHaltOf, halt_at, halt_line, halt_of}
 use Rattle.stop_engine.specs.Reading.{depth, place_at}
-use Rattle.stop_engine.specs.Transcript.{Ending, Exits, NestsTooDeep, Faults, Limit, Position, Fresh, Standing, Over, ending_line, position_line, print_line}
+use Rattle.stop_engine.specs.Stopping.{IsAtNoStop, IsStopOf}
+use Rattle.stop_engine.specs.Transcript.{Aim, AnyStop, OneOf, Ending, Exits, NestsTooDeep, Faults, Limit, Position, Fresh, Standing, Over, Reach, Session, after, aims_at, at_stop, ending_line, is_aim, is_among, is_quit, lines_from, marked_line, position_line, ran, reached, run_lines, run_of, said, with_output}
+use Rattle.stop_engine.proofs.MarkLaws.{among-append}
 use Rattle.stop_engine.proofs.PlacesByAddress.{place_from-found}
 
 -- a place that begins at an address has a number of the image
-place_at-number : (m : Form) (a k : ℕ) → place_at m a ≡ Some k → IsPlaceNumber m k
+pub place_at-number : (m : Form) (a k : ℕ) → place_at m a ≡ Some k → IsPlaceNumber m k
 place_at-number m a k e =
     let found = place_from-found 1 m.places a k e in
     let number : k ≡ 1 + found.index = found.number in
@@ -52,6 +60,121 @@ halt_at-says m limit (Standing s) h e = by_place (place_at m s.pc) refl
         let same : At k (depth s) ≡ h = cc in
         subst (SaysPosition m limit (Standing s)) same (record { place = place_at-number m s.pc k at_pc; line = rw at_pc refl })
 
--- the line of a print
-pub answers-print : (e : EngineState) (name line : List ℕ) → line ≡ print_line e.form e.position name → Answers e e (Print name) (line ∷ [])
-answers-print e name line is more = rw is refl
+-- ---- What is said at a stop
+
+-- the place of a stop is one of its image
+pub stop-number : (r : RunState) (stop : Stop) → IsStopOf r stop → IsPlaceNumber (form stop.image.now) stop.place
+stop-number r stop is = subst (λ m. IsPlaceNumber m stop.place) (sym is.image) (place_at-number r.form stop.machine.now.pc stop.place is.place)
+
+pub at_stop-said : (r : RunState) (stop : Stop) (say : State → ℕ → List (List ℕ)) (lines : List (List ℕ)) → IsStopOf r stop → lines ≡ say stop.machine.now stop.place → lines ≡ at_stop r.form r.position say
+at_stop-said r stop say lines is e = rw (is.position, is.place) e
+
+pub at_stop-none : (m : Form) (p : Position) (say : State → ℕ → List (List ℕ)) → IsAtNoStop p → no_stop_line ∷ [] ≡ at_stop m p say
+at_stop-none m Fresh say none = refl
+at_stop-none m (Standing s) say none = absurd none
+at_stop-none m (Over e) say none = refl
+
+-- ---- Sessions with the same marks
+
+-- a session stands where another does, and the same places are marked
+record SameSession (s t : Session) : Type 0 where
+  marks : (place : ℕ) → is_among s.marks place ≡ is_among t.marks place
+  position : s.position ≡ t.position
+  events : s.events ≡ t.events
+
+same_aim : (m : Form) (a b : List ℕ) (o : Option ℕ) → ((place : ℕ) → is_among a place ≡ is_among b place) → option_map_or (aims_at (OneOf a)) o false ≡ option_map_or (aims_at (OneOf b)) o false
+same_aim m a b None same = refl
+same_aim m a b (Some place) same = same place
+
+reached-same : (m : Form) (a b : List ℕ) (events : List MachineEvent) → ((place : ℕ) → is_among a place ≡ is_among b place) → reached m (OneOf a) events ≡ reached m (OneOf b) events
+reached-same m a b [] same = refl
+reached-same m a b (Byte c ∷ events) same = ap (with_output c) (reached-same m a b events same)
+reached-same m a b (Arrival s ∷ events) same =
+    ap (λ t. if t then (record { output = []; position = Standing s; rest = events }) else reached m (OneOf a) events) (same_aim m a b (place_at m s.pc) same)
+    ∙ ap (λ r. if is_aim m (OneOf b) s then (record { output = []; position = Standing s; rest = events }) else r) (reached-same m a b events same)
+reached-same m a b (Exit v ∷ events) same = refl
+reached-same m a b (TooDeep ∷ events) same = refl
+reached-same m a b (Faulted x ∷ events) same = refl
+
+ran-same : (m : Form) (a b : List ℕ) (p : Position) (events : List MachineEvent) → ((place : ℕ) → is_among a place ≡ is_among b place) → ran m (OneOf a) p events ≡ ran m (OneOf b) p events
+ran-same m a b Fresh events same = reached-same m a b events same
+ran-same m a b (Standing s) events same = reached-same m a b events same
+ran-same m a b (Over e) events same = refl
+
+-- what two such sessions say of an order, and that they are alike behind it
+record SameAnswer (m : Form) (limit : ℕ) (s t : Session) (o : Order) : Type 0 where
+  lines : said m limit s o ≡ said m limit t o
+  next : SameSession (after m s o) (after m t o)
+
+same_run : (m : Form) (s t : Session) (a b : Aim) (r q : Reach) → r ≡ q → SameSession s t → SameSession (record { marks = s.marks; position = r.position; events = r.rest }) (record { marks = t.marks; position = q.position; events = q.rest })
+same_run m s t a b r q e same = record { marks = same.marks; position = ap (λ (x : Reach). x.position) e; events = ap (λ (x : Reach). x.rest) e }
+
+answer-same : (m : Form) (limit : ℕ) (s t : Session) (o : Order) → SameSession s t → SameAnswer m limit s t o
+answer-same m limit s t (Break mark) same = record {
+  lines = refl;
+  next = record {
+    marks = λ place. among-append s.marks (break_places m mark) place ∙ (ap (λ b. b || is_among (break_places m mark) place) (same.marks place) ∙ sym (among-append t.marks (break_places m mark) place));
+    position = same.position;
+    events = same.events;
+  };
+}
+answer-same m limit s t Step same =
+    let e : run_of m s AnyStop ≡ run_of m t AnyStop = rw (same.position, same.events) refl in
+    record { lines = ap (run_lines m limit) e; next = same_run m s t AnyStop AnyStop (run_of m s AnyStop) (run_of m t AnyStop) e same }
+answer-same m limit s t Continue same =
+    let e : run_of m s (OneOf s.marks) ≡ run_of m t (OneOf t.marks) = rw (same.position, same.events) (ran-same m s.marks t.marks t.position t.events same.marks) in
+    record { lines = ap (run_lines m limit) e; next = same_run m s t AnyStop AnyStop (run_of m s (OneOf s.marks)) (run_of m t (OneOf t.marks)) e same }
+answer-same m limit s t (Print name) same = record { lines = rw same.position refl; next = same }
+answer-same m limit s t Locals same = record { lines = rw same.position refl; next = same }
+answer-same m limit s t Where same = record { lines = rw same.position refl; next = same }
+answer-same m limit s t Quit same = record { lines = refl; next = same }
+
+lines-same : (m : Form) (limit : ℕ) (s t : Session) (orders : List Order) → SameSession s t → lines_from m limit s orders ≡ lines_from m limit t orders
+lines-same m limit s t [] same = refl
+lines-same m limit s t (o ∷ orders) same =
+    let answer = answer-same m limit s t o same in
+    ap (λ l. l ++ (if is_quit o then [] else lines_from m limit (after m s o) orders)) answer.lines
+    ∙ ap (λ l. said m limit t o ++ (if is_quit o then [] else l)) (lines-same m limit (after m s o) (after m t o) orders answer.next)
+
+-- ---- The answers of an engine
+
+-- behind a `quit` nothing is answered
+pub answers-closed : (e : EngineState) (o : Order) → e.has_quit ≡ true → Answers e e o []
+answers-closed e o quit more = rw quit refl
+
+pub answers-quit : (e f : EngineState) → e.has_quit ≡ false → f.has_quit ≡ true → Answers e f Quit []
+answers-quit e f open quit more = rw (open, quit) refl
+
+pub answers-print : (e : EngineState) (name : List ℕ) (lines : List (List ℕ)) → e.has_quit ≡ false → lines ≡ said e.run.form e.run.limit (session_of e) (Print name) → Answers e e (Print name) lines
+answers-print e name lines open is more = rw (open, is) refl
+
+pub answers-locals : (e : EngineState) (lines : List (List ℕ)) → e.has_quit ≡ false → lines ≡ said e.run.form e.run.limit (session_of e) Locals → Answers e e Locals lines
+answers-locals e lines open is more = rw (open, is) refl
+
+pub answers-where : (e : EngineState) (lines : List (List ℕ)) → e.has_quit ≡ false → lines ≡ said e.run.form e.run.limit (session_of e) Where → Answers e e Where lines
+answers-where e lines open is more = rw (open, is) refl
+
+-- the rest is said from where a run leads
+behind-run : (e : EngineState) (run : RunState) (aim : Aim) (more : List Order) → e.has_quit ≡ false → HasRun aim e.run run
+    → lines_from e.run.form e.run.limit (record { marks = e.marks; position = (ran e.run.form aim e.run.position e.run.events).position; events = (ran e.run.form aim e.run.position e.run.events).rest }) more ≡ lines_of (with_run e run) more
+behind-run e run aim more open h = rw (open, h.image, h.limit, h.reach) refl
+
+pub answers-step : (e : EngineState) (run : RunState) (lines : List (List ℕ)) → e.has_quit ≡ false → HasRun AnyStop e.run run
+    → lines ≡ run_lines e.run.form e.run.limit (ran e.run.form AnyStop e.run.position e.run.events) → Answers e (with_run e run) Step lines
+answers-step e run lines open h is more =
+    ap (λ b. if b then [] else lines_from e.run.form e.run.limit (session_of e) (Step ∷ more)) open
+    ∙ (ap (λ l. l ++ lines_from e.run.form e.run.limit (after e.run.form (session_of e) Step) more) (sym is) ∙ ap (λ l. lines ++ l) (behind-run e run AnyStop more open h))
+
+pub answers-continue : (e : EngineState) (run : RunState) (lines : List (List ℕ)) → e.has_quit ≡ false → HasRun (OneOf e.marks) e.run run
+    → lines ≡ run_lines e.run.form e.run.limit (ran e.run.form (OneOf e.marks) e.run.position e.run.events) → Answers e (with_run e run) Continue lines
+answers-continue e run lines open h is more =
+    ap (λ b. if b then [] else lines_from e.run.form e.run.limit (session_of e) (Continue ∷ more)) open
+    ∙ (ap (λ l. l ++ lines_from e.run.form e.run.limit (after e.run.form (session_of e) Continue) more) (sym is) ∙ ap (λ l. lines ++ l) (behind-run e run (OneOf e.marks) more open h))
+
+pub answers-break : (e f : EngineState) (mark : Mark) (lines : List (List ℕ)) → e.has_quit ≡ false → HasMarked mark e f
+    → lines ≡ marked_line mark (break_places e.run.form mark) ∷ [] → Answers e f (Break mark) lines
+answers-break e f mark lines open h is more =
+    let rest = lines-same e.run.form e.run.limit (after e.run.form (session_of e) (Break mark)) (session_of f) more (record { marks = λ place. sym (h.marks place); position = ap (λ (r : RunState). r.position) (sym h.run); events = ap (λ (r : RunState). r.events) (sym h.run) }) in
+    let there : lines_of f more ≡ lines_from e.run.form e.run.limit (session_of f) more = rw (h.quit, open, h.run) refl in
+    ap (λ b. if b then [] else lines_from e.run.form e.run.limit (session_of e) (Break mark ∷ more)) open
+    ∙ (ap (λ l. l ++ lines_from e.run.form e.run.limit (after e.run.form (session_of e) (Break mark)) more) (sym is) ∙ ap (λ l. lines ++ l) (rest ∙ sym there))

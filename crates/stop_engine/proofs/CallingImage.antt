@@ -6,7 +6,6 @@ use Rattle.image_form.specs.RulesOfNames.{NameRules}
 use Rattle.image_form.specs.RulesOfPlaces.{PlaceRules, OwnerRules, IsOwner, word_address}
 use Rattle.image_form.specs.Spelling.{size}
 use Rattle.image_form.proofs.TableLaws.{ascending_distinct, numbered_from_zero}
-use Rattle.stop_engine.specs.Plain.{IsPlain}
 use Rattle.stop_engine.specs.Samples.{calling_form}
 
 sizes : (count : ℕ) → (call : ℕ) → (last : ℕ) → SizeRules (calling_form count call last)
@@ -88,7 +87,3 @@ is_image count call last few low short = record {
   nodes = record { homes = tt; tidy = tt; earlier = λ i n e. absurd cc; shallow = λ i lt. absurd (omega (arith, lt)); differ = λ i j x y ei ej same. absurd cc };
   names = names count call last;
 }
-
-pub is_plain : (count : ℕ) → (call : ℕ) → (last : ℕ) → IsPlain (calling_form count call last)
-unfolding calling_form
-is_plain count call last = record { variables = search rules; shown = search rules }

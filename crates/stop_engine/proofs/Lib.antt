@@ -1,5 +1,6 @@
 mod AdditionImage
 mod Answering
+mod MarkLaws
 mod CallingImage
 mod NameBounds
 mod PlacesByAddress

@@ -1,58 +1,151 @@
--- Runs to a stop, over the events that they answer.
-use Rattle.std.proofs.Common.{◌≡◌, ℕ, None, List, [], ◌∷◌, ◌++◌, ap, refl, ◌∙◌, inl, OnErr, Result, Ok, Err}
-use Rattle.rv_machine.specs.State.{State}
+-- Runs to a halt, over the events that they answer.
+use Rattle.std.proofs.Common.{◌≡◌, ℕ, suc, Bool, true, false, Option, None, Some, List, [], ◌∷◌, ◌++◌, length, ◌≤◌, ap, refl, sym, ◌∙◌, inl, inr, append_assoc, append-nil, OnErr, Result, Ok, Err}
+use Rattle.std.specs.List.{AllByRecursion}
 use Rattle.image_form.specs.Form.{Form}
-use Rattle.rv_machine.specs.Run.{MachineEvent, run}
-use Rattle.stop_engine.specs.EngineState.{Wants, engine_state}
+use Rattle.rv_machine.specs.State.{State}
+use Rattle.rv_machine.specs.Table.{effect}
+use Rattle.rv_machine.specs.Run.{MachineEvent, Byte, Arrival, Exit, TooDeep, Faulted, arrival, goes_on, is_stop, run}
+use Rattle.rv_machine.specs.declared.event.Event.{Event}
+use Rattle.stop_engine.specs.EngineState.{HasRun, IsUnmoved, Wants, run_state}
 use Rattle.stop_engine.specs.Run.{stop_addresses}
+use Rattle.stop_engine.specs.declared.course.TheConstants.{ROOM}
 use Rattle.stop_engine.specs.declared.halt.Standing.{Standing}
 use Rattle.stop_engine.specs.declared.halt.Standing.TheVariants.{Fresh, UnderWay, Halted}
 use Rattle.stop_engine.specs.declared.halt.Halt.{Halt}
 use Rattle.stop_engine.specs.declared.halt.Halt.TheVariants.{At, Exited, Depth, Fault, Limit}
 use Rattle.stop_engine.specs.Halting.{byte_events, from_halt, halted_at, left_behind}
+use Rattle.stop_engine.specs.Passing.{IsAimed, IsPassed, PassesBy, bytes_among}
 use Rattle.stop_engine.specs.Standing.{ending_of, not_answered, position_of, unanswered}
-use Rattle.stop_engine.specs.Transcript.{reached, stepped, with_output}
+use Rattle.stop_engine.specs.Transcript.{Aim, Reach, is_aim, ran, reached, with_output}
 
--- what is reached behind output and a halt
-pub reached-from_halt : (bytes : List ℕ) (h : Halt) (s : State) (events : List MachineEvent)
-    → reached (byte_events bytes ++ from_halt h s events) ≡ record { output = bytes; position = halted_at h s; rest = left_behind h events }
-reached-from_halt [] (At place d) s events = refl
-reached-from_halt [] (Exited status) s events = refl
-reached-from_halt [] Depth s events = refl
-reached-from_halt [] (Fault address) s events = refl
-reached-from_halt [] Limit s events = refl
-reached-from_halt (b ∷ bytes) h s events = ap (with_output b) (reached-from_halt bytes h s events)
+-- ---- What is passed by
 
--- A run of a session that is not over takes the output that no run has answered, and goes on.
-pub stepped-from_here : (w : Standing) (s : State) (output : List ℕ) (events : List MachineEvent) → ending_of w ≡ None
-    → stepped (position_of w s) (unanswered w output events) ≡ reached (byte_events (not_answered w output) ++ events)
-stepped-from_here Fresh s output events e = refl
-stepped-from_here UnderWay s output events e = refl
-stepped-from_here (Halted (At place d)) s output events e = refl
-stepped-from_here (Halted (Exited status)) s output events e = absurd (cc)
-stepped-from_here (Halted Depth) s output events e = absurd (cc)
-stepped-from_here (Halted (Fault address)) s output events e = absurd (cc)
-stepped-from_here (Halted Limit) s output events e = absurd (cc)
+pub all_and_one : {A : Type 0} (P : A → Type 0) (xs : List A) (y : A) → AllByRecursion P xs → P y → AllByRecursion P (xs ++ y ∷ [])
+all_and_one P [] y all last = (last, tt)
+all_and_one P (x ∷ xs) y all last = (all.0, all_and_one P xs y all.1 last)
 
--- A run to a halt, from where a session stands.
-pub stepped-to_halt : (w : Standing) (s t : State) (output now : List ℕ) (events rest : List MachineEvent) (h : Halt) → ending_of w ≡ None
-    → byte_events (not_answered w output) ++ events ≡ byte_events now ++ from_halt h t rest
-    → stepped (position_of w s) (unanswered w output events) ≡ record { output = now; position = halted_at h t; rest = left_behind h rest }
-stepped-to_halt w s t output now events rest h none e = stepped-from_here w s output events none ∙ (ap reached e ∙ reached-from_halt now h t rest)
+bytes-and_byte : (front : List MachineEvent) (b : ℕ) → bytes_among (front ++ Byte b ∷ []) ≡ bytes_among front ++ b ∷ []
+bytes-and_byte [] b = refl
+bytes-and_byte (Byte c ∷ front) b = ap (λ l. c ∷ l) (bytes-and_byte front b)
+bytes-and_byte (Arrival s ∷ front) b = bytes-and_byte front b
+bytes-and_byte (Exit v ∷ front) b = bytes-and_byte front b
+bytes-and_byte (TooDeep ∷ front) b = bytes-and_byte front b
+bytes-and_byte (Faulted a ∷ front) b = bytes-and_byte front b
 
--- A run that wanted memory before it moved has forgotten at most the output of a run that was answered.
-pub wants-before_moving : (m : Form) (limit left : ℕ) (w : Standing) (s : State) (output now : List ℕ) → ending_of w ≡ None → now ≡ not_answered w output
-    → Wants (engine_state m limit left w s output) (engine_state m limit left w s now)
-wants-before_moving m limit left Fresh s output now none e =
-    record { image = refl; limit = refl; kept = refl; taken = (run (stop_addresses m) left s, rw e refl); stands = inl refl }
-wants-before_moving m limit left UnderWay s output now none e =
-    record { image = refl; limit = refl; kept = rw e refl; taken = (run (stop_addresses m) left s, refl); stands = inl refl }
-wants-before_moving m limit left (Halted (At place d)) s output now none e =
-    record { image = refl; limit = refl; kept = refl; taken = (run (stop_addresses m) left s, rw e refl); stands = inl refl }
-wants-before_moving m limit left (Halted (Exited status)) s output now none e = absurd (cc)
-wants-before_moving m limit left (Halted Depth) s output now none e = absurd (cc)
-wants-before_moving m limit left (Halted (Fault address)) s output now none e = absurd (cc)
-wants-before_moving m limit left (Halted Limit) s output now none e = absurd (cc)
+bytes-and_arrival : (front : List MachineEvent) (s : State) → bytes_among (front ++ Arrival s ∷ []) ≡ bytes_among front
+bytes-and_arrival [] s = refl
+bytes-and_arrival (Byte c ∷ front) s = ap (λ l. c ∷ l) (bytes-and_arrival front s)
+bytes-and_arrival (Arrival t ∷ front) s = bytes-and_arrival front s
+bytes-and_arrival (Exit v ∷ front) s = bytes-and_arrival front s
+bytes-and_arrival (TooDeep ∷ front) s = bytes-and_arrival front s
+bytes-and_arrival (Faulted a ∷ front) s = bytes-and_arrival front s
+
+bytes_of_bytes : (output : List ℕ) → bytes_among (byte_events output) ≡ output
+bytes_of_bytes [] = refl
+bytes_of_bytes (b ∷ output) = ap (λ l. b ∷ l) (bytes_of_bytes output)
+
+bytes_pass : (m : Form) (aim : Aim) (output : List ℕ) → AllByRecursion (IsPassed m aim) (byte_events output)
+bytes_pass m aim [] = tt
+bytes_pass m aim (b ∷ output) = (tt, bytes_pass m aim output)
+
+-- a byte more is put out
+pub passes-byte : (m : Form) (aim : Aim) (events : List MachineEvent) (before now : List ℕ) (b : ℕ) (rest : List MachineEvent) → now ≡ before ++ b ∷ []
+    → PassesBy m aim events before (Byte b ∷ rest) → PassesBy m aim events now rest
+passes-byte m aim events before now b rest pushed p = record {
+  front = p.front ++ Byte b ∷ [];
+  whole = p.whole ∙ sym (append_assoc p.front (Byte b ∷ []) rest);
+  bytes = pushed ∙ (ap (λ l. l ++ b ∷ []) p.bytes ∙ sym (bytes-and_byte p.front b));
+  passed = all_and_one (IsPassed m aim) p.front (Byte b) p.passed tt;
+}
+
+-- a stop that is none of the aim is passed by
+pub passes-stop : (m : Form) (aim : Aim) (events : List MachineEvent) (output : List ℕ) (s : State) (rest : List MachineEvent) → is_aim m aim s ≡ false
+    → PassesBy m aim events output (Arrival s ∷ rest) → PassesBy m aim events output rest
+passes-stop m aim events output s rest none p = record {
+  front = p.front ++ Arrival s ∷ [];
+  whole = p.whole ∙ sym (append_assoc p.front (Arrival s ∷ []) rest);
+  bytes = p.bytes ∙ sym (bytes-and_arrival p.front s);
+  passed = all_and_one (IsPassed m aim) p.front (Arrival s) p.passed none;
+}
+
+-- where no stop begins, nothing arrives
+pub passes-nowhere : (m : Form) (aim : Aim) (stops : List ℕ) (events : List MachineEvent) (output : List ℕ) (s : State) (rest : List MachineEvent) → is_stop stops s.pc ≡ false
+    → PassesBy m aim events output (arrival stops s ++ rest) → PassesBy m aim events output rest
+passes-nowhere m aim stops events output s rest none p = rw none at p
+
+pub passes-there : (m : Form) (aim : Aim) (stops : List ℕ) (events : List MachineEvent) (output : List ℕ) (s : State) (rest : List MachineEvent) → is_stop stops s.pc ≡ true
+    → PassesBy m aim events output (arrival stops s ++ rest) → PassesBy m aim events output (Arrival s ∷ rest)
+passes-there m aim stops events output s rest some p = rw some at p
+
+-- ---- What is reached
+
+reached-front : (m : Form) (aim : Aim) (front : List MachineEvent) (h : Halt) (s : State) (rest : List MachineEvent) → AllByRecursion (IsPassed m aim) front → IsAimed m aim h s
+    → reached m aim (front ++ from_halt h s rest) ≡ record { output = bytes_among front; position = halted_at h s; rest = left_behind h rest }
+reached-front m aim [] (At place d) s rest passed aimed = rw aimed refl
+reached-front m aim [] (Exited status) s rest passed aimed = refl
+reached-front m aim [] Depth s rest passed aimed = refl
+reached-front m aim [] (Fault address) s rest passed aimed = refl
+reached-front m aim [] Limit s rest passed aimed = refl
+reached-front m aim (Byte b ∷ front) h s rest passed aimed = ap (with_output b) (reached-front m aim front h s rest passed.1 aimed)
+reached-front m aim (Arrival t ∷ front) h s rest passed aimed = rw passed.0 (reached-front m aim front h s rest passed.1 aimed)
+reached-front m aim (Exit v ∷ front) h s rest passed aimed = absurd passed.0
+reached-front m aim (TooDeep ∷ front) h s rest passed aimed = absurd passed.0
+reached-front m aim (Faulted a ∷ front) h s rest passed aimed = absurd passed.0
+
+reached-halt : (m : Form) (aim : Aim) (events : List MachineEvent) (output : List ℕ) (h : Halt) (s : State) (rest : List MachineEvent) → PassesBy m aim events output (from_halt h s rest) → IsAimed m aim h s
+    → reached m aim events ≡ record { output = output; position = halted_at h s; rest = left_behind h rest }
+reached-halt m aim events output h s rest p aimed =
+    ap (reached m aim) p.whole ∙ (reached-front m aim p.front h s rest p.passed aimed ∙ ap (λ o. record { output = o; position = halted_at h s; rest = left_behind h rest }) (sym p.bytes))
+
+-- ---- From where a run stands
+
+-- A run that is not over goes on from its unanswered output.
+pub ran-from_here : (m : Form) (aim : Aim) (w : Standing) (s : State) (events : List MachineEvent) → ending_of w ≡ None → ran m aim (position_of w s) events ≡ reached m aim events
+ran-from_here m aim Fresh s events e = refl
+ran-from_here m aim UnderWay s events e = refl
+ran-from_here m aim (Halted (At place d)) s events e = refl
+ran-from_here m aim (Halted (Exited status)) s events e = absurd (cc)
+ran-from_here m aim (Halted Depth) s events e = absurd (cc)
+ran-from_here m aim (Halted (Fault address)) s events e = absurd (cc)
+ran-from_here m aim (Halted Limit) s events e = absurd (cc)
+
+-- the output that no call has answered is passed by first
+pub passes-unanswered : (m : Form) (aim : Aim) (w : Standing) (output now : List ℕ) (events : List MachineEvent) → ending_of w ≡ None → now ≡ not_answered w output
+    → PassesBy m aim (unanswered w output events) now events
+passes-unanswered m aim Fresh output now events none e = record { front = []; whole = refl; bytes = e; passed = tt }
+passes-unanswered m aim UnderWay output now events none e = record { front = byte_events output; whole = refl; bytes = e ∙ sym (bytes_of_bytes output); passed = bytes_pass m aim output }
+passes-unanswered m aim (Halted (At place d)) output now events none e = record { front = []; whole = refl; bytes = e; passed = tt }
+passes-unanswered m aim (Halted (Exited status)) output now events none e = absurd (cc)
+passes-unanswered m aim (Halted Depth) output now events none e = absurd (cc)
+passes-unanswered m aim (Halted (Fault address)) output now events none e = absurd (cc)
+passes-unanswered m aim (Halted Limit) output now events none e = absurd (cc)
+
+-- A run to a halt, from where it stood.
+pub ran-to_halt : (m : Form) (aim : Aim) (w : Standing) (s t : State) (output now : List ℕ) (events rest : List MachineEvent) (h : Halt) → ending_of w ≡ None
+    → PassesBy m aim (unanswered w output events) now (from_halt h t rest) → IsAimed m aim h t
+    → ran m aim (position_of w s) (unanswered w output events) ≡ record { output = now; position = halted_at h t; rest = left_behind h rest }
+ran-to_halt m aim w s t output now events rest h none p aimed = ran-from_here m aim w s (unanswered w output events) none ∙ reached-halt m aim (unanswered w output events) now h t rest p aimed
+
+-- A run that wanted memory before it moved has forgotten at most the output of a call that was answered.
+pub wants-before_moving : (m : Form) (aim : Aim) (limit left : ℕ) (w : Standing) (s : State) (output now : List ℕ) → ending_of w ≡ None → now ≡ not_answered w output
+    → Wants aim (run_state m limit left w s output) (run_state m limit left w s now)
+wants-before_moving m aim limit left Fresh s output now none e =
+    record { image = refl; limit = refl; rest = run (stop_addresses m) left s; passed = passes-unanswered m aim Fresh output now (run (stop_addresses m) left s) none e; events = rw e refl; stands = inl (record { position = refl; events = refl }) }
+wants-before_moving m aim limit left UnderWay s output now none e =
+    record { image = refl; limit = refl; rest = run (stop_addresses m) left s; passed = passes-unanswered m aim UnderWay output now (run (stop_addresses m) left s) none e; events = refl; stands = inl (record { position = refl; events = rw e refl }) }
+wants-before_moving m aim limit left (Halted (At place d)) s output now none e =
+    record { image = refl; limit = refl; rest = run (stop_addresses m) left s; passed = passes-unanswered m aim (Halted (At place d)) output now (run (stop_addresses m) left s) none e; events = rw e refl; stands = inl (record { position = refl; events = refl }) }
+wants-before_moving m aim limit left (Halted (Exited status)) s output now none e = absurd (cc)
+wants-before_moving m aim limit left (Halted Depth) s output now none e = absurd (cc)
+wants-before_moving m aim limit left (Halted (Fault address)) s output now none e = absurd (cc)
+wants-before_moving m aim limit left (Halted Limit) s output now none e = absurd (cc)
+
+-- A run that wanted memory on its way stands behind the output that it had room for.
+pub wants-on_its_way : (m : Form) (aim : Aim) (limit left more : ℕ) (w : Standing) (s t : State) (output now : List ℕ)
+    → PassesBy m aim (unanswered w output (run (stop_addresses m) left s)) now (run (stop_addresses m) more t) → ROOM ≤ length now
+    → Wants aim (run_state m limit left w s output) (run_state m limit more UnderWay t now)
+wants-on_its_way m aim limit left more w s t output now p full =
+    record { image = refl; limit = refl; rest = run (stop_addresses m) more t; passed = p; events = refl; stands = inr (refl, full) }
 
 -- what holds anyway holds of an error
 pub on_err-always : {T E : Type 0} (r : Result T E) (P : Type 0) → P → OnErr r P

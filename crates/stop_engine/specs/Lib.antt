@@ -1,7 +1,11 @@
 pub mod Run
 pub mod Reading
 pub mod Transcript
-pub mod Plain
+pub mod Breaks
+pub mod MarkTable
+pub mod Marking
+pub mod Passing
+pub mod Stopping
 pub mod Halting
 pub mod Standing
 pub mod StopTable

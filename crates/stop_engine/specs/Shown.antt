@@ -11,7 +11,15 @@ use Rattle.rv_machine.specs.State.{State}
 use Rattle.stop_engine.specs.Frames.{frame_lines}
 use Rattle.stop_engine.specs.Reading.{frames}
 use Rattle.stop_engine.specs.Rows.{held_text, row_line}
-use Rattle.stop_engine.specs.Transcript.{row_of}
+
+-- the row of a place for a variable of a name
+abbrev pub is_row_of : Form → (place : ℕ) → (name : List ℕ) → VisibleRow → Bool
+is_row_of m place name r = r.place == place && bytes_eq (variable_name m r.variable) name
+
+-- the first such row
+abbrev pub row_of : Form → (place : ℕ) → (name : List ℕ) → List VisibleRow → Option VisibleRow
+row_of m place name [] = None
+row_of m place name (r ∷ rows) = if is_row_of m place name r then Some r else row_of m place name rows
 
 -- the byte of the text at which a place begins
 abbrev pub position_of_place : Form → ℕ → ℕ

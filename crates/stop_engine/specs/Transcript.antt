@@ -1,21 +1,18 @@
 -- The transcript of a script over an image: its lines are made of the image and of the events of its run alone.
-use Rattle.std.specs.Prelude.{ℕ, ◌==◌, ℤ, Bool, ◌&&◌, if◌then◌else◌, bytes_eq, Option, Some, None, List, [], ◌∷◌, ◌++◌, slice_get}
+use Rattle.std.specs.Prelude.{ℕ, ◌==◌, ℤ, Bool, true, false, if◌then◌else◌, List, [], ◌∷◌, ◌++◌}
 use Rattle.std.specs.Option.{option_map_or}
-use Rattle.std.specs.List.{flat_map}
+use Rattle.std.specs.List.{flat_map, list_any}
 use Rattle.image_form.specs.Form.{Form, numbered}
-use Rattle.image_form.specs.Names.{function_name, variable_name}
+use Rattle.image_form.specs.Names.{function_name}
 use Rattle.image_form.specs.declared.tables.Place.{Place}
-use Rattle.image_form.specs.declared.variables.Storage.{Storage}
-use Rattle.image_form.specs.declared.variables.Storage.TheVariants.{Static, Frame, Register, Slot}
-use Rattle.image_form.specs.declared.variables.Variable.{Variable}
-use Rattle.image_form.specs.declared.verdicts.VisibleRow.{VisibleRow}
 use Rattle.rv_machine.specs.State.{State}
 use Rattle.rv_machine.specs.Run.{MachineEvent, Byte, Arrival, Exit, TooDeep, Faulted}
-use Rattle.line_form.specs.Decimal.{signed_decimal}
-use Rattle.line_form.specs.Lines.{line, out_lines, stop_line, exit_line, depth_line, fault_line, limit_line, value_line, nothing_here_line, no_stop_line}
-use Rattle.thin_script.specs.Script.{Order, Step, Print}
+use Rattle.line_form.specs.Lines.{line, out_lines, stop_line, exit_line, depth_line, fault_line, limit_line, no_stop_line, break_line, no_place_line, no_function_line}
+use Rattle.script_form.specs.Script.{Order, Break, Step, Continue, Print, Locals, Where, Quit, Mark, OnLine, InFunction}
 use Rattle.stop_engine.specs.Run.{image_run}
-use Rattle.stop_engine.specs.Reading.{place_at, depth, slot_word, int_of_word}
+use Rattle.stop_engine.specs.Reading.{place_at, depth}
+use Rattle.stop_engine.specs.Breaks.{break_places}
+use Rattle.stop_engine.specs.Shown.{name_line, locals_lines, where_lines}
 
 -- why a run is over: it exited with a status, its calls nested too deep, it faulted at an address, or its instructions are used up
 pub data Ending : Type 0 where
@@ -30,7 +27,25 @@ pub data Position : Type 0 where
   Standing : State → Position
   Over : Ending → Position
 
--- what a run to the next stop gives: the output before it, where it stands then, and the events that are left
+-- where a run is to halt: at any stop, or at one of these places
+pub data Aim : Type 0 where
+  AnyStop : Aim
+  OneOf : List ℕ → Aim
+
+-- whether a place is one of some
+abbrev pub is_among : List ℕ → (place : ℕ) → Bool
+is_among places place = list_any (λ p. p == place) places
+
+-- whether a run with this aim halts at a stop, by its place
+abbrev pub aims_at : Aim → (place : ℕ) → Bool
+aims_at AnyStop place = true
+aims_at (OneOf places) place = is_among places place
+
+-- whether it halts where it arrives at a stop in this state
+abbrev pub is_aim : Form → Aim → State → Bool
+is_aim m aim s = option_map_or (aims_at aim) (place_at m s.pc) false
+
+-- what a run to a halt gives: the output before it, where it stands then, and the events that are left
 pub record Reach : Type 0 where
   pub output : List ℕ
   pub position : Position
@@ -39,38 +54,20 @@ pub record Reach : Type 0 where
 abbrev pub with_output : ℕ → Reach → Reach
 with_output byte r = record r { output = byte ∷ r.output }
 
--- from these events to the next stop or ending; where none is left, the instructions are used up
-abbrev pub reached : List MachineEvent → Reach
-reached [] = record { output = []; position = Over Limit; rest = [] }
-reached (Byte b ∷ events) = with_output b (reached events)
-reached (Arrival s ∷ events) = record { output = []; position = Standing s; rest = events }
-reached (Exit v ∷ events) = record { output = []; position = Over (Exits v); rest = events }
-reached (TooDeep ∷ events) = record { output = []; position = Over NestsTooDeep; rest = events }
-reached (Faulted a ∷ events) = record { output = []; position = Over (Faults a); rest = events }
+-- From these events to the next stop of the aim or to the ending. Other stops are passed by; where no event is left, the instructions are used up.
+abbrev pub reached : Form → Aim → List MachineEvent → Reach
+reached m aim [] = record { output = []; position = Over Limit; rest = [] }
+reached m aim (Byte b ∷ events) = with_output b (reached m aim events)
+reached m aim (Arrival s ∷ events) = if is_aim m aim s then (record { output = []; position = Standing s; rest = events }) else reached m aim events
+reached m aim (Exit v ∷ events) = record { output = []; position = Over (Exits v); rest = events }
+reached m aim (TooDeep ∷ events) = record { output = []; position = Over NestsTooDeep; rest = events }
+reached m aim (Faulted a ∷ events) = record { output = []; position = Over (Faults a); rest = events }
 
--- the value that the home of a variable holds, as text; so far each home is a slot that holds an int
-abbrev pub home_text : State → Storage → List ℕ
-home_text s (Slot offset) = signed_decimal (int_of_word (slot_word s offset))
-home_text s (Register number) = []
-home_text s (Frame offset) = []
-home_text s (Static address) = []
-
--- what is shown of a visible variable
-abbrev pub shown_text : Form → State → ℕ → List ℕ
-shown_text m s variable = option_map_or (λ (v : Variable). home_text s v.storage) (slice_get m.variables variable) []
-
--- the row of a place for a variable of a name
-abbrev pub is_row_of : Form → (place : ℕ) → (name : List ℕ) → VisibleRow → Bool
-is_row_of m place name r = r.place == place && bytes_eq (variable_name m r.variable) name
-
--- the first such row
-abbrev pub row_of : Form → (place : ℕ) → (name : List ℕ) → List VisibleRow → Option VisibleRow
-row_of m place name [] = None
-row_of m place name (r ∷ rows) = if is_row_of m place name r then Some r else row_of m place name rows
-
--- what `print NAME` says at a place
-abbrev pub printed_line : Form → State → (place : ℕ) → (name : List ℕ) → List ℕ
-printed_line m s place name = option_map_or (λ (r : VisibleRow). value_line name (shown_text m s r.variable)) (row_of m place name m.rows) (nothing_here_line name)
+-- A run goes on from where the session stands. Behind an ending nothing runs any more, and the ending is said again.
+abbrev pub ran : Form → Aim → Position → List MachineEvent → Reach
+ran m aim Fresh events = reached m aim events
+ran m aim (Standing s) events = reached m aim events
+ran m aim (Over e) events = record { output = []; position = Over e; rest = events }
 
 -- the line of a stop at a place
 abbrev pub place_line : Form → State → ℕ → List ℕ
@@ -89,32 +86,82 @@ position_line m limit Fresh = no_stop_line
 position_line m limit (Standing s) = option_map_or (place_line m s) (place_at m s.pc) []
 position_line m limit (Over e) = ending_line limit e
 
--- `print NAME` where the session stands
-abbrev pub print_line : Form → Position → (name : List ℕ) → List ℕ
-print_line m Fresh name = no_stop_line
-print_line m (Standing s) name = option_map_or (λ number. printed_line m s number name) (place_at m s.pc) []
-print_line m (Over e) name = no_stop_line
+-- the lines of a run: the output before the stop or ending, and where the session then stands
+abbrev pub run_lines : Form → (limit : ℕ) → Reach → List (List ℕ)
+run_lines m limit r = out_lines r.output ++ position_line m limit r.position ∷ []
 
--- `step` runs to the next stop or ending. Behind an ending nothing runs any more, and the ending is said again.
-abbrev pub stepped : Position → List MachineEvent → Reach
-stepped Fresh events = reached events
-stepped (Standing s) events = reached events
-stepped (Over e) events = record { output = []; position = Over e; rest = events }
+-- what `break` says where it finds no place
+abbrev pub nothing_to_mark : Mark → List ℕ
+nothing_to_mark (OnLine n) = no_place_line n
+nothing_to_mark (InFunction name) = no_function_line name
 
--- the lines of a step: the output before the stop or ending, and where the session then stands
-abbrev pub step_lines : Form → (limit : ℕ) → Reach → List (List ℕ)
-step_lines m limit r = out_lines r.output ++ position_line m limit r.position ∷ []
+-- what `break` says: the places that it marks
+abbrev pub marked_line : Mark → (places : List ℕ) → List ℕ
+marked_line mark [] = nothing_to_mark mark
+marked_line mark (place ∷ places) = break_line (place ∷ places)
 
--- the lines of orders, from where the session stands and the events that are left
-abbrev pub lines_from : Form → (limit : ℕ) → Position → List MachineEvent → List Order → List (List ℕ)
-lines_from m limit position events [] = []
-lines_from m limit position events (Step ∷ orders) =
-    step_lines m limit (stepped position events) ++ lines_from m limit (stepped position events).position (stepped position events).rest orders
-lines_from m limit position events (Print name ∷ orders) = print_line m position name ∷ lines_from m limit position events orders
+-- what is said of a stop, by the state and the place; where the session stands at none, that is said
+abbrev pub at_stop : Form → Position → (State → ℕ → List (List ℕ)) → List (List ℕ)
+at_stop m Fresh said = no_stop_line ∷ []
+at_stop m (Standing s) said = option_map_or (said s) (place_at m s.pc) []
+at_stop m (Over e) said = no_stop_line ∷ []
+
+-- A session: the places that are marked, where it stands, and the events that are left.
+pub record Session : Type 0 where
+  pub marks : List ℕ
+  pub position : Position
+  pub events : List MachineEvent
+
+-- the run that an order makes
+abbrev pub run_of : Form → Session → Aim → Reach
+run_of m s aim = ran m aim s.position s.events
+
+-- the lines of an order
+abbrev pub said : Form → (limit : ℕ) → Session → Order → List (List ℕ)
+said m limit s (Break mark) = marked_line mark (break_places m mark) ∷ []
+said m limit s Step = run_lines m limit (run_of m s AnyStop)
+said m limit s Continue = run_lines m limit (run_of m s (OneOf s.marks))
+said m limit s (Print name) = at_stop m s.position (λ state place. name_line m state place name ∷ [])
+said m limit s Locals = at_stop m s.position (locals_lines m)
+said m limit s Where = at_stop m s.position (where_lines m)
+said m limit s Quit = []
+
+-- the session behind a run
+abbrev pub behind : Session → Reach → Session
+behind s r = record { marks = s.marks; position = r.position; events = r.rest }
+
+-- the session behind an order
+abbrev pub after : Form → Session → Order → Session
+after m s (Break mark) = record s { marks = s.marks ++ break_places m mark }
+after m s Step = behind s (run_of m s AnyStop)
+after m s Continue = behind s (run_of m s (OneOf s.marks))
+after m s (Print name) = s
+after m s Locals = s
+after m s Where = s
+after m s Quit = s
+
+-- `quit` ends a session
+abbrev pub is_quit : Order → Bool
+is_quit (Break mark) = false
+is_quit Step = false
+is_quit Continue = false
+is_quit (Print name) = false
+is_quit Locals = false
+is_quit Where = false
+is_quit Quit = true
+
+-- the lines of orders, one after the other; what comes behind `quit` is not answered
+abbrev pub lines_from : Form → (limit : ℕ) → Session → List Order → List (List ℕ)
+lines_from m limit s [] = []
+lines_from m limit s (o ∷ orders) = said m limit s o ++ (if is_quit o then [] else lines_from m limit (after m s o) orders)
+
+-- a session before its first order: nothing is marked, and nothing of the image has run
+abbrev pub fresh_session : Form → (input : List ℕ) → (limit : ℕ) → Session
+fresh_session m input limit = record { marks = []; position = Fresh; events = image_run m input limit }
 
 -- the lines of a script over an image, with an input and a limit on the instructions
 abbrev pub transcript : Form → List Order → (input : List ℕ) → (limit : ℕ) → List (List ℕ)
-transcript m orders input limit = lines_from m limit Fresh (image_run m input limit) orders
+transcript m orders input limit = lines_from m limit (fresh_session m input limit) orders
 
 -- its bytes: each line with its end
 abbrev pub transcript_bytes : Form → List Order → (input : List ℕ) → (limit : ℕ) → List ℕ

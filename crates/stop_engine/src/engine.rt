@@ -1,125 +1,91 @@
 //! The engine of a session.
 
-ghost use Rattle.std.specs.Prelude.{◌≡◌, ◌≤◌, ◌^◌, ◌<◌, ◌++◌, ◌⊎◌, [], ◌∷◌, Some, IfOk, OnOk, OnErr, length, map};
+ghost use Rattle.std.specs.Prelude.{◌≡◌, IfOk, OnOk, OnErr, ◌⊎◌, false, [], ◌∷◌, map, length, ◌+◌};
 ghost use Rattle.image_form.specs.Form.{form};
 ghost use Rattle.image_form.specs.Rules.{IsImage};
-ghost use Rattle.rv_machine.specs.Run.{MachineEvent};
-ghost use Rattle.thin_script.specs.Script.{order_of};
-ghost use Rattle.stop_engine.specs.EngineState.{Answers, HasStepped, LeavesOff, Wants, fresh_engine};
-ghost use Rattle.stop_engine.specs.Halting.{byte_events, halt_at};
-ghost use Rattle.stop_engine.specs.Standing.{ending_of, not_answered};
-ghost use Rattle.stop_engine.specs.Plain.{IsPlain};
-ghost use Rattle.stop_engine.specs.Sight.{sight, sight_line, sight_of};
-ghost use Rattle.stop_engine.specs.Transcript.{print_line, step_lines, stepped};
+ghost use Rattle.script_form.specs.Script.{mark, order_of};
+ghost use Rattle.line_form.specs.Lines.{no_stop_line};
+ghost use Rattle.stop_engine.specs.Breaks.{break_places};
+ghost use Rattle.stop_engine.specs.EngineState.{Answers, HasMarked, HasRun, LeavesOff, Wants, fresh_engine};
+ghost use Rattle.stop_engine.specs.Halting.{halt_at};
+ghost use Rattle.stop_engine.specs.Marking.{aim_of};
+ghost use Rattle.stop_engine.specs.Shown.{locals_lines, name_line, where_lines};
+ghost use Rattle.stop_engine.specs.Transcript.{at_stop, marked_line, ran, run_lines};
 
-use crate::course::{ROOM, run_on};
-use crate::halt::{Halt, Standing};
-use crate::lines::{halt_line, shown_line};
-use crate::names::visible_variable;
-use crate::reading::value_text;
-use crate::shown::Shown;
-use crate::stop_table::StopTable;
+use crate::breaks::{break_places, marked_line};
+use crate::halt::Halt;
+use crate::lines::halt_line;
+use crate::rows::flow_table;
+use crate::run::Run;
+use crate::stops::{Marks, Stops};
+use crate::views::{locals_lines, name_line, where_lines};
 use image_form::Image;
-use line_form::out_lines;
-use rv_machine::machine::Machine;
+use line_form::{no_stop_line, out_lines};
+use places::FlowTable;
+use script_form::{Command, Target};
 use std::alloc::{AllocError, Global};
 use std::marker::Model;
-use thin_script::Command;
 
-/// A run of an image from stop to stop, and what is seen where it stands.
+/// A run of an image from halt to halt, what is seen where it stands, and the answers to the commands of a script.
 #[derive(Drop)]
 pub struct Engine<'a> {
-    stops: StopTable<'a>,
-    machine: Machine,
-    limit: u64,
-    /// How many instructions the run may still have.
-    left: u64,
-    standing: Standing,
-    output: Vec<u8>,
+    run: Run<'a>,
+    flow: FlowTable,
+    marks: Marks,
+    has_quit: bool,
 }
 
 impl<'a> Model for Engine<'a> {
-    ghost use Rattle.image_form.specs.Rules.{IsImage};
-    ghost use Rattle.stop_engine.specs.EngineState.{EngineState, engine_state};
-    ghost use Rattle.stop_engine.specs.Standing.{IsStanding};
-    ghost use Rattle.stop_engine.specs.Plain.{IsPlain};
+    ghost use Rattle.std.specs.Prelude.{◌≡◌, ◌+◌, length};
+    ghost use Rattle.places.specs.Flow.{AreInOrder};
+    ghost use Rattle.stop_engine.specs.EngineState.{EngineState};
+    ghost use Rattle.stop_engine.specs.Rows.{IsFlowOf};
 
     ghost Value = { EngineState };
 
-    ghost view = { λ e. engine_state e.stops e.limit e.left e.standing e.machine e.output.items };
+    ghost view = { λ e. record { run = e.run; marks = e.marks.places; has_quit = e.has_quit } };
 
-    ghost invariant = { λ e. IsImage e.stops × IsPlain e.stops × IsStanding e.stops e.standing e.machine };
+    ghost invariant = { λ e. IsFlowOf e.run.form e.flow × AreInOrder e.flow.steps.items × (e.marks.bound ≡ length e.run.form.places + 1) };
 }
 
 impl<'a> Engine<'a> {
     /// The engine of an image, before the first instruction of a run on this input, of at most `limit` instructions. `AllocError` where
-    /// memory for the machine or for the table of stops was refused.
+    /// memory for the machine or for a table of the image was refused.
     pub fn new(
         alloc: Global,
         image: &'a Image,
         input: &[u8],
         limit: u64,
     ) -> Result<Engine<'a>, AllocError>
-        requires image { IsImage (form image.now) }
-        requires plain { IsPlain (form image.now) }
+        requires { IsImage (form image.now) }
         ensures { IfOk result (λ engine. engine ≡ fresh_engine (form image.now) input.now limit) }
     {
         Ok(Engine {
-            stops: StopTable::new(alloc, image)?,
-            machine: Machine::load(alloc, &image.code, &image.initial, input)?,
-            limit,
-            left: limit,
-            standing: Standing::Fresh,
-            output: Vec::new(alloc),
+            run: Run::new(alloc, image, input, limit)?,
+            flow: flow_table(alloc, image)?,
+            marks: Marks::new(alloc, image.places.len() + 1)?,
+            has_quit: false,
         })
     }
 
-    /// Runs to the next stop or ending, and says where it halted. At least one instruction is executed before a stop; behind an ending
-    /// nothing runs any more, and the ending is answered again. `AllocError` where memory for 65,536 more bytes of output was refused:
-    /// no event is lost, and a later call goes on.
-    pub fn run_to_stop(&mut self) -> Result<Halt, AllocError>
-        ensures stepped { OnOk result (HasStepped self.old self.new) }
-        ensures halt { IfOk result (λ halt. halt_at self.new.form self.new.position ≡ Some halt) }
-        ensures wanting { OnErr result (Wants self.old self.new) }
+    /// Runs to the next of these stops or to the ending, and says where it halted. At least one instruction is executed before a stop;
+    /// behind an ending nothing runs any more, and the ending is answered again. `AllocError` where memory for 65,536 more bytes of
+    /// output was refused: no event is lost, and a later call goes on.
+    pub fn run_to(&mut self, stops: &Stops) -> Result<Halt, AllocError>
+        ensures ran { OnOk result (HasRun (aim_of stops.now) self.old.run self.new.run) }
+        ensures halt { IfOk result (λ halt. halt_at self.new.run.form self.new.run.position ≡ Some halt) }
+        ensures wanting { OnErr result (Wants (aim_of stops.now) self.old.run self.new.run) }
+        ensures marks { self.new.marks ≡ self.old.marks }
+        ensures quit { self.new.has_quit ≡ self.old.has_quit }
     {
-        forget_answered(self.standing, &mut self.output);
-        if let Some(ending) = ending_of(self.standing) {
-            return Ok(ending);
-        }
-        self.output.reserve(ROOM)?;
-        self.standing = Standing::UnderWay;
-        let halt = run_on(
-            &self.stops,
-            &mut self.machine,
-            &mut self.left,
-            &mut self.output,
-        )?;
-        self.standing = Standing::Halted(halt);
-        Ok(halt)
+        self.run.run_to(stops)
     }
 
-    /// The output of the last run to a stop, with that of the runs directly before it that wanted memory.
+    /// The output of the last run, with that of the runs directly before it that wanted memory.
     pub fn taken(&self) -> &[u8]
-        ensures { result.now ≡ self.now.output }
+        ensures { result.now ≡ self.now.run.output }
     {
-        &self.output
-    }
-
-    /// What is shown of a name where the session stands: nothing at no stop, nothing where no variable of the name is visible at the place,
-    /// else the value of the first that is. `AllocError` where memory for the text was refused.
-    pub fn show(&self, alloc: Global, name: &str) -> Result<Shown, AllocError>
-        ensures seen { IfOk result (λ shown. sight_of shown ≡ sight self.now.form self.now.position name.now) }
-        ensures printed { IfOk result (λ shown. sight_line name.now (sight_of shown) ≡ print_line self.now.form self.now.position name.now) }
-    {
-        let Standing::Halted(Halt::At { place, .. }) = self.standing else {
-            return Ok(Shown::NoStop);
-        };
-        let image = self.stops.image();
-        let Some(variable) = visible_variable(image, place, name.as_bytes()) else {
-            return Ok(Shown::NoName);
-        };
-        let text = value_text(alloc, image, &self.machine, variable as usize)?;
-        Ok(Shown::Value(text))
+        self.run.taken()
     }
 
     /// The lines that a command of a script prints, as texts without their ends. `AllocError` where memory for the output or for a line
@@ -128,46 +94,92 @@ impl<'a> Engine<'a> {
         ensures answered { IfOk result (λ lines. Answers self.old self.new (order_of command.now) (map (λ line. line.items) lines.items)) }
         ensures wanting { OnErr result (LeavesOff self.old self.new) }
     {
+        if self.has_quit {
+            return Ok(Vec::new(alloc));
+        }
         match command {
-            Command::Step => Ok(self.step(alloc)?),
-            Command::Print(name) => {
-                let shown = self.show(alloc, name)?;
-                let line = shown_line(alloc, name.as_bytes(), &shown)?;
-                Ok(vec![in alloc; line]?)
+            Command::Break(target) => self.set_marks(alloc, target),
+            Command::Step => run_lines(alloc, &mut self.run, &Stops::Any),
+            Command::Continue => run_lines(alloc, &mut self.run, &Stops::At(&self.marks)),
+            Command::Print(name) => self.print(alloc, name.as_bytes()),
+            Command::Locals => self.locals(alloc),
+            Command::Where => self.frames(alloc),
+            Command::Quit => {
+                self.has_quit = true;
+                Ok(Vec::new(alloc))
             }
         }
     }
 
-    /// The lines of a step: the output before the stop or ending, and where the session then stands.
-    fn step(&mut self, alloc: Global) -> Result<Vec<Vec<u8>>, AllocError>
-        ensures stepped { OnOk result (HasStepped self.old self.new) }
-        ensures lines { IfOk result (λ lines. map (λ line. line.items) lines.items
-            ≡ step_lines self.old.form self.old.limit (stepped self.old.position self.old.events)) }
-        ensures wanting { OnErr result (LeavesOff self.old self.new) }
+    /// Marks what `break` names, and says which places these are.
+    fn set_marks(&mut self, alloc: Global, target: &Target) -> Result<Vec<Vec<u8>>, AllocError>
+        ensures marked { OnOk result (HasMarked (mark target.now) self.old self.new) }
+        ensures lines { IfOk result (λ lines. map (λ line. line.items) lines.items ≡ marked_line (mark target.now) (break_places self.old.run.form (mark target.now)) ∷ []) }
+        ensures kept { OnErr result (self.new ≡ self.old) }
     {
-        let halt = self.run_to_stop()?;
-        let mut lines = out_lines(alloc, &self.output)?;
-        lines.push(halt_line(alloc, self.stops.image(), self.limit, halt)?)?;
+        let places = break_places(alloc, self.run.table(), target)?;
+        let line = marked_line(alloc, target, &places)?;
+        let lines = vec![in alloc; line]?;
+        self.marks.mark_all(&places);
         Ok(lines)
     }
-}
 
-/// The halt of a session that is over, at which nothing runs any more.
-fn ending_of(standing: Standing) -> Option<Halt>
-    ensures { result ≡ ending_of standing }
-{
-    match standing {
-        Standing::Fresh | Standing::UnderWay | Standing::Halted(Halt::At { .. }) => None,
-        Standing::Halted(ending) => Some(ending),
+    /// The line of a name where the engine stands.
+    fn print(&self, alloc: Global, name: &[u8]) -> Result<Vec<Vec<u8>>, AllocError>
+        ensures { IfOk result (λ lines. map (λ line. line.items) lines.items
+            ≡ at_stop self.now.run.form self.now.run.position (λ s place. name_line self.now.run.form s place name.now ∷ [])) }
+    {
+        let Some(stop) = self.run.stop() else {
+            return Ok(no_stop(alloc)?);
+        };
+        let line = name_line(alloc, stop.image, stop.machine, &self.flow, stop.place, name)?;
+        Ok(vec![in alloc; line]?)
+    }
+
+    /// The lines of all visible variables where the engine stands.
+    fn locals(&self, alloc: Global) -> Result<Vec<Vec<u8>>, AllocError>
+        ensures { IfOk result (λ lines. map (λ line. line.items) lines.items
+            ≡ at_stop self.now.run.form self.now.run.position (locals_lines self.now.run.form)) }
+    {
+        let Some(stop) = self.run.stop() else {
+            return Ok(no_stop(alloc)?);
+        };
+        Ok(locals_lines(alloc, stop.image, stop.machine, &self.flow, stop.place)?)
+    }
+
+    /// The lines of the activations that are live where the engine stands.
+    fn frames(&self, alloc: Global) -> Result<Vec<Vec<u8>>, AllocError>
+        ensures { IfOk result (λ lines. map (λ line. line.items) lines.items
+            ≡ at_stop self.now.run.form self.now.run.position (where_lines self.now.run.form)) }
+    {
+        let Some(stop) = self.run.stop() else {
+            return Ok(no_stop(alloc)?);
+        };
+        Ok(where_lines(alloc, stop.image, stop.machine, stop.place)?)
     }
 }
 
-/// Forgets the output of a run that was answered, before the next one.
-fn forget_answered(standing: Standing, output: &mut Vec<u8>)
-    ensures { output.new.items ≡ not_answered standing output.old.items }
+/// The one line that says that there is no stop.
+fn no_stop(alloc: Global) -> Result<Vec<Vec<u8>>, AllocError>
+    ensures { IfOk result (λ lines. map (λ line. line.items) lines.items ≡ no_stop_line ∷ []) }
 {
-    match standing {
-        Standing::Fresh | Standing::Halted(_) => output.clear(),
-        Standing::UnderWay => {}
-    }
+    let line = no_stop_line(alloc)?;
+    Ok(vec![in alloc; line]?)
+}
+
+/// Runs to the next of these stops or to the ending. The lines are the output on the way, and where the run then stands.
+fn run_lines(
+    alloc: Global,
+    run: &mut Run,
+    stops: &Stops,
+) -> Result<Vec<Vec<u8>>, AllocError>
+    ensures ran { OnOk result (HasRun (aim_of stops.now) run.old run.new) }
+    ensures lines { IfOk result (λ lines. map (λ line. line.items) lines.items
+        ≡ run_lines run.old.form run.old.limit (ran run.old.form (aim_of stops.now) run.old.position run.old.events)) }
+    ensures wanting { OnErr result (Wants (aim_of stops.now) run.old run.new ⊎ HasRun (aim_of stops.now) run.old run.new) }
+{
+    let halt = run.run_to(stops)?;
+    let mut lines = out_lines(alloc, run.taken())?;
+    lines.push(halt_line(alloc, run.table().image(), run.limit(), halt)?)?;
+    Ok(lines)
 }

@@ -1,6 +1,7 @@
 //! Runs an image from stop to stop, and shows what stands there.
 #![tactic(auto)]
 
+mod breaks;
 mod course;
 mod engine;
 mod frames;
@@ -11,8 +12,10 @@ mod pointers;
 mod reading;
 mod recipes;
 mod rows;
+mod run;
 mod shown;
 mod stop_table;
+mod stops;
 #[cfg(test)]
 mod tests;
 mod values;
@@ -21,3 +24,4 @@ mod views;
 pub use engine::Engine;
 pub use halt::Halt;
 pub use shown::Shown;
+pub use stops::{Marks, Stops};

@@ -4,19 +4,14 @@ ghost use Rattle.std.specs.Prelude.{◌≡◌, IfOk};
 ghost use Rattle.image_form.specs.Form.{form};
 ghost use Rattle.image_form.specs.Rules.{IsImage};
 ghost use Rattle.stop_engine.specs.Halting.{IsHaltOf, halt_line};
-ghost use Rattle.stop_engine.specs.Sight.{sight_line, sight_of};
 
 use crate::halt::Halt;
 use crate::names::function_name;
-use crate::shown::Shown;
 use image_form::Image;
-use line_form::{
-    depth_line, exit_line, fault_line, limit_line, no_stop_line, nothing_here_line, stop_line,
-    value_line,
-};
+use line_form::{depth_line, exit_line, fault_line, limit_line, stop_line};
 use std::alloc::{AllocError, Global};
 
-/// The line that says where a run halted. `AllocError` where memory for the text was refused, as for the other line.
+/// The line that says where a run halted. `AllocError` where memory for the text was refused.
 pub fn halt_line(
     alloc: Global,
     image: &Image,
@@ -37,16 +32,5 @@ pub fn halt_line(
         Halt::Depth => Ok(depth_line(alloc)?),
         Halt::Fault(address) => Ok(fault_line(alloc, address)?),
         Halt::Limit => Ok(limit_line(alloc, limit)?),
-    }
-}
-
-/// The line that says what is shown of a name.
-pub fn shown_line(alloc: Global, name: &[u8], shown: &Shown) -> Result<Vec<u8>, AllocError>
-    ensures { IfOk result (λ text. text.items ≡ sight_line name.now (sight_of shown.now)) }
-{
-    match shown {
-        Shown::NoStop => Ok(no_stop_line(alloc)?),
-        Shown::NoName => Ok(nothing_here_line(alloc, name)?),
-        Shown::Value(text) => Ok(value_line(alloc, name, text)?),
     }
 }

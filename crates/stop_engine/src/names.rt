@@ -1,10 +1,9 @@
 //! The names of an image.
 
-ghost use Rattle.std.specs.Prelude.{◌≡◌, IfSome, option_map, ◌<◌, ◌≤◌, ◌+◌, ◌^◌, length, drop, map, sum, take};
+ghost use Rattle.std.specs.Prelude.{◌≡◌, ◌<◌, ◌≤◌, ◌+◌, ◌^◌, length, drop, map, sum, take};
 ghost use Rattle.image_form.specs.Form.{form};
 ghost use Rattle.image_form.specs.Names.{function_name, pass_name, variable_name};
 ghost use Rattle.image_form.specs.Rules.{IsImage};
-ghost use Rattle.stop_engine.specs.Transcript.{row_of};
 
 use image_form::{Change, Function, Image, Variable};
 
@@ -90,18 +89,4 @@ pub fn pass_name(image: &Image, number: usize) -> &[u8]
         start,
         image.changes[number].pass_length as usize,
     )
-}
-
-/// The number of the variable of a name that is visible at a place, if there is one; of several the one whose row comes first.
-pub fn visible_variable(image: &Image, place: u32, name: &[u8]) -> Option<u32>
-    requires { IsImage (form image.now) }
-    ensures row { result ≡ option_map (λ r. r.variable) (row_of (form image.now) place name.now image.now.rows.items) }
-    ensures variable { IfSome result (λ v. v < length image.now.variables.items) }
-{
-    for row in &image.rows {
-        if row.place == place && variable_name(image, row.variable as usize) == name {
-            return Some(row.variable);
-        }
-    }
-    None
 }

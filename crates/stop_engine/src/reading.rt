@@ -1,16 +1,11 @@
 //! What is read of the machine where a session stands.
 
-ghost use Rattle.std.specs.Prelude.{◌≡◌, ◌<◌, ◌^◌, length, slice_index, IfOk};
-ghost use Rattle.image_form.specs.Form.{form};
+ghost use Rattle.std.specs.Prelude.{◌≡◌, ◌<◌, ◌^◌, slice_index};
 ghost use Rattle.rv_machine.specs.Memory.{word_in};
 ghost use Rattle.rv_machine.specs.State.{reg};
-ghost use Rattle.stop_engine.specs.Plain.{IsPlain};
 ghost use Rattle.stop_engine.specs.Reading.{depth, slot_word};
-ghost use Rattle.stop_engine.specs.Transcript.{shown_text};
 
-use image_form::{Image, Storage};
 use rv_machine::machine::Machine;
-use std::alloc::{AllocError, Global};
 
 /// How many activations may be live.
 const ACTIVATIONS: u32 = 1024;
@@ -79,22 +74,4 @@ pub fn slot_word(machine: &Machine, offset: u32) -> u32
         return 0;
     }
     word_in(machine.stack_from(frame), offset as usize)
-}
-
-/// The value of a variable of the image, as text. `AllocError` where memory for it was refused.
-pub fn value_text(
-    alloc: Global,
-    image: &Image,
-    machine: &Machine,
-    variable: usize,
-) -> Result<Vec<u8>, AllocError>
-    requires plain { IsPlain (form image.now) }
-    requires variable { variable < length image.now.variables.items }
-    ensures { IfOk result (λ text. text.items ≡ shown_text (form image.now) machine.now variable) }
-{
-    let Storage::Slot(offset) = image.variables[variable].storage else {
-        unreachable!()
-    };
-    let value = slot_word(machine, offset).cast_signed();
-    Ok(format!(in alloc; "{value}")?.into_bytes())
 }

@@ -2,14 +2,14 @@
 
 ghost use Rattle.image_form.specs.Form.{form};
 ghost use Rattle.image_form.specs.Rules.{IsImage};
-ghost use Rattle.stop_engine.specs.Plain.{IsPlain};
 
-use crate::{Engine, Halt, Shown};
+use crate::{Engine, Halt, Stops};
 use image_form::Image;
+use script_form::Command;
 use std::alloc::{AllocError, Global};
 use std::process::Abort;
 use std::test::Fail;
-use thin_script::Command;
+
 
 mod images;
 
@@ -40,8 +40,7 @@ fn lines_of(
     limit: u64,
     orders: &[&str],
 ) -> Result<Vec<Vec<u8>>, AllocError>
-    requires image { IsImage (form image.now) }
-    requires plain { IsPlain (form image.now) }
+    requires { IsImage (form image.now) }
 {
     let mut engine = Engine::new(alloc, image, &[], limit)?;
     let mut lines = Vec::new(alloc);
@@ -103,30 +102,15 @@ fn a_run_has_its_own_output(rt: HostRuntime) -> Result<(), Fail> {
     let mut engine = Engine::new(rt.alloc(), &image, &[], 1000)?;
     assert_eq!(rt; engine.taken(), [].as_slice());
     for place in 2..=4 {
-        assert_eq!(rt; engine.run_to_stop()?, Halt::At { place, depth: 1 });
+        assert_eq!(rt; engine.run_to(&Stops::Any)?, Halt::At { place, depth: 1 });
         assert_eq!(rt; engine.taken(), [].as_slice());
     }
-    assert_eq!(rt; engine.run_to_stop()?, Halt::At { place: 5, depth: 1 });
+    assert_eq!(rt; engine.run_to(&Stops::Any)?, Halt::At { place: 5, depth: 1 });
     assert_eq!(rt; engine.taken(), b"A".as_slice());
     for _ in 0..2 {
-        assert_eq!(rt; engine.run_to_stop()?, Halt::Exited(5));
+        assert_eq!(rt; engine.run_to(&Stops::Any)?, Halt::Exited(5));
         assert_eq!(rt; engine.taken(), [].as_slice());
     }
-    Ok(())
-}
-
-#[test]
-fn a_name_is_shown_at_a_stop_alone(rt: HostRuntime) -> Result<(), Fail> {
-    let image = addition_image(rt.alloc())?;
-    let mut engine = Engine::new(rt.alloc(), &image, &[], 1000)?;
-    assert!(rt; matches!(engine.show(rt.alloc(), "x")?, Shown::NoStop));
-    engine.run_to_stop()?;
-    assert!(rt; matches!(engine.show(rt.alloc(), "x")?, Shown::NoName));
-    engine.run_to_stop()?;
-    let Shown::Value(text) = engine.show(rt.alloc(), "x")? else {
-        return Err(Fail::from("x is visible"));
-    };
-    assert_eq!(rt; text.as_slice(), b"2".as_slice());
     Ok(())
 }
 

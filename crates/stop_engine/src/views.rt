@@ -6,8 +6,7 @@ ghost use Rattle.image_form.specs.Rules.{IsImage};
 ghost use Rattle.image_form.specs.RulesOfFunctions.{IsPlaceNumber};
 ghost use Rattle.places.specs.Flow.{AreInOrder};
 ghost use Rattle.stop_engine.specs.Rows.{IsFlowOf, IsRow};
-ghost use Rattle.stop_engine.specs.Shown.{is_static_before, lines_of_rows, locals_lines, name_line, position_of_place, static_of, where_lines};
-ghost use Rattle.stop_engine.specs.Transcript.{row_of};
+ghost use Rattle.stop_engine.specs.Shown.{is_static_before, lines_of_rows, locals_lines, name_line, position_of_place, row_of, static_of, where_lines};
 
 use crate::frames::{frame_lines, frame_places};
 use crate::names::variable_name;

@@ -1,11 +1,7 @@
 use Rattle.std.proofs.Common.{sym, subst}
 use Rattle.image_form.specs.Rules.{IsImage}
-use Rattle.stop_engine.specs.Plain.{IsPlain}
-use Rattle.stop_engine.proofs.AdditionImage.{is_image, is_plain}
+use Rattle.stop_engine.proofs.AdditionImage.{is_image}
 use Rattle.stop_engine.proofs.tests.the_addition_is_followed.Goals as goal
 
-pub lines_of-requires-clause-image : goal.lines_of-requires-clause-image
-lines_of-requires-clause-image g c = subst IsImage (sym c.in_ok-image.ensures) is_image
-
-pub lines_of-requires-clause-plain : goal.lines_of-requires-clause-plain
-lines_of-requires-clause-plain g c = subst IsPlain (sym c.in_ok-image.ensures) is_plain
+pub lines_of-requires : goal.lines_of-requires
+lines_of-requires g c = subst IsImage (sym c.in_ok-image.ensures) is_image

@@ -1,6 +1,6 @@
 use Rattle.std.proofs.Common.{◌≡◌, drop}
 use Rattle.image_form.specs.Form.{form}
-use Rattle.stop_engine.specs.Transcript.{row_of}
+use Rattle.stop_engine.specs.Shown.{row_of}
 use Rattle.stop_engine.proofs.views.visible_row.Given as goal
 
 abbrev pub invariant-loop-row : goal.invariant-loop-row

@@ -1,0 +1,11 @@
+-- Marks of places.
+use Rattle.std.specs.Prelude.{ℕ, ◌+◌, Bool, true, false, List, [], ◌∷◌}
+use Rattle.stop_engine.specs.declared.stops.Stops.{Stops}
+use Rattle.stop_engine.specs.declared.stops.Stops.TheVariants as stops
+use Rattle.stop_engine.specs.MarkTable.{MarkTable}
+use Rattle.stop_engine.specs.Transcript.{Aim, AnyStop, OneOf}
+
+-- what is aimed at
+abbrev pub aim_of : Stops → Aim
+aim_of stops.Any = AnyStop
+aim_of (stops.At marks) = OneOf marks.now.places

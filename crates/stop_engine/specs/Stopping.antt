@@ -1,0 +1,21 @@
+-- The stop at which a run stands.
+use Rattle.std.specs.Prelude.{◌≡◌, Some}
+use Rattle.image_form.specs.Form.{form}
+use Rattle.image_form.specs.Rules.{IsImage}
+use Rattle.stop_engine.specs.declared.run.Stop.{Stop}
+use Rattle.stop_engine.specs.EngineState.{RunState}
+use Rattle.stop_engine.specs.Reading.{place_at}
+use Rattle.stop_engine.specs.Transcript.{Ending, Position, Fresh, Standing, Over}
+
+-- The run stands at this stop, of its image, with the machine in its state.
+pub record IsStopOf (r : RunState) (stop : Stop) : Type 0 where
+  pub image : form stop.image.now ≡ r.form
+  pub valid : IsImage (form stop.image.now)
+  pub position : r.position ≡ Standing stop.machine.now
+  pub place : place_at r.form stop.machine.now.pc ≡ Some stop.place
+
+-- at no stop
+abbrev pub IsAtNoStop : Position → Type 0
+IsAtNoStop Fresh = Unit {0}
+IsAtNoStop (Standing s) = ⊥
+IsAtNoStop (Over e) = Unit {0}
