@@ -1,10 +1,13 @@
 -- The lines of a session, by what its engine answers.
-use Rattle.std.proofs.Common.{◌≡◌, ℕ, ◌+◌, ◌||◌, Bool, true, false, Option, Some, None, List, [], ◌∷◌, ◌++◌, if◌then◌else◌, subst, refl, sym, ap, ◌∙◌, append_assoc, arith}
+use Rattle.std.proofs.Common.{map, ◌≡◌, ℕ, ◌+◌, ◌||◌, Bool, true, false, Option, Some, None, List, [], ◌∷◌, ◌++◌, if◌then◌else◌, subst, refl, sym, ap, ◌∙◌, append_assoc, arith}
+use Rattle.std.specs.Prelude.{Vec}
+use Rattle.std.specs.Global.{Global}
+use Rattle.std.proofs.lemmas.List.{map-append}
 use Rattle.std.specs.Option.{option_map_or}
 use Rattle.std.proofs.lemmas.Option.{slice_get_within}
 use Rattle.image_form.specs.Form.{Form, form}
 use Rattle.image_form.specs.RulesOfFunctions.{IsPlaceNumber}
-use Rattle.line_form.specs.Lines.{no_stop_line}
+use Rattle.line_form.specs.Lines.{no_stop_line, out_lines}
 use Rattle.rv_machine.specs.Run.{MachineEvent, Byte, Arrival, Exit, TooDeep, Faulted}
 use Rattle.rv_machine.specs.State.{State}
 use Rattle.script_form.specs.Script.{Order, Break, Step, Continue, Print, Locals, Where, Quit, Mark}
@@ -60,14 +63,32 @@ halt_at-says m limit (Standing s) h e = by_place (place_at m s.pc) refl
         let same : At k (depth s) ≡ h = cc in
         subst (SaysPosition m limit (Standing s)) same (record { place = place_at-number m s.pc k at_pc; line = rw at_pc refl })
 
--- ---- What is said at a stop
+-- a run that stands at a place stands where it begins
+pub standing-place : (m : Form) (s : State) (place d : ℕ) → halt_at m (Standing s) ≡ Some (At place d) → place_at m s.pc ≡ Some place
+standing-place m s place d e = by_place (place_at m s.pc) refl
+  where
+    by_place : (o : Option ℕ) → place_at m s.pc ≡ o → place_at m s.pc ≡ Some place
+    by_place None at_pc = absurd (let none : halt_at m (Standing s) ≡ None = rw at_pc refl in cc)
+    by_place (Some k) at_pc =
+        let here : halt_at m (Standing s) ≡ Some (At k (depth s)) = rw at_pc refl in
+        let same : At k (depth s) ≡ At place d = cc in
+        let number : k ≡ place = cc in
+        at_pc ∙ ap Some number
 
--- the place of a stop is one of its image
-pub stop-number : (r : RunState) (stop : Stop) → IsStopOf r stop → IsPlaceNumber (form stop.image.now) stop.place
-stop-number r stop is = subst (λ m. IsPlaceNumber m stop.place) (sym is.image) (place_at-number r.form stop.machine.now.pc stop.place is.place)
+-- ---- What is said at a stop
 
 pub at_stop-said : (r : RunState) (stop : Stop) (say : State → ℕ → List (List ℕ)) (lines : List (List ℕ)) → IsStopOf r stop → lines ≡ say stop.machine.now stop.place → lines ≡ at_stop r.form r.position say
 at_stop-said r stop say lines is e = rw (is.position, is.place) e
+
+-- the lines of a run, by what its halt says
+pub lines-of_run : (old new : RunState) (aim : Aim) (halt : Halt) (out : List ℕ) (lines all : List (Vec ℕ Global)) (line : Vec ℕ Global) → HasRun aim old new → halt_at new.form new.position ≡ Some halt
+    → out ≡ new.output → map (λ (v : Vec ℕ Global). v.items) lines ≡ out_lines out → line.items ≡ halt_line new.form new.limit halt → all ≡ lines ++ line ∷ []
+    → map (λ (v : Vec ℕ Global). v.items) all ≡ run_lines old.form old.limit (ran old.form aim old.position old.events)
+lines-of_run old new aim halt out lines all line h at taken outs last pushed =
+    let says = halt_at-says new.form new.limit new.position halt at in
+    let same : position_line new.form new.limit new.position ≡ position_line old.form old.limit new.position = rw (h.image, h.limit) refl in
+    ap (map (λ (v : Vec ℕ Global). v.items)) pushed ∙ (map-append (λ (v : Vec ℕ Global). v.items) lines (line ∷ [])
+    ∙ (ap (λ l. l ++ line.items ∷ []) (outs ∙ ap out_lines taken) ∙ (ap (λ x. out_lines new.output ++ x ∷ []) (last ∙ (says.line ∙ same)) ∙ ap (run_lines old.form old.limit) (sym h.reach))))
 
 pub at_stop-none : (m : Form) (p : Position) (say : State → ℕ → List (List ℕ)) → IsAtNoStop p → no_stop_line ∷ [] ≡ at_stop m p say
 at_stop-none m Fresh say none = refl
@@ -143,38 +164,38 @@ pub answers-closed : (e : EngineState) (o : Order) → e.has_quit ≡ true → A
 answers-closed e o quit more = rw quit refl
 
 pub answers-quit : (e f : EngineState) → e.has_quit ≡ false → f.has_quit ≡ true → Answers e f Quit []
-answers-quit e f open quit more = rw (open, quit) refl
+answers-quit e f unquit quit more = rw (unquit, quit) refl
 
 pub answers-print : (e : EngineState) (name : List ℕ) (lines : List (List ℕ)) → e.has_quit ≡ false → lines ≡ said e.run.form e.run.limit (session_of e) (Print name) → Answers e e (Print name) lines
-answers-print e name lines open is more = rw (open, is) refl
+answers-print e name lines unquit is more = rw (unquit, is) refl
 
 pub answers-locals : (e : EngineState) (lines : List (List ℕ)) → e.has_quit ≡ false → lines ≡ said e.run.form e.run.limit (session_of e) Locals → Answers e e Locals lines
-answers-locals e lines open is more = rw (open, is) refl
+answers-locals e lines unquit is more = rw (unquit, is) refl
 
 pub answers-where : (e : EngineState) (lines : List (List ℕ)) → e.has_quit ≡ false → lines ≡ said e.run.form e.run.limit (session_of e) Where → Answers e e Where lines
-answers-where e lines open is more = rw (open, is) refl
+answers-where e lines unquit is more = rw (unquit, is) refl
 
 -- the rest is said from where a run leads
 behind-run : (e : EngineState) (run : RunState) (aim : Aim) (more : List Order) → e.has_quit ≡ false → HasRun aim e.run run
     → lines_from e.run.form e.run.limit (record { marks = e.marks; position = (ran e.run.form aim e.run.position e.run.events).position; events = (ran e.run.form aim e.run.position e.run.events).rest }) more ≡ lines_of (with_run e run) more
-behind-run e run aim more open h = rw (open, h.image, h.limit, h.reach) refl
+behind-run e run aim more unquit h = rw (unquit, h.image, h.limit, h.reach) refl
 
 pub answers-step : (e : EngineState) (run : RunState) (lines : List (List ℕ)) → e.has_quit ≡ false → HasRun AnyStop e.run run
     → lines ≡ run_lines e.run.form e.run.limit (ran e.run.form AnyStop e.run.position e.run.events) → Answers e (with_run e run) Step lines
-answers-step e run lines open h is more =
-    ap (λ b. if b then [] else lines_from e.run.form e.run.limit (session_of e) (Step ∷ more)) open
-    ∙ (ap (λ l. l ++ lines_from e.run.form e.run.limit (after e.run.form (session_of e) Step) more) (sym is) ∙ ap (λ l. lines ++ l) (behind-run e run AnyStop more open h))
+answers-step e run lines unquit h is more =
+    ap (λ b. if b then [] else lines_from e.run.form e.run.limit (session_of e) (Step ∷ more)) unquit
+    ∙ (ap (λ l. l ++ lines_from e.run.form e.run.limit (after e.run.form (session_of e) Step) more) (sym is) ∙ ap (λ l. lines ++ l) (behind-run e run AnyStop more unquit h))
 
 pub answers-continue : (e : EngineState) (run : RunState) (lines : List (List ℕ)) → e.has_quit ≡ false → HasRun (OneOf e.marks) e.run run
     → lines ≡ run_lines e.run.form e.run.limit (ran e.run.form (OneOf e.marks) e.run.position e.run.events) → Answers e (with_run e run) Continue lines
-answers-continue e run lines open h is more =
-    ap (λ b. if b then [] else lines_from e.run.form e.run.limit (session_of e) (Continue ∷ more)) open
-    ∙ (ap (λ l. l ++ lines_from e.run.form e.run.limit (after e.run.form (session_of e) Continue) more) (sym is) ∙ ap (λ l. lines ++ l) (behind-run e run (OneOf e.marks) more open h))
+answers-continue e run lines unquit h is more =
+    ap (λ b. if b then [] else lines_from e.run.form e.run.limit (session_of e) (Continue ∷ more)) unquit
+    ∙ (ap (λ l. l ++ lines_from e.run.form e.run.limit (after e.run.form (session_of e) Continue) more) (sym is) ∙ ap (λ l. lines ++ l) (behind-run e run (OneOf e.marks) more unquit h))
 
 pub answers-break : (e f : EngineState) (mark : Mark) (lines : List (List ℕ)) → e.has_quit ≡ false → HasMarked mark e f
     → lines ≡ marked_line mark (break_places e.run.form mark) ∷ [] → Answers e f (Break mark) lines
-answers-break e f mark lines open h is more =
+answers-break e f mark lines unquit h is more =
     let rest = lines-same e.run.form e.run.limit (after e.run.form (session_of e) (Break mark)) (session_of f) more (record { marks = λ place. sym (h.marks place); position = ap (λ (r : RunState). r.position) (sym h.run); events = ap (λ (r : RunState). r.events) (sym h.run) }) in
-    let there : lines_of f more ≡ lines_from e.run.form e.run.limit (session_of f) more = rw (h.quit, open, h.run) refl in
-    ap (λ b. if b then [] else lines_from e.run.form e.run.limit (session_of e) (Break mark ∷ more)) open
+    let there : lines_of f more ≡ lines_from e.run.form e.run.limit (session_of f) more = rw (h.quit, unquit, h.run) refl in
+    ap (λ b. if b then [] else lines_from e.run.form e.run.limit (session_of e) (Break mark ∷ more)) unquit
     ∙ (ap (λ l. l ++ lines_from e.run.form e.run.limit (after e.run.form (session_of e) (Break mark)) more) (sym is) ∙ ap (λ l. lines ++ l) (rest ∙ sym there))

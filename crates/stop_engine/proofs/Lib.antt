@@ -1,5 +1,6 @@
 mod AdditionImage
 mod Answering
+mod Followers
 mod MarkLaws
 mod CallingImage
 mod NameBounds

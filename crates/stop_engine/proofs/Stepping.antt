@@ -1,12 +1,15 @@
 -- Runs to a halt, over the events that they answer.
-use Rattle.std.proofs.Common.{◌≡◌, ℕ, suc, Bool, true, false, Option, None, Some, List, [], ◌∷◌, ◌++◌, length, ◌≤◌, ap, refl, sym, ◌∙◌, inl, inr, append_assoc, append-nil, OnErr, Result, Ok, Err}
+use Rattle.std.proofs.Common.{◌≡◌, ℕ, suc, Bool, true, false, Option, None, Some, List, [], ◌∷◌, ◌++◌, length, ◌≤◌, ap, refl, sym, ◌∙◌, inl, inr, append_assoc, append-nil, subst, OnErr, Result, Ok, Err}
 use Rattle.std.specs.List.{AllByRecursion}
+use Rattle.std.specs.Option.{option_map_or}
 use Rattle.image_form.specs.Form.{Form}
 use Rattle.rv_machine.specs.State.{State}
-use Rattle.rv_machine.specs.Table.{effect}
+use Rattle.rv_machine.specs.Table.{Effect, effect}
 use Rattle.rv_machine.specs.Run.{MachineEvent, Byte, Arrival, Exit, TooDeep, Faulted, arrival, goes_on, is_stop, run}
 use Rattle.rv_machine.specs.declared.event.Event.{Event}
+use Rattle.rv_machine.specs.declared.event.Event.TheVariants as event
 use Rattle.stop_engine.specs.EngineState.{HasRun, IsUnmoved, Wants, run_state}
+use Rattle.stop_engine.specs.Reading.{place_at}
 use Rattle.stop_engine.specs.Run.{stop_addresses}
 use Rattle.stop_engine.specs.declared.course.TheConstants.{ROOM}
 use Rattle.stop_engine.specs.declared.halt.Standing.{Standing}
@@ -16,7 +19,7 @@ use Rattle.stop_engine.specs.declared.halt.Halt.TheVariants.{At, Exited, Depth, 
 use Rattle.stop_engine.specs.Halting.{byte_events, from_halt, halted_at, left_behind}
 use Rattle.stop_engine.specs.Passing.{IsAimed, IsPassed, PassesBy, bytes_among}
 use Rattle.stop_engine.specs.Standing.{ending_of, not_answered, position_of, unanswered}
-use Rattle.stop_engine.specs.Transcript.{Aim, Reach, is_aim, ran, reached, with_output}
+use Rattle.stop_engine.specs.Transcript.{Aim, Reach, aims_at, is_aim, ran, reached, with_output}
 
 -- ---- What is passed by
 
@@ -76,6 +79,22 @@ passes-nowhere m aim stops events output s rest none p = rw none at p
 pub passes-there : (m : Form) (aim : Aim) (stops : List ℕ) (events : List MachineEvent) (output : List ℕ) (s : State) (rest : List MachineEvent) → is_stop stops s.pc ≡ true
     → PassesBy m aim events output (arrival stops s ++ rest) → PassesBy m aim events output (Arrival s ∷ rest)
 passes-there m aim stops events output s rest some p = rw some at p
+
+-- a stop at which the run arrives is none of the aim
+pub passes-arrived : (m : Form) (aim : Aim) (stops : List ℕ) (events : List MachineEvent) (output : List ℕ) (s : State) (rest : List MachineEvent) (pc place : ℕ) → pc ≡ s.pc → is_stop stops pc ≡ true → place_at m pc ≡ Some place
+    → aims_at aim place ≡ false → PassesBy m aim events output (arrival stops s ++ rest) → PassesBy m aim events output rest
+passes-arrived m aim stops events output s rest pc place at stop here none p =
+    let there : place_at m s.pc ≡ Some place = ap (place_at m) (sym at) ∙ here in
+    let not_aimed : is_aim m aim s ≡ false = ap (λ o. option_map_or (aims_at aim) o false) there ∙ none in
+    passes-stop m aim events output s rest not_aimed (passes-there m aim stops events output s rest (ap (is_stop stops) (sym at) ∙ stop) p)
+
+-- an instruction that puts out a byte
+pub passes-out : (m : Form) (aim : Aim) (stops : List ℕ) (events : List MachineEvent) (before now : List ℕ) (n b : ℕ) (s t : State) (e : Event) → record { event = e; after = t } ≡ effect s → e ≡ event.Out b → now ≡ before ++ b ∷ []
+    → PassesBy m aim events before (run stops (suc n) s) → PassesBy m aim events now (arrival stops t ++ run stops n t)
+passes-out m aim stops events before now n b s t e step is pushed p =
+    let out : run stops (suc n) s ≡ Byte b ∷ (arrival stops t ++ run stops n t) =
+    ap (λ (x : Effect). goes_on stops x.event x.after (run stops n)) (sym step) ∙ ap (λ x. goes_on stops x t (run stops n)) is in
+    passes-byte m aim events before now b (arrival stops t ++ run stops n t) pushed (subst (PassesBy m aim events before) out p)
 
 -- ---- What is reached
 

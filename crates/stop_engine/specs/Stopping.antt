@@ -2,6 +2,7 @@
 use Rattle.std.specs.Prelude.{◌≡◌, Some}
 use Rattle.image_form.specs.Form.{form}
 use Rattle.image_form.specs.Rules.{IsImage}
+use Rattle.image_form.specs.RulesOfFunctions.{IsPlaceNumber}
 use Rattle.stop_engine.specs.declared.run.Stop.{Stop}
 use Rattle.stop_engine.specs.EngineState.{RunState}
 use Rattle.stop_engine.specs.Reading.{place_at}
@@ -13,6 +14,7 @@ pub record IsStopOf (r : RunState) (stop : Stop) : Type 0 where
   pub valid : IsImage (form stop.image.now)
   pub position : r.position ≡ Standing stop.machine.now
   pub place : place_at r.form stop.machine.now.pc ≡ Some stop.place
+  pub number : IsPlaceNumber (form stop.image.now) stop.place
 
 -- at no stop
 abbrev pub IsAtNoStop : Position → Type 0

@@ -1,6 +1,6 @@
 //! The course of a run from halt to halt.
 
-ghost use Rattle.std.specs.Prelude.{◌≡◌, ℕ, suc, ◌<◌, ◌≤◌, ◌++◌, List, Some, IfOk, IfSome, OnErr, vec_len, vec_capacity};
+ghost use Rattle.std.specs.Prelude.{◌≡◌, ℕ, suc, ◌<◌, ◌≤◌, ◌++◌, List, Some, IfOk, IfSome, OnOk, OnErr, length, vec_len, vec_capacity};
 ghost use Rattle.rv_machine.specs.Run.{MachineEvent, arrival, run};
 ghost use Rattle.stop_engine.specs.Halting.{from_halt, from_here, halt_at, halted_at};
 ghost use Rattle.stop_engine.specs.Marking.{aim_of};
@@ -61,6 +61,20 @@ fn carry_out(
     }
 }
 
+/// Takes more room for output where what was taken is full.
+fn make_room(output: &mut Vec<u8>) -> Result<(), AllocError>
+    ensures items { output.new.items ≡ output.old.items }
+    ensures len { vec_len output.new ≡ vec_len output.old }
+    ensures kept { vec_capacity output.old ≤ vec_capacity output.new }
+    ensures room { OnOk result (vec_len output.new < vec_capacity output.new) }
+    ensures full { OnErr result (vec_len output.old ≡ vec_capacity output.old) }
+{
+    if output.len() == output.capacity() {
+        output.reserve(ROOM)?;
+    }
+    Ok(())
+}
+
 /// Runs to the next stop of the aim or to the ending, with at most so many instructions. `AllocError` where the room for output is full
 /// and more of it was refused: the run then stands between two instructions, and may go on.
 pub fn run_on(
@@ -79,15 +93,14 @@ pub fn run_on(
     ensures kept { OnErr result ((events : List MachineEvent)
         → PassesBy table.now (aim_of aim.now) events output.old.items (run (stop_addresses table.now) left.old machine.old)
         → PassesBy table.now (aim_of aim.now) events output.new.items (run (stop_addresses table.now) left.new machine.new)) }
-    ensures full { OnErr result (ROOM ≤ vec_len output.new) }
+    ensures full { OnErr result (ROOM ≤ length output.new.items) }
 {
     while *left > 0 {
-        if output.len() == output.capacity() {
-            output.reserve(ROOM)?;
-        }
+        make_room(output)?;
         *left -= 1;
-        if let Some(halt) = carry_out(table, aim, machine, output) {
-            return Ok(halt);
+        match carry_out(table, aim, machine, output) {
+            Some(halt) => return Ok(halt),
+            None => {}
         }
     }
     Ok(Halt::Limit)

@@ -35,6 +35,7 @@ impl Marks {
     }
 
     /// Whether a place is marked.
+    #[tactic(auto, using(crate::proofs::MarkLaws::marks_among))]
     pub fn has(&self, place: u32) -> bool
         ensures { result ≡ is_among self.now.places place }
     {

@@ -1,0 +1,33 @@
+use Rattle.std.proofs.Common.{◌≡◌, ◌≤◌, ℕ, List, suc, ◌-◌, sym, subst, arith, vec_capacity}
+use Rattle.rv_machine.specs.Run.{MachineEvent, run}
+use Rattle.stop_engine.specs.declared.course.TheConstants.{ROOM}
+use Rattle.stop_engine.specs.Marking.{aim_of}
+use Rattle.stop_engine.specs.Passing.{PassesBy}
+use Rattle.stop_engine.specs.Run.{stop_addresses}
+use Rattle.stop_engine.proofs.course.run_on.Goals as goal
+
+pub returns-in-Some-clause-passes : goal.returns-in-Some-clause-passes
+returns-in-Some-clause-passes c = λ events p.
+    let m = c.args.table.now in
+    let aim = aim_of c.args.aim.now in
+    let stops = stop_addresses m in
+    let some : c.loop-left.left ≡ suc (c.loop-left.left - 1) = omega arith in
+    let here = subst (λ n. PassesBy m aim events c.loop-left.output.items (run stops n c.loop-left.machine)) some (c.loop-left.invariant.1 events p) in
+    let roomy = subst (λ o. PassesBy m aim events o (run stops (suc (c.loop-left.left - 1)) c.loop-left.machine)) (sym c.make_room.ensures.items) here in
+    c.in-Some.ensures.passes events (c.loop-left.left - 1) roomy
+
+pub loop-left-preserved : goal.loop-left-preserved
+loop-left-preserved c =
+    let m = c.args.table.now in
+    let aim = aim_of c.args.aim.now in
+    let stops = stop_addresses m in
+    let some : c.loop-left.left ≡ suc (c.loop-left.left - 1) = omega arith in
+    let before : ROOM ≤ vec_capacity c.loop-left.output = c.loop-left.invariant.0 in
+    let kept : vec_capacity c.loop-left.output ≤ vec_capacity c.make_room.new.output = c.make_room.ensures.kept in
+    let same : vec_capacity c.carry_out.new.output ≡ vec_capacity c.make_room.new.output = c.carry_out.ensures.room in (
+      omega (arith, before, kept, same),
+      λ events p.
+          let here = subst (λ n. PassesBy m aim events c.loop-left.output.items (run stops n c.loop-left.machine)) some (c.loop-left.invariant.1 events p) in
+          let roomy = subst (λ o. PassesBy m aim events o (run stops (suc (c.loop-left.left - 1)) c.loop-left.machine)) (sym c.make_room.ensures.items) here in
+          c.in-None.ensures.passes events (c.loop-left.left - 1) roomy,
+    )
