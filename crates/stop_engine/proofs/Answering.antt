@@ -12,7 +12,11 @@ use Rattle.rv_machine.specs.Run.{MachineEvent, Byte, Arrival, Exit, TooDeep, Fau
 use Rattle.rv_machine.specs.State.{State}
 use Rattle.script_form.specs.Script.{Order, Break, Step, Continue, Print, Locals, Where, Quit, Mark}
 use Rattle.stop_engine.specs.declared.halt.Halt.{Halt}
-use Rattle.stop_engine.specs.declared.halt.Halt.TheVariants.{At}
+use Rattle.stop_engine.specs.declared.halt.Halt.TheVariants.{At, Exited, Depth, Fault}
+use Rattle.stop_engine.specs.declared.halt.Halt.TheVariants.{Limit as Limited}
+use Rattle.stop_engine.specs.declared.halt.Standing as standing_type
+use Rattle.stop_engine.specs.declared.halt.Standing.TheVariants as standing
+use Rattle.stop_engine.specs.Standing.{IsStanding, place_of, position_of}
 use Rattle.stop_engine.specs.declared.run.Stop.{Stop}
 use Rattle.stop_engine.specs.Breaks.{break_places}
 use Rattle.stop_engine.specs.EngineState.{Answers, EngineState, HasMarked, HasRun, RunState, lines_of, session_of, with_run}
@@ -63,8 +67,12 @@ halt_at-says m limit (Standing s) h e = by_place (place_at m s.pc) refl
         let same : At k (depth s) ≡ h = cc in
         subst (SaysPosition m limit (Standing s)) same (record { place = place_at-number m s.pc k at_pc; line = rw at_pc refl })
 
--- a run that stands at a place stands where it begins
-pub standing-place : (m : Form) (s : State) (place d : ℕ) → halt_at m (Standing s) ≡ Some (At place d) → place_at m s.pc ≡ Some place
+-- what is known where a run halted at a stop
+pub record StandsAt (m : Form) (w : standing_type.Standing) (s : State) (place : ℕ) : Type 0 where
+  pub stands : position_of w s ≡ Standing s
+  pub begins : place_at m s.pc ≡ Some place
+
+standing-place : (m : Form) (s : State) (place d : ℕ) → halt_at m (Standing s) ≡ Some (At place d) → place_at m s.pc ≡ Some place
 standing-place m s place d e = by_place (place_at m s.pc) refl
   where
     by_place : (o : Option ℕ) → place_at m s.pc ≡ o → place_at m s.pc ≡ Some place
@@ -74,6 +82,24 @@ standing-place m s place d e = by_place (place_at m s.pc) refl
         let same : At k (depth s) ≡ At place d = cc in
         let number : k ≡ place = cc in
         at_pc ∙ ap Some number
+
+pub stands_at : (m : Form) (w : standing_type.Standing) (s : State) (place : ℕ) → place_of w ≡ Some place → IsStanding m w s → StandsAt m w s place
+stands_at m standing.Fresh s place e is = absurd cc
+stands_at m standing.UnderWay s place e is = absurd cc
+stands_at m (standing.Halted (At k d)) s place e is = record { stands = refl; begins = standing-place m s k d is ∙ e }
+stands_at m (standing.Halted (Exited status)) s place e is = absurd cc
+stands_at m (standing.Halted Depth) s place e is = absurd cc
+stands_at m (standing.Halted (Fault address)) s place e is = absurd cc
+stands_at m (standing.Halted Limited) s place e is = absurd cc
+
+pub stands_nowhere : (w : standing_type.Standing) (s : State) → place_of w ≡ None → IsAtNoStop (position_of w s)
+stands_nowhere standing.Fresh s e = tt
+stands_nowhere standing.UnderWay s e = tt
+stands_nowhere (standing.Halted (At k d)) s e = absurd cc
+stands_nowhere (standing.Halted (Exited status)) s e = tt
+stands_nowhere (standing.Halted Depth) s e = tt
+stands_nowhere (standing.Halted (Fault address)) s e = tt
+stands_nowhere (standing.Halted Limited) s e = tt
 
 -- ---- What is said at a stop
 

@@ -47,3 +47,16 @@ abbrev pub ending_of : Standing → Option Halt
 ending_of Fresh = None
 ending_of UnderWay = None
 ending_of (Halted h) = ending h
+
+-- the place of the stop at which a session halted
+abbrev pub halt_place : Halt → Option ℕ
+halt_place (halt.At place d) = Some place
+halt_place (halt.Exited status) = None
+halt_place halt.Depth = None
+halt_place (halt.Fault address) = None
+halt_place halt.Limit = None
+
+abbrev pub place_of : Standing → Option ℕ
+place_of Fresh = None
+place_of UnderWay = None
+place_of (Halted h) = halt_place h

@@ -180,6 +180,7 @@ fn run_lines(
 {
     let halt = run.run_to(stops)?;
     let mut lines = out_lines(alloc, run.taken())?;
-    lines.push(halt_line(alloc, run.table().image(), run.limit(), halt)?)?;
+    let line = halt_line(alloc, run.table().image(), run.limit(), halt)?;
+    lines.push(line)?;
     Ok(lines)
 }

@@ -7,7 +7,7 @@ ghost use Rattle.rv_machine.specs.Run.{MachineEvent};
 ghost use Rattle.stop_engine.specs.EngineState.{HasRun, RunState, Wants, fresh_run};
 ghost use Rattle.stop_engine.specs.Halting.{halt_at};
 ghost use Rattle.stop_engine.specs.Marking.{aim_of};
-ghost use Rattle.stop_engine.specs.Standing.{ending_of, not_answered};
+ghost use Rattle.stop_engine.specs.Standing.{ending_of, not_answered, place_of};
 ghost use Rattle.stop_engine.specs.Stopping.{IsAtNoStop, IsStopOf};
 
 use crate::course::{ROOM, run_on};
@@ -111,14 +111,12 @@ impl<'a> Run<'a> {
         ensures some { IfSome result (IsStopOf self.now) }
         ensures none { IfNone result (IsAtNoStop self.now.position) }
     {
-        match self.standing {
-            Standing::Halted(Halt::At { place, .. }) => Some(Stop {
-                image: self.table.image(),
-                machine: &self.machine,
-                place,
-            }),
-            _ => None,
-        }
+        let place = place_of(self.standing)?;
+        Some(Stop {
+            image: self.table.image(),
+            machine: &self.machine,
+            place,
+        })
     }
 
     /// The image and its stop places.
@@ -134,6 +132,16 @@ impl<'a> Run<'a> {
         ensures { result ≡ self.now.limit }
     {
         self.limit
+    }
+}
+
+/// The place of the stop at which a run halted, if it halted at one.
+fn place_of(standing: Standing) -> Option<u32>
+    ensures { result ≡ place_of standing }
+{
+    match standing {
+        Standing::Halted(Halt::At { place, .. }) => Some(place),
+        Standing::Fresh | Standing::UnderWay | Standing::Halted(_) => None,
     }
 }
 
