@@ -1,5 +1,5 @@
 -- The lines of a session, by what its engine answers.
-use Rattle.std.proofs.Common.{map, ◌≡◌, ℕ, ◌+◌, ◌||◌, Bool, true, false, Option, Some, None, List, [], ◌∷◌, ◌++◌, if◌then◌else◌, subst, refl, sym, ap, ◌∙◌, append_assoc, arith}
+use Rattle.std.proofs.Common.{map, ◌⊎◌, inl, inr, Result, Ok, Err, IfOk, OnOk, OnErr, ◌≡◌, ℕ, ◌+◌, ◌||◌, Bool, true, false, Option, Some, None, List, [], ◌∷◌, ◌++◌, if◌then◌else◌, subst, refl, sym, ap, ◌∙◌, append_assoc, arith}
 use Rattle.std.specs.Prelude.{Vec}
 use Rattle.std.specs.Global.{Global}
 use Rattle.std.proofs.lemmas.List.{map-append}
@@ -19,7 +19,7 @@ use Rattle.stop_engine.specs.declared.halt.Standing.TheVariants as standing
 use Rattle.stop_engine.specs.Standing.{IsStanding, place_of, position_of}
 use Rattle.stop_engine.specs.declared.run.Stop.{Stop}
 use Rattle.stop_engine.specs.Breaks.{break_places}
-use Rattle.stop_engine.specs.EngineState.{Answers, EngineState, HasMarked, HasRun, RunState, lines_of, session_of, with_run}
+use Rattle.stop_engine.specs.EngineState.{Answers, EngineState, HasMarked, HasRun, LeavesOff, Wanting, Unsaid, RunState, Wants, lines_of, session_of, with_run}
 use Rattle.stop_engine.specs.Halting.{IsHaltOf, halt_at, halt_line, halt_of}
 use Rattle.stop_engine.specs.Reading.{depth, place_at}
 use Rattle.stop_engine.specs.Stopping.{IsAtNoStop, IsStopOf}
@@ -225,3 +225,14 @@ answers-break e f mark lines unquit h is more =
     let there : lines_of f more ≡ lines_from e.run.form e.run.limit (session_of f) more = rw (h.quit, unquit, h.run) refl in
     ap (λ b. if b then [] else lines_from e.run.form e.run.limit (session_of e) (Break mark ∷ more)) unquit
     ∙ (ap (λ l. l ++ lines_from e.run.form e.run.limit (after e.run.form (session_of e) (Break mark)) more) (sym is) ∙ ap (λ l. lines ++ l) (rest ∙ sym there))
+
+-- what holds of a value where a fact holds, and another of the value
+pub if_ok-with : {T E : Type 0} (r : Result T E) (P : Type 0) (Q R : T → Type 0) → OnOk r P → IfOk r Q → ((x : T) → P → Q x → R x) → IfOk r R
+if_ok-with (Ok x) P Q R p q f = f x p q
+if_ok-with (Err e) P Q R p q f = tt
+
+-- a run of an engine that was not answered
+pub leaves-off : {T E : Type 0} (r : Result T E) (e : EngineState) (aim : Aim) (run : RunState) (f : EngineState) → f ≡ with_run e run → OnErr r (Wants aim e.run run ⊎ HasRun aim e.run run) → OnErr r (LeavesOff e f)
+leaves-off (Ok x) e aim run f is h = tt
+leaves-off (Err x) e aim run f is (inl wants) = Wanting aim run is wants
+leaves-off (Err x) e aim run f is (inr has_run) = Unsaid aim run is has_run

@@ -1,5 +1,5 @@
 -- The least place that follows a place stands in the first of its pairs.
-use Rattle.std.proofs.Common.{◌≡◌, ◌≢◌, ℕ, zero, suc, ◌+◌, ◌<◌, ◌≤◌, ◌==◌, ◌⊎◌, inl, inr, Bool, true, false, if◌then◌else◌, Option, Some, None, List, [], ◌∷◌, length, drop, get_or, map, ap, refl, sym, ◌∙◌, subst, arith}
+use Rattle.std.proofs.Common.{◌≡◌, ◌≢◌, ℕ, zero, suc, ◌+◌, ◌<◌, ◌≤◌, ◌==◌, ◌⊎◌, inl, inr, Bool, true, false, if◌then◌else◌, Option, Some, None, List, [], ◌∷◌, length, drop, drop-cons, add-one, get_or, map, ap, refl, sym, ◌∙◌, subst, arith}
 use Rattle.std.specs.Prelude.{min}
 use Rattle.std.specs.List.{AllByRecursion, filter}
 use Rattle.std.specs.Option.{option_map_or}
@@ -20,7 +20,7 @@ before_trans a b c (inr g) (inl h) = inl (omega (arith, g.0))
 before_trans a b c (inr g) (inr h) = inr (g.0 ∙ h.0, omega (arith, g.1, h.1))
 
 -- a number is none or not less
-AtLeast : ℕ → Option ℕ → Type 0
+abbrev AtLeast : ℕ → Option ℕ → Type 0
 AtLeast low None = Unit {0}
 AtLeast low (Some x) = low ≤ x
 
@@ -42,9 +42,11 @@ later_follow p (q ∷ pairs) ascend = by_test (q.from == p.from) refl (later_fol
     behind : (rest : List FlowPair) → Ascend (p ∷ q ∷ rest) → Ascend (p ∷ rest)
     behind [] h = (tt, tt)
     behind (r ∷ rest) h = (before_trans p q r h.0 h.1.0, h.1.1)
+
     not_less : IsPairBefore p.from p.to q.from q.to → q.from ≡ p.from → p.to ≤ q.to
     not_less (inl g) same = absurd (omega (arith, g, same))
     not_less (inr g) same = omega (arith, g.1)
+
     by_test : (b : Bool) → (q.from == p.from) ≡ b → AtLeast p.to (least (followers p.from pairs)) → AtLeast p.to (least (followers p.from (q ∷ pairs)))
     by_test true t rest =
         let same : q.from ≡ p.from = grind (arith, nat_tests, t) in
@@ -67,8 +69,15 @@ ascend-drop zero pairs h = h
 ascend-drop (suc i) [] h = h
 ascend-drop (suc i) (p ∷ pairs) h = ascend-drop i pairs h.1
 
+-- the least place that follows, by the first pair of the place
+pub follower-found : (place i : ℕ) (d : FlowPair) (pairs : List FlowPair) → Ascend pairs → i < length pairs → (get_or pairs i d).from ≡ place → Some (get_or pairs i d).to ≡ least (followers place (drop i pairs))
+follower-found place i d pairs ascend within same =
+    let front : drop i pairs ≡ get_or pairs i d ∷ drop (i + 1) pairs = rw add-one (drop-cons pairs i d within) in
+    let ascends = subst Ascend front (ascend-drop i pairs ascend) in
+    sym (ap (λ l. least (followers place l)) front ∙ least-first place (get_or pairs i d) (drop (i + 1) pairs) ascends same)
+
 -- the least of some numbers is within what they all are within
-pub AtMost : ℕ → Option ℕ → Type 0
+abbrev pub AtMost : ℕ → Option ℕ → Type 0
 AtMost most None = Unit {0}
 AtMost most (Some x) = x < most
 
@@ -78,12 +87,12 @@ most_of_two most x (Some y) le = grind (arith, nat_tests, le)
 
 pub least-within : (place most : ℕ) (pairs : List FlowPair) → AllByRecursion (λ (p : FlowPair). p.to < most) pairs → AtMost most (least (followers place pairs))
 least-within place most [] all = tt
-least-within place most (q ∷ pairs) all = by_test (q.from == place) refl
+least-within place most (q ∷ pairs) all = by_test (q.from == place) refl (least-within place most pairs all.1)
   where
-    by_test : (b : Bool) → (q.from == place) ≡ b → AtMost most (least (followers place (q ∷ pairs)))
-    by_test true t =
+    by_test : (b : Bool) → (q.from == place) ≡ b → AtMost most (least (followers place pairs)) → AtMost most (least (followers place (q ∷ pairs)))
+    by_test true t rest =
         let same : q.from ≡ place = grind (arith, nat_tests, t) in
         subst (λ l. AtMost most (least l)) (sym (followers-there place q pairs same)) (most_of_two most q.to (least (followers place pairs)) all.0)
-    by_test false t =
+    by_test false t rest =
         let differ : q.from ≢ place = grind (arith, nat_tests, t) in
-        subst (λ l. AtMost most (least l)) (sym (followers-elsewhere place q pairs differ)) (least-within place most pairs all.1)
+        subst (λ l. AtMost most (least l)) (sym (followers-elsewhere place q pairs differ)) rest

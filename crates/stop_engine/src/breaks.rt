@@ -1,12 +1,13 @@
 //! The places that `break` marks.
 
-ghost use Rattle.std.specs.Prelude.{◌≡◌, ◌≤◌, ◌<◌, ◌+◌, All, IfOk, IfSome, length, map};
+ghost use Rattle.std.specs.Prelude.{◌≡◌, ◌<◌, IfOk, bytes_eq, length, map};
 ghost use Rattle.image_form.specs.Form.{form};
+ghost use Rattle.image_form.specs.Names.{function_name};
 ghost use Rattle.image_form.specs.Lists.{EachToNext};
 ghost use Rattle.image_form.specs.Rules.{IsImage};
 ghost use Rattle.image_form.specs.RulesOfChanges.{IsPairBefore};
 ghost use Rattle.script_form.specs.Script.{mark};
-ghost use Rattle.stop_engine.specs.Breaks.{break_places, first_place, followers, function_called, least, one_or_none, stops_on};
+ghost use Rattle.stop_engine.specs.Breaks.{break_places, first_place, followers, function_called, is_stop_on, least, one_or_none, stops_on};
 ghost use Rattle.stop_engine.specs.Transcript.{marked_line};
 
 use crate::names::function_name;
@@ -17,28 +18,43 @@ use line_form::{break_line, no_function_line, no_place_line};
 use script_form::Target;
 use std::alloc::{AllocError, Global};
 
+/// Whether a place is a stop on a line of the source.
+fn is_stop_on(table: &StopTable, line: u32, place: &image_form::Place) -> bool
+    ensures { result ≡ is_stop_on table.now line place.now }
+{
+    place.line == line && table.stop_at(place.address).is_some()
+}
+
 /// The stops on a line of the source.
 fn stops_on(alloc: Global, table: &StopTable, line: u32) -> Result<Vec<Place>, AllocError>
     requires { IsImage table.now }
-    ensures places { IfOk result (λ places. map (λ p. p.0) places.items ≡ stops_on table.now line 1 table.now.places) }
-    ensures bound { IfOk result (λ places. All (λ p. p.0 < length table.now.places + 1) places.items) }
+    ensures { IfOk result (λ places. map (λ p. p.0) places.items ≡ stops_on table.now line 1 table.now.places) }
 {
     let mut on_line = Vec::new(alloc);
     for (index, place) in table.image().places.iter().enumerate() {
-        if place.line == line && table.stop_at(place.address).is_some() {
+        if is_stop_on(table, line, place) {
             on_line.push(Place(index as u32 + 1))?;
         }
     }
     Ok(on_line)
 }
 
+/// Whether a function has a name, by its number.
+fn is_called(image: &Image, number: usize, name: &[u8]) -> bool
+    requires image { IsImage (form image.now) }
+    requires number { number < length image.now.functions.items }
+    ensures { result ≡ bytes_eq (function_name (form image.now) number) name.now }
+{
+    function_name(image, number) == name
+}
+
 /// The first function of a name, if there is one.
 fn function_called(image: &Image, name: &[u8]) -> Option<Function>
     requires { IsImage (form image.now) }
-    ensures called { result ≡ function_called (form image.now) name.now 0 image.now.functions.items }
+    ensures { result ≡ function_called (form image.now) name.now 0 image.now.functions.items }
 {
     for (number, function) in image.functions.iter().enumerate() {
-        if function_name(image, number) == name {
+        if is_called(image, number, name) {
             return Some(*function);
         }
     }
@@ -61,8 +77,7 @@ fn least_follower(flow: &[FlowPair], place: u32) -> Option<u32>
 /// The least place that follows the entry of the first function of a name.
 fn first_place(image: &Image, name: &[u8]) -> Option<u32>
     requires { IsImage (form image.now) }
-    ensures place { result ≡ first_place (form image.now) name.now }
-    ensures bound { IfSome result (λ place. place < length image.now.places.items + 1) }
+    ensures { result ≡ first_place (form image.now) name.now }
 {
     let function = function_called(image, name)?;
     least_follower(&image.flow, function.entry)
@@ -71,8 +86,7 @@ fn first_place(image: &Image, name: &[u8]) -> Option<u32>
 /// The same, as a list.
 fn first_places(alloc: Global, image: &Image, name: &[u8]) -> Result<Vec<Place>, AllocError>
     requires { IsImage (form image.now) }
-    ensures places { IfOk result (λ places. map (λ p. p.0) places.items ≡ one_or_none (first_place (form image.now) name.now)) }
-    ensures bound { IfOk result (λ places. All (λ p. p.0 < length image.now.places.items + 1) places.items) }
+    ensures { IfOk result (λ places. map (λ p. p.0) places.items ≡ one_or_none (first_place (form image.now) name.now)) }
 {
     match first_place(image, name) {
         Some(place) => Ok(vec![in alloc; Place(place)]?),
@@ -87,8 +101,7 @@ pub fn break_places(
     target: &Target,
 ) -> Result<Vec<Place>, AllocError>
     requires { IsImage table.now }
-    ensures places { IfOk result (λ places. map (λ p. p.0) places.items ≡ break_places table.now (mark target.now)) }
-    ensures bound { IfOk result (λ places. All (λ p. p.0 < length table.now.places + 1) places.items) }
+    ensures { IfOk result (λ places. map (λ p. p.0) places.items ≡ break_places table.now (mark target.now)) }
 {
     match target {
         Target::Line(line) => Ok(stops_on(alloc, table, *line)?),

@@ -132,7 +132,14 @@ impl<'a> Engine<'a> {
         let Some(stop) = self.run.stop() else {
             return Ok(no_stop(alloc)?);
         };
-        let line = name_line(alloc, stop.image, stop.machine, &self.flow, stop.place, name)?;
+        let line = name_line(
+            alloc,
+            stop.image,
+            stop.machine,
+            &self.flow,
+            stop.place,
+            name,
+        )?;
         Ok(vec![in alloc; line]?)
     }
 
@@ -168,11 +175,7 @@ fn no_stop(alloc: Global) -> Result<Vec<Vec<u8>>, AllocError>
 }
 
 /// Runs to the next of these stops or to the ending. The lines are the output on the way, and where the run then stands.
-fn run_lines(
-    alloc: Global,
-    run: &mut Run,
-    stops: &Stops,
-) -> Result<Vec<Vec<u8>>, AllocError>
+fn run_lines(alloc: Global, run: &mut Run, stops: &Stops) -> Result<Vec<Vec<u8>>, AllocError>
     ensures ran { OnOk result (HasRun (aim_of stops.now) run.old run.new) }
     ensures lines { IfOk result (λ lines. map (λ line. line.items) lines.items
         ≡ run_lines run.old.form run.old.limit (ran run.old.form (aim_of stops.now) run.old.position run.old.events)) }

@@ -10,7 +10,6 @@ use std::alloc::{AllocError, Global};
 use std::process::Abort;
 use std::test::Fail;
 
-
 mod images;
 
 use images::{addition_image, calling_image};
@@ -105,7 +104,10 @@ fn a_run_has_its_own_output(rt: HostRuntime) -> Result<(), Fail> {
         assert_eq!(rt; engine.run_to(&Stops::Any)?, Halt::At { place, depth: 1 });
         assert_eq!(rt; engine.taken(), [].as_slice());
     }
-    assert_eq!(rt; engine.run_to(&Stops::Any)?, Halt::At { place: 5, depth: 1 });
+    assert_eq!(rt;
+        engine.run_to(&Stops::Any)?,
+        Halt::At { place: 5, depth: 1 }
+    );
     assert_eq!(rt; engine.taken(), b"A".as_slice());
     for _ in 0..2 {
         assert_eq!(rt; engine.run_to(&Stops::Any)?, Halt::Exited(5));

@@ -1,0 +1,19 @@
+use Rattle.std.proofs.Common.{◌≡◌, false, ap, sym, refl, ◌∙◌}
+use Rattle.script_form.specs.Script.{mark}
+use Rattle.stop_engine.specs.EngineState.{EngineState}
+use Rattle.stop_engine.specs.Transcript.{AnyStop, OneOf}
+use Rattle.stop_engine.proofs.Answering.{answers-break, if_ok-with, leaves-off}
+use Rattle.stop_engine.proofs.engine.Engine.answer.Goals as goal
+
+pub returns-in-Break-clause-answered : goal.returns-in-Break-clause-answered
+returns-in-Break-clause-answered c =
+    let unquit : c.args.self.now.has_quit ≡ false = ap (λ (e : EngineState). e.has_quit) (sym c.self.view_is) ∙ c.if-self.false in
+    rw c.in-Break.is (if_ok-with c.set_marks.result _ _ _ c.set_marks.ensures.marked c.set_marks.ensures.lines (λ lines marked is. answers-break c.args.self.now c.set_marks.new.self (mark c.in-Break.target) _ unquit marked is))
+
+pub returns-in-Step-clause-wanting : goal.returns-in-Step-clause-wanting
+returns-in-Step-clause-wanting c =
+    rw (← c.self.view_is) (leaves-off c.run_lines.result _ AnyStop c.run_lines.new.run _ refl c.run_lines.ensures.wanting)
+
+pub returns-in-Continue-clause-wanting : goal.returns-in-Continue-clause-wanting
+returns-in-Continue-clause-wanting c =
+    rw (← c.self.view_is) (leaves-off c.run_lines-in-Continue.result _ (OneOf c.self.inside.marks.places) c.run_lines-in-Continue.new.run _ refl c.run_lines-in-Continue.ensures.wanting)
