@@ -1,11 +1,11 @@
 -- The lines of a session, by what its engine answers.
-use Rattle.std.proofs.Common.{map, ◌⊎◌, inl, inr, Result, Ok, Err, IfOk, OnOk, OnErr, ◌≡◌, ℕ, ◌+◌, ◌||◌, Bool, true, false, Option, Some, None, List, [], ◌∷◌, ◌++◌, if◌then◌else◌, subst, refl, sym, ap, ◌∙◌, append_assoc, arith}
+use Rattle.std.proofs.Common.{map, ◌⊎◌, inl, inr, Result, Ok, Err, IfOk, OnOk, OnErr, ◌≡◌, ℕ, ◌+◌, ◌||◌, true, false, Option, Some, None, List, [], ◌∷◌, ◌++◌, if◌then◌else◌, subst, refl, sym, ap, ◌∙◌, arith}
 use Rattle.std.specs.Prelude.{Vec}
 use Rattle.std.specs.Global.{Global}
 use Rattle.std.proofs.lemmas.List.{map-append}
 use Rattle.std.specs.Option.{option_map_or}
 use Rattle.std.proofs.lemmas.Option.{slice_get_within}
-use Rattle.image_form.specs.Form.{Form, form}
+use Rattle.image_form.specs.Form.{Form}
 use Rattle.image_form.specs.RulesOfFunctions.{IsPlaceNumber}
 use Rattle.line_form.specs.Lines.{no_stop_line, out_lines}
 use Rattle.rv_machine.specs.Run.{MachineEvent, Byte, Arrival, Exit, TooDeep, Faulted}

@@ -1,5 +1,5 @@
 -- The functions of a name.
-use Rattle.std.proofs.Common.{◌≡◌, ℕ, ◌+◌, ◌<◌, Bool, false, List, drop, drop-cons, add-one, get_or, ◌∷◌, length, ap, refl, ◌∙◌, bytes_eq}
+use Rattle.std.proofs.Common.{◌≡◌, ℕ, ◌+◌, ◌<◌, false, List, drop, drop-cons, add-one, get_or, ◌∷◌, length, ap, refl, ◌∙◌, bytes_eq}
 use Rattle.image_form.specs.Form.{Form}
 use Rattle.image_form.specs.Names.{function_name}
 use Rattle.image_form.specs.declared.tables.Function.{Function}

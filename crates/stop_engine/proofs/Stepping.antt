@@ -1,5 +1,5 @@
 -- Runs to a halt, over the events that they answer.
-use Rattle.std.proofs.Common.{◌≡◌, ℕ, suc, Bool, true, false, Option, None, Some, List, [], ◌∷◌, ◌++◌, length, ◌≤◌, ap, refl, sym, ◌∙◌, inl, inr, append_assoc, append-nil, subst, OnErr, Result, Ok, Err}
+use Rattle.std.proofs.Common.{◌≡◌, ℕ, suc, true, false, None, Some, List, [], ◌∷◌, ◌++◌, length, ◌≤◌, ap, refl, sym, ◌∙◌, inl, inr, append_assoc, subst, OnErr, Result, Ok, Err}
 use Rattle.std.specs.List.{AllByRecursion}
 use Rattle.std.specs.Option.{option_map_or}
 use Rattle.image_form.specs.Form.{Form}
@@ -8,7 +8,7 @@ use Rattle.rv_machine.specs.Table.{Effect, effect}
 use Rattle.rv_machine.specs.Run.{MachineEvent, Byte, Arrival, Exit, TooDeep, Faulted, arrival, goes_on, is_stop, run}
 use Rattle.rv_machine.specs.declared.event.Event.{Event}
 use Rattle.rv_machine.specs.declared.event.Event.TheVariants as event
-use Rattle.stop_engine.specs.EngineState.{HasRun, IsUnmoved, Wants, run_state}
+use Rattle.stop_engine.specs.EngineState.{Wants, run_state}
 use Rattle.stop_engine.specs.Reading.{place_at}
 use Rattle.stop_engine.specs.Run.{stop_addresses}
 use Rattle.stop_engine.specs.declared.course.TheConstants.{ROOM}
@@ -19,7 +19,7 @@ use Rattle.stop_engine.specs.declared.halt.Halt.TheVariants.{At, Exited, Depth, 
 use Rattle.stop_engine.specs.Halting.{byte_events, from_halt, halted_at, left_behind}
 use Rattle.stop_engine.specs.Passing.{IsAimed, IsPassed, PassesBy, bytes_among}
 use Rattle.stop_engine.specs.Standing.{ending_of, not_answered, position_of, unanswered}
-use Rattle.stop_engine.specs.Transcript.{Aim, Reach, aims_at, is_aim, ran, reached, with_output}
+use Rattle.stop_engine.specs.Transcript.{Aim, aims_at, is_aim, ran, reached, with_output}
 
 -- ---- What is passed by
 

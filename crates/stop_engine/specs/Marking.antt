@@ -1,8 +1,6 @@
 -- Marks of places.
-use Rattle.std.specs.Prelude.{ℕ, ◌+◌, Bool, true, false, List, [], ◌∷◌}
 use Rattle.stop_engine.specs.declared.stops.Stops.{Stops}
 use Rattle.stop_engine.specs.declared.stops.Stops.TheVariants as stops
-use Rattle.stop_engine.specs.MarkTable.{MarkTable}
 use Rattle.stop_engine.specs.Transcript.{Aim, AnyStop, OneOf}
 
 -- what is aimed at

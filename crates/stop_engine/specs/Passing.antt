@@ -1,5 +1,5 @@
 -- What a run passes by on its way to a halt.
-use Rattle.std.specs.Prelude.{◌≡◌, ℕ, Bool, false, true, List, [], ◌∷◌, ◌++◌}
+use Rattle.std.specs.Prelude.{◌≡◌, ℕ, false, true, List, [], ◌∷◌, ◌++◌}
 use Rattle.std.specs.List.{AllByRecursion}
 use Rattle.image_form.specs.Form.{Form}
 use Rattle.rv_machine.specs.State.{State}

@@ -1,4 +1,4 @@
-use Rattle.std.proofs.Common.{sym, ◌∙◌}
+use Rattle.std.proofs.Common.{◌∙◌}
 use Rattle.stop_engine.proofs.Followers.{follower-found}
 use Rattle.stop_engine.proofs.breaks.least_follower.Goals as goal
 

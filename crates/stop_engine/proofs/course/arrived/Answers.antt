@@ -1,4 +1,3 @@
-use Rattle.image_form.specs.Form.{Form}
 use Rattle.stop_engine.specs.Marking.{aim_of}
 use Rattle.stop_engine.specs.Run.{stop_addresses}
 use Rattle.stop_engine.proofs.Stepping.{passes-arrived}

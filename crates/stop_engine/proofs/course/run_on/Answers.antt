@@ -1,5 +1,5 @@
-use Rattle.std.proofs.Common.{◌≡◌, ◌≤◌, ℕ, List, suc, ◌-◌, sym, subst, arith, vec_capacity}
-use Rattle.rv_machine.specs.Run.{MachineEvent, run}
+use Rattle.std.proofs.Common.{◌≡◌, ◌≤◌, suc, ◌-◌, sym, subst, arith, vec_capacity}
+use Rattle.rv_machine.specs.Run.{run}
 use Rattle.stop_engine.specs.declared.course.TheConstants.{ROOM}
 use Rattle.stop_engine.specs.Marking.{aim_of}
 use Rattle.stop_engine.specs.Passing.{PassesBy}

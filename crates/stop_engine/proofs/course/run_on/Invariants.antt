@@ -1,4 +1,4 @@
-use Rattle.std.proofs.Common.{ℕ, List, ◌≤◌, vec_capacity}
+use Rattle.std.proofs.Common.{List, ◌≤◌, vec_capacity}
 use Rattle.rv_machine.specs.Run.{MachineEvent, run}
 use Rattle.stop_engine.specs.declared.course.TheConstants.{ROOM}
 use Rattle.stop_engine.specs.Marking.{aim_of}

@@ -1,4 +1,4 @@
-use Rattle.std.proofs.Common.{◌≡◌, ap, ◌∙◌, refl}
+use Rattle.std.proofs.Common.{◌≡◌, ap, ◌∙◌}
 use Rattle.stop_engine.specs.Halting.{halt_line}
 use Rattle.stop_engine.specs.Marking.{aim_of}
 use Rattle.stop_engine.proofs.Answering.{halt_at-says, lines-of_run}

@@ -1,8 +1,7 @@
-use Rattle.std.proofs.Common.{◌≡◌, sym, subst, Some}
+use Rattle.std.proofs.Common.{sym, subst}
 use Rattle.image_form.specs.Rules.{IsImage}
 use Rattle.image_form.specs.RulesOfFunctions.{IsPlaceNumber}
-use Rattle.stop_engine.specs.Standing.{place_of}
-use Rattle.stop_engine.proofs.Answering.{place_at-number, stands_at, stands_nowhere}
+use Rattle.stop_engine.proofs.Answering.{place_at-number, stands_at}
 use Rattle.stop_engine.proofs.run.Run.stop.Goals as goal
 
 pub returns-clause-some : goal.returns-clause-some
