@@ -6,6 +6,7 @@ mod MarkBounds
 mod MarkLaws
 mod CallingImage
 mod NameBounds
+mod NameStartLaws
 mod PlacesByAddress
 mod Slots
 mod Stepping

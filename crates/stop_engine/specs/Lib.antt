@@ -18,3 +18,4 @@ pub mod Pointers
 pub mod Values
 pub mod Rows
 pub mod Shown
+pub mod Tables

@@ -15,13 +15,12 @@ ghost use Rattle.stop_engine.specs.Transcript.{at_stop, marked_line, ran, run_li
 use crate::breaks::{break_places, marked_line};
 use crate::halt::Halt;
 use crate::lines::halt_line;
-use crate::rows::flow_table;
 use crate::run::Run;
 use crate::stops::{Marks, Stops};
+use crate::tables::{Tables, tables_of};
 use crate::views::{locals_lines, name_line, where_lines};
 use image_form::Image;
 use line_form::{no_stop_line, out_lines};
-use places::FlowTable;
 use script_form::{Command, Target};
 use std::alloc::{AllocError, Global};
 use std::marker::Model;
@@ -30,22 +29,21 @@ use std::marker::Model;
 #[derive(Drop)]
 pub struct Engine<'a> {
     run: Run<'a>,
-    flow: FlowTable,
+    tables: Tables,
     marks: Marks,
     has_quit: bool,
 }
 
 impl<'a> Model for Engine<'a> {
     ghost use Rattle.std.specs.Prelude.{◌≡◌, ◌+◌, length};
-    ghost use Rattle.places.specs.Flow.{AreInOrder};
     ghost use Rattle.stop_engine.specs.EngineState.{EngineState};
-    ghost use Rattle.stop_engine.specs.Rows.{IsFlowOf};
+    ghost use Rattle.stop_engine.specs.Tables.{AreTablesOf};
 
     ghost Value = { EngineState };
 
     ghost view = { λ e. record { run = e.run; marks = e.marks.places; has_quit = e.has_quit } };
 
-    ghost invariant = { λ e. IsFlowOf e.run.form e.flow × AreInOrder e.flow.steps.items × (e.marks.bound ≡ length e.run.form.places + 1) };
+    ghost invariant = { λ e. AreTablesOf e.run.form e.tables × (e.marks.bound ≡ length e.run.form.places + 1) };
 }
 
 impl<'a> Engine<'a> {
@@ -62,7 +60,7 @@ impl<'a> Engine<'a> {
     {
         Ok(Engine {
             run: Run::new(alloc, image, input, limit)?,
-            flow: flow_table(alloc, image)?,
+            tables: tables_of(alloc, image)?,
             marks: Marks::new(alloc, image.places.len() + 1)?,
             has_quit: false,
         })
@@ -117,7 +115,7 @@ impl<'a> Engine<'a> {
         ensures lines { IfOk result (λ lines. map (λ line. line.items) lines.items ≡ marked_line (mark target.now) (break_places self.old.run.form (mark target.now)) ∷ []) }
         ensures kept { OnErr result (self.new ≡ self.old) }
     {
-        let places = break_places(alloc, self.run.table(), target)?;
+        let places = break_places(alloc, self.run.table(), &self.tables, target)?;
         let line = marked_line(alloc, target, &places)?;
         let lines = vec![in alloc; line]?;
         self.marks.mark_all(&places);
@@ -136,7 +134,7 @@ impl<'a> Engine<'a> {
             alloc,
             stop.image,
             stop.machine,
-            &self.flow,
+            &self.tables,
             stop.place,
             name,
         )?;
@@ -151,7 +149,7 @@ impl<'a> Engine<'a> {
         let Some(stop) = self.run.stop() else {
             return Ok(no_stop(alloc)?);
         };
-        Ok(locals_lines(alloc, stop.image, stop.machine, &self.flow, stop.place)?)
+        Ok(locals_lines(alloc, stop.image, stop.machine, &self.tables, stop.place)?)
     }
 
     /// The lines of the activations that are live where the engine stands.

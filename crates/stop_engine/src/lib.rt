@@ -16,6 +16,7 @@ mod run;
 mod shown;
 mod stop_table;
 mod stops;
+mod tables;
 #[cfg(test)]
 mod tests;
 mod values;

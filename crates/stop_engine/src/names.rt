@@ -2,13 +2,13 @@
 
 ghost use Rattle.std.specs.Prelude.{◌≡◌, ◌<◌, ◌≤◌, ◌+◌, ◌^◌, length, drop, map, sum, take};
 ghost use Rattle.image_form.specs.Form.{form};
-ghost use Rattle.image_form.specs.Names.{function_name, pass_name, variable_name};
+ghost use Rattle.image_form.specs.Names.{function_name, variable_name};
 ghost use Rattle.image_form.specs.Rules.{IsImage};
 
-use image_form::{Change, Function, Image, Variable};
+use image_form::{Function, Image, Variable};
 
 /// How many bytes the names of functions have.
-fn function_bytes(functions: &[Function]) -> usize
+pub fn function_bytes(functions: &[Function]) -> usize
     requires { sum (map (λ f. f.name_length) functions.now) < 2 ^ 64 }
     ensures { result ≡ sum (map (λ f. f.name_length) functions.now) }
 {
@@ -19,7 +19,7 @@ fn function_bytes(functions: &[Function]) -> usize
 }
 
 /// How many bytes the names of variables have.
-fn variable_bytes(variables: &[Variable]) -> usize
+pub fn variable_bytes(variables: &[Variable]) -> usize
     requires { sum (map (λ v. v.name_length) variables.now) < 2 ^ 64 }
     ensures { result ≡ sum (map (λ v. v.name_length) variables.now) }
 {
@@ -29,19 +29,8 @@ fn variable_bytes(variables: &[Variable]) -> usize
         .sum()
 }
 
-/// How many bytes the names of the passes of changes have.
-fn pass_bytes(changes: &[Change]) -> usize
-    requires { sum (map (λ c. c.pass_length) changes.now) < 2 ^ 64 }
-    ensures { result ≡ sum (map (λ c. c.pass_length) changes.now) }
-{
-    changes
-        .iter()
-        .map(|change| change.pass_length as usize)
-        .sum()
-}
-
 /// So many bytes from one on.
-fn piece(bytes: &[u8], start: usize, count: usize) -> &[u8]
+pub fn piece(bytes: &[u8], start: usize, count: usize) -> &[u8]
     requires { start + count ≤ length bytes.now }
     ensures { result.now ≡ take count (drop start bytes.now) }
 {
@@ -73,20 +62,5 @@ pub fn variable_name(image: &Image, number: usize) -> &[u8]
         &image.names,
         start,
         image.variables[number].name_length as usize,
-    )
-}
-
-/// The name of the pass that made a change, by the change's number from 0.
-pub fn pass_name(image: &Image, number: usize) -> &[u8]
-    requires image { IsImage (form image.now) }
-    requires number { number < length image.now.changes.items }
-    ensures { result.now ≡ pass_name (form image.now) number }
-{
-    let front = function_bytes(&image.functions) + variable_bytes(&image.variables);
-    let start = front + pass_bytes(&image.changes[..number]);
-    piece(
-        &image.names,
-        start,
-        image.changes[number].pass_length as usize,
     )
 }

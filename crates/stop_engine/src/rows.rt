@@ -9,11 +9,12 @@ ghost use Rattle.line_form.specs.Changes.{noncurrent_line, nonresident_line};
 ghost use Rattle.places.specs.Flow.{AreInOrder};
 ghost use Rattle.places.specs.Path.{numbers, places};
 ghost use Rattle.places.specs.Route.{route_of};
+ghost use Rattle.stop_engine.specs.Tables.{AreTablesOf};
 ghost use Rattle.stop_engine.specs.Rows.{IsChangeNumber, IsFlowOf, IsRow, assignment_of, change_words, held_text, kind_of, recipe_levels, recovered_text, row_line, row_path, row_quest, step_of, verdict_line, via_of};
 
 use crate::frames::owner_of;
-use crate::names::pass_name;
 use crate::recipes::recipe_value;
+use crate::tables::Tables;
 use crate::values::{variable_text, word_text};
 use debug_records::{Kind, Place, Var};
 use image_form::{AssignedPair, FlowPair, Image, Verdict, VisibleRow};
@@ -71,15 +72,21 @@ fn kind_of(kind: image_form::Kind) -> Kind
 }
 
 /// The text of a change, by its number.
-fn change_words(alloc: Global, image: &Image, number: u32) -> Result<Vec<u8>, AllocError>
+fn change_words(
+    alloc: Global,
+    image: &Image,
+    tables: &Tables,
+    number: u32,
+) -> Result<Vec<u8>, AllocError>
     requires image { IsImage (form image.now) }
+    requires tables { AreTablesOf (form image.now) tables.now }
     requires some { 1 ≤ number }
     requires known { number ≤ length image.now.changes.items }
     ensures { IfOk result (λ text. text.items ≡ change_words (form image.now) number) }
 {
     let index = number as usize - 1;
     let change = image.changes[index];
-    let pass = pass_name(image, index);
+    let pass = tables.names.pass(image, index);
     Ok(change_text(alloc, number, pass, kind_of(change.kind), change.place)?)
 }
 
@@ -109,13 +116,12 @@ pub struct Evidence {
 fn evidence_path(
     alloc: Global,
     image: &Image,
-    table: &FlowTable,
+    tables: &Tables,
     evidence: Evidence,
 ) -> Result<Option<Path>, AllocError>
     requires some { 1 ≤ evidence.change }
     requires known { evidence.change ≤ length image.now.changes.items }
-    requires flow { IsFlowOf (form image.now) table.now }
-    requires order { AreInOrder table.now.steps.items }
+    requires tables { AreTablesOf (form image.now) tables.now }
     ensures { IfOk result (λ path. option_map (λ p. places p) path
         ≡ route_of (row_quest (form image.now) evidence.variable evidence.change evidence.start evidence.writer evidence.place)) }
 {
@@ -124,7 +130,7 @@ fn evidence_path(
     let stop = Place(evidence.place);
     Ok(route(
         alloc,
-        table,
+        &tables.flow,
         Var(evidence.variable),
         start,
         Place(via),
@@ -209,6 +215,7 @@ fn anew_line(
     alloc: Global,
     image: &Image,
     machine: &Machine,
+    tables: &Tables,
     name: &[u8],
     row: VisibleRow,
     change: u32,
@@ -218,10 +225,11 @@ fn anew_line(
     requires place { IsPlaceNumber (form image.now) row.place }
     requires variable { row.variable < length image.now.variables.items }
     requires change { IsChangeNumber (form image.now) change }
+    requires tables { AreTablesOf (form image.now) tables.now }
     ensures { IfOk result (λ line. line.items ≡ verdict_line (form image.now) machine.now name.now row.place row.variable (Recovered change node)) }
 {
     let text = recovered_text(alloc, image, machine, row.place, row.variable, node)?;
-    let words = change_words(alloc, image, change)?;
+    let words = change_words(alloc, image, tables, change)?;
     Ok(recovered_line(alloc, name, &text, &words)?)
 }
 
@@ -229,19 +237,18 @@ fn anew_line(
 fn stale_line(
     alloc: Global,
     image: &Image,
-    table: &FlowTable,
+    tables: &Tables,
     name: &[u8],
     evidence: Evidence,
 ) -> Result<Vec<u8>, AllocError>
     requires image { IsImage (form image.now) }
     requires change { IsChangeNumber (form image.now) evidence.change }
-    requires flow { IsFlowOf (form image.now) table.now }
-    requires order { AreInOrder table.now.steps.items }
+    requires tables { AreTablesOf (form image.now) tables.now }
     ensures { IfOk result (λ line. line.items ≡ noncurrent_line name.now (change_words (form image.now) evidence.change)
         (row_path (form image.now) evidence.variable evidence.change evidence.start evidence.writer evidence.place)) }
 {
-    let path = evidence_path(alloc, image, table, evidence)?;
-    let words = change_words(alloc, image, evidence.change)?;
+    let path = evidence_path(alloc, image, tables, evidence)?;
+    let words = change_words(alloc, image, tables, evidence.change)?;
     Ok(noncurrent_line(alloc, name, &words, path_places(&path))?)
 }
 
@@ -249,19 +256,18 @@ fn stale_line(
 fn gone_line(
     alloc: Global,
     image: &Image,
-    table: &FlowTable,
+    tables: &Tables,
     name: &[u8],
     evidence: Evidence,
 ) -> Result<Vec<u8>, AllocError>
     requires image { IsImage (form image.now) }
     requires change { IsChangeNumber (form image.now) evidence.change }
-    requires flow { IsFlowOf (form image.now) table.now }
-    requires order { AreInOrder table.now.steps.items }
+    requires tables { AreTablesOf (form image.now) tables.now }
     ensures { IfOk result (λ line. line.items ≡ nonresident_line name.now (change_words (form image.now) evidence.change)
         (row_path (form image.now) evidence.variable evidence.change evidence.start evidence.writer evidence.place)) }
 {
-    let path = evidence_path(alloc, image, table, evidence)?;
-    let words = change_words(alloc, image, evidence.change)?;
+    let path = evidence_path(alloc, image, tables, evidence)?;
+    let words = change_words(alloc, image, tables, evidence.change)?;
     Ok(nonresident_line(alloc, name, &words, path_places(&path))?)
 }
 
@@ -270,20 +276,19 @@ pub fn row_line(
     alloc: Global,
     image: &Image,
     machine: &Machine,
-    table: &FlowTable,
+    tables: &Tables,
     name: &[u8],
     row: VisibleRow,
 ) -> Result<Vec<u8>, AllocError>
     requires image { IsImage (form image.now) }
     requires row { IsRow (form image.now) row }
-    requires flow { IsFlowOf (form image.now) table.now }
-    requires order { AreInOrder table.now.steps.items }
+    requires tables { AreTablesOf (form image.now) tables.now }
     ensures { IfOk result (λ line. line.items ≡ row_line (form image.now) machine.now name.now row) }
 {
     match row.verdict {
         Verdict::Home => Ok(home_line(alloc, image, machine, name, row.place, row.variable)?),
         Verdict::Recovered { change, node } => {
-            Ok(anew_line(alloc, image, machine, name, row, change, node)?)
+            Ok(anew_line(alloc, image, machine, tables, name, row, change, node)?)
         }
         Verdict::Noncurrent {
             change,
@@ -297,7 +302,7 @@ pub fn row_line(
                 start,
                 writer,
             };
-            Ok(stale_line(alloc, image, table, name, evidence)?)
+            Ok(stale_line(alloc, image, tables, name, evidence)?)
         }
         Verdict::Nonresident {
             change,
@@ -311,7 +316,7 @@ pub fn row_line(
                 start,
                 writer,
             };
-            Ok(gone_line(alloc, image, table, name, evidence)?)
+            Ok(gone_line(alloc, image, tables, name, evidence)?)
         }
     }
 }

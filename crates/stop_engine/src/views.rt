@@ -4,16 +4,15 @@ ghost use Rattle.std.specs.Prelude.{◌≡◌, ◌<◌, IfOk, IfSome, length, ma
 ghost use Rattle.image_form.specs.Form.{form};
 ghost use Rattle.image_form.specs.Rules.{IsImage};
 ghost use Rattle.image_form.specs.RulesOfFunctions.{IsPlaceNumber};
-ghost use Rattle.places.specs.Flow.{AreInOrder};
-ghost use Rattle.stop_engine.specs.Rows.{IsFlowOf, IsRow};
+ghost use Rattle.stop_engine.specs.Rows.{IsRow};
+ghost use Rattle.stop_engine.specs.Tables.{AreTablesOf};
 ghost use Rattle.stop_engine.specs.Shown.{is_static_before, lines_of_rows, locals_lines, name_line, position_of_place, row_of, static_of, where_lines};
 
 use crate::frames::{frame_lines, frame_places};
-use crate::names::variable_name;
 use crate::rows::{held_text, row_line};
+use crate::tables::Tables;
 use image_form::{Image, Variable, VisibleRow};
 use line_form::{no_locals_line, nothing_here_line, value_line};
-use places::FlowTable;
 use rv_machine::machine::Machine;
 use std::alloc::{AllocError, Global};
 
@@ -33,13 +32,14 @@ fn is_static_before(position: u32, variable: &Variable) -> bool
 }
 
 /// The number of the first static variable of a name that is declared before a position, if there is one.
-fn static_of(image: &Image, position: u32, name: &[u8]) -> Option<usize>
-    requires { IsImage (form image.now) }
+fn static_of(image: &Image, tables: &Tables, position: u32, name: &[u8]) -> Option<usize>
+    requires image { IsImage (form image.now) }
+    requires tables { AreTablesOf (form image.now) tables.now }
     ensures found { result ≡ static_of (form image.now) position name.now 0 image.now.variables.items }
     ensures number { IfSome result (λ variable. variable < length image.now.variables.items) }
 {
     for (number, variable) in image.variables.iter().enumerate() {
-        if is_static_before(position, variable) && variable_name(image, number) == name {
+        if is_static_before(position, variable) && tables.names.variable(image, number) == name {
             return Some(number);
         }
     }
@@ -47,13 +47,14 @@ fn static_of(image: &Image, position: u32, name: &[u8]) -> Option<usize>
 }
 
 /// The row of the first variable of a name that is visible at a place, if there is one.
-fn visible_row(image: &Image, place: u32, name: &[u8]) -> Option<VisibleRow>
-    requires { IsImage (form image.now) }
+fn visible_row(image: &Image, tables: &Tables, place: u32, name: &[u8]) -> Option<VisibleRow>
+    requires image { IsImage (form image.now) }
+    requires tables { AreTablesOf (form image.now) tables.now }
     ensures found { result ≡ row_of (form image.now) place name.now image.now.rows.items }
     ensures row { IfSome result (IsRow (form image.now)) }
 {
     for row in &image.rows {
-        if row.place == place && variable_name(image, row.variable as usize) == name {
+        if row.place == place && tables.names.variable(image, row.variable as usize) == name {
             return Some(*row);
         }
     }
@@ -66,20 +67,19 @@ pub fn name_line(
     alloc: Global,
     image: &Image,
     machine: &Machine,
-    table: &FlowTable,
+    tables: &Tables,
     place: u32,
     name: &[u8],
 ) -> Result<Vec<u8>, AllocError>
     requires image { IsImage (form image.now) }
     requires place { IsPlaceNumber (form image.now) place }
-    requires flow { IsFlowOf (form image.now) table.now }
-    requires order { AreInOrder table.now.steps.items }
+    requires tables { AreTablesOf (form image.now) tables.now }
     ensures { IfOk result (λ line. line.items ≡ name_line (form image.now) machine.now place name.now) }
 {
-    if let Some(row) = visible_row(image, place, name) {
-        return Ok(row_line(alloc, image, machine, table, name, row)?);
+    if let Some(row) = visible_row(image, tables, place, name) {
+        return Ok(row_line(alloc, image, machine, tables, name, row)?);
     }
-    match static_of(image, position_of_place(image, place), name) {
+    match static_of(image, tables, position_of_place(image, place), name) {
         Some(variable) => {
             let text = held_text(alloc, image, machine, place, variable)?;
             Ok(value_line(alloc, name, &text)?)
@@ -93,19 +93,18 @@ fn lines_of_rows(
     alloc: Global,
     image: &Image,
     machine: &Machine,
-    table: &FlowTable,
+    tables: &Tables,
     place: u32,
 ) -> Result<Vec<Vec<u8>>, AllocError>
     requires image { IsImage (form image.now) }
-    requires flow { IsFlowOf (form image.now) table.now }
-    requires order { AreInOrder table.now.steps.items }
+    requires tables { AreTablesOf (form image.now) tables.now }
     ensures { IfOk result (λ lines. map (λ line. line.items) lines.items ≡ lines_of_rows (form image.now) machine.now place image.now.rows.items) }
 {
     let mut lines = Vec::new(alloc);
     for row in &image.rows {
         if row.place == place {
-            let name = variable_name(image, row.variable as usize);
-            let line = row_line(alloc, image, machine, table, name, *row)?;
+            let name = tables.names.variable(image, row.variable as usize);
+            let line = row_line(alloc, image, machine, tables, name, *row)?;
             lines.push(line)?;
         }
     }
@@ -117,15 +116,14 @@ pub fn locals_lines(
     alloc: Global,
     image: &Image,
     machine: &Machine,
-    table: &FlowTable,
+    tables: &Tables,
     place: u32,
 ) -> Result<Vec<Vec<u8>>, AllocError>
     requires image { IsImage (form image.now) }
-    requires flow { IsFlowOf (form image.now) table.now }
-    requires order { AreInOrder table.now.steps.items }
+    requires tables { AreTablesOf (form image.now) tables.now }
     ensures { IfOk result (λ lines. map (λ line. line.items) lines.items ≡ locals_lines (form image.now) machine.now place) }
 {
-    let mut lines = lines_of_rows(alloc, image, machine, table, place)?;
+    let mut lines = lines_of_rows(alloc, image, machine, tables, place)?;
     if lines.is_empty() {
         lines.push(no_locals_line(alloc)?)?;
     }
