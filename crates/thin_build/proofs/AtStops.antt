@@ -13,7 +13,8 @@ use Rattle.rv_machine.specs.State.{State, reg, word}
 use Rattle.rv_machine.specs.Memory.{word_in}
 use Rattle.line_form.specs.Decimal.{signed_decimal}
 use Rattle.stop_engine.specs.Reading.{place_at, depth, slot_word, is_stack_address, owner_of, frames_from, frames, frame_of, greatest_depth, int_of_word}
-use Rattle.stop_engine.specs.Transcript.{shown_text, home_text}
+use Rattle.stop_engine.specs.Rows.{held_text}
+use Rattle.stop_engine.specs.Values.{variable_text}
 use Rattle.thin_form.specs.Tree.{ActionTree, Declares, Assigns, Puts, StatementTree, ProgramTree}
 use Rattle.thin_form.specs.Places.{VariableOf, variables_of, PlaceVariable, each_at, visible_from, visible, declared_after}
 use Rattle.thin_form.specs.Meaning.{Stop}
@@ -112,8 +113,8 @@ module _ (L : LaidCode) (p : ProgramTree) where
       one_frame greatest_depth 1023 (image_of p) s place (reg s 2) depth_bound (stack_address s i values main) (omega arith) (ap (word_in s.stack) at ∙ main.return) refl
 
   -- what is shown of a variable
-  shown_is : (s : State) (i x : ℕ) (values : List ℤ) → InMain L s i values → L.n ≡ length (variables_of p.body) → x < length values → shown_text (image_of p) s x ≡ signed_decimal (get_or values x (pos 0))
-  shown_is s i x values main count lt =
+  shown_is : (s : State) (i place x : ℕ) (values : List ℤ) → InMain L s i values → L.n ≡ length (variables_of p.body) → x < length values → held_text (image_of p) s place x ≡ signed_decimal (get_or values x (pos 0))
+  shown_is s i place x values main count lt =
       let few : length values ≤ L.n = main.few in let room : L.n + 1 ≤ 4 * L.f = L.room in
       let v = variable_at 0 x (variables_of p.body) (omega arith) in
       let e : 0 + x ≡ x = omega arith in
@@ -123,7 +124,7 @@ module _ (L : LaidCode) (p : ProgramTree) where
       let at : reg s 2 - 16777216 + slot x ≡ cell L (slot x) = omega arith in
       let here = stack_address s i values main in
       let w : slot_word s (slot x) ≡ cast_unsigned w32 (get_or values x (pos 0)) = simp (here, within) (ap (word_in s.stack) at ∙ main.held x lt) in
-      ap (λ o. option_map_or (λ (v : Variable). home_text s v.storage) o []) (v.1 ∙ ap (λ k. Some (variable_of k v.0)) e)
+      ap (λ o. option_map_or (λ (v : Variable). variable_text (image_of p) s place v) o []) (v.1 ∙ ap (λ k. Some (variable_of k v.0)) e)
       ∙ ap (λ k. signed_decimal (cast_signed w32 k)) w ∙ ap signed_decimal (int_again (get_or values x (pos 0)) (main.ints x lt))
 
   depth_is : (s : State) (i : ℕ) (values : List ℤ) → InMain L s i values → depth s ≡ 1
@@ -136,7 +137,7 @@ module _ (L : LaidCode) (p : ProgramTree) where
     depth = depth_is s i values main;
     frames = frames_are s i place values main;
     known = λ k r e here. known k r e here (slice_get (visible p) k) refl;
-    shown = λ x lt. shown_is s i x values main count lt;
+    shown = λ x lt. shown_is s i place x values main count lt;
   }
     where
       known : (k : ℕ) (r : VisibleRow) → slice_get (map row_of (visible p)) k ≡ Some r → r.place ≡ place → (o : Option PlaceVariable) → slice_get (visible p) k ≡ o → r.variable < length values

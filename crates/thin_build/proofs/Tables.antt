@@ -5,7 +5,6 @@ use Rattle.image_form.specs.declared.tables.Place.{Place}
 use Rattle.image_form.specs.declared.variables.Variable.{Variable}
 use Rattle.image_form.specs.declared.verdicts.Verdict.TheVariants.{Home}
 use Rattle.image_form.specs.declared.verdicts.VisibleRow.{VisibleRow}
-use Rattle.stop_engine.specs.Plain.{IsIntInSlot, IsPlain}
 use Rattle.thin_form.specs.declared.tree.Spot.{Spot}
 use Rattle.thin_form.specs.Tree.{StatementTree, ProgramTree}
 use Rattle.thin_form.specs.Places.{declared_after, VariableOf, variables_of, visible, assigned, flow}
@@ -44,17 +43,9 @@ pub ints_of_main_from : (x : ℕ) (vs : List VariableOf) → AllByRecursion IsIn
 ints_of_main_from x [] = tt
 ints_of_main_from x (v ∷ vs) = (record { function = refl; element = refl; count = refl }, ints_of_main_from (x + 1) vs)
 
-pub ints_in_slots_from : (x : ℕ) (vs : List VariableOf) → AllByRecursion IsIntInSlot (variables_from x vs)
-ints_in_slots_from x [] = tt
-ints_in_slots_from x (v ∷ vs) = (record { element = refl; storage = tt; count = refl }, ints_in_slots_from (x + 1) vs)
-
 -- each visible variable is shown from its home
 pub shown_from_home : (p : ProgramTree) → AllByRecursion (λ (r : VisibleRow). r.verdict ≡ Home) (image_of p).rows
 shown_from_home p = all_map row_of (λ (r : VisibleRow). r.verdict ≡ Home) (visible p) (all_ever (λ r. (row_of r).verdict ≡ Home) (visible p) (λ r. refl))
-
--- The image is one that the debugger can show.
-pub image_plain : (p : ProgramTree) → IsProgram p → IsPlain (image_of p)
-image_plain p h = record { variables = ints_in_slots_from 0 (variables_of p.body); shown = shown_from_home p }
 
 -- Its tables say what the source says.
 pub same_tables : (p : ProgramTree) → IsProgram p → SameTables p (image_of p)

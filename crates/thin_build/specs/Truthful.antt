@@ -17,7 +17,7 @@ use Rattle.rv_machine.specs.Run.{MachineEvent}
 use Rattle.line_form.specs.Decimal.{signed_decimal}
 use Rattle.stop_engine.specs.Run.{image_run}
 use Rattle.stop_engine.specs.Reading.{place_at, depth, frames}
-use Rattle.stop_engine.specs.Transcript.{shown_text}
+use Rattle.stop_engine.specs.Rows.{held_text}
 use Rattle.event_runs.specs.Agreement.{Agree}
 use Rattle.thin_form.specs.declared.tree.Spot.{Spot}
 use Rattle.thin_form.specs.Tree.{ProgramTree}
@@ -64,7 +64,7 @@ pub record SameStop (m : Form) (stop : Stop) (s : State) : Type 0 where
   pub depth : depth s ≡ stop.depth
   pub frames : frames m s stop.place ≡ stop.frames
   pub known : (k : ℕ) (r : VisibleRow) → slice_get m.rows k ≡ Some r → r.place ≡ stop.place → r.variable < length stop.values
-  pub shown : (x : ℕ) → x < length stop.values → shown_text m s x ≡ signed_decimal (slice_index_or stop.values x (pos 0))
+  pub shown : (x : ℕ) → x < length stop.values → held_text m s stop.place x ≡ signed_decimal (slice_index_or stop.values x (pos 0))
 
 -- an event of the machine says what the source's does
 abbrev pub SameEvent : Form → SourceEvent → MachineEvent → Type 0

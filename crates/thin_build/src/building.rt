@@ -5,7 +5,6 @@ ghost use Rattle.std.specs.List.{AllByRecursion};
 ghost use Rattle.rv_code.specs.InForm.{IsInForm};
 ghost use Rattle.image_form.specs.Form.{form};
 ghost use Rattle.image_form.specs.Rules.{IsImage};
-ghost use Rattle.stop_engine.specs.Plain.{IsPlain};
 ghost use Rattle.thin_form.specs.Tree.{program_view};
 ghost use Rattle.thin_form.specs.Program.{IsProgram};
 ghost use Rattle.thin_build.specs.Code.{word_of};
@@ -80,7 +79,6 @@ pub fn build(alloc: Global, program: &Program) -> Result<Image, AllocError>
     requires { IsProgram (program_view program.now) }
     ensures image { IfOk result (λ m. form m ≡ image_of (program_view program.now)) }
     ensures valid { IfOk result (λ m. IsImage (form m)) }
-    ensures plain { IfOk result (λ m. IsPlain (form m)) }
     ensures truthful { IfOk result (λ m. (input : List ℕ) → Truthful (program_view program.now) (form m) input) }
 {
     Ok(assembled(alloc, program)?)
