@@ -19,3 +19,4 @@ pub mod Values
 pub mod Rows
 pub mod Shown
 pub mod Tables
+pub mod Sight

@@ -1,4 +1,4 @@
--- The lines of the variables that are visible at a place.
+-- What is seen of the variables that are visible at a place.
 use Rattle.std.specs.Prelude.{◌≡◌, ℕ, ◌-◌, ◌<◌, ◌≤◌, Option, Some, None, unwrap_or, List, [], map, length, slice_get}
 use Rattle.std.specs.Option.{option_map_or}
 use Rattle.debug_records.specs.declared.change.Kind.{Kind}
@@ -15,8 +15,7 @@ use Rattle.image_form.specs.declared.variables.Variable.{Variable}
 use Rattle.image_form.specs.declared.verdicts.Verdict.{Verdict}
 use Rattle.image_form.specs.declared.verdicts.Verdict.TheVariants.{Home, Recovered, Noncurrent, Nonresident}
 use Rattle.image_form.specs.declared.verdicts.VisibleRow.{VisibleRow}
-use Rattle.line_form.specs.Lines.{value_line}
-use Rattle.line_form.specs.Changes.{change_text, recovered_line, noncurrent_line, nonresident_line}
+use Rattle.line_form.specs.Changes.{change_text}
 use Rattle.places.specs.declared.flow.Step.{Step}
 use Rattle.places.specs.declared.flow.Assignment.{Assignment}
 use Rattle.places.specs.declared.flow.FlowTable.{FlowTable}
@@ -24,6 +23,8 @@ use Rattle.places.specs.Path.{Quest}
 use Rattle.places.specs.Route.{route_of}
 use Rattle.rv_machine.specs.State.{State}
 use Rattle.stop_engine.specs.Reading.{owner_of}
+use Rattle.stop_engine.specs.Sight.{Sight}
+use Rattle.stop_engine.specs.Sight as sight
 use Rattle.stop_engine.specs.Recipes.{recipe_value}
 use Rattle.stop_engine.specs.Values.{variable_text, word_text}
 
@@ -83,16 +84,16 @@ recovered_text m s place variable node =
 abbrev pub held_text : Form → State → (place variable : ℕ) → List ℕ
 held_text m s place variable = option_map_or (λ (v : Variable). variable_text m s place v) (slice_get m.variables variable) []
 
--- the line of a variable of this name at a place, by the verdict on it
-abbrev pub verdict_line : Form → State → (name : List ℕ) → (place variable : ℕ) → Verdict → List ℕ
-verdict_line m s name place variable Home = value_line name (held_text m s place variable)
-verdict_line m s name place variable (Recovered change node) = recovered_line name (recovered_text m s place variable node) (change_words m change)
-verdict_line m s name place variable (Noncurrent change start writer) = noncurrent_line name (change_words m change) (row_path m variable change start writer place)
-verdict_line m s name place variable (Nonresident change start writer) = nonresident_line name (change_words m change) (row_path m variable change start writer place)
+-- what is seen of a variable at a place, by the verdict on it
+abbrev pub verdict_sight : Form → State → (place variable : ℕ) → Verdict → Sight
+verdict_sight m s place variable Home = sight.Value (held_text m s place variable)
+verdict_sight m s place variable (Recovered change node) = sight.Recovered (recovered_text m s place variable node) (change_words m change)
+verdict_sight m s place variable (Noncurrent change start writer) = sight.Noncurrent (change_words m change) (row_path m variable change start writer place)
+verdict_sight m s place variable (Nonresident change start writer) = sight.Nonresident (change_words m change) (row_path m variable change start writer place)
 
--- the line of a row
-abbrev pub row_line : Form → State → (name : List ℕ) → VisibleRow → List ℕ
-row_line m s name r = verdict_line m s name r.place r.variable r.verdict
+-- what is seen of the variable of a row
+abbrev pub row_sight : Form → State → VisibleRow → Sight
+row_sight m s r = verdict_sight m s r.place r.variable r.verdict
 
 -- a verdict names a change of the image, or none
 abbrev pub IsChangeNumber : Form → ℕ → Type 0

@@ -6,11 +6,12 @@ use Rattle.image_form.specs.Names.{variable_name}
 use Rattle.image_form.specs.declared.tables.Place.{Place}
 use Rattle.image_form.specs.declared.variables.Variable.{Variable}
 use Rattle.image_form.specs.declared.verdicts.VisibleRow.{VisibleRow}
-use Rattle.line_form.specs.Lines.{value_line, nothing_here_line, no_locals_line}
+use Rattle.line_form.specs.Lines.{no_locals_line}
 use Rattle.rv_machine.specs.State.{State}
 use Rattle.stop_engine.specs.Frames.{frame_lines}
 use Rattle.stop_engine.specs.Reading.{frames}
-use Rattle.stop_engine.specs.Rows.{held_text, row_line}
+use Rattle.stop_engine.specs.Rows.{held_text, row_sight}
+use Rattle.stop_engine.specs.Sight.{Sight, NoName, Value, sight_line}
 
 -- the row of a place for a variable of a name
 abbrev pub is_row_of : Form → (place : ℕ) → (name : List ℕ) → VisibleRow → Bool
@@ -35,17 +36,21 @@ static_of m position name number [] = None
 static_of m position name number (v ∷ variables) =
     if is_static_before position v && bytes_eq (variable_name m number) name then Some number else static_of m position name (number + 1) variables
 
--- what is said of a name: of the first visible variable that has it, else of the first static one that is declared before the place
-abbrev pub name_line : Form → State → (place : ℕ) → (name : List ℕ) → List ℕ
-name_line m s place name =
-    option_map_or (λ (r : VisibleRow). row_line m s name r) (row_of m place name m.rows)
-    (option_map_or (λ variable. value_line name (held_text m s place variable)) (static_of m (position_of_place m place) name 0 m.variables) (nothing_here_line name))
+-- what is seen of a name: of the first visible variable that has it, else of the first static one that is declared before the place
+abbrev pub name_sight : Form → State → (place : ℕ) → (name : List ℕ) → Sight
+name_sight m s place name =
+    option_map_or (λ (r : VisibleRow). row_sight m s r) (row_of m place name m.rows)
+    (option_map_or (λ variable. Value (held_text m s place variable)) (static_of m (position_of_place m place) name 0 m.variables) NoName)
+
+-- the line of a row, under its variable's name
+abbrev pub row_line : Form → State → VisibleRow → List ℕ
+row_line m s r = sight_line (variable_name m r.variable) (row_sight m s r)
 
 -- the lines of the rows of a place
 abbrev pub lines_of_rows : Form → State → (place : ℕ) → List VisibleRow → List (List ℕ)
 lines_of_rows m s place [] = []
 lines_of_rows m s place (r ∷ rows) =
-    if r.place == place then row_line m s (variable_name m r.variable) r ∷ lines_of_rows m s place rows else lines_of_rows m s place rows
+    if r.place == place then row_line m s r ∷ lines_of_rows m s place rows else lines_of_rows m s place rows
 
 -- the one line where there is none
 abbrev pub or_no_locals : List (List ℕ) → List (List ℕ)

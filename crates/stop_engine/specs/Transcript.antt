@@ -12,7 +12,8 @@ use Rattle.script_form.specs.Script.{Order, Break, Step, Continue, Print, Locals
 use Rattle.stop_engine.specs.Run.{image_run}
 use Rattle.stop_engine.specs.Reading.{place_at, depth}
 use Rattle.stop_engine.specs.Breaks.{break_places}
-use Rattle.stop_engine.specs.Shown.{name_line, locals_lines, where_lines}
+use Rattle.stop_engine.specs.Shown.{name_sight, locals_lines, where_lines}
+use Rattle.stop_engine.specs.Sight.{Sight, NoStop, sight_line}
 
 -- why a run is over: it exited with a status, its calls nested too deep, it faulted at an address, or its instructions are used up
 pub data Ending : Type 0 where
@@ -106,6 +107,12 @@ at_stop m Fresh said = no_stop_line ∷ []
 at_stop m (Standing s) said = option_map_or (said s) (place_at m s.pc) []
 at_stop m (Over e) said = no_stop_line ∷ []
 
+-- what is seen of a name where the session stands
+abbrev pub sight : Form → Position → (name : List ℕ) → Sight
+sight m Fresh name = NoStop
+sight m (Standing s) name = option_map_or (λ place. name_sight m s place name) (place_at m s.pc) NoStop
+sight m (Over e) name = NoStop
+
 -- A session: the places that are marked, where it stands, and the events that are left.
 pub record Session : Type 0 where
   pub marks : List ℕ
@@ -121,7 +128,7 @@ abbrev pub said : Form → (limit : ℕ) → Session → Order → List (List �
 said m limit s (Break mark) = marked_line mark (break_places m mark) ∷ []
 said m limit s Step = run_lines m limit (run_of m s AnyStop)
 said m limit s Continue = run_lines m limit (run_of m s (OneOf s.marks))
-said m limit s (Print name) = at_stop m s.position (λ state place. name_line m state place name ∷ [])
+said m limit s (Print name) = sight_line name (sight m s.position name) ∷ []
 said m limit s Locals = at_stop m s.position (locals_lines m)
 said m limit s Where = at_stop m s.position (where_lines m)
 said m limit s Quit = []

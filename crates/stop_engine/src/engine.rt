@@ -9,16 +9,18 @@ ghost use Rattle.stop_engine.specs.Breaks.{break_places};
 ghost use Rattle.stop_engine.specs.EngineState.{Answers, HasMarked, HasRun, LeavesOff, Wants, fresh_engine};
 ghost use Rattle.stop_engine.specs.Halting.{halt_at};
 ghost use Rattle.stop_engine.specs.Marking.{aim_of};
-ghost use Rattle.stop_engine.specs.Shown.{locals_lines, name_line, where_lines};
-ghost use Rattle.stop_engine.specs.Transcript.{at_stop, marked_line, ran, run_lines};
+ghost use Rattle.stop_engine.specs.Shown.{locals_lines, where_lines};
+ghost use Rattle.stop_engine.specs.Sight.{sight_line, sight_of};
+ghost use Rattle.stop_engine.specs.Transcript.{at_stop, marked_line, ran, run_lines, sight};
 
 use crate::breaks::{break_places, marked_line};
 use crate::halt::Halt;
 use crate::lines::halt_line;
 use crate::run::Run;
+use crate::shown::{Shown, shown_line};
 use crate::stops::{Marks, Stops};
 use crate::tables::{Tables, tables_of};
-use crate::views::{locals_lines, name_line, where_lines};
+use crate::views::{locals_lines, name_shown, where_lines};
 use image_form::Image;
 use line_form::{no_stop_line, out_lines};
 use script_form::{Command, Target};
@@ -86,6 +88,23 @@ impl<'a> Engine<'a> {
         self.run.taken()
     }
 
+    /// What is shown of a name where the engine stands: at no stop nothing. `AllocError` where memory for the texts was refused.
+    pub fn show(&self, alloc: Global, name: &str) -> Result<Shown, AllocError>
+        ensures { IfOk result (λ shown. sight_of shown ≡ sight self.now.run.form self.now.run.position name.now) }
+    {
+        let Some(stop) = self.run.stop() else {
+            return Ok(Shown::NoStop);
+        };
+        Ok(name_shown(
+            alloc,
+            stop.image,
+            stop.machine,
+            &self.tables,
+            stop.place,
+            name.as_bytes(),
+        )?)
+    }
+
     /// The lines that a command of a script prints, as texts without their ends. `AllocError` where memory for the output or for a line
     /// was refused.
     pub fn answer(&mut self, alloc: Global, command: &Command) -> Result<Vec<Vec<u8>>, AllocError>
@@ -99,7 +118,7 @@ impl<'a> Engine<'a> {
             Command::Break(target) => self.set_marks(alloc, target),
             Command::Step => run_lines(alloc, &mut self.run, &Stops::Any),
             Command::Continue => run_lines(alloc, &mut self.run, &Stops::At(&self.marks)),
-            Command::Print(name) => self.print(alloc, name.as_bytes()),
+            Command::Print(name) => self.print(alloc, name),
             Command::Locals => self.locals(alloc),
             Command::Where => self.frames(alloc),
             Command::Quit => {
@@ -123,21 +142,12 @@ impl<'a> Engine<'a> {
     }
 
     /// The line of a name where the engine stands.
-    fn print(&self, alloc: Global, name: &[u8]) -> Result<Vec<Vec<u8>>, AllocError>
+    fn print(&self, alloc: Global, name: &str) -> Result<Vec<Vec<u8>>, AllocError>
         ensures { IfOk result (λ lines. map (λ line. line.items) lines.items
-            ≡ at_stop self.now.run.form self.now.run.position (λ s place. name_line self.now.run.form s place name.now ∷ [])) }
+            ≡ sight_line name.now (sight self.now.run.form self.now.run.position name.now) ∷ []) }
     {
-        let Some(stop) = self.run.stop() else {
-            return Ok(no_stop(alloc)?);
-        };
-        let line = name_line(
-            alloc,
-            stop.image,
-            stop.machine,
-            &self.tables,
-            stop.place,
-            name,
-        )?;
+        let shown = self.show(alloc, name)?;
+        let line = shown_line(alloc, name.as_bytes(), &shown)?;
         Ok(vec![in alloc; line]?)
     }
 

@@ -1,24 +1,26 @@
-//! The lines of the variables that are visible at a place.
+//! What is shown of the variables that are visible at a place.
 
 ghost use Rattle.std.specs.Prelude.{◌≡◌, ◌<◌, ◌≤◌, [], IfOk, length, map, option_map, unwrap_or};
 ghost use Rattle.image_form.specs.Form.{form};
 ghost use Rattle.image_form.specs.Rules.{IsImage};
 ghost use Rattle.image_form.specs.RulesOfFunctions.{IsPlaceNumber};
-ghost use Rattle.image_form.specs.declared.verdicts.Verdict.TheVariants.{Home, Recovered};
-ghost use Rattle.line_form.specs.Changes.{noncurrent_line, nonresident_line};
+ghost use Rattle.image_form.specs.declared.verdicts.Verdict.TheVariants.{Recovered};
 ghost use Rattle.places.specs.Flow.{AreInOrder};
-ghost use Rattle.places.specs.Path.{numbers, places};
+ghost use Rattle.places.specs.Path.{places};
 ghost use Rattle.places.specs.Route.{route_of};
 ghost use Rattle.stop_engine.specs.Tables.{AreTablesOf};
-ghost use Rattle.stop_engine.specs.Rows.{IsChangeNumber, IsFlowOf, IsRow, assignment_of, change_words, held_text, kind_of, recipe_levels, recovered_text, row_line, row_path, row_quest, step_of, verdict_line, via_of};
+ghost use Rattle.stop_engine.specs.Rows.{IsChangeNumber, IsFlowOf, IsRow, assignment_of, change_words, held_text, kind_of, recipe_levels, recovered_text, row_path, row_quest, row_sight, step_of, verdict_sight, via_of};
+ghost use Rattle.stop_engine.specs.Sight.{sight_of};
+ghost use Rattle.stop_engine.specs.Sight as sight;
 
 use crate::frames::owner_of;
 use crate::recipes::recipe_value;
+use crate::shown::Shown;
 use crate::tables::Tables;
 use crate::values::{variable_text, word_text};
 use debug_records::{Kind, Place, Var};
 use image_form::{AssignedPair, FlowPair, Image, Verdict, VisibleRow};
-use line_form::{change_text, noncurrent_line, nonresident_line, recovered_line, value_line};
+use line_form::change_text;
 use places::{Assignment, FlowTable, Path, Step, route};
 use rv_machine::machine::Machine;
 use std::alloc::{AllocError, Global};
@@ -138,16 +140,6 @@ fn evidence_path(
     )?)
 }
 
-/// The places of a path, and none where there is no path.
-fn path_places(path: &Option<Path>) -> &[Place]
-    ensures { numbers result.now ≡ unwrap_or (option_map (λ p. places p) path.now) [] }
-{
-    match path {
-        Some(path) => &path.places,
-        None => &[],
-    }
-}
-
 /// How many levels a recipe has at most.
 #[tactic(auto, unfolding(crate::specs::Rows::recipe_levels))]
 fn recipe_levels() -> usize
@@ -192,103 +184,84 @@ pub fn held_text(
     Ok(variable_text(alloc, image, machine, place, kept)?)
 }
 
-/// The line of a variable that its home shows.
-fn home_line(
-    alloc: Global,
-    image: &Image,
-    machine: &Machine,
-    name: &[u8],
-    place: u32,
-    variable: u32,
-) -> Result<Vec<u8>, AllocError>
-    requires image { IsImage (form image.now) }
-    requires place { IsPlaceNumber (form image.now) place }
-    requires variable { variable < length image.now.variables.items }
-    ensures { IfOk result (λ line. line.items ≡ verdict_line (form image.now) machine.now name.now place variable Home) }
-{
-    let text = held_text(alloc, image, machine, place, variable as usize)?;
-    Ok(value_line(alloc, name, &text)?)
-}
-
-/// The line of a variable whose value is computed anew.
-fn anew_line(
+/// The value of a variable, computed anew.
+fn anew(
     alloc: Global,
     image: &Image,
     machine: &Machine,
     tables: &Tables,
-    name: &[u8],
     row: VisibleRow,
     change: u32,
     node: u32,
-) -> Result<Vec<u8>, AllocError>
+) -> Result<Shown, AllocError>
     requires image { IsImage (form image.now) }
+    requires tables { AreTablesOf (form image.now) tables.now }
     requires place { IsPlaceNumber (form image.now) row.place }
     requires variable { row.variable < length image.now.variables.items }
     requires change { IsChangeNumber (form image.now) change }
-    requires tables { AreTablesOf (form image.now) tables.now }
-    ensures { IfOk result (λ line. line.items ≡ verdict_line (form image.now) machine.now name.now row.place row.variable (Recovered change node)) }
+    ensures { IfOk result (λ shown. sight_of shown ≡ verdict_sight (form image.now) machine.now row.place row.variable (Recovered change node)) }
 {
-    let text = recovered_text(alloc, image, machine, row.place, row.variable, node)?;
-    let words = change_words(alloc, image, tables, change)?;
-    Ok(recovered_line(alloc, name, &text, &words)?)
+    let value = recovered_text(alloc, image, machine, row.place, row.variable, node)?;
+    let change = change_words(alloc, image, tables, change)?;
+    Ok(Shown::Recovered { value, change })
 }
 
-/// The line of a variable that is not current.
-fn stale_line(
+/// A variable that is not current.
+fn stale(
     alloc: Global,
     image: &Image,
     tables: &Tables,
-    name: &[u8],
     evidence: Evidence,
-) -> Result<Vec<u8>, AllocError>
+) -> Result<Shown, AllocError>
     requires image { IsImage (form image.now) }
-    requires change { IsChangeNumber (form image.now) evidence.change }
     requires tables { AreTablesOf (form image.now) tables.now }
-    ensures { IfOk result (λ line. line.items ≡ noncurrent_line name.now (change_words (form image.now) evidence.change)
+    requires change { IsChangeNumber (form image.now) evidence.change }
+    ensures { IfOk result (λ shown. sight_of shown ≡ sight.Noncurrent (change_words (form image.now) evidence.change)
         (row_path (form image.now) evidence.variable evidence.change evidence.start evidence.writer evidence.place)) }
 {
     let path = evidence_path(alloc, image, tables, evidence)?;
-    let words = change_words(alloc, image, tables, evidence.change)?;
-    Ok(noncurrent_line(alloc, name, &words, path_places(&path))?)
+    let change = change_words(alloc, image, tables, evidence.change)?;
+    Ok(Shown::Noncurrent { change, path })
 }
 
-/// The line of a variable that is not resident.
-fn gone_line(
+/// A variable that is not resident.
+fn gone(
     alloc: Global,
     image: &Image,
     tables: &Tables,
-    name: &[u8],
     evidence: Evidence,
-) -> Result<Vec<u8>, AllocError>
+) -> Result<Shown, AllocError>
     requires image { IsImage (form image.now) }
-    requires change { IsChangeNumber (form image.now) evidence.change }
     requires tables { AreTablesOf (form image.now) tables.now }
-    ensures { IfOk result (λ line. line.items ≡ nonresident_line name.now (change_words (form image.now) evidence.change)
+    requires change { IsChangeNumber (form image.now) evidence.change }
+    ensures { IfOk result (λ shown. sight_of shown ≡ sight.Nonresident (change_words (form image.now) evidence.change)
         (row_path (form image.now) evidence.variable evidence.change evidence.start evidence.writer evidence.place)) }
 {
     let path = evidence_path(alloc, image, tables, evidence)?;
-    let words = change_words(alloc, image, tables, evidence.change)?;
-    Ok(nonresident_line(alloc, name, &words, path_places(&path))?)
+    let change = change_words(alloc, image, tables, evidence.change)?;
+    Ok(Shown::Nonresident { change, path })
 }
 
-/// The line of a row, under a name. `AllocError` where memory for it was refused.
-pub fn row_line(
+/// What is shown of the variable of a row. `AllocError` where memory for it was refused.
+pub fn row_shown(
     alloc: Global,
     image: &Image,
     machine: &Machine,
     tables: &Tables,
-    name: &[u8],
     row: VisibleRow,
-) -> Result<Vec<u8>, AllocError>
+) -> Result<Shown, AllocError>
     requires image { IsImage (form image.now) }
     requires row { IsRow (form image.now) row }
     requires tables { AreTablesOf (form image.now) tables.now }
-    ensures { IfOk result (λ line. line.items ≡ row_line (form image.now) machine.now name.now row) }
+    ensures { IfOk result (λ shown. sight_of shown ≡ row_sight (form image.now) machine.now row) }
 {
     match row.verdict {
-        Verdict::Home => Ok(home_line(alloc, image, machine, name, row.place, row.variable)?),
+        Verdict::Home => {
+            let value = held_text(alloc, image, machine, row.place, row.variable as usize)?;
+            Ok(Shown::Value(value))
+        }
         Verdict::Recovered { change, node } => {
-            Ok(anew_line(alloc, image, machine, tables, name, row, change, node)?)
+            Ok(anew(alloc, image, machine, tables, row, change, node)?)
         }
         Verdict::Noncurrent {
             change,
@@ -302,7 +275,7 @@ pub fn row_line(
                 start,
                 writer,
             };
-            Ok(stale_line(alloc, image, tables, name, evidence)?)
+            Ok(stale(alloc, image, tables, evidence)?)
         }
         Verdict::Nonresident {
             change,
@@ -316,7 +289,7 @@ pub fn row_line(
                 start,
                 writer,
             };
-            Ok(gone_line(alloc, image, tables, name, evidence)?)
+            Ok(gone(alloc, image, tables, evidence)?)
         }
     }
 }

@@ -3,10 +3,10 @@
 ghost use Rattle.image_form.specs.Form.{form};
 ghost use Rattle.image_form.specs.Rules.{IsImage};
 
-use crate::{Engine, Halt, Stops};
+use crate::{Engine, Halt, Shown, Stops};
 use image_form::Image;
-use script_form::Command;
-use std::alloc::{AllocError, Global};
+use script_form::read;
+use std::alloc::Global;
 use std::process::Abort;
 use std::test::Fail;
 
@@ -25,29 +25,31 @@ struct Session {
     lines: &'static [&'static str],
 }
 
-fn command_of(alloc: Global, order: &str) -> Result<Command, AllocError> {
-    match order.strip_prefix("print ") {
-        Some(name) => Ok(Command::Print(String::from_str(alloc, name)?)),
-        None => Ok(Command::Step),
+/// The lines of the commands of a script.
+fn answer_all(
+    alloc: Global,
+    engine: &mut Engine<'_>,
+    script: &str,
+    lines: &mut Vec<Vec<u8>>,
+) -> Result<(), Fail> {
+    let Ok(commands) = read(alloc, script.as_bytes()) else {
+        return Err(Fail::from("a script"));
+    };
+    for command in &commands {
+        let mut answered = engine.answer(alloc, command)?;
+        lines.append(&mut answered)?;
     }
+    Ok(())
 }
 
 /// The lines of these orders over an image, with an empty input.
-fn lines_of(
-    alloc: Global,
-    image: &Image,
-    limit: u64,
-    orders: &[&str],
-) -> Result<Vec<Vec<u8>>, AllocError>
+fn lines_of(alloc: Global, image: &Image, limit: u64, orders: &[&str]) -> Result<Vec<Vec<u8>>, Fail>
     requires { IsImage (form image.now) }
 {
     let mut engine = Engine::new(alloc, image, &[], limit)?;
     let mut lines = Vec::new(alloc);
     for order in orders {
-        let command = command_of(alloc, order)?;
-        for line in engine.answer(alloc, &command)? {
-            lines.push(line)?;
-        }
+        answer_all(alloc, &mut engine, order, &mut lines)?;
     }
     Ok(lines)
 }
@@ -59,7 +61,7 @@ fn assert_lines(rt: &impl Abort, lines: &[Vec<u8>], expected: &[&str], shows: &s
     assert_eq!(rt; lines.len(), expected.len(), "{shows}");
 }
 
-fn assert_session(rt: &impl Abort, alloc: Global, session: &Session) -> Result<(), AllocError> {
+fn assert_session(rt: &impl Abort, alloc: Global, session: &Session) -> Result<(), Fail> {
     assert!(rt; session.count < 2048);
     assert!(rt; session.call < 2048);
     let image = calling_image(alloc, session.count, session.call, session.last)?;
@@ -84,6 +86,31 @@ fn the_addition_is_followed(rt: HostRuntime) -> Result<(), Fail> {
         "exit 5",
     ];
     assert_lines(&rt, &lines, &expected, "the addition");
+    Ok(())
+}
+
+#[test]
+fn a_function_is_found_by_its_name(rt: HostRuntime) -> Result<(), Fail> {
+    let image = addition_image(rt.alloc())?;
+    let orders = [
+        "break main",
+        "break nosuch",
+        "continue",
+        "where",
+        "locals",
+        "continue",
+    ];
+    let lines = lines_of(rt.alloc(), &image, 1000, &orders)?;
+    let expected = [
+        "break at 2",
+        "no function nosuch",
+        "at 2 line 2 main depth 1",
+        "#0 main line 2 place 2",
+        "no locals",
+        "out \"A\"",
+        "exit 5",
+    ];
+    assert_lines(&rt, &lines, &expected, "a function's first stop");
     Ok(())
 }
 
@@ -116,7 +143,22 @@ fn a_run_has_its_own_output(rt: HostRuntime) -> Result<(), Fail> {
     Ok(())
 }
 
-static SESSIONS: [Session; 16] = [
+#[test]
+fn a_name_is_shown_at_a_stop_alone(rt: HostRuntime) -> Result<(), Fail> {
+    let image = addition_image(rt.alloc())?;
+    let mut engine = Engine::new(rt.alloc(), &image, &[], 1000)?;
+    assert!(rt; matches!(engine.show(rt.alloc(), "x")?, Shown::NoStop));
+    engine.run_to(&Stops::Any)?;
+    assert!(rt; matches!(engine.show(rt.alloc(), "x")?, Shown::NoName));
+    engine.run_to(&Stops::Any)?;
+    let Shown::Value(text) = engine.show(rt.alloc(), "x")? else {
+        return Err(Fail::from("x is visible"));
+    };
+    assert_eq!(rt; text.as_slice(), b"2".as_slice());
+    Ok(())
+}
+
+static SESSIONS: [Session; 20] = [
     Session {
         shows: "prints before, at and behind stops",
         count: 2,
@@ -433,6 +475,87 @@ static SESSIONS: [Session; 16] = [
             "fault 0x00010074",
             "no stop",
             "fault 0x00010074",
+            "no stop",
+        ],
+    },
+    Session {
+        shows: "marked stops, activations and variables",
+        count: 2,
+        call: 10,
+        last: 0x73,
+        limit: 1000,
+        orders: &[
+            "where", "locals", "break 1", "break 2", "break 99", "break f", "continue", "where",
+            "locals", "continue", "where", "print x", "locals", "step", "where", "continue",
+            "continue", "locals", "where",
+        ],
+        lines: &[
+            "no stop",
+            "no stop",
+            "break at 2",
+            "break at 3",
+            "no place on line 99",
+            "no function f",
+            "at 2 line 1 f depth 2",
+            "#0 f line 1 place 2",
+            "no locals",
+            "at 3 line 2 f depth 2",
+            "#0 f line 2 place 3",
+            "x = 3",
+            "x = 3",
+            "at 8 line 6 main depth 1",
+            "#0 main line 6 place 8",
+            "out \"AA\"",
+            "exit -5",
+            "exit -5",
+            "no stop",
+            "no stop",
+        ],
+    },
+    Session {
+        shows: "nothing behind a quit",
+        count: 2,
+        call: 10,
+        last: 0x73,
+        limit: 1000,
+        orders: &[
+            "break 6", "break 6", "continue", "locals", "quit", "step", "print y", "break 5",
+            "where",
+        ],
+        lines: &[
+            "break at 8",
+            "break at 8",
+            "at 8 line 6 main depth 1",
+            "x = 9",
+            "y = -5",
+        ],
+    },
+    Session {
+        shows: "an ending again",
+        count: 2,
+        call: 10,
+        last: 0x73,
+        limit: 1000,
+        orders: &["continue", "break 7", "continue", "where"],
+        lines: &["out \"AA\"", "exit -5", "break at 9", "exit -5", "no stop"],
+    },
+    Session {
+        shows: "output of stops that are passed by",
+        count: 2,
+        call: 10,
+        last: 0x73,
+        limit: 1000,
+        orders: &[
+            "break 7", "continue", "locals", "continue", "continue", "where",
+        ],
+        lines: &[
+            "break at 9",
+            "out \"AA\"",
+            "at 9 line 7 main depth 1",
+            "x = 9",
+            "y = -5",
+            "exit -5",
+            "exit -5",
             "no stop",
         ],
     },

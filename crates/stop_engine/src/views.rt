@@ -6,13 +6,15 @@ ghost use Rattle.image_form.specs.Rules.{IsImage};
 ghost use Rattle.image_form.specs.RulesOfFunctions.{IsPlaceNumber};
 ghost use Rattle.stop_engine.specs.Rows.{IsRow};
 ghost use Rattle.stop_engine.specs.Tables.{AreTablesOf};
-ghost use Rattle.stop_engine.specs.Shown.{is_static_before, lines_of_rows, locals_lines, name_line, position_of_place, row_of, static_of, where_lines};
+ghost use Rattle.stop_engine.specs.Shown.{is_static_before, lines_of_rows, locals_lines, name_sight, position_of_place, row_of, static_of, where_lines};
+ghost use Rattle.stop_engine.specs.Sight.{sight_of};
 
 use crate::frames::{frame_lines, frame_places};
-use crate::rows::{held_text, row_line};
+use crate::rows::{held_text, row_shown};
+use crate::shown::{Shown, shown_line};
 use crate::tables::Tables;
 use image_form::{Image, Variable, VisibleRow};
-use line_form::{no_locals_line, nothing_here_line, value_line};
+use line_form::no_locals_line;
 use rv_machine::machine::Machine;
 use std::alloc::{AllocError, Global};
 
@@ -61,30 +63,30 @@ fn visible_row(image: &Image, tables: &Tables, place: u32, name: &[u8]) -> Optio
     None
 }
 
-/// What is said of a name: of the first visible variable that has it, else of the first static one that is declared before the place.
-/// `AllocError` where memory for the text was refused, as for the other lines.
-pub fn name_line(
+/// What is shown of a name: of the first visible variable that has it, else of the first static one that is declared before the place.
+/// `AllocError` where memory for the text was refused, as for the lines.
+pub fn name_shown(
     alloc: Global,
     image: &Image,
     machine: &Machine,
     tables: &Tables,
     place: u32,
     name: &[u8],
-) -> Result<Vec<u8>, AllocError>
+) -> Result<Shown, AllocError>
     requires image { IsImage (form image.now) }
     requires place { IsPlaceNumber (form image.now) place }
     requires tables { AreTablesOf (form image.now) tables.now }
-    ensures { IfOk result (λ line. line.items ≡ name_line (form image.now) machine.now place name.now) }
+    ensures { IfOk result (λ shown. sight_of shown ≡ name_sight (form image.now) machine.now place name.now) }
 {
     if let Some(row) = visible_row(image, tables, place, name) {
-        return Ok(row_line(alloc, image, machine, tables, name, row)?);
+        return Ok(row_shown(alloc, image, machine, tables, row)?);
     }
     match static_of(image, tables, position_of_place(image, place), name) {
         Some(variable) => {
-            let text = held_text(alloc, image, machine, place, variable)?;
-            Ok(value_line(alloc, name, &text)?)
+            let value = held_text(alloc, image, machine, place, variable)?;
+            Ok(Shown::Value(value))
         }
-        None => Ok(nothing_here_line(alloc, name)?),
+        None => Ok(Shown::NoName),
     }
 }
 
@@ -104,7 +106,8 @@ fn lines_of_rows(
     for row in &image.rows {
         if row.place == place {
             let name = tables.names.variable(image, row.variable as usize);
-            let line = row_line(alloc, image, machine, tables, name, *row)?;
+            let shown = row_shown(alloc, image, machine, tables, *row)?;
+            let line = shown_line(alloc, name, &shown)?;
             lines.push(line)?;
         }
     }
