@@ -1,25 +1,24 @@
 //! What whole expressions mean (6.5), each part before what holds it, in text order.
 
-ghost use Rattle.std.specs.Prelude.{◌≡◌, [], ◌∷◌, IfOk, fold, map};
+ghost use Rattle.std.specs.Prelude.{◌≡◌, IfOk, map};
 ghost use Rattle.std.specs.Option.{option_map};
-ghost use Rattle.c_tree.specs.Expressions.{Comma, chain, expression_view, operation, suffix_view, suffixed};
-ghost use Rattle.c_tree.specs.Ends.{first_of};
+ghost use Rattle.c_tree.specs.Expressions.{chain, expression_view, suffix_view};
 ghost use Rattle.c_tree.specs.TypedExpressions.{arguments_view};
 ghost use Rattle.c_type_values.specs.Values.{meant_view, value_view};
-ghost use Rattle.c_type_expressions.specs.Chains.{function_called, operation_met, operation_view, operations_met, suffix_met, suffixes_met};
+ghost use Rattle.c_type_expressions.specs.Chains.{commas_met, function_called, operation_view, operations_met, suffix_met, suffixes_met};
 ghost use Rattle.c_type_expressions.specs.Expressions.{typed, typed_all};
 ghost use Rattle.c_type_expressions.specs.Findings.{findings_view, gives};
 ghost use Rattle.c_type_expressions.specs.Judgements.{valued};
 ghost use Rattle.c_type_expressions.specs.Names.{names_view, signature_view};
 
-use crate::call::{argument_list, called, noted, passed_to, uncallable};
+use crate::call::{argument_list, called, noted, parameter_at, passed_to, uncallable};
 use crate::findings::Findings;
 use crate::judgement::{
     assignment, cast, chosen, followed, indexed, literal_met, measured, named, number_of, operated,
     prefixed, size_value, sized, stepping, valued,
 };
 use crate::names::{Names, Signature};
-use crate::operand::{function_named, is_zero};
+use crate::operand::{direct_callee, is_zero};
 use c_tree::{Arguments, BinaryOperator, Direction, Expression, Given, Scalar, Suffix};
 use c_type_rules::scalar_size;
 use c_type_values::{Meant, Value};
@@ -48,7 +47,21 @@ pub fn expression(
         Expression::Literal { extent, bytes } => literal_met(alloc, found, extent.first, bytes),
         Expression::Parenthesized { inner, .. } => expression(alloc, names, found, inner),
         Expression::Postfix { operand, suffixes } => {
-            postfix(alloc, names, found, operand, suffixes)
+            match direct_callee(names, operand, suffixes) {
+                Some(function) => suffixed(
+                    alloc,
+                    names,
+                    found,
+                    Some(function),
+                    None,
+                    operand.first(),
+                    suffixes,
+                ),
+                None => {
+                    let meant = expression(alloc, names, found, operand)?;
+                    suffixed(alloc, names, found, None, meant, operand.first(), suffixes)
+                }
+            }
         }
         Expression::Prefix {
             spot,
@@ -98,7 +111,16 @@ pub fn expression(
             }
         }
         Expression::Binary { first, operations } => {
-            operators(alloc, names, found, first, operations)
+            let meant = expression(alloc, names, found, first)?;
+            operators(
+                alloc,
+                names,
+                found,
+                meant,
+                is_zero(first),
+                first.first(),
+                operations,
+            )
         }
         Expression::Conditional {
             condition,
@@ -138,7 +160,10 @@ pub fn expression(
                 right.last(),
             )
         }
-        Expression::Comma { first, rest } => commas(alloc, names, found, first, rest),
+        Expression::Comma { first, rest } => {
+            let meant = expression(alloc, names, found, first)?;
+            commas(alloc, names, found, meant, rest)
+        }
     }
 }
 
@@ -156,58 +181,40 @@ pub fn value(
     valued(alloc, meant)
 }
 
-/// An operand and what stands behind it.
+/// Suffixes behind an operand, or behind the function that it names.
 #[cycle(meaning)]
-fn postfix(
+fn suffixed(
     alloc: Global,
     names: &Names,
     found: &mut Findings,
-    operand: &Expression,
-    suffixes: &[Suffix],
-) -> Result<Option<Meant>, AllocError>
-    ensures { IfOk result (λ m. gives (option_map meant_view m) (findings_view found.new) ≡ typed (names_view names.now) (fold suffixed (expression_view operand.now) (map suffix_view suffixes.now)) (findings_view found.old)) }
-{
-    let first = operand.first();
-    if let Some(Suffix::Call { arguments, last }) = suffixes.first() {
-        if let Some(function) = function_named(names, operand) {
-            let meant = call(alloc, names, found, function, arguments, first, *last)?;
-            return behind(alloc, names, found, meant, first, &suffixes[1..]);
-        }
-    }
-    let meant = expression(alloc, names, found, operand)?;
-    behind(alloc, names, found, meant, first, suffixes)
-}
-
-/// Suffixes behind what is no name of a function.
-#[cycle(meaning)]
-fn behind(
-    alloc: Global,
-    names: &Names,
-    found: &mut Findings,
+    function: Option<&Signature>,
     operand: Option<Meant>,
     first: Spot,
     suffixes: &[Suffix],
 ) -> Result<Option<Meant>, AllocError>
-    ensures { IfOk result (λ m. gives (option_map meant_view m) (findings_view found.new) ≡ suffixes_met (names_view names.now) first (map suffix_view suffixes.now) (option_map meant_view operand) (findings_view found.old)) }
+    ensures { IfOk result (λ m. gives (option_map meant_view m) (findings_view found.new) ≡ suffixes_met (names_view names.now) (option_map (λ g. signature_view g.now) function.entry) first (map suffix_view suffixes.now) (option_map meant_view operand) (findings_view found.old)) }
 {
+    let mut callee = function;
     let mut meant = operand;
     for one in suffixes {
-        meant = suffix(alloc, names, found, meant, first, one)?;
+        meant = suffix(alloc, names, found, callee, meant, first, one)?;
+        callee = None;
     }
     Ok(meant)
 }
 
-/// One suffix behind what is no name of a function.
+/// One suffix behind an operand, or behind the function that it names.
 #[cycle(meaning)]
 fn suffix(
     alloc: Global,
     names: &Names,
     found: &mut Findings,
+    function: Option<&Signature>,
     operand: Option<Meant>,
     first: Spot,
     suffix: &Suffix,
 ) -> Result<Option<Meant>, AllocError>
-    ensures { IfOk result (λ m. gives (option_map meant_view m) (findings_view found.new) ≡ suffix_met (names_view names.now) first (suffix_view suffix.now) (option_map meant_view operand) (findings_view found.old)) }
+    ensures { IfOk result (λ m. gives (option_map meant_view m) (findings_view found.new) ≡ suffix_met (names_view names.now) (option_map (λ g. signature_view g.now) function.entry) first (suffix_view suffix.now) (option_map meant_view operand) (findings_view found.old)) }
 {
     match suffix {
         Suffix::Index { index, last } => {
@@ -215,11 +222,14 @@ fn suffix(
             let left = valued(alloc, operand)?;
             indexed(alloc, found, left, right, first, *last)
         }
-        Suffix::Call { arguments, last } => {
-            passed(alloc, names, found, arguments, &[])?;
-            let operand = valued(alloc, operand)?;
-            uncallable(found, operand, first, *last)
-        }
+        Suffix::Call { arguments, last } => match function {
+            Some(function) => call(alloc, names, found, function, arguments, first, *last),
+            None => {
+                passed(alloc, names, found, arguments, &[])?;
+                let operand = valued(alloc, operand)?;
+                uncallable(found, operand, first, *last)
+            }
+        },
         Suffix::Increment { last } => stepping(
             alloc,
             found,
@@ -274,29 +284,30 @@ fn passed(
     let mut fit = true;
     for (at, e) in arguments.iter().enumerate() {
         let given = value(alloc, names, found, e)?;
-        let parameter = parameters.get(at).copied();
+        let parameter = parameter_at(parameters, at);
         let (tree, fits) = passed_to(alloc, parameter, given, is_zero(e))?;
         trees.push(tree)?;
-        fit = fit && fits;
+        fit &= fits;
     }
     let all = argument_list(alloc, trees)?;
     Ok((all, fit && parameters.len() <= arguments.len()))
 }
 
-/// Operators of one level, each with its right operand.
+/// Operators of one level behind an operand, each with its right operand.
 #[cycle(meaning)]
 fn operators(
     alloc: Global,
     names: &Names,
     found: &mut Findings,
-    first: &Expression,
+    operand: Option<Meant>,
+    is_zero_token: bool,
+    first: Spot,
     operations: &[(BinaryOperator, Expression)],
 ) -> Result<Option<Meant>, AllocError>
-    ensures { IfOk result (λ m. gives (option_map meant_view m) (findings_view found.new) ≡ typed (names_view names.now) (fold operation (expression_view first.now) (map operation_view operations.now)) (findings_view found.old)) }
+    ensures { IfOk result (λ m. gives (option_map meant_view m) (findings_view found.new) ≡ operations_met (names_view names.now) first is_zero_token (map operation_view operations.now) (option_map meant_view operand) (findings_view found.old)) }
 {
-    let start = first.first();
-    let mut zero = is_zero(first);
-    let mut meant = expression(alloc, names, found, first)?;
+    let mut meant = operand;
+    let mut zero = is_zero_token;
     for (operator, operand) in operations {
         let right = value(alloc, names, found, operand)?;
         let left = valued(alloc, meant)?;
@@ -308,7 +319,7 @@ fn operators(
             right,
             zero,
             is_zero(operand),
-            start,
+            first,
             operand.last(),
         )?;
         zero = false;
@@ -316,20 +327,20 @@ fn operators(
     Ok(meant)
 }
 
-/// Expressions with commas between them.
+/// Expressions behind commas, behind an operand.
 #[cycle(meaning)]
 fn commas(
     alloc: Global,
     names: &Names,
     found: &mut Findings,
-    first: &Expression,
+    operand: Option<Meant>,
     rest: &[Expression],
 ) -> Result<Option<Meant>, AllocError>
-    ensures { IfOk result (λ m. gives (option_map meant_view m) (findings_view found.new) ≡ typed (names_view names.now) (fold Comma (expression_view first.now) (map expression_view rest.now)) (findings_view found.old)) }
+    ensures { IfOk result (λ m. gives (option_map meant_view m) (findings_view found.new) ≡ commas_met (names_view names.now) (map expression_view rest.now) (option_map meant_view operand) (findings_view found.old)) }
 {
-    let mut meant = expression(alloc, names, found, first)?;
-    for operand in rest {
-        let right = value(alloc, names, found, operand)?;
+    let mut meant = operand;
+    for e in rest {
+        let right = value(alloc, names, found, e)?;
         let left = valued(alloc, meant)?;
         meant = followed(alloc, left, right)?;
     }
