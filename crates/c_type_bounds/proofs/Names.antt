@@ -1,5 +1,5 @@
 -- What stands behind suffixes, operators and commas is no name.
-use Rattle.std.proofs.Common.{◌≡◌, ◌≢◌, ℕ, List, [], ◌∷◌, length, refl, true, false, true≢false}
+use Rattle.std.proofs.Common.{◌≡◌, ◌≢◌, ℕ, List, [], ◌∷◌, length, refl, false, true≢false}
 use Rattle.std.specs.Prelude.{fold, map, ◌==◌}
 use Rattle.c_tree.specs.declared.operator.BinaryOperator.{BinaryOperator}
 use Rattle.c_tree.specs.Expressions.{ExpressionTree, SuffixTree, Indexes, Calls, Increments, Decrements, Comma, operation, suffixed}

@@ -1,6 +1,5 @@
 -- The limits of the compiler on programs that break no other rule.
-use Rattle.std.specs.Prelude.{ℕ, zero, suc, ◌+◌, ◌^◌, nat_lt, ◌||◌, List, [], ◌∷◌, length, map, sum_by, take, drop, Bool, true, false, Option, Some, None, Result, Ok, Err, if◌then◌else◌}
-use Rattle.debug_records.specs.declared.source.Spot.{Spot}
+use Rattle.std.specs.Prelude.{ℕ, zero, suc, ◌+◌, ◌^◌, nat_lt, ◌||◌, List, [], ◌∷◌, length, sum_by, take, drop, true, Option, Some, None, Result, Ok, Err, if◌then◌else◌}
 use Rattle.debug_records.specs.declared.code.Code.{Code}
 use Rattle.debug_records.specs.declared.code.Letter.TheVariants.{L}
 use Rattle.c_tree.specs.Programs.{AutomaticTree, StaticTree, LiteralTree, TypedFunctionTree, ProgramTree}

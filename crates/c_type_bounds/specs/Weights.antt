@@ -9,9 +9,9 @@ use Rattle.c_tree.specs.Expressions.{ExpressionTree, expression_view, Name, Cons
 use Rattle.c_tree.specs.Expressions as expression
 use Rattle.c_tree.specs.Declarations.{BracketsTree, Absent, Empty, Sized, InitializerTree, Value, Braces, InitializerTrees, DeclaratorTree, DeclarationTree, ParameterTree}
 use Rattle.c_tree.specs.Declarations as declaration
-use Rattle.c_tree.specs.Statements.{StartTree, StatementTree, StatementTrees, BlockTree, chain}
+use Rattle.c_tree.specs.Statements.{StartTree, StatementTree, StatementTrees, BlockTree, BranchTree, LabelTree, CaseLabel, DefaultLabel, chain}
 use Rattle.c_tree.specs.Statements as statement
-use Rattle.c_tree.specs.Trees.{FunctionTree, ItemTree, Include, Declares, Defines}
+use Rattle.c_tree.specs.Trees.{ItemTree, Include, Declares, Defines}
 
 -- the weight of an operator before its operand
 abbrev pub prefix_weight : PrefixOperator → ℕ
@@ -112,8 +112,19 @@ abbrev mutual
   statements_weight statement.none = 0
   statements_weight (statement.first s rest) = statement_weight s + statements_weight rest
 
+-- a condition and what it decides on
+abbrev pub branch_weight : BranchTree → ℕ
+branch_weight b = 1 + weight_of b.condition + statement_weight b.then
+
+abbrev pub label_weight : LabelTree → ℕ
+label_weight (CaseLabel extent e) = 1 + weight_of e
+label_weight (DefaultLabel extent) = 1
+
+abbrev pub parameter_weight : ParameterTree → ℕ
+parameter_weight p = 1 + size_weight p.brackets
+
 abbrev pub parameters_weight : List ParameterTree → ℕ
-parameters_weight = sum_by (λ p. 1 + size_weight p.brackets)
+parameters_weight = sum_by parameter_weight
 
 -- a function's definition: it, its parameters and its block
 abbrev pub definition_weight : List ParameterTree → BlockTree → ℕ

@@ -4,4 +4,6 @@
 pub mod count;
 pub mod room;
 pub mod weight;
+pub mod weight_of_statement;
 
+pub use weight_of_statement::{definition_weight, tree_weight};

@@ -8,7 +8,9 @@ ghost use Rattle.c_type_bounds.specs.Counts.{capped};
 ghost use Rattle.c_type_bounds.specs.Weights.{declarator_weight, declarators_weight, initial_weight, initializer_weight, initializers_weight, is_name as named, operation_view, prefix_weight, size_weight, weight_if_any, weight_of, weight_of_all};
 
 use crate::count::plus;
-use c_tree::{BinaryOperator, Brackets, Declarator, Expression, Initializer, PrefixOperator, Suffix};
+use c_tree::{
+    BinaryOperator, Brackets, Declarator, Expression, Initializer, PrefixOperator, Suffix,
+};
 
 /// What an operator before its operand weighs.
 fn prefix_weight(operator: PrefixOperator) -> u64
@@ -77,7 +79,9 @@ pub fn weight(e: &Expression) -> u64
             suffixes_weight(weight(operand), is_name(operand), suffixes)
         }
         Expression::Prefix {
-            operator, operand, ..
+            operator,
+            operand,
+            ..
         } => plus(prefix_weight(*operator), weight(operand)),
         Expression::Cast { operand, .. } => plus(1, weight(operand)),
         Expression::Binary { first, operations } => operations_weight(weight(first), operations),

@@ -16,6 +16,7 @@ pub suffixes_weight-loop-suffix-preserved : goal.suffixes_weight-loop-suffix-pre
 suffixes_weight-loop-suffix-preserved t c = λ e operand name.
     let before = c.loop-suffix.invariant e operand name in
     let more = suffix_more e c.args.suffixes.now c.loop-suffix.suffix-index c.suffix-item.result c.suffix-item.is c.loop-suffix-test.true in
-    let so_far = fold suffixed e (map suffix_view (take c.loop-suffix.suffix-index c.args.suffixes.now)) in
-    (c.suffix_weight-total.ensures so_far before.0 before.1 ∙ ap (λ x. capped (weight_of x)) (sym more),
-        sym (ap is_name more ∙ suffixed_name so_far (suffix_view c.suffix-item.result)))
+    let so_far = fold suffixed e (map suffix_view (take c.loop-suffix.suffix-index c.args.suffixes.now)) in (
+      c.suffix_weight-total.ensures so_far before.0 before.1 ∙ ap (λ x. capped (weight_of x)) (sym more),
+      sym (ap is_name more ∙ suffixed_name so_far (suffix_view c.suffix-item.result)),
+    )

@@ -1,4 +1,4 @@
-use Rattle.std.proofs.Common.{◌≡◌, take, not}
+use Rattle.std.proofs.Common.{◌≡◌, take}
 use Rattle.std.specs.Prelude.{fold, map, sum_by}
 use Rattle.c_tree.specs.Expressions.{Comma, ExpressionTree, expression_view, operation, suffix_view, suffixed}
 use Rattle.c_type_bounds.specs.Counts.{capped}
