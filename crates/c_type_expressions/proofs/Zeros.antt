@@ -1,5 +1,5 @@
 -- What is no constant token 0, and names no function: what stands behind suffixes, operators and commas.
-use Rattle.std.proofs.Common.{◌≡◌, ◌≢◌, ℕ, List, [], ◌∷◌, Bool, true, false, true≢false, length, Option, None, refl}
+use Rattle.std.proofs.Common.{◌≡◌, ◌≢◌, ℕ, List, [], ◌∷◌, false, true≢false, length, None, refl}
 use Rattle.std.specs.Prelude.{fold, map, ◌==◌}
 use Rattle.c_tree.specs.declared.operator.BinaryOperator.{BinaryOperator}
 use Rattle.c_tree.specs.Expressions.{ExpressionTree, SuffixTree, Indexes, Calls, Increments, Decrements, Comma, operation, suffixed}

@@ -1,5 +1,5 @@
 -- What expressions mean (6.5), each part before what holds it, in text order.
-use Rattle.std.specs.Prelude.{ℕ, ◌+◌, ◌==◌, nat_le, pos, List, [], ◌∷◌, length, Bool, true, false, Option, Some, None, slice_get}
+use Rattle.std.specs.Prelude.{ℕ, ◌+◌, ◌==◌, nat_le, pos, List, [], length, Bool, false, Option, Some, None, slice_get}
 use Rattle.std.specs.Option.{option_map}
 use Rattle.debug_records.specs.declared.source.Spot.{Spot}
 use Rattle.c_tree.specs.declared.object_type.Scalar.{Scalar}
@@ -10,11 +10,11 @@ use Rattle.c_tree.specs.Expressions as tree
 use Rattle.c_tree.specs.TypedExpressions as typed-tree
 use Rattle.c_tree.specs.Ends.{first_of, last_of}
 use Rattle.c_type_rules.specs.Integers.{scalar_size}
-use Rattle.c_type_values.specs.Values.{ValueTree, MeantTree, IsValue}
+use Rattle.c_type_values.specs.Values.{ValueTree, IsValue}
 use Rattle.c_type_values.specs.Pointers.{element_of}
 use Rattle.c_type_values.specs.Operations.{operation_of, combined, conditional, sequenced}
 use Rattle.c_type_expressions.specs.declared.names.Meaning.{Meaning}
-use Rattle.c_type_expressions.specs.declared.names.Meaning.TheVariants.{Variable, Function, EndOfFile}
+use Rattle.c_type_expressions.specs.declared.names.Meaning.TheVariants.{Function}
 use Rattle.c_type_expressions.specs.Codes.{E22}
 use Rattle.c_type_expressions.specs.Names.{Names, SignatureTree, meaning_of}
 use Rattle.c_type_expressions.specs.Findings.{FoundTree, Checked, gives, next, with_one, with_two, with_three, judged, restored}

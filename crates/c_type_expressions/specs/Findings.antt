@@ -1,5 +1,5 @@
 -- What is found while a source is checked.
-use Rattle.std.specs.Prelude.{ℕ, List, [], ◌∷◌, ◌++◌, map, take, length, Option, Some, None}
+use Rattle.std.specs.Prelude.{ℕ, List, [], ◌∷◌, ◌++◌, map, take, Option, Some, None}
 use Rattle.debug_records.specs.declared.source.Spot.{Spot}
 use Rattle.debug_records.specs.declared.code.Code.{Code}
 use Rattle.c_tree.specs.Programs.{LiteralTree, literal_view}

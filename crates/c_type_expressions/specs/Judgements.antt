@@ -2,7 +2,6 @@
 use Rattle.std.specs.Prelude.{ℕ, suc, ◌+◌, ◌*◌, ◌%◌, ◌^◌, ◌==◌, ℤ, pos, negsuc, List, [], ◌∷◌, length, Bool, true, false, ◌&&◌, Option, Some, None, if◌then◌else◌}
 use Rattle.std.specs.Option.{option_map}
 use Rattle.debug_records.specs.declared.source.Spot.{Spot}
-use Rattle.debug_records.specs.declared.code.Code.{Code}
 use Rattle.c_tree.specs.declared.types.IntegerType.{IntegerType}
 use Rattle.c_tree.specs.declared.types.IntegerType.TheVariants.{Char, Int, UnsignedInt}
 use Rattle.c_tree.specs.declared.types.Base.{Base}
@@ -25,7 +24,7 @@ use Rattle.c_tree.specs.declared.typed_expression.Sign.TheVariants.{Plus, Minus,
 use Rattle.c_tree.specs.declared.typed_expression.Direction.{Direction}
 use Rattle.c_tree.specs.declared.typed_expression.Direction.TheVariants.{Up, Down}
 use Rattle.c_tree.specs.declared.typed_expression.Given.{Given}
-use Rattle.c_tree.specs.declared.typed_expression.Given.TheVariants.{New, Old}
+use Rattle.c_tree.specs.declared.typed_expression.Given.TheVariants.{New}
 use Rattle.c_tree.specs.declared.typed_expression.Callee.{Callee}
 use Rattle.c_tree.specs.TypedExpressions.{RvalueTree, Constant, Null, Convert, Named, Call, ArgumentTrees}
 use Rattle.c_tree.specs.TypedExpressions as typed-tree
@@ -35,14 +34,14 @@ use Rattle.c_type_rules.specs.Integers.{object_size}
 use Rattle.c_type_rules.specs.Types.{loaded, value_size}
 use Rattle.c_type_rules.specs.Constancies.{converted_constant}
 use Rattle.c_type_values.specs.Values.{ValueTree, MeantTree, IsObject, IsValue, as_value, meant_type, converted}
-use Rattle.c_type_values.specs.Pointers.{address, dereferenced, element_of}
+use Rattle.c_type_values.specs.Pointers.{address, dereferenced}
 use Rattle.c_type_values.specs.Operations.{is_scalar, signed_value, negated, discarded}
 use Rattle.c_type_values.specs.Writing.{is_modifiable, is_updatable, stepped, assigned, updated}
 use Rattle.c_type_expressions.specs.Codes.{E11, E20, E22, E23, E24}
 use Rattle.c_type_expressions.specs.declared.names.Meaning.{Meaning}
 use Rattle.c_type_expressions.specs.declared.names.Meaning.TheVariants.{Variable, Function, EndOfFile}
 use Rattle.c_type_expressions.specs.Names.{SignatureTree}
-use Rattle.c_type_expressions.specs.Findings.{FoundTree, Checked, gives, next, with_one, judged, faulted, with_undefined, with_literal}
+use Rattle.c_type_expressions.specs.Findings.{FoundTree, Checked, gives, with_one, judged, faulted, with_undefined, with_literal}
 
 -- what an expression means, if it breaks no rule
 abbrev pub Meant : Type 0

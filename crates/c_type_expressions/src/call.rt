@@ -1,6 +1,6 @@
 //! Calls (6.5.2.2).
 
-ghost use Rattle.std.specs.Prelude.{◌≡◌, IfOk, OnOk, map};
+ghost use Rattle.std.specs.Prelude.{◌≡◌, IfOk, OnOk, map, slice_get};
 ghost use Rattle.std.specs.Option.{option_map};
 ghost use Rattle.c_tree.specs.TypedExpressions.{arguments_view, rvalue_view};
 ghost use Rattle.c_type_values.specs.Values.{meant_view, value_view};
@@ -16,6 +16,13 @@ use c_type_values::{Meant, Value, converted};
 use debug_records::code::Code;
 use debug_records::source::Spot;
 use std::alloc::{AllocError, Global};
+
+/// The parameter of a number.
+pub fn parameter_at(parameters: &[Scalar], at: usize) -> Option<Scalar>
+    ensures { result ≡ slice_get parameters.now at }
+{
+    parameters.get(at).copied()
+}
 
 /// An argument as its parameter's value, and whether it fits. One with a fault of its own breaks no other rule.
 pub fn passed_to(

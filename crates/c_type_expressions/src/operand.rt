@@ -1,13 +1,14 @@
 //! What an operand is as it is written.
 
-ghost use Rattle.std.specs.Prelude.{◌≡◌};
-ghost use Rattle.c_tree.specs.Expressions.{expression_view};
+ghost use Rattle.std.specs.Prelude.{◌≡◌, map};
+ghost use Rattle.c_tree.specs.Expressions.{expression_view, suffix_view};
 ghost use Rattle.std.specs.Option.{option_map};
+ghost use Rattle.c_type_expressions.specs.Chains.{direct_callee};
 ghost use Rattle.c_type_expressions.specs.Expressions.{function_meant, function_named, function_number, is_zero};
 ghost use Rattle.c_type_expressions.specs.Names.{names_view, signature_view};
 
 use crate::names::{Meaning, Names, Signature};
-use c_tree::Expression;
+use c_tree::{Expression, Suffix};
 
 /// Whether an expression is a constant token of value 0, perhaps in parentheses.
 pub fn is_zero(e: &Expression) -> bool
@@ -98,5 +99,19 @@ pub fn function_named<'a>(names: &'a Names, e: &Expression) -> Option<&'a Signat
     match function_number(names, e) {
         None => None,
         Some(number) => names.signatures.get(number as usize),
+    }
+}
+
+/// The function that is called, where the first suffix is a call and the operand names a function.
+pub fn direct_callee<'a>(
+    names: &'a Names,
+    operand: &Expression,
+    suffixes: &[Suffix],
+) -> Option<&'a Signature>
+    ensures { option_map (λ s. signature_view s.now) result ≡ direct_callee (names_view names.now) (expression_view operand.now) (map suffix_view suffixes.now) }
+{
+    match suffixes.first() {
+        Some(Suffix::Call { .. }) => function_named(names, operand),
+        _ => None,
     }
 }

@@ -1,4 +1,4 @@
-use Rattle.std.proofs.Common.{◌≡◌, ℕ, length, vec_len, sym, ◌∙◌, arith}
+use Rattle.std.proofs.Common.{◌≡◌, length, vec_len, sym, ◌∙◌, arith}
 use Rattle.std.specs.Prelude.{map}
 use Rattle.c_tree.specs.Expressions.{expression_view, suffix_view}
 use Rattle.c_tree.proofs.Views.{postfix_view, binary_view, comma_view}

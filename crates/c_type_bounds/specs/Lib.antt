@@ -1,0 +1,4 @@
+pub mod Counts
+pub mod Weights
+pub mod Visible
+pub mod Bounds
