@@ -13,16 +13,18 @@ pub enum Status {
     Done,
     /// The words of the command line are no job.
     Usage,
-    /// The source breaks the rule of the code, on this line.
+    /// The source breaks the rule of the code, on this line, counted from 1.
     SourceRefused(Code, u32),
-    /// The script breaks the rule of the code, on this line.
-    ScriptRefused(Code, u32),
+    /// The script breaks the rule of the code, on this line, counted from 1.
+    ScriptRefused(Code, usize),
     /// A text could not be read.
     ReadFault,
     /// The image or a line of the transcript could not be written.
     WriteFault,
     /// Memory was wanting.
     NoMemory,
+    /// The bytes are no image: the code of the first rule that they break, and the byte, counted from 0, at which they do.
+    ImageRefused(Code, usize),
     /// The text of this name is longer than its limit.
     TooLong(String),
 }
@@ -40,6 +42,7 @@ impl Status {
             Status::ReadFault => 5,
             Status::WriteFault => 6,
             Status::NoMemory => 7,
+            Status::ImageRefused(_, _) => 8,
             Status::TooLong(_) => 9,
         }
     }
@@ -61,6 +64,9 @@ pub fn fault_text(alloc: Global, status: &Status) -> Result<String, AllocError>
         Status::ReadFault => String::from_str(alloc, "cdbg: read failed"),
         Status::WriteFault => String::from_str(alloc, "cdbg: write failed"),
         Status::NoMemory => String::from_str(alloc, "cdbg: out of memory"),
+        Status::ImageRefused(code, offset) => {
+            format!(in alloc; "cdbg: image refused {code} offset {offset}")
+        }
         Status::TooLong(name) => format!(in alloc; "cdbg: too long {name}"),
     }
 }

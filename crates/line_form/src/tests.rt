@@ -159,6 +159,11 @@ fn statuses_have_numbers_and_texts(rt: HostRuntime) -> Result<(), Fail> {
         (Status::WriteFault, 6, "cdbg: write failed"),
         (Status::NoMemory, 7, "cdbg: out of memory"),
         (
+            Status::ImageRefused(Code::LENGTH, 8),
+            8,
+            "cdbg: image refused I04 offset 8",
+        ),
+        (
             Status::TooLong(String::from_str(rt.alloc(), "a script")?),
             9,
             "cdbg: too long a script",
