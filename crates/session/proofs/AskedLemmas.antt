@@ -3,36 +3,41 @@ use Rattle.std.proofs.Common.{◌≡◌, ◌⊎◌, ◌∙◌, inr, refl, sym, s
 use Rattle.std.specs.Prelude.{Option, Some, None, Result, Err, IfNone, IfSome, MatchOption}
 use Rattle.std.specs.Option.{ok_or}
 use Rattle.line_form.specs.declared.status.Status.{Status}
-use Rattle.line_form.specs.declared.status.Status.TheVariants.{Done, Usage, SourceRefused, ScriptRefused, ReadFault, WriteFault, NoMemory, TooLong}
+use Rattle.line_form.specs.declared.status.Status.TheVariants.{Done, Usage, SourceRefused, ScriptRefused, ReadFault, WriteFault, NoMemory, ImageRefused, TooLong}
 use Rattle.command_line.specs.Grammar.{IsJob, IsNoJob}
-use Rattle.command_line.specs.Job.{DebugGiven, debug, debug_given, job_given}
-use Rattle.command_line.specs.declared.job.Debug.{Debug}
+use Rattle.command_line.specs.Job.{JobGiven, attach, debug, job_given}
 use Rattle.command_line.specs.declared.job.Job.{Job}
 use Rattle.command_line.proofs.GrammarLemmas.{one_job}
-use Rattle.session.specs.Served.{AreNotServed, AreServed, Serves}
+use Rattle.session.specs.Served.{AreNotServed, AreServed, ServedJob, ForDebug, ForAttach, Serves, task_job}
 use Rattle.session.specs.Stages.{AskEnds}
+use Rattle.session.specs.declared.asking.Task.{Task}
 
--- they ask for one job
-pub one_asked : (words : List (List ℕ)) (a b : DebugGiven) → AreServed words a → AreServed words b → a ≡ b
-one_asked words a b is_a is_b =
-    let same : debug a ≡ debug b = sym is_a.served.debug_is ∙ one_job words is_a.job is_b.job is_a.words_are is_b.words_are ∙ is_b.served.debug_is in
-    cc
+-- a job is served in one way
+one_served : (job : JobGiven) (a b : ServedJob) → Serves job a → Serves job b → a ≡ b
+one_served job (ForDebug x) (ForDebug y) is_x is_y = let same : debug x ≡ debug y = sym is_x.debug_is ∙ is_y.debug_is in cc
+one_served job (ForDebug x) (ForAttach y) is_x is_y = let same : debug x ≡ attach y = sym is_x.debug_is ∙ is_y in cc
+one_served job (ForAttach x) (ForDebug y) is_x is_y = let same : attach x ≡ debug y = sym is_x ∙ is_y.debug_is in cc
+one_served job (ForAttach x) (ForAttach y) is_x is_y = let same : attach x ≡ attach y = sym is_x ∙ is_y in cc
+
+-- the words ask for one job
+pub one_asked : (words : List (List ℕ)) (a b : ServedJob) → AreServed words a → AreServed words b → a ≡ b
+one_asked words a b is_a is_b = one_served is_b.given a b (subst (λ j. Serves j a) (one_job words is_a.given is_b.given is_a.words_are is_b.words_are) is_a.served) is_b.served
 
 -- a job is served, or the words ask for none that is
-pub answered : (words : List (List ℕ)) (found : Option Job) (j : Job) (o : Option Debug) (r : Result Debug Status) → IfSome found (λ k. IsJob words (job_given k)) → found ≡ Some j
-    → MatchOption o ((a : DebugGiven) → ¬ Serves (job_given j) a) (λ d. Serves (job_given j) (debug_given d)) → r ≡ ok_or o Usage → AskEnds r words
+pub answered : (words : List (List ℕ)) (found : Option Job) (j : Job) (o : Option Task) (r : Result Task Status) → IfSome found (λ k. IsJob words (job_given k)) → found ≡ Some j
+    → MatchOption o ((a : ServedJob) → ¬ Serves (job_given j) a) (λ a. Serves (job_given j) (task_job a)) → r ≡ ok_or o Usage → AskEnds r words
 answered words found j (Some d) r is e m q =
     let job : IsJob words (job_given j) = subst (λ f. IfSome f (λ k. IsJob words (job_given k))) e is in
-    subst (λ x. AskEnds x words) (sym q) (record { job = job_given j; words_are = job; served = m })
+    subst (λ x. AskEnds x words) (sym q) (record { given = job_given j; words_are = job; served = m })
 answered words found j None r is e m q =
     let job : IsJob words (job_given j) = subst (λ f. IfSome f (λ k. IsJob words (job_given k))) e is in
-    subst (λ x. AskEnds x words) (sym q) (λ a s. m a (subst (λ k. Serves k a) (one_job words s.job (job_given j) s.words_are job) s.served))
+    subst (λ x. AskEnds x words) (sym q) (λ a s. m a (subst (λ k. Serves k a) (one_job words s.given (job_given j) s.words_are job) s.served))
 
 pub no_job : (words : List (List ℕ)) (found : Option Job) → IfNone found (IsNoJob words) → found ≡ None → AreNotServed words
-no_job words found is e = λ a s. subst (λ f. IfNone f (IsNoJob words)) e is s.job s.words_are
+no_job words found is e = λ a s. subst (λ f. IfNone f (IsNoJob words)) e is s.given s.words_are
 
 -- where the words ask for a job, only memory can be wanting
-pub refused_is_complete : (words : List (List ℕ)) (status : Status) (a : DebugGiven) → AskEnds (Err status) words → AreServed words a → (status ≡ Done) ⊎ (status ≡ NoMemory)
+pub refused_is_complete : (words : List (List ℕ)) (status : Status) (a : ServedJob) → AskEnds (Err status) words → AreServed words a → (status ≡ Done) ⊎ (status ≡ NoMemory)
 refused_is_complete words Done a h s = absurd h
 refused_is_complete words Usage a h s = absurd (h a s)
 refused_is_complete words (SourceRefused code line) a h s = absurd h
@@ -40,4 +45,5 @@ refused_is_complete words (ScriptRefused code line) a h s = absurd h
 refused_is_complete words ReadFault a h s = absurd h
 refused_is_complete words WriteFault a h s = absurd h
 refused_is_complete words NoMemory a h s = inr refl
+refused_is_complete words (ImageRefused code offset) a h s = absurd h
 refused_is_complete words (TooLong name) a h s = absurd h

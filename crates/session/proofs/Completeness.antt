@@ -5,38 +5,63 @@ use Rattle.std.specs.Global.{Global}
 use Rattle.outside.specs.Counts.{RoseOrStands}
 use Rattle.debug_records.specs.declared.code.Code.{Code}
 use Rattle.line_form.specs.declared.status.Status.{Status}
-use Rattle.line_form.specs.declared.status.Status.TheVariants.{Done, Usage, SourceRefused, ScriptRefused, ReadFault, WriteFault, NoMemory, TooLong}
-use Rattle.command_line.specs.Job.{DebugGiven}
-use Rattle.session.specs.Limits.{Held, Holds, AreWithin, InputIsTooLong, IsBeyond, IsTooLong, IsWithin, ScriptIsTooLong, input_limit}
-use Rattle.session.specs.Causes.{IsSource, IsScriptText, SourceIsRefused, ScriptIsRefused, AreAccepted}
+use Rattle.line_form.specs.declared.status.Status.TheVariants.{Done, Usage, SourceRefused, ScriptRefused, ReadFault, WriteFault, NoMemory, ImageRefused, TooLong}
+use Rattle.script_form.specs.Refusal.{IsRefused}
+use Rattle.script_form.proofs.ScriptLaws.{readings_one}
+use Rattle.session.specs.Served.{ServedJob, ForDebug, ForAttach, script_of}
+use Rattle.session.specs.Limits.{Held, Holds, AreWithin, ImageIsTooLong, ImageIsWithin, InputIsTooLong, IsBeyond, IsTooLong, IsWithin, ScriptIsTooLong, image_limit, input_limit}
+use Rattle.session.specs.Front.{IsRefusedSource, IsSource}
+use Rattle.session.proofs.Refusals.{source_apart}
+use Rattle.session.specs.Causes.{AreNoImage, ImageIsRefused, IsImageText, IsScriptText, IsUnderstood, SourceIsRefused, ScriptIsRefused, AreAccepted}
 
-contrary : (P : List ℕ → Type 0) (held : Option (List ℕ)) → Holds held P → Holds held (λ t. ¬ P t) → ⊥
-contrary P None h n = h
-contrary P (Some text) h n = n h
+-- a text is not of two kinds that exclude one another
+contrary : (P Q : List ℕ → Type 0) → ((t : List ℕ) → P t → Q t → ⊥) → (held : Option (List ℕ)) → Holds held P → Holds held Q → ⊥
+contrary P Q apart None p q = p
+contrary P Q apart (Some text) p q = apart text p q
 
 short_and_long : (limit : ℕ) (held : Option (List ℕ)) → IsWithin limit held → IsBeyond limit held → ⊥
 short_and_long limit None s l = s
 short_and_long limit (Some text) s l = let x : length text ≤ limit = s in let y : limit < length text = l in omega arith
 
-none_too_long : (held : Held) (asked : DebugGiven) (name : List ℕ) → AreWithin held asked → IsTooLong held asked name → ⊥
-none_too_long held asked name w t = ⊎_elim (λ (s : ScriptIsTooLong held asked name). short_and_long 1048576 (held asked.script) w.script s.cause) (λ (i : InputIsTooLong held asked name). short_and_long input_limit (held asked.input) w.input i.cause) t
+image_short_and_long : (held : Held) (job : ServedJob) (name : List ℕ) → ImageIsWithin held job → ImageIsTooLong held job name → ⊥
+image_short_and_long held (ForDebug given) name w t = t
+image_short_and_long held (ForAttach given) name w t = short_and_long image_limit (held given.image) w t.1
+
+none_too_long : (held : Held) (job : ServedJob) (name : List ℕ) → AreWithin held job → IsTooLong held job name → ⊥
+none_too_long held job name w t =
+    ⊎_elim (λ (i : ImageIsTooLong held job name). image_short_and_long held job name w.image i)
+    (λ u. ⊎_elim (λ (s : ScriptIsTooLong held job name). short_and_long 1048576 _ w.script s.cause) (λ (i : InputIsTooLong held job name). short_and_long input_limit _ w.input i.cause) u) t
+
+-- what is understood is not refused
+source_understood : (held : Held) (job : ServedJob) (code : Code) (line : ℕ) → IsUnderstood held job → SourceIsRefused held job code line → ⊥
+source_understood held (ForDebug given) code line u r = contrary IsSource (λ t. IsRefusedSource t code line) (λ t p n. source_apart t code line p n) (held given.source) u r
+source_understood held (ForAttach given) code line u r = r
+
+image_understood : (held : Held) (job : ServedJob) (code : Code) (offset : ℕ) → IsUnderstood held job → ImageIsRefused held job code offset → ⊥
+image_understood held (ForDebug given) code offset u r = r
+image_understood held (ForAttach given) code offset u r = contrary IsImageText (AreNoImage code offset) (λ t p n. n.none p) (held given.image) u r
+
+script_read : (held : Held) (job : ServedJob) (code : Code) (line : ℕ) → Holds (held (script_of job)) IsScriptText → ScriptIsRefused held job code line → ⊥
+script_read held job code line s r = contrary IsScriptText (λ t. IsRefused t code line) (λ t p q. readings_one.apart t p.0 code line p.1 q) (held (script_of job)) s r.cause
 
 -- what the session says of a status
-pub record IsCaused (status : Status) (held : Held) (asked : DebugGiven) (l l' s s' k k' : ℕ) : Type 0 where
+pub record IsCaused (status : Status) (held : Held) (job : ServedJob) (l l' s s' k k' : ℕ) : Type 0 where
   pub usage : status ≡ Usage → ⊥
   pub read : status ≡ ReadFault → RoseOrStands l l'
-  pub too_long : (name : String Global) → status ≡ TooLong name → IsTooLong held asked (string_bytes name)
-  pub source : (code : Code) (line : ℕ) → status ≡ SourceRefused code line → SourceIsRefused (held asked.source) code line
-  pub script : (code : Code) (line : ℕ) → status ≡ ScriptRefused code line → ScriptIsRefused (held asked.source) (held asked.script) code line
+  pub too_long : (name : String Global) → status ≡ TooLong name → IsTooLong held job (string_bytes name)
+  pub image : (code : Code) (offset : ℕ) → status ≡ ImageRefused code offset → ImageIsRefused held job code offset
+  pub source : (code : Code) (line : ℕ) → status ≡ SourceRefused code line → SourceIsRefused held job code line
+  pub script : (code : Code) (line : ℕ) → status ≡ ScriptRefused code line → ScriptIsRefused held job code line
   pub write : status ≡ WriteFault → RoseOrStands s s' ⊎ RoseOrStands k k'
 
-pub complete : (status : Status) (held : Held) (asked : DebugGiven) (l l' s s' k k' : ℕ) → IsCaused status held asked l l' s s' k k'
-    → AreWithin held asked → AreAccepted (held asked.source) (held asked.script) → ¬ RoseOrStands l l' → ¬ RoseOrStands s s' → ¬ RoseOrStands k k' → (status ≡ Done) ⊎ (status ≡ NoMemory)
-complete Done held asked l l' s s' k k' c w a nl ns nk = inl refl
-complete Usage held asked l l' s s' k k' c w a nl ns nk = absurd (c.usage refl)
-complete (SourceRefused code line) held asked l l' s s' k k' c w a nl ns nk = absurd (contrary IsSource (held asked.source) a.source (c.source code line refl).cause)
-complete (ScriptRefused code line) held asked l l' s s' k k' c w a nl ns nk = absurd (contrary IsScriptText (held asked.script) a.script (c.script code line refl).cause)
-complete ReadFault held asked l l' s s' k k' c w a nl ns nk = absurd (nl (c.read refl))
-complete WriteFault held asked l l' s s' k k' c w a nl ns nk = absurd (⊎_elim ns nk (c.write refl))
-complete NoMemory held asked l l' s s' k k' c w a nl ns nk = inr refl
-complete (TooLong name) held asked l l' s s' k k' c w a nl ns nk = absurd (none_too_long held asked (string_bytes name) w (c.too_long name refl))
+pub complete : (status : Status) (held : Held) (job : ServedJob) (l l' s s' k k' : ℕ) → IsCaused status held job l l' s s' k k'
+    → AreWithin held job → AreAccepted held job → ¬ RoseOrStands l l' → ¬ RoseOrStands s s' → ¬ RoseOrStands k k' → (status ≡ Done) ⊎ (status ≡ NoMemory)
+complete Done held job l l' s s' k k' c w a nl ns nk = inl refl
+complete Usage held job l l' s s' k k' c w a nl ns nk = absurd (c.usage refl)
+complete (SourceRefused code line) held job l l' s s' k k' c w a nl ns nk = absurd (source_understood held job code line a.before (c.source code line refl))
+complete (ScriptRefused code line) held job l l' s s' k k' c w a nl ns nk = absurd (script_read held job code line a.script (c.script code line refl))
+complete ReadFault held job l l' s s' k k' c w a nl ns nk = absurd (nl (c.read refl))
+complete WriteFault held job l l' s s' k k' c w a nl ns nk = absurd (⊎_elim ns nk (c.write refl))
+complete NoMemory held job l l' s s' k k' c w a nl ns nk = inr refl
+complete (ImageRefused code offset) held job l l' s s' k k' c w a nl ns nk = absurd (image_understood held job code offset a.before (c.image code offset refl))
+complete (TooLong name) held job l l' s s' k k' c w a nl ns nk = absurd (none_too_long held job (string_bytes name) w (c.too_long name refl))

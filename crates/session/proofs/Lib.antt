@@ -1,5 +1,6 @@
 pub mod Parts
 pub mod Orders
+pub mod Refusals
 pub mod Sessions
 pub mod AskedLemmas
 pub mod Completeness

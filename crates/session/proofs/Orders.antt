@@ -5,8 +5,8 @@ use Rattle.std.proofs.lemmas.Grind.{flat_map-append}
 use Rattle.std.proofs.lemmas.List.{drop_all}
 use Rattle.outside.specs.Taken.{TakesPart}
 use Rattle.line_form.specs.Lines.{line}
-use Rattle.thin_script.specs.declared.command.Command.{Command}
-use Rattle.thin_script.specs.Script.{Order, order_of, orders}
+use Rattle.script_form.specs.declared.command.Command.{Command}
+use Rattle.script_form.specs.Script.{Order, order_of, orders}
 use Rattle.stop_engine.specs.EngineState.{EngineState, Answers, lines_of}
 use Rattle.session.proofs.Parts.{IsUnderWay, under_way_next, under_way_part}
 

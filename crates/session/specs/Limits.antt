@@ -1,6 +1,6 @@
 -- How long the texts of a session may be.
 use Rattle.std.specs.Prelude.{◌≡◌, ◌≤◌, ◌<◌, ◌⊎◌, ℕ, List, Option, Some, None, length}
-use Rattle.command_line.specs.Job.{DebugGiven}
+use Rattle.session.specs.Served.{ServedJob, ForDebug, ForAttach, script_of, input_of}
 
 -- how many bytes a script has at most: 1 MiB
 abbrev pub script_limit : ℕ
@@ -9,6 +9,10 @@ script_limit = 1048576
 -- how many bytes an input has at most, 16 MiB: not to be computed with
 unfoldable pub input_limit : ℕ
 input_limit = 16777216
+
+-- how many bytes an image has at most that is attached, 64 MiB: not to be computed with
+unfoldable pub image_limit : ℕ
+image_limit = 67108864
 
 -- What a shelf holds, by name.
 abbrev pub Held : Type 0
@@ -27,22 +31,35 @@ IsWithin limit held = Holds held (λ text. length text ≤ limit)
 abbrev pub IsBeyond : ℕ → Option (List ℕ) → Type 0
 IsBeyond limit held = Holds held (λ text. limit < length text)
 
--- the script and the input are within their limits
-pub record AreWithin (held : Held) (asked : DebugGiven) : Type 0 where
-  pub script : IsWithin script_limit (held asked.script)
-  pub input : IsWithin input_limit (held asked.input)
+-- an image that is loaded is within its limit
+abbrev pub ImageIsWithin : Held → ServedJob → Type 0
+ImageIsWithin held (ForDebug given) = Unit {0}
+ImageIsWithin held (ForAttach given) = IsWithin image_limit (held given.image)
 
--- the input of this name is too long, and the script is not
-pub record InputIsTooLong (held : Held) (asked : DebugGiven) (name : List ℕ) : Type 0 where
-  pub named : name ≡ asked.input
-  pub script : IsWithin script_limit (held asked.script)
-  pub cause : IsBeyond input_limit (held asked.input)
+-- the texts of a job are within their limits; a source has its own rule
+pub record AreWithin (held : Held) (job : ServedJob) : Type 0 where
+  pub image : ImageIsWithin held job
+  pub script : IsWithin script_limit (held (script_of job))
+  pub input : IsWithin input_limit (held (input_of job))
 
--- the script of this name is too long
-pub record ScriptIsTooLong (held : Held) (asked : DebugGiven) (name : List ℕ) : Type 0 where
-  pub named : name ≡ asked.script
-  pub cause : IsBeyond script_limit (held asked.script)
+-- the image of this name is loaded, and too long
+abbrev pub ImageIsTooLong : Held → ServedJob → List ℕ → Type 0
+ImageIsTooLong held (ForDebug given) name = ⊥
+ImageIsTooLong held (ForAttach given) name = (name ≡ given.image) × IsBeyond image_limit (held given.image)
 
--- The text of this name is the first that is too long, of the script and the input.
-abbrev pub IsTooLong : Held → DebugGiven → List ℕ → Type 0
-IsTooLong held asked name = ScriptIsTooLong held asked name ⊎ InputIsTooLong held asked name
+-- the script of this name is too long, and no image before it
+pub record ScriptIsTooLong (held : Held) (job : ServedJob) (name : List ℕ) : Type 0 where
+  pub named : name ≡ script_of job
+  pub image : ImageIsWithin held job
+  pub cause : IsBeyond script_limit (held (script_of job))
+
+-- the input of this name is too long, and nothing before it
+pub record InputIsTooLong (held : Held) (job : ServedJob) (name : List ℕ) : Type 0 where
+  pub named : name ≡ input_of job
+  pub image : ImageIsWithin held job
+  pub script : IsWithin script_limit (held (script_of job))
+  pub cause : IsBeyond input_limit (held (input_of job))
+
+-- The text of this name is the first that is too long, of the image that is attached, the script and the input.
+abbrev pub IsTooLong : Held → ServedJob → List ℕ → Type 0
+IsTooLong held job name = ImageIsTooLong held job name ⊎ (ScriptIsTooLong held job name ⊎ InputIsTooLong held job name)

@@ -1,49 +1,64 @@
 -- What a session leaves behind.
-use Rattle.std.specs.Prelude.{◌≡◌, ℕ, ◌⊎◌, List, ◌++◌, Some}
+use Rattle.std.specs.Prelude.{◌≡◌, ℕ, ◌⊎◌, List, ◌++◌, Option, Some}
 use Rattle.outside.specs.Taken.{TakesPart}
 use Rattle.image_form.specs.Form.{Form}
 use Rattle.image_form.specs.Rules.{IsImage}
 use Rattle.image_form.specs.Spelling.{spelling}
-use Rattle.thin_script.specs.Script.{Order, IsScript}
-use Rattle.stop_engine.specs.Plain.{IsPlain}
+use Rattle.script_form.specs.Script.{Order, IsScript}
 use Rattle.stop_engine.specs.Transcript.{transcript_bytes}
 use Rattle.thin_form.specs.Tree.{ProgramTree}
 use Rattle.thin_form.specs.Thin.{IsThin}
 use Rattle.thin_build.specs.Truthful.{Truthful}
-use Rattle.command_line.specs.Job.{DebugGiven}
+use Rattle.command_line.specs.Job.{DebugGiven, AttachGiven}
+use Rattle.session.specs.Served.{ServedJob, ForDebug, ForAttach}
 use Rattle.session.specs.Limits.{Held}
+use Rattle.session.specs.Front.{HasTree}
 
--- From the source, the script and the input that the shelf held before, the session saved an image; it is truthful to the source,
--- and its transcript is made of it alone, by the script, the input and the limit that was asked for.
-pub record IsPlayed (held held' : Held) (asked : DebugGiven) (printed : List ℕ) : Type 0 where
+-- What is printed is the transcript of an image, a script and an input that stand under their names, with a limit; nothing else enters it.
+pub record IsPlayed (image script input : Option (List ℕ)) (limit : ℕ) (printed : List ℕ) : Type 0 where
+  pub form : Form
+  pub form_is : IsImage form
+  pub image_is : image ≡ Some (spelling form)
+  pub text : List ℕ
+  pub orders : List Order
+  pub script_is : script ≡ Some text
+  pub orders_are : IsScript text orders
+  pub bytes : List ℕ
+  pub input_is : input ≡ Some bytes
+  pub printed_is : printed ≡ transcript_bytes form orders bytes limit
+
+-- From the source, the script and the input that the shelf held before, the session saved an image that is truthful to the source, and
+-- what is printed is the transcript of that image.
+pub record IsDebugged (held held' : Held) (given : DebugGiven) (printed : List ℕ) : Type 0 where
   pub source : List ℕ
   pub program : ProgramTree
-  pub source_held : held asked.source ≡ Some source
+  pub source_held : held given.source ≡ Some source
   pub source_is : IsThin source program
-  pub script : List ℕ
-  pub orders : List Order
-  pub script_held : held asked.script ≡ Some script
-  pub script_is : IsScript script orders
-  pub input : List ℕ
-  pub input_held : held asked.input ≡ Some input
-  pub image : Form
-  pub image_is : IsImage image
-  pub image_plain : IsPlain image
-  pub image_held : held' asked.image ≡ Some (spelling image)
-  pub truthful : Truthful program image input
-  pub printed_is : printed ≡ transcript_bytes image orders input asked.limit
+  pub understood : HasTree source
+  pub played : IsPlayed (held' given.image) (held given.script) (held given.input) given.limit printed
+  pub truthful : Truthful program played.form played.bytes
 
--- the sink took the whole transcript
-pub record IsDone (held held' : Held) (asked : DebugGiven) (taken taken' : List ℕ) : Type 0 where
+-- what is printed is the transcript of the image that the shelf held
+abbrev pub IsAttached : Held → AttachGiven → List ℕ → Type 0
+IsAttached held given printed = IsPlayed (held given.image) (held given.script) (held given.input) given.limit printed
+
+-- what a job prints
+abbrev pub Prints : (held held' : Held) → ServedJob → List ℕ → Type 0
+Prints held held' (ForDebug given) printed = IsDebugged held held' given printed
+Prints held held' (ForAttach given) printed = IsAttached held given printed
+
+-- the sink took all that the job prints
+pub record IsDone (held held' : Held) (job : ServedJob) (taken taken' : List ℕ) : Type 0 where
   pub printed : List ℕ
-  pub played : IsPlayed held held' asked printed
+  pub prints : Prints held held' job printed
   pub whole : taken' ≡ taken ++ printed
 
--- the sink took nothing, or the first part of the transcript
-pub record IsCutOff (held held' : Held) (asked : DebugGiven) (taken taken' : List ℕ) : Type 0 where
+-- the sink took the first part of it
+pub record IsCutOff (held held' : Held) (job : ServedJob) (taken taken' : List ℕ) : Type 0 where
   pub printed : List ℕ
-  pub played : IsPlayed held held' asked printed
+  pub prints : Prints held held' job printed
   pub part : TakesPart printed taken taken'
 
-abbrev pub TookPart : (held held' : Held) → DebugGiven → (taken taken' : List ℕ) → Type 0
-TookPart held held' asked taken taken' = (taken' ≡ taken) ⊎ IsCutOff held held' asked taken taken'
+-- the sink took nothing, or the first part of what the job prints
+abbrev pub TookPart : (held held' : Held) → ServedJob → (taken taken' : List ℕ) → Type 0
+TookPart held held' job taken taken' = (taken' ≡ taken) ⊎ IsCutOff held held' job taken taken'

@@ -3,19 +3,19 @@ use Rattle.std.specs.Prelude.{◌≡◌, ℕ, List}
 use Rattle.image_form.specs.Form.{form}
 use Rattle.image_form.specs.Rules.{IsImage}
 use Rattle.image_form.specs.Spelling.{spelling}
-use Rattle.thin_script.specs.Script.{IsScript, orders}
-use Rattle.stop_engine.specs.Plain.{IsPlain}
+use Rattle.script_form.specs.Script.{IsScript, orders}
 use Rattle.thin_form.specs.Tree.{ProgramTree}
 use Rattle.thin_form.specs.Thin.{IsThin}
 use Rattle.thin_build.specs.Truthful.{Truthful}
+use Rattle.session.specs.Front.{HasTree}
 use Rattle.session.specs.declared.preparing.Prepared.{Prepared}
 
 -- the image of the source with its bytes, and the commands of the script
 pub record IsPrepared (text commands : List ℕ) (p : Prepared) : Type 0 where
   pub program : ProgramTree
   pub source : IsThin text program
+  pub understood : HasTree text
   pub script : IsScript commands (orders p.commands.items)
   pub image : IsImage (form p.image)
-  pub plain : IsPlain (form p.image)
   pub bytes : p.bytes.items ≡ spelling (form p.image)
   pub truthful : (input : List ℕ) → Truthful program (form p.image) input

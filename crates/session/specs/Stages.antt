@@ -1,38 +1,36 @@
 -- What each stage of a session answers.
-use Rattle.std.specs.Prelude.{◌≡◌, ℕ, List, Result, Ok, Err, string_bytes}
+use Rattle.std.specs.Prelude.{◌≡◌, ℕ, List, Vec, Result, Ok, Err, string_bytes}
+use Rattle.std.specs.Global.{Global}
 use Rattle.outside.specs.Counts.{RoseOrStands}
-use Rattle.debug_records.specs.declared.code.TheConstants.Code.{UNEXPECTED_KEYWORD, UNKNOWN_COMMAND}
+use Rattle.image_form.specs.Form.{form}
+use Rattle.image_form.specs.Rules.{IsImage}
+use Rattle.image_form.specs.Spelling.{spelling}
+use Rattle.image_form.specs.declared.format.Image.{Image}
 use Rattle.line_form.specs.declared.status.Status.{Status}
-use Rattle.line_form.specs.declared.status.Status.TheVariants.{Done, Usage, SourceRefused, ScriptRefused, ReadFault, WriteFault, NoMemory, TooLong}
+use Rattle.line_form.specs.declared.status.Status.TheVariants.{Usage, SourceRefused, ScriptRefused, ReadFault, WriteFault, NoMemory, ImageRefused, TooLong}
+use Rattle.script_form.specs.Script.{IsScript, orders}
+use Rattle.script_form.specs.Refusal.{IsRefused}
+use Rattle.script_form.specs.declared.command.Command.{Command}
 use Rattle.command_line.specs.Words.{Text}
-use Rattle.command_line.specs.Job.{debug_given}
-use Rattle.command_line.specs.declared.job.Debug.{Debug}
-use Rattle.session.specs.Causes.{IsSource, IsScriptText}
-use Rattle.session.specs.Served.{AreNotServed, AreServed}
+use Rattle.session.specs.Causes.{AreNoImage, IsScriptText}
+use Rattle.session.specs.Front.{IsRefusedSource, IsSource}
+use Rattle.session.specs.Served.{AreNotServed, AreServed, task_job}
+use Rattle.session.specs.declared.asking.Task.{Task}
 
 -- a load ends well, or with a fault that the count of loads shows, or wants memory, or finds a text of this kind too long
 abbrev pub LoadEnds : {A : Type 0} → Result A Status → (old new : ℕ) → (List ℕ → Type 0) → Type 0
 LoadEnds (Ok x) old new Long = new ≡ old
-LoadEnds (Err Done) old new Long = ⊥
-LoadEnds (Err Usage) old new Long = ⊥
-LoadEnds (Err (SourceRefused code line)) old new Long = ⊥
-LoadEnds (Err (ScriptRefused code line)) old new Long = ⊥
 LoadEnds (Err ReadFault) old new Long = RoseOrStands old new
-LoadEnds (Err WriteFault) old new Long = ⊥
 LoadEnds (Err NoMemory) old new Long = new ≡ old
 LoadEnds (Err (TooLong name)) old new Long = (new ≡ old) × Long (string_bytes name)
+LoadEnds (Err _) old new Long = ⊥
 
 -- the words ask for a job that the program serves, or for none, or memory was wanting
-abbrev pub AskEnds : Result Debug Status → (words : List Text) → Type 0
-AskEnds (Ok job) words = AreServed words (debug_given job)
-AskEnds (Err Done) words = ⊥
+abbrev pub AskEnds : Result Task Status → (words : List Text) → Type 0
+AskEnds (Ok job) words = AreServed words (task_job job)
 AskEnds (Err Usage) words = AreNotServed words
-AskEnds (Err (SourceRefused code line)) words = ⊥
-AskEnds (Err (ScriptRefused code line)) words = ⊥
-AskEnds (Err ReadFault) words = ⊥
-AskEnds (Err WriteFault) words = ⊥
 AskEnds (Err NoMemory) words = Unit {0}
-AskEnds (Err (TooLong name)) words = ⊥
+AskEnds (Err _) words = ⊥
 
 -- a status that says of a name that its text is too long, or that memory was wanting
 abbrev pub SaysTooLong : Status → List ℕ → Type 0
@@ -43,23 +41,35 @@ SaysTooLong _ name = ⊥
 -- a save or a line ends well, or with a fault that its count shows, or wants memory
 abbrev pub WriteEnds : {A : Type 0} → Result A Status → (old new : ℕ) → Type 0
 WriteEnds (Ok x) old new = new ≡ old
-WriteEnds (Err Done) old new = ⊥
-WriteEnds (Err Usage) old new = ⊥
-WriteEnds (Err (SourceRefused code line)) old new = ⊥
-WriteEnds (Err (ScriptRefused code line)) old new = ⊥
-WriteEnds (Err ReadFault) old new = ⊥
 WriteEnds (Err WriteFault) old new = RoseOrStands old new
 WriteEnds (Err NoMemory) old new = new ≡ old
-WriteEnds (Err (TooLong name)) old new = ⊥
+WriteEnds (Err _) old new = ⊥
 
--- the texts are accepted, or the first of them that is not is refused, or memory was wanting
+-- the source is of a program, or is refused, or memory was wanting
+abbrev pub SourceEnds : {A : Type 0} → Result A Status → (source : List ℕ) → Type 0
+SourceEnds (Ok x) source = IsSource source
+SourceEnds (Err (SourceRefused code line)) source = IsRefusedSource source code line
+SourceEnds (Err NoMemory) source = Unit {0}
+SourceEnds (Err _) source = ⊥
+
+-- the script asks for the commands, or is refused for its first line that breaks a rule, or memory was wanting
+abbrev pub ScriptEnds : Result (Vec Command Global) Status → (script : List ℕ) → Type 0
+ScriptEnds (Ok commands) script = IsScript script (orders commands.items)
+ScriptEnds (Err (ScriptRefused code line)) script = IsRefused script code line
+ScriptEnds (Err NoMemory) script = Unit {0}
+ScriptEnds (Err _) script = ⊥
+
+-- the bytes spell the image, or are refused for the first rule that they break, or memory was wanting
+abbrev pub ImageEnds : Result Image Status → (bytes : List ℕ) → Type 0
+ImageEnds (Ok image) bytes = IsImage (form image) × (bytes ≡ spelling (form image))
+ImageEnds (Err (ImageRefused code offset)) bytes = AreNoImage code offset bytes
+ImageEnds (Err NoMemory) bytes = Unit {0}
+ImageEnds (Err _) bytes = ⊥
+
+-- the source and the script are accepted, or the first of them that is not is refused, or memory was wanting
 abbrev pub PrepareEnds : {A : Type 0} → Result A Status → (source script : List ℕ) → Type 0
 PrepareEnds (Ok x) source script = IsSource source × IsScriptText script
-PrepareEnds (Err Done) source script = ⊥
-PrepareEnds (Err Usage) source script = ⊥
-PrepareEnds (Err (SourceRefused code line)) source script = (code ≡ UNEXPECTED_KEYWORD) × (line ≡ 1) × (¬ IsSource source)
-PrepareEnds (Err (ScriptRefused code line)) source script = (code ≡ UNKNOWN_COMMAND) × (line ≡ 1) × IsSource source × (¬ IsScriptText script)
-PrepareEnds (Err ReadFault) source script = ⊥
-PrepareEnds (Err WriteFault) source script = ⊥
+PrepareEnds (Err (SourceRefused code line)) source script = IsRefusedSource source code line
+PrepareEnds (Err (ScriptRefused code line)) source script = IsSource source × IsRefused script code line
 PrepareEnds (Err NoMemory) source script = Unit {0}
-PrepareEnds (Err (TooLong name)) source script = ⊥
+PrepareEnds (Err _) source script = ⊥

@@ -2,13 +2,20 @@
 
 ghost use Rattle.std.specs.Prelude.{◌≡◌, ◌↔◌, IsTrue, MatchOption, [], map, string_bytes};
 ghost use Rattle.command_line.specs.declared.values.Mode.TheVariants.{Slots};
-ghost use Rattle.command_line.specs.Job.{DebugGiven, debug_given, job_given};
-ghost use Rattle.session.specs.Served.{Serves};
+ghost use Rattle.command_line.specs.Job.{debug_given, job_given};
+ghost use Rattle.session.specs.Served.{ServedJob, Serves, task_job};
 ghost use Rattle.session.specs.Stages.{AskEnds};
 
-use command_line::{Debug, Job, Mode, job_of};
+use command_line::{Attach, Debug, Job, Mode, job_of};
 use line_form::Status;
 use std::alloc::Global;
+
+/// A job that the program serves.
+#[derive(Drop)]
+pub enum Task {
+    Debug(Debug),
+    Attach(Attach),
+}
 
 // No pass is named, and the homes are slots.
 fn is_plain(job: &Debug) -> bool
@@ -17,22 +24,22 @@ fn is_plain(job: &Debug) -> bool
     job.passes.is_empty() && job.mode == Mode::Slots
 }
 
-// The job, if the program serves it: so far `debug` with no pass and with homes in slots.
-fn served(job: Job) -> Option<Debug>
-    ensures { MatchOption result ((asked : DebugGiven) → ¬ Serves (job_given job) asked) (λ d. Serves (job_given job) (debug_given d)) }
+// The job, if the program serves it: so far `attach`, and `debug` with no pass and with homes in slots.
+fn served(job: Job) -> Option<Task>
+    ensures { MatchOption result ((asked : ServedJob) → ¬ Serves (job_given job) asked) (λ a. Serves (job_given job) (task_job a)) }
 {
     match job {
-        Job::Debug(debug) if is_plain(&debug) => Some(debug),
+        Job::Debug(debug) if is_plain(&debug) => Some(Task::Debug(debug)),
         Job::Debug(_debug) => None,
         Job::Compile(_compile) => None,
-        Job::Attach(_attach) => None,
+        Job::Attach(attach) => Some(Task::Attach(attach)),
         Job::Passes(_passes) => None,
         Job::Sweep(_sweep) => None,
     }
 }
 
 /// The job that the words are. `Usage` where they are none that the program serves, and `NoMemory` where memory was wanting.
-pub fn asked(alloc: Global, words: &[String]) -> Result<Debug, Status>
+pub fn asked(alloc: Global, words: &[String]) -> Result<Task, Status>
     ensures { AskEnds result (map string_bytes words.now) }
 {
     let Ok(job) = job_of(alloc, words) else {

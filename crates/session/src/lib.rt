@@ -2,6 +2,7 @@
 #![tactic(auto)]
 
 mod asking;
+mod attaching;
 mod debugging;
 mod loading;
 mod playing;

@@ -2,11 +2,12 @@
 
 ghost use Rattle.std.specs.Prelude.{◌≡◌, ◌≢◌, ℕ, ◌<◌, ◌≤◌, true, List, Some, IfOk, OnOk, length};
 ghost use Rattle.outside.specs.Held.{Loads};
-ghost use Rattle.command_line.specs.Job.{debug_given};
-ghost use Rattle.session.specs.Limits.{IsBeyond, IsTooLong, input_limit};
+ghost use Rattle.command_line.specs.Job.{attach_given, debug_given};
+ghost use Rattle.session.specs.Served.{ForAttach, ForDebug};
+ghost use Rattle.session.specs.Limits.{IsBeyond, IsTooLong, image_limit, input_limit};
 ghost use Rattle.session.specs.Stages.{LoadEnds, SaysTooLong, WriteEnds};
 
-use command_line::Debug;
+use command_line::{Attach, Debug};
 use line_form::Status;
 use outside::{Shelf, ShelfErr};
 use std::alloc::Global;
@@ -29,6 +30,15 @@ fn most_input() -> u32
     ensures small { result < 4294967295 }
 {
     16777216
+}
+
+// How many bytes an image has at most.
+#[tactic(auto, unfolding(crate::specs::Limits::image_limit))]
+fn most_image() -> u32
+    ensures is { result ≡ image_limit }
+    ensures small { result < 4294967295 }
+{
+    67108864
 }
 
 fn load_text<S: Shelf>(
@@ -85,7 +95,7 @@ fn load_whole<S: Shelf>(
 
 /// Loads the source, the script and the input, in this order. The script and the input are refused directly where they are too long.
 pub fn load_texts<S: Shelf>(alloc: Global, shelf: &mut S, job: &Debug) -> Result<Texts, Status>
-    ensures ends { LoadEnds result (S.load_count shelf.old) (S.load_count shelf.new) (λ said. S.tells shelf.old ≡ true → IsTooLong (S.held shelf.old) (debug_given job.now) said) }
+    ensures ends { LoadEnds result (S.load_count shelf.old) (S.load_count shelf.new) (λ said. S.tells shelf.old ≡ true → IsTooLong (S.held shelf.old) (ForDebug (debug_given job.now)) said) }
     ensures saves { S.save_count shelf.new ≡ S.save_count shelf.old }
     ensures telling { S.tells shelf.new ≡ S.tells shelf.old }
     ensures same { (n : List ℕ) → S.tells shelf.old ≡ true → S.held shelf.new n ≡ S.held shelf.old n }
@@ -100,6 +110,41 @@ pub fn load_texts<S: Shelf>(alloc: Global, shelf: &mut S, job: &Debug) -> Result
     let input = load_whole(alloc, shelf, job.input.as_str(), most_input())?;
     Ok(Texts {
         source,
+        script,
+        input,
+    })
+}
+
+/// The bytes of the three texts of a saved image's session.
+#[derive(Drop)]
+pub struct Attached {
+    pub image: Vec<u8>,
+    pub script: Vec<u8>,
+    pub input: Vec<u8>,
+}
+
+/// Loads the image, the script and the input, in this order. Each is refused directly where it is too long.
+pub fn load_attached<S: Shelf>(
+    alloc: Global,
+    shelf: &mut S,
+    job: &Attach,
+) -> Result<Attached, Status>
+    ensures ends { LoadEnds result (S.load_count shelf.old) (S.load_count shelf.new) (λ said. S.tells shelf.old ≡ true → IsTooLong (S.held shelf.old) (ForAttach (attach_given job.now)) said) }
+    ensures saves { S.save_count shelf.new ≡ S.save_count shelf.old }
+    ensures telling { S.tells shelf.new ≡ S.tells shelf.old }
+    ensures same { (n : List ℕ) → S.tells shelf.old ≡ true → S.held shelf.new n ≡ S.held shelf.old n }
+    ensures image { IfOk result (λ t. S.tells shelf.old ≡ true → S.held shelf.old (attach_given job.now).image ≡ Some t.image.items) }
+    ensures script { IfOk result (λ t. S.tells shelf.old ≡ true → S.held shelf.old (attach_given job.now).script ≡ Some t.script.items) }
+    ensures input { IfOk result (λ t. S.tells shelf.old ≡ true → S.held shelf.old (attach_given job.now).input ≡ Some t.input.items) }
+    ensures image_within { IfOk result (λ t. length t.image.items ≤ image_limit) }
+    ensures script_within { IfOk result (λ t. length t.script.items ≤ 1048576) }
+    ensures input_within { IfOk result (λ t. length t.input.items ≤ input_limit) }
+{
+    let image = load_whole(alloc, shelf, job.image.as_str(), most_image())?;
+    let script = load_whole(alloc, shelf, job.script.as_str(), TEXT_LIMIT)?;
+    let input = load_whole(alloc, shelf, job.input.as_str(), most_input())?;
+    Ok(Attached {
+        image,
         script,
         input,
     })

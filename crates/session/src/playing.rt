@@ -4,15 +4,19 @@ ghost use Rattle.std.specs.Prelude.{◌≡◌, ℕ, true, List, ◌++◌, IfOk, 
 ghost use Rattle.std.specs.List.{flat_map};
 ghost use Rattle.outside.specs.Taken.{TakesPart};
 ghost use Rattle.line_form.specs.Lines.{line};
-ghost use Rattle.thin_script.specs.Script.{orders};
+ghost use Rattle.script_form.specs.Script.{orders};
+ghost use Rattle.image_form.specs.Form.{form};
+ghost use Rattle.image_form.specs.Rules.{IsImage};
 ghost use Rattle.stop_engine.specs.EngineState.{lines_of};
+ghost use Rattle.stop_engine.specs.Transcript.{transcript_bytes};
 ghost use Rattle.session.specs.Stages.{WriteEnds};
 
+use image_form::Image;
 use line_form::Status;
 use outside::{PutErr, Sink};
+use script_form::Command;
 use std::alloc::Global;
 use stop_engine::Engine;
-use thin_script::Command;
 
 // Puts a text as a line, in one piece.
 fn put_line<K: Sink>(alloc: Global, text: &[u8], sink: &mut K) -> Result<(), Status>
@@ -47,8 +51,8 @@ fn put_lines<K: Sink>(alloc: Global, lines: &[Vec<u8>], sink: &mut K) -> Result<
     Ok(())
 }
 
-/// Carries out the commands, and puts each line that they print.
-pub fn play<K: Sink>(
+// Carries out the commands, and puts each line that they print.
+fn carry_out<K: Sink>(
     alloc: Global,
     engine: &mut Engine<'_>,
     commands: &[Command],
@@ -66,4 +70,25 @@ pub fn play<K: Sink>(
         put_lines(alloc, &lines, sink)?;
     }
     Ok(())
+}
+
+/// Plays a script on an image: puts each line of its transcript, with this input and at most so many instructions.
+pub fn play<K: Sink>(
+    alloc: Global,
+    image: &Image,
+    commands: &[Command],
+    input: &[u8],
+    limit: u64,
+    sink: &mut K,
+) -> Result<(), Status>
+    requires { IsImage (form image.now) }
+    ensures ends { WriteEnds result (K.fault_count sink.old) (K.fault_count sink.new) }
+    ensures telling { K.tells sink.new ≡ K.tells sink.old }
+    ensures whole { OnOk result (K.tells sink.old ≡ true → K.taken sink.new ≡ K.taken sink.old ++ transcript_bytes (form image.now) (orders commands.now) input.now limit) }
+    ensures part { OnErr result (K.tells sink.old ≡ true → TakesPart (transcript_bytes (form image.now) (orders commands.now) input.now limit) (K.taken sink.old) (K.taken sink.new)) }
+{
+    let Ok(mut engine) = Engine::new(alloc, image, input, limit) else {
+        return Err(Status::NoMemory);
+    };
+    carry_out(alloc, &mut engine, commands, sink)
 }

@@ -1,36 +1,34 @@
 use Rattle.std.proofs.Common.{◌≡◌, ◌++◌, inr, sym, ap, ◌∙◌, subst, Some, rules}
-use Rattle.std.specs.List.{flat_map}
 use Rattle.image_form.specs.Form.{form}
 use Rattle.outside.specs.Held.{Loads}
 use Rattle.outside.specs.Taken.{TakesPart}
-use Rattle.line_form.specs.Lines.{line}
-use Rattle.thin_script.specs.Script.{orders}
-use Rattle.stop_engine.specs.EngineState.{fresh_engine, lines_of}
+use Rattle.script_form.specs.Script.{orders}
+use Rattle.stop_engine.specs.Transcript.{transcript_bytes}
 use Rattle.session.specs.declared.preparing.Prepared.{Prepared}
 use Rattle.command_line.specs.Job.{debug_given}
-use Rattle.session.proofs.Sessions.{source_refused, script_refused, both_accepted, session_played}
+use Rattle.session.proofs.Sessions.{source_refused, script_refused, both_accepted, debugged, played_same}
 use Rattle.session.proofs.debugging.debug.Goals as goal
 
 pub returns-in-Err-prepare-clause-source : goal.returns-in-Err-prepare-clause-source
 returns-in-Err-prepare-clause-source g c = λ code at e told.
-    source_refused Prepared c.in-Err-prepare.status code at c.deref.result.now c.deref-2.result.now _ e c.in-Err-prepare.ensures.ends
+    source_refused Prepared c.in-Err-prepare.status code at c.deref.result.now c.deref-2.result.now (g.S.Shelf.held c.args.shelf.now) (debug_given c.args.job.now) e c.in-Err-prepare.ensures.ends
     (subst (Loads (g.S.Shelf.held c.args.shelf.now (debug_given c.args.job.now).source) 1048576) (sym c.deref.ensures.value) (c.in-Ok.ensures.source told))
 
 pub returns-in-Err-prepare-clause-script : goal.returns-in-Err-prepare-clause-script
 returns-in-Err-prepare-clause-script g c = λ code at e told.
-    script_refused Prepared c.in-Err-prepare.status code at c.deref.result.now c.deref-2.result.now _ _ e c.in-Err-prepare.ensures.ends
+    script_refused Prepared c.in-Err-prepare.status code at c.deref.result.now c.deref-2.result.now (g.S.Shelf.held c.args.shelf.now) (debug_given c.args.job.now) e c.in-Err-prepare.ensures.ends
     (subst (Loads (g.S.Shelf.held c.args.shelf.now (debug_given c.args.job.now).source) 1048576) (sym c.deref.ensures.value) (c.in-Ok.ensures.source told))
     (c.in-Ok.ensures.script told ∙ ap Some (sym c.deref-2.ensures.value))
 
 pub returns-in-Err-save_image-clause-accepted : goal.returns-in-Err-save_image-clause-accepted
 returns-in-Err-save_image-clause-accepted g c = λ e told.
-    both_accepted c.deref.result.now c.deref-2.result.now c.in-Ok-prepare.prepared _ _ c.in-Ok-prepare.ensures.prepared
+    both_accepted c.deref.result.now c.deref-2.result.now c.in-Ok-prepare.prepared (g.S.Shelf.held c.args.shelf.now) (debug_given c.args.job.now) c.in-Ok-prepare.ensures.prepared
     (subst (Loads (g.S.Shelf.held c.args.shelf.now (debug_given c.args.job.now).source) 1048576) (sym c.deref.ensures.value) (c.in-Ok.ensures.source told))
     (c.in-Ok.ensures.script told ∙ ap Some (sym c.deref-2.ensures.value))
 
 pub returns-clause-accepted : goal.returns-clause-accepted
 returns-clause-accepted g c = λ e told.
-    both_accepted c.deref.result.now c.deref-2.result.now c.in-Ok-prepare.prepared _ _ c.in-Ok-prepare.ensures.prepared
+    both_accepted c.deref.result.now c.deref-2.result.now c.in-Ok-prepare.prepared (g.S.Shelf.held c.args.shelf.now) (debug_given c.args.job.now) c.in-Ok-prepare.ensures.prepared
     (subst (Loads (g.S.Shelf.held c.args.shelf.now (debug_given c.args.job.now).source) 1048576) (sym c.deref.ensures.value) (c.in-Ok.ensures.source told))
     (c.in-Ok.ensures.script told ∙ ap Some (sym c.deref-2.ensures.value))
 
@@ -38,40 +36,30 @@ pub returns-in-Ok-play-clause-done : goal.returns-in-Ok-play-clause-done
 returns-in-Ok-play-clause-done g c = λ e told told_sink.
     let image : c.as_str.result.now ≡ (debug_given c.args.job.now).image = search rules in
     let limit : c.from-limit.result ≡ (debug_given c.args.job.now).limit = search rules in
-    let played = session_played (g.S.Shelf.held c.args.shelf.now) (g.S.Shelf.held c.save_image.new.shelf) (debug_given c.args.job.now) c.deref.result.now c.deref-2.result.now c.in-Ok.texts.input.items c.in-Ok-prepare.prepared c.in-Ok-new.engine
+    let prints = debugged (g.S.Shelf.held c.args.shelf.now) (g.S.Shelf.held c.save_image.new.shelf) (debug_given c.args.job.now) c.deref.result.now c.deref-2.result.now c.in-Ok.texts.input.items c.in-Ok-prepare.prepared
     (subst (Loads (g.S.Shelf.held c.args.shelf.now (debug_given c.args.job.now).source) 1048576) (sym c.deref.ensures.value) (c.in-Ok.ensures.source told))
     (c.in-Ok.ensures.script told ∙ ap Some (sym c.deref-2.ensures.value))
     (c.in-Ok.ensures.input told) c.in-Ok-prepare.ensures.prepared
-    (ap (g.S.Shelf.held c.save_image.new.shelf) (sym image) ∙ c.in-Ok-save_image.ensures.saved (c.in-Ok.ensures.telling ∙ told) ∙ ap Some c.deref-3.ensures.value)
-    (c.in-Ok-new.ensures ∙ ap (λ i. fresh_engine (form c.in-Ok-prepare.prepared.image) i c.from-limit.result) c.deref-4.ensures.value ∙ ap (fresh_engine (form c.in-Ok-prepare.prepared.image) c.in-Ok.texts.input.items) limit) in
+    (ap (g.S.Shelf.held c.save_image.new.shelf) (sym image) ∙ c.in-Ok-save_image.ensures.saved (c.in-Ok.ensures.telling ∙ told) ∙ ap Some c.deref-3.ensures.value) in
+    let same = played_same (form c.in-Ok-prepare.prepared.image) c.deref-4.result.now c.in-Ok-prepare.prepared.commands.items c.in-Ok.texts.input.items c.deref-5.result.now c.from-limit.result (debug_given c.args.job.now).limit c.deref-4.ensures.value c.deref-5.ensures.value limit in
     record {
-      printed = flat_map line (lines_of c.in-Ok-new.engine (orders c.in-Ok-prepare.prepared.commands.items));
-      played = played;
-      whole = c.in-Ok-play.ensures.whole told_sink ∙ ap (λ cs. g.K.Sink.taken c.args.sink.now ++ flat_map line (lines_of c.in-Ok-new.engine (orders cs))) c.deref-5.ensures.value;
+      printed = transcript_bytes (form c.in-Ok-prepare.prepared.image) (orders c.in-Ok-prepare.prepared.commands.items) c.in-Ok.texts.input.items (debug_given c.args.job.now).limit;
+      prints = prints;
+      whole = c.in-Ok-play.ensures.whole told_sink ∙ ap (λ p. g.K.Sink.taken c.args.sink.now ++ p) same;
     }
 
 pub returns-clause-part : goal.returns-clause-part
 returns-clause-part g c = λ cut told told_sink.
     let image : c.as_str.result.now ≡ (debug_given c.args.job.now).image = search rules in
     let limit : c.from-limit.result ≡ (debug_given c.args.job.now).limit = search rules in
-    let played = session_played (g.S.Shelf.held c.args.shelf.now) (g.S.Shelf.held c.save_image.new.shelf) (debug_given c.args.job.now) c.deref.result.now c.deref-2.result.now c.in-Ok.texts.input.items c.in-Ok-prepare.prepared c.in-Ok-new.engine
+    let prints = debugged (g.S.Shelf.held c.args.shelf.now) (g.S.Shelf.held c.save_image.new.shelf) (debug_given c.args.job.now) c.deref.result.now c.deref-2.result.now c.in-Ok.texts.input.items c.in-Ok-prepare.prepared
     (subst (Loads (g.S.Shelf.held c.args.shelf.now (debug_given c.args.job.now).source) 1048576) (sym c.deref.ensures.value) (c.in-Ok.ensures.source told))
     (c.in-Ok.ensures.script told ∙ ap Some (sym c.deref-2.ensures.value))
     (c.in-Ok.ensures.input told) c.in-Ok-prepare.ensures.prepared
-    (ap (g.S.Shelf.held c.save_image.new.shelf) (sym image) ∙ c.in-Ok-save_image.ensures.saved (c.in-Ok.ensures.telling ∙ told) ∙ ap Some c.deref-3.ensures.value)
-    (c.in-Ok-new.ensures ∙ ap (λ i. fresh_engine (form c.in-Ok-prepare.prepared.image) i c.from-limit.result) c.deref-4.ensures.value ∙ ap (fresh_engine (form c.in-Ok-prepare.prepared.image) c.in-Ok.texts.input.items) limit) in
+    (ap (g.S.Shelf.held c.save_image.new.shelf) (sym image) ∙ c.in-Ok-save_image.ensures.saved (c.in-Ok.ensures.telling ∙ told) ∙ ap Some c.deref-3.ensures.value) in
+    let same = played_same (form c.in-Ok-prepare.prepared.image) c.deref-4.result.now c.in-Ok-prepare.prepared.commands.items c.in-Ok.texts.input.items c.deref-5.result.now c.from-limit.result (debug_given c.args.job.now).limit c.deref-4.ensures.value c.deref-5.ensures.value limit in
     inr (record {
-      printed = flat_map line (lines_of c.in-Ok-new.engine (orders c.in-Ok-prepare.prepared.commands.items));
-      played = played;
-      part = subst (λ cs. TakesPart (flat_map line (lines_of c.in-Ok-new.engine (orders cs))) (g.K.Sink.taken c.args.sink.now) (g.K.Sink.taken c.play.new.sink)) c.deref-5.ensures.value (c.in-Err-play.ensures.part told_sink);
+      printed = transcript_bytes (form c.in-Ok-prepare.prepared.image) (orders c.in-Ok-prepare.prepared.commands.items) c.in-Ok.texts.input.items (debug_given c.args.job.now).limit;
+      prints = prints;
+      part = subst (λ p. TakesPart p (g.K.Sink.taken c.args.sink.now) (g.K.Sink.taken c.play.new.sink)) same (c.in-Err-play.ensures.part told_sink);
     })
-
-pub returns-in-Ok-play-clause-others : goal.returns-in-Ok-play-clause-others
-returns-in-Ok-play-clause-others g c = λ told n other.
-    let image : c.as_str.result.now ≡ (debug_given c.args.job.now).image = search rules in
-    c.save_image.ensures.others n (λ same. other (same ∙ image)) (c.load_texts.ensures.telling ∙ told) ∙ c.load_texts.ensures.same n told
-
-pub returns-clause-others : goal.returns-clause-others
-returns-clause-others g c = λ told n other.
-    let image : c.as_str.result.now ≡ (debug_given c.args.job.now).image = search rules in
-    c.save_image.ensures.others n (λ same. other (same ∙ image)) (c.load_texts.ensures.telling ∙ told) ∙ c.load_texts.ensures.same n told

@@ -3,11 +3,11 @@ use Rattle.std.specs.Prelude.{Vec}
 use Rattle.std.specs.Global.{Global}
 use Rattle.std.specs.List.{flat_map}
 use Rattle.line_form.specs.Lines.{line}
-use Rattle.thin_script.specs.Script.{orders, order_of}
+use Rattle.script_form.specs.Script.{orders, order_of}
 use Rattle.stop_engine.specs.EngineState.{lines_of}
 use Rattle.session.proofs.Parts.{IsUnderWay, on_err_anyway}
 use Rattle.session.proofs.Orders.{order_left, order_part}
-use Rattle.session.proofs.playing.play.Goals as goal
+use Rattle.session.proofs.playing.carry_out.Goals as goal
 
 pub returns-in_err-put_lines-clause-part : goal.returns-in_err-put_lines-clause-part
 returns-in_err-put_lines-clause-part g c = on_err_anyway c.from_residual.result _ (λ told.

@@ -1,10 +1,10 @@
 use Rattle.std.proofs.Common.{◌≡◌, true, drop}
 use Rattle.std.specs.List.{flat_map}
 use Rattle.line_form.specs.Lines.{line}
-use Rattle.thin_script.specs.Script.{orders}
+use Rattle.script_form.specs.Script.{orders}
 use Rattle.stop_engine.specs.EngineState.{lines_of}
 use Rattle.session.proofs.Parts.{IsUnderWay}
-use Rattle.session.proofs.playing.play.Given as goal
+use Rattle.session.proofs.playing.carry_out.Given as goal
 
 abbrev pub invariant-loop-command : goal.invariant-loop-command
 invariant-loop-command g l = record {
