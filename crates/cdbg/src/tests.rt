@@ -2,6 +2,10 @@
 
 ghost use Rattle.std.specs.Prelude.{◌<◌};
 
+mod altered;
+mod attaching;
+mod images;
+
 use debug_records::Code;
 use line_form::{Status, fault_text};
 use outside::{MemShelf, MemSink};
@@ -178,7 +182,7 @@ fn a_source_is_refused_before_its_script(rt: HostRuntime) -> Result<(), Fail> {
     let mut sink = MemSink::new(rt.alloc(), [].as_slice())?;
     let words = job(rt.alloc())?;
     let status = run(rt.alloc(), &words, &mut shelf, &mut sink);
-    assert_eq!(rt; status, Status::SourceRefused(Code::UNEXPECTED_KEYWORD, 1));
+    assert_eq!(rt; status, Status::SourceRefused(Code::UNEXPECTED_TOKEN, 1));
     Ok(())
 }
 
@@ -343,5 +347,81 @@ fn an_ending_is_said_again_and_no_stop_is_shown_there(rt: HostRuntime) -> Result
     let expected =
         b"no stop\nat 2 line 2 main depth 1\nno y here\nexit 7\nexit 7\nno stop\n".as_slice();
     assert_eq!(rt; sink.bytes(), expected);
+    Ok(())
+}
+
+/// Sources, the rule of tokens or grammar that each breaks first, and its line.
+static REFUSED: [(&[u8], Code, u32); 14] = [
+    (
+        b"int main(void){goto a;a:return 0;}",
+        Code::UNEXPECTED_KEYWORD,
+        1,
+    ),
+    (b"#define N 3\n", Code::UNKNOWN_DIRECTIVE, 1),
+    (
+        b"int main(void){return 2147483648;}",
+        Code::MALFORMED_CONSTANT,
+        1,
+    ),
+    (b"int main(void){return 0", Code::UNEXPECTED_TOKEN, 1),
+    (b"/*", Code::UNENDED_COMMENT, 1),
+    (b"int main(void){char c='", Code::MALFORMED_LITERAL, 1),
+    (b"int main(void){\nreturn\\\n0;}", Code::UNKNOWN_BYTE, 2),
+    (b"int main(void){return '\\q';}", Code::UNKNOWN_ESCAPE, 1),
+    (b"int a<:2:>;", Code::UNKNOWN_BYTE, 1),
+    (b"int\nmain(void){return 1 2;}", Code::UNEXPECTED_TOKEN, 2),
+    // No fault of tokens or grammar, and no straight-line `main`.
+    (b"int main(void){return 1-1;}", Code::UNEXPECTED_KEYWORD, 1),
+    (b"", Code::UNEXPECTED_KEYWORD, 1),
+    (
+        b"#include <stdio.h>\nint main(void){return x;}",
+        Code::UNEXPECTED_KEYWORD,
+        1,
+    ),
+    (b"int main(void){return 0;}", Code::UNEXPECTED_KEYWORD, 1),
+];
+
+#[test]
+fn a_source_is_refused_for_the_first_rule_that_it_breaks(rt: HostRuntime) -> Result<(), Fail> {
+    let words = job(rt.alloc())?;
+    for &(source, code, line) in REFUSED.iter() {
+        let mut shelf = shelf(rt.alloc(), source, SCRIPT, [].as_slice())?;
+        let mut sink = MemSink::new(rt.alloc(), [].as_slice())?;
+        let status = run(rt.alloc(), &words, &mut shelf, &mut sink);
+        assert_eq!(rt; status, Status::SourceRefused(code, line));
+    }
+    Ok(())
+}
+
+/// A `main` that returns 0 in so many pairs of parentheses.
+fn nested(alloc: Global, pairs: usize) -> Result<Vec<u8>, AllocError> {
+    let mut text = Vec::from_slice(alloc, b"int main(void){return ")?;
+    for _ in 0..pairs {
+        text.push(b'(')?;
+    }
+    text.push(b'0')?;
+    for _ in 0..pairs {
+        text.push(b')')?;
+    }
+    text.extend_from_slice(b";}")?;
+    Ok(text)
+}
+
+#[test]
+fn parentheses_nest_63_deep_in_a_return(rt: HostRuntime) -> Result<(), Fail> {
+    let words = job(rt.alloc())?;
+    // A source that is understood is no straight-line `main` here.
+    let cases = [
+        (62, Code::UNEXPECTED_KEYWORD),
+        (63, Code::UNEXPECTED_KEYWORD),
+        (64, Code::NESTING),
+    ];
+    for (pairs, code) in cases {
+        let source = nested(rt.alloc(), pairs)?;
+        let mut shelf = shelf(rt.alloc(), &source, SCRIPT, [].as_slice())?;
+        let mut sink = MemSink::new(rt.alloc(), [].as_slice())?;
+        let status = run(rt.alloc(), &words, &mut shelf, &mut sink);
+        assert_eq!(rt; status, Status::SourceRefused(code, 1));
+    }
     Ok(())
 }
