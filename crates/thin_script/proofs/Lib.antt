@@ -1,4 +1,0 @@
-pub mod FirstLine
-pub mod Names
-pub mod Orders
-pub mod Progress
