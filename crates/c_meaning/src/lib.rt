@@ -1,0 +1,10 @@
+//! What the run of a C program is: its places, its values and memory, and its events.
+#![tactic(auto)]
+
+pub mod event;
+mod laws;
+pub mod value;
+
+pub use event::{Ending, Frame};
+pub use laws::runs_are_worked;
+pub use value::{Phase, Value};
