@@ -2,6 +2,7 @@ pub mod Types
 pub mod Memory
 pub mod Operations
 pub mod Places
+pub mod Views
 pub mod States
 pub mod Expressions
 pub mod Statements

@@ -1,5 +1,5 @@
 -- Memory: all objects of a run, each with its owner, what it holds, and whether it lives (ISO/IEC 9899:2011, 6.2.4).
-use Rattle.std.specs.Prelude.{ℕ, suc, ◌*◌, ◌/◌, ◌&&◌, not, nat_le, ℤ, pos, negsuc, ◌+ℤ◌, Bool, true, false, if◌then◌else◌, Option, Some, None, option_map, option_and_then, List, [], ◌∷◌, ◌++◌, length, map, take, drop, replicate, slice_get, slice_set}
+use Rattle.std.specs.Prelude.{◌≡◌, ℕ, suc, ◌*◌, ◌/◌, ◌&&◌, not, nat_le, ℤ, pos, negsuc, ◌+ℤ◌, Bool, true, false, if◌then◌else◌, Option, Some, None, option_map, option_and_then, List, [], ◌∷◌, ◌++◌, length, map, take, drop, replicate, slice_get, slice_set}
 use Rattle.std.specs.Option.{option_map_or}
 use Rattle.c_tree.specs.declared.object_type.Scalar.{Scalar}
 use Rattle.c_tree.specs.declared.object_type.ObjectType.{ObjectType}
@@ -102,9 +102,13 @@ write memory (Number z) v = None
 write memory Null v = None
 write memory (Pointer n offset) v = option_and_then (written_in memory n offset v) (slice_get memory n)
 
+-- an offset from 0 to so many bytes
+abbrev pub in_bytes : (bytes : ℕ) → ℤ → Option ℕ
+in_bytes bytes (pos offset) = if nat_le offset bytes then Some offset else None
+in_bytes bytes (negsuc below) = None
+
 abbrev pub in_object : ℕ → Object → ℤ → Option Value
-in_object n o (pos offset) = if nat_le offset (bytes_of o) then Some (Pointer n offset) else None
-in_object n o (negsuc below) = None
+in_object n o offset = option_map (λ k. Pointer n k) (in_bytes (bytes_of o) offset)
 
 abbrev pub moved_in : ℕ → ℤ → Object → Option Value
 moved_in n offset o = if is_over o.phase then None else in_object n o offset
@@ -126,3 +130,14 @@ begun memory n = option_map_or (λ o. slice_set memory n (in_phase Live o)) (sli
 -- all objects that began when there were so many end
 abbrev pub ended_from : ℕ → Memory → Memory
 ended_from n memory = take n memory ++ map (in_phase Ended) (drop n memory)
+
+-- an object may be written at an offset, which is that of this index
+pub record IsOpen (memory : Memory) (n offset index : ℕ) : Type 0 where
+  pub object : Object
+  pub is : slice_get memory n ≡ Some object
+  pub writable : is_writable object offset ≡ true
+  pub at : index ≡ index_at object offset
+
+-- there is no object that may be written at an offset
+abbrev pub IsClosed : Memory → ℕ → ℕ → Type 0
+IsClosed memory n offset = (o : Object) → slice_get memory n ≡ Some o → is_writable o offset ≡ false

@@ -10,7 +10,7 @@ use Rattle.c_tree.specs.declared.typed_expression.Sign.{Sign}
 use Rattle.c_tree.specs.declared.typed_expression.Sign.TheVariants.{Plus, Minus, Complement}
 use Rattle.c_tree.specs.declared.typed_expression.Direction.{Direction}
 use Rattle.c_tree.specs.declared.typed_expression.Direction.TheVariants.{Up, Down}
-use Rattle.word_base.specs.Types.{IntegerType, converted}
+use Rattle.word_base.specs.Types.{IntegerType, converted, in_range, int_type}
 use Rattle.word_base.specs.Operations.{sum, difference, product, quotient, remainder, left_shift, right_shift, bits_in_both, bits_in_either, bits_in_one, complement, negation, truth, less_than, at_most, equal_to}
 use Rattle.c_meaning.specs.declared.value.Value.{Value}
 use Rattle.c_meaning.specs.declared.value.Value.TheVariants.{Number, Null, Pointer}
@@ -89,18 +89,26 @@ if_usable memory v w given = if is_usable memory v && is_usable memory w then gi
 abbrev pub pointer_comparison : Memory → Comparison → Value → Value → Option Value
 pointer_comparison memory o v w = if_usable memory v w (pointers_compared o v w)
 
+-- between two offsets lie so many elements of a size, which is an `int` (6.5.6p9)
+abbrev pub elements_from : (size i j : ℕ) → Option ℤ
+elements_from size i j = if size == 0 then None else in_range int_type (int_div (pos i -ℤ pos j) (pos size))
+
 abbrev pub elements_between : ℕ → Value → Value → Option Value
-elements_between size (Pointer n i) (Pointer m j) = if n == m then Some (Number (int_div (pos i -ℤ pos j) (pos size))) else None
+elements_between size (Pointer n i) (Pointer m j) = if n == m then option_map Number (elements_from size i j) else None
 elements_between size _ _ = None
 
 -- how many elements lie between two pointers into one object (6.5.6p9)
 abbrev pub pointer_difference : Memory → ObjectType → Value → Value → Option Value
 pointer_difference memory element v w = if_usable memory v w (elements_between (size element) v w)
 
+-- one element in bytes, up or down
+abbrev pub stride : Direction → ObjectType → ℤ
+stride Up element = pos (size element)
+stride Down element = neg_ℤ (pos (size element))
+
 -- so many elements in bytes, up or down
 abbrev pub distance : Direction → ObjectType → ℤ → ℤ
-distance Up element n = n *ℤ pos (size element)
-distance Down element n = neg_ℤ (n *ℤ pos (size element))
+distance direction element n = n *ℤ stride direction element
 
 -- a pointer moved by so many elements (6.5.6p8)
 abbrev pub moved_by : Memory → Direction → ObjectType → Value → Value → Option Value

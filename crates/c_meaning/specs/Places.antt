@@ -1,8 +1,9 @@
 -- The places of a program: the points at which its execution may be stopped, and the entries of its functions (ISO/IEC 9899:2011, 5.1.2.3, 6.2.1, 6.8).
-use Rattle.std.specs.Prelude.{ℕ, zero, suc, ◌+◌, nat_lt, ◌==◌, Bool, true, false, ◌&&◌, if◌then◌else◌, List, [], ◌∷◌, ◌++◌, map}
+use Rattle.std.specs.Prelude.{ℕ, zero, suc, ◌+◌, nat_lt, ◌==◌, Bool, true, false, ◌&&◌, if◌then◌else◌, Option, Some, None, List, [], ◌∷◌, ◌++◌, map}
 use Rattle.std.specs.List.{list_any}
 use Rattle.std.specs.Option.{option_map_or}
 use Rattle.debug_records.specs.declared.source.Spot.{Spot}
+use Rattle.c_tree.specs.TypedExpressions.{RvalueTree}
 use Rattle.c_tree.specs.TypedStatements.{DeclaredTree, TypedStartTree, Nothing, Value, Declares, StepTree, TypedStatementTree, Block, Declaration, Empty, Run, If, IfElse, While, DoWhile, For, Switch, Break, Continue, Return, TypedStatementTrees, none, first, case, default}
 use Rattle.c_tree.specs.Programs.{AutomaticTree, TypedFunctionTree, ProgramTree}
 use Rattle.c_type_limits.specs.Flow.{reaches_end}
@@ -28,6 +29,11 @@ brought _ = []
 abbrev pub brought_by_start : TypedStartTree → List ℕ
 brought_by_start (Declares all) = map (λ (d : DeclaredTree). d.variable) all
 brought_by_start _ = []
+
+-- what is in scope at the head of a `for`: at its condition also what its first part brings, but not at the `for` itself, where a head without a condition stands
+abbrev pub scope_of_head : List ℕ → TypedStartTree → Option RvalueTree → List ℕ
+scope_of_head scope start None = scope
+scope_of_head scope start (Some c) = scope ++ brought_by_start start
 
 module _ (function : ℕ) where
   -- a place that is no entry
@@ -57,7 +63,7 @@ module _ (function : ℕ) where
     places_of scope (While spot c body) = stop scope spot ∷ places_of scope body
     places_of scope (DoWhile body spot c) = places_of scope body ++ stop scope spot ∷ []
     places_of scope (For start spot c step body) =
-        places_of_start scope start ++ stop (scope ++ brought_by_start start) spot
+        places_of_start scope start ++ stop (scope_of_head scope start c) spot
         ∷ option_map_or (λ (s : StepTree). stop (scope ++ brought_by_start start) s.spot ∷ []) step [] ++ places_of (scope ++ brought_by_start start) body
     places_of scope (Switch spot e all) = stop scope spot ∷ places_of_all scope all
     places_of scope (Break spot) = stop scope spot ∷ []

@@ -1,8 +1,12 @@
 //! What the run of a C program is: its places, its values and memory, and its events.
 #![tactic(auto)]
 
+mod arithmetic;
 pub mod event;
 mod laws;
+pub mod memory;
+mod operations;
+mod types;
 pub mod value;
 
 pub use event::{Ending, Frame};

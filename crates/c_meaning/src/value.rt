@@ -8,7 +8,7 @@ pub enum Value {
     /// The null pointer.
     Null,
     /// A pointer to an object, by its number among all objects of the run from 0 in the order in which they began, so many bytes on.
-    Pointer { object: usize, offset: u64 },
+    Pointer { object: usize, offset: u128 },
 }
 
 /// How far the lifetime of an object has come (6.2.4).

@@ -1,0 +1,14 @@
+-- Memory, states and events of the code, as contracts see them.
+use Rattle.word_base.specs.Values.{Owner, Static, Literal, Variable}
+use Rattle.c_meaning.specs.declared.memory.Owner as declared-owner
+use Rattle.c_meaning.specs.declared.memory.Owner.TheVariants as owner
+use Rattle.c_meaning.specs.declared.memory.Object as declared-object
+use Rattle.c_meaning.specs.Memory.{Object}
+
+abbrev pub owner_view : declared-owner.Owner → Owner
+owner_view (owner.Static n) = Static n
+owner_view (owner.Literal n) = Literal n
+owner_view (owner.Variable x depth) = Variable x depth
+
+abbrev pub object_view : declared-object.Object → Object
+object_view o = record { owner = owner_view o.owner; element = o.element; values = o.values.items; phase = o.phase }
