@@ -75,6 +75,10 @@ calls_of program places (suc left) waiting f vs s =
     activate (λ place. calls_of program places left (record { function = f; place = place } ∷ waiting))
     (record { program = program; places = places; function = f; waiting = waiting }) (slice_get program.functions f) vs s
 
+-- what a call at a place of an activation comes to, where so many may still begin
+abbrev pub calls_at : Activation → ℕ → (place : ℕ) → Calls
+calls_at here left place = calls_of here.program here.places left (record { function = here.function; place = place } ∷ here.waiting)
+
 -- the number that bytes spell, the lowest first
 abbrev pub spelled : List ℕ → ℕ
 spelled [] = 0

@@ -15,7 +15,7 @@ use Rattle.c_meaning.specs.declared.event.Frame.{Frame}
 use Rattle.c_meaning.specs.declared.event.Ending.TheVariants.{Undefined, Turns}
 use Rattle.c_meaning.specs.Memory.{Object, Memory, new_object, contents, set_value, begun, ended_from}
 use Rattle.c_meaning.specs.Places.{Place, number_at, scope_at, visible}
-use Rattle.c_meaning.specs.States.{Shown, Stop, State, seen, Evaluated, Outcome, Next, Broken, Continued, Returned, Ended, on_value, on_effect, choose}
+use Rattle.c_meaning.specs.States.{Shown, Stop, State, seen, Evaluated, Outcome, Next, Broken, Continued, Returned, Ended, on_value, on_effect, Tested, Holds, tested, choose}
 use Rattle.c_meaning.specs.Expressions.{Calls, evaluate}
 
 -- the next statement, where control goes on
@@ -73,6 +73,10 @@ has_case k (first s rest) = has_case k rest
 has_case k (case j rest) = is_same_number k j || has_case k rest
 has_case k (default rest) = has_case k rest
 
+abbrev pub by_label : Bool → (State → Outcome) → (State → Outcome) → State → Outcome
+by_label true labelled unlabelled s = labelled s
+by_label false labelled unlabelled s = unlabelled s
+
 abbrev pub on_number : Value → State → (ℤ → State → Outcome) → Outcome
 on_number (Number k) s go = go k s
 on_number _ s go = Ended Undefined s
@@ -110,9 +114,35 @@ stopped here at s =
     let place = number_at here.places at in
     seen (Stop place (depth_of here) (frames_at here place) (shown_at here at s.memory) s.memory) s
 
+-- A place has begun, or no turn was left for it.
+pub data Begun : Type 0 where
+  Goes : State → Begun
+  NoTurn : State → Begun
+
 -- A place is begun: that is a turn and a stop, before anything of the place is done (5.1.2.3).
+abbrev pub begin : Activation → Spot → State → Begun
+begin here spot s = elim s.turns [ zero ↦ NoTurn s | suc left ↦ Goes (stopped here spot.at (record s { turns = left })) ]
+
+abbrev pub on_begun : Begun → (State → Outcome) → Outcome
+on_begun (Goes s) go = go s
+on_begun (NoTurn s) go = Ended Turns s
+
+-- what is done at a place
 abbrev pub at : Activation → Spot → State → (State → Outcome) → Outcome
-at here spot s go = elim s.turns [ zero ↦ Ended Turns s | suc left ↦ go (stopped here spot.at (record s { turns = left })) ]
+at here spot s go = on_begun (begin here spot s) go
+
+-- a round of `while`: the condition, and where it holds the body
+abbrev pub while_round : Activation → Spot → (State → Tested) → (State → Outcome) → (State → Outcome) → State → Outcome
+while_round here spot condition body again s = at here spot s (λ t. choose (condition t) (λ u. after_body (body u) again) Next)
+
+-- a round of `do`: the body, and then the condition
+abbrev pub do_round : Activation → Spot → (State → Tested) → (State → Outcome) → (State → Outcome) → State → Outcome
+do_round here spot condition body again s = after_body (body s) (λ t. at here spot t (λ u. choose (condition u) again Next))
+
+-- a round of `for`: the condition, and where it holds the body and then the step
+abbrev pub for_round : Activation → Spot → (State → Tested) → (body step : State → Outcome) → (State → Outcome) → State → Outcome
+for_round here spot condition body step again s =
+    at here spot s (λ t. choose (condition t) (λ u. after_body (body u) (λ w. then_do (step w) again)) Next)
 
 -- a new object of a variable, if the program has it
 abbrev pub objects_of : Activation → Phase → ℕ → List Object
@@ -172,10 +202,14 @@ module _ (calls : ℕ → Calls) (here : Activation) where
   begin_loop (tree.Value spot e) s = run spot e s
   begin_loop (Declares all) s = declare_all all s
 
+  -- whether the condition of the place at a spot holds
+  abbrev pub test_at : Spot → RvalueTree → State → Tested
+  test_at spot e s = tested (value_at spot e s)
+
   -- a condition that is left out holds (6.8.5.3p2)
-  abbrev pub check : Spot → Option RvalueTree → State → (State → Outcome) → (State → Outcome) → Outcome
-  check spot None s if_true if_false = if_true s
-  check spot (Some e) s if_true if_false = choose (value_at spot e s) if_true if_false
+  abbrev pub check : Spot → Option RvalueTree → State → Tested
+  check spot None s = Holds s
+  check spot (Some e) s = test_at spot e s
 
   abbrev pub step : Option StepTree → State → Outcome
   step None s = Next s
@@ -192,17 +226,14 @@ module _ (calls : ℕ → Calls) (here : Activation) where
     execute (Declaration all) s = declare_all all s
     execute (Empty spot) s = at here spot s Next
     execute (Run spot e) s = run spot e s
-    execute (If spot c chosen) s = at here spot s (λ t. choose (value_at spot c t) (execute chosen) Next)
-    execute (IfElse spot c chosen other) s = at here spot s (λ t. choose (value_at spot c t) (execute chosen) (execute other))
-    execute (While spot c body) s =
-        loop (λ again t. at here spot t (λ u. choose (value_at spot c u) (λ w. after_body (execute body w) again) Next)) s
-    execute (DoWhile body spot c) s =
-        loop (λ again t. after_body (execute body t) (λ u. at here spot u (λ w. choose (value_at spot c w) again Next))) s
+    execute (If spot c chosen) s = at here spot s (λ t. choose (test_at spot c t) (execute chosen) Next)
+    execute (IfElse spot c chosen other) s = at here spot s (λ t. choose (test_at spot c t) (execute chosen) (execute other))
+    execute (While spot c body) s = loop (while_round here spot (test_at spot c) (execute body)) s
+    execute (DoWhile body spot c) s = loop (do_round here spot (test_at spot c) (execute body)) s
     execute (For start spot c p body) s =
-        closed (length s.memory) (then_do (begin_loop start s) (loop (λ again t. at here spot t (λ u. check spot c u
-        (λ w. after_body (execute body w) (λ x. then_do (step p x) again)) Next))))
+        closed (length s.memory) (then_do (begin_loop start s) (loop (for_round here spot (check spot c) (execute body) (step p))))
     execute (Switch spot e all) s =
-        at here spot s (λ t. on_value (value_at spot e t) (λ v u. on_number v u (λ k w. after_switch (elim (has_case k all) [ true ↦ execute_case k all w | false ↦ execute_default all w ]))))
+        at here spot s (λ t. on_value (value_at spot e t) (λ v u. on_number v u (λ k w. after_switch (by_label (has_case k all) (execute_case k all) (execute_default all) w))))
     execute (Break spot) s = at here spot s Broken
     execute (Continue spot) s = at here spot s Continued
     execute (Return spot e) s = at here spot s (result spot e)
@@ -218,7 +249,7 @@ module _ (calls : ℕ → Calls) (here : Activation) where
     pub execute_case : ℤ → TypedStatementTrees → State → Outcome
     execute_case k none s = Next s
     execute_case k (first a rest) s = execute_case k rest s
-    execute_case k (case j rest) s = elim (is_same_number k j) [ true ↦ execute_all rest s | false ↦ execute_case k rest s ]
+    execute_case k (case j rest) s = by_label (is_same_number k j) (execute_all rest) (execute_case k rest) s
     execute_case k (default rest) s = execute_case k rest s
 
     -- from `default` on, or behind the switch where there is none

@@ -1,5 +1,5 @@
 -- What a run has at each moment, what can be seen of it, and how its parts may end.
-use Rattle.std.specs.Prelude.{ℕ, ℤ, true, false, List, [], ◌∷◌, ◌++◌, Option, Some, None, if◌then◌else◌}
+use Rattle.std.specs.Prelude.{Bool, ℕ, ℤ, true, false, List, [], ◌∷◌, ◌++◌, Option, Some, None, if◌then◌else◌}
 use Rattle.c_meaning.specs.declared.value.Value.{Value}
 use Rattle.c_meaning.specs.declared.event.Frame.{Frame}
 use Rattle.c_meaning.specs.declared.event.Ending.{Ending}
@@ -72,11 +72,77 @@ mapped (Ends e s) f = Ends e s
 abbrev pub usable : Value → State → Evaluated
 usable v s = if is_usable s.memory v then Gives v s else Ends Undefined s
 
--- one way where a value is true, another where it is not
-abbrev pub test : Evaluated → (State → Evaluated) → (State → Evaluated) → Evaluated
-test e if_true if_false = with e (λ v s. with (usable v s) (λ w t. elim (is_true w) [ true ↦ if_true t | false ↦ if_false t ]))
+-- Two operands, from left to right, each of which has a value; or the run ends within one.
+pub data Both : Type 0 where
+  Pair : (left right : Value) → State → Both
+  NoPair : Ending → State → Both
+
+abbrev pub second : Value → Evaluated → Both
+second v (Gives w s) = Pair v w s
+second v (Leaves s) = NoPair Undefined s
+second v (Ends e s) = NoPair e s
+
+abbrev pub both : Evaluated → (State → Evaluated) → Both
+both (Gives v s) right = second v (right s)
+both (Leaves s) right = NoPair Undefined s
+both (Ends e s) right = NoPair e s
+
+abbrev pub on_both : Both → (Value → Value → State → Evaluated) → Evaluated
+on_both (Pair v w s) go = go v w s
+on_both (NoPair e s) go = Ends e s
+
+-- Whether a value is true; or the run ends within its expression. A value that is tested is no pointer to an object that has ended.
+pub data Tested : Type 0 where
+  Holds : State → Tested
+  Fails : State → Tested
+  NoTest : Ending → State → Tested
+
+abbrev pub by_truth : Bool → State → Tested
+by_truth true s = Holds s
+by_truth false s = Fails s
+
+abbrev pub tested_usable : Evaluated → Tested
+tested_usable (Gives v s) = by_truth (is_true v) s
+tested_usable (Leaves s) = NoTest Undefined s
+tested_usable (Ends e s) = NoTest e s
+
+abbrev pub tested : Evaluated → Tested
+tested (Gives v s) = tested_usable (usable v s)
+tested (Leaves s) = NoTest Undefined s
+tested (Ends e s) = NoTest e s
+
+-- one way where a test holds, another where it fails
+abbrev pub on_test : Tested → (State → Evaluated) → (State → Evaluated) → Evaluated
+on_test (Holds s) if_true if_false = if_true s
+on_test (Fails s) if_true if_false = if_false s
+on_test (NoTest e s) if_true if_false = Ends e s
 
 -- the same for statements
+abbrev pub choose : Tested → (State → Outcome) → (State → Outcome) → Outcome
+choose (Holds s) if_true if_false = if_true s
+choose (Fails s) if_true if_false = if_false s
+choose (NoTest e s) if_true if_false = Ended e s
+
+-- The values of arguments, from left to right; or the run ends within one.
+pub data Listed : Type 0 where
+  Lists : List Value → State → Listed
+  NoList : Ending → State → Listed
+
+-- a value before others
+abbrev pub fronted : Value → Listed → Listed
+fronted v (Lists vs s) = Lists (v ∷ vs) s
+fronted v (NoList e s) = NoList e s
+
+abbrev pub listed : Evaluated → (Value → State → Listed) → Listed
+listed (Gives v s) go = go v s
+listed (Leaves s) go = NoList Undefined s
+listed (Ends e s) go = NoList e s
+
+abbrev pub on_list : Listed → (List Value → State → Evaluated) → Evaluated
+on_list (Lists vs s) go = go vs s
+on_list (NoList e s) go = Ends e s
+
+-- the value of an expression in a statement
 abbrev pub on_value : Evaluated → (Value → State → Outcome) → Outcome
 on_value (Gives v s) go = go v s
 on_value (Leaves s) go = Ended Undefined s
@@ -86,6 +152,3 @@ abbrev pub on_effect : Evaluated → (State → Outcome) → Outcome
 on_effect (Gives v s) go = go s
 on_effect (Leaves s) go = go s
 on_effect (Ends e s) go = Ended e s
-
-abbrev pub choose : Evaluated → (State → Outcome) → (State → Outcome) → Outcome
-choose e if_true if_false = on_value e (λ v s. on_value (usable v s) (λ w t. elim (is_true w) [ true ↦ if_true t | false ↦ if_false t ]))

@@ -6,6 +6,8 @@ pub mod event;
 mod laws;
 pub mod memory;
 mod operations;
+mod state;
+mod steps;
 mod types;
 pub mod value;
 

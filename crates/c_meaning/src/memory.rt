@@ -15,7 +15,7 @@ use std::alloc::{AllocError, Global};
 pub enum Owner {
     Static(u32),
     Literal(u32),
-    Variable { variable: u32, depth: u32 },
+    Variable { variable: u32, depth: usize },
 }
 
 /// An object.
