@@ -1,6 +1,5 @@
 -- The places of a program: the points at which its execution may be stopped, and the entries of its functions (ISO/IEC 9899:2011, 5.1.2.3, 6.2.1, 6.8).
-use Rattle.std.specs.Prelude.{ℕ, zero, suc, ◌+◌, nat_lt, ◌==◌, Bool, true, false, ◌&&◌, if◌then◌else◌, Option, Some, None, List, [], ◌∷◌, ◌++◌, map}
-use Rattle.std.specs.List.{list_any}
+use Rattle.std.specs.Prelude.{ℕ, zero, suc, ◌+◌, nat_lt, ◌==◌, Bool, true, false, ◌&&◌, ◌||◌, slice_get, if◌then◌else◌, Option, Some, None, List, [], ◌∷◌, ◌++◌, map}
 use Rattle.std.specs.Option.{option_map_or}
 use Rattle.debug_records.specs.declared.source.Spot.{Spot}
 use Rattle.c_tree.specs.TypedExpressions.{RvalueTree}
@@ -129,12 +128,14 @@ is_same_name _ _ = false
 
 -- the name of an automatic variable
 abbrev pub name_of : List AutomaticTree → ℕ → List ℕ
-name_of [] x = []
-name_of (a ∷ all) zero = a.name
-name_of (a ∷ all) (suc x) = name_of all x
+name_of all x = option_map_or (λ (a : AutomaticTree). a.name) (slice_get all x) []
+
+-- a variable is hidden by one of these that has its name
+abbrev pub is_hidden : List AutomaticTree → ℕ → List ℕ → Bool
+is_hidden all x [] = false
+is_hidden all x (y ∷ later) = is_same_name (name_of all x) (name_of all y) || is_hidden all x later
 
 -- Of the variables in scope those are visible that no later one, which is an inner one, hides by its name (6.2.1p4).
 abbrev pub visible : List AutomaticTree → List ℕ → List ℕ
 visible all [] = []
-visible all (x ∷ later) =
-    if list_any (λ y. is_same_name (name_of all x) (name_of all y)) later then visible all later else x ∷ visible all later
+visible all (x ∷ later) = if is_hidden all x later then visible all later else x ∷ visible all later

@@ -36,3 +36,20 @@ pub enum Outcome {
     Returned(Option<Value>),
     Ended(Ending),
 }
+
+/// What two operands come to.
+#[derive(Clone, Copy, Debug, PartialEq, Eq)]
+pub enum Operands {
+    Pair(Value, Value),
+    /// The run ends within one.
+    NoPair(Ending),
+}
+
+/// Whether a value is true.
+#[derive(Clone, Copy, Debug, PartialEq, Eq)]
+pub enum Tested {
+    Holds,
+    Fails,
+    /// The run ends within the expression.
+    NoTest(Ending),
+}
