@@ -1,3 +1,4 @@
 pub mod Names
 pub mod Sums
 pub mod Weights
+pub mod NamesBehind

@@ -3,6 +3,7 @@
 
 pub mod count;
 pub mod room;
+pub mod visible;
 pub mod weight;
 pub mod weight_of_statement;
 
