@@ -124,7 +124,9 @@ module _ (all : List AutomaticTree) where
   counted total (default rest) names fits = counted total rest names fits
 
   pub counted_all : (ss : TypedStatementTrees) (names : List (List ℕ)) → count_from 0 ss names ≡ capped (at_statements all ss names)
-  counted_all ss names = counted 0 ss names refl
+  counted_all ss names =
+      let same : 0 + at_statements all ss names ≡ at_statements all ss names = omega arith in
+      counted 0 ss names refl ∙ ap capped same
 
 -- names cut off
 pub names_cut : (xs ys : List (Bor (List ℕ))) (k : ℕ) (more : List (List ℕ)) → names_view ys ≡ more → k ≡ length xs → take (length (names_view xs)) more ≡ names_view xs → names_view (take k ys) ≡ names_view xs

@@ -134,7 +134,9 @@ fn at_statement<'a>(
             Ok(plus(outer, inner))
         }
         TypedStatement::IfElse {
-            then, otherwise, ..
+            then,
+            otherwise,
+            ..
         } => {
             let one = at_inner(automatics, names, then)?;
             let other = at_inner(automatics, names, otherwise)?;
@@ -256,7 +258,10 @@ fn at_function(
     ensures { IfOk result (λ n. n ≡ capped (at_function (map automatic_view automatics.now) (function_view f.now))) }
 {
     let mut names = Vec::new(alloc);
-    add_all(&mut names, variables_of(automatics, f.first_variable, f.parameters))?;
+    add_all(
+        &mut names,
+        variables_of(automatics, f.first_variable, f.parameters),
+    )?;
     let inner = at_statements(automatics, &mut names, &f.body)?;
     if reaches_end(&f.body) {
         return Ok(plus(inner, names.len() as u64));

@@ -1,9 +1,8 @@
-use Rattle.std.proofs.Common.{◌≡◌, ◌<◌, ◌≤◌, ◌+◌, ◌^◌}
+use Rattle.std.proofs.Common.{◌≡◌, ◌≤◌}
 use Rattle.std.specs.Prelude.{map}
 use Rattle.c_tree.specs.declared.typed_statement.TypedStatements.{size-TypedStatements}
 use Rattle.c_tree.specs.Programs.{automatic_view}
 use Rattle.c_tree.specs.TypedStatements.{statements_view}
-use Rattle.c_type_bounds.specs.Counts.{capped}
 use Rattle.c_type_bounds.specs.Visible.{behind_statements, names_view}
 use Rattle.c_type_bounds.proofs.NamesBehind.{count_from}
 use Rattle.c_type_bounds.proofs.visible.+visible.Given as goal
