@@ -82,11 +82,11 @@ abbrev pub program_breach : ProgramTree → Option Code
 program_breach p =
     if nat_lt 4000 p.weight then Some (limit 4) else (if nat_lt 1048576 (objects_room p) then Some (limit 6) else (if nat_lt 1000000 (at_functions p.automatics p.functions) then Some (limit 8) else None))
 
--- what a check answers: what it makes, or the refusal, but for the want of memory, which says nothing of the program
-abbrev pub Refuses : {Y : Type 0} → SourceErr → Result Y (Code × ℕ) → Type 0
+-- what the check of functions answers: their variables as marked, or the refusal, but for the want of memory, which says nothing of them
+abbrev pub Refuses : {X : Type 0} → SourceErr → Result X (Code × ℕ) → Type 0
 Refuses error.NoMemory outcome = Unit {0}
 Refuses (error.Refused code line) outcome = outcome ≡ Err (code, line)
 
-abbrev pub Answers : {X Y : Type 0} → (X → Y) → Result X SourceErr → Result Y (Code × ℕ) → Type 0
-Answers view (Ok x) outcome = outcome ≡ Ok (view x)
-Answers view (Err e) outcome = Refuses e outcome
+abbrev pub Marks : {U X : Type 0} → Result U SourceErr → X → Result X (Code × ℕ) → Type 0
+Marks (Ok u) new outcome = outcome ≡ Ok new
+Marks (Err e) new outcome = Refuses e outcome

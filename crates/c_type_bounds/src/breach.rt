@@ -2,7 +2,7 @@
 
 ghost use Rattle.std.specs.Prelude.{◌≡◌, IfOk, OnOk, map};
 ghost use Rattle.c_tree.specs.Programs.{automatic_view, function_view, program_view};
-ghost use Rattle.c_type_bounds.specs.Bounds.{Answers, behind_function, behind_functions, kept, kept_all, objects_room, program_breach, with_kept};
+ghost use Rattle.c_type_bounds.specs.Bounds.{Marks, behind_function, behind_functions, kept, kept_all, objects_room, program_breach, with_kept};
 ghost use Rattle.c_type_bounds.specs.Counts.{capped};
 
 use crate::count::plus;
@@ -53,7 +53,7 @@ fn check_function(
     f: &TypedFunction,
     automatics: &mut [AutomaticVariable],
 ) -> Result<(), SourceErr>
-    ensures { Answers (λ _. map automatic_view automatics.new) result (behind_function number (function_view f.now) (map automatic_view automatics.old)) }
+    ensures { Marks result (map automatic_view automatics.new) (behind_function number (function_view f.now) (map automatic_view automatics.old)) }
 {
     if f.weight > 3000 {
         return Err(SourceErr::Refused(Code::FUNCTION_WEIGHT, f.spot.line));
@@ -76,7 +76,7 @@ pub fn check_functions(
     functions: &[TypedFunction],
     automatics: &mut [AutomaticVariable],
 ) -> Result<(), SourceErr>
-    ensures { Answers (λ _. map automatic_view automatics.new) result (behind_functions 0 (map function_view functions.now) (map automatic_view automatics.old)) }
+    ensures { Marks result (map automatic_view automatics.new) (behind_functions 0 (map function_view functions.now) (map automatic_view automatics.old)) }
 {
     for number in 0..functions.len() {
         check_function(alloc, number, &functions[number], automatics)?;
