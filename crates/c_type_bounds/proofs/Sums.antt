@@ -20,3 +20,10 @@ sum_whole f g xs i all = ap (sum_by (λ x. f (g x))) (take_all i xs all) ∙ sym
 -- rounded up in two parts
 pub room_in_parts : (n : ℕ) → (n - n % 4611686018427387904) + room (n % 4611686018427387904) ≡ room n
 room_in_parts n = omega arith
+
+-- a sum that goes on
+pub capped_more : (total n rest : ℕ) → capped (capped (total + n) + rest) ≡ capped (total + (n + rest))
+capped_more total n rest = omega arith
+
+pub capped_more_of : (total n rest : ℕ) → capped (capped (total + capped n) + rest) ≡ capped (total + (n + rest))
+capped_more_of total n rest = omega arith

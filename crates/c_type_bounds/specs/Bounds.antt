@@ -1,6 +1,8 @@
 -- The limits of the compiler on programs that break no other rule.
-use Rattle.std.specs.Prelude.{ℕ, zero, suc, ◌+◌, ◌^◌, nat_lt, ◌||◌, List, [], ◌∷◌, length, sum_by, take, drop, true, Option, Some, None, Result, Ok, Err, if◌then◌else◌}
+use Rattle.std.specs.Prelude.{◌≡◌, ℕ, zero, suc, ◌+◌, nat_lt, ◌||◌, List, [], ◌∷◌, length, sum_by, take, drop, true, Option, Some, None, Result, Ok, Err, if◌then◌else◌}
 use Rattle.debug_records.specs.declared.code.Code.{Code}
+use Rattle.debug_records.specs.declared.source.SourceErr.{SourceErr}
+use Rattle.debug_records.specs.declared.source.SourceErr.TheVariants as error
 use Rattle.debug_records.specs.declared.code.Letter.TheVariants.{L}
 use Rattle.c_tree.specs.Programs.{AutomaticTree, StaticTree, LiteralTree, TypedFunctionTree, ProgramTree}
 use Rattle.c_type_rules.specs.Integers.{object_size, room}
@@ -71,7 +73,20 @@ abbrev pub behind_functions : ℕ → List TypedFunctionTree → List AutomaticT
 behind_functions number [] vs = Ok vs
 behind_functions number (f ∷ fs) vs = elim (behind_function number f vs) [ Ok ws ↦ behind_functions (number + 1) fs ws | Err e ↦ Err e ]
 
--- the limits of a program: it weighs 4,000 at most (L04), its static objects and literals take 1 MiB at most (L06), and at its places 1,000,000 variables are visible at most (L08)
+-- the bytes that the static objects of a program take, its literals among them, also those that initialise arrays
+abbrev pub objects_room : ProgramTree → ℕ
+objects_room p = static_room p.statics + literal_room p.literals + literal_room p.array_literals
+
+-- the limits of a program: it weighs 4,000 at most (L04), its static objects take 1 MiB at most (L06), and at its places 1,000,000 variables are visible at most (L08)
 abbrev pub program_breach : ProgramTree → Option Code
 program_breach p =
-    if nat_lt 4000 p.weight then Some (limit 4) else (if nat_lt (2 ^ 20) (static_room p.statics + literal_room p.literals + literal_room p.array_literals) then Some (limit 6) else (if nat_lt 1000000 (at_functions p.automatics p.functions) then Some (limit 8) else None))
+    if nat_lt 4000 p.weight then Some (limit 4) else (if nat_lt 1048576 (objects_room p) then Some (limit 6) else (if nat_lt 1000000 (at_functions p.automatics p.functions) then Some (limit 8) else None))
+
+-- what the check of functions answers: their variables as marked, or the refusal, but for the want of memory, which says nothing of them
+abbrev pub Refuses : {X : Type 0} → SourceErr → Result X (Code × ℕ) → Type 0
+Refuses error.NoMemory outcome = Unit {0}
+Refuses (error.Refused code line) outcome = outcome ≡ Err (code, line)
+
+abbrev pub Marks : {U X : Type 0} → Result U SourceErr → X → Result X (Code × ℕ) → Type 0
+Marks (Ok u) new outcome = outcome ≡ Ok new
+Marks (Err e) new outcome = Refuses e outcome

@@ -1,5 +1,5 @@
 -- How many variables are visible at the places of a function, in all: at each place those automatic ones in whose scope it stands, but for those that an inner name hides.
-use Rattle.std.specs.Prelude.{ℕ, ◌+◌, List, [], ◌∷◌, ◌++◌, length, map, Option, Some, None, if◌then◌else◌, take, drop, slice_get}
+use Rattle.std.specs.Prelude.{ℕ, ◌+◌, List, [], ◌∷◌, ◌++◌, length, map, sum_by, Option, Some, None, if◌then◌else◌, take, drop, slice_get}
 use Rattle.std.specs.Option.{option_map_or}
 use Rattle.std.specs.List.{list_any}
 use Rattle.std.specs.Borrow.{Bor}
@@ -16,6 +16,20 @@ names_view names = map (λ n. n.now) names
 -- the visible names, with one more where none is its own
 abbrev pub with_visible : List ℕ → List (List ℕ) → List (List ℕ)
 with_visible name names = if list_any (λ n. bytes_eq n name) names then names else names ++ name ∷ []
+
+-- the condition of a `for` sees what its first part declares; a loop head without a condition stands before it
+abbrev pub at_head : Option RvalueTree → (inner outer : List (List ℕ)) → ℕ
+at_head (Some c) inner outer = length inner
+at_head None inner outer = length outer
+
+abbrev pub at_step : Option StepTree → List (List ℕ) → ℕ
+at_step (Some s) names = length names
+at_step None names = 0
+
+-- the names of variables
+abbrev pub names_of : List AutomaticTree → List (List ℕ) → List (List ℕ)
+names_of [] names = names
+names_of (v ∷ vs) names = names_of vs (with_visible v.name names)
 
 module _ (automatics : List AutomaticTree) where
   -- behind the declarator of a variable
@@ -47,15 +61,6 @@ module _ (automatics : List AutomaticTree) where
   abbrev pub behind_statement : TypedStatementTree → List (List ℕ) → List (List ℕ)
   behind_statement (Declaration all) names = behind_all all names
   behind_statement s names = names
-
-  -- the condition of a `for` sees what its first part declares; a loop head without a condition stands before it
-  abbrev pub at_head : Option RvalueTree → (inner outer : List (List ℕ)) → ℕ
-  at_head (Some c) inner outer = length inner
-  at_head None inner outer = length outer
-
-  abbrev pub at_step : Option StepTree → List (List ℕ) → ℕ
-  at_step (Some s) names = length names
-  at_step None names = 0
 
   abbrev mutual
     -- at the places of a statement
@@ -89,11 +94,6 @@ module _ (automatics : List AutomaticTree) where
   behind_statements (case value rest) names = behind_statements rest names
   behind_statements (default rest) names = behind_statements rest names
 
-  -- the names of variables
-  abbrev pub names_of : List AutomaticTree → List (List ℕ) → List (List ℕ)
-  names_of [] names = names
-  names_of (v ∷ vs) names = names_of vs (with_visible v.name names)
-
   -- a function's parameters
   abbrev pub parameter_names : TypedFunctionTree → List (List ℕ)
   parameter_names f = names_of (take f.parameters (drop f.first_variable automatics)) []
@@ -107,5 +107,4 @@ module _ (automatics : List AutomaticTree) where
   at_function f = at_statements f.body (parameter_names f) + at_close f
 
   abbrev pub at_functions : List TypedFunctionTree → ℕ
-  at_functions [] = 0
-  at_functions (f ∷ fs) = at_function f + at_functions fs
+  at_functions = sum_by at_function

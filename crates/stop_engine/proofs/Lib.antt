@@ -15,3 +15,7 @@ pub mod Callers
 pub mod Targets
 pub mod Elements
 pub mod FlowOrder
+mod ActivationLaws
+mod RowsByPlace
+mod ValidRows
+mod VisibleLaws

@@ -20,3 +20,6 @@ pub mod Rows
 pub mod Shown
 pub mod Tables
 pub mod Sight
+pub mod Visible
+pub mod Activations
+pub mod AtStop

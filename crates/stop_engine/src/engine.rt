@@ -1,26 +1,32 @@
 //! The engine of a session.
 
-ghost use Rattle.std.specs.Prelude.{◌≡◌, IfOk, OnOk, OnErr, ◌⊎◌, false, [], ◌∷◌, map, length, ◌+◌};
+ghost use Rattle.std.specs.Prelude.{◌≡◌, IfOk, OnOk, OnErr, ◌⊎◌, ◌↔◌, false, [], ◌∷◌, map, length, ◌+◌};
 ghost use Rattle.image_form.specs.Form.{form};
 ghost use Rattle.image_form.specs.Rules.{IsImage};
 ghost use Rattle.script_form.specs.Script.{mark, order_of};
 ghost use Rattle.line_form.specs.Lines.{no_stop_line};
+ghost use Rattle.stop_engine.specs.Activations.{activation_of};
+ghost use Rattle.stop_engine.specs.AtStop.{frames_at, locals_at};
 ghost use Rattle.stop_engine.specs.Breaks.{break_places};
 ghost use Rattle.stop_engine.specs.EngineState.{Answers, HasMarked, HasRun, LeavesOff, Wants, fresh_engine};
 ghost use Rattle.stop_engine.specs.Halting.{halt_at};
 ghost use Rattle.stop_engine.specs.Marking.{aim_of};
 ghost use Rattle.stop_engine.specs.Shown.{locals_lines, where_lines};
 ghost use Rattle.stop_engine.specs.Sight.{sight_line, sight_of};
+ghost use Rattle.stop_engine.specs.Stopping.{IsAtNoStop};
 ghost use Rattle.stop_engine.specs.Transcript.{at_stop, marked_line, ran, run_lines, sight};
+ghost use Rattle.stop_engine.specs.Visible.{visible_of};
 
+use crate::activations::{Frame, activation_lines, activations};
 use crate::breaks::{break_places, marked_line};
 use crate::halt::Halt;
 use crate::lines::halt_line;
+use crate::locals::{Local, locals_lines, visible_at};
 use crate::run::Run;
 use crate::shown::{Shown, shown_line};
 use crate::stops::{Marks, Stops};
 use crate::tables::{Tables, tables_of};
-use crate::views::{locals_lines, name_shown, where_lines};
+use crate::views::name_shown;
 use image_form::Image;
 use line_form::{no_stop_line, out_lines};
 use script_form::{Command, Target};
@@ -105,6 +111,29 @@ impl<'a> Engine<'a> {
         )?)
     }
 
+    /// The variables that are visible where the engine stands, each by its own row, in the order of their positions: at no stop none.
+    /// `AllocError` where memory for them was refused.
+    pub fn locals(&self, alloc: Global) -> Result<Vec<Local>, AllocError>
+        ensures { IfOk result (λ locals. map visible_of locals.items ≡ locals_at self.now.run.form self.now.run.position) }
+    {
+        let Some(stop) = self.run.stop() else {
+            return Ok(Vec::new(alloc));
+        };
+        Ok(visible_at(alloc, stop.image, stop.machine, &self.tables, stop.place)?)
+    }
+
+    /// The activations that are live where the engine stands, the innermost first: none exactly at no stop. `AllocError` where memory
+    /// for them was refused.
+    pub fn frames(&self, alloc: Global) -> Result<Vec<Frame>, AllocError>
+        ensures frames { IfOk result (λ frames. map activation_of frames.items ≡ frames_at self.now.run.form self.now.run.position) }
+        ensures none { IfOk result (λ frames. frames.items ≡ [] ↔ IsAtNoStop self.now.run.position) }
+    {
+        let Some(stop) = self.run.stop() else {
+            return Ok(Vec::new(alloc));
+        };
+        Ok(activations(alloc, stop.image, stop.machine, &self.tables, stop.place)?)
+    }
+
     /// The lines that a command of a script prints, as texts without their ends. `AllocError` where memory for the output or for a line
     /// was refused.
     pub fn answer(&mut self, alloc: Global, command: &Command) -> Result<Vec<Vec<u8>>, AllocError>
@@ -119,8 +148,8 @@ impl<'a> Engine<'a> {
             Command::Step => run_lines(alloc, &mut self.run, &Stops::Any),
             Command::Continue => run_lines(alloc, &mut self.run, &Stops::At(&self.marks)),
             Command::Print(name) => self.print(alloc, name),
-            Command::Locals => self.locals(alloc),
-            Command::Where => self.frames(alloc),
+            Command::Locals => self.locals_lines(alloc),
+            Command::Where => self.where_lines(alloc),
             Command::Quit => {
                 self.has_quit = true;
                 Ok(Vec::new(alloc))
@@ -152,25 +181,27 @@ impl<'a> Engine<'a> {
     }
 
     /// The lines of all visible variables where the engine stands.
-    fn locals(&self, alloc: Global) -> Result<Vec<Vec<u8>>, AllocError>
+    fn locals_lines(&self, alloc: Global) -> Result<Vec<Vec<u8>>, AllocError>
         ensures { IfOk result (λ lines. map (λ line. line.items) lines.items
             ≡ at_stop self.now.run.form self.now.run.position (locals_lines self.now.run.form)) }
     {
         let Some(stop) = self.run.stop() else {
             return Ok(no_stop(alloc)?);
         };
-        Ok(locals_lines(alloc, stop.image, stop.machine, &self.tables, stop.place)?)
+        let locals = visible_at(alloc, stop.image, stop.machine, &self.tables, stop.place)?;
+        Ok(locals_lines(alloc, &locals)?)
     }
 
     /// The lines of the activations that are live where the engine stands.
-    fn frames(&self, alloc: Global) -> Result<Vec<Vec<u8>>, AllocError>
+    fn where_lines(&self, alloc: Global) -> Result<Vec<Vec<u8>>, AllocError>
         ensures { IfOk result (λ lines. map (λ line. line.items) lines.items
             ≡ at_stop self.now.run.form self.now.run.position (where_lines self.now.run.form)) }
     {
         let Some(stop) = self.run.stop() else {
             return Ok(no_stop(alloc)?);
         };
-        Ok(where_lines(alloc, stop.image, stop.machine, stop.place)?)
+        let frames = activations(alloc, stop.image, stop.machine, &self.tables, stop.place)?;
+        Ok(activation_lines(alloc, &frames)?)
     }
 }
 

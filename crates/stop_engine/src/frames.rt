@@ -1,17 +1,15 @@
-//! The activations that are live at a stop.
+//! The places of the activations that are live at a stop.
 
-ghost use Rattle.std.specs.Prelude.{◌≡◌, ◌≢◌, ◌<◌, ◌≤◌, ◌^◌, ℕ, All, IfOk, length, map, true};
+ghost use Rattle.std.specs.Prelude.{◌≡◌, ◌≢◌, ◌<◌, ◌≤◌, ◌^◌, ℕ, All, IfOk, true};
 ghost use Rattle.image_form.specs.Form.{form};
 ghost use Rattle.image_form.specs.Rules.{IsImage};
 ghost use Rattle.image_form.specs.RulesOfFunctions.{IsPlaceNumber};
 ghost use Rattle.rv_machine.specs.State.{word};
-ghost use Rattle.stop_engine.specs.Frames.{calling_place, frame_line_at, frame_lines, place_before, return_address};
+ghost use Rattle.stop_engine.specs.Frames.{calling_place, place_before, return_address};
 ghost use Rattle.stop_engine.specs.Reading.{frame_of, frames, greatest_depth, is_stack_address, owner_of};
 
-use crate::names::function_name;
 use crate::reading::{CODE_START, STACK_END, STACK_START, stack_pointer, word_in};
 use image_form::Image;
-use line_form::frame_line;
 use rv_machine::machine::Machine;
 use std::alloc::{AllocError, Global};
 
@@ -103,35 +101,4 @@ pub fn frame_places(
         at = caller;
     }
     Ok(places)
-}
-
-/// The line of an activation that stands at a place. `AllocError` where memory for it was refused.
-fn frame_line_at(
-    alloc: Global,
-    image: &Image,
-    number: u32,
-    place: u32,
-) -> Result<Vec<u8>, AllocError>
-    requires image { IsImage (form image.now) }
-    requires place { IsPlaceNumber (form image.now) place }
-    ensures { IfOk result (λ line. line.items ≡ frame_line_at (form image.now) number place) }
-{
-    let at = image.places[place as usize - 1];
-    let function = function_name(image, at.function as usize);
-    Ok(frame_line(alloc, number, function, at.line, place)?)
-}
-
-/// The lines of the activations that stand at these places, from number 0 on. `AllocError` where memory for them was refused.
-pub fn frame_lines(alloc: Global, image: &Image, places: &[u32]) -> Result<Vec<Vec<u8>>, AllocError>
-    requires image { IsImage (form image.now) }
-    requires places { All (IsPlaceNumber (form image.now)) places.now }
-    requires few { length places.now < 4294967296 }
-    ensures { IfOk result (λ lines. map (λ line. line.items) lines.items ≡ frame_lines (form image.now) 0 places.now) }
-{
-    let mut lines = Vec::new(alloc);
-    for (number, place) in places.iter().enumerate() {
-        let line = frame_line_at(alloc, image, number as u32, *place)?;
-        lines.push(line)?;
-    }
-    Ok(lines)
 }

@@ -1,12 +1,14 @@
 //! Runs an image from stop to stop, and shows what stands there.
 #![tactic(auto)]
 
+mod activations;
 mod breaks;
 mod course;
 mod engine;
 mod frames;
 mod halt;
 mod lines;
+mod locals;
 mod names;
 mod pointers;
 mod reading;
@@ -21,8 +23,11 @@ mod tables;
 mod tests;
 mod values;
 mod views;
+mod visible;
 
+pub use activations::Frame;
 pub use engine::Engine;
 pub use halt::Halt;
+pub use locals::Local;
 pub use shown::Shown;
 pub use stops::{Marks, Stops};

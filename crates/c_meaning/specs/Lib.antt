@@ -1,0 +1,10 @@
+pub mod Types
+pub mod Memory
+pub mod Operations
+pub mod Places
+pub mod States
+pub mod Expressions
+pub mod Statements
+pub mod Runs
+pub mod Worked
+pub mod Views

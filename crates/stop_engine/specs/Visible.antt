@@ -1,0 +1,35 @@
+-- The variables that are visible at a place.
+use Rattle.std.specs.Prelude.{ℕ, ◌==◌, List, map}
+use Rattle.std.specs.List.{filter}
+use Rattle.image_form.specs.Form.{Form}
+use Rattle.image_form.specs.Names.{variable_name}
+use Rattle.image_form.specs.declared.verdicts.VisibleRow.{VisibleRow}
+use Rattle.rv_machine.specs.State.{State}
+use Rattle.stop_engine.specs.declared.locals.Local.{Local}
+use Rattle.stop_engine.specs.Rows.{row_sight}
+use Rattle.stop_engine.specs.Sight.{Sight, sight_line, sight_of}
+
+-- A visible variable as a session sees it: its name, and what is seen of it.
+pub record Visible : Type 0 where
+  pub name : List ℕ
+  pub sight : Sight
+
+-- the rows of a place, in their order
+abbrev pub rows_at : (place : ℕ) → List VisibleRow → List VisibleRow
+rows_at place rows = filter (λ (r : VisibleRow). r.place == place) rows
+
+-- the variable of a row
+abbrev pub visible_of_row : Form → State → VisibleRow → Visible
+visible_of_row m s r = record { name = variable_name m r.variable; sight = row_sight m s r }
+
+-- the variables that are visible at a place, each by its own row
+abbrev pub visible_at : Form → State → (place : ℕ) → List Visible
+visible_at m s place = map (visible_of_row m s) (rows_at place m.rows)
+
+-- the line of a visible variable
+abbrev pub visible_line : Visible → List ℕ
+visible_line v = sight_line v.name v.sight
+
+-- what an answer says of a variable
+abbrev pub visible_of : Local → Visible
+visible_of l = record { name = l.name.items; sight = sight_of l.shown }
