@@ -162,11 +162,11 @@ fn the_empty_source_is_refused(rt: HostRuntime) -> Result<(), Fail> {
     let mut sink = MemSink::new(rt.alloc(), [].as_slice())?;
     let words = job(rt.alloc())?;
     let status = run(rt.alloc(), &words, &mut shelf, &mut sink);
-    assert_eq!(rt; status, Status::SourceRefused(Code::UNEXPECTED_KEYWORD, 1));
+    assert_eq!(rt; status, Status::SourceRefused(Code::NO_MAIN, 1));
     assert_eq!(rt; status.number(), 3);
     assert_eq!(rt;
         fault_text(rt.alloc(), &status)?.as_str(),
-        "cdbg: source refused E11 line 1"
+        "cdbg: source refused E29 line 1"
     );
     Ok(())
 }
@@ -350,34 +350,40 @@ fn an_ending_is_said_again_and_no_stop_is_shown_there(rt: HostRuntime) -> Result
     Ok(())
 }
 
-/// Sources, the rule of tokens or grammar that each breaks first, and its line.
-static REFUSED: [(&[u8], Code, u32); 14] = [
-    (
-        b"int main(void){goto a;a:return 0;}",
-        Code::UNEXPECTED_KEYWORD,
-        1,
-    ),
+/// Sources, the rule that each breaks first, and its line.
+static REFUSED: [(&[u8], Code, u32); 17] = [
+    // Rules of tokens.
     (b"#define N 3\n", Code::UNKNOWN_DIRECTIVE, 1),
     (
         b"int main(void){return 2147483648;}",
         Code::MALFORMED_CONSTANT,
         1,
     ),
-    (b"int main(void){return 0", Code::UNEXPECTED_TOKEN, 1),
     (b"/*", Code::UNENDED_COMMENT, 1),
     (b"int main(void){char c='", Code::MALFORMED_LITERAL, 1),
     (b"int main(void){\nreturn\\\n0;}", Code::UNKNOWN_BYTE, 2),
     (b"int main(void){return '\\q';}", Code::UNKNOWN_ESCAPE, 1),
     (b"int a<:2:>;", Code::UNKNOWN_BYTE, 1),
-    (b"int\nmain(void){return 1 2;}", Code::UNEXPECTED_TOKEN, 2),
-    // No fault of tokens or grammar, and no straight-line `main`.
-    (b"int main(void){return 1-1;}", Code::UNEXPECTED_KEYWORD, 1),
-    (b"", Code::UNEXPECTED_KEYWORD, 1),
+    // Rules of the grammar.
     (
-        b"#include <stdio.h>\nint main(void){return x;}",
+        b"int main(void){goto a;a:return 0;}",
         Code::UNEXPECTED_KEYWORD,
         1,
     ),
+    (b"int main(void){return 0", Code::UNEXPECTED_TOKEN, 1),
+    (b"int\nmain(void){return 1 2;}", Code::UNEXPECTED_TOKEN, 2),
+    // Rules of names and types.
+    (b"", Code::NO_MAIN, 1),
+    (b"int main(void){return n;}", Code::UNDECLARED, 1),
+    (b"int main(void){putchar(65);}", Code::UNDECLARED, 1),
+    (
+        b"int main(void){int x=1;\nint x=2; return x;}",
+        Code::REDECLARED,
+        2,
+    ),
+    (b"int x; int main(int a){return a;}", Code::NO_MAIN, 1),
+    // Programs of C that are no straight-line `main`.
+    (b"int main(void){return 1-1;}", Code::UNEXPECTED_KEYWORD, 1),
     (b"int main(void){return 0;}", Code::UNEXPECTED_KEYWORD, 1),
 ];
 

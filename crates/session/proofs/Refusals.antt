@@ -13,46 +13,58 @@ use Rattle.c_token.specs.Lexemes.{Lexeme}
 use Rattle.c_token.specs.Reading.{◌>>=◌}
 use Rattle.c_token.specs.Texts.{Fails, tokens_from, tokens_of}
 use Rattle.c_tree.specs.Trees.{ItemTree}
+use Rattle.c_tree.specs.Programs.{ProgramTree}
+use Rattle.c_type.specs.Programs.{checked}
+use Rattle.c_type.specs.Programs as program-check
 use Rattle.c_parse.specs.Files.{Refuses, tree_of}
 use Rattle.session.specs.Limits.{Holds}
-use Rattle.session.specs.Front.{HasTree, IsNotCompiled, IsRefusedSource, IsSource, tree_of_source}
+use Rattle.session.specs.Front.{HasProgram, IsNotCompiled, IsRefusedSource, IsSource, program_of_source}
 
 -- the first fault of the tokens is that of the source
-pub tokens_refused : (text : List ℕ) (e : SourceErr) → Fails e (tokens_of text) → Refuses e (tree_of_source text)
-unfolding tree_of_source
+pub tokens_refused : (text : List ℕ) (e : SourceErr) → Fails e (tokens_of text) → Refuses e (program_of_source text)
+unfolding program_of_source
 tokens_refused text NoMemory h = tt
-tokens_refused text (Refused code line) h = ap (λ (r : Result (List Lexeme) (Code × ℕ)). r >>= tree_of) h
+tokens_refused text (Refused code line) h = ap (λ (r : Result (List Lexeme) (Code × ℕ)). r >>= tree_of >>= checked) h
 
 -- where there are tokens, that of the grammar is
-pub tree_refused : (text : List ℕ) (tokens : List Lexeme) (e : SourceErr) → tokens_of text ≡ Ok tokens → Refuses e (tree_of tokens) → Refuses e (tree_of_source text)
-unfolding tree_of_source
+pub tree_refused : (text : List ℕ) (tokens : List Lexeme) (e : SourceErr) → tokens_of text ≡ Ok tokens → Refuses e (tree_of tokens) → Refuses e (program_of_source text)
+unfolding program_of_source
 tree_refused text tokens NoMemory is h = tt
-tree_refused text tokens (Refused code line) is h = ap (λ (r : Result (List Lexeme) (Code × ℕ)). r >>= tree_of) is ∙ h
+tree_refused text tokens (Refused code line) is h =
+    ap (λ (r : Result (List Lexeme) (Code × ℕ)). r >>= tree_of >>= checked) is ∙ ap (λ (r : Result (List ItemTree) (Code × ℕ)). r >>= checked) h
 
-pub tree_found : (text : List ℕ) (tokens : List Lexeme) (tree : List ItemTree) → tokens_of text ≡ Ok tokens → tree_of tokens ≡ Ok tree → HasTree text
-unfolding tree_of_source
-tree_found text tokens tree is h = record { tree = tree; tree_is = ap (λ (r : Result (List Lexeme) (Code × ℕ)). r >>= tree_of) is ∙ h }
+-- where there is a tree, that of names and types is
+pub program_refused : (text : List ℕ) (tokens : List Lexeme) (tree : List ItemTree) (e : SourceErr) → tokens_of text ≡ Ok tokens → tree_of tokens ≡ Ok tree → program-check.Refuses e (checked tree) → Refuses e (program_of_source text)
+unfolding program_of_source
+program_refused text tokens tree NoMemory is has h = tt
+program_refused text tokens tree (Refused code line) is has h =
+    ap (λ (r : Result (List Lexeme) (Code × ℕ)). r >>= tree_of >>= checked) is ∙ ap (λ (r : Result (List ItemTree) (Code × ℕ)). r >>= checked) has ∙ h
+
+pub program_found : (text : List ℕ) (tokens : List Lexeme) (tree : List ItemTree) (program : ProgramTree) → tokens_of text ≡ Ok tokens → tree_of tokens ≡ Ok tree → checked tree ≡ Ok program → HasProgram text
+unfolding program_of_source
+program_found text tokens tree program is has h =
+    record { program = program; program_is = ap (λ (r : Result (List Lexeme) (Code × ℕ)). r >>= tree_of >>= checked) is ∙ ap (λ (r : Result (List ItemTree) (Code × ℕ)). r >>= checked) has ∙ h }
 
 -- a source that has a program is not refused
 pub source_apart : (text : List ℕ) (code : Code) (line : ℕ) → IsSource text → IsRefusedSource text code line → ⊥
 source_apart text code line s r =
-    let tree = s.understood.tree_is in
-    ⊎_elim (λ e. let both : Ok s.understood.tree ≡ Err (code, line) = sym tree ∙ e in cc) (λ (n : IsNotCompiled text code line). n.cause s.thin) r
+    let program = s.understood.program_is in
+    ⊎_elim (λ e. let both : Ok s.understood.program ≡ Err (code, line) = sym program ∙ e in cc) (λ (n : IsNotCompiled text code line). n.cause s.thin) r
 
--- a text that is too long has no tokens, and so no tree
+-- a text that is too long has no tokens, and so no program
 long_has_no_tokens : (text : List ℕ) → nat_lt 1048576 (length text) ≡ true → tokens_of text ≡ Err (TEXT_SIZE, 1)
 unfolding tokens_of
 long_has_no_tokens text long = ap (λ b. if b then Err (TEXT_SIZE, 1) else tokens_from text 0 0 start text) long
 
-long_has_no_tree : (text : List ℕ) → nat_lt 1048576 (length text) ≡ true → tree_of_source text ≡ Err (TEXT_SIZE, 1)
-unfolding tree_of_source
-long_has_no_tree text long = ap (λ (r : Result (List Lexeme) (Code × ℕ)). r >>= tree_of) (long_has_no_tokens text long)
+long_has_no_program : (text : List ℕ) → nat_lt 1048576 (length text) ≡ true → program_of_source text ≡ Err (TEXT_SIZE, 1)
+unfolding program_of_source
+long_has_no_program text long = ap (λ (r : Result (List Lexeme) (Code × ℕ)). r >>= tree_of >>= checked) (long_has_no_tokens text long)
 
 -- texts that are too long are refused alike
 refused_as_long : (got text : List ℕ) (code : Code) (line : ℕ) → nat_lt 1048576 (length got) ≡ true → nat_lt 1048576 (length text) ≡ true → IsRefusedSource got code line → IsRefusedSource text code line
 refused_as_long got text code line long longer refused =
-    let first = long_has_no_tree got long in
-    ⊎_elim (λ e. inl (long_has_no_tree text longer ∙ sym first ∙ e)) (λ (n : IsNotCompiled got code line). let both : Ok n.understood.tree ≡ Err (TEXT_SIZE, 1) = sym n.understood.tree_is ∙ first in cc) refused
+    let first = long_has_no_program got long in
+    ⊎_elim (λ e. inl (long_has_no_program text longer ∙ sym first ∙ e)) (λ (n : IsNotCompiled got code line). let both : Ok n.understood.program ≡ Err (TEXT_SIZE, 1) = sym n.understood.program_is ∙ first in cc) refused
 
 refused_by_length : (code : Code) (line : ℕ) (text got : List ℕ) → got ≡ take 1048577 text → (long : Bool) → nat_lt 1048576 (length got) ≡ long → IsRefusedSource got code line → IsRefusedSource text code line
 refused_by_length code line text got is true long refused =

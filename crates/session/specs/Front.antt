@@ -5,41 +5,42 @@ use Rattle.debug_records.specs.declared.code.TheConstants.Code.{UNEXPECTED_KEYWO
 use Rattle.debug_records.specs.declared.source.SourceErr.{SourceErr}
 use Rattle.c_token.specs.Reading.{◌>>=◌}
 use Rattle.c_token.specs.Texts.{tokens_of}
-use Rattle.c_tree.specs.Trees.{ItemTree}
+use Rattle.c_tree.specs.Programs.{ProgramTree}
 use Rattle.c_parse.specs.Files.{Refuses, tree_of}
-use Rattle.thin_form.specs.Tree.{ProgramTree}
+use Rattle.c_type.specs.Programs.{checked}
+use Rattle.thin_form.specs.Tree as thin-tree
 use Rattle.thin_form.specs.Thin.{IsThin}
 
--- the tree of a source, by its tokens and the grammar; or the code and the line of its first fault
-unfoldable pub tree_of_source : List ℕ → Result (List ItemTree) (Code × ℕ)
-tree_of_source text = tokens_of text >>= tree_of
+-- the program of a source, by its tokens, the grammar and the rules of names and types; or the code and the line of its first fault
+unfoldable pub program_of_source : List ℕ → Result ProgramTree (Code × ℕ)
+program_of_source text = tokens_of text >>= tree_of >>= checked
 
--- the text has a tree
-pub record HasTree (text : List ℕ) : Type 0 where
-  pub tree : List ItemTree
-  pub tree_is : tree_of_source text ≡ Ok tree
+-- the text is of a program
+pub record HasProgram (text : List ℕ) : Type 0 where
+  pub program : ProgramTree
+  pub program_is : program_of_source text ≡ Ok program
 
 -- the text is a straight-line `main`
 abbrev pub IsThinText : List ℕ → Type 0
-IsThinText text = (p : ProgramTree) × IsThin text p
+IsThinText text = (p : thin-tree.ProgramTree) × IsThin text p
 
--- The text is the source of a program: it keeps the rules of tokens and of the grammar, and is a straight-line `main`.
+-- The text is a source that is compiled: it is of a program, and is a straight-line `main`.
 pub record IsSource (text : List ℕ) : Type 0 where
-  pub understood : HasTree text
+  pub understood : HasProgram text
   pub thin : IsThinText text
 
--- A text that keeps the rules of tokens and grammar and is no straight-line `main` is not compiled so far: E11 and line 1.
+-- A text of a program that is no straight-line `main` is not compiled so far: E11 and line 1.
 pub record IsNotCompiled (text : List ℕ) (code : Code) (line : ℕ) : Type 0 where
-  pub understood : HasTree text
+  pub understood : HasProgram text
   pub cause : ¬ IsThinText text
   pub code_is : code ≡ UNEXPECTED_KEYWORD
   pub line_is : line ≡ 1
 
--- A source is refused for the first rule of tokens, else of the grammar, that it breaks; and else where it is not compiled.
+-- A source is refused for the first rule of C that it breaks, of tokens, else of the grammar, else of names and types; and else where it is not compiled.
 abbrev pub IsRefusedSource : List ℕ → Code → ℕ → Type 0
-IsRefusedSource text code line = (tree_of_source text ≡ Err (code, line)) ⊎ IsNotCompiled text code line
+IsRefusedSource text code line = (program_of_source text ≡ Err (code, line)) ⊎ IsNotCompiled text code line
 
 -- a text was understood, or refused for its first fault, or memory was wanting
 abbrev pub FrontEnds : {A : Type 0} → Result A SourceErr → List ℕ → Type 0
-FrontEnds (Ok x) text = HasTree text
-FrontEnds (Err e) text = Refuses e (tree_of_source text)
+FrontEnds (Ok x) text = HasProgram text
+FrontEnds (Err e) text = Refuses e (program_of_source text)

@@ -12,7 +12,7 @@ use Rattle.thin_build.specs.Truthful.{Truthful}
 use Rattle.command_line.specs.Job.{DebugGiven, AttachGiven}
 use Rattle.session.specs.Served.{ServedJob, ForDebug, ForAttach}
 use Rattle.session.specs.Limits.{Held}
-use Rattle.session.specs.Front.{HasTree}
+use Rattle.session.specs.Front.{HasProgram}
 
 -- What is printed is the transcript of an image, a script and an input that stand under their names, with a limit; nothing else enters it.
 pub record IsPlayed (image script input : Option (List ℕ)) (limit : ℕ) (printed : List ℕ) : Type 0 where
@@ -34,7 +34,7 @@ pub record IsDebugged (held held' : Held) (given : DebugGiven) (printed : List �
   pub program : ProgramTree
   pub source_held : held given.source ≡ Some source
   pub source_is : IsThin source program
-  pub understood : HasTree source
+  pub understood : HasProgram source
   pub played : IsPlayed (held' given.image) (held given.script) (held given.input) given.limit printed
   pub truthful : Truthful program played.form played.bytes
 

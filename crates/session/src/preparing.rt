@@ -1,7 +1,7 @@
 //! From the texts to what is played.
 
 ghost use Rattle.std.specs.Prelude.{IfOk};
-ghost use Rattle.session.specs.Front.{FrontEnds, HasTree};
+ghost use Rattle.session.specs.Front.{FrontEnds, HasProgram};
 ghost use Rattle.session.specs.Stages.{ImageEnds, PrepareEnds, ScriptEnds, SourceEnds};
 ghost use Rattle.session.specs.Prepared.{IsPrepared};
 ghost use Rattle.thin_form.specs.Tree.{program_view};
@@ -10,6 +10,7 @@ ghost use Rattle.thin_form.specs.Thin.{IsThin};
 
 use c_parse::parse;
 use c_token::tokens;
+use c_type::check;
 use debug_records::Code;
 use debug_records::source::SourceErr;
 use image_form::{Image, ImageErr, write};
@@ -28,20 +29,21 @@ pub struct Prepared {
     pub commands: Vec<Command>,
 }
 
-/// Reads a source by the rules of tokens and of the grammar. Refused for the first rule that it breaks.
-#[tactic(auto, using(crate::proofs::Refusals::tokens_refused, crate::proofs::Refusals::tree_refused, crate::proofs::Refusals::tree_found))]
+/// Reads a source by the rules of tokens, of the grammar, and of names and types. Refused for the first rule that it breaks.
+#[tactic(auto, using(crate::proofs::Refusals::tokens_refused, crate::proofs::Refusals::tree_refused, crate::proofs::Refusals::program_refused, crate::proofs::Refusals::program_found))]
 fn understand(alloc: Global, source: &[u8]) -> Result<(), SourceErr>
     ensures { FrontEnds result source.now }
 {
     let tokens = tokens(alloc, source)?;
-    let _tree = parse(alloc, &tokens)?;
+    let tree = parse(alloc, &tokens)?;
+    let _program = check(alloc, tree)?;
     Ok(())
 }
 
-/// The program of a source, which else is refused for the first rule of tokens or grammar that it breaks; and by E11 and line 1 where it
-/// breaks none and is no straight-line `main`.
+/// The program of a source, which else is refused for the first rule of C that it breaks; and by E11 and line 1 where it breaks none and
+/// is no straight-line `main`.
 fn read_source(alloc: Global, source: &[u8]) -> Result<Program, Status>
-    ensures program { IfOk result (λ program. IsThin source.now (program_view program) × IsProgram (program_view program) × HasTree source.now) }
+    ensures program { IfOk result (λ program. IsThin source.now (program_view program) × IsProgram (program_view program) × HasProgram source.now) }
     ensures ends { SourceEnds result source.now }
 {
     match understand(alloc, source) {

@@ -1,0 +1,5 @@
+pub mod Bodies
+pub mod Headers
+pub mod Numbers
+pub mod Items
+pub mod Steps

@@ -1,0 +1,7 @@
+pub mod Laws
+pub mod Chains
+pub mod Loops
+pub mod LastTokens
+pub mod Views
+pub mod Labels
+pub mod Arms

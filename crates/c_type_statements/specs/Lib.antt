@@ -1,0 +1,6 @@
+pub mod Codes
+pub mod StatementEnds
+pub mod Settings
+pub mod Switches
+pub mod Statements
+pub mod Chains

@@ -1,0 +1,63 @@
+//! Branches of an `if` with what they mean.
+
+ghost use Rattle.std.specs.Prelude.{◌≡◌, IfOk, map};
+ghost use Rattle.std.specs.Option.{option_map};
+ghost use Rattle.c_tree.specs.TypedStatements.{statement_view};
+ghost use Rattle.c_type_statements.specs.Chains.{built_view, nested, with_else};
+
+use c_tree::{Rvalue, TypedStatement};
+use debug_records::source::Spot;
+use std::alloc::{AllocError, Global};
+
+/// `if (condition) then` with what it means. The spot is the condition's.
+#[derive(Drop)]
+pub struct Built {
+    pub spot: Spot,
+    pub condition: Rvalue,
+    pub then: TypedStatement,
+}
+
+/// An `if` without `else`, or with it.
+fn with_else(
+    alloc: Global,
+    built: Built,
+    otherwise: Option<TypedStatement>,
+) -> Result<TypedStatement, AllocError>
+    ensures { IfOk result (λ t. statement_view t ≡ with_else (built_view built) (option_map statement_view otherwise)) }
+{
+    let then = Box::new(alloc, built.then)?;
+    match otherwise {
+        None => Ok(TypedStatement::If {
+            spot: built.spot,
+            condition: built.condition,
+            then,
+        }),
+        Some(otherwise) => {
+            let otherwise = Box::new(alloc, otherwise)?;
+            Ok(TypedStatement::IfElse {
+                spot: built.spot,
+                condition: built.condition,
+                then,
+                otherwise,
+            })
+        }
+    }
+}
+
+/// Branches, each in the `else` of the one before it.
+#[tactic(auto, using(crate::proofs::Loops::nested_more, std::proofs::lemmas::Grind::common_steps))]
+pub fn nested(
+    alloc: Global,
+    first: Built,
+    mut others: Vec<Built>,
+    otherwise: Option<TypedStatement>,
+) -> Result<TypedStatement, AllocError>
+    ensures { IfOk result (λ t. statement_view t ≡ nested (built_view first) (map built_view others.items) (option_map statement_view otherwise)) }
+{
+    let mut inner = otherwise;
+    while let Some(built) = others.pop() {
+        let made = with_else(alloc, built, inner)?;
+        inner = Some(made);
+    }
+    with_else(alloc, first, inner)
+}

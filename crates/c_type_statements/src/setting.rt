@@ -1,0 +1,258 @@
+//! What a statement stands in, and the rules that its expressions may break.
+#![tactic(auto, using(c_type_declarations::proofs::Steps::next_means, c_type_declarations::proofs::Steps::reached_means))]
+
+ghost use Rattle.std.specs.Prelude.{◌≡◌, IfOk, OnOk};
+ghost use Rattle.std.specs.Option.{option_map};
+ghost use Rattle.c_tree.specs.Expressions.{expression_view};
+ghost use Rattle.c_tree.specs.Statements as tree;
+ghost use Rattle.c_tree.specs.TypedExpressions.{rvalue_view};
+ghost use Rattle.c_tree.specs.TypedStatements.{start_view, step_view};
+ghost use Rattle.c_type_declarations.specs.Progress.{means, progress_view};
+ghost use Rattle.c_type_statements.specs.Settings.{condition_if_any, condition_met, given, in_loop, in_switch, is_void, return_met, returnable, returns, run_met, start_met, step_met, tested, unless};
+ghost use Rattle.c_type_values.specs.Values.{value_view};
+
+use c_tree::{Expression, Extent, ForStart, Rvalue, TypedStart, TypedStep, ValueType};
+use c_type_declarations::{Progress, declaration};
+use c_type_expressions::operand::is_zero;
+use c_type_values::{Value, converted, is_scalar};
+use debug_records::code::Code;
+use std::alloc::{AllocError, Global};
+
+/// What a statement stands in.
+#[derive(Clone, Copy, Debug, PartialEq, Eq)]
+pub struct Setting {
+    /// What its function gives.
+    pub result: ValueType,
+    /// It stands in a loop or in the block of a `switch`.
+    pub may_break: bool,
+    /// It stands in a loop.
+    pub may_continue: bool,
+}
+
+impl Setting {
+    /// Within the body of a loop.
+    pub fn in_loop(self) -> Setting
+        ensures { result ≡ in_loop self }
+    {
+        Setting {
+            result: self.result,
+            may_break: true,
+            may_continue: true,
+        }
+    }
+
+    /// Within the block of a `switch`.
+    pub fn in_switch(self) -> Setting
+        ensures { result ≡ in_switch self }
+    {
+        Setting {
+            result: self.result,
+            may_break: true,
+            may_continue: self.may_continue,
+        }
+    }
+}
+
+/// Notes that a construct breaks a rule, but where the flag says that it keeps it.
+pub fn unless(
+    progress: &mut Progress,
+    is_fine: bool,
+    code: Code,
+    extent: Extent,
+) -> Result<(), AllocError>
+    ensures { OnOk result (progress_view progress.new ≡ unless is_fine code extent (progress_view progress.old)) }
+{
+    if is_fine {
+        return Ok(());
+    }
+    progress.fault(code, extent)
+}
+
+/// What an expression computes that is a statement or a part of a `for`.
+pub fn run(alloc: Global, progress: &mut Progress, e: &Expression) -> Result<Rvalue, AllocError>
+    ensures { IfOk result (λ r. means (rvalue_view r) (progress_view progress.new) ≡ run_met (expression_view e.now) (progress_view progress.old)) }
+{
+    match progress.value(alloc, e)? {
+        Some(value) => Ok(value.tree),
+        None => Ok(Rvalue::Null),
+    }
+}
+
+/// A value that is tested: a scalar's.
+fn tested(
+    progress: &mut Progress,
+    extent: Extent,
+    value: Option<Value>,
+) -> Result<Rvalue, AllocError>
+    ensures { IfOk result (λ r. means (rvalue_view r) (progress_view progress.new) ≡ tested extent (option_map value_view value) (progress_view progress.old)) }
+{
+    let Some(value) = value else {
+        return Ok(Rvalue::Null);
+    };
+    unless(progress, is_scalar(value.of), Code::OPERAND_TYPES, extent)?;
+    Ok(value.tree)
+}
+
+/// A condition of a statement.
+pub fn condition(
+    alloc: Global,
+    progress: &mut Progress,
+    extent: Extent,
+    e: &Expression,
+) -> Result<Rvalue, AllocError>
+    ensures { IfOk result (λ r. means (rvalue_view r) (progress_view progress.new) ≡ condition_met extent (expression_view e.now) (progress_view progress.old)) }
+{
+    let value = progress.value(alloc, e)?;
+    tested(progress, extent, value)
+}
+
+/// The condition of a `for`, if it has one.
+pub fn condition_if_any(
+    alloc: Global,
+    progress: &mut Progress,
+    extent: Extent,
+    e: &Option<Expression>,
+) -> Result<Option<Rvalue>, AllocError>
+    ensures { IfOk result (λ r. means (option_map rvalue_view r) (progress_view progress.new) ≡ condition_if_any extent (option_map expression_view e.now) (progress_view progress.old)) }
+{
+    match e {
+        None => Ok(None),
+        Some(e) => {
+            let tree = condition(alloc, progress, extent, e)?;
+            Ok(Some(tree))
+        }
+    }
+}
+
+/// The first part of a `for`.
+pub fn start(
+    alloc: Global,
+    progress: &mut Progress,
+    start: &ForStart,
+) -> Result<TypedStart, AllocError>
+    ensures { IfOk result (λ s. means (start_view s) (progress_view progress.new) ≡ start_met (tree.start_view start.now) (progress_view progress.old)) }
+{
+    match start {
+        ForStart::Nothing => Ok(TypedStart::Nothing),
+        ForStart::Expression(e) => {
+            let value = run(alloc, progress, e)?;
+            Ok(TypedStart::Expression {
+                spot: e.first(),
+                value,
+            })
+        }
+        ForStart::Declaration(d) => {
+            let all = declaration(alloc, progress, d)?;
+            Ok(TypedStart::Declaration(all))
+        }
+    }
+}
+
+/// The third part of a `for`, if it has one.
+pub fn step(
+    alloc: Global,
+    progress: &mut Progress,
+    e: &Option<Expression>,
+) -> Result<Option<TypedStep>, AllocError>
+    ensures { IfOk result (λ s. means (option_map step_view s) (progress_view progress.new) ≡ step_met (option_map expression_view e.now) (progress_view progress.old)) }
+{
+    match e {
+        None => Ok(None),
+        Some(e) => {
+            let value = run(alloc, progress, e)?;
+            Ok(Some(TypedStep {
+                spot: e.first(),
+                value,
+            }))
+        }
+    }
+}
+
+/// Whether a function gives nothing.
+fn is_void(of: ValueType) -> bool
+    ensures { result ≡ is_void of }
+{
+    match of {
+        ValueType::Void => true,
+        ValueType::Integer(_) | ValueType::Pointer(_) => false,
+    }
+}
+
+/// A value as if assigned to a function's result.
+fn returnable(
+    alloc: Global,
+    of: ValueType,
+    value: Value,
+    is_zero: bool,
+) -> Result<Option<Value>, AllocError>
+    ensures { IfOk result (λ v. option_map value_view v ≡ returnable of (value_view value) is_zero) }
+{
+    if is_void(of) {
+        return Ok(None);
+    }
+    converted(alloc, value, of, is_zero)
+}
+
+/// What a function gives that returns a value.
+fn given(
+    progress: &mut Progress,
+    value: Option<Value>,
+    extent: Extent,
+) -> Result<Option<Rvalue>, AllocError>
+    ensures { IfOk result (λ r. means (option_map rvalue_view r) (progress_view progress.new) ≡ given (option_map value_view value) extent (progress_view progress.old)) }
+{
+    match value {
+        Some(value) => Ok(Some(value.tree)),
+        None => {
+            progress.fault(Code::RETURN_MISMATCH, extent)?;
+            Ok(None)
+        }
+    }
+}
+
+/// What a `return` with an expression gives.
+fn returns(
+    alloc: Global,
+    progress: &mut Progress,
+    of: ValueType,
+    extent: Extent,
+    is_zero: bool,
+    value: Option<Value>,
+) -> Result<Option<Rvalue>, AllocError>
+    ensures { IfOk result (λ r. means (option_map rvalue_view r) (progress_view progress.new) ≡ returns of extent is_zero (option_map value_view value) (progress_view progress.old)) }
+{
+    match value {
+        Some(value) => {
+            let value = returnable(alloc, of, value, is_zero)?;
+            given(progress, value, extent)
+        }
+        None => {
+            if is_void(of) {
+                progress.fault(Code::RETURN_MISMATCH, extent)?;
+            }
+            Ok(None)
+        }
+    }
+}
+
+/// What a `return` gives: a value where its function has a result, else none.
+pub fn return_value(
+    alloc: Global,
+    progress: &mut Progress,
+    of: ValueType,
+    extent: Extent,
+    e: &Option<Expression>,
+) -> Result<Option<Rvalue>, AllocError>
+    ensures { IfOk result (λ r. means (option_map rvalue_view r) (progress_view progress.new) ≡ return_met of extent (option_map expression_view e.now) (progress_view progress.old)) }
+{
+    match e {
+        Some(e) => {
+            let value = progress.value(alloc, e)?;
+            returns(alloc, progress, of, extent, is_zero(e), value)
+        }
+        None => {
+            unless(progress, is_void(of), Code::RETURN_MISMATCH, extent)?;
+            Ok(None)
+        }
+    }
+}
