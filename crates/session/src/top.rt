@@ -50,8 +50,9 @@ fn serve<S: Shelf, K: Sink>(alloc: Global, job: &Task, shelf: &mut S, sink: &mut
 /// the transcript of the script on the sink, each line in one piece. `attach` loads the image, the script and the input, and puts
 /// the transcript. The first fault ends it: `Usage` where the words are no job that the program serves, `ReadFault` where a load
 /// failed, `TooLong` where the image has more than 67,108,864 bytes, the script more than 1,048,576 or the input more than
-/// 16,777,216, `ImageRefused` where the bytes of the image spell none, `SourceRefused` where the source is no straight-line `main`,
-/// `ScriptRefused` where the script is none, `WriteFault` where the save or a line failed, and `NoMemory` where memory was wanting.
+/// 16,777,216, `ImageRefused` where the bytes of the image spell none, `SourceRefused` where the source breaks a rule of C, or breaks
+/// none and is no straight-line `main`, `ScriptRefused` where the script is none, `WriteFault` where the save or a line failed, and
+/// `NoMemory` where memory was wanting.
 pub fn session<S: Shelf, K: Sink>(
     alloc: Global,
     words: &[String],
