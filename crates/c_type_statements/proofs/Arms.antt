@@ -1,5 +1,5 @@
 -- What each form of statement means, from what its parts mean.
-use Rattle.std.proofs.Common.{◌≡◌, ℕ, Bool, true, false, List, [], ◌∷◌, ◌++◌, map, Option, Some, None, Box, Vec, Global, refl, ap, sym, ◌∙◌, append_assoc}
+use Rattle.std.proofs.Common.{◌≡◌, ℕ, false, List, [], ◌∷◌, ◌++◌, map, Option, Some, None, Box, Vec, Global, refl, ap, sym, ◌∙◌, append_assoc}
 use Rattle.std.specs.Option.{option_map}
 use Rattle.debug_records.specs.declared.source.Spot.{Spot}
 use Rattle.c_tree.specs.declared.extent.Extent.{Extent}
@@ -11,7 +11,7 @@ use Rattle.c_tree.specs.Ends.{first_of}
 use Rattle.c_tree.specs.Expressions.{ExpressionTree}
 use Rattle.c_tree.specs.Declarations.{DeclarationTree}
 use Rattle.c_tree.specs.TypedExpressions.{RvalueTree}
-use Rattle.c_tree.specs.Statements.{StartTree, StatementTree, StatementTrees, BranchTree, LabelTree, Compound, Declare, Empty, Run, If, IfElse, While, DoWhile, For, Switch, Case, Default, Break, Continue, Return, branch_view, statement_view, behind_labels, if_tree, else_tree}
+use Rattle.c_tree.specs.Statements.{StartTree, StatementTree, StatementTrees, BranchTree, LabelTree, Compound, Declare, Empty, Run, If, IfElse, While, DoWhile, For, Switch, Case, Default, Break, Continue, Return, branch_view, statement_view, behind_labels}
 use Rattle.c_tree.specs.TypedStatements.{DeclaredTree, TypedStatementTree, TypedStatementTrees}
 use Rattle.c_tree.specs.TypedStatements as typed-tree
 use Rattle.c_type_declarations.specs.Progress.{ProgressTree, Met, means, next_met, opened, closed}

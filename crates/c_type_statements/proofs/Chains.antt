@@ -1,6 +1,5 @@
 -- Statements as the tree has them in lists mean what they mean nested.
 use Rattle.std.proofs.Common.{◌≡◌, ℕ, List, [], ◌∷◌, ◌++◌, Option, Some, None, refl, ap, sym, ◌∙◌}
-use Rattle.debug_records.specs.declared.source.Spot.{Spot}
 use Rattle.c_tree.specs.declared.types.IntegerType.{IntegerType}
 use Rattle.c_tree.specs.Statements.{StatementTree, BranchTree, LabelTree, CaseLabel, DefaultLabel, if_tree, else_tree, behind_labels}
 use Rattle.c_tree.specs.Ends.{first_of}
@@ -10,7 +9,7 @@ use Rattle.c_type_statements.specs.Codes.{E26}
 use Rattle.c_type_statements.specs.declared.setting.Setting.{Setting}
 use Rattle.c_type_statements.specs.StatementEnds.{last_of_statement}
 use Rattle.c_type_statements.specs.Settings.{condition_met}
-use Rattle.c_type_statements.specs.Switches.{Labels, no_labels, Parts, case_met, default_met, behind, misplaced_one, Labeled, Outside, Inside, bare, unlabeled, preceded}
+use Rattle.c_type_statements.specs.Switches.{Labels, no_labels, Parts, case_met, default_met, behind, misplaced_one, Labeled, Outside, Inside, bare, preceded}
 use Rattle.c_type_statements.specs.Statements.{met, statement_met, to_end}
 use Rattle.c_type_statements.specs.Chains.{BuiltTree, branch_met, branches_met, else_met, chain_met, nested, with_else, misplaced, labels_met}
 use Rattle.c_type_statements.proofs.Laws.{next_same, next_next, bare_unlabeled, preceded_none, preceded_both}

@@ -1,11 +1,10 @@
 -- Labels in the block of a `switch`, one by one.
-use Rattle.std.proofs.Common.{◌≡◌, ℤ, List, [], ◌∷◌, ◌++◌, Option, Some, None, refl, ap, sym, ◌∙◌}
+use Rattle.std.proofs.Common.{◌≡◌, ℤ, List, [], ◌∷◌, ◌++◌, Option, Some, None, refl, sym}
 use Rattle.std.specs.Prelude.{not}
 use Rattle.std.proofs.lemmas.List.{append-nil}
 use Rattle.c_tree.specs.declared.extent.Extent.{Extent}
 use Rattle.c_tree.specs.declared.types.IntegerType.{IntegerType}
 use Rattle.c_tree.specs.Expressions.{ExpressionTree}
-use Rattle.c_type_values.specs.Values.{ValueTree}
 use Rattle.c_type_declarations.specs.Progress.{ProgressTree, means, next_met, value_met, breaks}
 use Rattle.c_type_statements.specs.Codes.{E26, E28}
 use Rattle.c_type_statements.specs.Settings.{unless}

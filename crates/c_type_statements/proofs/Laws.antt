@@ -1,5 +1,5 @@
 -- Parts of a source, one behind the other.
-use Rattle.std.proofs.Common.{◌≡◌, List, [], ◌∷◌, ◌++◌, refl, ap, sym, append_assoc}
+use Rattle.std.proofs.Common.{◌≡◌, List, [], ◌++◌, refl, ap, sym, append_assoc}
 use Rattle.c_tree.specs.TypedStatements.{TypedStatementTree}
 use Rattle.c_type_declarations.specs.Progress.{ProgressTree, Met, means, next_met, reached_by}
 use Rattle.c_type_statements.specs.Switches.{PartTree, Parts, Labels, Labeled, behind, bare, unlabeled, preceded}

@@ -1,5 +1,5 @@
 -- What the loops over statements, branches and labels do at each item.
-use Rattle.std.proofs.Common.{◌≡◌, ℕ, ◌+◌, ◌<◌, ◌≤◌, List, [], ◌∷◌, ◌++◌, length, map, drop, get_or, Option, Some, None, refl, ap, sym, ◌∙◌}
+use Rattle.std.proofs.Common.{◌≡◌, ℕ, ◌+◌, ◌<◌, ◌≤◌, List, [], ◌∷◌, ◌++◌, length, map, drop, get_or, Option, Some, refl, ap, sym, ◌∙◌}
 use Rattle.std.proofs.lemmas.List.{drop_all, append-nil}
 use Rattle.c_tree.specs.declared.types.IntegerType.{IntegerType}
 use Rattle.c_tree.specs.declared.statement.Statement.{Statement}
@@ -13,7 +13,7 @@ use Rattle.c_type_statements.specs.declared.setting.Setting.{Setting}
 use Rattle.c_type_statements.specs.Switches.{PartTree, Statement as StatementPart, Parts, Labels, Labeled, Inside, added, label_met, put, put_all, behind}
 use Rattle.c_type_statements.specs.Statements.{met, statement_met, statements_met, items_met}
 use Rattle.c_type_statements.specs.Chains.{BuiltTree, branch_met, branches_met, labels_met, nested, with_else}
-use Rattle.c_type_statements.proofs.Laws.{next_next, behind_both}
+use Rattle.c_type_statements.proofs.Laws.{behind_both}
 
 -- a statement, and those behind it
 pub chain_item : (xs : List Statement) (i : ℕ) (x : Statement) → i < length xs → x ≡ get_or xs i x → chain (map statement_view (drop i xs)) ≡ first (statement_view x) (chain (map statement_view (drop (i + 1) xs)))

@@ -1,10 +1,9 @@
 -- What a statement stands in, and the rules that its expressions may break.
-use Rattle.std.specs.Prelude.{ℕ, Bool, true, false, Option, Some, None, if◌then◌else◌}
-use Rattle.std.specs.Option.{option_map}
+use Rattle.std.specs.Prelude.{Bool, true, false, Option, Some, None, if◌then◌else◌}
 use Rattle.c_tree.specs.declared.extent.Extent.{Extent}
 use Rattle.debug_records.specs.declared.code.Code.{Code}
 use Rattle.c_tree.specs.declared.object_type.ValueType.{ValueType}
-use Rattle.c_tree.specs.declared.object_type.ValueType.TheVariants.{Void, Integer, Pointer}
+use Rattle.c_tree.specs.declared.object_type.ValueType.TheVariants.{Void}
 use Rattle.c_tree.specs.Ends.{first_of}
 use Rattle.c_tree.specs.Expressions.{ExpressionTree}
 use Rattle.c_tree.specs.TypedExpressions.{RvalueTree}

@@ -1,16 +1,15 @@
 -- What statements mean in their scopes (6.8), each part in text order.
-use Rattle.std.specs.Prelude.{ℕ, List, [], ◌∷◌, ◌++◌, Option, Some, None}
+use Rattle.std.specs.Prelude.{[], ◌∷◌, ◌++◌, Option}
 use Rattle.std.specs.Option.{option_map_or}
 use Rattle.debug_records.specs.declared.source.Spot.{Spot}
 use Rattle.c_tree.specs.declared.extent.Extent.{Extent}
 use Rattle.c_tree.specs.declared.types.IntegerType.{IntegerType}
 use Rattle.c_tree.specs.Ends.{first_of}
 use Rattle.c_tree.specs.Expressions.{ExpressionTree}
-use Rattle.c_tree.specs.TypedExpressions.{RvalueTree}
 use Rattle.c_tree.specs.Statements.{CaseLabel, DefaultLabel, StartTree, StatementTree, Compound, Declare, Empty, Run, If, IfElse, While, DoWhile, For, Switch, Case, Default, Break, Continue, Return, StatementTrees, none, first}
 use Rattle.c_tree.specs.TypedStatements.{TypedStatementTree, TypedStatementTrees}
 use Rattle.c_tree.specs.TypedStatements as typed-tree
-use Rattle.c_type_declarations.specs.Progress.{ProgressTree, Met, means, next_met, value_met, breaks, opened, closed}
+use Rattle.c_type_declarations.specs.Progress.{ProgressTree, Met, means, next_met, opened, closed}
 use Rattle.c_type_declarations.specs.Declarations.{declaration_met}
 use Rattle.c_type_statements.specs.Codes.{E26}
 use Rattle.c_type_statements.specs.declared.setting.Setting.{Setting}

@@ -1,10 +1,9 @@
 -- Labels in the block of a `switch` (6.8.1 and 6.8.4.2).
-use Rattle.std.specs.Prelude.{ℕ, ℤ, List, [], ◌∷◌, ◌++◌, map, Bool, true, false, ◌||◌, not, Option, Some, None, if◌then◌else◌}
-use Rattle.std.specs.Option.{option_map_or}
+use Rattle.std.specs.Prelude.{ℤ, List, [], ◌∷◌, ◌++◌, map, Bool, true, false, ◌||◌, not, Option, Some, None}
 use Rattle.c_tree.specs.declared.extent.Extent.{Extent}
 use Rattle.c_tree.specs.declared.types.IntegerType.{IntegerType}
 use Rattle.c_tree.specs.declared.object_type.ValueType.{ValueType}
-use Rattle.c_tree.specs.declared.object_type.ValueType.TheVariants.{Void, Integer, Pointer}
+use Rattle.c_tree.specs.declared.object_type.ValueType.TheVariants.{Integer}
 use Rattle.c_tree.specs.Expressions.{ExpressionTree}
 use Rattle.c_tree.specs.Statements.{LabelTree, CaseLabel, DefaultLabel}
 use Rattle.c_tree.specs.TypedExpressions.{RvalueTree, rvalue_view}

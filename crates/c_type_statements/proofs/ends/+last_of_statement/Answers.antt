@@ -1,4 +1,4 @@
-use Rattle.std.proofs.Common.{◌≡◌, refl, sym}
+use Rattle.std.proofs.Common.{refl, sym}
 use Rattle.std.specs.Prelude.{map}
 use Rattle.c_tree.specs.Statements.{branch_view, label_view, statement_view}
 use Rattle.c_type_statements.proofs.LastTokens.{last_behind_labels, last_of_else, last_of_last, last_of_none}

@@ -1,4 +1,4 @@
-use Rattle.std.proofs.Common.{◌≡◌, ◌+◌, drop, map, sym, ap, ◌∙◌}
+use Rattle.std.proofs.Common.{◌+◌, drop, map, sym, ap, ◌∙◌}
 use Rattle.c_tree.specs.Statements.{label_view}
 use Rattle.c_type_declarations.specs.Progress.{progress_view}
 use Rattle.c_type_declarations.proofs.Loops.{drop_item}

@@ -1,4 +1,3 @@
-use Rattle.std.proofs.Common.{◌≡◌}
 use Rattle.std.specs.Prelude.{map}
 use Rattle.c_tree.specs.Expressions.{expression_view}
 use Rattle.c_type_declarations.specs.Progress.{progress_view}

@@ -1,4 +1,4 @@
-use Rattle.std.proofs.Common.{◌≡◌, [], ◌∷◌, true, sym}
+use Rattle.std.proofs.Common.{[], ◌∷◌, true, sym}
 use Rattle.std.specs.Prelude.{map, not}
 use Rattle.std.proofs.lemmas.List.{map-append}
 use Rattle.c_type_declarations.proofs.Steps.{next_means}
