@@ -1,3 +1,4 @@
 pub mod Numbers
 pub mod Objects
 pub mod Names
+pub mod Rounds

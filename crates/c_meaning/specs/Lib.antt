@@ -8,3 +8,4 @@ pub mod Statements
 pub mod Runs
 pub mod Worked
 pub mod Views
+pub mod Weights

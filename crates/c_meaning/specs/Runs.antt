@@ -20,16 +20,24 @@ use Rattle.c_meaning.specs.Memory.{Object, Memory, with_value}
 use Rattle.c_meaning.specs.Places.{Place, places_of_program, numbers_from, parameters_of}
 use Rattle.c_meaning.specs.States.{Event, Exited, TooDeep, State, Evaluated, Gives, Leaves, Ends, Outcome, Next, Broken, Continued, Returned, Ended}
 use Rattle.c_meaning.specs.Expressions.{Calls}
-use Rattle.c_meaning.specs.Statements.{Activation, objects_of, at, ending_from, execute_all}
+use Rattle.c_meaning.specs.Statements.{Activation, objects_of, at, ending_from, execute_all, Begun, Goes, NoTurn}
 
--- Each parameter is an object of its own, with the value of its argument (6.5.2.2p4).
+-- a parameter is an object of its own, with the value of its argument (6.5.2.2p4)
+abbrev pub bind_one : Activation → ℕ → Value → Memory → Memory
+bind_one here x v memory = memory ++ map (λ o. with_value o 0 v) (objects_of here Live x)
+
 abbrev pub bind : Activation → List ℕ → List Value → Memory → Memory
-bind here (x ∷ xs) (v ∷ vs) memory = bind here xs vs (memory ++ map (λ o. with_value o 0 v) (objects_of here Live x))
-bind here _ _ memory = memory
+bind here [] vs memory = memory
+bind here (x ∷ xs) [] memory = memory
+bind here (x ∷ xs) (v ∷ vs) memory = bind here xs vs (bind_one here x v memory)
 
 -- an entry is begun: that is a turn, but no stop
-abbrev pub enter : State → (State → Evaluated) → Evaluated
-enter s go = elim s.turns [ zero ↦ Ends Turns s | suc left ↦ go (record s { turns = left }) ]
+abbrev pub enter_turn : State → Begun
+enter_turn s = elim s.turns [ zero ↦ NoTurn s | suc left ↦ Goes (record s { turns = left }) ]
+
+abbrev pub on_entry : Begun → (State → Evaluated) → Evaluated
+on_entry (Goes s) go = go s
+on_entry (NoTurn s) go = Ends Turns s
 
 -- Reaching the closing brace of `main` returns 0; that of another function gives no value (5.1.2.2.3, 6.9.1p12).
 abbrev pub value_at_close : Bool → State → Evaluated
@@ -64,7 +72,7 @@ forgotten n (Ends e s) = Ends e s
 -- an activation: its entry, its parameters, its body, and its closing brace where control reaches it
 abbrev pub activate : (ℕ → Calls) → Activation → Option TypedFunctionTree → List Value → State → Evaluated
 activate calls here None vs s = Ends Undefined s
-activate calls here (Some f) vs s = enter s (λ t.
+activate calls here (Some f) vs s = on_entry (enter_turn s) (λ t.
     forgotten (length s.memory) (handed_back (here.function == here.program.main)
     (at_close here f.close (execute_all calls here f.body (record t { memory = bind here (parameters_of f) vs t.memory })))))
 

@@ -152,10 +152,9 @@ objects_of here phase x = option_map_or (λ (a : AutomaticTree). new_object (own
 abbrev pub made : Activation → Phase → ℕ → State → State
 made here phase x s = record s { memory = s.memory ++ objects_of here phase x }
 
+-- the values of a literal that initialises an array, if the program has it
 abbrev pub literal_values : List LiteralTree → ℕ → List Value
-literal_values [] n = []
-literal_values (l ∷ all) zero = map (λ byte. Number (pos byte)) l.bytes
-literal_values (l ∷ all) (suc n) = literal_values all n
+literal_values all n = option_map_or (λ (l : LiteralTree). map (λ byte. Number (pos byte)) l.bytes) (slice_get all n) []
 
 -- values from an index on
 abbrev pub set_values : Memory → ℕ → (index : ℕ) → List Value → Memory

@@ -1,5 +1,5 @@
 -- Memory, states and events of the code, as contracts see them.
-use Rattle.std.specs.Prelude.{Option, Some, None, List, ◌++◌, ◌≡◌, ℕ, Bool, true, false, map}
+use Rattle.std.specs.Prelude.{ℤ, Option, Some, None, List, ◌++◌, ◌≡◌, ℕ, Bool, true, false, map}
 use Rattle.word_base.specs.Values.{Owner, Static, Literal, Variable}
 use Rattle.c_meaning.specs.declared.memory.Owner as declared-owner
 use Rattle.c_meaning.specs.declared.memory.Owner.TheVariants as owner
@@ -13,8 +13,11 @@ use Rattle.c_meaning.specs.declared.state.Tested.TheVariants as tested-is
 use Rattle.c_meaning.specs.declared.value.Value.{Value}
 use Rattle.c_meaning.specs.declared.event.Ending.{Ending}
 use Rattle.c_tree.specs.TypedExpressions.{RvalueTree, LvalueTree, ArgumentTrees}
-use Rattle.c_tree.specs.TypedStatements.{TypedStatementTree, TypedStatementTrees}
+use Rattle.c_tree.specs.TypedStatements.{TypedStatementTree, TypedStatementTrees, DeclaredTree, StepTree, TypedStartTree}
 use Rattle.c_meaning.specs.Expressions.{evaluate, designate, evaluate_all}
+use Rattle.c_meaning.specs.declared.statements.Round as declared-round
+use Rattle.c_meaning.specs.declared.statements.Round.TheVariants as round
+use Rattle.debug_records.specs.declared.source.Spot.{Spot}
 use Rattle.c_meaning.specs.declared.place.Place as declared-place
 use Rattle.c_meaning.specs.declared.event.Shown as declared-shown
 use Rattle.c_meaning.specs.declared.event.Event as declared-event
@@ -29,7 +32,7 @@ use Rattle.c_meaning.specs.Memory.{Object, Memory}
 use Rattle.c_tree.specs.Programs.{program_view}
 use Rattle.c_meaning.specs.Places.{Place, number_at}
 use Rattle.c_meaning.specs.States.{Shown, Event, Put, Exited, TooDeep, Stop, State, Evaluated, Gives, Leaves, Ends, Outcome, Next, Broken, Continued, Returned, Ended, Both, Pair, NoPair, Tested, Holds, Fails, NoTest, Listed, Lists, NoList}
-use Rattle.c_meaning.specs.Statements.{Activation, Begun, Goes, NoTurn, depth_of, frames_at, shown_at, execute, execute_all}
+use Rattle.c_meaning.specs.Statements.{Activation, Begun, Goes, NoTurn, depth_of, frames_at, shown_at, execute, execute_all, execute_case, execute_default, value_at, test_at, check, run, step, begin_loop, declare_all, declare, initialise_elements}
 use Rattle.c_meaning.specs.Runs.{SourceRun, calls_at}
 
 abbrev pub owner_view : declared-owner.Owner → Owner
@@ -122,3 +125,46 @@ executes here = execute (calls_at (activation_view here) here.left) (activation_
 
 abbrev pub executes_all : declared-activation.Activation → TypedStatementTrees → State → Outcome
 executes_all here = execute_all (calls_at (activation_view here) here.left) (activation_view here)
+
+abbrev pub executes_case : declared-activation.Activation → ℤ → TypedStatementTrees → State → Outcome
+executes_case here = execute_case (calls_at (activation_view here) here.left) (activation_view here)
+
+abbrev pub executes_default : declared-activation.Activation → TypedStatementTrees → State → Outcome
+executes_default here = execute_default (calls_at (activation_view here) here.left) (activation_view here)
+
+abbrev pub values_at : declared-activation.Activation → Spot → RvalueTree → State → Evaluated
+values_at here = value_at (calls_at (activation_view here) here.left) (activation_view here)
+
+abbrev pub tests_at : declared-activation.Activation → Spot → RvalueTree → State → Tested
+tests_at here = test_at (calls_at (activation_view here) here.left) (activation_view here)
+
+abbrev pub checks : declared-activation.Activation → Spot → Option RvalueTree → State → Tested
+checks here = check (calls_at (activation_view here) here.left) (activation_view here)
+
+abbrev pub runs : declared-activation.Activation → Spot → RvalueTree → State → Outcome
+runs here = run (calls_at (activation_view here) here.left) (activation_view here)
+
+abbrev pub steps : declared-activation.Activation → Option StepTree → State → Outcome
+steps here = step (calls_at (activation_view here) here.left) (activation_view here)
+
+abbrev pub begins : declared-activation.Activation → TypedStartTree → State → Outcome
+begins here = begin_loop (calls_at (activation_view here) here.left) (activation_view here)
+
+abbrev pub declares_all : declared-activation.Activation → List DeclaredTree → State → Outcome
+declares_all here = declare_all (calls_at (activation_view here) here.left) (activation_view here)
+
+abbrev pub declares : declared-activation.Activation → DeclaredTree → State → Outcome
+declares here = declare (calls_at (activation_view here) here.left) (activation_view here)
+
+abbrev pub initialises_elements : declared-activation.Activation → Spot → (object index : ℕ) → List RvalueTree → State → Outcome
+initialises_elements here = initialise_elements (calls_at (activation_view here) here.left) (activation_view here)
+
+-- how a round of a loop ends, given what a next round comes to
+abbrev pub round_view : declared-round.Round → (State → Outcome) → State → Outcome
+round_view round.Again again s = again s
+round_view (round.Leave o) again s = outcome_view o s
+
+-- whether an entry was begun
+abbrev pub entered_view : Bool → State → Begun
+entered_view true s = Goes s
+entered_view false s = NoTurn s

@@ -15,6 +15,7 @@ use debug_records::source::Spot;
 use std::alloc::{AllocError, Global};
 
 /// What is the same for all of an activation.
+#[derive(Drop)]
 pub struct Activation<'a> {
     pub program: &'a Program,
     /// The places of the program.
@@ -94,7 +95,14 @@ impl<'a> Activation<'a> {
         let mut shown = Vec::new(alloc);
         for variable in &variables {
             let variable = *variable;
-            let values = contents(alloc, Owner::Variable { variable, depth }, memory)?;
+            let values = contents(
+                alloc,
+                Owner::Variable {
+                    variable: variable as usize,
+                    depth,
+                },
+                memory,
+            )?;
             shown.push(Shown { variable, values })?;
         }
         Ok(shown)

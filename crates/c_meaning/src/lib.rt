@@ -3,13 +3,17 @@
 
 mod activation;
 mod arithmetic;
+mod calls;
 pub mod event;
+mod execution;
 mod joints;
 mod laws;
+mod lifetimes;
 pub mod memory;
 mod operations;
 pub mod place;
 mod state;
+mod statements;
 mod steps;
 mod types;
 pub mod value;

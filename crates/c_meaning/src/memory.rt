@@ -15,7 +15,7 @@ use std::alloc::{AllocError, Global};
 pub enum Owner {
     Static(u32),
     Literal(u32),
-    Variable { variable: u32, depth: usize },
+    Variable { variable: usize, depth: usize },
 }
 
 /// An object.
@@ -209,7 +209,7 @@ pub fn moved(memory: &[Object], pointer: Value, by: i128) -> Option<Value>
 
 impl Object {
     /// Another value stands at an index, if it has one there.
-    fn set(&mut self, index: usize, value: Value)
+    pub fn set(&mut self, index: usize, value: Value)
         ensures { object_view self.new ≡ with_value (object_view self.old) index value }
     {
         if index < self.values.len() {

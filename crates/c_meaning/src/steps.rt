@@ -64,7 +64,10 @@ pub fn named(depth: usize, object: c_tree::Object, memory: &[Object]) -> Option<
     let owner = match object {
         c_tree::Object::Static(number) => Owner::Static(number),
         c_tree::Object::Literal(number) => Owner::Literal(number),
-        c_tree::Object::Automatic(variable) => Owner::Variable { variable, depth },
+        c_tree::Object::Automatic(variable) => Owner::Variable {
+            variable: variable as usize,
+            depth,
+        },
     };
     address_of(owner, memory)
 }

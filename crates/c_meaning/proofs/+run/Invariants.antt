@@ -1,0 +1,123 @@
+use Rattle.std.proofs.Common.{◌≡◌, ℕ, ◌+◌, ◌*◌, map}
+use Rattle.std.specs.Prelude.{option_map}
+use Rattle.c_tree.specs.Programs.{program_view}
+use Rattle.c_tree.specs.TypedExpressions.{rvalue_view, lvalue_view, arguments_view}
+use Rattle.c_tree.specs.TypedStatements.{statement_view, statements_view, declared_view, initial_view, start_view, step_view}
+use Rattle.c_meaning.specs.Weights.{weight, weight_of_left, weights, weight_of_all, weight_of_initial, weight_of_declared, weight_of_start, weight_of_option, weight_of_step, weight_of, weight_of_statements, heaviest}
+use Rattle.c_meaning.specs.Views.{activation_view, checks, executes, state_view, steps, tests_at}
+use Rattle.c_meaning.specs.Statements.{do_round, for_round, loop, rounds, while_round}
+use Rattle.c_meaning.proofs.+run.Given as goal
+
+abbrev pub decreases-execution::evaluate : goal.decreases-execution::evaluate
+decreases-execution::evaluate l = l.here.now.left * heaviest (program_view l.here.now.program.now).functions + (weight (rvalue_view l.e.now))
+
+abbrev pub decreases-execution::evaluate_test : goal.decreases-execution::evaluate_test
+decreases-execution::evaluate_test l = l.here.now.left * heaviest (program_view l.here.now.program.now).functions + (weight (rvalue_view l.e.now) + 1)
+
+abbrev pub decreases-execution::evaluate_both : goal.decreases-execution::evaluate_both
+decreases-execution::evaluate_both l = l.here.now.left * heaviest (program_view l.here.now.program.now).functions + (weight (rvalue_view l.left.now) + weight (rvalue_view l.right.now) + 1)
+
+abbrev pub decreases-execution::designate_and_evaluate : goal.decreases-execution::designate_and_evaluate
+decreases-execution::designate_and_evaluate l = l.here.now.left * heaviest (program_view l.here.now.program.now).functions + (weight_of_left (lvalue_view l.target.now) + weight (rvalue_view l.right.now) + 1)
+
+abbrev pub decreases-execution::locate : goal.decreases-execution::locate
+decreases-execution::locate l = l.here.now.left * heaviest (program_view l.here.now.program.now).functions + (weight_of_left (lvalue_view l.target.now) + 1)
+
+abbrev pub decreases-execution::designate : goal.decreases-execution::designate
+decreases-execution::designate l = l.here.now.left * heaviest (program_view l.here.now.program.now).functions + (weight_of_left (lvalue_view l.l.now))
+
+abbrev pub decreases-execution::evaluate_all : goal.decreases-execution::evaluate_all
+decreases-execution::evaluate_all l = l.here.now.left * heaviest (program_view l.here.now.program.now).functions + (weights (arguments_view l.arguments.now))
+
+abbrev pub decreases-execution::call_callee : goal.decreases-execution::call_callee
+decreases-execution::call_callee l = l.here.now.left * heaviest (program_view l.here.now.program.now).functions + (2)
+
+abbrev pub decreases-statements::value_at : goal.decreases-statements::value_at
+decreases-statements::value_at l = l.here.now.left * heaviest (program_view l.here.now.program.now).functions + (weight (rvalue_view l.e.now) + 1)
+
+abbrev pub decreases-statements::test_at : goal.decreases-statements::test_at
+decreases-statements::test_at l = l.here.now.left * heaviest (program_view l.here.now.program.now).functions + (weight (rvalue_view l.e.now) + 2)
+
+abbrev pub decreases-statements::check : goal.decreases-statements::check
+decreases-statements::check l = l.here.now.left * heaviest (program_view l.here.now.program.now).functions + (weight_of_option (option_map rvalue_view l.condition.now))
+
+abbrev pub decreases-statements::run : goal.decreases-statements::run
+decreases-statements::run l = l.here.now.left * heaviest (program_view l.here.now.program.now).functions + (weight (rvalue_view l.e.now) + 2)
+
+abbrev pub decreases-statements::run_step : goal.decreases-statements::run_step
+decreases-statements::run_step l = l.here.now.left * heaviest (program_view l.here.now.program.now).functions + (weight_of_step (option_map step_view l.part.now))
+
+abbrev pub decreases-statements::begin_loop : goal.decreases-statements::begin_loop
+decreases-statements::begin_loop l = l.here.now.left * heaviest (program_view l.here.now.program.now).functions + (weight_of_start (start_view l.start.now))
+
+abbrev pub decreases-statements::declare_all : goal.decreases-statements::declare_all
+decreases-statements::declare_all l = l.here.now.left * heaviest (program_view l.here.now.program.now).functions + (weight_of_declared (map declared_view l.all.now))
+
+abbrev pub decreases-statements::declare : goal.decreases-statements::declare
+decreases-statements::declare l = l.here.now.left * heaviest (program_view l.here.now.program.now).functions + (weight_of_initial (initial_view l.d.now.initial) + 2)
+
+abbrev pub decreases-statements::initialise_elements : goal.decreases-statements::initialise_elements
+decreases-statements::initialise_elements l = l.here.now.left * heaviest (program_view l.here.now.program.now).functions + (weight_of_all (map rvalue_view l.all.now))
+
+abbrev pub decreases-statements::execute : goal.decreases-statements::execute
+decreases-statements::execute l = l.here.now.left * heaviest (program_view l.here.now.program.now).functions + (weight_of (statement_view l.statement.now))
+
+abbrev pub decreases-statements::execute_all : goal.decreases-statements::execute_all
+decreases-statements::execute_all l = l.here.now.left * heaviest (program_view l.here.now.program.now).functions + (weight_of_statements (statements_view l.all.now))
+
+abbrev pub decreases-statements::execute_case : goal.decreases-statements::execute_case
+decreases-statements::execute_case l = l.here.now.left * heaviest (program_view l.here.now.program.now).functions + (weight_of_statements (statements_view l.all.now))
+
+abbrev pub decreases-statements::execute_default : goal.decreases-statements::execute_default
+decreases-statements::execute_default l = l.here.now.left * heaviest (program_view l.here.now.program.now).functions + (weight_of_statements (statements_view l.all.now))
+
+abbrev pub decreases-statements::execute_switch : goal.decreases-statements::execute_switch
+decreases-statements::execute_switch l = l.here.now.left * heaviest (program_view l.here.now.program.now).functions + (weight (rvalue_view l.value.now) + weight_of_statements (statements_view l.body.now) + 4)
+
+abbrev pub decreases-statements::execute_return : goal.decreases-statements::execute_return
+decreases-statements::execute_return l = l.here.now.left * heaviest (program_view l.here.now.program.now).functions + (weight_of_option (option_map rvalue_view l.value.now) + 4)
+
+abbrev pub decreases-statements::execute_while : goal.decreases-statements::execute_while
+decreases-statements::execute_while l = l.here.now.left * heaviest (program_view l.here.now.program.now).functions + (weight (rvalue_view l.condition.now) + weight_of (statement_view l.body.now) + 6)
+
+abbrev pub decreases-statements::while_round : goal.decreases-statements::while_round
+decreases-statements::while_round l = l.here.now.left * heaviest (program_view l.here.now.program.now).functions + (weight (rvalue_view l.condition.now) + weight_of (statement_view l.body.now) + 5)
+
+abbrev pub decreases-statements::execute_do : goal.decreases-statements::execute_do
+decreases-statements::execute_do l = l.here.now.left * heaviest (program_view l.here.now.program.now).functions + (weight (rvalue_view l.condition.now) + weight_of (statement_view l.body.now) + 6)
+
+abbrev pub decreases-statements::do_round : goal.decreases-statements::do_round
+decreases-statements::do_round l = l.here.now.left * heaviest (program_view l.here.now.program.now).functions + (weight (rvalue_view l.condition.now) + weight_of (statement_view l.body.now) + 5)
+
+abbrev pub decreases-statements::execute_for : goal.decreases-statements::execute_for
+decreases-statements::execute_for l = l.here.now.left * heaviest (program_view l.here.now.program.now).functions + (weight_of_option (option_map rvalue_view l.condition.now) + weight_of_step (option_map step_view l.part.now) + weight_of (statement_view l.body.now) + 6)
+
+abbrev pub decreases-statements::for_round : goal.decreases-statements::for_round
+decreases-statements::for_round l = l.here.now.left * heaviest (program_view l.here.now.program.now).functions + (weight_of_option (option_map rvalue_view l.condition.now) + weight_of_step (option_map step_view l.part.now) + weight_of (statement_view l.body.now) + 5)
+
+abbrev pub decreases-execution::call_function : goal.decreases-execution::call_function
+decreases-execution::call_function l = l.left * heaviest (program_view l.program.now).functions + 1
+
+abbrev pub decreases-execution::activate : goal.decreases-execution::activate
+decreases-execution::activate l = l.here.now.left * heaviest (program_view l.here.now.program.now).functions + heaviest (program_view l.here.now.program.now).functions
+
+abbrev pub invariant-statements::execute_while-loop-rest : goal.invariant-statements::execute_while-loop-rest
+invariant-statements::execute_while-loop-rest l =
+    rounds l.rest (while_round (activation_view l.here) l.spot (tests_at l.here l.spot (rvalue_view l.condition)) (executes l.here (statement_view l.body))) (state_view l.state) ≡ loop (while_round (activation_view l.here) l.spot (tests_at l.here l.spot (rvalue_view l.condition)) (executes l.here (statement_view l.body))) (state_view l.fn.state)
+
+abbrev pub decreases-statements::execute_while-loop-rest : goal.decreases-statements::execute_while-loop-rest
+decreases-statements::execute_while-loop-rest l = l.rest
+
+abbrev pub invariant-statements::execute_do-loop-rest : goal.invariant-statements::execute_do-loop-rest
+invariant-statements::execute_do-loop-rest l =
+    rounds l.rest (do_round (activation_view l.here) l.spot (tests_at l.here l.spot (rvalue_view l.condition)) (executes l.here (statement_view l.body))) (state_view l.state) ≡ loop (do_round (activation_view l.here) l.spot (tests_at l.here l.spot (rvalue_view l.condition)) (executes l.here (statement_view l.body))) (state_view l.fn.state)
+
+abbrev pub decreases-statements::execute_do-loop-rest : goal.decreases-statements::execute_do-loop-rest
+decreases-statements::execute_do-loop-rest l = l.rest
+
+abbrev pub invariant-statements::execute_for-loop-rest : goal.invariant-statements::execute_for-loop-rest
+invariant-statements::execute_for-loop-rest l =
+    rounds l.rest (for_round (activation_view l.here) l.spot (checks l.here l.spot (option_map rvalue_view l.condition)) (executes l.here (statement_view l.body)) (steps l.here (option_map step_view l.part))) (state_view l.state) ≡ loop (for_round (activation_view l.here) l.spot (checks l.here l.spot (option_map rvalue_view l.condition)) (executes l.here (statement_view l.body)) (steps l.here (option_map step_view l.part))) (state_view l.fn.state)
+
+abbrev pub decreases-statements::execute_for-loop-rest : goal.decreases-statements::execute_for-loop-rest
+decreases-statements::execute_for-loop-rest l = l.rest

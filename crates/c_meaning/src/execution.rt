@@ -1,0 +1,462 @@
+//! Expressions, statements and calls, as they are executed (ISO/IEC 9899:2011, 6.5, 6.8, 6.9.1).
+
+ghost use Rattle.std.specs.Prelude.{◌≡◌, IfOk, map, slice_get};
+ghost use Rattle.c_tree.specs.Programs.{program_view};
+ghost use Rattle.c_tree.specs.TypedExpressions.{rvalue_view, lvalue_view, arguments_view};
+ghost use Rattle.c_meaning.specs.Views.{activation_view, behind, both_view, designates, evaluated_view, evaluates, evaluates_all, listed_view, place_view, state_view, tested_view};
+ghost use Rattle.c_meaning.specs.States.{both, tested};
+ghost use Rattle.c_meaning.specs.Expressions.{call, located};
+ghost use Rattle.c_meaning.specs.Runs.{activate, calls_at, calls_of};
+
+use crate::activation::Activation;
+use crate::calls::{at_close, bind, enter, function_at, handed_back};
+use crate::event::{Ending, Frame};
+use crate::joints::{
+    arithmetic_from, assigned, comparison_from, convert_from, decay_from, difference_from, discard,
+    load_from, located, moved_behind, moved_from, not_of, pointer_comparison_from, second,
+    sign_from, step, step_pointer, tested, truth_of, update, update_pointer, usable_from,
+};
+use crate::lifetimes::forget;
+use crate::place::Place;
+use crate::state::{Evaluated, Operands, State, Tested};
+use crate::statements::execute_all as execute_statements;
+use crate::steps::{given, leave, named, next_byte, put};
+use crate::value::Value;
+use c_tree::{Arguments, Callee, Lvalue, Program, Rvalue};
+use std::alloc::{AllocError, Global};
+
+const UNDEFINED: Evaluated = Evaluated::Ends(Ending::Undefined);
+
+/// What an expression comes to at a place.
+#[cycle(run)]
+pub fn evaluate(
+    alloc: Global,
+    here: &Activation,
+    place: usize,
+    e: &Rvalue,
+    state: &mut State,
+) -> Result<Evaluated, AllocError>
+    ensures { IfOk result (λ v. evaluated_view v (state_view state.new) ≡ evaluates here.now place (rvalue_view e.now) (state_view state.old)) }
+{
+    match e {
+        Rvalue::Constant { value, .. } => Ok(Evaluated::Gives(Value::Number(*value))),
+        Rvalue::Null => Ok(Evaluated::Gives(Value::Null)),
+        Rvalue::Load { from, .. } => {
+            let found = designate(alloc, here, place, from, state)?;
+            Ok(load_from(found, state))
+        }
+        Rvalue::Decay(from) => {
+            let found = designate(alloc, here, place, from, state)?;
+            Ok(decay_from(found, state))
+        }
+        Rvalue::AddressOf(from) => {
+            let found = designate(alloc, here, place, from, state)?;
+            Ok(found)
+        }
+        Rvalue::Convert { to, operand } => {
+            let value = evaluate(alloc, here, place, operand, state)?;
+            Ok(convert_from(*to, value))
+        }
+        Rvalue::Discard(operand) => {
+            let value = evaluate(alloc, here, place, operand, state)?;
+            Ok(discard(value))
+        }
+        Rvalue::Signed {
+            sign,
+            integer_type,
+            operand,
+        } => {
+            let value = evaluate(alloc, here, place, operand, state)?;
+            Ok(sign_from(*sign, *integer_type, value))
+        }
+        Rvalue::Not(operand) => {
+            let test = evaluate_test(alloc, here, place, operand, state)?;
+            Ok(not_of(test))
+        }
+        Rvalue::Arithmetic {
+            operator,
+            integer_type,
+            left,
+            right,
+        } => {
+            let operands = evaluate_both(alloc, here, place, left, right, state)?;
+            Ok(arithmetic_from(*operator, *integer_type, operands))
+        }
+        Rvalue::Compare {
+            operator,
+            left,
+            right,
+            ..
+        } => {
+            let operands = evaluate_both(alloc, here, place, left, right, state)?;
+            Ok(comparison_from(*operator, operands))
+        }
+        Rvalue::ComparePointers {
+            operator,
+            left,
+            right,
+        } => {
+            let operands = evaluate_both(alloc, here, place, left, right, state)?;
+            Ok(pointer_comparison_from(*operator, operands, state))
+        }
+        Rvalue::Move {
+            direction,
+            element,
+            pointer,
+            by,
+        } => {
+            let operands = evaluate_both(alloc, here, place, pointer, by, state)?;
+            Ok(moved_from(*direction, *element, operands, state))
+        }
+        Rvalue::MoveFrom {
+            by,
+            element,
+            pointer,
+        } => {
+            let operands = evaluate_both(alloc, here, place, by, pointer, state)?;
+            Ok(moved_behind(*element, operands, state))
+        }
+        Rvalue::Difference {
+            element,
+            left,
+            right,
+        } => {
+            let operands = evaluate_both(alloc, here, place, left, right, state)?;
+            Ok(difference_from(*element, operands, state))
+        }
+        Rvalue::And(left, right) => match evaluate_test(alloc, here, place, left, state)? {
+            Tested::Holds => {
+                let test = evaluate_test(alloc, here, place, right, state)?;
+                Ok(truth_of(test))
+            }
+            Tested::Fails => Ok(Evaluated::Gives(Value::Number(0))),
+            Tested::NoTest(ending) => Ok(Evaluated::Ends(ending)),
+        },
+        Rvalue::Or(left, right) => match evaluate_test(alloc, here, place, left, state)? {
+            Tested::Holds => Ok(Evaluated::Gives(Value::Number(1))),
+            Tested::Fails => {
+                let test = evaluate_test(alloc, here, place, right, state)?;
+                Ok(truth_of(test))
+            }
+            Tested::NoTest(ending) => Ok(Evaluated::Ends(ending)),
+        },
+        Rvalue::Conditional {
+            condition,
+            then,
+            otherwise,
+        } => match evaluate_test(alloc, here, place, condition, state)? {
+            Tested::Holds => {
+                let value = evaluate(alloc, here, place, then, state)?;
+                Ok(value)
+            }
+            Tested::Fails => {
+                let value = evaluate(alloc, here, place, otherwise, state)?;
+                Ok(value)
+            }
+            Tested::NoTest(ending) => Ok(Evaluated::Ends(ending)),
+        },
+        Rvalue::Comma(left, right) => match evaluate(alloc, here, place, left, state)? {
+            Evaluated::Gives(_) | Evaluated::Leaves => {
+                let value = evaluate(alloc, here, place, right, state)?;
+                Ok(value)
+            }
+            Evaluated::Ends(ending) => Ok(Evaluated::Ends(ending)),
+        },
+        Rvalue::Assign { target, value, .. } => {
+            let operands = designate_and_evaluate(alloc, here, place, target, value, state)?;
+            Ok(assigned(operands, state))
+        }
+        Rvalue::Update {
+            operator,
+            target_type,
+            integer_type,
+            target,
+            value,
+        } => match locate(alloc, here, place, target, state)? {
+            Operands::Pair(pointer, old) => {
+                let right = evaluate(alloc, here, place, value, state)?;
+                Ok(update(
+                    *operator,
+                    *target_type,
+                    *integer_type,
+                    pointer,
+                    old,
+                    right,
+                    state,
+                ))
+            }
+            Operands::NoPair(ending) => Ok(Evaluated::Ends(ending)),
+        },
+        Rvalue::UpdatePointer {
+            direction,
+            element,
+            target,
+            by,
+        } => match locate(alloc, here, place, target, state)? {
+            Operands::Pair(pointer, old) => {
+                let right = evaluate(alloc, here, place, by, state)?;
+                Ok(update_pointer(*direction, *element, pointer, old, right, state))
+            }
+            Operands::NoPair(ending) => Ok(Evaluated::Ends(ending)),
+        },
+        Rvalue::Step {
+            direction,
+            given,
+            target_type,
+            integer_type,
+            target,
+        } => {
+            let operands = locate(alloc, here, place, target, state)?;
+            Ok(step(
+                *direction,
+                *given,
+                *target_type,
+                *integer_type,
+                operands,
+                state,
+            ))
+        }
+        Rvalue::StepPointer {
+            direction,
+            given,
+            element,
+            target,
+        } => {
+            let operands = locate(alloc, here, place, target, state)?;
+            Ok(step_pointer(*direction, *given, *element, operands, state))
+        }
+        Rvalue::Call { callee, arguments } => {
+            let mut values = Vec::new(alloc);
+            match evaluate_all(alloc, here, place, arguments, &mut values, state)? {
+                Some(ending) => Ok(Evaluated::Ends(ending)),
+                None => {
+                    let value = call_callee(alloc, here, place, *callee, &values, state)?;
+                    Ok(value)
+                }
+            }
+        }
+    }
+}
+
+/// Whether an expression is true at a place.
+#[cycle(run)]
+fn evaluate_test(
+    alloc: Global,
+    here: &Activation,
+    place: usize,
+    e: &Rvalue,
+    state: &mut State,
+) -> Result<Tested, AllocError>
+    ensures { IfOk result (λ t. tested_view t (state_view state.new) ≡ tested (evaluates here.now place (rvalue_view e.now) (state_view state.old))) }
+{
+    let value = evaluate(alloc, here, place, e, state)?;
+    Ok(tested(value, state))
+}
+
+/// What two expressions come to, from left to right.
+#[cycle(run)]
+fn evaluate_both(
+    alloc: Global,
+    here: &Activation,
+    place: usize,
+    left: &Rvalue,
+    right: &Rvalue,
+    state: &mut State,
+) -> Result<Operands, AllocError>
+    ensures { IfOk result (λ b. both_view b (state_view state.new) ≡ both (evaluates here.now place (rvalue_view left.now) (state_view state.old)) (evaluates here.now place (rvalue_view right.now))) }
+{
+    match evaluate(alloc, here, place, left, state)? {
+        Evaluated::Gives(value) => {
+            let other = evaluate(alloc, here, place, right, state)?;
+            Ok(second(value, other))
+        }
+        Evaluated::Leaves => Ok(Operands::NoPair(Ending::Undefined)),
+        Evaluated::Ends(ending) => Ok(Operands::NoPair(ending)),
+    }
+}
+
+/// The object of an assignment, and then the right side.
+#[cycle(run)]
+fn designate_and_evaluate(
+    alloc: Global,
+    here: &Activation,
+    place: usize,
+    target: &Lvalue,
+    right: &Rvalue,
+    state: &mut State,
+) -> Result<Operands, AllocError>
+    ensures { IfOk result (λ b. both_view b (state_view state.new) ≡ both (designates here.now place (lvalue_view target.now) (state_view state.old)) (evaluates here.now place (rvalue_view right.now))) }
+{
+    match designate(alloc, here, place, target, state)? {
+        Evaluated::Gives(value) => {
+            let other = evaluate(alloc, here, place, right, state)?;
+            Ok(second(value, other))
+        }
+        Evaluated::Leaves => Ok(Operands::NoPair(Ending::Undefined)),
+        Evaluated::Ends(ending) => Ok(Operands::NoPair(ending)),
+    }
+}
+
+/// The object of a left side, and what it holds.
+#[cycle(run)]
+fn locate(
+    alloc: Global,
+    here: &Activation,
+    place: usize,
+    target: &Lvalue,
+    state: &mut State,
+) -> Result<Operands, AllocError>
+    ensures { IfOk result (λ b. both_view b (state_view state.new) ≡ located (designates here.now place (lvalue_view target.now) (state_view state.old))) }
+{
+    let found = designate(alloc, here, place, target, state)?;
+    Ok(located(found, state))
+}
+
+/// A pointer to the object that an lvalue designates.
+#[cycle(run)]
+fn designate(
+    alloc: Global,
+    here: &Activation,
+    place: usize,
+    l: &Lvalue,
+    state: &mut State,
+) -> Result<Evaluated, AllocError>
+    ensures { IfOk result (λ v. evaluated_view v (state_view state.new) ≡ designates here.now place (lvalue_view l.now) (state_view state.old)) }
+{
+    match l {
+        Lvalue::Named { object, .. } => { Ok(given(named(here.depth(), *object, &state.memory))) }
+        Lvalue::Target { pointer, .. } => {
+            let found = evaluate(alloc, here, place, pointer, state)?;
+            Ok(usable_from(found, state))
+        }
+        Lvalue::Element { of, pointer, index } => {
+            let operands = evaluate_both(alloc, here, place, pointer, index, state)?;
+            Ok(moved_from(c_tree::Direction::Up, *of, operands, state))
+        }
+        Lvalue::ElementFrom { of, index, pointer } => {
+            let operands = evaluate_both(alloc, here, place, index, pointer, state)?;
+            Ok(moved_behind(*of, operands, state))
+        }
+    }
+}
+
+/// The values of arguments, behind earlier ones; or how the run ends within one.
+#[cycle(run)]
+fn evaluate_all(
+    alloc: Global,
+    here: &Activation,
+    place: usize,
+    arguments: &Arguments,
+    values: &mut Vec<Value>,
+    state: &mut State,
+) -> Result<Option<Ending>, AllocError>
+    ensures { IfOk result (λ r. listed_view r values.new.items (state_view state.new) ≡ behind values.old.items (evaluates_all here.now place (arguments_view arguments.now) (state_view state.old))) }
+{
+    match arguments {
+        Arguments::End => Ok(None),
+        Arguments::More(first, rest) => match evaluate(alloc, here, place, first, state)? {
+            Evaluated::Gives(value) => {
+                values.push(value)?;
+                let ending = evaluate_all(alloc, here, place, rest, values, state)?;
+                Ok(ending)
+            }
+            Evaluated::Leaves => Ok(Some(Ending::Undefined)),
+            Evaluated::Ends(ending) => Ok(Some(ending)),
+        },
+    }
+}
+
+/// A call of a function of the program, or of the library.
+#[cycle(run)]
+fn call_callee(
+    alloc: Global,
+    here: &Activation,
+    place: usize,
+    callee: Callee,
+    values: &[Value],
+    state: &mut State,
+) -> Result<Evaluated, AllocError>
+    ensures { IfOk result (λ v. evaluated_view v (state_view state.new) ≡ call (calls_at (activation_view here.now) here.now.left place) callee values.now (state_view state.old)) }
+{
+    match callee {
+        Callee::Function(function) => {
+            let frames = here.frames_at(alloc, place)?;
+            let value = call_function(
+                alloc,
+                here.program,
+                here.places,
+                here.left,
+                &frames,
+                function,
+                values,
+                state,
+            )?;
+            Ok(value)
+        }
+        Callee::Getchar => Ok(next_byte(state)),
+        Callee::Putchar => match values {
+            [value] => put(*value, state),
+            _ => Ok(UNDEFINED),
+        },
+        Callee::Exit => match values {
+            [value] => Ok(leave(*value)),
+            _ => Ok(UNDEFINED),
+        },
+    }
+}
+
+/// What a called function comes to.
+#[cycle(run)]
+#[tactic(auto, using(crate::proofs::Rounds::calls_step))]
+pub fn call_function(
+    alloc: Global,
+    program: &Program,
+    places: &[Place],
+    left: usize,
+    waiting: &[Frame],
+    function: u32,
+    values: &[Value],
+    state: &mut State,
+) -> Result<Evaluated, AllocError>
+    ensures { IfOk result (λ v. evaluated_view v (state_view state.new) ≡ calls_of (program_view program.now) (map place_view places.now) left waiting.now function values.now (state_view state.old)) }
+{
+    if left == 0 {
+        return Ok(Evaluated::Ends(Ending::Depth));
+    }
+    let here = Activation {
+        program,
+        places,
+        function,
+        waiting,
+        left: left - 1,
+    };
+    let value = activate(alloc, &here, values, state)?;
+    Ok(value)
+}
+
+/// An activation of a function.
+#[cycle(run)]
+fn activate(
+    alloc: Global,
+    here: &Activation,
+    values: &[Value],
+    state: &mut State,
+) -> Result<Evaluated, AllocError>
+    ensures { IfOk result (λ v. evaluated_view v (state_view state.new) ≡ activate (calls_at (activation_view here.now) here.now.left) (activation_view here.now) (slice_get (program_view here.now.program.now).functions here.now.function) values.now (state_view state.old)) }
+{
+    match function_at(here.program, here.function) {
+        None => Ok(UNDEFINED),
+        Some(function) => {
+            if !enter(state) {
+                return Ok(Evaluated::Ends(Ending::Turns));
+            }
+            let first = state.memory.len();
+            bind(alloc, here, function, values, state)?;
+            let outcome = execute_statements(alloc, here, &function.body, state)?;
+            let closed = at_close(alloc, here, function.close, outcome, state)?;
+            let value = handed_back(here.function == here.program.main, closed);
+            forget(first, value, state);
+            Ok(value)
+        }
+    }
+}

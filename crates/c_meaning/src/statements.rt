@@ -1,0 +1,699 @@
+//! Statements, as they are executed (ISO/IEC 9899:2011, 6.8).
+
+ghost use Rattle.std.specs.Prelude.{◌≡◌, ◌+◌, ◌<◌, ◌^◌, IfOk, length, map, option_map};
+ghost use Rattle.c_tree.specs.TypedExpressions.{rvalue_view};
+ghost use Rattle.c_tree.specs.TypedStatements.{Return, Switch, statement_view, statements_view, declared_view, start_view, step_view};
+ghost use Rattle.c_meaning.specs.Views.{activation_view, begins, checks, declares, declares_all, evaluated_view, executes, executes_all, executes_case, executes_default, initialises_elements, outcome_view, round_view, runs, state_view, steps, tested_view, tests_at, values_at};
+ghost use Rattle.c_meaning.specs.States as states;
+ghost use Rattle.c_meaning.specs.Statements.{after_body, after_switch, do_round, for_round, has_case, loop, then_do, while_round};
+
+use crate::activation::Activation;
+use crate::event::Ending;
+use crate::execution::evaluate;
+use crate::joints::{effect, tested};
+use crate::lifetimes::{close, initialise, initialise_by_literal, make, store_element};
+use crate::place::number_at;
+use crate::state::{Evaluated, Outcome, State, Tested};
+use crate::value::{Phase, Value};
+use c_tree::{Declared, Initial, Rvalue, TypedStart, TypedStatement, TypedStatements, TypedStep};
+use debug_records::source::Spot;
+use std::alloc::{AllocError, Global};
+
+/// What an expression of the place at a spot comes to.
+#[cycle(run)]
+fn value_at(
+    alloc: Global,
+    here: &Activation,
+    spot: Spot,
+    e: &Rvalue,
+    state: &mut State,
+) -> Result<Evaluated, AllocError>
+    ensures { IfOk result (λ v. evaluated_view v (state_view state.new) ≡ values_at here.now spot (rvalue_view e.now) (state_view state.old)) }
+{
+    let value = evaluate(alloc, here, number_at(here.places, spot.at), e, state)?;
+    Ok(value)
+}
+
+/// Whether the condition of the place at a spot holds.
+#[cycle(run)]
+fn test_at(
+    alloc: Global,
+    here: &Activation,
+    spot: Spot,
+    e: &Rvalue,
+    state: &mut State,
+) -> Result<Tested, AllocError>
+    ensures { IfOk result (λ t. tested_view t (state_view state.new) ≡ tests_at here.now spot (rvalue_view e.now) (state_view state.old)) }
+{
+    let value = value_at(alloc, here, spot, e, state)?;
+    Ok(tested(value, state))
+}
+
+/// A condition that may be left out.
+#[cycle(run)]
+fn check(
+    alloc: Global,
+    here: &Activation,
+    spot: Spot,
+    condition: &Option<Rvalue>,
+    state: &mut State,
+) -> Result<Tested, AllocError>
+    ensures { IfOk result (λ t. tested_view t (state_view state.new) ≡ checks here.now spot (option_map rvalue_view condition.now) (state_view state.old)) }
+{
+    match condition {
+        None => Ok(Tested::Holds),
+        Some(e) => {
+            let test = test_at(alloc, here, spot, e, state)?;
+            Ok(test)
+        }
+    }
+}
+
+/// An expression whose value is not used, as a place of its own.
+#[cycle(run)]
+fn run(
+    alloc: Global,
+    here: &Activation,
+    spot: Spot,
+    e: &Rvalue,
+    state: &mut State,
+) -> Result<Outcome, AllocError>
+    ensures { IfOk result (λ o. outcome_view o (state_view state.new) ≡ runs here.now spot (rvalue_view e.now) (state_view state.old)) }
+{
+    if !here.begin(alloc, spot, state)? {
+        return Ok(Outcome::Ended(Ending::Turns));
+    }
+    let value = value_at(alloc, here, spot, e, state)?;
+    Ok(effect(value))
+}
+
+/// The third part of a `for`.
+#[cycle(run)]
+fn run_step(
+    alloc: Global,
+    here: &Activation,
+    part: &Option<TypedStep>,
+    state: &mut State,
+) -> Result<Outcome, AllocError>
+    ensures { IfOk result (λ o. outcome_view o (state_view state.new) ≡ steps here.now (option_map step_view part.now) (state_view state.old)) }
+{
+    match part {
+        None => Ok(Outcome::Next),
+        Some(part) => {
+            let outcome = run(alloc, here, part.spot, &part.value, state)?;
+            Ok(outcome)
+        }
+    }
+}
+
+/// The first part of a `for`.
+#[cycle(run)]
+fn begin_loop(
+    alloc: Global,
+    here: &Activation,
+    start: &TypedStart,
+    state: &mut State,
+) -> Result<Outcome, AllocError>
+    ensures { IfOk result (λ o. outcome_view o (state_view state.new) ≡ begins here.now (start_view start.now) (state_view state.old)) }
+{
+    match start {
+        TypedStart::Nothing => Ok(Outcome::Next),
+        TypedStart::Expression { spot, value } => {
+            let outcome = run(alloc, here, *spot, value, state)?;
+            Ok(outcome)
+        }
+        TypedStart::Declaration(all) => {
+            let outcome = declare_all(alloc, here, all, state)?;
+            Ok(outcome)
+        }
+    }
+}
+
+/// Declarators in order.
+#[cycle(run)]
+fn declare_all(
+    alloc: Global,
+    here: &Activation,
+    all: &[Declared],
+    state: &mut State,
+) -> Result<Outcome, AllocError>
+    ensures { IfOk result (λ o. outcome_view o (state_view state.new) ≡ declares_all here.now (map declared_view all.now) (state_view state.old)) }
+{
+    match all.split_first() {
+        None => Ok(Outcome::Next),
+        Some((first, rest)) => match declare(alloc, here, first, state)? {
+            Outcome::Next => {
+                let outcome = declare_all(alloc, here, rest, state)?;
+                Ok(outcome)
+            }
+            outcome => Ok(outcome),
+        },
+    }
+}
+
+/// A declarator.
+#[cycle(run)]
+fn declare(
+    alloc: Global,
+    here: &Activation,
+    d: &Declared,
+    state: &mut State,
+) -> Result<Outcome, AllocError>
+    ensures { IfOk result (λ o. outcome_view o (state_view state.new) ≡ declares here.now (declared_view d.now) (state_view state.old)) }
+{
+    if !here.begin(alloc, d.spot, state)? {
+        return Ok(Outcome::Ended(Ending::Turns));
+    }
+    let object = state.memory.len();
+    match &d.initial {
+        Initial::Zero => {
+            make(alloc, here, Phase::Live, d.variable as usize, state)?;
+            Ok(Outcome::Next)
+        }
+        Initial::Scalar(e) => {
+            make(alloc, here, Phase::Initialising, d.variable as usize, state)?;
+            match value_at(alloc, here, d.spot, e, state)? {
+                Evaluated::Gives(value) => {
+                    initialise(object, value, state);
+                    Ok(Outcome::Next)
+                }
+                Evaluated::Leaves => Ok(Outcome::Ended(Ending::Undefined)),
+                Evaluated::Ends(ending) => Ok(Outcome::Ended(ending)),
+            }
+        }
+        Initial::Elements(all) => {
+            make(alloc, here, Phase::Live, d.variable as usize, state)?;
+            let outcome = initialise_elements(alloc, here, d.spot, object, 0, all, state)?;
+            Ok(outcome)
+        }
+        Initial::Literal(number) => {
+            make(alloc, here, Phase::Live, d.variable as usize, state)?;
+            initialise_by_literal(&here.program.array_literals, *number, object, state);
+            Ok(Outcome::Next)
+        }
+    }
+}
+
+/// Elements of an array from an index on.
+#[cycle(run)]
+fn initialise_elements(
+    alloc: Global,
+    here: &Activation,
+    spot: Spot,
+    object: usize,
+    index: usize,
+    all: &[Rvalue],
+    state: &mut State,
+) -> Result<Outcome, AllocError>
+    requires { index + length all.now < 2 ^ 64 }
+    ensures { IfOk result (λ o. outcome_view o (state_view state.new) ≡ initialises_elements here.now spot object index (map rvalue_view all.now) (state_view state.old)) }
+{
+    match all.split_first() {
+        None => Ok(Outcome::Next),
+        Some((first, rest)) => match value_at(alloc, here, spot, first, state)? {
+            Evaluated::Gives(value) => {
+                store_element(object, index, value, state);
+                let outcome = initialise_elements(
+                    alloc,
+                    here,
+                    spot,
+                    object,
+                    index + 1,
+                    rest,
+                    state,
+                )?;
+                Ok(outcome)
+            }
+            Evaluated::Leaves => Ok(Outcome::Ended(Ending::Undefined)),
+            Evaluated::Ends(ending) => Ok(Outcome::Ended(ending)),
+        },
+    }
+}
+
+/// What a statement comes to.
+#[cycle(run)]
+fn execute(
+    alloc: Global,
+    here: &Activation,
+    statement: &TypedStatement,
+    state: &mut State,
+) -> Result<Outcome, AllocError>
+    ensures { IfOk result (λ o. outcome_view o (state_view state.new) ≡ executes here.now (statement_view statement.now) (state_view state.old)) }
+{
+    match statement {
+        TypedStatement::Block(all) => {
+            let first = state.memory.len();
+            let outcome = execute_all(alloc, here, all, state)?;
+            close(first, outcome, state);
+            Ok(outcome)
+        }
+        TypedStatement::Declaration(all) => {
+            let outcome = declare_all(alloc, here, all, state)?;
+            Ok(outcome)
+        }
+        TypedStatement::Empty(spot) => {
+            if !here.begin(alloc, *spot, state)? {
+                return Ok(Outcome::Ended(Ending::Turns));
+            }
+            Ok(Outcome::Next)
+        }
+        TypedStatement::Expression { spot, value } => {
+            let outcome = run(alloc, here, *spot, value, state)?;
+            Ok(outcome)
+        }
+        TypedStatement::If {
+            spot,
+            condition,
+            then,
+        } => {
+            if !here.begin(alloc, *spot, state)? {
+                return Ok(Outcome::Ended(Ending::Turns));
+            }
+            match test_at(alloc, here, *spot, condition, state)? {
+                Tested::Holds => {
+                    let outcome = execute(alloc, here, then, state)?;
+                    Ok(outcome)
+                }
+                Tested::Fails => Ok(Outcome::Next),
+                Tested::NoTest(ending) => Ok(Outcome::Ended(ending)),
+            }
+        }
+        TypedStatement::IfElse {
+            spot,
+            condition,
+            then,
+            otherwise,
+        } => {
+            if !here.begin(alloc, *spot, state)? {
+                return Ok(Outcome::Ended(Ending::Turns));
+            }
+            match test_at(alloc, here, *spot, condition, state)? {
+                Tested::Holds => {
+                    let outcome = execute(alloc, here, then, state)?;
+                    Ok(outcome)
+                }
+                Tested::Fails => {
+                    let outcome = execute(alloc, here, otherwise, state)?;
+                    Ok(outcome)
+                }
+                Tested::NoTest(ending) => Ok(Outcome::Ended(ending)),
+            }
+        }
+        TypedStatement::While {
+            spot,
+            condition,
+            body,
+        } => {
+            let outcome = execute_while(alloc, here, *spot, condition, body, state)?;
+            Ok(outcome)
+        }
+        TypedStatement::DoWhile {
+            body,
+            spot,
+            condition,
+        } => {
+            let outcome = execute_do(alloc, here, *spot, condition, body, state)?;
+            Ok(outcome)
+        }
+        TypedStatement::For {
+            start,
+            spot,
+            condition,
+            step,
+            body,
+        } => {
+            let first = state.memory.len();
+            let outcome = match begin_loop(alloc, here, start, state)? {
+                Outcome::Next => execute_for(alloc, here, *spot, condition, step, body, state)?,
+                outcome => outcome,
+            };
+            close(first, outcome, state);
+            Ok(outcome)
+        }
+        TypedStatement::Switch { spot, value, body } => {
+            let outcome = execute_switch(alloc, here, *spot, value, body, state)?;
+            Ok(outcome)
+        }
+        TypedStatement::Break(spot) => {
+            if !here.begin(alloc, *spot, state)? {
+                return Ok(Outcome::Ended(Ending::Turns));
+            }
+            Ok(Outcome::Broken)
+        }
+        TypedStatement::Continue(spot) => {
+            if !here.begin(alloc, *spot, state)? {
+                return Ok(Outcome::Ended(Ending::Turns));
+            }
+            Ok(Outcome::Continued)
+        }
+        TypedStatement::Return { spot, value } => {
+            let outcome = execute_return(alloc, here, *spot, value, state)?;
+            Ok(outcome)
+        }
+    }
+}
+
+/// Statements in order, through labels.
+#[cycle(run)]
+pub fn execute_all(
+    alloc: Global,
+    here: &Activation,
+    all: &TypedStatements,
+    state: &mut State,
+) -> Result<Outcome, AllocError>
+    ensures { IfOk result (λ o. outcome_view o (state_view state.new) ≡ executes_all here.now (statements_view all.now) (state_view state.old)) }
+{
+    match all {
+        TypedStatements::End => Ok(Outcome::Next),
+        TypedStatements::More(first, rest) => match execute(alloc, here, first, state)? {
+            Outcome::Next => {
+                let outcome = execute_all(alloc, here, rest, state)?;
+                Ok(outcome)
+            }
+            outcome => Ok(outcome),
+        },
+        TypedStatements::Case(_, rest) | TypedStatements::Default(rest) => {
+            let outcome = execute_all(alloc, here, rest, state)?;
+            Ok(outcome)
+        }
+    }
+}
+
+/// The statements from the label of a number on.
+#[cycle(run)]
+fn execute_case(
+    alloc: Global,
+    here: &Activation,
+    number: i64,
+    all: &TypedStatements,
+    state: &mut State,
+) -> Result<Outcome, AllocError>
+    ensures { IfOk result (λ o. outcome_view o (state_view state.new) ≡ executes_case here.now number (statements_view all.now) (state_view state.old)) }
+{
+    match all {
+        TypedStatements::End => Ok(Outcome::Next),
+        TypedStatements::Case(label, rest) => {
+            if number == *label {
+                let outcome = execute_all(alloc, here, rest, state)?;
+                Ok(outcome)
+            } else {
+                let outcome = execute_case(alloc, here, number, rest, state)?;
+                Ok(outcome)
+            }
+        }
+        TypedStatements::More(_, rest) | TypedStatements::Default(rest) => {
+            let outcome = execute_case(alloc, here, number, rest, state)?;
+            Ok(outcome)
+        }
+    }
+}
+
+/// The statements from `default` on.
+#[cycle(run)]
+fn execute_default(
+    alloc: Global,
+    here: &Activation,
+    all: &TypedStatements,
+    state: &mut State,
+) -> Result<Outcome, AllocError>
+    ensures { IfOk result (λ o. outcome_view o (state_view state.new) ≡ executes_default here.now (statements_view all.now) (state_view state.old)) }
+{
+    match all {
+        TypedStatements::End => Ok(Outcome::Next),
+        TypedStatements::Default(rest) => {
+            let outcome = execute_all(alloc, here, rest, state)?;
+            Ok(outcome)
+        }
+        TypedStatements::More(_, rest) | TypedStatements::Case(_, rest) => {
+            let outcome = execute_default(alloc, here, rest, state)?;
+            Ok(outcome)
+        }
+    }
+}
+
+/// Whether a switch's block has a label for a number.
+fn has_case(number: i64, all: &TypedStatements) -> bool
+    ensures { result ≡ has_case number (statements_view all.now) }
+{
+    match all {
+        TypedStatements::End => false,
+        TypedStatements::Case(label, rest) => number == *label || has_case(number, rest),
+        TypedStatements::More(_, rest) | TypedStatements::Default(rest) => has_case(number, rest),
+    }
+}
+
+/// A `switch`.
+#[cycle(run)]
+fn execute_switch(
+    alloc: Global,
+    here: &Activation,
+    spot: Spot,
+    value: &Rvalue,
+    body: &TypedStatements,
+    state: &mut State,
+) -> Result<Outcome, AllocError>
+    ensures { IfOk result (λ o. outcome_view o (state_view state.new) ≡ executes here.now (Switch spot (rvalue_view value.now) (statements_view body.now)) (state_view state.old)) }
+{
+    if !here.begin(alloc, spot, state)? {
+        return Ok(Outcome::Ended(Ending::Turns));
+    }
+    match value_at(alloc, here, spot, value, state)? {
+        Evaluated::Gives(Value::Number(number)) => {
+            if has_case(number, body) {
+                let outcome = execute_case(alloc, here, number, body, state)?;
+                Ok(left_switch(outcome))
+            } else {
+                let outcome = execute_default(alloc, here, body, state)?;
+                Ok(left_switch(outcome))
+            }
+        }
+        Evaluated::Gives(_) | Evaluated::Leaves => Ok(Outcome::Ended(Ending::Undefined)),
+        Evaluated::Ends(ending) => Ok(Outcome::Ended(ending)),
+    }
+}
+
+/// What leaves a `switch`.
+fn left_switch(outcome: Outcome) -> Outcome
+    ensures { (s : states.State) → outcome_view result s ≡ after_switch (outcome_view outcome s) }
+{
+    match outcome {
+        Outcome::Broken => Outcome::Next,
+        outcome => outcome,
+    }
+}
+
+/// A `return`.
+#[cycle(run)]
+fn execute_return(
+    alloc: Global,
+    here: &Activation,
+    spot: Spot,
+    value: &Option<Rvalue>,
+    state: &mut State,
+) -> Result<Outcome, AllocError>
+    ensures { IfOk result (λ o. outcome_view o (state_view state.new) ≡ executes here.now (Return spot (option_map rvalue_view value.now)) (state_view state.old)) }
+{
+    if !here.begin(alloc, spot, state)? {
+        return Ok(Outcome::Ended(Ending::Turns));
+    }
+    match value {
+        None => Ok(Outcome::Returned(None)),
+        Some(e) => match value_at(alloc, here, spot, e, state)? {
+            Evaluated::Gives(value) => Ok(Outcome::Returned(Some(value))),
+            Evaluated::Leaves => Ok(Outcome::Ended(Ending::Undefined)),
+            Evaluated::Ends(ending) => Ok(Outcome::Ended(ending)),
+        },
+    }
+}
+
+/// How a round of a loop ends.
+#[derive(Clone, Copy, Debug, PartialEq, Eq)]
+pub enum Round {
+    /// The next round follows.
+    Again,
+    /// The loop is left.
+    Leave(Outcome),
+}
+
+/// How a loop goes on behind its body.
+fn behind_body(outcome: Outcome) -> Round
+    ensures { (again : states.State → states.Outcome) (s : states.State) → round_view result again s ≡ after_body (outcome_view outcome s) again }
+{
+    match outcome {
+        Outcome::Next | Outcome::Continued => Round::Again,
+        Outcome::Broken => Round::Leave(Outcome::Next),
+        Outcome::Returned(value) => Round::Leave(Outcome::Returned(value)),
+        Outcome::Ended(ending) => Round::Leave(Outcome::Ended(ending)),
+    }
+}
+
+/// A `while`.
+#[cycle(run)]
+#[tactic(auto, using(crate::proofs::Rounds::rounds_step))]
+fn execute_while(
+    alloc: Global,
+    here: &Activation,
+    spot: Spot,
+    condition: &Rvalue,
+    body: &TypedStatement,
+    state: &mut State,
+) -> Result<Outcome, AllocError>
+    ensures { IfOk result (λ o. outcome_view o (state_view state.new) ≡ loop (while_round (activation_view here.now) spot (tests_at here.now spot (rvalue_view condition.now)) (executes here.now (statement_view body.now))) (state_view state.old)) }
+{
+    let mut rest = state.turns;
+    while rest > 0 {
+        rest -= 1;
+        let round = while_round(alloc, here, spot, condition, body, state)?;
+        match round {
+            Round::Again => {}
+            Round::Leave(outcome) => return Ok(outcome),
+        }
+    }
+    Ok(Outcome::Ended(Ending::Turns))
+}
+
+/// A round of `while`.
+#[cycle(run)]
+fn while_round(
+    alloc: Global,
+    here: &Activation,
+    spot: Spot,
+    condition: &Rvalue,
+    body: &TypedStatement,
+    state: &mut State,
+) -> Result<Round, AllocError>
+    ensures { IfOk result (λ r. (again : states.State → states.Outcome) → round_view r again (state_view state.new) ≡ while_round (activation_view here.now) spot (tests_at here.now spot (rvalue_view condition.now)) (executes here.now (statement_view body.now)) again (state_view state.old)) }
+{
+    if !here.begin(alloc, spot, state)? {
+        return Ok(Round::Leave(Outcome::Ended(Ending::Turns)));
+    }
+    match test_at(alloc, here, spot, condition, state)? {
+        Tested::Holds => {
+            let outcome = execute(alloc, here, body, state)?;
+            Ok(behind_body(outcome))
+        }
+        Tested::Fails => Ok(Round::Leave(Outcome::Next)),
+        Tested::NoTest(ending) => Ok(Round::Leave(Outcome::Ended(ending))),
+    }
+}
+
+/// A `do`.
+#[cycle(run)]
+#[tactic(auto, using(crate::proofs::Rounds::rounds_step))]
+fn execute_do(
+    alloc: Global,
+    here: &Activation,
+    spot: Spot,
+    condition: &Rvalue,
+    body: &TypedStatement,
+    state: &mut State,
+) -> Result<Outcome, AllocError>
+    ensures { IfOk result (λ o. outcome_view o (state_view state.new) ≡ loop (do_round (activation_view here.now) spot (tests_at here.now spot (rvalue_view condition.now)) (executes here.now (statement_view body.now))) (state_view state.old)) }
+{
+    let mut rest = state.turns;
+    while rest > 0 {
+        rest -= 1;
+        let round = do_round(alloc, here, spot, condition, body, state)?;
+        match round {
+            Round::Again => {}
+            Round::Leave(outcome) => return Ok(outcome),
+        }
+    }
+    Ok(Outcome::Ended(Ending::Turns))
+}
+
+/// A round of `do`.
+#[cycle(run)]
+fn do_round(
+    alloc: Global,
+    here: &Activation,
+    spot: Spot,
+    condition: &Rvalue,
+    body: &TypedStatement,
+    state: &mut State,
+) -> Result<Round, AllocError>
+    ensures { IfOk result (λ r. (again : states.State → states.Outcome) → round_view r again (state_view state.new) ≡ do_round (activation_view here.now) spot (tests_at here.now spot (rvalue_view condition.now)) (executes here.now (statement_view body.now)) again (state_view state.old)) }
+{
+    let outcome = execute(alloc, here, body, state)?;
+    match behind_body(outcome) {
+        Round::Leave(outcome) => Ok(Round::Leave(outcome)),
+        Round::Again => {
+            if !here.begin(alloc, spot, state)? {
+                return Ok(Round::Leave(Outcome::Ended(Ending::Turns)));
+            }
+            match test_at(alloc, here, spot, condition, state)? {
+                Tested::Holds => Ok(Round::Again),
+                Tested::Fails => Ok(Round::Leave(Outcome::Next)),
+                Tested::NoTest(ending) => Ok(Round::Leave(Outcome::Ended(ending))),
+            }
+        }
+    }
+}
+
+/// A `for`.
+#[cycle(run)]
+#[tactic(auto, using(crate::proofs::Rounds::rounds_step))]
+fn execute_for(
+    alloc: Global,
+    here: &Activation,
+    spot: Spot,
+    condition: &Option<Rvalue>,
+    part: &Option<TypedStep>,
+    body: &TypedStatement,
+    state: &mut State,
+) -> Result<Outcome, AllocError>
+    ensures { IfOk result (λ o. outcome_view o (state_view state.new) ≡ loop (for_round (activation_view here.now) spot (checks here.now spot (option_map rvalue_view condition.now)) (executes here.now (statement_view body.now)) (steps here.now (option_map step_view part.now))) (state_view state.old)) }
+{
+    let mut rest = state.turns;
+    while rest > 0 {
+        rest -= 1;
+        let round = for_round(alloc, here, spot, condition, part, body, state)?;
+        match round {
+            Round::Again => {}
+            Round::Leave(outcome) => return Ok(outcome),
+        }
+    }
+    Ok(Outcome::Ended(Ending::Turns))
+}
+
+/// A round of `for`.
+#[cycle(run)]
+fn for_round(
+    alloc: Global,
+    here: &Activation,
+    spot: Spot,
+    condition: &Option<Rvalue>,
+    part: &Option<TypedStep>,
+    body: &TypedStatement,
+    state: &mut State,
+) -> Result<Round, AllocError>
+    ensures { IfOk result (λ r. (again : states.State → states.Outcome) → round_view r again (state_view state.new) ≡ for_round (activation_view here.now) spot (checks here.now spot (option_map rvalue_view condition.now)) (executes here.now (statement_view body.now)) (steps here.now (option_map step_view part.now)) again (state_view state.old)) }
+{
+    if !here.begin(alloc, spot, state)? {
+        return Ok(Round::Leave(Outcome::Ended(Ending::Turns)));
+    }
+    match check(alloc, here, spot, condition, state)? {
+        Tested::Holds => {
+            let outcome = execute(alloc, here, body, state)?;
+            match behind_body(outcome) {
+                Round::Leave(outcome) => Ok(Round::Leave(outcome)),
+                Round::Again => {
+                    let outcome = run_step(alloc, here, part, state)?;
+                    Ok(behind_step(outcome))
+                }
+            }
+        }
+        Tested::Fails => Ok(Round::Leave(Outcome::Next)),
+        Tested::NoTest(ending) => Ok(Round::Leave(Outcome::Ended(ending))),
+    }
+}
+
+/// How a loop goes on behind its step.
+fn behind_step(outcome: Outcome) -> Round
+    ensures { (again : states.State → states.Outcome) (s : states.State) → round_view result again s ≡ then_do (outcome_view outcome s) again }
+{
+    match outcome {
+        Outcome::Next => Round::Again,
+        outcome => Round::Leave(outcome),
+    }
+}
