@@ -5,7 +5,7 @@ use Rattle.c_tree.specs.Programs.{ProgramTree, TypedFunctionTree}
 use Rattle.c_meaning.specs.Weights.{weight_of_statements, heaviest}
 use Rattle.c_meaning.specs.declared.value.Value.{Value}
 use Rattle.c_meaning.specs.declared.event.Frame.{Frame}
-use Rattle.c_meaning.specs.Places.{Place}
+use Rattle.c_places.specs.Places.{Place}
 use Rattle.c_meaning.specs.declared.state.Outcome as declared-outcome
 use Rattle.c_meaning.specs.declared.state.Outcome.TheVariants as outcome
 use Rattle.c_meaning.specs.Views.{outcome_view}

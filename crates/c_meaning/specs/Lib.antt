@@ -1,7 +1,6 @@
 pub mod Types
 pub mod Memory
 pub mod Operations
-pub mod Places
 pub mod States
 pub mod Expressions
 pub mod Statements

@@ -17,7 +17,7 @@ use Rattle.c_meaning.specs.declared.event.Ending.{Ending}
 use Rattle.c_meaning.specs.declared.event.Ending.TheVariants.{Undefined, Exit, Depth, Turns}
 use Rattle.c_meaning.specs.Types.{integer, integer_size, scalar_size, element_of, count_of}
 use Rattle.c_meaning.specs.Memory.{Object, Memory, with_value}
-use Rattle.c_meaning.specs.Places.{Place, places_of_program, numbers_from, parameters_of}
+use Rattle.c_places.specs.Places.{Place, places_of_program, numbers_from, parameters_of}
 use Rattle.c_meaning.specs.States.{Event, Exited, TooDeep, State, Evaluated, Gives, Leaves, Ends, Outcome, Next, Broken, Continued, Returned, Ended}
 use Rattle.c_meaning.specs.Expressions.{Calls}
 use Rattle.c_meaning.specs.Statements.{Activation, objects_of, at, ending_from, execute_all, Begun, Goes, NoTurn}

@@ -14,7 +14,7 @@ use Rattle.c_meaning.specs.declared.value.Phase.TheVariants.{Initialising, Live}
 use Rattle.c_meaning.specs.declared.event.Frame.{Frame}
 use Rattle.c_meaning.specs.declared.event.Ending.TheVariants.{Undefined, Turns}
 use Rattle.c_meaning.specs.Memory.{Object, Memory, new_object, contents, set_value, begun, ended_from}
-use Rattle.c_meaning.specs.Places.{Place, number_at, scope_at, visible}
+use Rattle.c_places.specs.Places.{Place, number_at, scope_at, visible}
 use Rattle.c_meaning.specs.States.{Shown, Stop, State, seen, Evaluated, Outcome, Next, Broken, Continued, Returned, Ended, on_value, on_effect, Tested, Holds, tested, choose}
 use Rattle.c_meaning.specs.Expressions.{Calls, evaluate}
 

@@ -18,7 +18,6 @@ use Rattle.c_meaning.specs.Expressions.{evaluate, designate, evaluate_all}
 use Rattle.c_meaning.specs.declared.statements.Round as declared-round
 use Rattle.c_meaning.specs.declared.statements.Round.TheVariants as round
 use Rattle.debug_records.specs.declared.source.Spot.{Spot}
-use Rattle.c_meaning.specs.declared.place.Place as declared-place
 use Rattle.c_meaning.specs.declared.event.Shown as declared-shown
 use Rattle.c_meaning.specs.declared.event.Event as declared-event
 use Rattle.c_meaning.specs.declared.event.Event.TheVariants as event
@@ -30,7 +29,7 @@ use Rattle.c_meaning.specs.declared.state.Outcome as declared-outcome
 use Rattle.c_meaning.specs.declared.state.Outcome.TheVariants as outcome
 use Rattle.c_meaning.specs.Memory.{Object, Memory}
 use Rattle.c_tree.specs.Programs.{program_view}
-use Rattle.c_meaning.specs.Places.{Place, number_at}
+use Rattle.c_places.specs.Places.{Place, number_at, place_view}
 use Rattle.c_meaning.specs.States.{Shown, Event, Put, Exited, TooDeep, Stop, State, Evaluated, Gives, Leaves, Ends, Outcome, Next, Broken, Continued, Returned, Ended, Both, Pair, NoPair, Tested, Holds, Fails, NoTest, Listed, Lists, NoList}
 use Rattle.c_meaning.specs.Statements.{Activation, Begun, Goes, NoTurn, depth_of, frames_at, shown_at, execute, execute_all, execute_case, execute_default, value_at, test_at, check, run, step, begin_loop, declare_all, declare, initialise_elements}
 use Rattle.c_meaning.specs.Runs.{SourceRun, calls_at}
@@ -54,9 +53,6 @@ event_view (event.Stop s) = Stop s.place s.depth s.frames.items (map shown_view 
 
 abbrev pub state_view : declared-state.State → State
 state_view s = record { memory = map object_view s.memory.items; input = s.input.now; events = map event_view s.events.items; turns = s.turns }
-
-abbrev pub place_view : declared-place.Place → Place
-place_view p = record { spot = p.spot; function = p.function; is_entry = p.is_entry; scope = p.scope.items }
 
 -- what an expression comes to, with the state behind it
 abbrev pub evaluated_view : declared-evaluated.Evaluated → State → Evaluated

@@ -7,7 +7,7 @@ ghost use Rattle.c_meaning.specs.Statements.{begin, depth_of, frames_at, shown_a
 
 use crate::event::{Event, Frame, Shown, Stop};
 use crate::memory::{Object, Owner, object_of};
-use crate::place::{Place, number_at, scope_at, visible};
+use c_places::{Place, number_at, scope_at, visible};
 use crate::state::State;
 use crate::value::Value;
 use c_tree::Program;
@@ -98,7 +98,7 @@ impl<'a> Activation<'a> {
             let values = contents(
                 alloc,
                 Owner::Variable {
-                    variable: variable as usize,
+                    variable,
                     depth,
                 },
                 memory,

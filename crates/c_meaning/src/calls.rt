@@ -4,7 +4,7 @@ ghost use Rattle.std.specs.Prelude.{◌≡◌, ◌+◌, ◌<◌, ◌^◌, OnOk, 
 ghost use Rattle.c_tree.specs.Programs.{function_view, program_view};
 ghost use Rattle.c_meaning.specs.Views.{activation_view, entered_view, evaluated_view, object_view, outcome_view, state_view};
 ghost use Rattle.c_meaning.specs.States as states;
-ghost use Rattle.c_meaning.specs.Places.{numbers_from, parameters_of};
+ghost use Rattle.c_places.specs.Places.{numbers_from, parameters_of};
 ghost use Rattle.c_meaning.specs.Runs.{at_close, bind, bind_one, enter_turn, handed_back};
 
 use crate::activation::Activation;

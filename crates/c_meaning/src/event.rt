@@ -13,7 +13,7 @@ pub struct Frame {
 /// A visible variable by its number, and the values that it holds.
 #[derive(Drop)]
 pub struct Shown {
-    pub variable: u32,
+    pub variable: usize,
     pub values: Vec<Value>,
 }
 

@@ -3,7 +3,8 @@
 ghost use Rattle.std.specs.Prelude.{◌≡◌, IfOk, map, slice_get};
 ghost use Rattle.c_tree.specs.Programs.{program_view};
 ghost use Rattle.c_tree.specs.TypedExpressions.{rvalue_view, lvalue_view, arguments_view};
-ghost use Rattle.c_meaning.specs.Views.{activation_view, behind, both_view, designates, evaluated_view, evaluates, evaluates_all, listed_view, place_view, state_view, tested_view};
+ghost use Rattle.c_meaning.specs.Views.{activation_view, behind, both_view, designates, evaluated_view, evaluates, evaluates_all, listed_view, state_view, tested_view};
+ghost use Rattle.c_places.specs.Places.{place_view};
 ghost use Rattle.c_meaning.specs.States.{both, tested};
 ghost use Rattle.c_meaning.specs.Expressions.{call, located};
 ghost use Rattle.c_meaning.specs.Runs.{activate, calls_at, calls_of};
@@ -17,7 +18,7 @@ use crate::joints::{
     sign_from, step, step_pointer, tested, truth_of, update, update_pointer, usable_from,
 };
 use crate::lifetimes::forget;
-use crate::place::Place;
+use c_places::Place;
 use crate::state::{Evaluated, Operands, State, Tested};
 use crate::statements::execute_all as execute_statements;
 use crate::steps::{given, leave, named, next_byte, put};

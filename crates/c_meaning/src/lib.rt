@@ -11,7 +11,6 @@ mod laws;
 mod lifetimes;
 pub mod memory;
 mod operations;
-pub mod place;
 mod state;
 mod statements;
 mod steps;

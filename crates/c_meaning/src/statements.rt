@@ -12,7 +12,7 @@ use crate::event::Ending;
 use crate::execution::evaluate;
 use crate::joints::{effect, tested};
 use crate::lifetimes::{close, initialise, initialise_by_literal, make, store_element};
-use crate::place::number_at;
+use c_places::number_at;
 use crate::state::{Evaluated, Outcome, State, Tested};
 use crate::value::{Phase, Value};
 use c_tree::{Declared, Initial, Rvalue, TypedStart, TypedStatement, TypedStatements, TypedStep};

@@ -2,8 +2,8 @@
 
 ghost use Rattle.std.specs.Prelude.{◌≡◌, IfOk, map, string_bytes};
 ghost use Rattle.c_tree.specs.Programs.{automatic_view};
-ghost use Rattle.c_meaning.specs.Views.{place_view};
-ghost use Rattle.c_meaning.specs.Places.{count_before, is_hidden, is_same_name, name_of, number_at, scope_at, visible};
+ghost use Rattle.c_places.specs.Places.{place_view};
+ghost use Rattle.c_places.specs.Places.{count_before, is_hidden, is_same_name, name_of, number_at, scope_at, visible};
 
 use c_tree::AutomaticVariable;
 use debug_records::source::Spot;
@@ -14,11 +14,11 @@ use std::alloc::{AllocError, Global};
 pub struct Place {
     pub spot: Spot,
     /// The number of its function.
-    pub function: u32,
+    pub function: usize,
     /// An entry is no stop.
     pub is_entry: bool,
     /// The automatic variables in scope there, by position.
-    pub scope: Vec<u32>,
+    pub scope: Vec<usize>,
 }
 
 /// The number of the place at a position.
@@ -35,7 +35,7 @@ pub fn number_at(places: &[Place], at: u32) -> usize
 }
 
 /// The variables in scope at the place at a position.
-pub fn scope_at(places: &[Place], at: u32) -> &[u32]
+pub fn scope_at(places: &[Place], at: u32) -> &[usize]
     ensures { result.now ≡ scope_at (map place_view places.now) at }
 {
     for place in places {
@@ -47,10 +47,10 @@ pub fn scope_at(places: &[Place], at: u32) -> &[u32]
 }
 
 /// The name of an automatic variable; nothing where there is none of that number.
-fn name_of(automatics: &[AutomaticVariable], variable: u32) -> &[u8]
+fn name_of(automatics: &[AutomaticVariable], variable: usize) -> &[u8]
     ensures { result.now ≡ name_of (map automatic_view automatics.now) variable }
 {
-    match automatics.get(variable as usize) {
+    match automatics.get(variable) {
         None => &[],
         Some(found) => found.name.as_bytes(),
     }
@@ -73,7 +73,7 @@ fn is_same_name(one: &[u8], other: &[u8]) -> bool
 }
 
 /// Whether a variable is hidden by one of others.
-fn is_hidden(automatics: &[AutomaticVariable], variable: u32, later: &[u32]) -> bool
+fn is_hidden(automatics: &[AutomaticVariable], variable: usize, later: &[usize]) -> bool
     ensures { result ≡ is_hidden (map automatic_view automatics.now) variable later.now }
 {
     for other in later {
@@ -88,8 +88,8 @@ fn is_hidden(automatics: &[AutomaticVariable], variable: u32, later: &[u32]) -> 
 pub fn visible(
     alloc: Global,
     automatics: &[AutomaticVariable],
-    scope: &[u32],
-) -> Result<Vec<u32>, AllocError>
+    scope: &[usize],
+) -> Result<Vec<usize>, AllocError>
     ensures { IfOk result (λ v. v.items ≡ visible (map automatic_view automatics.now) scope.now) }
 {
     let mut found = Vec::new(alloc);

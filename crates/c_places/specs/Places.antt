@@ -6,6 +6,7 @@ use Rattle.c_tree.specs.TypedExpressions.{RvalueTree}
 use Rattle.c_tree.specs.TypedStatements.{DeclaredTree, TypedStartTree, Nothing, Value, Declares, StepTree, TypedStatementTree, Block, Declaration, Empty, Run, If, IfElse, While, DoWhile, For, Switch, Break, Continue, Return, TypedStatementTrees, none, first, case, default}
 use Rattle.c_tree.specs.Programs.{AutomaticTree, TypedFunctionTree, ProgramTree}
 use Rattle.c_type_limits.specs.Flow.{reaches_end}
+use Rattle.c_places.specs.declared.place.Place as declared-place
 
 -- A place: where it stands, in which function, whether it is the function's entry, which is no stop, and the automatic variables in scope there, by position.
 pub record Place : Type 0 where
@@ -13,6 +14,10 @@ pub record Place : Type 0 where
   pub function : ℕ
   pub is_entry : Bool
   pub scope : List ℕ
+
+-- a place of the code, as contracts see it
+abbrev pub place_view : declared-place.Place → Place
+place_view p = record { spot = p.spot; function = p.function; is_entry = p.is_entry; scope = p.scope.items }
 
 -- the numbers from a first one on
 abbrev pub numbers_from : ℕ → (count : ℕ) → List ℕ

@@ -1,7 +1,7 @@
 use Rattle.std.proofs.Common.{◌≡◌, map, drop}
 use Rattle.c_tree.specs.Programs.{automatic_view}
-use Rattle.c_meaning.specs.Places.{is_hidden}
-use Rattle.c_meaning.proofs.place.is_hidden.Given as goal
+use Rattle.c_places.specs.Places.{is_hidden}
+use Rattle.c_places.proofs.place.is_hidden.Given as goal
 
 abbrev pub invariant-loop-other : goal.invariant-loop-other
 invariant-loop-other l =

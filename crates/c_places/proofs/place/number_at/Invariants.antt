@@ -1,7 +1,7 @@
 use Rattle.std.proofs.Common.{◌≡◌, ◌+◌, ◌≤◌, map, drop}
-use Rattle.c_meaning.specs.Views.{place_view}
-use Rattle.c_meaning.specs.Places.{count_before}
-use Rattle.c_meaning.proofs.place.number_at.Given as goal
+use Rattle.c_places.specs.Places.{place_view}
+use Rattle.c_places.specs.Places.{count_before}
+use Rattle.c_places.proofs.place.number_at.Given as goal
 
 abbrev pub invariant-loop-place : goal.invariant-loop-place
 invariant-loop-place l = record {

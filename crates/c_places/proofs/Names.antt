@@ -1,7 +1,7 @@
 -- Names that differ.
 use Rattle.std.proofs.Common.{◌≡◌, ◌≢◌, ℕ, suc, false, Bool, List, [], ◌∷◌, length, refl, ap, arith}
 use Rattle.std.specs.Prelude.{◌==◌, ◌&&◌}
-use Rattle.c_meaning.specs.Places.{is_same_name}
+use Rattle.c_places.specs.Places.{is_same_name}
 
 -- a test and one that fails
 both_fail : (b c : Bool) → false ≡ c → false ≡ (b && c)
