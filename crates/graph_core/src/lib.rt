@@ -1,0 +1,19 @@
+//! The graphs between a program's tree and its code: what they are, and what they do.
+#![tactic(auto)]
+
+mod block;
+mod graph;
+mod home;
+mod instruction;
+mod name;
+mod recipe;
+mod unit;
+mod uses;
+
+pub use block::{Block, Comparison, End};
+pub use graph::{Binding, Graph, MemoryObject};
+pub use home::{Home, Mode};
+pub use instruction::{Callee, Element, Instr, Location};
+pub use name::{Label, Name, Operand};
+pub use recipe::{NoteValue, Recipe};
+pub use unit::{Bytes, Relocation, StaticObject, Unit};
