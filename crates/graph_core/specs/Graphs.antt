@@ -76,7 +76,7 @@ pub data Instruction : Type 0 where
 -- Where control goes from the end of a block.
 pub data End : Type 0 where
   Jump : (block : ℕ) → End
-  Branch : Comparison → (left right : Operand) → (then otherwise : ℕ) → End
+  Branch : Comparison → (left right : Operand) → (if_true if_false : ℕ) → End
   Return : Option Operand → End
 
 -- A basic block: the place in force where it begins, if there is one, its instructions and its end.

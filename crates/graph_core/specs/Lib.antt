@@ -1,2 +1,7 @@
 pub mod Graphs
 pub mod Uses
+pub mod Values
+pub mod Memory
+pub mod Runs
+pub mod Paths
+pub mod Validity

@@ -9,6 +9,7 @@ mod name;
 mod recipe;
 mod unit;
 mod uses;
+mod value;
 
 pub use block::{Block, Comparison, End};
 pub use graph::{Binding, Graph, MemoryObject};
@@ -17,3 +18,4 @@ pub use instruction::{Callee, Element, Instr, Location};
 pub use name::{Label, Name, Operand};
 pub use recipe::{NoteValue, Recipe};
 pub use unit::{Bytes, Relocation, StaticObject, Unit};
+pub use value::{Owner, Shadow, Value};

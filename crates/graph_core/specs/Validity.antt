@@ -1,0 +1,202 @@
+-- Valid units: their numbers name what they have, their counts stay within bounds, and the place that a block keeps is right along each edge into it.
+use Rattle.std.specs.Prelude.{◌≡◌, ◌≢◌, ℕ, zero, suc, ◌+◌, ◌*◌, ◌<◌, ◌≤◌, ◌⊎◌, Bool, true, false, if◌then◌else◌, Option, Some, None, List, [], ◌∷◌, ◌++◌, length, map, slice_get, ⊤}
+use Rattle.std.specs.Option.{option_map_or}
+use Rattle.std.specs.List.{AllByRecursion}
+use Rattle.graph_core.specs.declared.instruction.Callee.{Callee}
+use Rattle.graph_core.specs.declared.instruction.Callee.TheVariants.{Function, Getchar, Putchar, Exit}
+use Rattle.graph_core.specs.declared.graph.MemoryObject.{MemoryObject}
+use Rattle.graph_core.specs.declared.unit.Relocation.{Relocation}
+use Rattle.graph_core.specs.Graphs.{Operand, Name, Constant, StaticAddress, Recipe, Of, Truncated, Operated, NoteValue, Is, Gone, Location, Automatic, Static, At, Instruction, Marker, Note, Move, Operate, Truncate, Same, Address, Load, Store, Zero, CopyWords, Call, End, Jump, Branch, Return, Block, Binding, ToScalar, ToObject, Graph, StaticObject, UnitForm}
+use Rattle.graph_core.specs.Uses.{targets_of}
+use Rattle.graph_core.specs.Values.{size_of}
+use Rattle.graph_core.specs.Memory.{words_of, static_bytes}
+
+-- sums over lists
+abbrev pub total : {A : Type 0} → (A → ℕ) → List A → ℕ
+total count [] = 0
+total count (a ∷ more) = count a + total count more
+
+-- Markers, notes and the ends of blocks are not counted.
+abbrev pub counts : Instruction → ℕ
+counts (Marker p) = 0
+counts (Note x v) = 0
+counts _ = 1
+
+abbrev pub instructions_of : Graph → ℕ
+instructions_of g = total (λ (b : Block). total counts b.instructions) g.blocks
+
+-- the arguments of calls
+abbrev pub arguments_in : Instruction → ℕ
+arguments_in (Call x f all) = length all
+arguments_in _ = 0
+
+abbrev pub arguments_of : Graph → ℕ
+arguments_of g = total (λ (b : Block). total arguments_in b.instructions) g.blocks
+
+-- the places that markers begin, in order
+abbrev pub markers_in : List Instruction → List ℕ
+markers_in [] = []
+markers_in (Marker p ∷ more) = p ∷ markers_in more
+markers_in (_ ∷ more) = markers_in more
+
+abbrev pub markers_of_blocks : List Block → List ℕ
+markers_of_blocks [] = []
+markers_of_blocks (b ∷ more) = markers_in b.instructions ++ markers_of_blocks more
+
+abbrev pub markers_of : List Graph → List ℕ
+markers_of [] = []
+markers_of (g ∷ more) = markers_of_blocks g.blocks ++ markers_of more
+
+-- What an object takes: its bytes rounded up to words, and one word.
+abbrev pub taken_by : (bytes : ℕ) → ℕ
+taken_by bytes = 4 * words_of bytes + 4
+
+abbrev pub taken_by_object : MemoryObject → ℕ
+taken_by_object o = taken_by (o.count * size_of o.element)
+
+-- how deep a recipe is, where an operand is 1 deep
+abbrev pub max : ℕ → ℕ → ℕ
+max zero n = n
+max (suc m) zero = suc m
+max (suc m) (suc n) = suc (max m n)
+
+abbrev pub depth_of : Recipe → ℕ
+depth_of (Of a) = 1
+depth_of (Truncated t r) = 1 + depth_of r
+depth_of (Operated o r s) = 1 + max (depth_of r) (depth_of s)
+
+-- the place in force behind instructions
+abbrev pub place_behind : List Instruction → Option ℕ → Option ℕ
+place_behind [] before = before
+place_behind (Marker p ∷ more) before = place_behind more (Some p)
+place_behind (_ ∷ more) before = place_behind more before
+
+-- the place in force at the end of a block
+abbrev pub place_at_end : Block → Option ℕ
+place_at_end b = place_behind b.instructions b.place
+
+-- A block keeps a place: it begins with a marker, or the place is in force where it begins.
+abbrev pub keeps_place : List Instruction → (in_force kept : Option ℕ) → Type 0
+keeps_place (Marker p ∷ more) place kept = ⊤
+keeps_place _ place kept = place ≡ kept
+
+abbrev pub IsKept : Option ℕ → Option Block → Type 0
+IsKept place None = ⊥
+IsKept place (Some b) = keeps_place b.instructions place b.place
+
+-- there is a function, and it has so many parameters
+abbrev pub HasParameters : Option Graph → (count : ℕ) → Type 0
+HasParameters None n = ⊥
+HasParameters (Some f) n = n ≡ length f.parameters
+
+module _ (u : UnitForm) where
+  -- the number of a static object
+  abbrev pub IsStatic : ℕ → Type 0
+  IsStatic n = n < length u.statics
+
+  abbrev pub AreRelocations : List Relocation → Type 0
+  AreRelocations all = AllByRecursion (λ (r : Relocation). IsStatic r.object) all
+
+  module _ (g : Graph) where
+    -- An operand names a name of its graph, or a static object of its unit.
+    abbrev pub IsOperand : Operand → Type 0
+    IsOperand (Name x) = x < g.names
+    IsOperand (Constant w) = ⊤
+    IsOperand (StaticAddress object offset) = IsStatic object
+
+    abbrev pub AreOperandsOf : Recipe → Type 0
+    AreOperandsOf (Of a) = IsOperand a
+    AreOperandsOf (Truncated t r) = AreOperandsOf r
+    AreOperandsOf (Operated o r s) = AreOperandsOf r × AreOperandsOf s
+
+    -- A note's recipe is at most 4 deep; a change is one of the log.
+    abbrev pub IsNoteValue : NoteValue → Type 0
+    IsNoteValue (Is r) = AreOperandsOf r × (depth_of r ≤ 4)
+    IsNoteValue (Gone change) = (1 ≤ change) × (change ≤ length u.log)
+
+    abbrev pub IsObject : ℕ → Type 0
+    IsObject k = k < length g.objects
+
+    abbrev pub IsLocation : Location → Type 0
+    IsLocation (Automatic object) = IsObject object
+    IsLocation (Static object) = IsStatic object
+    IsLocation (At a) = IsOperand a
+
+    abbrev pub IsTarget : ℕ → Type 0
+    IsTarget x = x < g.names
+
+    abbrev pub IsWanted : Option ℕ → Type 0
+    IsWanted None = ⊤
+    IsWanted (Some x) = IsTarget x
+
+    -- A call has as many arguments as what it calls takes.
+    abbrev pub IsCall : Callee → (arguments : ℕ) → Type 0
+    IsCall (Function f) n = HasParameters (slice_get u.graphs f) n
+    IsCall Getchar n = n ≡ 0
+    IsCall Putchar n = n ≡ 1
+    IsCall Exit n = n ≡ 1
+
+    abbrev pub IsInstruction : Instruction → Type 0
+    IsInstruction (Marker p) = ⊤
+    IsInstruction (Note x v) = (x < length g.scalars) × IsNoteValue v
+    IsInstruction (Move x a) = IsTarget x × IsOperand a
+    IsInstruction (Operate x o a b) = IsTarget x × IsOperand a × IsOperand b
+    IsInstruction (Truncate x t a) = IsTarget x × IsOperand a
+    IsInstruction (Same x a b) = IsTarget x × IsOperand a × IsOperand b
+    IsInstruction (Address x object) = IsTarget x × IsObject object
+    IsInstruction (Load x e l) = IsTarget x × IsLocation l
+    IsInstruction (Store e l a) = IsLocation l × IsOperand a
+    IsInstruction (Zero object words) = IsObject object
+    IsInstruction (CopyWords object bytes words) = IsObject object × (bytes < length u.array_bytes)
+    IsInstruction (Call x f all) = IsWanted x × AllByRecursion IsOperand all × IsCall f (length all)
+
+    abbrev pub AreOperandsOfEnd : End → Type 0
+    AreOperandsOfEnd (Jump l) = ⊤
+    AreOperandsOfEnd (Branch k a b l m) = IsOperand a × IsOperand b
+    AreOperandsOfEnd (Return None) = ⊤
+    AreOperandsOfEnd (Return (Some a)) = IsOperand a
+
+    -- each edge from a block leads to a block of the graph that keeps the place in force
+    abbrev pub AreEdges : Option ℕ → List ℕ → Type 0
+    AreEdges place all = AllByRecursion (λ l. IsKept place (slice_get g.blocks l)) all
+
+    pub record IsBlock (b : Block) : Type 0 where
+      pub instructions : AllByRecursion IsInstruction b.instructions
+      pub operands : AreOperandsOfEnd b.end
+      pub edges : AreEdges (place_at_end b) (targets_of b.end)
+
+    -- a parameter is bound to a scalar or an object of the graph
+    abbrev pub IsBinding : Binding → Type 0
+    IsBinding (ToScalar x) = x < length g.scalars
+    IsBinding (ToObject object) = IsObject object
+
+    pub record IsGraph : Type 0 where
+      pub instructions : instructions_of g ≤ 6000
+      pub names : g.names ≤ 3000
+      pub scalars : length g.scalars ≤ g.moved_from
+      pub temporaries : g.moved_from ≤ g.names
+      pub parameters : length g.parameters ≤ 8
+      pub bindings : AllByRecursion IsBinding g.parameters
+      -- what its objects take
+      pub objects : total taken_by_object g.objects ≤ 4096
+      pub some_block : 1 ≤ length g.blocks
+      pub blocks : AllByRecursion IsBlock g.blocks
+
+  abbrev pub AreAllDifferent : List ℕ → Type 0
+  AreAllDifferent [] = ⊤
+  AreAllDifferent (p ∷ more) = AllByRecursion (λ q. p ≢ q) more × AreAllDifferent more
+
+  pub record IsValid : Type 0 where
+    pub functions : length u.graphs ≤ 256
+    -- main is called with no argument
+    pub main : HasParameters (slice_get u.graphs u.main) 0
+    pub instructions : total instructions_of u.graphs ≤ 8000
+    pub blocks : total (λ (g : Graph). length g.blocks) u.graphs ≤ 12000
+    pub markers : length (markers_of u.graphs) ≤ 4000
+    pub arguments : total arguments_of u.graphs ≤ 4000
+    -- what the static objects and the bytes that initialise arrays take
+    pub statics : total (λ o. taken_by (static_bytes o)) u.statics + total (λ (b : List ℕ). taken_by (length b)) u.array_bytes ≤ 1048576
+    pub relocations : AllByRecursion (λ (o : StaticObject). AreRelocations o.relocations) u.statics
+    -- no place has two markers
+    pub once : AreAllDifferent (markers_of u.graphs)
+    pub graphs : AllByRecursion IsGraph u.graphs
