@@ -5,3 +5,4 @@ pub mod Memory
 pub mod Runs
 pub mod Paths
 pub mod Validity
+pub mod WellMarked

@@ -3,7 +3,6 @@ use Rattle.std.specs.Prelude.{ℕ, zero, suc, ◌+◌, ◌%◌, ◌==◌, Bool, 
 use Rattle.std.specs.List.{list_any}
 use Rattle.std.specs.Option.{option_map_or}
 use Rattle.debug_records.specs.declared.change.Place as declared-place
-use Rattle.recovery.specs.declared.operation.Operation.TheVariants.{Add}
 use Rattle.graph_core.specs.declared.value.Value.{Value}
 use Rattle.graph_core.specs.declared.value.Value.TheVariants.{Number, Pointer, Odd}
 use Rattle.graph_core.specs.declared.value.Shadow.{Shadow}
@@ -11,9 +10,9 @@ use Rattle.graph_core.specs.declared.value.Shadow.TheVariants as shadow
 use Rattle.graph_core.specs.declared.instruction.Callee.{Callee}
 use Rattle.graph_core.specs.declared.instruction.Callee.TheVariants as callee
 use Rattle.graph_core.specs.declared.graph.MemoryObject.{MemoryObject}
-use Rattle.graph_core.specs.Graphs.{Operand, Name, Constant, StaticAddress, Recipe, Of, Truncated, Operated, NoteValue, Is, Gone, Location, Automatic, Static, At, Instruction, Marker, Note, Move, Operate, Truncate, Same, Address, Load, Store, Zero, CopyWords, Call, End, Jump, Branch, Return, Block, Binding, ToScalar, ToObject, Graph, UnitForm}
-use Rattle.graph_core.specs.Values.{operate, truncate, same, holds, is_odd}
-use Rattle.graph_core.specs.Memory.{Object, Memory, is_live, address_of, bytes_of, read, write, zeroed, copied, new_object, ended_from, first_memory}
+use Rattle.graph_core.specs.Graphs.{Operand, Name, Constant, StaticAddress, Recipe, Of, Truncated, Operated, NoteValue, Is, Gone, Location, Automatic, Static, At, Instruction, Marker, Note, Move, Operate, Truncate, Same, Address, Load, Store, Zero, CopyWords, Call, End, Jump, Branch, Return, Block, Binding, ToScalar, ToObject, Graph, StaticObject, UnitForm}
+use Rattle.graph_core.specs.Values.{pointer_at, operate, truncate, same, holds, is_odd}
+use Rattle.graph_core.specs.Memory.{Object, Memory, is_live, address_of, static_bytes, read, write, zeroed, copied, new_object, ended_from, first_memory}
 
 -- An activation of a function: its function, its graph, the place that it has come to, the values of its names, the shadows of its scalars, the number of its first
 -- object, what is left of its block, and the name that a call's value goes to while it waits.
@@ -60,23 +59,27 @@ pub data Stepped : Type 0 where
 abbrev pub put : {A : Type 0} → (ℕ → A) → ℕ → A → ℕ → A
 put f x v y = if y == x then v else f y
 
+-- the address in a static object; the first objects of a run are the static ones
+abbrev pub static_address : List StaticObject → (object offset : ℕ) → Value
+static_address statics object offset = option_map_or (λ o. pointer_at object (static_bytes o) offset) (slice_get statics object) Odd
+
 -- the value of an operand
-abbrev pub value : Memory → (ℕ → Value) → Operand → Value
-value memory names (Name x) = names x
-value memory names (Constant w) = Number w
-value memory names (StaticAddress object offset) = operate Add (address_of memory object) (Number offset)
+abbrev pub value : List StaticObject → (ℕ → Value) → Operand → Value
+value statics names (Name x) = names x
+value statics names (Constant w) = Number w
+value statics names (StaticAddress object offset) = static_address statics object offset
 
 -- the value of a recipe
-abbrev pub recipe_value : Memory → (ℕ → Value) → Recipe → Value
-recipe_value memory names (Of a) = value memory names a
-recipe_value memory names (Truncated t r) = truncate t (recipe_value memory names r)
-recipe_value memory names (Operated o r s) = operate o (recipe_value memory names r) (recipe_value memory names s)
+abbrev pub recipe_value : List StaticObject → (ℕ → Value) → Recipe → Value
+recipe_value statics names (Of a) = value statics names a
+recipe_value statics names (Truncated t r) = truncate t (recipe_value statics names r)
+recipe_value statics names (Operated o r s) = operate o (recipe_value statics names r) (recipe_value statics names s)
 
 -- where a location points
-abbrev pub pointed : Memory → Activation → Location → Value
-pointed memory here (Automatic object) = address_of memory (here.first_object + object)
-pointed memory here (Static object) = address_of memory object
-pointed memory here (At a) = value memory here.names a
+abbrev pub pointed : List StaticObject → Memory → Activation → Location → Value
+pointed statics memory here (Automatic object) = address_of memory (here.first_object + object)
+pointed statics memory here (Static object) = static_address statics object 0
+pointed statics memory here (At a) = value statics here.names a
 
 -- the live activations as a stop shows them
 abbrev pub numbers_from : ℕ → (count : ℕ) → List ℕ
@@ -113,11 +116,11 @@ abbrev pub unless_odd : Value → Stepped → Stepped
 unless_odd v go = if is_odd v then Wild else go
 
 -- A variable's shadow becomes what a note says.
-abbrev pub noted : Configuration → ℕ → NoteValue → Stepped
-noted c x (Gone change) = Goes (record c { here = record c.here { shadows = put c.here.shadows x shadow.Gone } })
-noted c x (Is r) =
-    unless_odd (recipe_value c.memory c.here.names r)
-    (Goes (record c { here = record c.here { shadows = put c.here.shadows x (shadow.Known (recipe_value c.memory c.here.names r)) } }))
+abbrev pub noted : List StaticObject → Configuration → ℕ → NoteValue → Stepped
+noted statics c x (Gone change) = Goes (record c { here = record c.here { shadows = put c.here.shadows x shadow.Gone } })
+noted statics c x (Is r) =
+    unless_odd (recipe_value statics c.here.names r)
+    (Goes (record c { here = record c.here { shadows = put c.here.shadows x (shadow.Known (recipe_value statics c.here.names r)) } }))
 
 -- A place begins: that is a stop, but at the function's entry.
 abbrev pub marked : Configuration → Stepped
@@ -234,26 +237,26 @@ module _ (u : UnitForm) where
   -- What an instruction does; the configuration is the one behind it but for that.
   abbrev pub execute : Instruction → Configuration → Stepped
   execute (Marker p) c = marked (at_place p c)
-  execute (Note x v) c = noted c x v
-  execute (Move x a) c = wrote c x (value c.memory c.here.names a)
-  execute (Operate x o a b) c = wrote c x (operate o (value c.memory c.here.names a) (value c.memory c.here.names b))
-  execute (Truncate x t a) c = wrote c x (truncate t (value c.memory c.here.names a))
-  execute (Same x a b) c = wrote c x (same (is_live c.memory) (value c.memory c.here.names a) (value c.memory c.here.names b))
+  execute (Note x v) c = noted u.statics c x v
+  execute (Move x a) c = wrote c x (value u.statics c.here.names a)
+  execute (Operate x o a b) c = wrote c x (operate o (value u.statics c.here.names a) (value u.statics c.here.names b))
+  execute (Truncate x t a) c = wrote c x (truncate t (value u.statics c.here.names a))
+  execute (Same x a b) c = wrote c x (same (is_live c.memory) (value u.statics c.here.names a) (value u.statics c.here.names b))
   execute (Address x object) c = wrote c x (address_of c.memory (c.here.first_object + object))
-  execute (Load x e l) c = wrote_some c x (read c.memory e (pointed c.memory c.here l))
-  execute (Store e l a) c = unless_odd (value c.memory c.here.names a) (with_memory c (write c.memory e (pointed c.memory c.here l) (value c.memory c.here.names a)))
+  execute (Load x e l) c = wrote_some c x (read c.memory e (pointed u.statics c.memory c.here l))
+  execute (Store e l a) c = unless_odd (value u.statics c.here.names a) (with_memory c (write c.memory e (pointed u.statics c.memory c.here l) (value u.statics c.here.names a)))
   execute (Zero object words) c = with_memory c (zeroed c.memory (c.here.first_object + object) words)
   execute (CopyWords object bytes words) c =
       with_memory c (option_and_then (λ all. copied c.memory (c.here.first_object + object) all words) (slice_get u.array_bytes bytes))
   execute (Call x f all) c =
-      if list_any is_odd (map (value c.memory c.here.names) all) then Wild else call c x f (map (value c.memory c.here.names) all)
+      if list_any is_odd (map (value u.statics c.here.names) all) then Wild else call c x f (map (value u.statics c.here.names) all)
 
   -- what the end of a block does
   abbrev pub execute_end : End → Configuration → Stepped
   execute_end (Jump l) c = go_to c l
-  execute_end (Branch k a b l m) c = branched c (holds (is_live c.memory) k (value c.memory c.here.names a) (value c.memory c.here.names b)) l m
+  execute_end (Branch k a b l m) c = branched c (holds (is_live c.memory) k (value u.statics c.here.names a) (value u.statics c.here.names b)) l m
   execute_end (Return None) c = leave c Odd
-  execute_end (Return (Some a)) c = leave c (value c.memory c.here.names a)
+  execute_end (Return (Some a)) c = leave c (value u.statics c.here.names a)
 
   abbrev pub step_from : List Instruction → Configuration → Stepped
   step_from [] c = execute_end c.here.end c

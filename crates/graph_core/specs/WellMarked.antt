@@ -1,0 +1,92 @@
+-- Well marked units: markers follow the flow of the program, and notes say what becomes of each scalar.
+use Rattle.std.specs.Prelude.{◌≡◌, ◌≢◌, ℕ, ◌+◌, ◌<◌, ◌≤◌, ◌⊎◌, ◌==◌, ◌&&◌, Bool, true, false, Option, Some, None, List, [], ◌∷◌, ◌++◌, length, map, slice_get}
+use Rattle.std.specs.Option.{option_map_or}
+use Rattle.std.specs.List.{list_any}
+use Rattle.places.specs.Flow.{can_go, assigns}
+use Rattle.debug_records.specs.declared.change.Kind.TheVariants.{Removed}
+use Rattle.graph_core.specs.Graphs.{Operand, Name, Recipe, Of, NoteValue, Is, Gone, Instruction, Marker, Note, Move, Operate, Truncate, Same, Address, Load, Store, Zero, CopyWords, Call, End, Jump, Branch, Return, Block, Graph, Logged, UnitForm}
+use Rattle.graph_core.specs.Uses.{reads_of, reads_of_end, target_of, targets_of}
+use Rattle.graph_core.specs.Paths.{History, Among, Path, place_of, writes, notes, is_call, called, is_bound, written, unnoted, owed}
+use Rattle.graph_core.specs.Validity.{IsValid, place_behind}
+
+-- An instruction stands in a place, whether a path reaches it or not: here among these instructions, of which the first stands where this place is in force.
+pub data StandsIn (p : ℕ) (i : Instruction) : (in_force : Option ℕ) → List Instruction → Type 0 where
+  here : {all : List Instruction} → StandsIn p i (Some p) (i ∷ all)
+  behind : {place : Option ℕ} {j : Instruction} {all : List Instruction} → StandsIn p i (place_behind (j ∷ []) place) all → StandsIn p i place (j ∷ all)
+
+-- an instruction of a graph stands in a place; a marker stands in the place before it
+pub record InPlace (g : Graph) (p : ℕ) (i : Instruction) : Type 0 where
+  pub number : ℕ
+  pub block : Block
+  pub is : slice_get g.blocks number ≡ Some block
+  pub stands : StandsIn p i block.place block.instructions
+
+-- Each way from here comes to a marker or to an end of the function.
+pub data ComesToMarker (g : Graph) : List Instruction → End → Type 0 where
+  at_marker : {p : ℕ} {rest : List Instruction} {e : End} → ComesToMarker g (Marker p ∷ rest) e
+  on : {i : Instruction} {rest : List Instruction} {e : End} → ComesToMarker g rest e → ComesToMarker g (i ∷ rest) e
+  leaves : {a : Option Operand} → ComesToMarker g [] (Return a)
+  goes : {e : End} → ((l : ℕ) (b : Block) → Among l (targets_of e) → slice_get g.blocks l ≡ Some b → ComesToMarker g b.instructions b.end) → ComesToMarker g [] e
+
+-- the variable of a scalar
+abbrev pub IsVariable : Graph → (x variable : ℕ) → Type 0
+IsVariable g x variable = slice_get g.scalars x ≡ Some variable
+
+-- a temporary that code motion did not make
+pub record IsLocal (g : Graph) (t : ℕ) : Type 0 where
+  pub temporary : length g.scalars ≤ t
+  pub not_moved : t < g.moved_from
+
+-- the log has a change that removed an assignment of a variable in a place
+pub record WasRemoved (log : List Logged) (place variable : ℕ) : Type 0 where
+  pub change : Logged
+  pub logged : Among change log
+  pub removed : change.kind ≡ Removed
+  pub at : change.place ≡ place
+  pub of : change.variable ≡ variable
+
+module _ (u : UnitForm) (g : Graph) where
+  -- A scalar is written in a place: by an instruction, or, at the entry, by the call that binds the parameters to it.
+  pub data WrittenIn (p x : ℕ) : Type 0 where
+    instruction : (i : Instruction) → InPlace g p i → writes x i ≡ true → WrittenIn p x
+    bound : p ≡ g.entry → is_bound x g.parameters ≡ true → WrittenIn p x
+
+  -- A note is that of the scalar itself, in a place that writes it; or it stands in the place of a removed assignment of its variable, which does not write it any more.
+  abbrev pub IsRightNote : (p x variable : ℕ) → NoteValue → Type 0
+  IsRightNote p x variable v =
+      ((v ≡ Is (Of (Name x))) × WrittenIn p x) ⊎ ((v ≢ Is (Of (Name x))) × (WrittenIn p x → ⊥) × WasRemoved u.log p variable)
+
+  pub record IsWellMarked : Type 0 where
+    -- The graph begins with the marker of its entry, and no edge leads back there.
+    pub begins : (b : Block) → slice_get g.blocks 0 ≡ Some b → (rest : List Instruction) × (b.instructions ≡ Marker g.entry ∷ rest)
+    pub first : (n : ℕ) (b : Block) → slice_get g.blocks n ≡ Some b → Among 0 (targets_of b.end) → ⊥
+    -- Markers that follow one another on a path are a step of the program's flow.
+    pub flows : (h : History) (p q : ℕ) (rest : List Instruction) (e : End) → Path g h (Marker q ∷ rest) e → place_of h ≡ Some p → can_go u.steps p q ≡ true
+    -- Each cycle has a marker.
+    pub cycles : (n : ℕ) (b : Block) → slice_get g.blocks n ≡ Some b → ComesToMarker g b.instructions b.end
+    -- The entry's place has no call, and each path from the entry to an end has another marker.
+    pub entry_calls : (i : Instruction) → InPlace g g.entry i → is_call i ≡ false
+    pub leaves : (h : History) (a : Option Operand) → Path g h [] (Return a) → place_of h ≢ Some g.entry
+    -- Words that are set or copied are few, and precede each call of their place.
+    pub zeroes : (p object words : ℕ) → InPlace g p (Zero object words) → words ≤ 1023
+    pub copies : (p object bytes words : ℕ) → InPlace g p (CopyWords object bytes words) → words ≤ 1023
+    pub zeroes_first : (h : History) (object words : ℕ) (rest : List Instruction) (e : End) → Path g h (Zero object words ∷ rest) e → called h ≡ false
+    pub copies_first : (h : History) (object bytes words : ℕ) (rest : List Instruction) (e : End) → Path g h (CopyWords object bytes words ∷ rest) e → called h ≡ false
+    -- A scalar is written and noted only in places that assign its variable.
+    pub written_where : (p x variable : ℕ) (i : Instruction) → IsVariable g x variable → InPlace g p i → writes x i ≡ true → assigns u.assignments p variable ≡ true
+    pub noted_where : (p x variable : ℕ) (v : NoteValue) → IsVariable g x variable → InPlace g p (Note x v) → assigns u.assignments p variable ≡ true
+    -- From the marker of a place that assigns a variable, and from each write of its scalar, each path to the next marker notes the scalar.
+    pub noted : (h : History) (p x variable : ℕ) (rest : List Instruction) (e : End) → IsVariable g x variable → Path g h (Marker p ∷ rest) e → owed (λ q. assigns u.assignments q variable) x h ≡ false
+    -- Each note is right, and one that is of the scalar itself stands behind a write of it.
+    pub right : (p x variable : ℕ) (v : NoteValue) → IsVariable g x variable → InPlace g p (Note x v) → IsRightNote p x variable v
+    pub behind_write : (h : History) (x : ℕ) (rest : List Instruction) (e : End) → Path g h (Note x (Is (Of (Name x))) ∷ rest) e → written g x h ≡ true
+    -- No call stands between a write of a scalar and its note.
+    pub calls : (h : History) (i : Instruction) (x variable : ℕ) (rest : List Instruction) (e : End) → IsVariable g x variable → Path g h (i ∷ rest) e → is_call i ≡ true → unnoted x h ≡ false
+    -- A temporary that code motion did not make is read only behind a write of it in the same place.
+    pub local : (h : History) (i : Instruction) (t : ℕ) (rest : List Instruction) (e : End) → IsLocal g t → Path g h (i ∷ rest) e → Among t (reads_of i) → written g t h ≡ true
+    pub local_at_end : (h : History) (t : ℕ) (e : End) → IsLocal g t → Path g h [] e → Among t (reads_of_end e) → written g t h ≡ true
+
+-- A unit is well marked.
+pub record AreWellMarked (u : UnitForm) : Type 0 where
+  pub valid : IsValid u
+  pub graphs : (f : ℕ) (g : Graph) → slice_get u.graphs f ≡ Some g → IsWellMarked u g
