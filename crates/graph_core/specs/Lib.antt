@@ -6,3 +6,6 @@ pub mod Runs
 pub mod Paths
 pub mod Validity
 pub mod WellMarked
+pub mod Homes
+pub mod Keeps
+pub mod Earned

@@ -1,13 +1,15 @@
 -- Paths through a graph, and what is true along them. A path is its history: the instructions that it passed, the latest first, each with the value that it wrote.
-use Rattle.std.specs.Prelude.{◌≡◌, ℕ, ◌==◌, ◌&&◌, ◌||◌, Bool, true, false, if◌then◌else◌, Option, Some, None, List, [], ◌∷◌, slice_get}
+use Rattle.std.specs.Prelude.{◌≡◌, ℕ, ◌==◌, ◌&&◌, ◌||◌, Bool, true, false, if◌then◌else◌, Option, Some, None, List, [], ◌∷◌, length, slice_get}
 use Rattle.std.specs.Option.{option_map_or}
 use Rattle.std.specs.List.{list_any}
 use Rattle.graph_core.specs.declared.value.Value.{Value}
 use Rattle.graph_core.specs.Graphs.{Operand, Name, Recipe, NoteValue, Is, Gone, Instruction, Marker, Note, Move, Operate, Truncate, Same, Address, Load, Store, Zero, CopyWords, Call, End, Block, Binding, ToScalar, ToObject, Graph}
 use Rattle.graph_core.specs.Uses.{target_of, targets_of, reads_of}
 
--- An instruction that was passed, and the value that it wrote, if it writes one.
+-- An instruction that was passed: its block, how many instructions stand behind it there, what it is, and the value that it wrote, if it writes one.
 pub record Passed : Type 0 where
+  pub block : ℕ
+  pub left : ℕ
   pub instruction : Instruction
   pub wrote : Value
 
@@ -20,15 +22,15 @@ pub data Among {A : Type 0} (a : A) : List A → Type 0 where
   front : {all : List A} → Among a (a ∷ all)
   behind : {b : A} {all : List A} → Among a all → Among a (b ∷ all)
 
--- A way from one point of a graph to another: what it passed, and where it stands, that is what is left of a block, and the block's end.
-pub data Way (g : Graph) (rest : List Instruction) (end : End) : History → List Instruction → End → Type 0 where
-  stays : Way g rest end [] rest end
-  passes : {h : History} {i : Instruction} {left : List Instruction} {e : End} → Way g rest end h (i ∷ left) e → (v : Value) → Way g rest end (record { instruction = i; wrote = v } ∷ h) left e
-  goes : {h : History} {e : End} {l : ℕ} → Way g rest end h [] e → Among l (targets_of e) → (b : Block) → slice_get g.blocks l ≡ Some b → Way g rest end h b.instructions b.end
+-- A way from a point of a graph to another. A point is the number of a block, what is left of it, and its end. The way is what it passed.
+pub data Way (g : Graph) (from : ℕ) (rest : List Instruction) (end : End) : History → (block : ℕ) → List Instruction → End → Type 0 where
+  stays : Way g from rest end [] from rest end
+  passes : {h : History} {n : ℕ} {i : Instruction} {left : List Instruction} {e : End} → Way g from rest end h n (i ∷ left) e → (v : Value) → Way g from rest end (record { block = n; left = length left; instruction = i; wrote = v } ∷ h) n left e
+  goes : {h : History} {n l : ℕ} {e : End} → Way g from rest end h n [] e → Among l (targets_of e) → (b : Block) → slice_get g.blocks l ≡ Some b → Way g from rest end h l b.instructions b.end
 
 -- A path from a function's entry to a point.
-pub data Path (g : Graph) (h : History) (rest : List Instruction) (end : End) : Type 0 where
-  path : (b : Block) → slice_get g.blocks 0 ≡ Some b → Way g b.instructions b.end h rest end → Path g h rest end
+pub data Path (g : Graph) (h : History) (n : ℕ) (rest : List Instruction) (end : End) : Type 0 where
+  path : (b : Block) → slice_get g.blocks 0 ≡ Some b → Way g 0 b.instructions b.end h n rest end → Path g h n rest end
 
 -- the place in force: that of the last marker
 abbrev pub place_by : Instruction → Option ℕ → Option ℕ

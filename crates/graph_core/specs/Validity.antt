@@ -76,13 +76,13 @@ abbrev pub place_at_end : Block → Option ℕ
 place_at_end b = place_behind b.instructions b.place
 
 -- A block keeps a place: it begins with a marker, or the place is in force where it begins.
-abbrev pub keeps_place : List Instruction → (in_force kept : Option ℕ) → Type 0
-keeps_place (Marker p ∷ more) place kept = ⊤
-keeps_place _ place kept = place ≡ kept
+abbrev pub KeepsPlace : List Instruction → (in_force kept : Option ℕ) → Type 0
+KeepsPlace (Marker p ∷ more) place kept = ⊤
+KeepsPlace _ place kept = place ≡ kept
 
 abbrev pub IsKept : Option ℕ → Option Block → Type 0
 IsKept place None = ⊥
-IsKept place (Some b) = keeps_place b.instructions place b.place
+IsKept place (Some b) = KeepsPlace b.instructions place b.place
 
 -- there is a function, and it has so many parameters
 abbrev pub HasParameters : Option Graph → (count : ℕ) → Type 0

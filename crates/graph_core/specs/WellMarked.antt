@@ -61,30 +61,30 @@ module _ (u : UnitForm) (g : Graph) where
     pub begins : (b : Block) → slice_get g.blocks 0 ≡ Some b → (rest : List Instruction) × (b.instructions ≡ Marker g.entry ∷ rest)
     pub first : (n : ℕ) (b : Block) → slice_get g.blocks n ≡ Some b → Among 0 (targets_of b.end) → ⊥
     -- Markers that follow one another on a path are a step of the program's flow.
-    pub flows : (h : History) (p q : ℕ) (rest : List Instruction) (e : End) → Path g h (Marker q ∷ rest) e → place_of h ≡ Some p → can_go u.steps p q ≡ true
+    pub flows : (h : History) (n : ℕ) (p q : ℕ) (rest : List Instruction) (e : End) → Path g h n (Marker q ∷ rest) e → place_of h ≡ Some p → can_go u.steps p q ≡ true
     -- Each cycle has a marker.
     pub cycles : (n : ℕ) (b : Block) → slice_get g.blocks n ≡ Some b → ComesToMarker g b.instructions b.end
     -- The entry's place has no call, and each path from the entry to an end has another marker.
     pub entry_calls : (i : Instruction) → InPlace g g.entry i → is_call i ≡ false
-    pub leaves : (h : History) (a : Option Operand) → Path g h [] (Return a) → place_of h ≢ Some g.entry
+    pub leaves : (h : History) (n : ℕ) (a : Option Operand) → Path g h n [] (Return a) → place_of h ≢ Some g.entry
     -- Words that are set or copied are few, and precede each call of their place.
     pub zeroes : (p object words : ℕ) → InPlace g p (Zero object words) → words ≤ 1023
     pub copies : (p object bytes words : ℕ) → InPlace g p (CopyWords object bytes words) → words ≤ 1023
-    pub zeroes_first : (h : History) (object words : ℕ) (rest : List Instruction) (e : End) → Path g h (Zero object words ∷ rest) e → called h ≡ false
-    pub copies_first : (h : History) (object bytes words : ℕ) (rest : List Instruction) (e : End) → Path g h (CopyWords object bytes words ∷ rest) e → called h ≡ false
+    pub zeroes_first : (h : History) (n : ℕ) (object words : ℕ) (rest : List Instruction) (e : End) → Path g h n (Zero object words ∷ rest) e → called h ≡ false
+    pub copies_first : (h : History) (n : ℕ) (object bytes words : ℕ) (rest : List Instruction) (e : End) → Path g h n (CopyWords object bytes words ∷ rest) e → called h ≡ false
     -- A scalar is written and noted only in places that assign its variable.
     pub written_where : (p x variable : ℕ) (i : Instruction) → IsVariable g x variable → InPlace g p i → writes x i ≡ true → assigns u.assignments p variable ≡ true
     pub noted_where : (p x variable : ℕ) (v : NoteValue) → IsVariable g x variable → InPlace g p (Note x v) → assigns u.assignments p variable ≡ true
     -- From the marker of a place that assigns a variable, and from each write of its scalar, each path to the next marker notes the scalar.
-    pub noted : (h : History) (p x variable : ℕ) (rest : List Instruction) (e : End) → IsVariable g x variable → Path g h (Marker p ∷ rest) e → owed (λ q. assigns u.assignments q variable) x h ≡ false
+    pub noted : (h : History) (n : ℕ) (p x variable : ℕ) (rest : List Instruction) (e : End) → IsVariable g x variable → Path g h n (Marker p ∷ rest) e → owed (λ q. assigns u.assignments q variable) x h ≡ false
     -- Each note is right, and one that is of the scalar itself stands behind a write of it.
     pub right : (p x variable : ℕ) (v : NoteValue) → IsVariable g x variable → InPlace g p (Note x v) → IsRightNote p x variable v
-    pub behind_write : (h : History) (x : ℕ) (rest : List Instruction) (e : End) → Path g h (Note x (Is (Of (Name x))) ∷ rest) e → written g x h ≡ true
+    pub behind_write : (h : History) (n : ℕ) (x : ℕ) (rest : List Instruction) (e : End) → Path g h n (Note x (Is (Of (Name x))) ∷ rest) e → written g x h ≡ true
     -- No call stands between a write of a scalar and its note.
-    pub calls : (h : History) (i : Instruction) (x variable : ℕ) (rest : List Instruction) (e : End) → IsVariable g x variable → Path g h (i ∷ rest) e → is_call i ≡ true → unnoted x h ≡ false
+    pub calls : (h : History) (n : ℕ) (i : Instruction) (x variable : ℕ) (rest : List Instruction) (e : End) → IsVariable g x variable → Path g h n (i ∷ rest) e → is_call i ≡ true → unnoted x h ≡ false
     -- A temporary that code motion did not make is read only behind a write of it in the same place.
-    pub local : (h : History) (i : Instruction) (t : ℕ) (rest : List Instruction) (e : End) → IsLocal g t → Path g h (i ∷ rest) e → Among t (reads_of i) → written g t h ≡ true
-    pub local_at_end : (h : History) (t : ℕ) (e : End) → IsLocal g t → Path g h [] e → Among t (reads_of_end e) → written g t h ≡ true
+    pub local : (h : History) (n : ℕ) (i : Instruction) (t : ℕ) (rest : List Instruction) (e : End) → IsLocal g t → Path g h n (i ∷ rest) e → Among t (reads_of i) → written g t h ≡ true
+    pub local_at_end : (h : History) (n : ℕ) (t : ℕ) (e : End) → IsLocal g t → Path g h n [] e → Among t (reads_of_end e) → written g t h ≡ true
 
 -- A unit is well marked.
 pub record AreWellMarked (u : UnitForm) : Type 0 where

@@ -1,0 +1,205 @@
+-- When a change that a pass logged is earned: the units before and after the pass bear it out.
+use Rattle.std.specs.Prelude.{◌≡◌, ◌≢◌, ℕ, ◌+◌, ◌≤◌, ◌⊎◌, ◌==◌, ◌&&◌, ◌||◌, not, Bool, true, false, if◌then◌else◌, Option, Some, None, List, [], ◌∷◌, ◌++◌, length, slice_get, ⊤}
+use Rattle.std.specs.Option.{option_map_or}
+use Rattle.debug_records.specs.declared.change.Kind as declared-kind
+use Rattle.debug_records.specs.declared.change.Kind.TheVariants.{Removed, Moved, Reused, Replaced}
+use Rattle.recovery.specs.declared.operation.Operation.{Operation}
+use Rattle.recovery.specs.declared.operation.Truncation.{Truncation}
+use Rattle.graph_core.specs.declared.home.Home.{Home}
+use Rattle.graph_core.specs.declared.home.Home.TheVariants.{Register}
+use Rattle.graph_core.specs.Graphs.{Operand, Name, Constant, StaticAddress, NoteValue, Instruction, Marker, Note, Move, Operate, Truncate, Same, Address, Load, Store, Zero, CopyWords, Call, End, Return, Block, Graph, Logged, UnitForm}
+use Rattle.graph_core.specs.Uses.{names_of, reads_of, reads_of_end, target_of}
+use Rattle.graph_core.specs.Paths.{Passed, History, Among, Way, Path, writes, reads}
+use Rattle.graph_core.specs.Validity.{place_behind, total}
+use Rattle.graph_core.specs.WellMarked.{InPlace, IsVariable}
+
+-- What an instruction computes of names and constants alone: no load, no store, no call.
+pub data Computation : Type 0 where
+  Operating : Operation → (left right : Operand) → Computation
+  Truncating : Truncation → Operand → Computation
+  Comparing : (left right : Operand) → Computation
+
+abbrev pub computed_by : Instruction → Option Computation
+computed_by (Operate x o a b) = Some (Operating o a b)
+computed_by (Truncate x t a) = Some (Truncating t a)
+computed_by (Same x a b) = Some (Comparing a b)
+computed_by _ = None
+
+abbrev pub operands_of : Computation → List ℕ
+operands_of (Operating o a b) = names_of a ++ names_of b
+operands_of (Truncating t a) = names_of a
+operands_of (Comparing a b) = names_of a ++ names_of b
+
+-- this place is in force
+abbrev pub is_place : ℕ → Option ℕ → Bool
+is_place p in_force = option_map_or (λ q. q == p) in_force false
+
+-- how many of these instructions, of which the first stands where a place is in force, stand in a place and write a name
+abbrev pub writes_among : (p x : ℕ) → (in_force : Option ℕ) → List Instruction → ℕ
+writes_among p x place [] = 0
+writes_among p x place (i ∷ more) =
+    (if is_place p place && writes x i then 1 else 0) + writes_among p x (place_behind (i ∷ []) place) more
+
+-- how many instructions of a graph stand in a place and write a name
+abbrev pub writes_in : Graph → (p x : ℕ) → ℕ
+writes_in g p x = total (λ (b : Block). writes_among p x b.place b.instructions) g.blocks
+
+-- Behind an instruction of a graph: its block, and what is left of it.
+pub record Behind (g : Graph) (i : Instruction) (n : ℕ) (rest : List Instruction) (end : End) : Type 0 where
+  pub block : Block
+  pub before : List Instruction
+  pub is : slice_get g.blocks n ≡ Some block
+  pub instructions : block.instructions ≡ before ++ i ∷ rest
+  pub ends : end ≡ block.end
+
+-- something passed is so
+abbrev pub some_passed : (Instruction → Bool) → History → Bool
+some_passed is [] = false
+some_passed is (i ∷ h) = is i.instruction || some_passed is h
+
+-- what comes next at a point reads a name
+abbrev pub ReadsNext : ℕ → List Instruction → End → Type 0
+ReadsNext x [] e = Among x (reads_of_end e)
+ReadsNext x (i ∷ rest) e = Among x (reads_of i)
+
+-- No way from a point reads a name before it is written.
+abbrev pub IsUnread : Graph → (x n : ℕ) → List Instruction → End → Type 0
+IsUnread g x n rest e =
+    (h : History) (m : ℕ) (left : List Instruction) (f : End) → Way g n rest e h m left f → ReadsNext x left f → some_passed (writes x) h ≡ true
+
+-- The assignment of a scalar in a place was removed: the unit before has one there, the unit after none, and behind its note there nothing reads the scalar before it is
+-- written.
+pub record IsRemoved (g h : Graph) (p x : ℕ) : Type 0 where
+  pub once : writes_in g p x ≡ 1
+  pub none : writes_in h p x ≡ 0
+  pub unread : (v : NoteValue) (n : ℕ) (rest : List Instruction) (e : End) → InPlace h p (Note x v) → Behind h (Note x v) n rest e → IsUnread h x n rest e
+
+-- The computation is done here in the unit before: it still is, or what it gave is taken from a temporary.
+abbrev pub IsUse : Computation → (t : ℕ) → Instruction → Type 0
+IsUse e t i = ((y : ℕ) × (i ≡ Move y (Name t))) ⊎ ((computed_by i ≡ Some e) × (writes t i ≡ false))
+
+pub data SomeUse (e : Computation) (t : ℕ) : History → Type 0 where
+  latest : {i : Passed} {h : History} → IsUse e t i.instruction → SomeUse e t (i ∷ h)
+  earlier : {i : Passed} {h : History} → SomeUse e t h → SomeUse e t (i ∷ h)
+
+-- what comes next writes an operand of the computation without using it, or leaves the function
+abbrev pub StopsIt : Computation → (t : ℕ) → List Instruction → End → Type 0
+StopsIt e t [] (Return a) = ⊤
+StopsIt e t [] f = ⊥
+StopsIt e t (i ∷ rest) f = (IsUse e t i → ⊥) × (y : ℕ) × Among y (operands_of e) × (writes y i ≡ true)
+
+-- The computation is down-safe at a point (Knoop, Rüthing and Steffen 1992): no way from there meets a write of an operand or an end of the function before it uses the
+-- computation.
+abbrev pub IsDownSafe : Graph → Computation → (t n : ℕ) → List Instruction → End → Type 0
+IsDownSafe g e t n rest end =
+    (h : History) (m : ℕ) (left : List Instruction) (f : End) → Way g n rest end h m left f → StopsIt e t left f → SomeUse e t h
+
+-- The computation of a scalar's value in a place was moved: what was `x = e` is `x = t`, and each instruction that writes t computes e where it is down-safe.
+pub record IsMoved (g h : Graph) (p x : ℕ) : Type 0 where
+  pub e : Computation
+  pub t : ℕ
+  pub before : Instruction
+  pub stood : InPlace g p before
+  pub wrote : target_of before ≡ Some x
+  pub computed : computed_by before ≡ Some e
+  pub stands : InPlace h p (Move x (Name t))
+  pub computes : (i : Instruction) (n : ℕ) (rest : List Instruction) (f : End) → Behind h i n rest f → writes t i ≡ true → computed_by i ≡ Some e
+  pub safe : (i : Instruction) (n : ℕ) (rest : List Instruction) (f : End) → Behind h i n rest f → writes t i ≡ true → IsDownSafe h e t n rest f
+
+-- of what was passed, the last that wrote one of two names
+abbrev pub last_write_of : (x y : ℕ) → History → Option Passed
+last_write_of x y [] = None
+last_write_of x y (i ∷ h) = if writes x i.instruction || writes y i.instruction then Some i else last_write_of x y h
+
+-- The copy of one name to another that stands in a block, with so many instructions behind it, was passed, and neither name was written since.
+pub record IsCopiedAt (block left x y : ℕ) (h : History) : Type 0 where
+  pub copy : Passed
+  pub last : last_write_of x y h ≡ Some copy
+  pub in_block : copy.block ≡ block
+  pub before : copy.left ≡ left
+  pub copies : copy.instruction ≡ Move x (Name y)
+
+-- what is read at a point
+abbrev pub reads_at : List Instruction → End → List ℕ
+reads_at [] e = reads_of_end e
+reads_at (i ∷ rest) e = reads_of i
+
+-- the place in force where so many instructions are left
+pub record StandsWith (g : Graph) (p n : ℕ) (rest : List Instruction) (end : End) : Type 0 where
+  pub block : Block
+  pub before : List Instruction
+  pub is : slice_get g.blocks n ≡ Some block
+  pub instructions : block.instructions ≡ before ++ rest
+  pub ends : end ≡ block.end
+  pub place : place_behind before block.place ≡ Some p
+
+-- A read of a scalar in a place was replaced by a read of another one: at one point of both units the same operand was the one and is the other, and one copy reaches it
+-- on every path.
+pub record IsReplaced (g h : Graph) (p x : ℕ) : Type 0 where
+  pub y : ℕ
+  pub other : y ≢ x
+  pub variable : ℕ
+  pub scalar : IsVariable h y variable
+  pub n : ℕ
+  pub before : List Instruction
+  pub after : List Instruction
+  pub end : End
+  pub later : End
+  pub stood : StandsWith g p n before end
+  pub stands : StandsWith h p n after later
+  pub at_one_point : length before ≡ length after
+  pub k : ℕ
+  pub was : slice_get (reads_at before end) k ≡ Some x
+  pub is : slice_get (reads_at after later) k ≡ Some y
+  pub copy_block : ℕ
+  pub copy_left : ℕ
+  pub reaches : (hist : History) → Path h hist n after later → IsCopiedAt copy_block copy_left x y hist
+
+-- the operand of the first copy to a scalar in a place
+abbrev pub first_among : (p x : ℕ) → (in_force : Option ℕ) → List Instruction → Option Operand
+first_among p x place [] = None
+first_among p x place (Move y a ∷ more) = if is_place p place && y == x then Some a else first_among p x place more
+first_among p x place (i ∷ more) = first_among p x (place_behind (i ∷ []) place) more
+
+abbrev pub or_else : {A : Type 0} → Option A → Option A → Option A
+or_else None other = other
+or_else (Some a) other = Some a
+
+abbrev pub first_copy : (p x : ℕ) → List Block → Option Operand
+first_copy p x [] = None
+first_copy p x (b ∷ more) = or_else (first_among p x b.place b.instructions) (first_copy p x more)
+
+-- A name is the temporary of a change that moved the computation of a scalar's value.
+pub record IsTemporaryOf (log : List Logged) (g : Graph) (x variable t : ℕ) : Type 0 where
+  pub change : Logged
+  pub logged : Among change log
+  pub moved : change.kind ≡ Moved
+  pub of : change.variable ≡ variable
+  pub copied : first_copy change.place x g.blocks ≡ Some (Name t)
+  pub temporary : length g.scalars ≤ t
+
+-- The register of a scalar was given to another name too, which is no temporary of the scalar's moved computations.
+pub record IsReused (log : List Logged) (home : ℕ → Home) (h : Graph) (x variable : ℕ) : Type 0 where
+  pub register : ℕ
+  pub y : ℕ
+  pub other : y ≢ x
+  pub kept : home x ≡ Register register
+  pub shared : home y ≡ Register register
+  pub foreign : IsTemporaryOf log h x variable y → ⊥
+
+-- A change is earned by the graphs of its function before and after its pass, and the homes of the latter.
+abbrev pub IsBorneOut : declared-kind.Kind → List Logged → (ℕ → Home) → Graph → Graph → (p x variable : ℕ) → Type 0
+IsBorneOut Removed log home g h p x variable = IsRemoved g h p x
+IsBorneOut Moved log home g h p x variable = IsMoved g h p x
+IsBorneOut Replaced log home g h p x variable = IsReplaced g h p x
+IsBorneOut Reused log home g h p x variable = IsReused log home h x variable
+
+pub record IsEarned (change : Logged) (log : List Logged) (home : ℕ → Home) (u v : UnitForm) : Type 0 where
+  pub function : ℕ
+  pub before : Graph
+  pub after : Graph
+  pub stood : slice_get u.graphs function ≡ Some before
+  pub stands : slice_get v.graphs function ≡ Some after
+  pub x : ℕ
+  pub scalar : IsVariable after x change.variable
+  pub borne_out : IsBorneOut change.kind log home before after change.place x change.variable
