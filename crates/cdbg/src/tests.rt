@@ -5,6 +5,7 @@ ghost use Rattle.std.specs.Prelude.{◌<◌};
 mod altered;
 mod attaching;
 mod images;
+mod orders;
 
 use debug_records::Code;
 use line_form::{Status, fault_text};

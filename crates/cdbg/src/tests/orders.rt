@@ -1,0 +1,201 @@
+//! Which of two faults of a source is told.
+
+use super::{SCRIPT, job, run, shelf};
+use debug_records::Code;
+use line_form::Status;
+use outside::MemSink;
+use std::alloc::{AllocError, Global};
+use std::test::Fail;
+
+/// Sources with two faults, the one that is told, and its line.
+static PAIRS: [(&[u8], Code, u32); 8] = [
+    // Tokens are read before the grammar, and the grammar before names and types, wherever the faults stand.
+    (b"int main(void){return 0}\n@", Code::UNKNOWN_BYTE, 2),
+    (b"int main(void){return n;}\n/*", Code::UNENDED_COMMENT, 2),
+    (
+        b"int main(void){return n;}\nint f(void){return 1}",
+        Code::UNEXPECTED_TOKEN,
+        2,
+    ),
+    (
+        b"int main(void){int a[1024];}\nint f(void){goto a;}",
+        Code::UNEXPECTED_KEYWORD,
+        2,
+    ),
+    // Names and types come before functions that are never defined, those before a missing `main`, and that before the limits.
+    (
+        b"int f(void);int g(void){f();\nreturn n;}",
+        Code::UNDECLARED,
+        2,
+    ),
+    (
+        b"int f(void);int g(void){\nreturn f();}",
+        Code::UNDECLARED,
+        2,
+    ),
+    (b"\nint f(void){int a[1024];}", Code::NO_MAIN, 1),
+    (
+        b"int main(void){return 1+\n2147483648+'';}",
+        Code::MALFORMED_CONSTANT,
+        2,
+    ),
+];
+
+#[test]
+fn tokens_come_before_the_grammar_and_that_before_types(rt: HostRuntime) -> Result<(), Fail> {
+    let words = job(rt.alloc())?;
+    for &(source, code, line) in PAIRS.iter() {
+        let mut shelf = shelf(rt.alloc(), source, SCRIPT, [].as_slice())?;
+        let mut sink = MemSink::new(rt.alloc(), [].as_slice())?;
+        let status = run(rt.alloc(), &words, &mut shelf, &mut sink);
+        assert_eq!(rt; status, Status::SourceRefused(code, line));
+    }
+    Ok(())
+}
+
+/// Appends so many empty statements between two texts.
+fn push_statements(
+    text: &mut Vec<u8>,
+    before: &[u8],
+    count: u32,
+    behind: &[u8],
+) -> Result<(), AllocError> {
+    text.extend_from_slice(before)?;
+    for _ in 0..count {
+        text.push(b';')?;
+    }
+    text.extend_from_slice(behind)
+}
+
+/// A text of two functions with so many empty statements.
+fn functions(
+    alloc: Global,
+    first: &[u8],
+    first_count: u32,
+    second: &[u8],
+    second_count: u32,
+) -> Result<Vec<u8>, AllocError> {
+    let mut text = Vec::new(alloc);
+    push_statements(&mut text, first, first_count, b"}")?;
+    push_statements(&mut text, second, second_count, b"}")?;
+    Ok(text)
+}
+
+/// Two functions that break limits, the limit that is told, and its line.
+static LIMITS: [(&[u8], u32, &[u8], u32, Code, u32); 7] = [
+    // In one function weight comes first, then objects, then parameters.
+    (
+        b"\nint main(void){int a[1024];",
+        3000,
+        b"int f(void){",
+        0,
+        Code::FUNCTION_WEIGHT,
+        2,
+    ),
+    (
+        b"\nint f(int a,int b,int c,int d,int e,int g,int h,int i,int j){",
+        3000,
+        b"int main(void){",
+        0,
+        Code::FUNCTION_WEIGHT,
+        2,
+    ),
+    // The limits of an earlier function come before those of a later one.
+    (
+        b"\nint main(void){int a[1024];",
+        0,
+        b"\nint f(void){",
+        3000,
+        Code::FUNCTION_OBJECTS,
+        2,
+    ),
+    (
+        b"\nint f(int a,int b,int c,int d,int e,int g,int h,int i,int j){",
+        0,
+        b"\nint main(void){",
+        3000,
+        Code::FUNCTION_COUNT,
+        2,
+    ),
+    // The limits of functions come before those of the program.
+    (
+        b"\nint main(void){",
+        4000,
+        b"int f(void){",
+        0,
+        Code::FUNCTION_WEIGHT,
+        2,
+    ),
+    (
+        b"char s[1048576];\nint main(void){int a[1024];",
+        0,
+        b"int f(void){",
+        0,
+        Code::FUNCTION_OBJECTS,
+        2,
+    ),
+    // The program's weight comes before its static objects.
+    (
+        b"char s[1048576];\nint main(void){",
+        2500,
+        b"int f(void){",
+        2500,
+        Code::PROGRAM_WEIGHT,
+        1,
+    ),
+];
+
+#[test]
+fn limits_are_looked_at_in_their_order(rt: HostRuntime) -> Result<(), Fail> {
+    let words = job(rt.alloc())?;
+    for &(first, first_count, second, second_count, code, line) in LIMITS.iter() {
+        let source = functions(rt.alloc(), first, first_count, second, second_count)?;
+        let mut shelf = shelf(rt.alloc(), &source, SCRIPT, [].as_slice())?;
+        let mut sink = MemSink::new(rt.alloc(), [].as_slice())?;
+        let status = run(rt.alloc(), &words, &mut shelf, &mut sink);
+        assert_eq!(rt; status, Status::SourceRefused(code, line));
+    }
+    Ok(())
+}
+
+/// A text before a `main` in which 900 variables are visible at 700 places, and a function with so many empty statements behind it.
+fn with_many_pairs(alloc: Global, before: &[u8], count: u32) -> Result<Vec<u8>, AllocError> {
+    let mut text = Vec::from_slice(alloc, before)?;
+    text.extend_from_slice(b"int main(void){int n")?;
+    for number in 0..899 {
+        text.extend_from_slice(format!(in alloc; ",n{number}")?.as_bytes())?;
+    }
+    push_statements(&mut text, b";", 700, b"}")?;
+    push_statements(&mut text, b"int f(void){", count, b"}")?;
+    Ok(text)
+}
+
+#[test]
+fn visible_pairs_are_the_last_limit(rt: HostRuntime) -> Result<(), Fail> {
+    let words = job(rt.alloc())?;
+    let cases: [(&[u8], u32, Code); 3] = [
+        (b"", 0, Code::VISIBLE_PAIRS),
+        (b"char s[1048576];", 0, Code::STATIC_OBJECTS),
+        (b"char s[1048576];", 2600, Code::PROGRAM_WEIGHT),
+    ];
+    for (before, count, code) in cases {
+        let source = with_many_pairs(rt.alloc(), before, count)?;
+        let mut shelf = shelf(rt.alloc(), &source, SCRIPT, [].as_slice())?;
+        let mut sink = MemSink::new(rt.alloc(), [].as_slice())?;
+        let status = run(rt.alloc(), &words, &mut shelf, &mut sink);
+        assert_eq!(rt; status, Status::SourceRefused(code, 1));
+    }
+    Ok(())
+}
+
+#[test]
+fn a_text_that_is_too_long_is_refused_for_that(rt: HostRuntime) -> Result<(), Fail> {
+    let words = job(rt.alloc())?;
+    let mut source = Vec::new(rt.alloc());
+    push_statements(&mut source, b"@", 1_048_576, b"")?;
+    let mut shelf = shelf(rt.alloc(), &source, SCRIPT, [].as_slice())?;
+    let mut sink = MemSink::new(rt.alloc(), [].as_slice())?;
+    let status = run(rt.alloc(), &words, &mut shelf, &mut sink);
+    assert_eq!(rt; status, Status::SourceRefused(Code::TEXT_SIZE, 1));
+    Ok(())
+}
