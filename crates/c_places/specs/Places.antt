@@ -34,11 +34,6 @@ abbrev pub brought_by_start : TypedStartTree → List ℕ
 brought_by_start (Declares all) = map (λ (d : DeclaredTree). d.variable) all
 brought_by_start _ = []
 
--- what is in scope at the head of a `for`: at its condition also what its first part brings, but not at the `for` itself, where a head without a condition stands
-abbrev pub scope_of_head : List ℕ → TypedStartTree → Option RvalueTree → List ℕ
-scope_of_head scope start None = scope
-scope_of_head scope start (Some c) = scope ++ brought_by_start start
-
 module _ (function : ℕ) where
   -- a place that is no entry
   abbrev pub stop : List ℕ → Spot → Place
@@ -54,9 +49,20 @@ module _ (function : ℕ) where
   places_of_start scope (Value spot e) = stop scope spot ∷ []
   places_of_start scope (Declares all) = places_of_declarators scope all
 
+  -- Of a `for` the places before its step, in text order: its first part and its condition, which sees what the first part declares, or without a condition
+  -- the `for` itself, which stands before its first part.
+  abbrev pub places_of_head : List ℕ → TypedStartTree → Spot → Option RvalueTree → List Place
+  places_of_head scope start spot None = stop scope spot ∷ places_of_start scope start
+  places_of_head scope start spot (Some c) = places_of_start scope start ++ stop (scope ++ brought_by_start start) spot ∷ []
+
+  -- the step of a `for`
+  abbrev pub places_of_step : List ℕ → Option StepTree → List Place
+  places_of_step scope None = []
+  places_of_step scope (Some s) = stop scope s.spot ∷ []
+
   abbrev mutual
-    -- The places of a statement: of a simple one its first token, of `if`, `while`, `do` and `switch` the condition, of `for` its first part, its condition
-    -- or else the `for`, and its step; and those of the statements within.
+    -- The places of a statement, in text order: of a simple one its first token, of `if`, `while`, `do` and `switch` the condition, of `for` its first part,
+    -- its condition or else the `for`, and its step; and those of the statements within.
     pub places_of : List ℕ → TypedStatementTree → List Place
     places_of scope (Block all) = places_of_all scope all
     places_of scope (Declaration all) = places_of_declarators scope all
@@ -67,8 +73,7 @@ module _ (function : ℕ) where
     places_of scope (While spot c body) = stop scope spot ∷ places_of scope body
     places_of scope (DoWhile body spot c) = places_of scope body ++ stop scope spot ∷ []
     places_of scope (For start spot c step body) =
-        places_of_start scope start ++ stop (scope_of_head scope start c) spot
-        ∷ option_map_or (λ (s : StepTree). stop (scope ++ brought_by_start start) s.spot ∷ []) step [] ++ places_of (scope ++ brought_by_start start) body
+        places_of_head scope start spot c ++ places_of_step (scope ++ brought_by_start start) step ++ places_of (scope ++ brought_by_start start) body
     places_of scope (Switch spot e all) = stop scope spot ∷ places_of_all scope all
     places_of scope (Break spot) = stop scope spot ∷ []
     places_of scope (Continue spot) = stop scope spot ∷ []
