@@ -120,7 +120,9 @@ impl End {
             End::Return(_) => {}
             End::Jump(label) => labels.push(*label)?,
             End::Branch {
-                then, otherwise, ..
+                then,
+                otherwise,
+                ..
             } => {
                 labels.push(*then)?;
                 labels.push(*otherwise)?;
