@@ -19,3 +19,7 @@ IsStepBefore s u = (s.from.0 < u.from.0) ⊎ ((s.from.0 ≡ u.from.0) × (s.to.0
 -- the steps are in order, and each stands once
 abbrev pub AreInOrder : List Step → Type 0
 AreInOrder steps = AllPairs IsStepBefore steps
+
+-- one assignment comes before another: by their places, then by their variables
+abbrev pub IsAssignmentBefore : Assignment → Assignment → Type 0
+IsAssignmentBefore a b = (a.place.0 < b.place.0) ⊎ ((a.place.0 ≡ b.place.0) × (a.var.0 < b.var.0))

@@ -5,15 +5,15 @@ ghost use Rattle.places.specs.Flow.{assigns, can_go};
 
 use debug_records::{Place, Var};
 
-/// Execution may go from the one place directly to the other.
-#[derive(Clone, Copy, Debug, PartialEq, Eq)]
+/// Execution may go from the one place directly to the other. Steps are in order by where they lead from, then by where they lead to.
+#[derive(Clone, Copy, Debug, PartialEq, Eq, PartialOrd, Ord)]
 pub struct Step {
     pub from: Place,
     pub to: Place,
 }
 
-/// The place assigns the variable.
-#[derive(Clone, Copy, Debug, PartialEq, Eq)]
+/// The place assigns the variable. Assignments are in order by their places, then by their variables.
+#[derive(Clone, Copy, Debug, PartialEq, Eq, PartialOrd, Ord)]
 pub struct Assignment {
     pub place: Place,
     pub var: Var,

@@ -5,9 +5,11 @@ mod flow;
 mod paths;
 mod routes;
 mod search;
+mod table;
 #[cfg(test)]
 mod tests;
 
 pub use flow::{Assignment, FlowTable, Step};
 pub use paths::{Path, is_path};
 pub use routes::route;
+pub use table::{PlaceRow, PlaceTable};
