@@ -97,9 +97,9 @@ brought_by_body (default rest) = brought_by_body rest
 abbrev pub parameters_of : TypedFunctionTree → List ℕ
 parameters_of f = numbers_from f.first_variable f.parameters
 
--- the entry of a function, at its name
+-- The entry of a function is a place at its name. Its parameters, which are declared behind the name, are not in scope there (6.2.1p7).
 abbrev pub entry_of : ℕ → TypedFunctionTree → Place
-entry_of function f = record { spot = f.spot; function = function; is_entry = true; scope = parameters_of f }
+entry_of function f = record { spot = f.spot; function = function; is_entry = true; scope = [] }
 
 -- The closing brace of a function is a place where flow reaches it. The variables of the outermost block are in scope there.
 abbrev pub close_of : ℕ → TypedFunctionTree → List Place

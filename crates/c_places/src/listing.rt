@@ -266,7 +266,7 @@ fn add_entry(
         spot: function.spot,
         function: number,
         is_entry: true,
-        scope: parameters(alloc, function)?,
+        scope: Vec::new(alloc),
     })?;
     Ok(())
 }

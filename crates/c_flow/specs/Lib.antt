@@ -1,0 +1,4 @@
+pub mod Flow
+pub mod Assigns
+pub mod Worked
+pub mod Tables

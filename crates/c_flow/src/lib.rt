@@ -1,0 +1,19 @@
+//! Where the execution of a program may go from place to place, and what its places assign.
+#![tactic(auto)]
+
+mod assigned;
+mod assignment_table;
+mod edge;
+mod flow_edges;
+mod laws;
+mod numbering;
+mod order;
+mod start;
+mod step_table;
+mod tables;
+#[cfg(test)]
+mod tests;
+mod visible_variables;
+
+pub use laws::flows_are_worked;
+pub use tables::flow;
