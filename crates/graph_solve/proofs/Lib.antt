@@ -1,0 +1,8 @@
+pub mod Sets
+pub mod Lists
+pub mod Falling
+pub mod Relaxing
+pub mod Rounding
+pub mod Directing
+pub mod Solved
+pub mod PathLaws
