@@ -1,7 +1,6 @@
 -- Values that fall until each edge is settled are the meets over all paths.
-use Rattle.std.proofs.Common.{◌≡◌, ◌≢◌, ℕ, zero, suc, ◌+◌, ◌-◌, ◌<◌, ◌≤◌, ◌⊎◌, inl, inr, Bool, true, false, List, [], ◌∷◌, ◌++◌, Some, refl, sym, ap, ◌∙◌, subst, map, length, replicate, arith, add-one}
+use Rattle.std.proofs.Common.{◌≡◌, ◌≢◌, ℕ, zero, suc, ◌+◌, ◌<◌, ◌⊎◌, inl, inr, List, [], ◌∷◌, ◌++◌, Some, refl, sym, ap, ◌∙◌, subst, length, replicate, arith, add-one}
 use Rattle.std.specs.Prelude.{slice_get}
-use Rattle.std.specs.List.{All, Contains}
 use Rattle.std.proofs.Math.ListN.{set, length-set}
 use Rattle.std.proofs.lemmas.List.{length-replicate, length_push}
 use Rattle.std.proofs.lemmas.List.Elements.{All-contains}
@@ -11,9 +10,9 @@ use Rattle.graph_solve.specs.Numbers.{Numbers}
 use Rattle.graph_solve.specs.Problem.{DataFlow, Falls, begins, falls}
 use Rattle.graph_solve.specs.Paths.{ControlFlow, Begins, Leads, Path, first, anywhere, next, along, Comes, Leaves}
 use Rattle.graph_solve.specs.Meets.{SomeMeet, one, both, IsMeetOf}
-use Rattle.graph_solve.specs.Solution.{AreMet, AreMetBehind, AreWithin, HasEdge}
+use Rattle.graph_solve.specs.Solution.{AreMet, AreMetBehind, AreWithin}
 use Rattle.graph_solve.specs.Rounds.{AreDirected, AreCounted, AreFalling, IsSettled, AreAllSettled, HasFallen, Follows, rests, relaxes, falls_left, AreFirst, AreMade}
-use Rattle.graph_solve.proofs.Lists.{at_set, set_there, at_push, push_before, push_last, there, at_replicate}
+use Rattle.graph_solve.proofs.Lists.{at_set, at_push, push_before, push_last, there, at_replicate}
 
 -- one more fall leaves one fewer
 falls_less : (height : ℕ) (counts : List ℕ) (block count : ℕ) → slice_get counts block ≡ Some count → count < height → falls_left height (set counts block (count + 1)) < falls_left height counts
@@ -80,7 +79,7 @@ module _ (flow : DataFlow) where
     as_long = ap length fall.falls ∙ length-set values edge.to fallen
 
   module _ (control : ControlFlow) where
-    along_value : {block : ℕ} (path : Path control flow.forward block) → flow.IsValue (along flow control path)
+    pub along_value : {block : ℕ} (path : Path control flow.forward block) → flow.IsValue (along flow control path)
     along_value (first b) = flow.edge_value
     along_value (anywhere b) = flow.top_value
     along_value (next {from} path leads) = flow.transfer_value from _ (along_value path)

@@ -6,3 +6,5 @@ pub mod Rounding
 pub mod Directing
 pub mod Solved
 pub mod PathLaws
+pub mod Carrying
+pub mod Living

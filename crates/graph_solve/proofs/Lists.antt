@@ -1,7 +1,8 @@
 -- Lists by index.
-use Rattle.std.proofs.Common.{◌≡◌, ◌≢◌, ℕ, zero, suc, ◌<◌, ◌+◌, ◌⊎◌, inl, inr, List, [], ◌∷◌, ◌++◌, Some, refl, sym, ap, ◌∙◌, map, length, replicate, get_or, arith}
+use Rattle.std.proofs.Common.{◌≡◌, ◌≢◌, ℕ, zero, suc, ◌<◌, ◌⊎◌, inl, inr, List, [], ◌∷◌, ◌++◌, Some, refl, ap, map, length, replicate, get_or, arith, subst}
 use Rattle.std.specs.Prelude.{slice_get}
-use Rattle.std.specs.List.{Contains}
+use Rattle.std.specs.List.{All, Contains}
+use Rattle.std.proofs.lemmas.Option.{get_or_from_slice_get, slice_get_within}
 use Rattle.std.proofs.Math.ListN.{set}
 
 -- what stands at a place of a list after a write
@@ -54,3 +55,11 @@ module _ {X Y : Type 0} (f : X → Y) where
   into_map [] x k lt e = absurd (omega arith)
   into_map (z ∷ xs) x zero lt e = (0, omega arith, ap f e)
   into_map (z ∷ xs) x (suc k) lt e = let r = into_map xs x k (omega arith) e in (suc r.0, omega (arith, r.1), r.2)
+
+-- what is true of each element is true of the one at a place
+pub All-at : {X : Type 0} (P : X → Type 0) (xs : List X) (i : ℕ) (x : X) → All P xs → slice_get xs i ≡ Some x → P x
+All-at P xs i x all e = subst P (get_or_from_slice_get xs i x x e) (all i x (slice_get_within xs i x e))
+
+pub map_through : {X Y Z : Type 0} (f : Y → Z) (h : X → Y) (xs : List X) → map f (map h xs) ≡ map (λ x. f (h x)) xs
+map_through f h [] = refl
+map_through f h (x ∷ xs) = ap (λ ys. f (h x) ∷ ys) (map_through f h xs)

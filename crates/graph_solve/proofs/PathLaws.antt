@@ -1,11 +1,9 @@
 -- What a meet of sets says of their numbers: by union those on some path, by intersection those on every path.
-use Rattle.std.proofs.Common.{nat_cmp, ◌≡◌, ℕ, ◌⊎◌, inl, inr, ◌↔◌, Bool, true, false, true≢false, refl, sym, ap, ◌∙◌}
+use Rattle.std.proofs.Common.{◌≡◌, ℕ, ◌⊎◌, inl, inr, ◌↔◌, Bool, true, false, true≢false, refl, sym, ap, ◌∙◌}
 use Rattle.std.specs.Prelude.{◌||◌, ◌&&◌}
 use Rattle.std.specs.Cmp.{nat_cmp_total}
 use Rattle.std.specs.FinSet.{contains, union, intersection, contains-union, contains-intersection}
 use Rattle.graph_solve.specs.Numbers.{Numbers}
-use Rattle.graph_solve.specs.Problem.{DataFlow}
-use Rattle.graph_solve.specs.Paths.{ControlFlow, Path, along, Comes}
 use Rattle.graph_solve.specs.Meets.{SomeMeet, one, both, IsMeetOf}
 
 either : (a b : Bool) → (a || b) ≡ true → (a ≡ true) ⊎ (b ≡ true)

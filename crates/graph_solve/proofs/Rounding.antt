@@ -1,12 +1,12 @@
 -- One turn of a round.
-use Rattle.std.proofs.Common.{◌≡◌, ℕ, ◌+◌, ◌<◌, ◌≤◌, Bool, true, false, true≢false, List, length, get_or, sym, ap, ◌∙◌, subst, arith}
-use Rattle.std.specs.List.{AllWithin, All}
+use Rattle.std.proofs.Common.{◌≡◌, ℕ, ◌+◌, ◌<◌, ◌≤◌, Bool, true, false, true≢false, List, length, get_or, sym, ◌∙◌, subst, arith}
+use Rattle.std.specs.List.{AllWithin}
 use Rattle.std.proofs.lemmas.List.{get_or_default}
 use Rattle.std.proofs.lemmas.List.Elements.{AllWithin-more, Contains-get_or}
 use Rattle.graph_solve.specs.declared.flow_graph.Edge.{Edge}
 use Rattle.graph_solve.specs.Numbers.{Numbers}
 use Rattle.graph_solve.specs.Problem.{DataFlow}
-use Rattle.graph_solve.specs.Rounds.{AreCounted, HasFallen, Follows, relaxes, IsSettled, IsRelaxed, falls_left}
+use Rattle.graph_solve.specs.Rounds.{AreCounted, HasFallen, Follows, relaxes, IsSettled, falls_left}
 use Rattle.graph_solve.proofs.Falling.{still_counted, as_long, fewer_left}
 
 module _ (flow : DataFlow) (height : ℕ) (edges : List Edge) (first_values : List Numbers) (first_counts : List ℕ) where

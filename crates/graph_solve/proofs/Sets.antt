@@ -1,5 +1,5 @@
 -- A tree of numbers, seen as their set.
-use Rattle.std.proofs.Common.{◌≡◌, ℕ, nat_cmp, Bool, true, false, true≢false, cond, refl, sym, ap, ◌∙◌, subst, List, Global}
+use Rattle.std.proofs.Common.{◌≡◌, ℕ, nat_cmp, Bool, true, false, true≢false, cond, refl, sym, ap, ◌∙◌, subst}
 use Rattle.std.specs.Prelude.{◌||◌, ◌&&◌, not, IsTrue}
 use Rattle.std.specs.Cmp.{nat_cmp_total, eq_by_cmp_equiv}
 use Rattle.std.specs.Ordering.{eq_by_cmp}

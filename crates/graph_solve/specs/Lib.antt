@@ -6,3 +6,6 @@ pub mod Solution
 pub mod Rounds
 pub mod SetLaws
 pub mod SetProblems
+pub mod GraphFlow
+pub mod Live
+pub mod LiveLaws

@@ -1,5 +1,5 @@
 -- Problems of data flow, with their laws.
-use Rattle.std.specs.Prelude.{◌≡◌, ◌≢◌, ℕ, zero, suc, ◌≤◌, Bool}
+use Rattle.std.specs.Prelude.{◌≡◌, ◌≢◌, ℕ, suc, ◌≤◌, Bool}
 use Rattle.graph_solve.specs.Numbers.{Numbers}
 
 -- A chain of so many falls ends at a value: it begins at any value, and each next value lies strictly below the one before.

@@ -1,14 +1,15 @@
 -- Sets of numbers below a width are the values of problems, by union and by intersection.
-use Rattle.std.proofs.Common.{nat_cmp, ◌≡◌, ◌≢◌, ℕ, zero, suc, ◌+◌, ◌<◌, ◌≤◌, ◌⊎◌, inl, inr, Bool, true, false, true≢false, refl, sym, ap, ◌∙◌, subst, arith}
+use Rattle.std.proofs.Common.{nat_cmp, ◌≡◌, ℕ, zero, suc, ◌+◌, ◌<◌, ◌≤◌, ◌⊎◌, inl, inr, Bool, true, false, true≢false, refl, sym, ap, ◌∙◌, subst, arith}
 use Rattle.std.specs.Prelude.{◌||◌, ◌&&◌, ◌==◌, not}
 use Rattle.std.specs.Cmp.{nat_cmp_total, unsigned_tied, eq_by_cmp_equiv}
 use Rattle.std.proofs.lemmas.Bool.Decides.{nat_tests}
 use Rattle.std.specs.Ordering.{eq_by_cmp}
-use Rattle.std.specs.FinSet.{empty, contains, insert, union, intersection, difference, contains-empty, contains-insert, contains-union, contains-intersection, contains-difference, same_set, nat_cmp-IsAntisymmetric}
+use Rattle.std.specs.FinSet.{empty, contains, union, intersection, difference, contains-empty, contains-insert, contains-union, contains-intersection, contains-difference, same_set, nat_cmp-IsAntisymmetric}
 use Rattle.graph_solve.specs.Numbers.{Numbers, IsBelow, numbers_below, made_of}
 use Rattle.graph_solve.specs.Problem.{Falls, begins, falls}
 
-equal : (s t : Numbers) → ((q : ℕ) → contains s q ≡ contains t q) → s ≡ t
+-- sets of the same numbers are equal
+pub equal : (s t : Numbers) → ((q : ℕ) → contains s q ≡ contains t q) → s ≡ t
 equal = same_set nat_cmp_total nat_cmp-IsAntisymmetric
 
 in_union : (s t : Numbers) (q : ℕ) → contains (union s t) q ≡ (contains s q || contains t q)

@@ -4,11 +4,15 @@
 mod directed;
 mod facts;
 mod flow_graph;
+mod graph;
+mod live_names;
 mod problem;
 mod rounds;
 mod solving;
 
 pub use facts::Facts;
 pub use flow_graph::{Edge, FlowGraph};
+pub use graph::solve;
+pub use live_names::live;
 pub use problem::Problem;
 pub use solving::{Solution, solve_flow};

@@ -1,4 +1,4 @@
-use Rattle.std.proofs.Common.{◌≡◌, sym, ap, ◌∙◌, subst, map, take, length, arith, Vec, Global}
+use Rattle.std.proofs.Common.{◌≡◌, sym, ap, ◌∙◌, subst, map, length, arith, Vec, Global}
 use Rattle.std.proofs.lemmas.List.{take_all}
 use Rattle.graph_solve.specs.declared.flow_graph.Edge.{Edge}
 use Rattle.graph_solve.specs.Solution.{control_flow}

@@ -1,4 +1,4 @@
-use Rattle.std.proofs.Common.{◌≡◌, ◌<◌, sym, true, false, true≢false, ◌∙◌, arith}
+use Rattle.std.proofs.Common.{◌≡◌, sym, true≢false, ◌∙◌, arith}
 use Rattle.graph_solve.proofs.Relaxing.{has_fallen, count_fits}
 use Rattle.graph_solve.proofs.rounds.relax.Goals as goal
 

@@ -1,4 +1,4 @@
-use Rattle.std.proofs.Common.{◌≡◌, ◌+◌, ◌≤◌, true, false, true≢false, refl, sym, subst, arith, get_or}
+use Rattle.std.proofs.Common.{◌+◌, true≢false, refl, sym, subst, arith, get_or}
 use Rattle.graph_solve.specs.declared.flow_graph.Edge.{Edge}
 use Rattle.graph_solve.specs.Rounds.{IsRelaxed, rests}
 use Rattle.graph_solve.proofs.Rounding.{IsUnderWay, fell_more, rested_more}

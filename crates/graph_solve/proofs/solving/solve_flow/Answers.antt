@@ -1,4 +1,4 @@
-use Rattle.std.proofs.Common.{◌≡◌, sym, ◌∙◌, subst, length}
+use Rattle.std.proofs.Common.{sym, ◌∙◌, subst, length}
 use Rattle.graph_solve.specs.Solution.{control_flow}
 use Rattle.graph_solve.specs.Rounds.{AreMade}
 use Rattle.graph_solve.proofs.Solved.{solved_forward, solved_backward}
