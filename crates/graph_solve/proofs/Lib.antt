@@ -8,3 +8,4 @@ pub mod Solved
 pub mod PathLaws
 pub mod Carrying
 pub mod Living
+pub mod Within

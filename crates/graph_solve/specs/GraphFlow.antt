@@ -1,5 +1,5 @@
 -- Where execution goes in the graph of a function.
-use Rattle.std.specs.Prelude.{◌≡◌, ℕ, ◌<◌, Bool, true, false, List, length, Some, slice_get}
+use Rattle.std.specs.Prelude.{◌≡◌, ℕ, ◌<◌, ◌&&◌, Bool, true, false, nat_lt, List, [], ◌∷◌, length, Some, slice_get}
 use Rattle.std.specs.List.{All, Contains}
 use Rattle.graph_core.specs.Graphs.{Block, End, Jump, Branch, Return, Graph}
 use Rattle.graph_core.specs.Uses.{targets_of}
@@ -24,6 +24,17 @@ graph_flow g = record {
 abbrev pub AreTargetsWithin : Graph → Type 0
 AreTargetsWithin g = All (λ (b : Block). All (λ to. to < length g.blocks) (targets_of b.end)) g.blocks
 
+-- whether all these blocks are below the number
+abbrev pub leads_within : (blocks : ℕ) → List ℕ → Bool
+leads_within blocks [] = true
+leads_within blocks (to ∷ more) = nat_lt to blocks && leads_within blocks more
+
+-- whether the ends of these blocks name only blocks below the number
+abbrev pub lead_within : (blocks : ℕ) → List Block → Bool
+lead_within blocks [] = true
+lead_within blocks (b ∷ more) = leads_within blocks (targets_of b.end) && lead_within blocks more
+
+-- the edge from one block to another
 abbrev pub edge_from : (from to : ℕ) → Edge
 edge_from from to = record { from = from; to = to }
 

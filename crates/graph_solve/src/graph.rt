@@ -1,15 +1,15 @@
 //! Problems over the graph of a function.
 
-ghost use Rattle.std.specs.Prelude.{◌≡◌, ◌≤◌, ◌^◌, ◌++◌, IfOk, OnOk, length, map};
-ghost use Rattle.graph_core.specs.Graphs.{end_view, graph_view};
+ghost use Rattle.std.specs.Prelude.{◌≡◌, ◌≤◌, ◌^◌, ◌++◌, ◌↔◌, true, IfOk, OnOk, length, map};
+ghost use Rattle.graph_core.specs.Graphs.{block_view, end_view, graph_view};
 ghost use Rattle.graph_core.specs.Uses.{targets_of};
-ghost use Rattle.graph_solve.specs.GraphFlow.{AreFlow, AreTargetsWithin, edge_from, graph_flow, is_return};
+ghost use Rattle.graph_solve.specs.GraphFlow.{AreFlow, AreTargetsWithin, edge_from, graph_flow, is_return, lead_within, leads_within};
 ghost use Rattle.graph_solve.specs.Solution.{IsSolution};
 
 use crate::flow_graph::{Edge, FlowGraph};
 use crate::problem::Problem;
 use crate::solving::{Solution, solve_flow};
-use graph_core::{End, Graph};
+use graph_core::{Block, End, Graph};
 use std::alloc::{AllocError, Global};
 
 /// Whether the function ends there.
@@ -45,6 +45,41 @@ fn flow_graph(alloc: Global, graph: &Graph) -> Result<FlowGraph, AllocError>
         push_edges(alloc, from as u32, &block.end, &mut edges)?;
     }
     Ok(FlowGraph { ends, edges })
+}
+
+/// Whether the end names blocks below this number alone.
+fn end_leads_within(end: &End, blocks: usize) -> bool
+    ensures { result ≡ leads_within blocks (targets_of (end_view end.now)) }
+{
+    match end {
+        End::Return(_) => true,
+        End::Jump(label) => (label.0 as usize) < blocks,
+        End::Branch {
+            then,
+            otherwise,
+            ..
+        } => (then.0 as usize) < blocks && (otherwise.0 as usize) < blocks,
+    }
+}
+
+/// Whether the ends of the blocks name these blocks alone.
+fn blocks_lead_within(blocks: &[Block]) -> bool
+    ensures { result ≡ lead_within (length blocks.now) (map block_view blocks.now) }
+{
+    for block in blocks {
+        if !end_leads_within(&block.end, blocks.len()) {
+            return false;
+        }
+    }
+    true
+}
+
+/// Whether each end names blocks of the graph.
+pub fn targets_are_within(graph: &Graph) -> bool
+    ensures { (result ≡ true) ↔ AreTargetsWithin (graph_view graph.now) }
+{
+    let within = blocks_lead_within(&graph.blocks);
+    within
 }
 
 /// At the start and at the end of each block of a function the meet over all paths of the problem's direction that lead there.

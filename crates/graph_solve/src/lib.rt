@@ -9,10 +9,12 @@ mod live_names;
 mod problem;
 mod rounds;
 mod solving;
+#[cfg(test)]
+mod tests;
 
 pub use facts::Facts;
 pub use flow_graph::{Edge, FlowGraph};
-pub use graph::solve;
+pub use graph::{solve, targets_are_within};
 pub use live_names::live;
 pub use problem::Problem;
 pub use solving::{Solution, solve_flow};
