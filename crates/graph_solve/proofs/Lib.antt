@@ -1,0 +1,11 @@
+pub mod Sets
+pub mod Lists
+pub mod Falling
+pub mod Relaxing
+pub mod Rounding
+pub mod Directing
+pub mod Solved
+pub mod PathLaws
+pub mod Carrying
+pub mod Living
+pub mod Within

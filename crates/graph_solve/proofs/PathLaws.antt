@@ -1,0 +1,46 @@
+-- What a meet of sets says of their numbers: by union those on some path, by intersection those on every path.
+use Rattle.std.proofs.Common.{◌≡◌, ℕ, ◌⊎◌, inl, inr, ◌↔◌, Bool, true, false, true≢false, refl, sym, ap, ◌∙◌}
+use Rattle.std.specs.Prelude.{◌||◌, ◌&&◌}
+use Rattle.std.specs.Cmp.{nat_cmp_total}
+use Rattle.std.specs.FinSet.{contains, union, intersection, contains-union, contains-intersection}
+use Rattle.graph_solve.specs.Numbers.{Numbers}
+use Rattle.graph_solve.specs.Meets.{SomeMeet, one, both, IsMeetOf}
+
+either : (a b : Bool) → (a || b) ≡ true → (a ≡ true) ⊎ (b ≡ true)
+either true b e = inl refl
+either false b e = inr e
+
+or_true : (a b : Bool) → b ≡ true → (a || b) ≡ true
+or_true true b e = refl
+or_true false b e = e
+
+and_parts : (a b : Bool) → (a && b) ≡ a → a ≡ true → b ≡ true
+and_parts true b e h = e
+and_parts false b e h = absurd (true≢false (sym h))
+
+and_all : (a b : Bool) → a ≡ true → b ≡ true → (a && b) ≡ true
+and_all true b e h = h
+and_all false b e h = absurd (true≢false (sym e))
+
+module _ (P : Numbers → Type 0) (x : Numbers) (q : ℕ) where
+  from_some : {y : Numbers} → SomeMeet union P y → contains y q ≡ true → (v : Numbers) × P v × (contains v q ≡ true)
+  from_some (one {x = y} p) e = (y, p, e)
+  from_some (both {x = y} {y = z} a b) e = elim (either (contains y q) (contains z q) (sym (contains-union nat_cmp_total y z q) ∙ e)) [ inl l ↦ from_some a l | inr r ↦ from_some b r ]
+
+  from_all : {y : Numbers} → SomeMeet intersection P y → ((v : Numbers) → P v → contains v q ≡ true) → contains y q ≡ true
+  from_all (one {x = y} p) all = all y p
+  from_all (both {x = y} {y = z} a b) all = contains-intersection nat_cmp_total y z q ∙ and_all (contains y q) (contains z q) (from_all a all) (from_all b all)
+
+  -- a number is in the meet by union exactly where it is in one of the sets
+  pub in_some : IsMeetOf union P x → (contains x q ≡ true) ↔ ((v : Numbers) × P v × (contains v q ≡ true))
+  in_some m = (
+    (λ e. from_some m.made e),
+    (λ h. sym (ap (λ s. contains s q) (m.below h.0 h.1)) ∙ contains-union nat_cmp_total x h.0 q ∙ or_true (contains x q) (contains h.0 q) h.2),
+  )
+
+  -- a number is in the meet by intersection exactly where it is in each of the sets
+  pub in_each : IsMeetOf intersection P x → (contains x q ≡ true) ↔ ((v : Numbers) → P v → contains v q ≡ true)
+  in_each m = (
+    (λ e v p. and_parts (contains x q) (contains v q) (sym (contains-intersection nat_cmp_total x v q) ∙ ap (λ s. contains s q) (m.below v p)) e),
+    (λ all. from_all m.made all),
+  )

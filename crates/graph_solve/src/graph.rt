@@ -1,0 +1,94 @@
+//! Problems over the graph of a function.
+
+ghost use Rattle.std.specs.Prelude.{◌≡◌, ◌≤◌, ◌^◌, ◌++◌, ◌↔◌, true, IfOk, OnOk, length, map};
+ghost use Rattle.graph_core.specs.Graphs.{block_view, end_view, graph_view};
+ghost use Rattle.graph_core.specs.Uses.{targets_of};
+ghost use Rattle.graph_solve.specs.GraphFlow.{AreFlow, AreTargetsWithin, edge_from, graph_flow, is_return, lead_within, leads_within};
+ghost use Rattle.graph_solve.specs.Solution.{IsSolution};
+
+use crate::flow_graph::{Edge, FlowGraph};
+use crate::problem::Problem;
+use crate::solving::{Solution, solve_flow};
+use graph_core::{Block, End, Graph};
+use std::alloc::{AllocError, Global};
+
+/// Whether the function ends there.
+fn returns(end: &End) -> bool
+    ensures { result ≡ is_return (end_view end.now) }
+{
+    match end {
+        End::Return(_) => true,
+        End::Jump(_) | End::Branch { .. } => false,
+    }
+}
+
+/// Appends the edges from a block with this end.
+fn push_edges(alloc: Global, from: u32, end: &End, edges: &mut Vec<Edge>) -> Result<(), AllocError>
+    ensures { OnOk result (edges.new.items ≡ edges.old.items ++ map (edge_from from) (targets_of (end_view end.now))) }
+{
+    let targets = end.targets(alloc)?;
+    for target in &targets {
+        edges.push(Edge { from, to: target.0 })?;
+    }
+    Ok(())
+}
+
+/// The blocks of a graph, and the edges between them.
+fn flow_graph(alloc: Global, graph: &Graph) -> Result<FlowGraph, AllocError>
+    requires { length graph.now.blocks.items ≤ 2 ^ 32 }
+    ensures { IfOk result (λ flow. AreFlow (graph_view graph.now) (length graph.now.blocks.items) flow.ends.items flow.edges.items) }
+{
+    let mut ends = Vec::new(alloc);
+    let mut edges = Vec::new(alloc);
+    for (from, block) in graph.blocks.iter().enumerate() {
+        ends.push(returns(&block.end))?;
+        push_edges(alloc, from as u32, &block.end, &mut edges)?;
+    }
+    Ok(FlowGraph { ends, edges })
+}
+
+/// Whether the end names blocks below this number alone.
+fn end_leads_within(end: &End, blocks: usize) -> bool
+    ensures { result ≡ leads_within blocks (targets_of (end_view end.now)) }
+{
+    match end {
+        End::Return(_) => true,
+        End::Jump(label) => (label.0 as usize) < blocks,
+        End::Branch {
+            then,
+            otherwise,
+            ..
+        } => (then.0 as usize) < blocks && (otherwise.0 as usize) < blocks,
+    }
+}
+
+/// Whether the ends of the blocks name these blocks alone.
+fn blocks_lead_within(blocks: &[Block]) -> bool
+    ensures { result ≡ lead_within (length blocks.now) (map block_view blocks.now) }
+{
+    for block in blocks {
+        if !end_leads_within(&block.end, blocks.len()) {
+            return false;
+        }
+    }
+    true
+}
+
+/// Whether each end names blocks of the graph.
+pub fn targets_are_within(graph: &Graph) -> bool
+    ensures { (result ≡ true) ↔ AreTargetsWithin (graph_view graph.now) }
+{
+    let within = blocks_lead_within(&graph.blocks);
+    within
+}
+
+/// At the start and at the end of each block of a function the meet over all paths of the problem's direction that lead there.
+pub fn solve<P: Problem>(alloc: Global, graph: &Graph, problem: &P) -> Result<Solution, AllocError>
+    requires few { length graph.now.blocks.items ≤ 2 ^ 32 }
+    requires within { AreTargetsWithin (graph_view graph.now) }
+    ensures { IfOk result (λ solution. IsSolution (P.flow problem.now) (graph_flow (graph_view graph.now)) (length graph.now.blocks.items) solution.starts.items solution.ends.items) }
+{
+    let flow = flow_graph(alloc, graph)?;
+    let solution = solve_flow(alloc, &flow, problem)?;
+    Ok(solution)
+}

@@ -1,0 +1,20 @@
+//! Facts at the blocks of a graph, solved as the meet over all paths.
+#![tactic(auto)]
+
+mod directed;
+mod facts;
+mod flow_graph;
+mod graph;
+mod live_names;
+mod problem;
+mod rounds;
+mod solving;
+#[cfg(test)]
+mod tests;
+
+pub use facts::Facts;
+pub use flow_graph::{Edge, FlowGraph};
+pub use graph::{solve, targets_are_within};
+pub use live_names::live;
+pub use problem::Problem;
+pub use solving::{Solution, solve_flow};

@@ -1,0 +1,111 @@
+//! The names that are read later.
+
+ghost use Rattle.std.specs.Prelude.{◌≡◌, ◌≤◌, ◌^◌, IfOk, OnOk, length, option_map};
+ghost use Rattle.graph_core.specs.Graphs.{block_view, graph_view, instruction_view};
+ghost use Rattle.graph_core.specs.Uses.{numbers};
+ghost use Rattle.graph_solve.specs.GraphFlow.{AreTargetsWithin};
+ghost use Rattle.graph_solve.specs.Live.{AreLive, before_block, before_one, with_names};
+ghost use Rattle.graph_solve.specs.LiveLaws.{live_flow};
+
+use crate::facts::Facts;
+use crate::graph::solve;
+use crate::problem::Problem;
+use crate::solving::Solution;
+use graph_core::{Block, Graph, Instr, Name};
+use std::alloc::{AllocError, Global};
+
+/// Puts the names below the width into the set.
+fn add_names(names: &[Name], width: u32, live: &mut Facts) -> Result<(), AllocError>
+    ensures { OnOk result (live.new ≡ with_names width (numbers names.now) live.old) }
+{
+    for name in names {
+        if name.0 < width {
+            live.add(name.0)?;
+        }
+    }
+    Ok(())
+}
+
+/// From the names that are live behind an instruction to those that are live before it.
+fn step_back(
+    alloc: Global,
+    instruction: &Instr,
+    width: u32,
+    live: &mut Facts,
+) -> Result<(), AllocError>
+    ensures { OnOk result (live.new ≡ before_one width (instruction_view instruction.now) live.old) }
+{
+    if let Some(target) = instruction.target() {
+        live.remove(target.0);
+    }
+    add_names(&instruction.reads(alloc)?, width, live)
+}
+
+/// The names that are live at the start of a block, from those at its end.
+fn live_at_start(
+    alloc: Global,
+    block: &Block,
+    width: u32,
+    behind: &Facts,
+) -> Result<Facts, AllocError>
+    ensures { IfOk result (λ live. live ≡ before_block width (block_view block.now) behind.now) }
+{
+    let mut live = behind.duplicate()?;
+    add_names(&block.end.reads(alloc)?, width, &mut live)?;
+    let mut left = block.instructions.len();
+    while left > 0 {
+        left -= 1;
+        step_back(alloc, &block.instructions[left], width, &mut live)?;
+    }
+    Ok(live)
+}
+
+/// Live names as a problem: they flow against execution, from none at the function's ends.
+#[derive(Drop)]
+struct LiveNames<'a> {
+    graph: &'a Graph,
+}
+
+impl<'a> Problem for LiveNames<'a> {
+    ghost flow = { λ names. live_flow (graph_view names.graph.now) };
+
+    fn forward(&self) -> bool {
+        false
+    }
+
+    fn height(&self) -> u32 {
+        self.graph.names
+    }
+
+    fn edge(&self, alloc: Global) -> Result<Facts, AllocError> {
+        Ok(Facts::new(alloc))
+    }
+
+    fn top(&self, alloc: Global) -> Result<Facts, AllocError> {
+        Ok(Facts::new(alloc))
+    }
+
+    fn meet(&self, _alloc: Global, a: &Facts, b: &Facts) -> Result<Facts, AllocError> {
+        a.union(b)
+    }
+
+    fn transfer(&self, alloc: Global, block: u32, value: &Facts) -> Result<Facts, AllocError> {
+        match self.graph.blocks.get(block as usize) {
+            Some(block) => live_at_start(alloc, block, self.graph.names, value),
+            None => value.duplicate(),
+        }
+    }
+}
+
+/// The names that are read later, at the start and at the end of each block (Hennessy 1982): those that some path from there on
+/// reads before it writes them.
+///
+/// Notes read nothing. The call writes the parameters before the entry.
+pub fn live(alloc: Global, graph: &Graph) -> Result<Solution, AllocError>
+    requires few { length graph.now.blocks.items ≤ 2 ^ 32 }
+    requires within { AreTargetsWithin (graph_view graph.now) }
+    ensures { IfOk result (λ solution. AreLive (graph_view graph.now) solution.starts.items solution.ends.items) }
+{
+    let solution = solve(alloc, graph, &LiveNames { graph })?;
+    Ok(solution)
+}
