@@ -1,1 +1,5 @@
 pub mod Keeping
+pub mod Inversions
+pub mod WorkedBuilt
+pub mod WorkedReduced
+pub mod WorkedPass
