@@ -3,3 +3,4 @@ pub mod Inversions
 pub mod WorkedBuilt
 pub mod WorkedReduced
 pub mod WorkedPass
+pub mod LogLonger
