@@ -8,7 +8,7 @@ use Rattle.graph_core.specs.Paths.{Passed, History, Among, Way, stays, passes, g
 use Rattle.graph_core.specs.Validity.{IsValid}
 use Rattle.graph_core.specs.WellMarked as marked
 use Rattle.graph_core.specs.WellMarked.{StandsIn, here, InPlace, ComesToMarker, at_marker, instruction, IsRightNote, IsWellMarked, AreWellMarked}
-use Rattle.graph_core.specs.Worked.{assigning, built}
+use Rattle.graph_core.specs.Worked.{assigns_two, assigning, built}
 use Rattle.graph_core.proofs.Inversions.{some_same, none_is_some, false_is_true, among_one, among_none, only_scalar, no_local, apart, each_block, to_second, to_third}
 
 abbrev passed : ℕ → ℕ → Instruction → Value → Passed
@@ -19,10 +19,6 @@ move = Move 0 (Constant 2)
 
 abbrev note : Instruction
 note = Note 0 (Is (Of (Name 0)))
-
--- The assignment's block.
-abbrev body : List Instruction
-body = Marker 2 ∷ move ∷ note ∷ []
 
 -- What was passed before each instruction of the way through the graph.
 abbrev at_entry : Value → History
@@ -59,8 +55,8 @@ goes_past (notes u v w) x = assigned u v w x
 goes_past (return u v w x) y = returns u v w x y
 
 goes_along : {h : History} {n l : ℕ} {e : End} → IsPoint h n [] e → Among l (targets_of e) → (b : Block) → slice_get assigning.blocks l ≡ Some b → IsPoint h l b.instructions b.end
-goes_along {l = l} (entered u) a b is = to_second body (Name 0) (IsPoint (at_entry u)) l b (among_one a) is (assignment u)
-goes_along {l = l} (assigned u v w x) a b is = to_third body (Name 0) (IsPoint (noted u v w x)) l b (among_one a) is (return u v w x)
+goes_along {l = l} (entered u) a b is = to_second assigns_two (Name 0) (IsPoint (at_entry u)) l b (among_one a) is (assignment u)
+goes_along {l = l} (assigned u v w x) a b is = to_third assigns_two (Name 0) (IsPoint (noted u v w x)) l b (among_one a) is (return u v w x)
 goes_along (returns u v w x y) a b is = absurd (among_none a)
 
 point_of_way : {h : History} {n : ℕ} {rest : List Instruction} {e : End} → Way assigning 0 (Marker 1 ∷ []) (Jump 1) h n rest e → IsPoint h n rest e
@@ -92,7 +88,7 @@ in_third here = third
 in_third (marked.behind s) = elim s [ ]
 
 in_place : {p : ℕ} {i : Instruction} → InPlace assigning p i → IsIn p i
-in_place {p} {i} at = each_block body (Name 0) (λ (b : Block). StandsIn p i b.place b.instructions → IsIn p i) in_first in_second in_third at.number at.block at.is at.stands
+in_place {p} {i} at = each_block assigns_two (Name 0) (λ (b : Block). StandsIn p i b.place b.instructions → IsIn p i) in_first in_second in_third at.number at.block at.is at.stands
 
 flow : {h : History} {n q : ℕ} {rest : List Instruction} {e : End} → IsPoint h n (Marker q ∷ rest) e → (p : ℕ) → place_of h ≡ Some p → can_go built.steps p q ≡ true
 flow entry p is = absurd (none_is_some is)
@@ -150,9 +146,9 @@ behind_write (notes u v w) = refl
 well_marked : IsWellMarked built assigning
 well_marked = record {
   begins = λ b is. ([], subst (λ (c : Block). c.instructions ≡ Marker 1 ∷ []) (some_same is) refl);
-  first = each_block body (Name 0) (λ (b : Block). Among 0 (targets_of b.end) → ⊥) (λ a. apart 0 1 (lit< tt) (among_one a)) (λ a. apart 0 2 (lit< tt) (among_one a)) (λ a. among_none a);
+  first = each_block assigns_two (Name 0) (λ (b : Block). Among 0 (targets_of b.end) → ⊥) (λ a. apart 0 1 (lit< tt) (among_one a)) (λ a. apart 0 2 (lit< tt) (among_one a)) (λ a. among_none a);
   flows = λ h n p q rest e at is. flow (point at) p is;
-  cycles = each_block body (Name 0) (λ (b : Block). ComesToMarker assigning b.instructions b.end) at_marker at_marker at_marker;
+  cycles = each_block assigns_two (Name 0) (λ (b : Block). ComesToMarker assigning b.instructions b.end) at_marker at_marker at_marker;
   entry_calls = λ i at. no_call (in_place at);
   leaves = λ h n a at. leave (point at);
   zeroes = λ p object words at. absurd (zero_in (in_place at));

@@ -11,7 +11,7 @@ use Rattle.graph_core.specs.Runs.{Frame, Event, unit_run}
 use Rattle.graph_core.specs.Keeps as keeps
 use Rattle.graph_core.specs.Keeps.{Agree, none, more, SameFrame, SameEvent, stop, exited, Begins, ends, goes_on, SameProgram, Keeps}
 use Rattle.graph_core.specs.Earned.{Behind, ReadsNext, IsUnread, IsRemoved, IsEarned}
-use Rattle.graph_core.specs.Worked.{assigning, noting, built, removal, reduced, AreWorked}
+use Rattle.graph_core.specs.Worked.{assigning, notes_two, noting, built, removal, reduced, AreWorked}
 use Rattle.graph_core.proofs.Inversions.{among_none, each_block}
 use Rattle.graph_core.proofs.WorkedBuilt.{built_is_marked}
 use Rattle.graph_core.proofs.WorkedReduced.{reduced_is_marked}
@@ -57,7 +57,7 @@ record IsQuiet (rest : List Instruction) (e : End) : Type 0 where
 
 quiet_block : (n : ℕ) (b : Block) → slice_get noting.blocks n ≡ Some b → IsQuiet b.instructions b.end
 quiet_block =
-    each_block (Marker 2 ∷ Note 0 (Is (Of (Constant 2))) ∷ []) (Constant 2) (λ (b : Block). IsQuiet b.instructions b.end)
+    each_block notes_two (Constant 2) (λ (b : Block). IsQuiet b.instructions b.end)
     (record { instructions = (λ a. among_none a, tt); end = λ a. among_none a })
     (record { instructions = (λ a. among_none a, (λ a. among_none a, tt)); end = λ a. among_none a })
     (record { instructions = (λ a. among_none a, tt); end = λ a. among_none a })

@@ -9,7 +9,7 @@ use Rattle.graph_core.specs.Validity.{IsValid}
 use Rattle.graph_core.specs.WellMarked as marked
 use Rattle.graph_core.specs.WellMarked.{StandsIn, here, InPlace, ComesToMarker, at_marker, WrittenIn, instruction, bound, IsRightNote, IsWellMarked, AreWellMarked}
 use Rattle.debug_records.specs.declared.change.PassName.{PassName}
-use Rattle.graph_core.specs.Worked.{built, noting, removal, reduced}
+use Rattle.graph_core.specs.Worked.{notes_two, built, noting, removal, reduced}
 use Rattle.graph_core.proofs.Inversions.{some_same, none_is_some, false_is_true, among_one, among_none, only_scalar, no_local, apart, each_block, to_second, to_third}
 
 abbrev passed : ℕ → ℕ → Instruction → Value → Passed
@@ -17,10 +17,6 @@ passed n left i v = record { block = n; left = left; instruction = i; wrote = v 
 
 abbrev note : Instruction
 note = Note 0 (Is (Of (Constant 2)))
-
--- The assignment's block.
-abbrev body : List Instruction
-body = Marker 2 ∷ note ∷ []
 
 -- What was passed before each instruction of the way through the graph.
 abbrev at_entry : Value → History
@@ -52,8 +48,8 @@ goes_past (notes u v) w = assigned u v w
 goes_past (return u v w) x = returns u v w x
 
 goes_along : {h : History} {n l : ℕ} {e : End} → IsPoint h n [] e → Among l (targets_of e) → (b : Block) → slice_get noting.blocks l ≡ Some b → IsPoint h l b.instructions b.end
-goes_along {l = l} (entered u) a b is = to_second body (Constant 2) (IsPoint (at_entry u)) l b (among_one a) is (assignment u)
-goes_along {l = l} (assigned u v w) a b is = to_third body (Constant 2) (IsPoint (noted u v w)) l b (among_one a) is (return u v w)
+goes_along {l = l} (entered u) a b is = to_second notes_two (Constant 2) (IsPoint (at_entry u)) l b (among_one a) is (assignment u)
+goes_along {l = l} (assigned u v w) a b is = to_third notes_two (Constant 2) (IsPoint (noted u v w)) l b (among_one a) is (return u v w)
 goes_along (returns u v w x) a b is = absurd (among_none a)
 
 point_of_way : {h : History} {n : ℕ} {rest : List Instruction} {e : End} → Way noting 0 (Marker 1 ∷ []) (Jump 1) h n rest e → IsPoint h n rest e
@@ -83,7 +79,7 @@ in_third here = third
 in_third (marked.behind s) = elim s [ ]
 
 in_place : {p : ℕ} {i : Instruction} → InPlace noting p i → IsIn p i
-in_place {p} {i} at = each_block body (Constant 2) (λ (b : Block). StandsIn p i b.place b.instructions → IsIn p i) in_first in_second in_third at.number at.block at.is at.stands
+in_place {p} {i} at = each_block notes_two (Constant 2) (λ (b : Block). StandsIn p i b.place b.instructions → IsIn p i) in_first in_second in_third at.number at.block at.is at.stands
 
 flow : {h : History} {n q : ℕ} {rest : List Instruction} {e : End} → IsPoint h n (Marker q ∷ rest) e → (p : ℕ) → place_of h ≡ Some p → can_go built.steps p q ≡ true
 flow entry p is = absurd (none_is_some is)
@@ -147,9 +143,9 @@ module _ (pass : PassName) where
   well_marked : IsWellMarked (reduced pass) noting
   well_marked = record {
     begins = λ b is. ([], subst (λ (c : Block). c.instructions ≡ Marker 1 ∷ []) (some_same is) refl);
-    first = each_block body (Constant 2) (λ (b : Block). Among 0 (targets_of b.end) → ⊥) (λ a. apart 0 1 (lit< tt) (among_one a)) (λ a. apart 0 2 (lit< tt) (among_one a)) (λ a. among_none a);
+    first = each_block notes_two (Constant 2) (λ (b : Block). Among 0 (targets_of b.end) → ⊥) (λ a. apart 0 1 (lit< tt) (among_one a)) (λ a. apart 0 2 (lit< tt) (among_one a)) (λ a. among_none a);
     flows = λ h n p q rest e at is. flow (point at) p is;
-    cycles = each_block body (Constant 2) (λ (b : Block). ComesToMarker noting b.instructions b.end) at_marker at_marker at_marker;
+    cycles = each_block notes_two (Constant 2) (λ (b : Block). ComesToMarker noting b.instructions b.end) at_marker at_marker at_marker;
     entry_calls = λ i at. no_call (in_place at);
     leaves = λ h n a at. leave (point at);
     zeroes = λ p object words at. absurd (zero_in (in_place at));

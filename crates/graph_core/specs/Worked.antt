@@ -20,6 +20,13 @@ assignment place variable = record { place = record { 0 = place }; var = record 
 abbrev pub block : Option ℕ → List Instruction → End → Block
 block place instructions end = record { place = place; instructions = instructions; end = end }
 
+-- The block of the entry, and that of the return.
+abbrev pub entry_block : Block
+entry_block = block None (Marker 1 ∷ []) (Jump 1)
+
+abbrev pub return_block : Operand → Block
+return_block returned = block (Some 2) (Marker 3 ∷ []) (Return (Some returned))
+
 -- The graph of `main`: its entry, the block of the assignment, and that of the return, with what is returned.
 abbrev pub main_of : List Instruction → Operand → Graph
 main_of assigns returned = record {
@@ -29,11 +36,7 @@ main_of assigns returned = record {
   objects = [];
   names = 1;
   moved_from = 1;
-  blocks =
-      block None (Marker 1 ∷ []) (Jump 1)
-      ∷ block (Some 1) assigns (Jump 2)
-      ∷ block (Some 2) (Marker 3 ∷ []) (Return (Some returned))
-      ∷ [];
+  blocks = entry_block ∷ block (Some 1) assigns (Jump 2) ∷ return_block returned ∷ [];
 }
 
 abbrev pub unit_of : Graph → List Logged → UnitForm
@@ -48,15 +51,21 @@ unit_of g log = record {
 }
 
 -- As it is built: 2 is moved to x, and x is noted to be x.
+abbrev pub assigns_two : List Instruction
+assigns_two = Marker 2 ∷ Move 0 (Constant 2) ∷ Note 0 (Is (Of (Name 0))) ∷ []
+
 abbrev pub assigning : Graph
-assigning = main_of (Marker 2 ∷ Move 0 (Constant 2) ∷ Note 0 (Is (Of (Name 0))) ∷ []) (Name 0)
+assigning = main_of assigns_two (Name 0)
 
 abbrev pub built : UnitForm
 built = unit_of assigning []
 
 -- Without the assignment: x is noted to be 2, and 2 is returned.
+abbrev pub notes_two : List Instruction
+notes_two = Marker 2 ∷ Note 0 (Is (Of (Constant 2))) ∷ []
+
 abbrev pub noting : Graph
-noting = main_of (Marker 2 ∷ Note 0 (Is (Of (Constant 2))) ∷ []) (Constant 2)
+noting = main_of notes_two (Constant 2)
 
 -- the change by which a pass removed the assignment
 abbrev pub removal : PassName → Logged
