@@ -182,6 +182,9 @@ graph_view g = record {
 abbrev pub static_view : declared-static.StaticObject → StaticObject
 static_view o = record { element = o.element; count = o.count; bytes = o.bytes.items; relocations = o.relocations.items }
 
+abbrev pub bytes_view : declared-bytes.Bytes → List ℕ
+bytes_view b = b.bytes.items
+
 abbrev pub logged : declared-change.Change → Logged
 logged c = record { pass = c.pass; kind = c.kind; place = c.place.0; variable = c.var.0 }
 
@@ -190,7 +193,7 @@ unit_view u = record {
   graphs = map graph_view u.graphs.items;
   main = u.main;
   statics = map static_view u.statics.items;
-  array_bytes = map (λ (b : declared-bytes.Bytes). b.bytes.items) u.array_bytes.items;
+  array_bytes = map bytes_view u.array_bytes.items;
   steps = u.flow.steps.items;
   assignments = u.flow.assignments.items;
   log = map logged (changes u.log);

@@ -1,5 +1,5 @@
 -- What instructions read and write.
-use Rattle.std.specs.Prelude.{ℕ, Option, Some, None, List, [], ◌∷◌, ◌++◌, map}
+use Rattle.std.specs.Prelude.{ℕ, Bool, true, false, Option, Some, None, List, [], ◌∷◌, ◌++◌, map}
 use Rattle.graph_core.specs.declared.name.Name as declared-name
 use Rattle.graph_core.specs.Graphs.{Operand, Name, Constant, StaticAddress, Recipe, Of, Truncated, Operated, Location, Automatic, Static, At, Instruction, Marker, Note, Move, Operate, Truncate, Same, Address, Load, Store, Zero, CopyWords, Call, End, Jump, Branch, Return}
 
@@ -61,6 +61,21 @@ target_of (Store e l a) = None
 target_of (Zero object words) = None
 target_of (CopyWords object bytes words) = None
 target_of (Call x f all) = x
+
+-- whether an instruction makes a value and writes it to a name, and calls nothing
+abbrev pub is_computation : Instruction → Bool
+is_computation (Marker p) = false
+is_computation (Note x v) = false
+is_computation (Move x a) = true
+is_computation (Operate x o a b) = true
+is_computation (Truncate x t a) = true
+is_computation (Same x a b) = true
+is_computation (Address x object) = true
+is_computation (Load x e l) = true
+is_computation (Store e l a) = false
+is_computation (Zero object words) = false
+is_computation (CopyWords object bytes words) = false
+is_computation (Call x f all) = false
 
 -- the blocks to which an end leads
 abbrev pub targets_of : End → List ℕ

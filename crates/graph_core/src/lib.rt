@@ -2,6 +2,7 @@
 #![tactic(auto)]
 
 mod block;
+mod duplicate;
 mod graph;
 mod home;
 mod instruction;

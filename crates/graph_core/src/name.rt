@@ -18,3 +18,10 @@ pub enum Operand {
     /// The address of a static object, by its number, so many bytes on.
     Address { object: u32, offset: u32 },
 }
+
+/// The word 0: what fills the places of a small vector that no operand takes.
+impl Default for Operand {
+    fn default() -> Operand {
+        Operand::Constant(0)
+    }
+}
