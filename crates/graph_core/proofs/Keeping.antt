@@ -6,7 +6,7 @@ use Rattle.graph_core.specs.Runs.{Frame, Event, Put, Exited, TooDeep, Stop}
 use Rattle.graph_core.specs.WellMarked.{AreWellMarked}
 use Rattle.graph_core.specs.Keeps.{StaysOrGoes, stays, goes, Agree, none, more, SameFrame, SameEvent, byte, exited, deep, stop, Begins, ends, goes_on, SameFunction, SameProgram, Keeps}
 
-agree_with_itself : {A : Type 0} {Same : A → A → Type 0} → ((a : A) → Same a a) → (all : List A) → Agree Same all all
+pub agree_with_itself : {A : Type 0} {Same : A → A → Type 0} → ((a : A) → Same a a) → (all : List A) → Agree Same all all
 agree_with_itself same [] = none
 agree_with_itself same (a ∷ all) = more (same a) (agree_with_itself same all)
 
@@ -41,7 +41,7 @@ event_through exited exited = exited
 event_through deep deep = deep
 event_through (stop p) (stop q) = stop (agree_through frame_through p q)
 
-begins_itself : (all : List Event) → Begins all all
+pub begins_itself : (all : List Event) → Begins all all
 begins_itself [] = ends
 begins_itself (e ∷ all) = goes_on (event_itself e) (begins_itself all)
 
@@ -49,7 +49,7 @@ begins_through : {all others last : List Event} → Begins all others → Begins
 begins_through ends q = ends
 begins_through (goes_on s p) (goes_on t q) = goes_on (event_through s t) (begins_through p q)
 
-function_itself : (g : Graph) → SameFunction g g
+pub function_itself : (g : Graph) → SameFunction g g
 function_itself g = record { entry = refl; parameters = refl; scalars = refl; objects = refl; markers = λ p. (λ m. m, λ m. m) }
 
 function_through : (g h k : Graph) → SameFunction g h → SameFunction h k → SameFunction g k

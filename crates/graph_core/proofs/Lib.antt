@@ -1,1 +1,6 @@
 pub mod Keeping
+pub mod Inversions
+pub mod WorkedBuilt
+pub mod WorkedReduced
+pub mod WorkedPass
+pub mod LogLonger

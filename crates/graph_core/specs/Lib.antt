@@ -9,3 +9,4 @@ pub mod WellMarked
 pub mod Homes
 pub mod Keeps
 pub mod Earned
+pub mod Worked

@@ -1,11 +1,25 @@
 //! Laws of the definitions.
 
-ghost use Rattle.graph_core.specs.Graphs.{UnitForm};
+ghost use Rattle.std.specs.Prelude.{List, ◌++◌};
+ghost use Rattle.debug_records.specs.declared.change.PassName.{PassName};
+ghost use Rattle.graph_core.specs.Graphs.{Logged, UnitForm};
 ghost use Rattle.graph_core.specs.Keeps.{Keeps};
 ghost use Rattle.graph_core.specs.WellMarked.{AreWellMarked};
+ghost use Rattle.graph_core.specs.Worked.{AreWorked};
 
 /// Two laws: a well marked unit keeps what it does itself, and what keeps a unit that keeps a first one keeps the first.
 pub fn keeping_composes()
     ensures itself { (u : UnitForm) → AreWellMarked u → Keeps u u }
     ensures through { (u v w : UnitForm) → Keeps u v → Keeps v w → Keeps u w }
+{}
+
+/// A law: a well marked unit whose log grows, with nothing else changed, keeps what it did.
+pub fn logs_may_grow()
+    ensures { (u : UnitForm) (added : List Logged) → AreWellMarked u → Keeps u (record u { log = u.log ++ added }) }
+{}
+
+/// The definitions can be met: the unit of a small program and what a pass of any name makes of it are well marked, the one is
+/// kept by the other, and the pass's change is earned.
+pub fn definitions_are_met()
+    ensures { (pass : PassName) → AreWorked pass }
 {}

@@ -1,0 +1,3 @@
+pub mod FirstPasses
+pub mod KeptTrails
+pub mod NamesSame

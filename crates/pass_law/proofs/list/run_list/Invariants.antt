@@ -1,0 +1,16 @@
+use Rattle.std.proofs.Common.{◌≡◌, ℕ, ◌<◌, ◌+◌, map, take, Some, length}
+use Rattle.std.specs.Prelude.{slice_get}
+use Rattle.debug_records.specs.declared.change.PassName.{PassName}
+use Rattle.graph_core.specs.Graphs.{UnitForm, unit_view}
+use Rattle.pass_law.specs.Trails.{IsNoPass, IsTrail}
+use Rattle.pass_law.proofs.KeptTrails.{IsReady}
+use Rattle.pass_law.proofs.list.run_list.Given as goal
+
+abbrev pub invariant-loop-i : goal.invariant-loop-i
+invariant-loop-i g l = record {
+  trail : IsTrail (λ p. (goal.Pass-dyn g (p.vtable, p.value)).named p.value) (λ p. (goal.Pass-dyn g (p.vtable, p.value)).steps p.value) l.passes (take l.i l.names) (map unit_view l.units.items);
+  first : slice_get (map unit_view l.units.items) 0 ≡ Some (unit_view l.fn.unit);
+  count : length l.units.items ≡ l.i + 1;
+  last : (u : UnitForm) → slice_get (map unit_view l.units.items) l.i ≡ Some u → IsReady u l.i;
+  known : (k : ℕ) → k < l.i → (name : PassName) → slice_get l.names k ≡ Some name → IsNoPass (λ p. (goal.Pass-dyn g (p.vtable, p.value)).named p.value) l.passes name → ⊥;
+}

@@ -1,0 +1,3 @@
+pub mod Steps
+pub mod Trails
+pub mod Examples

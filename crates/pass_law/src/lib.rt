@@ -1,0 +1,10 @@
+//! The law of passes, and lists of passes.
+#![tactic(auto)]
+
+mod list;
+mod pass;
+#[cfg(test)]
+mod tests;
+
+pub use list::{RunErr, Trail, run_list};
+pub use pass::Pass;

@@ -1,0 +1,30 @@
+//! What a pass is.
+
+ghost use Rattle.std.specs.Prelude.{◌≡◌, ◌<◌, ◌^◌, IfOk, length};
+ghost use Rattle.debug_records.specs.declared.change.PassName.{PassName};
+ghost use Rattle.graph_core.specs.Graphs.{unit_view};
+ghost use Rattle.graph_core.specs.WellMarked.{AreWellMarked};
+ghost use Rattle.pass_law.specs.Steps.{Steps};
+
+use debug_records::PassName;
+use graph_core::Unit;
+use std::alloc::{AllocError, Global};
+
+/// A pass over units. What it may make of a unit comes with the proof that each step keeps what the unit does.
+pub trait Pass: Drop {
+    /// Its name.
+    ghost named: { Self → PassName };
+
+    /// Its steps: what it may make of a unit.
+    ghost steps: { Self → Steps };
+
+    /// The name of the pass.
+    fn name(&self) -> PassName
+        ensures { result ≡ named self.now };
+
+    /// What the pass makes of a well marked unit, whose log has fewer than 2^31 changes. `AllocError` where memory was refused.
+    fn apply(&self, alloc: Global, unit: &Unit) -> Result<Unit, AllocError>
+        requires marked { AreWellMarked (unit_view unit.now) }
+        requires room { length (unit_view unit.now).log < 2 ^ 31 }
+        ensures { IfOk result (λ v. (steps self.now).leads (unit_view unit.now) (unit_view v)) };
+}
