@@ -5,4 +5,5 @@ pub mod Memory
 pub mod Runs
 pub mod Paths
 pub mod Validity
+pub mod Counts
 pub mod WellMarked

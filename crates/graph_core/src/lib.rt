@@ -10,6 +10,7 @@ mod name;
 mod recipe;
 mod unit;
 mod uses;
+mod validity;
 mod value;
 
 pub use block::{Block, Comparison, End};
