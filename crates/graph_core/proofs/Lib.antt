@@ -4,3 +4,6 @@ pub mod WorkedBuilt
 pub mod WorkedReduced
 pub mod WorkedPass
 pub mod LogLonger
+pub mod Lists
+pub mod Once
+pub mod Valid

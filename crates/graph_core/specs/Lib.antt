@@ -5,6 +5,7 @@ pub mod Memory
 pub mod Runs
 pub mod Paths
 pub mod Validity
+pub mod Counts
 pub mod WellMarked
 pub mod Homes
 pub mod Keeps

@@ -62,6 +62,11 @@ target_of (Zero object words) = None
 target_of (CopyWords object bytes words) = None
 target_of (Call x f all) = x
 
+-- the place that an instruction begins
+abbrev pub marker_of : Instruction → Option ℕ
+marker_of (Marker p) = Some p
+marker_of _ = None
+
 -- whether an instruction makes a value and writes it to a name, and calls nothing
 abbrev pub is_computation : Instruction → Bool
 is_computation (Marker p) = false

@@ -1,6 +1,5 @@
 -- Valid units: their numbers name what they have, their counts stay within bounds, and the place that a block keeps is right along each edge into it.
-use Rattle.std.specs.Prelude.{◌≡◌, ◌≢◌, ℕ, zero, suc, ◌+◌, ◌*◌, ◌<◌, ◌≤◌, ◌⊎◌, Bool, true, false, if◌then◌else◌, Option, Some, None, List, [], ◌∷◌, ◌++◌, length, map, slice_get, ⊤}
-use Rattle.std.specs.Option.{option_map_or}
+use Rattle.std.specs.Prelude.{◌≡◌, ◌≢◌, ℕ, max, ◌+◌, ◌*◌, ◌<◌, ◌≤◌, Option, Some, None, List, [], ◌∷◌, ◌++◌, length, slice_get, ⊤}
 use Rattle.std.specs.List.{AllByRecursion}
 use Rattle.graph_core.specs.declared.instruction.Callee.{Callee}
 use Rattle.graph_core.specs.declared.instruction.Callee.TheVariants.{Function, Getchar, Putchar, Exit}
@@ -55,11 +54,6 @@ abbrev pub taken_by_object : MemoryObject → ℕ
 taken_by_object o = taken_by (o.count * size_of o.element)
 
 -- how deep a recipe is, where an operand is 1 deep
-abbrev pub max : ℕ → ℕ → ℕ
-max zero n = n
-max (suc m) zero = suc m
-max (suc m) (suc n) = suc (max m n)
-
 abbrev pub depth_of : Recipe → ℕ
 depth_of (Of a) = 1
 depth_of (Truncated t r) = 1 + depth_of r

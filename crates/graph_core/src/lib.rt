@@ -11,6 +11,7 @@ mod name;
 mod recipe;
 mod unit;
 mod uses;
+mod validity;
 mod value;
 
 pub use block::{Block, Comparison, End};

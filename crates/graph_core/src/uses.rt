@@ -4,11 +4,13 @@ ghost use Rattle.std.specs.Prelude.{◌≡◌, IfOk, OnOk, ◌++◌, map, option
 ghost use Rattle.graph_core.specs.Graphs.{end_view, instruction_view, location_view, operand_view};
 ghost use Rattle.graph_core.specs.declared.name.Name as declared-name;
 ghost use Rattle.graph_core.specs.declared.name.Label as declared-label;
-ghost use Rattle.graph_core.specs.Uses.{names_of, names_of_all, names_of_location, names_of_some, numbers, reads_of, reads_of_end, target_of, targets_of};
+ghost use Rattle.debug_records.specs.declared.change.Place as declared-place;
+ghost use Rattle.graph_core.specs.Uses.{names_of, names_of_all, names_of_location, marker_of, names_of_some, numbers, reads_of, reads_of_end, target_of, targets_of};
 
 use crate::block::End;
 use crate::instruction::{Instr, Location};
 use crate::name::{Label, Name, Operand};
+use debug_records::Place;
 use std::alloc::{AllocError, Global};
 
 /// Appends the name that an operand reads.
@@ -61,6 +63,26 @@ impl Instr {
             Instr::Call { arguments, .. } => push_all(arguments.as_slice(), &mut names)?,
         }
         Ok(names)
+    }
+
+    /// The place that the instruction begins.
+    pub fn marker(&self) -> Option<Place>
+        ensures { option_map (λ (p : declared-place.Place). p.0) result ≡ marker_of (instruction_view self.now) }
+    {
+        match self {
+            Instr::Marker(place) => Some(*place),
+            Instr::Note { .. }
+            | Instr::Move { .. }
+            | Instr::Operate { .. }
+            | Instr::Truncate { .. }
+            | Instr::Same { .. }
+            | Instr::Address { .. }
+            | Instr::Load { .. }
+            | Instr::Store { .. }
+            | Instr::Zero { .. }
+            | Instr::CopyWords { .. }
+            | Instr::Call { .. } => None,
+        }
     }
 
     /// The name that the instruction writes.

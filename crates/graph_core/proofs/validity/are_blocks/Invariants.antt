@@ -1,0 +1,12 @@
+use Rattle.std.proofs.Common.{length, map}
+use Rattle.std.specs.Prelude.{◌↔◌}
+use Rattle.std.specs.List.{AllByRecursion}
+use Rattle.graph_core.specs.Graphs.{block_view, graph_view, unit_view}
+use Rattle.graph_core.specs.Validity.{IsBlock}
+use Rattle.graph_core.proofs.validity.are_blocks.Given as goal
+
+abbrev pub invariant-loop-left : goal.invariant-loop-left
+invariant-loop-left l = AllByRecursion (IsBlock (unit_view l.unit) (graph_view l.graph)) (map block_view l.left) ↔ AllByRecursion (IsBlock (unit_view l.unit) (graph_view l.graph)) (map block_view l.blocks)
+
+abbrev pub decreases-loop-left : goal.decreases-loop-left
+decreases-loop-left l = length l.left

@@ -1,0 +1,689 @@
+//! Whether a unit is valid: its numbers name what it has, its counts stay within bounds, and the place that a block keeps is right along each edge into it.
+
+ghost use Rattle.std.specs.Prelude.{◌≡◌, ◌≤◌, ◌<◌, ◌↔◌, ◌^◌, ◌-◌, ◌+◌, ◌*◌, IsTrue, IfSome, MatchOption, None, Some, length, map, min, option_map, slice_get};
+ghost use Rattle.std.specs.List.{AllByRecursion};
+ghost use Rattle.debug_records.specs.declared.change.Place as declared-place;
+ghost use Rattle.graph_core.specs.Graphs.{binding_view, block_view, bytes_view, end_view, graph_view, instruction_view, location_view, logged, note_view, operand_view, recipe_view, static_view, unit_view};
+ghost use Rattle.graph_core.specs.Uses.{marker_of, targets_of};
+ghost use Rattle.graph_core.specs.Values.{size_of};
+ghost use Rattle.graph_core.specs.Memory.{static_bytes};
+ghost use Rattle.graph_core.specs.Counts.{AreMarkedOnce, AreMarkedOnceInBlocks, AreMarkedOnceIn, IsOnce, KeepsCounts, count_in_blocks, count_in_graphs, share};
+ghost use Rattle.graph_core.specs.Validity.{AreEdges, AreOperandsOf, AreOperandsOfEnd, AreRelocations, HasParameters, IsBinding, IsBlock, IsCall, IsGraph, IsInstruction, IsKept, IsLocation, IsNoteValue, IsOperand, IsStatic, IsValid, IsWanted, arguments_in, counts, depth_of, keeps_place, place_behind, taken_by, taken_by_object, total};
+
+use crate::block::{Block, End};
+use crate::graph::{Binding, Graph, MemoryObject};
+use crate::instruction::{Callee, Element, Instr, Location};
+use crate::name::{Label, Name, Operand};
+use crate::recipe::{NoteValue, Recipe};
+use crate::unit::{Bytes, Relocation, StaticObject, Unit};
+use debug_records::Place;
+
+/// What is counted of instructions.
+#[derive(Clone, Copy)]
+enum Counted {
+    /// Those that are neither markers nor notes.
+    Instructions,
+    /// The arguments of calls.
+    Arguments,
+    Markers,
+    /// The markers of one place.
+    MarkersOf(Place),
+}
+
+impl Element {
+    /// How many bytes an element has.
+    pub fn size(self) -> u32
+        ensures { result ≡ size_of self }
+    {
+        match self {
+            Element::Unsigned8 | Element::Signed8 => 1,
+            Element::Unsigned16 | Element::Signed16 => 2,
+            Element::Word => 4,
+        }
+    }
+
+    /// How many bytes so many elements have.
+    pub fn bytes_of(self, count: u32) -> u64
+        ensures { result ≡ count * size_of self }
+    {
+        match self {
+            Element::Unsigned8 | Element::Signed8 => u64::from(count),
+            Element::Unsigned16 | Element::Signed16 => u64::from(count) * 2,
+            Element::Word => u64::from(count) * 4,
+        }
+    }
+}
+
+/// Whether an instruction is counted, as a number.
+fn counts(instruction: &Instr) -> u64
+    ensures { result ≡ counts (instruction_view instruction.now) }
+{
+    match instruction {
+        Instr::Marker(_) | Instr::Note { .. } => 0,
+        Instr::Move { .. }
+        | Instr::Operate { .. }
+        | Instr::Truncate { .. }
+        | Instr::Same { .. }
+        | Instr::Address { .. }
+        | Instr::Load { .. }
+        | Instr::Store { .. }
+        | Instr::Zero { .. }
+        | Instr::CopyWords { .. }
+        | Instr::Call { .. } => 1,
+    }
+}
+
+/// How many arguments an instruction passes.
+fn arguments_in(instruction: &Instr) -> u64
+    ensures { result ≡ arguments_in (instruction_view instruction.now) }
+{
+    match instruction {
+        Instr::Call { arguments, .. } => arguments.len() as u64,
+        Instr::Marker(_)
+        | Instr::Note { .. }
+        | Instr::Move { .. }
+        | Instr::Operate { .. }
+        | Instr::Truncate { .. }
+        | Instr::Same { .. }
+        | Instr::Address { .. }
+        | Instr::Load { .. }
+        | Instr::Store { .. }
+        | Instr::Zero { .. }
+        | Instr::CopyWords { .. } => 0,
+    }
+}
+
+/// How much of what is counted an instruction has.
+fn share(counted: Counted, instruction: &Instr) -> u64
+    ensures { result ≡ share counted (instruction_view instruction.now) }
+{
+    match counted {
+        Counted::Instructions => counts(instruction),
+        Counted::Arguments => arguments_in(instruction),
+        Counted::Markers => match instruction.marker() {
+            Some(_) => 1,
+            None => 0,
+        },
+        Counted::MarkersOf(place) => match instruction.marker() {
+            Some(begun) => { if begun.0 == place.0 { 1 } else { 0 } }
+            None => 0,
+        },
+    }
+}
+
+/// How much of what is counted instructions have, or the greatest number where it is more.
+fn count_in(counted: Counted, instructions: &[Instr]) -> u64
+    ensures { result ≡ min (total (share counted) (map instruction_view instructions.now)) (2 ^ 64 - 1) }
+{
+    let mut sum = 0u64;
+    let mut left = instructions;
+    while let [first, rest @ ..] = left {
+        sum = sum.saturating_add(share(counted, first));
+        left = rest;
+    }
+    sum
+}
+
+fn count_in_blocks(counted: Counted, blocks: &[Block]) -> u64
+    ensures { result ≡ min (count_in_blocks counted (map block_view blocks.now)) (2 ^ 64 - 1) }
+{
+    let mut sum = 0u64;
+    let mut left = blocks;
+    while let [first, rest @ ..] = left {
+        sum = sum.saturating_add(count_in(counted, &first.instructions));
+        left = rest;
+    }
+    sum
+}
+
+fn count_in_graphs(counted: Counted, graphs: &[Graph]) -> u64
+    ensures { result ≡ min (count_in_graphs counted (map graph_view graphs.now)) (2 ^ 64 - 1) }
+{
+    let mut sum = 0u64;
+    let mut left = graphs;
+    while let [first, rest @ ..] = left {
+        sum = sum.saturating_add(count_in_blocks(counted, &first.blocks));
+        left = rest;
+    }
+    sum
+}
+
+/// How many blocks graphs have, or the greatest number where it is more.
+fn count_blocks(graphs: &[Graph]) -> u64
+    ensures { result ≡ min (total (λ g. length g.blocks) (map graph_view graphs.now)) (2 ^ 64 - 1) }
+{
+    let mut sum = 0u64;
+    let mut left = graphs;
+    while let [first, rest @ ..] = left {
+        sum = sum.saturating_add(first.blocks.len() as u64);
+        left = rest;
+    }
+    sum
+}
+
+/// What so many bytes take, or the greatest number where it is more.
+fn taken_by(bytes: u64) -> u64
+    ensures { result ≡ min (taken_by bytes) (2 ^ 64 - 1) }
+{
+    (4 * (bytes.saturating_add(3) / 4)).saturating_add(4)
+}
+
+/// What automatic objects take.
+fn taken_by_objects(objects: &[MemoryObject]) -> u64
+    ensures { result ≡ min (total taken_by_object objects.now) (2 ^ 64 - 1) }
+{
+    let mut sum = 0u64;
+    let mut left = objects;
+    while let [first, rest @ ..] = left {
+        let bytes = first.element.bytes_of(first.count);
+        sum = sum.saturating_add(taken_by(bytes));
+        left = rest;
+    }
+    sum
+}
+
+/// What static objects take.
+fn taken_by_statics(objects: &[StaticObject]) -> u64
+    ensures { result ≡ min (total (λ o. taken_by (static_bytes o)) (map static_view objects.now)) (2 ^ 64 - 1) }
+{
+    let mut sum = 0u64;
+    let mut left = objects;
+    while let [first, rest @ ..] = left {
+        let bytes = first.element.bytes_of(first.count);
+        sum = sum.saturating_add(taken_by(bytes));
+        left = rest;
+    }
+    sum
+}
+
+/// What the bytes that initialise arrays take.
+fn taken_by_bytes(all: &[Bytes]) -> u64
+    ensures { result ≡ min (total (λ b. taken_by (length b)) (map bytes_view all.now)) (2 ^ 64 - 1) }
+{
+    let mut sum = 0u64;
+    let mut left = all;
+    while let [first, rest @ ..] = left {
+        sum = sum.saturating_add(taken_by(first.bytes.len() as u64));
+        left = rest;
+    }
+    sum
+}
+
+/// Whether a recipe is at most so deep.
+fn is_within(recipe: &Recipe, depth: u32) -> bool
+    ensures { IsTrue result ↔ (depth_of (recipe_view recipe.now) ≤ depth) }
+{
+    match recipe {
+        Recipe::Operand(_) => 1 <= depth,
+        Recipe::Truncated(_, of) => 1 <= depth && is_within(of, depth - 1),
+        Recipe::Operated(_, left, right) => {
+            1 <= depth && is_within(left, depth - 1) && is_within(right, depth - 1)
+        }
+    }
+}
+
+/// The graph of a number.
+fn graph_at(unit: &Unit, function: u32) -> Option<&Graph>
+    ensures { MatchOption result (slice_get (unit_view unit.now).graphs function ≡ None) (λ g. slice_get (unit_view unit.now).graphs function ≡ Some (graph_view g.now)) }
+{
+    unit.graphs.get(function as usize)
+}
+
+/// The block of a number.
+fn block_at(graph: &Graph, label: Label) -> Option<&Block>
+    ensures { MatchOption result (slice_get (graph_view graph.now).blocks label.0 ≡ None) (λ b. slice_get (graph_view graph.now).blocks label.0 ≡ Some (block_view b.now)) }
+{
+    graph.blocks.get(label.0 as usize)
+}
+
+/// Whether there is a function of this number with so many parameters.
+fn has_parameters(unit: &Unit, function: u32, count: usize) -> bool
+    ensures { IsTrue result ↔ HasParameters (slice_get (unit_view unit.now).graphs function) count }
+{
+    match graph_at(unit, function) {
+        None => false,
+        Some(graph) => count == graph.parameters.len(),
+    }
+}
+
+/// Whether there is a static object of this number.
+fn is_static(unit: &Unit, object: u32) -> bool
+    ensures { IsTrue result ↔ IsStatic (unit_view unit.now) object }
+{
+    (object as usize) < unit.statics.len()
+}
+
+/// Whether a graph has an automatic object of this number.
+fn is_object(graph: &Graph, object: u32) -> bool
+    ensures { IsTrue result ↔ (object < length (graph_view graph.now).objects) }
+{
+    (object as usize) < graph.objects.len()
+}
+
+/// Whether a graph has a scalar of this name.
+fn is_scalar(graph: &Graph, name: Name) -> bool
+    ensures { IsTrue result ↔ (name.0 < length (graph_view graph.now).scalars) }
+{
+    (name.0 as usize) < graph.scalars.len()
+}
+
+/// Whether a graph has this name.
+fn is_target(graph: &Graph, name: Name) -> bool
+    ensures { IsTrue result ↔ (name.0 < (graph_view graph.now).names) }
+{
+    name.0 < graph.names
+}
+
+/// Whether an operand names what its graph and its unit have.
+fn is_operand(unit: &Unit, graph: &Graph, operand: Operand) -> bool
+    ensures { IsTrue result ↔ IsOperand (unit_view unit.now) (graph_view graph.now) (operand_view operand) }
+{
+    match operand {
+        Operand::Name(name) => is_target(graph, name),
+        Operand::Constant(_) => true,
+        Operand::Address { object, .. } => is_static(unit, object),
+    }
+}
+
+fn are_operands(unit: &Unit, graph: &Graph, operands: &[Operand]) -> bool
+    ensures { IsTrue result ↔ AllByRecursion (IsOperand (unit_view unit.now) (graph_view graph.now)) (map operand_view operands.now) }
+{
+    let mut left = operands;
+    while let [first, rest @ ..] = left {
+        if !is_operand(unit, graph, *first) {
+            return false;
+        }
+        left = rest;
+    }
+    true
+}
+
+/// Whether a recipe is of operands that its graph and its unit have.
+fn are_operands_of(unit: &Unit, graph: &Graph, recipe: &Recipe) -> bool
+    ensures { IsTrue result ↔ AreOperandsOf (unit_view unit.now) (graph_view graph.now) (recipe_view recipe.now) }
+{
+    match recipe {
+        Recipe::Operand(operand) => is_operand(unit, graph, *operand),
+        Recipe::Truncated(_, of) => are_operands_of(unit, graph, of),
+        Recipe::Operated(_, left, right) => {
+            are_operands_of(unit, graph, left) && are_operands_of(unit, graph, right)
+        }
+    }
+}
+
+fn is_note_value(unit: &Unit, graph: &Graph, value: &NoteValue) -> bool
+    ensures { IsTrue result ↔ IsNoteValue (unit_view unit.now) (graph_view graph.now) (note_view value.now) }
+{
+    match value {
+        NoteValue::Is(recipe) => is_within(recipe, 4) && are_operands_of(unit, graph, recipe),
+        NoteValue::Gone(change) => {
+            1 <= *change && (*change as usize) <= unit.log.changes().len()
+        }
+    }
+}
+
+fn is_location(unit: &Unit, graph: &Graph, location: Location) -> bool
+    ensures { IsTrue result ↔ IsLocation (unit_view unit.now) (graph_view graph.now) (location_view location) }
+{
+    match location {
+        Location::Automatic(object) => is_object(graph, object),
+        Location::Static(object) => is_static(unit, object),
+        Location::At(operand) => is_operand(unit, graph, operand),
+    }
+}
+
+/// Whether there is what a call calls, and it takes so many arguments.
+fn is_call(unit: &Unit, graph: &Graph, callee: Callee, arguments: usize) -> bool
+    ensures { IsTrue result ↔ IsCall (unit_view unit.now) (graph_view graph.now) callee arguments }
+{
+    match callee {
+        Callee::Function(function) => has_parameters(unit, function, arguments),
+        Callee::Getchar => arguments == 0,
+        Callee::Putchar | Callee::Exit => arguments == 1,
+    }
+}
+
+fn is_wanted(unit: &Unit, graph: &Graph, target: Option<Name>) -> bool
+    ensures { IsTrue result ↔ IsWanted (unit_view unit.now) (graph_view graph.now) (option_map (λ n. n.0) target) }
+{
+    match target {
+        None => true,
+        Some(name) => is_target(graph, name),
+    }
+}
+
+/// Whether an instruction names what its graph and its unit have.
+fn is_instruction(unit: &Unit, graph: &Graph, instruction: &Instr) -> bool
+    ensures { IsTrue result ↔ IsInstruction (unit_view unit.now) (graph_view graph.now) (instruction_view instruction.now) }
+{
+    match instruction {
+        Instr::Marker(_) => true,
+        Instr::Note { of, value } => is_scalar(graph, *of) && is_note_value(unit, graph, value),
+        Instr::Move { target, from } => is_target(graph, *target) && is_operand(unit, graph, *from),
+        Instr::Truncate { target, from, .. } => is_target(graph, *target)
+            && is_operand(unit, graph, *from),
+        Instr::Operate {
+            target,
+            left,
+            right,
+            ..
+        } => {
+            is_target(graph, *target)
+                && is_operand(unit, graph, *left)
+                && is_operand(unit, graph, *right)
+        }
+        Instr::Same {
+            target,
+            left,
+            right,
+        } => {
+            is_target(graph, *target)
+                && is_operand(unit, graph, *left)
+                && is_operand(unit, graph, *right)
+        }
+        Instr::Address { target, object } => is_target(graph, *target) && is_object(graph, *object),
+        Instr::Load { target, from, .. } => is_target(graph, *target)
+            && is_location(unit, graph, *from),
+        Instr::Store { to, value, .. } => is_location(unit, graph, *to)
+            && is_operand(unit, graph, *value),
+        Instr::Zero { object, .. } => is_object(graph, *object),
+        Instr::CopyWords { object, bytes, .. } => is_object(graph, *object)
+            && (*bytes as usize) < unit.array_bytes.len(),
+        Instr::Call {
+            target,
+            callee,
+            arguments,
+        } => {
+            is_wanted(unit, graph, *target)
+                && are_operands(unit, graph, arguments.as_slice())
+                && is_call(unit, graph, *callee, arguments.len())
+        }
+    }
+}
+
+fn are_instructions(unit: &Unit, graph: &Graph, instructions: &[Instr]) -> bool
+    ensures { IsTrue result ↔ AllByRecursion (IsInstruction (unit_view unit.now) (graph_view graph.now)) (map instruction_view instructions.now) }
+{
+    let mut left = instructions;
+    while let [first, rest @ ..] = left {
+        if !is_instruction(unit, graph, first) {
+            return false;
+        }
+        left = rest;
+    }
+    true
+}
+
+fn are_operands_of_end(unit: &Unit, graph: &Graph, end: End) -> bool
+    ensures { IsTrue result ↔ AreOperandsOfEnd (unit_view unit.now) (graph_view graph.now) (end_view end) }
+{
+    match end {
+        End::Jump(_) => true,
+        End::Branch { left, right, .. } => is_operand(unit, graph, left)
+            && is_operand(unit, graph, right),
+        End::Return(None) => true,
+        End::Return(Some(operand)) => is_operand(unit, graph, operand),
+    }
+}
+
+/// Whether two places are one, or there is none twice.
+fn is_same_place(one: Option<Place>, other: Option<Place>) -> bool
+    ensures { IsTrue result ↔ (option_map (λ (p : declared-place.Place). p.0) one ≡ option_map (λ (p : declared-place.Place). p.0) other) }
+{
+    match one {
+        None => other.is_none(),
+        Some(place) => match other {
+            None => false,
+            Some(another) => place.0 == another.0,
+        },
+    }
+}
+
+/// Whether a block of these instructions keeps a place where another is in force.
+fn keeps_place(instructions: &[Instr], in_force: Option<Place>, kept: Option<Place>) -> bool
+    ensures { IsTrue result ↔ keeps_place (map instruction_view instructions.now) (option_map (λ (p : declared-place.Place). p.0) in_force) (option_map (λ (p : declared-place.Place). p.0) kept) }
+{
+    match instructions {
+        [] => is_same_place(in_force, kept),
+        [first, ..] => match first.marker() {
+            Some(_) => true,
+            None => is_same_place(in_force, kept),
+        },
+    }
+}
+
+/// The place in force behind instructions.
+fn place_behind(instructions: &[Instr], before: Option<Place>) -> Option<Place>
+    ensures { option_map (λ (p : declared-place.Place). p.0) result ≡ place_behind (map instruction_view instructions.now) (option_map (λ (p : declared-place.Place). p.0) before) }
+{
+    let mut place = before;
+    let mut left = instructions;
+    while let [first, rest @ ..] = left {
+        place = first.marker().or(place);
+        left = rest;
+    }
+    place
+}
+
+/// Whether there is a block of this number that keeps the place in force.
+fn is_kept(graph: &Graph, in_force: Option<Place>, label: Label) -> bool
+    ensures { IsTrue result ↔ IsKept (option_map (λ (p : declared-place.Place). p.0) in_force) (slice_get (graph_view graph.now).blocks label.0) }
+{
+    match block_at(graph, label) {
+        None => false,
+        Some(block) => keeps_place(&block.instructions, in_force, block.place),
+    }
+}
+
+/// Whether each edge leads to a block that keeps the place in force.
+fn are_edges(unit: &Unit, graph: &Graph, in_force: Option<Place>, end: End) -> bool
+    ensures { IsTrue result ↔ AreEdges (unit_view unit.now) (graph_view graph.now) (option_map (λ (p : declared-place.Place). p.0) in_force) (targets_of (end_view end)) }
+{
+    match end {
+        End::Jump(label) => is_kept(graph, in_force, label),
+        End::Branch {
+            then,
+            otherwise,
+            ..
+        } => is_kept(graph, in_force, then) && is_kept(graph, in_force, otherwise),
+        End::Return(_) => true,
+    }
+}
+
+fn is_block(unit: &Unit, graph: &Graph, block: &Block) -> bool
+    ensures { IsTrue result ↔ IsBlock (unit_view unit.now) (graph_view graph.now) (block_view block.now) }
+{
+    are_instructions(unit, graph, &block.instructions)
+        && are_operands_of_end(unit, graph, block.end)
+        && are_edges(
+            unit,
+            graph,
+            place_behind(&block.instructions, block.place),
+            block.end,
+        )
+}
+
+fn are_blocks(unit: &Unit, graph: &Graph, blocks: &[Block]) -> bool
+    ensures { IsTrue result ↔ AllByRecursion (IsBlock (unit_view unit.now) (graph_view graph.now)) (map block_view blocks.now) }
+{
+    let mut left = blocks;
+    while let [first, rest @ ..] = left {
+        if !is_block(unit, graph, first) {
+            return false;
+        }
+        left = rest;
+    }
+    true
+}
+
+fn is_binding(unit: &Unit, graph: &Graph, binding: Binding) -> bool
+    ensures { IsTrue result ↔ IsBinding (unit_view unit.now) (graph_view graph.now) (binding_view binding) }
+{
+    match binding {
+        Binding::Scalar(name) => is_scalar(graph, name),
+        Binding::Object(object) => is_object(graph, object),
+    }
+}
+
+fn are_bindings(unit: &Unit, graph: &Graph, bindings: &[Binding]) -> bool
+    ensures { IsTrue result ↔ AllByRecursion (IsBinding (unit_view unit.now) (graph_view graph.now)) (map binding_view bindings.now) }
+{
+    let mut left = bindings;
+    while let [first, rest @ ..] = left {
+        if !is_binding(unit, graph, *first) {
+            return false;
+        }
+        left = rest;
+    }
+    true
+}
+
+fn is_graph(unit: &Unit, graph: &Graph) -> bool
+    ensures { IsTrue result ↔ IsGraph (unit_view unit.now) (graph_view graph.now) }
+{
+    if 6000 < count_in_blocks(Counted::Instructions, &graph.blocks) {
+        return false;
+    }
+    if 4096 < taken_by_objects(&graph.objects) {
+        return false;
+    }
+    if 3000 < graph.names || graph.names < graph.moved_from {
+        return false;
+    }
+    if (graph.moved_from as usize) < graph.scalars.len() || 8 < graph.parameters.len() {
+        return false;
+    }
+    if graph.blocks.is_empty() {
+        return false;
+    }
+    are_bindings(unit, graph, &graph.parameters) && are_blocks(unit, graph, &graph.blocks)
+}
+
+fn are_graphs(unit: &Unit, graphs: &[Graph]) -> bool
+    ensures { IsTrue result ↔ AllByRecursion (IsGraph (unit_view unit.now)) (map graph_view graphs.now) }
+{
+    let mut left = graphs;
+    while let [first, rest @ ..] = left {
+        if !is_graph(unit, first) {
+            return false;
+        }
+        left = rest;
+    }
+    true
+}
+
+fn are_relocations(unit: &Unit, relocations: &[Relocation]) -> bool
+    ensures { IsTrue result ↔ AreRelocations (unit_view unit.now) relocations.now }
+{
+    let mut left = relocations;
+    while let [first, rest @ ..] = left {
+        if !is_static(unit, first.object) {
+            return false;
+        }
+        left = rest;
+    }
+    true
+}
+
+fn have_relocations(unit: &Unit, objects: &[StaticObject]) -> bool
+    ensures { IsTrue result ↔ AllByRecursion (λ o. AreRelocations (unit_view unit.now) o.relocations) (map static_view objects.now) }
+{
+    let mut left = objects;
+    while let [first, rest @ ..] = left {
+        if !are_relocations(unit, &first.relocations) {
+            return false;
+        }
+        left = rest;
+    }
+    true
+}
+
+/// Whether a place, if an instruction begins one, has no other marker in graphs.
+fn is_once(graphs: &[Graph], instruction: &Instr) -> bool
+    ensures { IsTrue result ↔ IsOnce (map graph_view graphs.now) (marker_of (instruction_view instruction.now)) }
+{
+    match instruction.marker() {
+        None => true,
+        Some(place) => count_in_graphs(Counted::MarkersOf(place), graphs) <= 1,
+    }
+}
+
+fn are_marked_once_in(graphs: &[Graph], instructions: &[Instr]) -> bool
+    ensures { IsTrue result ↔ AreMarkedOnceIn (map graph_view graphs.now) (map instruction_view instructions.now) }
+{
+    let mut left = instructions;
+    while let [first, rest @ ..] = left {
+        if !is_once(graphs, first) {
+            return false;
+        }
+        left = rest;
+    }
+    true
+}
+
+fn are_marked_once_in_blocks(graphs: &[Graph], blocks: &[Block]) -> bool
+    ensures { IsTrue result ↔ AreMarkedOnceInBlocks (map graph_view graphs.now) (map block_view blocks.now) }
+{
+    let mut left = blocks;
+    while let [first, rest @ ..] = left {
+        if !are_marked_once_in(graphs, &first.instructions) {
+            return false;
+        }
+        left = rest;
+    }
+    true
+}
+
+/// Whether no place that some graphs begin has another marker in all graphs.
+fn are_marked_once(graphs: &[Graph], some: &[Graph]) -> bool
+    ensures { IsTrue result ↔ AreMarkedOnce (map graph_view graphs.now) (map graph_view some.now) }
+{
+    let mut left = some;
+    while let [first, rest @ ..] = left {
+        if !are_marked_once_in_blocks(graphs, &first.blocks) {
+            return false;
+        }
+        left = rest;
+    }
+    true
+}
+
+impl Unit {
+    /// Whether the counts of the unit are within their bounds.
+    fn keeps_counts(&self) -> bool
+        ensures { IsTrue result ↔ KeepsCounts (unit_view self.now) }
+    {
+        if 256 < self.graphs.len() || 12000 < count_blocks(&self.graphs) {
+            return false;
+        }
+        if 8000 < count_in_graphs(Counted::Instructions, &self.graphs) {
+            return false;
+        }
+        if 4000 < count_in_graphs(Counted::Markers, &self.graphs) {
+            return false;
+        }
+        if 4000 < count_in_graphs(Counted::Arguments, &self.graphs) {
+            return false;
+        }
+        taken_by_statics(&self.statics).saturating_add(taken_by_bytes(&self.array_bytes)) <= 1048576
+    }
+
+    /// Whether the unit is valid. It takes no memory; where no other rule is broken, the time grows with the square of how much the unit has.
+    pub fn is_valid(&self) -> bool
+        ensures { IsTrue result ↔ IsValid (unit_view self.now) }
+    {
+        if !self.keeps_counts() {
+            return false;
+        }
+        if !has_parameters(self, self.main, 0) {
+            return false;
+        }
+        if !have_relocations(self, &self.statics) {
+            return false;
+        }
+        if !are_graphs(self, &self.graphs) {
+            return false;
+        }
+        are_marked_once(&self.graphs, &self.graphs)
+    }
+}
