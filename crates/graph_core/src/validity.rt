@@ -8,7 +8,7 @@ ghost use Rattle.graph_core.specs.Uses.{marker_of, targets_of};
 ghost use Rattle.graph_core.specs.Values.{size_of};
 ghost use Rattle.graph_core.specs.Memory.{static_bytes};
 ghost use Rattle.graph_core.specs.Counts.{AreMarkedOnce, AreMarkedOnceInBlocks, AreMarkedOnceIn, IsOnce, KeepsCounts, count_in_blocks, count_in_graphs, share};
-ghost use Rattle.graph_core.specs.Validity.{AreEdges, AreOperandsOf, AreOperandsOfEnd, AreRelocations, HasParameters, IsBinding, IsBlock, IsCall, IsGraph, IsInstruction, IsKept, IsLocation, IsNoteValue, IsOperand, IsStatic, IsValid, IsWanted, arguments_in, counts, depth_of, keeps_place, place_behind, taken_by, taken_by_object, total};
+ghost use Rattle.graph_core.specs.Validity.{AreEdges, AreOperandsOf, AreOperandsOfEnd, AreRelocations, HasParameters, IsBinding, IsBlock, IsCall, IsGraph, IsInstruction, IsKept, IsLocation, IsNoteValue, IsOperand, IsStatic, IsValid, IsWanted, arguments_in, counts, depth_of, KeepsPlace, place_behind, taken_by, taken_by_object, total};
 
 use crate::block::{Block, End};
 use crate::graph::{Binding, Graph, MemoryObject};
@@ -441,7 +441,7 @@ fn is_same_place(one: Option<Place>, other: Option<Place>) -> bool
 
 /// Whether a block of these instructions keeps a place where another is in force.
 fn keeps_place(instructions: &[Instr], in_force: Option<Place>, kept: Option<Place>) -> bool
-    ensures { IsTrue result ↔ keeps_place (map instruction_view instructions.now) (option_map (λ (p : declared-place.Place). p.0) in_force) (option_map (λ (p : declared-place.Place). p.0) kept) }
+    ensures { IsTrue result ↔ KeepsPlace (map instruction_view instructions.now) (option_map (λ (p : declared-place.Place). p.0) in_force) (option_map (λ (p : declared-place.Place). p.0) kept) }
 {
     match instructions {
         [] => is_same_place(in_force, kept),
