@@ -1,3 +1,5 @@
 pub mod Numbers
 pub mod Objects
 pub mod Rounds
+pub mod Statics
+pub mod SourceRuns

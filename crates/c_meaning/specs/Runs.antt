@@ -111,20 +111,26 @@ first_value p v of place =
 abbrev pub first_values : ProgramTree → StaticTree → (element : Scalar) → List ℕ → List Value
 first_values p v element indices = map (λ i. first_value p v element (i * scalar_size element)) indices
 
--- Objects of static storage live from the beginning, with the values of their initializers (6.2.4p3, 6.7.9p10).
+-- An object of static storage lives from the beginning, with the values of its initializer (6.2.4p3, 6.7.9p10).
+abbrev pub static_object : ProgramTree → ℕ → StaticTree → Object
+static_object p n v =
+    record { owner = Static n; element = element_of v.of; values = first_values p v (element_of v.of) (numbers_from 0 (count_of v.of)); phase = Live }
+
+-- objects of static storage, numbered from n on
 abbrev pub static_objects : ProgramTree → ℕ → List StaticTree → List Object
 static_objects p n [] = []
-static_objects p n (v ∷ more) =
-    record { owner = Static n; element = element_of v.of; values = first_values p v (element_of v.of) (numbers_from 0 (count_of v.of)); phase = Live }
-    ∷ static_objects p (n + 1) more
+static_objects p n (v ∷ more) = static_object p n v ∷ static_objects p (n + 1) more
 
--- the objects of string literals (6.4.5p6)
+-- the object of a string literal (6.4.5p6)
+abbrev pub literal_object : ℕ → LiteralTree → Object
+literal_object n l = record { owner = Literal n; element = record { base = Char; stars = 0 }; values = map (λ byte. Number (pos byte)) l.bytes; phase = Live }
+
+-- the objects of string literals, numbered from n on
 abbrev pub literal_objects : ℕ → List LiteralTree → List Object
 literal_objects n [] = []
-literal_objects n (l ∷ more) =
-    record { owner = Literal n; element = record { base = Char; stars = 0 }; values = map (λ byte. Number (pos byte)) l.bytes; phase = Live }
-    ∷ literal_objects (n + 1) more
+literal_objects n (l ∷ more) = literal_object n l ∷ literal_objects (n + 1) more
 
+-- the objects with which a run begins
 abbrev pub first_memory : ProgramTree → Memory
 first_memory p = static_objects p 0 p.statics ++ literal_objects 0 p.literals
 

@@ -29,7 +29,7 @@ use Rattle.c_meaning.specs.declared.state.Outcome as declared-outcome
 use Rattle.c_meaning.specs.declared.state.Outcome.TheVariants as outcome
 use Rattle.c_meaning.specs.Memory.{Object, Memory}
 use Rattle.c_tree.specs.Programs.{program_view}
-use Rattle.c_places.specs.Places.{Place, number_at, place_view}
+use Rattle.c_places.specs.Places.{number_at, place_view}
 use Rattle.c_meaning.specs.States.{Shown, Event, Put, Exited, TooDeep, Stop, State, Evaluated, Gives, Leaves, Ends, Outcome, Next, Broken, Continued, Returned, Ended, Both, Pair, NoPair, Tested, Holds, Fails, NoTest, Listed, Lists, NoList}
 use Rattle.c_meaning.specs.Statements.{Activation, Begun, Goes, NoTurn, depth_of, frames_at, shown_at, execute, execute_all, execute_case, execute_default, value_at, test_at, check, run, step, begin_loop, declare_all, declare, initialise_elements}
 use Rattle.c_meaning.specs.Runs.{SourceRun, calls_at}

@@ -7,9 +7,9 @@ ghost use Rattle.c_meaning.specs.Statements.{begin, depth_of, frames_at, shown_a
 
 use crate::event::{Event, Frame, Shown, Stop};
 use crate::memory::{Object, Owner, object_of};
-use c_places::{Place, number_at, scope_at, visible};
 use crate::state::State;
 use crate::value::Value;
+use c_places::{Place, number_at, scope_at, visible};
 use c_tree::Program;
 use debug_records::source::Spot;
 use std::alloc::{AllocError, Global};
@@ -95,14 +95,7 @@ impl<'a> Activation<'a> {
         let mut shown = Vec::new(alloc);
         for variable in &variables {
             let variable = *variable;
-            let values = contents(
-                alloc,
-                Owner::Variable {
-                    variable,
-                    depth,
-                },
-                memory,
-            )?;
+            let values = contents(alloc, Owner::Variable { variable, depth }, memory)?;
             shown.push(Shown { variable, values })?;
         }
         Ok(shown)

@@ -35,7 +35,7 @@ fn bits_of(of: IntegerType, number: i128) -> u32
 }
 
 /// The number of a type that has these bits.
-fn number_of(of: IntegerType, bits: u32) -> i64
+pub fn number_of(of: IntegerType, bits: u32) -> i64
     ensures { result ≡ number_of (integer of) bits }
 {
     if is_signed(of) && modulus(of) <= 2 * u64::from(bits) {

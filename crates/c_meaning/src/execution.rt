@@ -18,11 +18,11 @@ use crate::joints::{
     sign_from, step, step_pointer, tested, truth_of, update, update_pointer, usable_from,
 };
 use crate::lifetimes::forget;
-use c_places::Place;
 use crate::state::{Evaluated, Operands, State, Tested};
 use crate::statements::execute_all as execute_statements;
 use crate::steps::{given, leave, named, next_byte, put};
 use crate::value::Value;
+use c_places::Place;
 use c_tree::{Arguments, Callee, Lvalue, Program, Rvalue};
 use std::alloc::{AllocError, Global};
 

@@ -11,12 +11,16 @@ mod laws;
 mod lifetimes;
 pub mod memory;
 mod operations;
+mod source_run;
 mod state;
 mod statements;
+mod static_storage;
 mod steps;
 mod types;
 pub mod value;
 
-pub use event::{Ending, Frame};
+pub use event::{Ending, Event, Frame, Shown, SourceRun, Stop};
 pub use laws::runs_are_worked;
+pub use memory::{Object, Owner};
+pub use source_run::eval;
 pub use value::{Phase, Value};

@@ -13,8 +13,8 @@ use std::alloc::{AllocError, Global};
 /// Whose an object is: a named one of static storage or a string literal by its number, or an automatic variable by its number with the depth of its activation, 1 for the first of `main`.
 #[derive(Clone, Copy, Debug, PartialEq, Eq)]
 pub enum Owner {
-    Static(u32),
-    Literal(u32),
+    Static(usize),
+    Literal(usize),
     Variable { variable: usize, depth: usize },
 }
 

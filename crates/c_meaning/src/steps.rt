@@ -62,8 +62,8 @@ pub fn named(depth: usize, object: c_tree::Object, memory: &[Object]) -> Option<
     ensures { result ≡ named depth object (map object_view memory.now) }
 {
     let owner = match object {
-        c_tree::Object::Static(number) => Owner::Static(number),
-        c_tree::Object::Literal(number) => Owner::Literal(number),
+        c_tree::Object::Static(number) => Owner::Static(number as usize),
+        c_tree::Object::Literal(number) => Owner::Literal(number as usize),
         c_tree::Object::Automatic(variable) => Owner::Variable {
             variable: variable as usize,
             depth,

@@ -1,4 +1,4 @@
-use Rattle.std.proofs.Common.{◌≡◌, sym, ap, ◌∙◌, arith, vec_len, ◌+◌, ◌-◌}
+use Rattle.std.proofs.Common.{◌≡◌, sym, ap, ◌∙◌, arith, vec_len, ◌-◌}
 use Rattle.std.specs.Prelude.{length, option_map}
 use Rattle.c_tree.specs.Programs.{function_view, program_view}
 use Rattle.c_tree.specs.TypedExpressions.{rvalue_view}

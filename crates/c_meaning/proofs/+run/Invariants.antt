@@ -1,4 +1,4 @@
-use Rattle.std.proofs.Common.{◌≡◌, ℕ, ◌+◌, ◌*◌, map}
+use Rattle.std.proofs.Common.{◌≡◌, ◌+◌, ◌*◌, map}
 use Rattle.std.specs.Prelude.{option_map}
 use Rattle.c_tree.specs.Programs.{program_view}
 use Rattle.c_tree.specs.TypedExpressions.{rvalue_view, lvalue_view, arguments_view}
