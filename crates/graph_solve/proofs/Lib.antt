@@ -6,6 +6,8 @@ pub mod Rounding
 pub mod Directing
 pub mod Solved
 pub mod PathLaws
+pub mod Neighbours
+pub mod Valid
 pub mod Carrying
 pub mod Living
 pub mod Within

@@ -4,6 +4,8 @@ use Rattle.std.specs.Prelude.{◌||◌, ◌&&◌}
 use Rattle.std.specs.Cmp.{nat_cmp_total}
 use Rattle.std.specs.FinSet.{contains, union, intersection, contains-union, contains-intersection}
 use Rattle.graph_solve.specs.Numbers.{Numbers}
+use Rattle.graph_solve.specs.Problem.{DataFlow}
+use Rattle.graph_solve.specs.Paths.{ControlFlow, Path, along, Comes, Leaves}
 use Rattle.graph_solve.specs.Meets.{SomeMeet, one, both, IsMeetOf}
 
 either : (a b : Bool) → (a || b) ≡ true → (a ≡ true) ⊎ (b ≡ true)
@@ -44,3 +46,36 @@ module _ (P : Numbers → Type 0) (x : Numbers) (q : ℕ) where
     (λ e v p. and_parts (contains x q) (contains v q) (sym (contains-intersection nat_cmp_total x v q) ∙ ap (λ s. contains s q) (m.below v p)) e),
     (λ all. from_all m.made all),
   )
+
+module _ (flow : DataFlow) (control : ControlFlow) (block : ℕ) (x : Numbers) (q : ℕ) where
+  -- by union a number comes to a block exactly where it comes along some path
+  pub comes_on_some : IsMeetOf union (Comes flow control block) x → (contains x q ≡ true) ↔ ((path : Path control flow.forward block) × (contains (along flow control path) q ≡ true))
+  comes_on_some m =
+      let laws = in_some (Comes flow control block) x q m in (
+        (λ e. let some = laws.0 e in (some.1.0, ap (λ s. contains s q) (sym some.1.1) ∙ some.2)),
+        (λ h. laws.1 (along flow control h.0, (h.0, refl), h.1)),
+      )
+
+  -- and leaves it exactly where the block makes it of what comes along some path
+  pub leaves_on_some : IsMeetOf union (Leaves flow control block) x → (contains x q ≡ true) ↔ ((path : Path control flow.forward block) × (contains (flow.transfer block (along flow control path)) q ≡ true))
+  leaves_on_some m =
+      let laws = in_some (Leaves flow control block) x q m in (
+        (λ e. let some = laws.0 e in (some.1.0, ap (λ s. contains s q) (sym some.1.1) ∙ some.2)),
+        (λ h. laws.1 (flow.transfer block (along flow control h.0), (h.0, refl), h.1)),
+      )
+
+  -- by intersection a number comes to a block exactly where it comes along every path
+  pub comes_on_every : IsMeetOf intersection (Comes flow control block) x → (contains x q ≡ true) ↔ ((path : Path control flow.forward block) → contains (along flow control path) q ≡ true)
+  comes_on_every m =
+      let laws = in_each (Comes flow control block) x q m in (
+        (λ e path. laws.0 e (along flow control path) (path, refl)),
+        (λ all. laws.1 (λ v comes. ap (λ s. contains s q) comes.1 ∙ all comes.0)),
+      )
+
+  -- and leaves it exactly where the block makes it of what comes along every path
+  pub leaves_on_every : IsMeetOf intersection (Leaves flow control block) x → (contains x q ≡ true) ↔ ((path : Path control flow.forward block) → contains (flow.transfer block (along flow control path)) q ≡ true)
+  leaves_on_every m =
+      let laws = in_each (Leaves flow control block) x q m in (
+        (λ e path. laws.0 e (flow.transfer block (along flow control path)) (path, refl)),
+        (λ all. laws.1 (λ v leaves. ap (λ s. contains s q) leaves.1 ∙ all leaves.0)),
+      )

@@ -1,6 +1,6 @@
-use Rattle.std.proofs.Common.{◌≡◌, ◌↔◌, true, sym, ap, ◌∙◌, subst, length, map}
+use Rattle.std.proofs.Common.{◌≡◌, sym, ap, ◌∙◌, length, map}
 use Rattle.std.proofs.lemmas.List.{length-map}
-use Rattle.graph_core.specs.Graphs.{block_view, graph_view}
+use Rattle.graph_core.specs.Graphs.{block_view}
 use Rattle.graph_solve.specs.GraphFlow.{lead_within}
 use Rattle.graph_solve.proofs.Within.{tells_within}
 use Rattle.graph_solve.proofs.graph.targets_are_within.Goals as goal

@@ -1,4 +1,4 @@
-use Rattle.std.proofs.Common.{◌≡◌, sym, ap, ◌∙◌, subst, length, replicate, arith}
+use Rattle.std.proofs.Common.{◌≡◌, sym, ◌∙◌, subst, length, replicate, arith}
 use Rattle.graph_solve.specs.Solution.{control_flow, AreWithin}
 use Rattle.graph_solve.specs.Rounds.{AreAllSettled, AreDirected, AreFalling, Follows}
 use Rattle.graph_solve.proofs.Falling.{first_falling, follows_falling, met}
@@ -10,7 +10,7 @@ pub loop-counts-init : goal.loop-counts-init
 loop-counts-init g c =
     let flow = g.P.Problem.flow c.args.problem.now in
     let blocks : c.len.result ≡ length c.args.graph.now.ends.items = omega arith in
-    let zeros = c.in_ok-counts.ensures.items_if_clones_equal (λ y e. e) ∙ ap (λ n. replicate n 0) blocks in
+    let zeros : c.in_ok-counts.counts.items ≡ replicate (length c.args.graph.now.ends.items) 0 = subst (λ n. c.in_ok-counts.counts.items ≡ replicate n 0) blocks (c.in_ok-counts.ensures.items_if_clones_equal (λ y e. e)) in
     record {
       state = subst (λ cs. AreFalling flow (control_flow c.args.graph.now) c.in_ok-values.values.items cs) (sym zeros) (first_falling flow (control_flow c.args.graph.now) (length c.args.graph.now.ends.items) c.in_ok-values.values.items c.in_ok-values.ensures);
       size = c.in_ok-values.ensures.each;
