@@ -6,5 +6,5 @@ mod pass;
 #[cfg(test)]
 mod tests;
 
-pub use list::{RunErr, Trail, run_list};
+pub use list::{MAX_LIST_LENGTH, RunErr, Trail, run_list};
 pub use pass::Pass;

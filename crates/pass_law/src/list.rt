@@ -13,7 +13,7 @@ use std::alloc::{AllocError, Global};
 use thiserror::Error;
 
 /// How many names a list has at most.
-pub const MAX_LIST: usize = 32;
+pub const MAX_LIST_LENGTH: usize = 32;
 
 /// The units before and after each pass of a list, in order.
 #[derive(Drop)]
@@ -87,7 +87,7 @@ pub fn run_list(
     names: &[PassName],
     unit: Unit,
 ) -> Result<Trail, RunErr>
-    requires few { length names.now ≤ 32 }
+    requires few { length names.now ≤ MAX_LIST_LENGTH }
     requires marked { AreWellMarked (unit_view unit) }
     requires unchanged { (unit_view unit).log ≡ [] }
     ensures first { IfOk result (λ t. slice_get (map unit_view t.units.items) 0 ≡ Some (unit_view unit)) }
