@@ -5,3 +5,4 @@ pub mod InOrder
 pub mod SameNumbers
 pub mod Starts
 pub mod EachAssigned
+pub mod Classes

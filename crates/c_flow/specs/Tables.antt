@@ -1,6 +1,6 @@
 -- The tables of a program's places and of its flow.
-use Rattle.std.specs.Prelude.{◌≡◌, ℕ, ◌+◌, ◌<◌, ◌^◌, ◌↔◌, nat_lt, List, [], ◌∷◌, ◌++◌, map, length, All, Bool, Option, Some, None}
-use Rattle.std.specs.List.{Contains, count_by}
+use Rattle.std.specs.Prelude.{ℕ, ◌+◌, ◌<◌, ◌^◌, nat_lt, List, [], ◌∷◌, ◌++◌, map, length, All, Bool, Option, Some, None}
+use Rattle.std.specs.List.{count_by}
 use Rattle.debug_records.specs.declared.change.Var.{Var}
 use Rattle.places.specs.declared.flow.Step.{Step}
 use Rattle.places.specs.declared.flow.Assignment.{Assignment}

@@ -1,12 +1,11 @@
 -- Where execution may go in small programs, and what their places assign.
-use Rattle.std.specs.Prelude.{◌≡◌, ℕ, pos, false, List, [], ◌∷◌, Option, Some, None, codes, map}
+use Rattle.std.specs.Prelude.{◌≡◌, ℕ, pos, false, List, [], ◌∷◌, Some, None, codes}
 use Rattle.debug_records.specs.declared.source.Spot.{Spot}
 use Rattle.places.specs.declared.flow.Step.{Step}
 use Rattle.places.specs.declared.flow.Assignment.{Assignment}
 use Rattle.c_tree.specs.declared.types.IntegerType.TheVariants.{Int}
 use Rattle.c_tree.specs.declared.object_type.Scalar.{Scalar}
 use Rattle.c_tree.specs.declared.object_type.ObjectType.TheVariants as type
-use Rattle.c_tree.specs.declared.object_type.ValueType as declared-result
 use Rattle.c_tree.specs.declared.object_type.ValueType.TheVariants as result
 use Rattle.c_tree.specs.declared.object_type.Object.{Object}
 use Rattle.c_tree.specs.declared.object_type.Object.TheVariants.{Static, Automatic}

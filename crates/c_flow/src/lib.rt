@@ -13,6 +13,7 @@ mod step_table;
 mod tables;
 #[cfg(test)]
 mod tests;
+mod visibility;
 mod visible_variables;
 
 pub use laws::flows_are_worked;

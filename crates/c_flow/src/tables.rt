@@ -14,6 +14,7 @@ ghost use Rattle.c_flow.specs.Tables.{FewVariables, Fits32, row_of, row_view, ro
 use crate::assignment_table::assignment_table;
 use crate::numbering::positions_of;
 use crate::step_table::step_table;
+use crate::visibility::name_classes;
 use crate::visible_variables::row_of;
 use c_places::{Place, places_of_program};
 use c_tree::Program;
@@ -26,9 +27,11 @@ fn table_of(alloc: Global, program: &Program, places: &[Place]) -> Result<PlaceT
     requires functions { All (λ p. p.function < 2 ^ 32) places.now }
     ensures { IfOk result (λ t. map row_view t.rows.items ≡ map (row_of (program_view program.now)) (map place_view places.now)) }
 {
+    let classes = name_classes(alloc, &program.automatics)?;
+    let by_name = classes.as_slice();
     let mut rows = Vec::new(alloc);
     for place in places {
-        let row = row_of(alloc, program, place)?;
+        let row = row_of(alloc, program, by_name, place)?;
         rows.push(row)?;
     }
     Ok(PlaceTable { rows })

@@ -5,9 +5,11 @@ ghost use Rattle.c_tree.specs.declared.object_type.Object.TheVariants.{Automatic
 ghost use Rattle.c_tree.specs.Programs.{program_view};
 ghost use Rattle.c_places.specs.Places.{place_view};
 ghost use Rattle.c_flow.specs.Assigns.{variable_number};
+ghost use Rattle.c_flow.specs.Names.{AreClasses};
 ghost use Rattle.c_flow.specs.Tables.{FewVariables, numbers_of, row_of, row_view};
 
-use c_places::{Place, visible};
+use crate::visibility::visible_by_class;
+use c_places::Place;
 use c_tree::Program;
 use debug_records::Var;
 use places::PlaceRow;
@@ -40,13 +42,19 @@ fn numbers_of(alloc: Global, program: &Program, variables: &[usize]) -> Result<V
     Ok(found)
 }
 
-/// The row of a place in the table.
-pub fn row_of(alloc: Global, program: &Program, place: &Place) -> Result<PlaceRow, AllocError>
+/// The row of a place in the table. The classes are those of the automatic variables by their names.
+pub fn row_of(
+    alloc: Global,
+    program: &Program,
+    classes: &[usize],
+    place: &Place,
+) -> Result<PlaceRow, AllocError>
+    requires classes { AreClasses (program_view program.now).automatics classes.now }
     requires variables { FewVariables (program_view program.now) }
     requires function { place.now.function < 2 ^ 32 }
     ensures { IfOk result (λ r. row_view r ≡ row_of (program_view program.now) (place_view place.now)) }
 {
-    let scope = visible(alloc, &program.automatics, &place.scope)?;
+    let scope = visible_by_class(alloc, &program.automatics, classes, &place.scope)?;
     Ok(PlaceRow {
         position: place.spot.at,
         line: place.spot.line,

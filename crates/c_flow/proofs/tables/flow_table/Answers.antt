@@ -1,9 +1,6 @@
-use Rattle.std.proofs.Common.{◌≡◌, ℕ, List, ◌+◌, ◌<◌, ◌^◌, length, map, sym, ap, ◌∙◌, subst, arith}
-use Rattle.std.specs.Prelude.{All}
-use Rattle.std.proofs.lemmas.List.{length-map}
-use Rattle.c_tree.specs.declared.program.TypedFunction.{TypedFunction}
-use Rattle.c_tree.specs.Programs.{TypedFunctionTree, function_view, program_view}
-use Rattle.c_places.specs.Places.{Place, number_at, place_view, places_of_program}
+use Rattle.std.proofs.Common.{ℕ, List, length, ap, ◌∙◌}
+use Rattle.c_tree.specs.Programs.{program_view}
+use Rattle.c_places.specs.Places.{places_of_program}
 use Rattle.c_flow.specs.Tables.{place_number}
 use Rattle.c_flow.proofs.Fitting.{few_positions, numbers_among, parameters_fit}
 use Rattle.c_flow.proofs.tables.flow_table.Goals as goal
