@@ -4,3 +4,5 @@ pub mod WorkedBuilt
 pub mod WorkedReduced
 pub mod WorkedPass
 pub mod LogLonger
+pub mod WorkedMotion
+pub mod WorkedCopy

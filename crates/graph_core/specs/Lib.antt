@@ -10,3 +10,4 @@ pub mod Homes
 pub mod Keeps
 pub mod Earned
 pub mod Worked
+pub mod WorkedChanges
