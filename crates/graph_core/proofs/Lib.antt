@@ -7,3 +7,5 @@ pub mod LogLonger
 pub mod Lists
 pub mod Once
 pub mod Valid
+pub mod WorkedMotion
+pub mod WorkedCopy

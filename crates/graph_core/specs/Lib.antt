@@ -11,3 +11,4 @@ pub mod Homes
 pub mod Keeps
 pub mod Earned
 pub mod Worked
+pub mod WorkedChanges

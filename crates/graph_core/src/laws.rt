@@ -6,6 +6,7 @@ ghost use Rattle.graph_core.specs.Graphs.{Logged, UnitForm};
 ghost use Rattle.graph_core.specs.Keeps.{Keeps};
 ghost use Rattle.graph_core.specs.WellMarked.{AreWellMarked};
 ghost use Rattle.graph_core.specs.Worked.{AreWorked};
+ghost use Rattle.graph_core.specs.WorkedChanges.{AreBorneOut};
 
 /// Two laws: a well marked unit keeps what it does itself, and what keeps a unit that keeps a first one keeps the first.
 pub fn keeping_composes()
@@ -22,4 +23,9 @@ pub fn logs_may_grow()
 /// kept by the other, and the pass's change is earned.
 pub fn definitions_are_met()
     ensures { (pass : PassName) → AreWorked pass }
+{}
+
+/// The definitions of changes can be met: graphs of small functions bear out what was moved, replaced and reused.
+pub fn changes_are_borne_out()
+    ensures { AreBorneOut }
 {}
