@@ -1,18 +1,18 @@
 -- A unit with more changes in its log, and nothing else changed, keeps what it did.
-use Rattle.std.proofs.Common.{◌≡◌, ℕ, zero, suc, ◌<◌, ◌≤◌, ◌+◌, ◌⊎◌, inl, inr, Bool, true, false, if◌then◌else◌, ◌==◌, Option, Some, None, List, [], ◌∷◌, ◌++◌, length, length-append, map, slice_get, refl, sym, ap, ◌∙◌, subst, arith}
+use Rattle.std.proofs.Common.{◌≡◌, ℕ, zero, suc, ◌≤◌, ◌+◌, inl, inr, if◌then◌else◌, ◌==◌, Option, Some, None, List, [], ◌∷◌, ◌++◌, length, length-append, map, refl, sym, ap, ◌∙◌, subst, arith}
 use Rattle.std.specs.List.{AllByRecursion, list_any}
 use Rattle.graph_core.specs.declared.instruction.Callee.{Callee}
 use Rattle.graph_core.specs.declared.instruction.Callee.TheVariants as callee
 use Rattle.graph_core.specs.declared.value.Value.{Value}
-use Rattle.graph_core.specs.Graphs.{Operand, Name, Constant, StaticAddress, Recipe, Of, Truncated, Operated, NoteValue, Is, Gone, Location, Automatic, Static, At, Instruction, Marker, Note, Move, Operate, Truncate, Same, Address, Load, Store, Zero, CopyWords, Call, End, Jump, Branch, Return, Block, Binding, ToScalar, ToObject, Graph, StaticObject, Logged, UnitForm}
+use Rattle.graph_core.specs.Graphs.{Operand, Name, Constant, StaticAddress, Recipe, Of, Truncated, Operated, NoteValue, Is, Gone, Location, Automatic, Static, At, Instruction, Marker, Note, Move, Operate, Truncate, Same, Address, Load, Store, Zero, CopyWords, Call, End, Jump, Branch, Return, Block, Binding, ToScalar, ToObject, Graph, Logged, UnitForm}
 use Rattle.graph_core.specs.Paths as paths
 use Rattle.graph_core.specs.Paths.{Among}
 use Rattle.graph_core.specs.Validity.{IsOperand, AreOperandsOf, IsNoteValue, IsLocation, IsWanted, IsCall, IsInstruction, AreOperandsOfEnd, IsBlock, IsBinding, IsGraph, AreAllDifferent, IsValid}
 use Rattle.graph_core.specs.WellMarked.{WasRemoved, WrittenIn, instruction, bound, IsRightNote, IsWellMarked, AreWellMarked}
-use Rattle.graph_core.specs.Memory.{Memory, first_memory}
+use Rattle.graph_core.specs.Memory.{first_memory}
 use Rattle.graph_core.specs.Values.{is_odd}
-use Rattle.graph_core.specs.Runs.{Configuration, Stepped, Goes, Shows, Ends, Wild, Event, TooDeep, value, put_out, exited, enter, goes_if, call_function, first_of, call, execute, execute_end, step_from, step, after, run, run_some, unit_run}
-use Rattle.graph_core.specs.Keeps.{Begins, SameProgram, Keeps}
+use Rattle.graph_core.specs.Runs.{Configuration, Stepped, Goes, Shows, Ends, Wild, Event, TooDeep, value, put_out, exited, enter, goes_if, first_of, call, execute, execute_end, step_from, step, after, run, run_some, unit_run}
+use Rattle.graph_core.specs.Keeps.{Begins, Keeps}
 use Rattle.graph_core.proofs.Keeping.{agree_with_itself, function_itself, begins_itself}
 
 abbrev pub with_changes : UnitForm → List Logged → UnitForm

@@ -1,8 +1,8 @@
 -- The unit of a small program is well marked.
-use Rattle.std.proofs.Common.{◌≡◌, ◌≢◌, ℕ, zero, suc, ◌<◌, ◌≤◌, inl, inr, true, false, List, [], ◌∷◌, length, Option, Some, None, refl, sym, subst, slice_get, lit≤, lit<}
+use Rattle.std.proofs.Common.{◌≡◌, ◌≢◌, ℕ, zero, suc, inl, true, false, List, [], ◌∷◌, length, Option, Some, None, refl, sym, subst, slice_get, lit≤, lit<}
 use Rattle.places.specs.Flow.{can_go, assigns}
 use Rattle.graph_core.specs.declared.value.Value.{Value}
-use Rattle.graph_core.specs.Graphs.{Operand, Name, Constant, Recipe, Of, NoteValue, Is, Gone, Instruction, Marker, Note, Move, Zero, CopyWords, End, Jump, Branch, Return, Block, Graph, Logged, UnitForm}
+use Rattle.graph_core.specs.Graphs.{Operand, Name, Constant, Of, NoteValue, Is, Instruction, Marker, Note, Move, Zero, CopyWords, End, Jump, Return, Block, Graph}
 use Rattle.graph_core.specs.Uses.{targets_of}
 use Rattle.graph_core.specs.Paths.{Passed, History, Among, Way, stays, passes, goes, Path, path, place_of, writes, is_call, written, owed}
 use Rattle.graph_core.specs.Validity.{IsValid}

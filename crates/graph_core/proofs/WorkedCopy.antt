@@ -4,7 +4,7 @@ use Rattle.graph_core.specs.declared.value.Value.{Value}
 use Rattle.graph_core.specs.Graphs.{Operand, Name, Of, Is, Instruction, Marker, Note, Move, End, Jump, Return, Block}
 use Rattle.graph_core.specs.Uses.{targets_of}
 use Rattle.graph_core.specs.Paths.{Passed, History, Among, Way, stays, passes, goes, Path, path}
-use Rattle.graph_core.specs.Earned.{IsCopiedAt, StandsWith, IsReplaced, IsReused}
+use Rattle.graph_core.specs.Earned.{IsCopiedAt, IsReplaced, IsReused}
 use Rattle.graph_core.specs.WorkedChanges.{copies_y, copying, passing_by, one_register, AreBorneOut}
 use Rattle.graph_core.proofs.Inversions.{some_same, among_one, among_none, apart, to_second, to_third}
 use Rattle.graph_core.proofs.WorkedMotion.{is_moved}

@@ -3,8 +3,8 @@ use Rattle.std.proofs.Common.{◌≡◌, ℕ, zero, suc, ◌⊎◌, inl, inr, tr
 use Rattle.std.specs.Prelude.{⊤}
 use Rattle.recovery.specs.declared.operation.Operation.TheVariants.{Add}
 use Rattle.graph_core.specs.declared.value.Value.{Value}
-use Rattle.graph_core.specs.Graphs.{Name, Of, Is, Instruction, Marker, Note, Move, Operate, End, Jump, Block}
-use Rattle.graph_core.specs.Paths.{Passed, History, Way, stays, passes, goes, writes}
+use Rattle.graph_core.specs.Graphs.{Name, Of, Is, Instruction, Note, Move, Operate, End, Jump, Block}
+use Rattle.graph_core.specs.Paths.{History, Way, stays, passes, goes, writes}
 use Rattle.graph_core.specs.WellMarked as marked
 use Rattle.graph_core.specs.WellMarked.{here, InPlace}
 use Rattle.graph_core.specs.Earned.{Computation, Operating, computed_by, Behind, SomeUse, latest, earlier, StopsIt, IsDownSafe, IsMoved}

@@ -1,16 +1,15 @@
 -- The unit of a small program without its assignment keeps what the unit with it does, and the change is earned.
-use Rattle.std.proofs.Common.{◌≡◌, ℕ, zero, suc, true, List, [], ◌∷◌, ◌++◌, Option, Some, None, refl, sym, subst, slice_get}
+use Rattle.std.proofs.Common.{◌≡◌, ℕ, zero, suc, List, [], ◌∷◌, ◌++◌, Some, refl, sym, subst, slice_get}
 use Rattle.std.specs.List.{AllByRecursion}
 use Rattle.debug_records.specs.declared.change.PassName.{PassName}
 use Rattle.graph_core.specs.declared.home.Home.{Home}
-use Rattle.graph_core.specs.Graphs.{Operand, Name, Constant, Of, NoteValue, Is, Instruction, Marker, Note, End, Jump, Return, Block, Graph}
-use Rattle.graph_core.specs.Uses.{reads_of, reads_of_end, targets_of}
-use Rattle.graph_core.specs.Paths.{History, Among, Way, stays, passes, goes, writes}
-use Rattle.graph_core.specs.WellMarked.{InPlace}
-use Rattle.graph_core.specs.Runs.{Frame, Event, unit_run}
+use Rattle.graph_core.specs.Graphs.{Constant, Instruction, End, Block}
+use Rattle.graph_core.specs.Uses.{reads_of, reads_of_end}
+use Rattle.graph_core.specs.Paths.{History, Among, Way, stays, passes, goes}
+use Rattle.graph_core.specs.Runs.{unit_run}
 use Rattle.graph_core.specs.Keeps as keeps
 use Rattle.graph_core.specs.Keeps.{Agree, none, more, SameFrame, SameEvent, stop, exited, Begins, ends, goes_on, SameProgram, Keeps}
-use Rattle.graph_core.specs.Earned.{Behind, ReadsNext, IsUnread, IsRemoved, IsEarned}
+use Rattle.graph_core.specs.Earned.{Behind, ReadsNext, IsRemoved, IsEarned}
 use Rattle.graph_core.specs.Worked.{assigning, notes_two, noting, built, removal, reduced, AreWorked}
 use Rattle.graph_core.proofs.Inversions.{among_none, each_block}
 use Rattle.graph_core.proofs.WorkedBuilt.{built_is_marked}

@@ -1,5 +1,5 @@
 -- When a change that a pass logged is earned: the units before and after the pass bear it out.
-use Rattle.std.specs.Prelude.{◌≡◌, ◌≢◌, ℕ, ◌+◌, ◌≤◌, ◌⊎◌, ◌==◌, ◌&&◌, ◌||◌, not, Bool, true, false, if◌then◌else◌, Option, Some, None, List, [], ◌∷◌, ◌++◌, length, slice_get, ⊤}
+use Rattle.std.specs.Prelude.{◌≡◌, ◌≢◌, ℕ, ◌+◌, ◌≤◌, ◌⊎◌, ◌==◌, ◌&&◌, ◌||◌, Bool, true, false, if◌then◌else◌, Option, Some, None, List, [], ◌∷◌, ◌++◌, length, slice_get, ⊤}
 use Rattle.std.specs.Option.{option_map_or}
 use Rattle.debug_records.specs.declared.change.Kind as declared-kind
 use Rattle.debug_records.specs.declared.change.Kind.TheVariants.{Removed, Moved, Reused, Replaced}
@@ -7,9 +7,9 @@ use Rattle.recovery.specs.declared.operation.Operation.{Operation}
 use Rattle.recovery.specs.declared.operation.Truncation.{Truncation}
 use Rattle.graph_core.specs.declared.home.Home.{Home}
 use Rattle.graph_core.specs.declared.home.Home.TheVariants.{Register}
-use Rattle.graph_core.specs.Graphs.{Operand, Name, Constant, StaticAddress, NoteValue, Instruction, Marker, Note, Move, Operate, Truncate, Same, Address, Load, Store, Zero, CopyWords, Call, End, Return, Block, Graph, Logged, UnitForm}
+use Rattle.graph_core.specs.Graphs.{Operand, Name, NoteValue, Instruction, Note, Move, Operate, Truncate, Same, End, Return, Block, Graph, Logged, UnitForm}
 use Rattle.graph_core.specs.Uses.{names_of, reads_of, reads_of_end, target_of}
-use Rattle.graph_core.specs.Paths.{Passed, History, Among, Way, Path, writes, reads}
+use Rattle.graph_core.specs.Paths.{Passed, History, Among, Way, Path, writes}
 use Rattle.graph_core.specs.Validity.{place_behind, total}
 use Rattle.graph_core.specs.WellMarked.{InPlace, IsVariable}
 

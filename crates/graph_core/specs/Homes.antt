@@ -1,14 +1,13 @@
 -- Homes: what names and their homes hold along a path, and the note that holds on all paths to a place.
-use Rattle.std.specs.Prelude.{◌≡◌, ℕ, ◌==◌, ◌||◌, Bool, true, false, if◌then◌else◌, Option, Some, None, List, [], ◌∷◌}
-use Rattle.std.specs.Option.{option_map_or}
+use Rattle.std.specs.Prelude.{◌≡◌, ℕ, ◌==◌, ◌||◌, Bool, false, if◌then◌else◌, Option, Some, None, List, [], ◌∷◌}
 use Rattle.graph_core.specs.declared.home.Home.{Home}
 use Rattle.graph_core.specs.declared.home.Home.TheVariants.{Register, Slot}
 use Rattle.graph_core.specs.declared.value.Value.{Value}
 use Rattle.graph_core.specs.declared.value.Shadow.{Shadow}
 use Rattle.graph_core.specs.declared.value.Shadow.TheVariants as shadow
-use Rattle.graph_core.specs.Graphs.{Recipe, NoteValue, Is, Gone, Instruction, Marker, Note, Binding, ToScalar, ToObject, Graph, StaticObject, End}
+use Rattle.graph_core.specs.Graphs.{Recipe, Is, Gone, Instruction, Marker, Note, Binding, ToScalar, ToObject, Graph, StaticObject, End}
 use Rattle.graph_core.specs.Uses.{target_of, names_in}
-use Rattle.graph_core.specs.Paths.{Passed, History, Among, Path, notes, last_note}
+use Rattle.graph_core.specs.Paths.{History, Among, Path, notes, last_note}
 use Rattle.graph_core.specs.Runs.{put, recipe_value}
 
 -- What the names hold behind a history, if at the function's beginning they held these values.

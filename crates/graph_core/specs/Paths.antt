@@ -3,7 +3,7 @@ use Rattle.std.specs.Prelude.{◌≡◌, ℕ, ◌==◌, ◌&&◌, ◌||◌, Bool
 use Rattle.std.specs.Option.{option_map_or}
 use Rattle.std.specs.List.{list_any}
 use Rattle.graph_core.specs.declared.value.Value.{Value}
-use Rattle.graph_core.specs.Graphs.{Operand, Name, Recipe, NoteValue, Is, Gone, Instruction, Marker, Note, Move, Operate, Truncate, Same, Address, Load, Store, Zero, CopyWords, Call, End, Block, Binding, ToScalar, ToObject, Graph}
+use Rattle.graph_core.specs.Graphs.{NoteValue, Instruction, Marker, Note, Call, End, Block, Binding, ToScalar, ToObject, Graph}
 use Rattle.graph_core.specs.Uses.{target_of, targets_of, reads_of}
 
 -- An instruction that was passed: its block, how many instructions stand behind it there, what it is, and the value that it wrote, if it writes one.

@@ -1,18 +1,16 @@
 -- What a unit does: its steps, its run, and what can be seen of it.
-use Rattle.std.specs.Prelude.{ℕ, zero, suc, ◌+◌, ◌%◌, ◌==◌, Bool, true, false, if◌then◌else◌, Option, Some, None, option_map, option_and_then, List, [], ◌∷◌, ◌++◌, length, map, slice_get}
+use Rattle.std.specs.Prelude.{ℕ, zero, suc, ◌+◌, ◌%◌, ◌==◌, Bool, if◌then◌else◌, Option, Some, None, option_map, option_and_then, List, [], ◌∷◌, ◌++◌, length, map, slice_get}
 use Rattle.std.specs.List.{list_any}
 use Rattle.std.specs.Option.{option_map_or}
-use Rattle.debug_records.specs.declared.change.Place as declared-place
 use Rattle.graph_core.specs.declared.value.Value.{Value}
 use Rattle.graph_core.specs.declared.value.Value.TheVariants.{Number, Pointer, Odd}
 use Rattle.graph_core.specs.declared.value.Shadow.{Shadow}
 use Rattle.graph_core.specs.declared.value.Shadow.TheVariants as shadow
 use Rattle.graph_core.specs.declared.instruction.Callee.{Callee}
 use Rattle.graph_core.specs.declared.instruction.Callee.TheVariants as callee
-use Rattle.graph_core.specs.declared.graph.MemoryObject.{MemoryObject}
 use Rattle.graph_core.specs.Graphs.{Operand, Name, Constant, StaticAddress, Recipe, Of, Truncated, Operated, NoteValue, Is, Gone, Location, Automatic, Static, At, Instruction, Marker, Note, Move, Operate, Truncate, Same, Address, Load, Store, Zero, CopyWords, Call, End, Jump, Branch, Return, Block, Binding, ToScalar, ToObject, Graph, StaticObject, UnitForm}
 use Rattle.graph_core.specs.Values.{pointer_at, operate, truncate, same, holds, is_odd}
-use Rattle.graph_core.specs.Memory.{Object, Memory, is_live, address_of, static_bytes, read, write, zeroed, copied, new_object, ended_from, first_memory}
+use Rattle.graph_core.specs.Memory.{Memory, is_live, address_of, static_bytes, read, write, zeroed, copied, new_object, ended_from, first_memory}
 
 -- An activation of a function: its function, its graph, the place that it has come to, the values of its names, the shadows of its scalars, the number of its first
 -- object, what is left of its block, and the name that a call's value goes to while it waits.

@@ -1,7 +1,7 @@
 -- Values and what operations make of them.
-use Rattle.std.specs.Prelude.{ℕ, ◌+◌, ◌*◌, ◌-◌, ◌%◌, ◌==◌, ◌&&◌, nat_le, nat_lt, Bool, true, false, not, if◌then◌else◌, Option, Some, None, option_map}
+use Rattle.std.specs.Prelude.{ℕ, ◌+◌, ◌-◌, ◌%◌, ◌==◌, ◌&&◌, nat_le, nat_lt, Bool, true, false, not, if◌then◌else◌, Option, Some, None, option_map}
 use Rattle.recovery.specs.declared.operation.Operation.{Operation}
-use Rattle.recovery.specs.declared.operation.Operation.TheVariants.{Add, Sub, Mul, Div, Divu, Rem, Remu, Sll, Srl, Sra, And, Or, Xor, Slt, Sltu}
+use Rattle.recovery.specs.declared.operation.Operation.TheVariants.{Add, Sub, Slt, Sltu}
 use Rattle.recovery.specs.declared.operation.Truncation.{Truncation}
 use Rattle.recovery.specs.declared.operation.Truncation.TheVariants as truncation
 use Rattle.recovery.specs.Operations.{operated, truncated}

@@ -1,12 +1,10 @@
 -- Well marked units: markers follow the flow of the program, and notes say what becomes of each scalar.
-use Rattle.std.specs.Prelude.{◌≡◌, ◌≢◌, ℕ, ◌+◌, ◌<◌, ◌≤◌, ◌⊎◌, ◌==◌, ◌&&◌, Bool, true, false, Option, Some, None, List, [], ◌∷◌, ◌++◌, length, map, slice_get}
-use Rattle.std.specs.Option.{option_map_or}
-use Rattle.std.specs.List.{list_any}
+use Rattle.std.specs.Prelude.{◌≡◌, ◌≢◌, ℕ, ◌<◌, ◌≤◌, ◌⊎◌, true, false, Option, Some, List, [], ◌∷◌, length, slice_get}
 use Rattle.places.specs.Flow.{can_go, assigns}
 use Rattle.debug_records.specs.declared.change.Kind.TheVariants.{Removed}
-use Rattle.graph_core.specs.Graphs.{Operand, Name, Recipe, Of, NoteValue, Is, Gone, Instruction, Marker, Note, Move, Operate, Truncate, Same, Address, Load, Store, Zero, CopyWords, Call, End, Jump, Branch, Return, Block, Graph, Logged, UnitForm}
-use Rattle.graph_core.specs.Uses.{reads_of, reads_of_end, target_of, targets_of}
-use Rattle.graph_core.specs.Paths.{History, Among, Path, place_of, writes, notes, is_call, called, is_bound, written, unnoted, owed}
+use Rattle.graph_core.specs.Graphs.{Operand, Name, Of, NoteValue, Is, Instruction, Marker, Note, Zero, CopyWords, End, Return, Block, Graph, Logged, UnitForm}
+use Rattle.graph_core.specs.Uses.{reads_of, reads_of_end, targets_of}
+use Rattle.graph_core.specs.Paths.{History, Among, Path, place_of, writes, is_call, called, is_bound, written, unnoted, owed}
 use Rattle.graph_core.specs.Validity.{IsValid, place_behind}
 
 -- An instruction stands in a place, whether a path reaches it or not: here among these instructions, of which the first stands where this place is in force.

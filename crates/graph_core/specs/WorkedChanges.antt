@@ -3,7 +3,7 @@ use Rattle.std.specs.Prelude.{ℕ, List, [], ◌∷◌}
 use Rattle.recovery.specs.declared.operation.Operation.TheVariants.{Add}
 use Rattle.graph_core.specs.declared.home.Home.{Home}
 use Rattle.graph_core.specs.declared.home.Home.TheVariants.{Register}
-use Rattle.graph_core.specs.Graphs.{Operand, Name, Of, Is, Instruction, Marker, Note, Move, Operate, Graph}
+use Rattle.graph_core.specs.Graphs.{Name, Of, Is, Instruction, Marker, Note, Move, Operate, Graph}
 use Rattle.graph_core.specs.Worked.{main_of}
 use Rattle.graph_core.specs.Earned.{IsMoved, IsReplaced, IsReused}
 
