@@ -52,9 +52,10 @@ pub static COPIED: UnitTable = UnitTable {
             Line::End(End::Return(Some(Operand::Constant(0))), None),
         ],
     }],
+    main: 0,
     statics: &[],
     array_bytes: &[],
-    changes: 0,
+    changed: false,
 };
 
 /// `int main(void){int a=getchar(); int b=getchar(); int x=1; putchar(x); int i=0; do{x=a*b; putchar(x); i=i+1;}while(i<2); return x;}`, where
@@ -125,7 +126,8 @@ pub static MOVED: UnitTable = UnitTable {
             Line::End(End::Return(Some(Operand::Name(Name(2)))), None),
         ],
     }],
+    main: 0,
     statics: &[],
     array_bytes: &[],
-    changes: 0,
+    changed: false,
 };

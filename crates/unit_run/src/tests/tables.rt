@@ -47,14 +47,15 @@ pub struct GraphTable {
     pub lines: &'static [Line],
 }
 
-/// A unit. `main` is its last function.
+/// A unit.
 pub struct UnitTable {
     pub graphs: &'static [GraphTable],
+    pub main: u32,
     /// The static objects: their elements, how many, and their bytes.
     pub statics: &'static [(Element, u32, &'static [u8])],
     pub array_bytes: &'static [&'static [u8]],
-    /// How many changes the log has.
-    pub changes: u32,
+    /// Whether its log has a change.
+    pub changed: bool,
 }
 
 fn note(x: u32, recipe: Recipe) -> Instr {
@@ -171,17 +172,39 @@ fn graph(alloc: Global, table: &GraphTable) -> Result<Graph, AllocError> {
     })
 }
 
-fn log(alloc: Global, changes: u32) -> Result<ChangeLog, AllocError> {
+fn log(alloc: Global, changed: bool) -> Result<ChangeLog, AllocError> {
     let mut log = ChangeLog::new(alloc);
     if let Some(pass) = PassName::of(b"dead") {
-        if 1 <= changes {
+        if changed {
             log.push(pass, Kind::Removed, Place(4), Var(0))?;
-        }
-        if 2 <= changes {
-            log.push(pass, Kind::Removed, Place(6), Var(0))?;
         }
     }
     Ok(log)
+}
+
+fn statics(
+    alloc: Global,
+    tables: &[(Element, u32, &'static [u8])],
+) -> Result<Vec<StaticObject>, AllocError> {
+    let mut statics = Vec::new(alloc);
+    for (element, count, bytes) in tables {
+        statics.push(StaticObject {
+            element: *element,
+            count: *count,
+            bytes: Vec::from_slice(alloc, *bytes)?,
+            relocations: Vec::new(alloc),
+        })?;
+    }
+    Ok(statics)
+}
+
+fn array_bytes(alloc: Global, tables: &[&'static [u8]]) -> Result<Vec<Bytes>, AllocError> {
+    let mut all = Vec::new(alloc);
+    for bytes in tables {
+        let bytes = Vec::from_slice(alloc, *bytes)?;
+        all.push(Bytes { bytes })?;
+    }
+    Ok(all)
 }
 
 /// The unit of a table.
@@ -190,31 +213,16 @@ pub fn unit(alloc: Global, table: &UnitTable) -> Result<Unit, AllocError> {
     for one in table.graphs {
         graphs.push(graph(alloc, one)?)?;
     }
-    let mut statics = Vec::new(alloc);
-    for (element, count, bytes) in table.statics {
-        statics.push(StaticObject {
-            element: *element,
-            count: *count,
-            bytes: Vec::from_slice(alloc, *bytes)?,
-            relocations: Vec::new(alloc),
-        })?;
-    }
-    let mut array_bytes = Vec::new(alloc);
-    for bytes in table.array_bytes {
-        array_bytes.push(Bytes {
-            bytes: Vec::from_slice(alloc, *bytes)?,
-        })?;
-    }
     Ok(Unit {
         graphs,
-        main: (table.graphs.len() as u32).saturating_sub(1),
-        statics,
-        array_bytes,
+        main: table.main,
+        statics: statics(alloc, table.statics)?,
+        array_bytes: array_bytes(alloc, table.array_bytes)?,
         flow: FlowTable {
             steps: Vec::new(alloc),
             assignments: Vec::new(alloc),
         },
-        log: log(alloc, table.changes)?,
+        log: log(alloc, table.changed)?,
     })
 }
 

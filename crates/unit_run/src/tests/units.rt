@@ -36,9 +36,10 @@ pub static STRAIGHT: UnitTable = UnitTable {
             Line::End(End::Return(Some(X)), None),
         ],
     }],
+    main: 0,
     statics: &[],
     array_bytes: &[],
-    changes: 0,
+    changed: false,
 };
 
 /// `int main(void){int i=0; while(i<3){putchar(48+i); i=i+1;} return i;}`
@@ -78,9 +79,10 @@ pub static LOOP: UnitTable = UnitTable {
             Line::End(End::Return(Some(X)), None),
         ],
     }],
+    main: 0,
     statics: &[],
     array_bytes: &[],
-    changes: 0,
+    changed: false,
 };
 
 /// `int f(int n){if(n==0) return 1; return n*f(n-1);} int main(void){int r=f(2); return r;}`
@@ -133,9 +135,10 @@ pub static RECURSION: UnitTable = UnitTable {
             ],
         },
     ],
+    main: 1,
     statics: &[],
     array_bytes: &[],
-    changes: 0,
+    changed: false,
 };
 
 /// An array of 4 signed bytes, two words, and static half words 0x1234 and 0xff88. The access at the end is as wide as no element of the array.
@@ -210,9 +213,10 @@ pub static ACCESSES: UnitTable = UnitTable {
             Line::End(End::Return(Some(X)), None),
         ],
     }],
+    main: 0,
     statics: &[(Element::Unsigned16, 2, &[0x34, 0x12, 0x88, 0xff])],
     array_bytes: &[&[0x41, 0xff, 2]],
-    changes: 0,
+    changed: false,
 };
 
 /// A pointer to an object of an activation that has ended: whether it is null is known, whether it is another pointer is not.
@@ -265,9 +269,10 @@ pub static ENDED: UnitTable = UnitTable {
             ],
         },
     ],
+    main: 1,
     statics: &[],
     array_bytes: &[],
-    changes: 0,
+    changed: false,
 };
 
 /// A load through a pointer to an object that has ended.
@@ -306,9 +311,10 @@ pub static DANGLING: UnitTable = UnitTable {
             ],
         },
     ],
+    main: 1,
     statics: &[],
     array_bytes: &[],
-    changes: 0,
+    changed: false,
 };
 
 /// A branch by a variable that has no value, or where that is no matter.
@@ -336,9 +342,10 @@ pub static UNKNOWN: UnitTable = UnitTable {
             Line::End(End::Return(Some(Operand::Constant(0))), None),
         ],
     }],
+    main: 0,
     statics: &[],
     array_bytes: &[],
-    changes: 0,
+    changed: false,
 };
 
 /// Two assignments were removed: the one's value is that of a recipe, the other's is gone.
@@ -362,9 +369,10 @@ pub static REMOVED: UnitTable = UnitTable {
             Line::End(End::Return(Some(T)), None),
         ],
     }],
+    main: 0,
     statics: &[],
     array_bytes: &[],
-    changes: 1,
+    changed: true,
 };
 
 /// A function that calls itself without end.
@@ -381,9 +389,10 @@ pub static ENDLESS: UnitTable = UnitTable {
             Line::End(End::Return(Some(Operand::Constant(0))), None),
         ],
     }],
+    main: 0,
     statics: &[],
     array_bytes: &[],
-    changes: 0,
+    changed: false,
 };
 
 const F: GraphTable = GraphTable {
@@ -449,9 +458,10 @@ pub static WHOLE: UnitTable = UnitTable {
             ],
         },
     ],
+    main: 1,
     statics: &[],
     array_bytes: &[],
-    changes: 0,
+    changed: false,
 };
 
 /// The same without its dead assignments, at the places 4 and 6.
@@ -491,7 +501,8 @@ pub static WITHOUT_DEAD: UnitTable = UnitTable {
             ],
         },
     ],
+    main: 1,
     statics: &[],
     array_bytes: &[],
-    changes: 2,
+    changed: false,
 };
