@@ -1,5 +1,9 @@
 //! What notes say of variables.
 
+ghost use Rattle.std.specs.Prelude.{◌≡◌};
+ghost use Rattle.graph_core.specs.Graphs as form;
+ghost use Rattle.graph_core.specs.Graphs.{recipe_view};
+
 use crate::name::{Name, Operand};
 use recovery::{Operation, Truncation};
 
@@ -16,7 +20,9 @@ pub enum Recipe {
 
 impl Recipe {
     /// The recipe of a name's own value.
-    pub fn of_name(name: Name) -> Recipe {
+    pub fn of_name(name: Name) -> Recipe
+        ensures { recipe_view result ≡ form.Of (form.Name name.0) }
+    {
         Recipe::Operand(Operand::Name(name))
     }
 }
