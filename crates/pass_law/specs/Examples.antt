@@ -1,6 +1,7 @@
 -- Two kinds of steps: one changes nothing, and one logs a change.
 use Rattle.std.specs.Prelude.{◌≡◌, ◌+◌, ◌≤◌, [], ◌∷◌, ◌++◌, length}
-use Rattle.std.proofs.Common.{sym, ap, subst, length-append, arith}
+use Rattle.std.proofs.Common.{sym, subst, length-append, lit≤}
+use Rattle.std.proofs.Math.Nat.{le_refl, le-add_right, add-le-add}
 use Rattle.graph_core.specs.Graphs.{Logged, UnitForm}
 use Rattle.graph_core.specs.WellMarked.{AreWellMarked}
 use Rattle.graph_core.specs.Keeps.{Keeps}
@@ -17,7 +18,7 @@ pub stays_kept : (u v : UnitForm) → StaysSame u v → Keeps u v
 stays_kept u v s = subst (Keeps u) (sym s.same) (keeps_itself u s.marked)
 
 pub stays_short : (u v : UnitForm) → StaysSame u v → length v.log ≤ length u.log + 100000
-stays_short u v s = let same : length v.log ≡ length u.log = ap (λ (w : UnitForm). length w.log) s.same in omega arith
+stays_short u v s = subst (λ (w : UnitForm). length w.log ≤ length u.log + 100000) (sym s.same) (le-add_right (length u.log) 100000)
 
 abbrev pub same_steps : Steps
 same_steps = record { leads = StaysSame; keeps = stays_kept; adds = stays_short }
@@ -33,9 +34,8 @@ logs_kept u v s = subst (Keeps u) (sym s.logs) (keeps_with_changes u (s.change �
 
 pub logs_short : (u v : UnitForm) → LogsOne u v → length v.log ≤ length u.log + 100000
 logs_short u v s =
-    let longer : length v.log ≡ length (u.log ++ s.change ∷ []) = ap (λ (w : UnitForm). length w.log) s.logs in
-    let one : length (u.log ++ s.change ∷ []) ≡ length u.log + 1 = length-append u.log (s.change ∷ []) in
-    omega arith
+    subst (λ (w : UnitForm). length w.log ≤ length u.log + 100000) (sym s.logs)
+    (subst (λ n. n ≤ length u.log + 100000) (sym (length-append u.log (s.change ∷ []))) (add-le-add (le_refl (length u.log)) (lit≤ tt)))
 
 abbrev pub logging_steps : Steps
 logging_steps = record { leads = LogsOne; keeps = logs_kept; adds = logs_short }
