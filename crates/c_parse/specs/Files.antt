@@ -129,16 +129,6 @@ answer ts (Err stuck) = Err (fault ts stuck)
 unfoldable pub tree_of : List Lexeme → Result (List ItemTree) (Code × ℕ)
 tree_of ts = answer ts (items 64 ts)
 
--- a refusal is the fault, but for the want of memory, which says nothing of the tokens
-abbrev pub Refuses : {Y : Type 0} → SourceErr → Result Y (Code × ℕ) → Type 0
-Refuses source.NoMemory read = Unit {0}
-Refuses (source.Refused code line) read = read ≡ Err (code, line)
-
--- what a function returned, seen by view, is what is read
-abbrev pub Answers : {X Y : Type 0} → (X → Y) → Result X SourceErr → Result Y (Code × ℕ) → Type 0
-Answers view (Ok x) read = read ≡ Ok (view x)
-Answers view (Err e) read = Refuses e read
-
 -- an error of reading becomes the refusal of a source
 abbrev pub RefusedFor : List Lexeme → ParseErr → SourceErr → Type 0
 RefusedFor ts errors.NoMemory e = e ≡ source.NoMemory

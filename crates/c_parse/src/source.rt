@@ -3,7 +3,8 @@
 ghost use Rattle.std.specs.Prelude.{◌≡◌, map};
 ghost use Rattle.c_token.specs.Lexemes.{lexemes};
 ghost use Rattle.c_tree.specs.Trees.{tree_view};
-ghost use Rattle.c_parse.specs.Files.{last_line, tree_of, Answers, RefusedFor};
+ghost use Rattle.debug_records.specs.Refusals.{Answers};
+ghost use Rattle.c_parse.specs.Files.{last_line, tree_of, RefusedFor};
 
 use crate::fault::{ParseErr, Stuck};
 use crate::file::items;

@@ -10,7 +10,8 @@ use Rattle.c_token.specs.declared.fault.Fault.{Fault}
 use Rattle.c_token.specs.Includes.{start}
 use Rattle.c_token.specs.Items.{Piece, item_at, behind}
 use Rattle.c_token.specs.Lexemes.{Lexeme}
-use Rattle.c_token.specs.Texts.{line_of, tokens_at, located, with_tokens, tokens_from, tokens_of, Fails}
+use Rattle.c_token.specs.Texts.{line_of, tokens_at, located, with_tokens, tokens_from, tokens_of}
+use Rattle.debug_records.specs.Refusals.{Refuses}
 use Rattle.c_token.specs.Spells.{Takes, SpellsFrom, nothing, piece, FaultsFrom, here, later, Spells, Breaks, too_long, first, IsRefusal}
 use Rattle.c_token.specs.Laws.{SpelledIsRead, BreachIsTold}
 use Rattle.c_token.proofs.TextSteps as steps
@@ -51,7 +52,7 @@ at_end text at c front le ge so_far =
 
 -- a refusal of what stands at an offset is one of the text
 pub refused_there : (text : List ℕ) (at : ℕ) (c : Context) (e : SourceErr) → length text ≤ 1048576 → at < length text
-    → ((f : Fault) → FaultsFrom text at c f → FaultsFrom text 0 start f) → Fails e (located text (item_at c text at)) → IsRefusal text e
+    → ((f : Fault) → FaultsFrom text at c f → FaultsFrom text 0 start f) → Refuses e (located text (item_at c text at)) → IsRefusal text e
 refused_there text at c NoMemory short lt so_far told = tt
 refused_there text at c (Refused code line) short lt so_far told = by_item (item_at c text at) refl told
   where
@@ -65,7 +66,7 @@ refused_there text at c (Refused code line) short lt so_far told = by_item (item
 
 -- a refusal of what stands at an offset is what reading the text gives
 pub fails_there : (text : List ℕ) (at : ℕ) (c : Context) (e : SourceErr) (front : List Lexeme) → at < length text
-    → with_tokens front (tokens_from text 0 at c (drop at text)) ≡ tokens_of text → Fails e (located text (item_at c text at)) → Fails e (tokens_of text)
+    → with_tokens front (tokens_from text 0 at c (drop at text)) ≡ tokens_of text → Refuses e (located text (item_at c text at)) → Refuses e (tokens_of text)
 fails_there text at c NoMemory front lt same told = tt
 fails_there text at c (Refused code line) front lt same told = breaks_off text at c (code, line) front (tokens_of text) lt told same
 

@@ -1,9 +1,7 @@
 -- The tokens of a whole text, or its first fault.
-use Rattle.std.specs.Prelude.{◌≡◌, ℕ, zero, suc, ◌+◌, ◌-◌, ◌==◌, nat_lt, if◌then◌else◌, List, [], ◌∷◌, ◌++◌, length, take, count_by, Result, Ok, Err}
+use Rattle.std.specs.Prelude.{ℕ, zero, suc, ◌+◌, ◌-◌, ◌==◌, nat_lt, if◌then◌else◌, List, [], ◌∷◌, ◌++◌, length, take, count_by, Result, Ok, Err}
 use Rattle.debug_records.specs.declared.code.Code.{Code}
 use Rattle.debug_records.specs.declared.code.TheConstants.Code.{TEXT_SIZE}
-use Rattle.debug_records.specs.declared.source.SourceErr.{SourceErr}
-use Rattle.debug_records.specs.declared.source.SourceErr.TheVariants.{Refused, NoMemory}
 use Rattle.c_token.specs.declared.context.Context.{Context}
 use Rattle.c_token.specs.declared.fault.Fault.{Fault}
 use Rattle.c_token.specs.Includes.{start}
@@ -45,13 +43,3 @@ tokens_from text zero at c (b ∷ rest) =
 -- the tokens of a text of at most 1,048,576 bytes, or its first fault and the line of it
 unfoldable pub tokens_of : List ℕ → Result (List Lexeme) (Code × ℕ)
 tokens_of text = if nat_lt 1048576 (length text) then Err (TEXT_SIZE, 1) else tokens_from text 0 0 start text
-
--- a refusal tells the first fault and its line; the want of memory says nothing of the text
-abbrev pub Fails : {Y : Type 0} → SourceErr → Result Y (Code × ℕ) → Type 0
-Fails NoMemory read = Unit {0}
-Fails (Refused code line) read = read ≡ Err (code, line)
-
--- what a function returned, seen by view, is what is read
-abbrev pub Gives : {X Y : Type 0} → (X → Y) → Result X SourceErr → Result Y (Code × ℕ) → Type 0
-Gives view (Ok x) read = read ≡ Ok (view x)
-Gives view (Err e) read = Fails e read

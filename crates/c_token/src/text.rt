@@ -5,7 +5,8 @@ ghost use Rattle.c_token.specs.Includes.{start};
 ghost use Rattle.c_token.specs.Items.{behind, item_at, item_view};
 ghost use Rattle.c_token.specs.Lexemes.{lexemes};
 ghost use Rattle.c_token.specs.Spells.{IsRefusal, Spells};
-ghost use Rattle.c_token.specs.Texts.{Gives, line_of, located, tokens_of};
+ghost use Rattle.debug_records.specs.Refusals.{Answers};
+ghost use Rattle.c_token.specs.Texts.{line_of, located, tokens_of};
 
 use crate::context::Context;
 use crate::fault::TokenErr;
@@ -43,7 +44,7 @@ fn located_item(
 ) -> Result<(Item, usize), SourceErr>
     requires inside { at < length text.now }
     requires small { length text.now ≤ 1048576 }
-    ensures exact { Gives (λ x. (item_view x.0, x.1)) result (located text.now (item_at context text.now at)) }
+    ensures exact { Answers (λ x. (item_view x.0, x.1)) result (located text.now (item_at context text.now at)) }
     ensures within { IfOk result (λ x. (at < x.1) × (x.1 ≤ length text.now)) }
 {
     match item_at(alloc, context, text, at) {
@@ -73,7 +74,7 @@ fn behind(context: Context, item: &Item) -> Context
 ///
 /// Refused at the first fault in the order of the bytes: E01 to E06 and L09, and before all L01.
 pub fn tokens(alloc: Global, text: &[u8]) -> Result<Vec<Token>, SourceErr>
-    ensures exact { Gives (λ v. lexemes v.items) result (tokens_of text.now) }
+    ensures exact { Answers (λ v. lexemes v.items) result (tokens_of text.now) }
     ensures spells { IfOk result (λ v. Spells text.now (lexemes v.items)) }
     ensures few { IfOk result (λ v. length v.items ≤ length text.now) }
     ensures refused { IfErr result (IsRefusal text.now) }

@@ -1,10 +1,8 @@
 -- The programs that are accepted, and why others are refused: by the first of five steps that finds a reason.
-use Rattle.std.specs.Prelude.{◌≡◌, ℕ, List, [], ◌∷◌, Option, Some, None, Result, Ok, Err, codes, if◌then◌else◌, Bool, true, false, ◌&&◌}
+use Rattle.std.specs.Prelude.{ℕ, List, [], ◌∷◌, Option, Some, None, Result, Ok, Err, codes, if◌then◌else◌, Bool, true, false, ◌&&◌}
 use Rattle.std.specs.Option.{option_map, option_map_or}
 use Rattle.std.specs.Str.{bytes_eq}
 use Rattle.debug_records.specs.declared.source.Spot.{Spot}
-use Rattle.debug_records.specs.declared.source.SourceErr as declared-error
-use Rattle.debug_records.specs.declared.source.SourceErr.TheVariants as error
 use Rattle.debug_records.specs.declared.code.Code.{Code}
 use Rattle.debug_records.specs.declared.code.Letter.TheVariants.{E}
 use Rattle.c_tree.specs.declared.types.IntegerType.TheVariants.{Int}
@@ -131,12 +129,3 @@ steps items fs p = unless_refused (names_refusal items p) (fourth items fs p)
 -- the program of a source, or why it is refused
 abbrev pub checked : List ItemTree → Result ProgramTree Refusal
 checked items = elim (source_met items) [ means fs p ↦ steps items fs p ]
-
--- what a check answers: the program, or the refusal, but for the want of memory, which says nothing of the source
-abbrev pub Refuses : {X : Type 0} → declared-error.SourceErr → Result X Refusal → Type 0
-Refuses error.NoMemory outcome = Unit {0}
-Refuses (error.Refused code line) outcome = outcome ≡ Err (code, line)
-
-abbrev pub Answers : {X Y : Type 0} → (X → Y) → Result X declared-error.SourceErr → Result Y Refusal → Type 0
-Answers view (Ok x) outcome = outcome ≡ Ok (view x)
-Answers view (Err e) outcome = Refuses e outcome

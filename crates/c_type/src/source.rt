@@ -4,7 +4,8 @@ ghost use Rattle.std.specs.Prelude.{◌≡◌, List, map};
 ghost use Rattle.c_tree.specs.Programs.{automatic_view, function_view, program_view};
 ghost use Rattle.c_tree.specs.Trees.{ItemTree, tree_view};
 ghost use Rattle.c_type.specs.Functions.{IsNumbering, defined};
-ghost use Rattle.c_type.specs.Programs.{Answers, checked, fifth, main_number, names_refusal, program_with};
+ghost use Rattle.debug_records.specs.Refusals.{Answers};
+ghost use Rattle.c_type.specs.Programs.{checked, fifth, main_number, names_refusal, program_with};
 ghost use Rattle.c_type_declarations.specs.Progress.{progress_view};
 
 use crate::fault::first_fault;

@@ -2,7 +2,7 @@
 use Rattle.std.specs.Prelude.{◌≡◌, ℕ, zero, suc, ◌+◌, nat_lt, ◌||◌, List, [], ◌∷◌, length, sum_by, take, drop, true, Option, Some, None, Result, Ok, Err, if◌then◌else◌}
 use Rattle.debug_records.specs.declared.code.Code.{Code}
 use Rattle.debug_records.specs.declared.source.SourceErr.{SourceErr}
-use Rattle.debug_records.specs.declared.source.SourceErr.TheVariants as error
+use Rattle.debug_records.specs.Refusals.{Refuses}
 use Rattle.debug_records.specs.declared.code.Letter.TheVariants.{L}
 use Rattle.c_tree.specs.Programs.{AutomaticTree, StaticTree, LiteralTree, TypedFunctionTree, ProgramTree}
 use Rattle.c_type_rules.specs.Integers.{object_size, room}
@@ -83,10 +83,6 @@ program_breach p =
     if nat_lt 4000 p.weight then Some (limit 4) else (if nat_lt 1048576 (objects_room p) then Some (limit 6) else (if nat_lt 1000000 (at_functions p.automatics p.functions) then Some (limit 8) else None))
 
 -- what the check of functions answers: their variables as marked, or the refusal, but for the want of memory, which says nothing of them
-abbrev pub Refuses : {X : Type 0} → SourceErr → Result X (Code × ℕ) → Type 0
-Refuses error.NoMemory outcome = Unit {0}
-Refuses (error.Refused code line) outcome = outcome ≡ Err (code, line)
-
 abbrev pub Marks : {U X : Type 0} → Result U SourceErr → X → Result X (Code × ℕ) → Type 0
 Marks (Ok u) new outcome = outcome ≡ Ok new
 Marks (Err e) new outcome = Refuses e outcome

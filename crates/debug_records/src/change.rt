@@ -132,6 +132,14 @@ impl ChangeLog {
         Ok(number)
     }
 
+    /// A log of the same changes. `AllocError` where memory was refused.
+    pub fn duplicate(&self, alloc: Global) -> Result<ChangeLog, AllocError>
+        ensures { IfOk result (λ log. changes log ≡ changes self.now) }
+    {
+        let changes = Vec::from_slice(alloc, &self.changes)?;
+        Ok(ChangeLog { changes })
+    }
+
     /// The changes in order.
     pub fn changes(&self) -> &[Change]
         ensures { result.now ≡ changes self.entry.now }

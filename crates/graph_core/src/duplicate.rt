@@ -1,8 +1,7 @@
 //! Copies of units and of what they are made of.
 
-ghost use Rattle.std.specs.Prelude.{◌≡◌, ◌<◌, ◌^◌, IfOk, length, map, true};
-ghost use Rattle.debug_records.specs.Change.{changes};
-ghost use Rattle.graph_core.specs.Graphs.{block_view, bytes_view, graph_view, instruction_view, logged, note_view, recipe_view, static_view, unit_view};
+ghost use Rattle.std.specs.Prelude.{◌≡◌, IfOk, map, true};
+ghost use Rattle.graph_core.specs.Graphs.{block_view, bytes_view, graph_view, instruction_view, note_view, recipe_view, static_view, unit_view};
 ghost use Rattle.graph_core.specs.Uses.{is_computation};
 
 use crate::block::Block;
@@ -10,7 +9,6 @@ use crate::graph::Graph;
 use crate::instruction::Instr;
 use crate::recipe::{NoteValue, Recipe};
 use crate::unit::{Bytes, StaticObject, Unit};
-use debug_records::{Change, ChangeLog};
 use places::FlowTable;
 use smallvec::SmallVec;
 use std::alloc::{AllocError, Global};
@@ -227,22 +225,9 @@ fn duplicate_bytes(alloc: Global, all: &[Bytes]) -> Result<Vec<Bytes>, AllocErro
     Ok(copies)
 }
 
-/// A log of the same changes. Each gets the number that it has by its position.
-fn duplicate_log(alloc: Global, all: &[Change]) -> Result<ChangeLog, AllocError>
-    requires log_fits { length all.now < 2 ^ 32 }
-    ensures { IfOk result (λ v. map logged (changes v) ≡ map logged all.now) }
-{
-    let mut log = ChangeLog::new(alloc);
-    for change in all {
-        log.push(change.pass, change.kind, change.place, change.var)?;
-    }
-    Ok(log)
-}
-
 impl Unit {
     /// An equal unit.
     pub fn duplicate(&self, alloc: Global) -> Result<Unit, AllocError>
-        requires log_fits { length (changes self.now.log) < 2 ^ 32 }
         ensures { IfOk result (λ v. unit_view v ≡ unit_view self.now) }
     {
         Ok(Unit {
@@ -254,7 +239,7 @@ impl Unit {
                 steps: Vec::from_slice(alloc, &self.flow.steps)?,
                 assignments: Vec::from_slice(alloc, &self.flow.assignments)?,
             },
-            log: duplicate_log(alloc, self.log.changes())?,
+            log: self.log.duplicate(alloc)?,
         })
     }
 }

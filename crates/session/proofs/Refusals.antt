@@ -7,21 +7,21 @@ use Rattle.debug_records.specs.declared.code.Code.{Code}
 use Rattle.debug_records.specs.declared.code.TheConstants.Code.{TEXT_SIZE}
 use Rattle.debug_records.specs.declared.source.SourceErr.{SourceErr}
 use Rattle.debug_records.specs.declared.source.SourceErr.TheVariants.{Refused, NoMemory}
+use Rattle.debug_records.specs.Refusals.{Refuses}
 use Rattle.outside.specs.Held.{Loads}
 use Rattle.c_token.specs.Includes.{start}
 use Rattle.c_token.specs.Lexemes.{Lexeme}
 use Rattle.c_token.specs.Reading.{◌>>=◌}
-use Rattle.c_token.specs.Texts.{Fails, tokens_from, tokens_of}
+use Rattle.c_token.specs.Texts.{tokens_from, tokens_of}
 use Rattle.c_tree.specs.Trees.{ItemTree}
 use Rattle.c_tree.specs.Programs.{ProgramTree}
 use Rattle.c_type.specs.Programs.{checked}
-use Rattle.c_type.specs.Programs as program-check
-use Rattle.c_parse.specs.Files.{Refuses, tree_of}
+use Rattle.c_parse.specs.Files.{tree_of}
 use Rattle.session.specs.Limits.{Holds}
 use Rattle.session.specs.Front.{HasProgram, IsNotCompiled, IsRefusedSource, IsSource, program_of_source}
 
 -- the first fault of the tokens is that of the source
-pub tokens_refused : (text : List ℕ) (e : SourceErr) → Fails e (tokens_of text) → Refuses e (program_of_source text)
+pub tokens_refused : (text : List ℕ) (e : SourceErr) → Refuses e (tokens_of text) → Refuses e (program_of_source text)
 unfolding program_of_source
 tokens_refused text NoMemory h = tt
 tokens_refused text (Refused code line) h = ap (λ (r : Result (List Lexeme) (Code × ℕ)). r >>= tree_of >>= checked) h
@@ -34,7 +34,7 @@ tree_refused text tokens (Refused code line) is h =
     ap (λ (r : Result (List Lexeme) (Code × ℕ)). r >>= tree_of >>= checked) is ∙ ap (λ (r : Result (List ItemTree) (Code × ℕ)). r >>= checked) h
 
 -- where there is a tree, that of names and types is
-pub program_refused : (text : List ℕ) (tokens : List Lexeme) (tree : List ItemTree) (e : SourceErr) → tokens_of text ≡ Ok tokens → tree_of tokens ≡ Ok tree → program-check.Refuses e (checked tree) → Refuses e (program_of_source text)
+pub program_refused : (text : List ℕ) (tokens : List Lexeme) (tree : List ItemTree) (e : SourceErr) → tokens_of text ≡ Ok tokens → tree_of tokens ≡ Ok tree → Refuses e (checked tree) → Refuses e (program_of_source text)
 unfolding program_of_source
 program_refused text tokens tree NoMemory is has h = tt
 program_refused text tokens tree (Refused code line) is has h =

@@ -6,7 +6,8 @@ use Rattle.debug_records.specs.declared.source.SourceErr.{SourceErr}
 use Rattle.c_token.specs.Reading.{◌>>=◌}
 use Rattle.c_token.specs.Texts.{tokens_of}
 use Rattle.c_tree.specs.Programs.{ProgramTree}
-use Rattle.c_parse.specs.Files.{Refuses, tree_of}
+use Rattle.debug_records.specs.Refusals.{Refuses}
+use Rattle.c_parse.specs.Files.{tree_of}
 use Rattle.c_type.specs.Programs.{checked}
 use Rattle.thin_form.specs.Tree as thin-tree
 use Rattle.thin_form.specs.Thin.{IsThin}
