@@ -1,4 +1,4 @@
-//! What each construct of an expression makes of what its parts mean, and the rules that it breaks.
+//! What an expression means in its scope, each construct made of what its parts mean, and the rules that it breaks.
 #![tactic(auto)]
 
 pub mod call;
