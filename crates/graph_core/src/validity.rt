@@ -1,18 +1,17 @@
 //! Whether a unit is valid: its numbers name what it has, its counts stay within bounds, and the place that a block keeps is right along each edge into it.
 
-ghost use Rattle.std.specs.Prelude.{◌≡◌, ◌≤◌, ◌<◌, ◌↔◌, ◌^◌, ◌-◌, ◌+◌, ◌*◌, IsTrue, IfSome, MatchOption, None, Some, length, map, min, option_map, slice_get};
+ghost use Rattle.std.specs.Prelude.{◌≡◌, ◌≤◌, ◌<◌, ◌↔◌, ◌^◌, ◌-◌, IsTrue, MatchOption, None, Some, length, map, min, option_map, slice_get};
 ghost use Rattle.std.specs.List.{AllByRecursion};
 ghost use Rattle.debug_records.specs.declared.change.Place as declared-place;
-ghost use Rattle.graph_core.specs.Graphs.{binding_view, block_view, bytes_view, end_view, graph_view, instruction_view, location_view, logged, note_view, operand_view, recipe_view, static_view, unit_view};
+ghost use Rattle.graph_core.specs.Graphs.{binding_view, block_view, bytes_view, end_view, graph_view, instruction_view, location_view, note_view, operand_view, recipe_view, static_view, unit_view};
 ghost use Rattle.graph_core.specs.Uses.{marker_of, targets_of};
-ghost use Rattle.graph_core.specs.Values.{size_of};
 ghost use Rattle.graph_core.specs.Memory.{static_bytes};
 ghost use Rattle.graph_core.specs.Counts.{AreMarkedOnce, AreMarkedOnceInBlocks, AreMarkedOnceIn, IsOnce, KeepsCounts, count_in_blocks, count_in_graphs, share};
 ghost use Rattle.graph_core.specs.Validity.{AreEdges, AreOperandsOf, AreOperandsOfEnd, AreRelocations, HasParameters, IsBinding, IsBlock, IsCall, IsGraph, IsInstruction, IsKept, IsLocation, IsNoteValue, IsOperand, IsStatic, IsValid, IsWanted, arguments_in, counts, depth_of, KeepsPlace, place_behind, taken_by, taken_by_object, total};
 
 use crate::block::{Block, End};
 use crate::graph::{Binding, Graph, MemoryObject};
-use crate::instruction::{Callee, Element, Instr, Location};
+use crate::instruction::{Callee, Instr, Location};
 use crate::name::{Label, Name, Operand};
 use crate::recipe::{NoteValue, Recipe};
 use crate::unit::{Bytes, Relocation, StaticObject, Unit};
@@ -28,30 +27,6 @@ enum Counted {
     Markers,
     /// The markers of one place.
     MarkersOf(Place),
-}
-
-impl Element {
-    /// How many bytes an element has.
-    pub fn size(self) -> u32
-        ensures { result ≡ size_of self }
-    {
-        match self {
-            Element::Unsigned8 | Element::Signed8 => 1,
-            Element::Unsigned16 | Element::Signed16 => 2,
-            Element::Word => 4,
-        }
-    }
-
-    /// How many bytes so many elements have.
-    pub fn bytes_of(self, count: u32) -> u64
-        ensures { result ≡ count * size_of self }
-    {
-        match self {
-            Element::Unsigned8 | Element::Signed8 => u64::from(count),
-            Element::Unsigned16 | Element::Signed16 => u64::from(count) * 2,
-            Element::Word => u64::from(count) * 4,
-        }
-    }
 }
 
 /// Whether an instruction is counted, as a number.
