@@ -1,17 +1,18 @@
 -- A unit with more changes in its log, and nothing else changed, keeps what it did.
-use Rattle.std.proofs.Common.{◌≡◌, ℕ, zero, suc, ◌≤◌, ◌+◌, inl, inr, if◌then◌else◌, ◌==◌, Option, Some, None, List, [], ◌∷◌, ◌++◌, length, length-append, map, refl, sym, ap, ◌∙◌, subst, arith}
+use Rattle.std.proofs.Common.{◌≡◌, ℕ, zero, suc, ◌≤◌, ◌+◌, inl, inr, if◌then◌else◌, Option, Some, None, List, [], ◌∷◌, ◌++◌, length, length-append, map, refl, sym, ap, ◌∙◌, subst, arith}
 use Rattle.std.specs.List.{AllByRecursion, list_any}
+use Rattle.std.proofs.Math.Path.{fun_ext}
 use Rattle.graph_core.specs.declared.instruction.Callee.{Callee}
 use Rattle.graph_core.specs.declared.instruction.Callee.TheVariants as callee
 use Rattle.graph_core.specs.declared.value.Value.{Value}
-use Rattle.graph_core.specs.Graphs.{Operand, Name, Constant, StaticAddress, Recipe, Of, Truncated, Operated, NoteValue, Is, Gone, Location, Automatic, Static, At, Instruction, Marker, Note, Move, Operate, Truncate, Same, Address, Load, Store, Zero, CopyWords, Call, End, Jump, Branch, Return, Block, Binding, ToScalar, ToObject, Graph, Logged, UnitForm}
+use Rattle.graph_core.specs.Graphs.{Operand, Name, Constant, StaticAddress, Recipe, Of, Truncated, Operated, NoteValue, Is, Gone, Location, Automatic, Static, At, Instruction, Marker, Note, Move, Operate, Truncate, Same, Address, Load, Store, Zero, CopyWords, Call, End, Jump, Branch, Return, Block, Graph, Logged, UnitForm}
 use Rattle.graph_core.specs.Paths as paths
 use Rattle.graph_core.specs.Paths.{Among}
-use Rattle.graph_core.specs.Validity.{IsOperand, AreOperandsOf, IsNoteValue, IsLocation, IsWanted, IsCall, IsInstruction, AreOperandsOfEnd, IsBlock, IsBinding, IsGraph, AreAllDifferent, IsValid}
-use Rattle.graph_core.specs.WellMarked.{WasRemoved, WrittenIn, instruction, bound, IsRightNote, IsWellMarked, AreWellMarked}
+use Rattle.graph_core.specs.Validity.{IsOperand, AreOperandsOf, IsNoteValue, IsLocation, IsCall, IsInstruction, AreOperandsOfEnd, IsBlock, IsGraph, IsValid}
+use Rattle.graph_core.specs.WellMarked.{WasRemoved, IsRightNote, IsWellMarked, AreWellMarked}
 use Rattle.graph_core.specs.Memory.{first_memory}
 use Rattle.graph_core.specs.Values.{is_odd}
-use Rattle.graph_core.specs.Runs.{Configuration, Stepped, Goes, Shows, Ends, Wild, Event, TooDeep, value, put_out, exited, enter, goes_if, first_of, call, execute, execute_end, step_from, step, after, run, run_some, unit_run}
+use Rattle.graph_core.specs.Runs.{Configuration, Wild, value, enter, call, execute, execute_end, step_from, step, after, run, run_some, unit_run}
 use Rattle.graph_core.specs.Keeps.{Begins, Keeps}
 use Rattle.graph_core.proofs.Keeping.{agree_with_itself, function_itself, begins_itself}
 
@@ -29,6 +30,12 @@ among_longer (paths.behind a) added = paths.behind (among_longer a added)
 module _ (u : UnitForm) (added : List Logged) where
   abbrev longer : UnitForm
   longer = with_changes u added
+
+  called : (f : Callee) (n : ℕ) → IsCall u f n → IsCall longer f n
+  called (callee.Function f) n h = h
+  called callee.Getchar n h = h
+  called callee.Putchar n h = h
+  called callee.Exit n h = h
 
   module _ (g : Graph) where
     operand : (a : Operand) → IsOperand u g a → IsOperand longer g a
@@ -50,16 +57,6 @@ module _ (u : UnitForm) (added : List Logged) where
     location (Static object) h = h
     location (At a) h = operand a h
 
-    wanted : (x : Option ℕ) → IsWanted u g x → IsWanted longer g x
-    wanted None h = h
-    wanted (Some x) h = h
-
-    called : (f : Callee) (n : ℕ) → IsCall u g f n → IsCall longer g f n
-    called (callee.Function f) n h = h
-    called callee.Getchar n h = h
-    called callee.Putchar n h = h
-    called callee.Exit n h = h
-
     is_instruction : (i : Instruction) → IsInstruction u g i → IsInstruction longer g i
     is_instruction (Marker p) h = h
     is_instruction (Note x v) h = (h.0, note_value v h.1)
@@ -72,7 +69,7 @@ module _ (u : UnitForm) (added : List Logged) where
     is_instruction (Store e l a) h = (location l h.0, operand a h.1)
     is_instruction (Zero object words) h = h
     is_instruction (CopyWords object bytes words) h = h
-    is_instruction (Call x f all) h = (wanted x h.0, all_map (IsOperand u g) (IsOperand longer g) operand all h.1, called f (length all) h.2)
+    is_instruction (Call x f all) h = (h.0, all_map (IsOperand u g) (IsOperand longer g) operand all h.1, called f (length all) h.2)
 
     end_operands : (e : End) → AreOperandsOfEnd u g e → AreOperandsOfEnd longer g e
     end_operands (Jump l) h = h
@@ -87,10 +84,6 @@ module _ (u : UnitForm) (added : List Logged) where
       edges = h.edges;
     }
 
-    is_binding : (b : Binding) → IsBinding u g b → IsBinding longer g b
-    is_binding (ToScalar x) h = h
-    is_binding (ToObject object) h = h
-
     is_graph : IsGraph u g → IsGraph longer g
     is_graph h = record {
       instructions = h.instructions;
@@ -98,26 +91,18 @@ module _ (u : UnitForm) (added : List Logged) where
       scalars = h.scalars;
       temporaries = h.temporaries;
       parameters = h.parameters;
-      bindings = all_map (IsBinding u g) (IsBinding longer g) is_binding g.parameters h.bindings;
+      bindings = h.bindings;
       objects = h.objects;
       some_block = h.some_block;
       blocks = all_map (IsBlock u g) (IsBlock longer g) is_block g.blocks h.blocks;
     }
 
-    written_longer : {p x : ℕ} → WrittenIn u g p x → WrittenIn longer g p x
-    written_longer (instruction i at w) = instruction i at w
-    written_longer (bound is b) = bound is b
-
-    written_shorter : {p x : ℕ} → WrittenIn longer g p x → WrittenIn u g p x
-    written_shorter (instruction i at w) = instruction i at w
-    written_shorter (bound is b) = bound is b
-
     removed : {p x : ℕ} → WasRemoved u.log p x → WasRemoved (u.log ++ added) p x
     removed h = record { change = h.change; logged = among_longer h.logged added; removed = h.removed; at = h.at; of = h.of }
 
     right_note : (p x variable : ℕ) (v : NoteValue) → IsRightNote u g p x variable v → IsRightNote longer g p x variable v
-    right_note p x variable v (inl h) = inl (h.0, written_longer h.1)
-    right_note p x variable v (inr h) = inr (h.0, λ w. h.1 (written_shorter w), removed h.2)
+    right_note p x variable v (inl h) = inl h
+    right_note p x variable v (inr h) = inr (h.0, h.1, removed h.2)
 
     well_marked : IsWellMarked u g → IsWellMarked longer g
     well_marked h = record {
@@ -141,10 +126,6 @@ module _ (u : UnitForm) (added : List Logged) where
       local_at_end = h.local_at_end;
     }
 
-  differ : (all : List ℕ) → AreAllDifferent u all → AreAllDifferent longer all
-  differ [] h = tt
-  differ (p ∷ more) h = (h.0, differ more h.1)
-
   valid : IsValid u → IsValid longer
   valid h = record {
     functions = h.functions;
@@ -155,7 +136,7 @@ module _ (u : UnitForm) (added : List Logged) where
     arguments = h.arguments;
     statics = h.statics;
     relocations = h.relocations;
-    once = differ _ h.once;
+    once = h.once;
     graphs = all_map (IsGraph u) (IsGraph longer) is_graph u.graphs h.graphs;
   }
 
@@ -163,20 +144,11 @@ module _ (u : UnitForm) (added : List Logged) where
   still_marked h = record { valid = valid h.valid; graphs = λ f g is. well_marked g (h.graphs f g is) }
 
   -- each step is the same
-  begins_same : (o : Option Configuration) → goes_if longer o ≡ goes_if u o
-  begins_same None = refl
-  begins_same (Some c) = refl
-
-  first_same : (vs : List Value) → first_of longer vs ≡ first_of u vs
-  first_same [] = refl
-  first_same (v ∷ vs) = refl
-
   call_same : (c : Configuration) (x : Option ℕ) (f : Callee) (vs : List Value) → call longer c x f vs ≡ call u c x f vs
-  call_same c x (callee.Function f) vs =
-      ap (λ s. if length c.waiting + 1 == 1024 then Ends TooDeep else s) (begins_same (enter u c.memory c.input f vs (record c.here { wants = x } ∷ c.waiting)))
+  call_same c x (callee.Function f) vs = refl
   call_same c x callee.Getchar vs = refl
-  call_same c x callee.Putchar vs = ap (put_out c x) (first_same vs)
-  call_same c x callee.Exit vs = ap exited (first_same vs)
+  call_same c x callee.Putchar vs = refl
+  call_same c x callee.Exit vs = refl
 
   execute_same : (i : Instruction) (c : Configuration) → execute longer i c ≡ execute u i c
   execute_same (Marker p) c = refl
@@ -203,16 +175,10 @@ module _ (u : UnitForm) (added : List Logged) where
   from_same [] c = end_same c.here.end c
   from_same (i ∷ rest) c = execute_same i (record c { here = record c.here { rest = rest } })
 
-  after_same : (s : Stepped) (go gone : Configuration → List Event) → ((c : Configuration) → go c ≡ gone c) → after longer s go ≡ after u s gone
-  after_same (Goes c) go gone same = same c
-  after_same (Shows e c) go gone same = ap (λ es. e ∷ es) (same c)
-  after_same (Ends e) go gone same = refl
-  after_same Wild go gone same = refl
-
   run_same : (n : ℕ) (c : Configuration) → run longer n c ≡ run u n c
   run_same zero c = refl
   run_same (suc n) c =
-      after_same (step longer c) (run longer n) (run u n) (run_same n) ∙ ap (λ s. after u s (run u n)) (from_same c.here.rest c)
+      ap (after (step longer c)) (fun_ext (run_same n)) ∙ ap (λ s. after s (run u n)) (from_same c.here.rest c)
 
   some_same_run : (n : ℕ) (o : Option Configuration) → run_some longer n o ≡ run_some u n o
   some_same_run n None = refl

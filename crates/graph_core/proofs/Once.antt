@@ -4,7 +4,7 @@ use Rattle.std.specs.Prelude.{◌≢◌}
 use Rattle.std.specs.List.{AllByRecursion}
 use Rattle.std.proofs.lemmas.Bool.Decides.{nat_tests}
 use Rattle.graph_core.specs.declared.validity.Counted.TheVariants.{Markers}
-use Rattle.graph_core.specs.Graphs.{Instruction, Marker, Block, Graph, UnitForm}
+use Rattle.graph_core.specs.Graphs.{Instruction, Marker, Block, Graph}
 use Rattle.graph_core.specs.Counts.{AreMarkedOnce, AreMarkedOnceIn, AreMarkedOnceInBlocks, any, count_in_graphs, markers_in_graphs, marks, only}
 use Rattle.graph_core.specs.Validity.{AreAllDifferent, markers_in, markers_of, markers_of_blocks, total}
 
@@ -78,15 +78,15 @@ added : (p : ℕ) (more all : List ℕ) → AllByRecursion (λ q. total (only q)
 added p more [] h d = tt
 added p more (q ∷ all) h d = (omega (arith, h.0, only_another p q d.0), added p more all h.1 d.1)
 
-different_to : (u : UnitForm) (all : List ℕ) → AllByRecursion (λ p. total (only p) all ≤ 1) all → AreAllDifferent u all
-different_to u [] h = tt
-different_to u (p ∷ all) h =
-    (absent p all (omega (arith, h.0, only_itself p)), different_to u all (dropped p all all h.1))
+different_to : (all : List ℕ) → AllByRecursion (λ p. total (only p) all ≤ 1) all → AreAllDifferent all
+different_to [] h = tt
+different_to (p ∷ all) h =
+    (absent p all (omega (arith, h.0, only_itself p)), different_to all (dropped p all all h.1))
 
-different_from : (u : UnitForm) (all : List ℕ) → AreAllDifferent u all → AllByRecursion (λ p. total (only p) all ≤ 1) all
-different_from u [] d = tt
-different_from u (p ∷ all) d =
-    (omega (arith, only_itself p, counted_none p all d.0), added p all all (different_from u all d.1) d.0)
+different_from : (all : List ℕ) → AreAllDifferent all → AllByRecursion (λ p. total (only p) all ≤ 1) all
+different_from [] d = tt
+different_from (p ∷ all) d =
+    (omega (arith, only_itself p, counted_none p all d.0), added p all all (different_from all d.1) d.0)
 
 module _ (graphs : List Graph) where
   abbrev Single : ℕ → Type 0
@@ -120,12 +120,12 @@ module _ (graphs : List Graph) where
   graphs_from (g ∷ all) h =
       (blocks_from g.blocks (all_before Single (markers_of_blocks g.blocks) (markers_of all) h), graphs_from all (all_behind Single (markers_of_blocks g.blocks) (markers_of all) h))
 
-pub once_to : (u : UnitForm) (all : List Graph) → AreMarkedOnce all all → AreAllDifferent u (markers_of all)
-once_to u all h =
-    different_to u (markers_of all)
+pub once_to : (all : List Graph) → AreMarkedOnce all all → AreAllDifferent (markers_of all)
+once_to all h =
+    different_to (markers_of all)
     (all_map (markers_of all) (λ (p : ℕ) (le : markers_in_graphs p all ≤ 1). omega (arith, le, marks_in_graphs (only p) all)) (graphs_to all all h))
 
-pub once_from : (u : UnitForm) (all : List Graph) → AreAllDifferent u (markers_of all) → AreMarkedOnce all all
-once_from u all d =
+pub once_from : (all : List Graph) → AreAllDifferent (markers_of all) → AreMarkedOnce all all
+once_from all d =
     graphs_from all all
-    (all_map (markers_of all) (λ (p : ℕ) (le : total (only p) (markers_of all) ≤ 1). omega (arith, le, marks_in_graphs (only p) all)) (different_from u (markers_of all) d))
+    (all_map (markers_of all) (λ (p : ℕ) (le : total (only p) (markers_of all) ≤ 1). omega (arith, le, marks_in_graphs (only p) all)) (different_from (markers_of all) d))

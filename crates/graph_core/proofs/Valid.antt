@@ -27,6 +27,6 @@ valid_if u k main relocations graphs once = record {
   arguments = k.arguments;
   statics = k.statics;
   relocations = relocations;
-  once = once_to u u.graphs once;
+  once = once_to u.graphs once;
   graphs = graphs;
 }

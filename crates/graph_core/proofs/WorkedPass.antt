@@ -5,10 +5,10 @@ use Rattle.debug_records.specs.declared.change.PassName.{PassName}
 use Rattle.graph_core.specs.declared.home.Home.{Home}
 use Rattle.graph_core.specs.Graphs.{Constant, Instruction, End, Block}
 use Rattle.graph_core.specs.Uses.{reads_of, reads_of_end}
-use Rattle.graph_core.specs.Paths.{History, Among, Way, stays, passes, goes}
+use Rattle.graph_core.specs.Paths.{History, Among, front, Way, stays, passes, goes}
 use Rattle.graph_core.specs.Runs.{unit_run}
 use Rattle.graph_core.specs.Keeps as keeps
-use Rattle.graph_core.specs.Keeps.{Agree, none, more, SameFrame, SameEvent, stop, exited, Begins, ends, goes_on, SameProgram, Keeps}
+use Rattle.graph_core.specs.Keeps.{none, more, stop, exited, Begins, ends, goes_on, SameProgram, Keeps}
 use Rattle.graph_core.specs.Earned.{Behind, ReadsNext, IsRemoved, IsEarned}
 use Rattle.graph_core.specs.Worked.{assigning, notes_two, noting, built, removal, reduced, AreWorked}
 use Rattle.graph_core.proofs.Inversions.{among_none, each_block}
@@ -90,6 +90,7 @@ is_removed = record {
 
 is_earned : (pass : PassName) (home : ℕ → Home) → IsEarned (removal pass) (removal pass ∷ []) home built (reduced pass)
 is_earned pass home = record {
+  logged = front;
   function = 0;
   before = assigning;
   after = noting;

@@ -129,7 +129,7 @@ other_note : Is (Of (Constant 2)) ≢ Is (Of (Name 0))
 other_note e = cc
 
 module _ (pass : PassName) where
-  not_written : WrittenIn (reduced pass) noting 2 0 → ⊥
+  not_written : WrittenIn noting 2 0 → ⊥
   not_written (instruction i at w) = never_writes (in_place at) 0 w
   not_written (bound begins is) = false_is_true is
 

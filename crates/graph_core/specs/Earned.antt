@@ -187,14 +187,16 @@ pub record IsReused (log : List Logged) (home : ℕ → Home) (h : Graph) (x var
   pub shared : home y ≡ Register register
   pub foreign : IsTemporaryOf log h x variable y → ⊥
 
--- A change is earned by the graphs of its function before and after its pass, and the homes of the latter.
+-- A change is borne out by the graphs of its function before and after its pass, and the homes of the latter.
 abbrev pub IsBorneOut : declared-kind.Kind → List Logged → (ℕ → Home) → Graph → Graph → (p x variable : ℕ) → Type 0
 IsBorneOut Removed log home g h p x variable = IsRemoved g h p x
 IsBorneOut Moved log home g h p x variable = IsMoved g h p x
 IsBorneOut Replaced log home g h p x variable = IsReplaced g h p x
 IsBorneOut Reused log home g h p x variable = IsReused log home h x variable
 
+-- A change is earned: it is one of the log, and its function's graphs in the units before and after its pass bear it out.
 pub record IsEarned (change : Logged) (log : List Logged) (home : ℕ → Home) (u v : UnitForm) : Type 0 where
+  pub logged : Among change log
   pub function : ℕ
   pub before : Graph
   pub after : Graph

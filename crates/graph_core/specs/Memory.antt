@@ -118,13 +118,13 @@ ended_from n memory = take n memory ++ map ended (drop n memory)
 abbrev pub static_bytes : StaticObject → ℕ
 static_bytes o = o.count * size_of o.element
 
--- the address that stands in a word of a static object, if one does
+-- the address by the first relocation at an offset of a static object, if there is one
 abbrev pub address_at : List StaticObject → List Relocation → (at : ℕ) → Option Value
 address_at statics [] at = None
 address_at statics (r ∷ more) at =
     if r.at == at then option_map (λ o. pointer_at r.object (static_bytes o) r.offset) (slice_get statics r.object) else address_at statics more at
 
--- an element that holds no address is what the bytes say
+-- an element holds the address at the offset where it begins, or else what the bytes say
 abbrev pub first_value : List StaticObject → StaticObject → (index : ℕ) → Value
 first_value statics o index =
     option_map_or (λ v. v) (address_at statics o.relocations (index * size_of o.element)) (element_in o.bytes o.element index)

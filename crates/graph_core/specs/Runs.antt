@@ -206,25 +206,34 @@ begun memory input function vs waiting g b = record {
   waiting = waiting;
 }
 
+-- a step to a configuration, if there is one
+abbrev pub goes_if : Option Configuration → Stepped
+goes_if None = Wild
+goes_if (Some c) = Goes c
+
+-- the first argument
+abbrev pub first_of : List Value → Value
+first_of [] = Odd
+first_of (v ∷ vs) = v
+
+-- what can be seen in a step, and then of what it comes to
+abbrev pub after : Stepped → (Configuration → List Event) → List Event
+after (Goes c) go = go c
+after (Shows e c) go = e ∷ go c
+after (Ends e) go = e ∷ []
+after Wild go = []
+
 module _ (u : UnitForm) where
   -- the function with this number begins, if there is one and it has a block
   abbrev pub enter : Memory → List ℕ → (function : ℕ) → List Value → List Activation → Option Configuration
   enter memory input function vs waiting =
       option_and_then (λ g. option_map (begun memory input function vs waiting g) (slice_get g.blocks 0)) (slice_get u.graphs function)
 
-  abbrev pub goes_if : Option Configuration → Stepped
-  goes_if None = Wild
-  goes_if (Some c) = Goes c
-
   -- A function is called. There may be 1,024 activations at most.
   abbrev pub call_function : Configuration → Option ℕ → (function : ℕ) → List Value → Stepped
   call_function c x function vs =
       if length c.waiting + 1 == 1024 then Ends TooDeep
       else goes_if (enter c.memory c.input function vs (record c.here { wants = x } ∷ c.waiting))
-
-  abbrev pub first_of : List Value → Value
-  first_of [] = Odd
-  first_of (v ∷ vs) = v
 
   abbrev pub call : Configuration → Option ℕ → Callee → List Value → Stepped
   call c x (callee.Function f) vs = call_function c x f vs
@@ -263,12 +272,6 @@ module _ (u : UnitForm) where
   -- one step: the next instruction, or the end of the block
   abbrev pub step : Configuration → Stepped
   step c = step_from c.here.rest c
-
-  abbrev pub after : Stepped → (Configuration → List Event) → List Event
-  after (Goes c) go = go c
-  after (Shows e c) go = e ∷ go c
-  after (Ends e) go = e ∷ []
-  after Wild go = []
 
   -- what can be seen in so many steps
   abbrev pub run : (steps : ℕ) → Configuration → List Event

@@ -83,6 +83,33 @@ abbrev pub HasParameters : Option Graph → (count : ℕ) → Type 0
 HasParameters None n = ⊥
 HasParameters (Some f) n = n ≡ length f.parameters
 
+-- no number stands twice
+abbrev pub AreAllDifferent : List ℕ → Type 0
+AreAllDifferent [] = ⊤
+AreAllDifferent (p ∷ more) = AllByRecursion (λ q. p ≢ q) more × AreAllDifferent more
+
+module _ (g : Graph) where
+  -- a name of the graph
+  abbrev pub IsTarget : ℕ → Type 0
+  IsTarget x = x < g.names
+
+  abbrev pub IsWanted : Option ℕ → Type 0
+  IsWanted None = ⊤
+  IsWanted (Some x) = IsTarget x
+
+  -- the number of an automatic object of the graph
+  abbrev pub IsObject : ℕ → Type 0
+  IsObject k = k < length g.objects
+
+  -- a parameter is bound to a scalar or an object of the graph
+  abbrev pub IsBinding : Binding → Type 0
+  IsBinding (ToScalar x) = x < length g.scalars
+  IsBinding (ToObject object) = IsObject object
+
+  -- each edge from a block leads to a block of the graph that keeps the place in force
+  abbrev pub AreEdges : Option ℕ → List ℕ → Type 0
+  AreEdges place all = AllByRecursion (λ l. IsKept place (slice_get g.blocks l)) all
+
 module _ (u : UnitForm) where
   -- the number of a static object
   abbrev pub IsStatic : ℕ → Type 0
@@ -90,6 +117,13 @@ module _ (u : UnitForm) where
 
   abbrev pub AreRelocations : List Relocation → Type 0
   AreRelocations all = AllByRecursion (λ (r : Relocation). IsStatic r.object) all
+
+  -- A call has as many arguments as what it calls takes.
+  abbrev pub IsCall : Callee → (arguments : ℕ) → Type 0
+  IsCall (Function f) n = HasParameters (slice_get u.graphs f) n
+  IsCall Getchar n = n ≡ 0
+  IsCall Putchar n = n ≡ 1
+  IsCall Exit n = n ≡ 1
 
   module _ (g : Graph) where
     -- An operand names a name of its graph, or a static object of its unit.
@@ -108,41 +142,24 @@ module _ (u : UnitForm) where
     IsNoteValue (Is r) = AreOperandsOf r × (depth_of r ≤ 4)
     IsNoteValue (Gone change) = (1 ≤ change) × (change ≤ length u.log)
 
-    abbrev pub IsObject : ℕ → Type 0
-    IsObject k = k < length g.objects
-
     abbrev pub IsLocation : Location → Type 0
-    IsLocation (Automatic object) = IsObject object
+    IsLocation (Automatic object) = IsObject g object
     IsLocation (Static object) = IsStatic object
     IsLocation (At a) = IsOperand a
-
-    abbrev pub IsTarget : ℕ → Type 0
-    IsTarget x = x < g.names
-
-    abbrev pub IsWanted : Option ℕ → Type 0
-    IsWanted None = ⊤
-    IsWanted (Some x) = IsTarget x
-
-    -- A call has as many arguments as what it calls takes.
-    abbrev pub IsCall : Callee → (arguments : ℕ) → Type 0
-    IsCall (Function f) n = HasParameters (slice_get u.graphs f) n
-    IsCall Getchar n = n ≡ 0
-    IsCall Putchar n = n ≡ 1
-    IsCall Exit n = n ≡ 1
 
     abbrev pub IsInstruction : Instruction → Type 0
     IsInstruction (Marker p) = ⊤
     IsInstruction (Note x v) = (x < length g.scalars) × IsNoteValue v
-    IsInstruction (Move x a) = IsTarget x × IsOperand a
-    IsInstruction (Operate x o a b) = IsTarget x × IsOperand a × IsOperand b
-    IsInstruction (Truncate x t a) = IsTarget x × IsOperand a
-    IsInstruction (Same x a b) = IsTarget x × IsOperand a × IsOperand b
-    IsInstruction (Address x object) = IsTarget x × IsObject object
-    IsInstruction (Load x e l) = IsTarget x × IsLocation l
+    IsInstruction (Move x a) = IsTarget g x × IsOperand a
+    IsInstruction (Operate x o a b) = IsTarget g x × IsOperand a × IsOperand b
+    IsInstruction (Truncate x t a) = IsTarget g x × IsOperand a
+    IsInstruction (Same x a b) = IsTarget g x × IsOperand a × IsOperand b
+    IsInstruction (Address x object) = IsTarget g x × IsObject g object
+    IsInstruction (Load x e l) = IsTarget g x × IsLocation l
     IsInstruction (Store e l a) = IsLocation l × IsOperand a
-    IsInstruction (Zero object words) = IsObject object
-    IsInstruction (CopyWords object bytes words) = IsObject object × (bytes < length u.array_bytes)
-    IsInstruction (Call x f all) = IsWanted x × AllByRecursion IsOperand all × IsCall f (length all)
+    IsInstruction (Zero object words) = IsObject g object
+    IsInstruction (CopyWords object bytes words) = IsObject g object × (bytes < length u.array_bytes)
+    IsInstruction (Call x f all) = IsWanted g x × AllByRecursion IsOperand all × IsCall f (length all)
 
     abbrev pub AreOperandsOfEnd : End → Type 0
     AreOperandsOfEnd (Jump l) = ⊤
@@ -150,19 +167,10 @@ module _ (u : UnitForm) where
     AreOperandsOfEnd (Return None) = ⊤
     AreOperandsOfEnd (Return (Some a)) = IsOperand a
 
-    -- each edge from a block leads to a block of the graph that keeps the place in force
-    abbrev pub AreEdges : Option ℕ → List ℕ → Type 0
-    AreEdges place all = AllByRecursion (λ l. IsKept place (slice_get g.blocks l)) all
-
     pub record IsBlock (b : Block) : Type 0 where
       pub instructions : AllByRecursion IsInstruction b.instructions
       pub operands : AreOperandsOfEnd b.end
-      pub edges : AreEdges (place_at_end b) (targets_of b.end)
-
-    -- a parameter is bound to a scalar or an object of the graph
-    abbrev pub IsBinding : Binding → Type 0
-    IsBinding (ToScalar x) = x < length g.scalars
-    IsBinding (ToObject object) = IsObject object
+      pub edges : AreEdges g (place_at_end b) (targets_of b.end)
 
     pub record IsGraph : Type 0 where
       pub instructions : instructions_of g ≤ 6000
@@ -170,15 +178,11 @@ module _ (u : UnitForm) where
       pub scalars : length g.scalars ≤ g.moved_from
       pub temporaries : g.moved_from ≤ g.names
       pub parameters : length g.parameters ≤ 8
-      pub bindings : AllByRecursion IsBinding g.parameters
+      pub bindings : AllByRecursion (IsBinding g) g.parameters
       -- what its objects take
       pub objects : total taken_by_object g.objects ≤ 4096
       pub some_block : 1 ≤ length g.blocks
       pub blocks : AllByRecursion IsBlock g.blocks
-
-  abbrev pub AreAllDifferent : List ℕ → Type 0
-  AreAllDifferent [] = ⊤
-  AreAllDifferent (p ∷ more) = AllByRecursion (λ q. p ≢ q) more × AreAllDifferent more
 
   pub record IsValid : Type 0 where
     pub functions : length u.graphs ≤ 256

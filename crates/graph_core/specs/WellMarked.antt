@@ -43,16 +43,16 @@ pub record WasRemoved (log : List Logged) (place variable : ℕ) : Type 0 where
   pub at : change.place ≡ place
   pub of : change.variable ≡ variable
 
-module _ (u : UnitForm) (g : Graph) where
-  -- A scalar is written in a place: by an instruction, or, at the entry, by the call that binds the parameters to it.
-  pub data WrittenIn (p x : ℕ) : Type 0 where
-    instruction : (i : Instruction) → InPlace g p i → writes x i ≡ true → WrittenIn p x
-    bound : p ≡ g.entry → is_bound x g.parameters ≡ true → WrittenIn p x
+-- A scalar is written in a place: by an instruction, or, at the entry, by the call that binds the parameters to it.
+pub data WrittenIn (g : Graph) (p x : ℕ) : Type 0 where
+  instruction : (i : Instruction) → InPlace g p i → writes x i ≡ true → WrittenIn g p x
+  bound : p ≡ g.entry → is_bound x g.parameters ≡ true → WrittenIn g p x
 
+module _ (u : UnitForm) (g : Graph) where
   -- A note is that of the scalar itself, in a place that writes it; or it stands in the place of a removed assignment of its variable, which does not write it any more.
   abbrev pub IsRightNote : (p x variable : ℕ) → NoteValue → Type 0
   IsRightNote p x variable v =
-      ((v ≡ Is (Of (Name x))) × WrittenIn p x) ⊎ ((v ≢ Is (Of (Name x))) × (WrittenIn p x → ⊥) × WasRemoved u.log p variable)
+      ((v ≡ Is (Of (Name x))) × WrittenIn g p x) ⊎ ((v ≢ Is (Of (Name x))) × (WrittenIn g p x → ⊥) × WasRemoved u.log p variable)
 
   pub record IsWellMarked : Type 0 where
     -- The graph begins with the marker of its entry, and no edge leads back there.

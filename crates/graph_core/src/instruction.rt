@@ -1,5 +1,8 @@
 //! Instructions.
 
+ghost use Rattle.std.specs.Prelude.{◌≡◌, ◌*◌};
+ghost use Rattle.graph_core.specs.Values.{size_of};
+
 use crate::name::{Name, Operand};
 use crate::recipe::NoteValue;
 use debug_records::Place;
@@ -14,6 +17,30 @@ pub enum Element {
     Unsigned16,
     Signed16,
     Word,
+}
+
+impl Element {
+    /// How many bytes an element has.
+    pub fn size(self) -> u32
+        ensures { result ≡ size_of self }
+    {
+        match self {
+            Element::Unsigned8 | Element::Signed8 => 1,
+            Element::Unsigned16 | Element::Signed16 => 2,
+            Element::Word => 4,
+        }
+    }
+
+    /// How many bytes so many elements have.
+    pub fn bytes_of(self, count: u32) -> u64
+        ensures { result ≡ count * size_of self }
+    {
+        match self {
+            Element::Unsigned8 | Element::Signed8 => u64::from(count),
+            Element::Unsigned16 | Element::Signed16 => u64::from(count) * 2,
+            Element::Word => u64::from(count) * 4,
+        }
+    }
 }
 
 /// Where a load reads and a store writes.

@@ -5,13 +5,14 @@ use crate::instruction::Element;
 use debug_records::ChangeLog;
 use places::FlowTable;
 
-/// A word of a static object that holds the address of one, so many bytes on.
+/// The address that an element of a static object holds as a run begins: that of a static object, so many bytes on.
 #[derive(Clone, Copy, Debug, PartialEq, Eq)]
 pub struct Relocation {
-    /// Where the word stands in its object, in bytes.
+    /// How many bytes behind the beginning of its object the element begins. Where none begins, nothing reads the relocation.
     pub at: u32,
-    /// The number of the object whose address it holds.
+    /// The number of the object whose address it holds. Each relocation of a valid unit names an object.
     pub object: u32,
+    /// How many bytes behind the beginning of that object. Where it has fewer, nothing is known of the element's value.
     pub offset: u32,
 }
 
@@ -23,7 +24,9 @@ pub struct StaticObject {
     pub count: u32,
     /// Its first bytes, little endian, with zeros in the place of addresses. Those behind them are zero.
     pub bytes: Vec<u8>,
-    /// The words that hold addresses, in order.
+    /// One for each element that holds an address, by ascending `at`. Validity asks for none of this: relocations may stand in
+    /// any order, several at one offset, or so close that their words overlap. An element of any width holds the address of the
+    /// first relocation at the offset where it begins; its bytes are not read then.
     pub relocations: Vec<Relocation>,
 }
 

@@ -1,18 +1,17 @@
 //! Whether a unit is valid: its numbers name what it has, its counts stay within bounds, and the place that a block keeps is right along each edge into it.
 
-ghost use Rattle.std.specs.Prelude.{◌≡◌, ◌≤◌, ◌<◌, ◌↔◌, ◌^◌, ◌-◌, ◌+◌, ◌*◌, IsTrue, IfSome, MatchOption, None, Some, length, map, min, option_map, slice_get};
+ghost use Rattle.std.specs.Prelude.{◌≡◌, ◌≤◌, ◌<◌, ◌↔◌, ◌^◌, ◌-◌, IsTrue, MatchOption, None, Some, length, map, min, option_map, slice_get};
 ghost use Rattle.std.specs.List.{AllByRecursion};
 ghost use Rattle.debug_records.specs.declared.change.Place as declared-place;
-ghost use Rattle.graph_core.specs.Graphs.{binding_view, block_view, bytes_view, end_view, graph_view, instruction_view, location_view, logged, note_view, operand_view, recipe_view, static_view, unit_view};
+ghost use Rattle.graph_core.specs.Graphs.{binding_view, block_view, bytes_view, end_view, graph_view, instruction_view, location_view, note_view, operand_view, recipe_view, static_view, unit_view};
 ghost use Rattle.graph_core.specs.Uses.{marker_of, targets_of};
-ghost use Rattle.graph_core.specs.Values.{size_of};
 ghost use Rattle.graph_core.specs.Memory.{static_bytes};
 ghost use Rattle.graph_core.specs.Counts.{AreMarkedOnce, AreMarkedOnceInBlocks, AreMarkedOnceIn, IsOnce, KeepsCounts, count_in_blocks, count_in_graphs, share};
-ghost use Rattle.graph_core.specs.Validity.{AreEdges, AreOperandsOf, AreOperandsOfEnd, AreRelocations, HasParameters, IsBinding, IsBlock, IsCall, IsGraph, IsInstruction, IsKept, IsLocation, IsNoteValue, IsOperand, IsStatic, IsValid, IsWanted, arguments_in, counts, depth_of, KeepsPlace, place_behind, taken_by, taken_by_object, total};
+ghost use Rattle.graph_core.specs.Validity.{AreEdges, AreOperandsOf, AreOperandsOfEnd, AreRelocations, HasParameters, IsBinding, IsBlock, IsCall, IsGraph, IsInstruction, IsKept, IsLocation, IsNoteValue, IsObject, IsOperand, IsStatic, IsTarget, IsValid, IsWanted, arguments_in, counts, depth_of, KeepsPlace, place_behind, taken_by, taken_by_object, total};
 
 use crate::block::{Block, End};
 use crate::graph::{Binding, Graph, MemoryObject};
-use crate::instruction::{Callee, Element, Instr, Location};
+use crate::instruction::{Callee, Instr, Location};
 use crate::name::{Label, Name, Operand};
 use crate::recipe::{NoteValue, Recipe};
 use crate::unit::{Bytes, Relocation, StaticObject, Unit};
@@ -28,30 +27,6 @@ enum Counted {
     Markers,
     /// The markers of one place.
     MarkersOf(Place),
-}
-
-impl Element {
-    /// How many bytes an element has.
-    pub fn size(self) -> u32
-        ensures { result ≡ size_of self }
-    {
-        match self {
-            Element::Unsigned8 | Element::Signed8 => 1,
-            Element::Unsigned16 | Element::Signed16 => 2,
-            Element::Word => 4,
-        }
-    }
-
-    /// How many bytes so many elements have.
-    pub fn bytes_of(self, count: u32) -> u64
-        ensures { result ≡ count * size_of self }
-    {
-        match self {
-            Element::Unsigned8 | Element::Signed8 => u64::from(count),
-            Element::Unsigned16 | Element::Signed16 => u64::from(count) * 2,
-            Element::Word => u64::from(count) * 4,
-        }
-    }
 }
 
 /// Whether an instruction is counted, as a number.
@@ -255,7 +230,7 @@ fn is_static(unit: &Unit, object: u32) -> bool
 
 /// Whether a graph has an automatic object of this number.
 fn is_object(graph: &Graph, object: u32) -> bool
-    ensures { IsTrue result ↔ (object < length (graph_view graph.now).objects) }
+    ensures { IsTrue result ↔ IsObject (graph_view graph.now) object }
 {
     (object as usize) < graph.objects.len()
 }
@@ -269,7 +244,7 @@ fn is_scalar(graph: &Graph, name: Name) -> bool
 
 /// Whether a graph has this name.
 fn is_target(graph: &Graph, name: Name) -> bool
-    ensures { IsTrue result ↔ (name.0 < (graph_view graph.now).names) }
+    ensures { IsTrue result ↔ IsTarget (graph_view graph.now) name.0 }
 {
     name.0 < graph.names
 }
@@ -333,8 +308,8 @@ fn is_location(unit: &Unit, graph: &Graph, location: Location) -> bool
 }
 
 /// Whether there is what a call calls, and it takes so many arguments.
-fn is_call(unit: &Unit, graph: &Graph, callee: Callee, arguments: usize) -> bool
-    ensures { IsTrue result ↔ IsCall (unit_view unit.now) (graph_view graph.now) callee arguments }
+fn is_call(unit: &Unit, callee: Callee, arguments: usize) -> bool
+    ensures { IsTrue result ↔ IsCall (unit_view unit.now) callee arguments }
 {
     match callee {
         Callee::Function(function) => has_parameters(unit, function, arguments),
@@ -343,8 +318,8 @@ fn is_call(unit: &Unit, graph: &Graph, callee: Callee, arguments: usize) -> bool
     }
 }
 
-fn is_wanted(unit: &Unit, graph: &Graph, target: Option<Name>) -> bool
-    ensures { IsTrue result ↔ IsWanted (unit_view unit.now) (graph_view graph.now) (option_map (λ n. n.0) target) }
+fn is_wanted(graph: &Graph, target: Option<Name>) -> bool
+    ensures { IsTrue result ↔ IsWanted (graph_view graph.now) (option_map (λ n. n.0) target) }
 {
     match target {
         None => true,
@@ -394,9 +369,9 @@ fn is_instruction(unit: &Unit, graph: &Graph, instruction: &Instr) -> bool
             callee,
             arguments,
         } => {
-            is_wanted(unit, graph, *target)
+            is_wanted(graph, *target)
                 && are_operands(unit, graph, arguments.as_slice())
-                && is_call(unit, graph, *callee, arguments.len())
+                && is_call(unit, *callee, arguments.len())
         }
     }
 }
@@ -476,8 +451,8 @@ fn is_kept(graph: &Graph, in_force: Option<Place>, label: Label) -> bool
 }
 
 /// Whether each edge leads to a block that keeps the place in force.
-fn are_edges(unit: &Unit, graph: &Graph, in_force: Option<Place>, end: End) -> bool
-    ensures { IsTrue result ↔ AreEdges (unit_view unit.now) (graph_view graph.now) (option_map (λ (p : declared-place.Place). p.0) in_force) (targets_of (end_view end)) }
+fn are_edges(graph: &Graph, in_force: Option<Place>, end: End) -> bool
+    ensures { IsTrue result ↔ AreEdges (graph_view graph.now) (option_map (λ (p : declared-place.Place). p.0) in_force) (targets_of (end_view end)) }
 {
     match end {
         End::Jump(label) => is_kept(graph, in_force, label),
@@ -496,7 +471,6 @@ fn is_block(unit: &Unit, graph: &Graph, block: &Block) -> bool
     are_instructions(unit, graph, &block.instructions)
         && are_operands_of_end(unit, graph, block.end)
         && are_edges(
-            unit,
             graph,
             place_behind(&block.instructions, block.place),
             block.end,
@@ -516,8 +490,8 @@ fn are_blocks(unit: &Unit, graph: &Graph, blocks: &[Block]) -> bool
     true
 }
 
-fn is_binding(unit: &Unit, graph: &Graph, binding: Binding) -> bool
-    ensures { IsTrue result ↔ IsBinding (unit_view unit.now) (graph_view graph.now) (binding_view binding) }
+fn is_binding(graph: &Graph, binding: Binding) -> bool
+    ensures { IsTrue result ↔ IsBinding (graph_view graph.now) (binding_view binding) }
 {
     match binding {
         Binding::Scalar(name) => is_scalar(graph, name),
@@ -525,12 +499,12 @@ fn is_binding(unit: &Unit, graph: &Graph, binding: Binding) -> bool
     }
 }
 
-fn are_bindings(unit: &Unit, graph: &Graph, bindings: &[Binding]) -> bool
-    ensures { IsTrue result ↔ AllByRecursion (IsBinding (unit_view unit.now) (graph_view graph.now)) (map binding_view bindings.now) }
+fn are_bindings(graph: &Graph, bindings: &[Binding]) -> bool
+    ensures { IsTrue result ↔ AllByRecursion (IsBinding (graph_view graph.now)) (map binding_view bindings.now) }
 {
     let mut left = bindings;
     while let [first, rest @ ..] = left {
-        if !is_binding(unit, graph, *first) {
+        if !is_binding(graph, *first) {
             return false;
         }
         left = rest;
@@ -556,7 +530,7 @@ fn is_graph(unit: &Unit, graph: &Graph) -> bool
     if graph.blocks.is_empty() {
         return false;
     }
-    are_bindings(unit, graph, &graph.parameters) && are_blocks(unit, graph, &graph.blocks)
+    are_bindings(graph, &graph.parameters) && are_blocks(unit, graph, &graph.blocks)
 }
 
 fn are_graphs(unit: &Unit, graphs: &[Graph]) -> bool

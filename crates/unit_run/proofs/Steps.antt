@@ -7,11 +7,11 @@ use Rattle.unit_run.specs.declared.event.Event as declared-event
 use Rattle.unit_run.specs.Views.{event_view}
 
 -- a run of some steps begins with one
-run_step : (u : UnitForm) (n : ℕ) (c : Configuration) (s : Stepped) → 0 < n → s ≡ step u c → run u n c ≡ after u s (run u (n - 1))
+run_step : (u : UnitForm) (n : ℕ) (c : Configuration) (s : Stepped) → 0 < n → s ≡ step u c → run u n c ≡ after s (run u (n - 1))
 run_step u zero c s lt e = absurd (omega arith)
 run_step u (suc n) c s lt e =
     let less : suc n - 1 ≡ n = omega arith in
-    ap (λ t. after u t (run u n)) (sym e) ∙ ap (λ k. after u s (run u k)) (sym less)
+    ap (λ t. after t (run u n)) (sym e) ∙ ap (λ k. after s (run u k)) (sym less)
 
 module _ (u : UnitForm) (n : ℕ) (c : Configuration) (done : List declared-event.Event) (all : List Event) (lt : 0 < n) where
   -- a step that shows nothing

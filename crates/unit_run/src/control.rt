@@ -3,7 +3,7 @@
 ghost use Rattle.std.specs.Prelude.{◌≡◌, ℕ, Bool, not, ◌++◌, ◌<◌, ◌^◌, IfOk, MatchOption, None, OnOk, Some, map, option_map, slice_get};
 ghost use Rattle.graph_core.specs.declared.value.Value.TheVariants.{Number, Pointer};
 ghost use Rattle.graph_core.specs.declared.name.Name as declared-name;
-ghost use Rattle.graph_core.specs.Graphs.{UnitForm, binding_view, block_view, end_view, graph_view, operand_view, unit_view};
+ghost use Rattle.graph_core.specs.Graphs.{binding_view, block_view, graph_view, unit_view};
 ghost use Rattle.graph_core.specs.Validity.{IsValid};
 ghost use Rattle.graph_core.specs.Memory.{is_live, new_object};
 ghost use Rattle.graph_core.specs.Values.{holds, same};
@@ -257,7 +257,7 @@ pub fn enter<'a>(
 
 /// The first argument.
 fn first_of(arguments: &[Value]) -> Value
-    ensures { (u : UnitForm) → result ≡ first_of u arguments.now }
+    ensures { result ≡ first_of arguments.now }
 {
     match arguments {
         [] => Value::Odd,

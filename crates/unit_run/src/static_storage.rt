@@ -42,7 +42,7 @@ pub fn static_address(unit: &Unit, object: u32, offset: u32) -> Value
     }
 }
 
-/// The address that stands in a word of a static object, if one does.
+/// The address by the first relocation at an offset of a static object, if there is one.
 fn address_at(unit: &Unit, relocations: &[Relocation], at: u64) -> Option<Value>
     requires { IsValid (unit_view unit.now) }
     ensures { result ≡ address_at (unit_view unit.now).statics relocations.now at }

@@ -43,5 +43,5 @@ returns c =
     let relocations = subst P c.deref.ensures.value (c.have_relocations.ensures.0 c.if-not-have_relocations.false) in
     let graphs = subst Q c.deref-2.ensures.value (c.are_graphs.ensures.0 c.if-not-are_graphs.false) in (
       λ t. valid_if u counts main relocations graphs (subst R c.deref-3.ensures.value (subst S c.deref-4.ensures.value (c.are_marked_once.ensures.0 t))),
-      λ (v : IsValid u). c.are_marked_once.ensures.1 (subst S (sym c.deref-4.ensures.value) (subst R (sym c.deref-3.ensures.value) (once_from u u.graphs v.once))),
+      λ (v : IsValid u). c.are_marked_once.ensures.1 (subst S (sym c.deref-4.ensures.value) (subst R (sym c.deref-3.ensures.value) (once_from u.graphs v.once))),
     )
