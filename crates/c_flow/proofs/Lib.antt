@@ -10,3 +10,4 @@ pub mod AnyOf
 pub mod SameCount
 pub mod Looking
 pub mod Entries
+pub mod Counted

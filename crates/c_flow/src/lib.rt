@@ -7,6 +7,7 @@ mod assignment_table;
 mod edge;
 mod flow_edges;
 mod laws;
+mod limits;
 mod numbering;
 mod order;
 mod places_before;
@@ -20,4 +21,5 @@ mod visible_variables;
 
 pub use assignment_search::assigns;
 pub use laws::flows_are_worked;
+pub use limits::fits;
 pub use tables::flow;
