@@ -356,7 +356,8 @@ fn object_of(program: &Program, var: Var) -> Option<Object>
     None
 }
 
-/// Whether a place of a program, numbered from 1, assigns a variable.
+/// Whether a place of a program, numbered from 1 in text order, assigns a variable. It takes no memory; for each assignment of the variable that it meets
+/// before it finds the one, it counts the places of the program anew.
 pub fn assigns(program: &Program, place: Place, var: Var) -> bool
     ensures { IsTrue result ↔ Contains (assignments_of_program (program_view program.now)) (record { place = place; var = var }) }
 {
