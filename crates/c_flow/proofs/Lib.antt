@@ -6,3 +6,8 @@ pub mod SameNumbers
 pub mod Starts
 pub mod EachAssigned
 pub mod Classes
+pub mod AnyOf
+pub mod SameCount
+pub mod Looking
+pub mod Entries
+pub mod Counted

@@ -3,3 +3,5 @@ pub mod Assigns
 pub mod Worked
 pub mod Tables
 pub mod Names
+pub mod PlacesBefore
+pub mod Wanted

@@ -60,6 +60,14 @@ fn runs_stop_and_end_as_worked_by_hand(rt: HostRuntime) -> Result<(), Fail> {
             bytes: b"A",
             ending: Ending::Exit(5),
         },
+        // of the two empty statements the run stops at the second alone (6.8.3, 6.8.4.1)
+        Row {
+            text: b"int main(void){int c=0; if (c) ; else ; return c;}",
+            input: b"",
+            stops: &[2, 3, 5, 6],
+            bytes: b"",
+            ending: Ending::Exit(0),
+        },
         // control falls from one label into the next (6.8.4.2)
         Row {
             text: b"int main(void){int n=2; switch(n){case 1: n=10; break; case 2: n=20; default: n=n+1;} return n;}",
@@ -116,6 +124,14 @@ fn runs_stop_and_end_as_worked_by_hand(rt: HostRuntime) -> Result<(), Fail> {
             bytes: b"z",
             ending: Ending::Exit(-1),
         },
+        // an input of no bytes is at its end
+        Row {
+            text: b"#include <stdio.h>\nint main(void){return getchar();}",
+            input: b"",
+            stops: &[2],
+            bytes: b"",
+            ending: Ending::Exit(-1),
+        },
         // 2147483648 is no `int` (6.5p5)
         Row {
             text: b"int main(void){int x=2147483647; x=x+1; return 0;}",
@@ -139,6 +155,45 @@ fn runs_stop_and_end_as_worked_by_hand(rt: HostRuntime) -> Result<(), Fail> {
         assert_eq!(rt; bytes(rt.alloc(), &run)?.as_slice(), row.bytes);
         assert_eq!(rt; run.ending, row.ending);
     }
+    Ok(())
+}
+
+/// What can be seen of a run, with of a stop the number of its place alone.
+#[derive(Clone, Copy, Debug, PartialEq, Eq)]
+enum Seen {
+    Stop(usize),
+    Put(u8),
+    Exited(i64),
+    TooDeep,
+}
+
+fn seen(event: &Event) -> Seen {
+    match event {
+        Event::Stop(stop) => Seen::Stop(stop.place),
+        Event::Put(byte) => Seen::Put(*byte),
+        Event::Exited(status) => Seen::Exited(*status),
+        Event::TooDeep => Seen::TooDeep,
+    }
+}
+
+#[test]
+fn a_byte_is_put_out_where_it_stands_among_the_stops(rt: HostRuntime) -> Result<(), Fail> {
+    let text = b"#include <stdio.h>\nint main(void){int x=2; x=x+3; putchar(65); return x;}";
+    let run = run_text(rt.alloc(), text, &[], 100)?;
+    let mut events = Vec::new(rt.alloc());
+    for event in &run.events {
+        events.push(seen(event))?;
+    }
+    let wanted = [
+        Seen::Stop(2),
+        Seen::Stop(3),
+        Seen::Stop(4),
+        Seen::Put(65),
+        Seen::Stop(5),
+        Seen::Exited(5),
+    ];
+    assert_eq!(rt; events.as_slice(), wanted.as_slice());
+    assert_eq!(rt; run.ending, Ending::Exit(5));
     Ok(())
 }
 
