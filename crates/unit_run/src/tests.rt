@@ -1,6 +1,7 @@
 //! Runs of small units.
 
 use crate::{Event, run};
+use graph_core::Unit;
 use std::alloc::Global;
 use std::process::Abort;
 use std::test::Fail;
@@ -8,6 +9,7 @@ use std::test::Fail;
 mod cases;
 mod kept;
 mod passed;
+mod steps;
 mod tables;
 mod units;
 
@@ -23,26 +25,54 @@ use passed::{
     ASSIGNED, COPIED, MOVED, REPLACED, STORING, STORING_WITHOUT_DEAD, UNASSIGNED, UNCOPIED,
     UNMOVED, WHOLE, WITHOUT_DEAD,
 };
-use tables::{UnitTable, shown, unit};
+use steps::{OTHERS, STEP_BEGINS, WILD, unit_with};
+use tables::{Line, UnitTable, shown, unit};
 use units::{
     ACCESSES, ADDRESSED, COMPARING, DANGLING, ENDED, ENDLESS, EXITING, LOOP, NARROWING, NESTED,
     READING, RECURSION, REMOVED, STRAIGHT, UNKNOWN,
 };
 
 /// What can be seen of a unit's run. The unit is valid.
-fn events(rt: &impl Abort, alloc: Global, of: &UnitTable, case: &Case) -> Result<Vec<Event>, Fail> {
-    let unit = unit(alloc, of)?;
+fn events(
+    rt: &impl Abort,
+    alloc: Global,
+    unit: &Unit,
+    input: &[u8],
+    steps: u64,
+) -> Result<Vec<Event>, Fail> {
     assert!(rt; unit.is_valid());
-    Ok(run(alloc, &unit, case.input, case.steps)?)
+    Ok(run(alloc, unit, input, steps)?)
+}
+
+fn case_events(
+    rt: &impl Abort,
+    alloc: Global,
+    of: &UnitTable,
+    case: &Case,
+) -> Result<Vec<Event>, Fail> {
+    events(rt, alloc, &unit(alloc, of)?, case.input, case.steps)
+}
+
+fn step_events(rt: &impl Abort, alloc: Global, step: Line) -> Result<Vec<Event>, Fail> {
+    events(rt, alloc, &unit_with(alloc, step)?, b"", 100)
+}
+
+fn assert_shows(
+    rt: &impl Abort,
+    alloc: Global,
+    events: &[Event],
+    expected: &[&str],
+) -> Result<(), Fail> {
+    for (event, line) in events.iter().zip(expected) {
+        assert_eq!(rt; shown(alloc, event)?.as_str(), *line);
+    }
+    assert_eq!(rt; events.len(), expected.len());
+    Ok(())
 }
 
 fn assert_run(rt: &impl Abort, alloc: Global, of: &UnitTable, case: &Case) -> Result<(), Fail> {
-    let events = events(rt, alloc, of, case)?;
-    for (event, expected) in events.iter().zip(case.events) {
-        assert_eq!(rt; shown(alloc, event)?.as_str(), *expected);
-    }
-    assert_eq!(rt; events.len(), case.events.len());
-    Ok(())
+    let events = case_events(rt, alloc, of, case)?;
+    assert_shows(rt, alloc, &events, case.events)
 }
 
 /// Whether the run of a unit behind passes keeps what the one before them shows.
@@ -52,8 +82,8 @@ fn is_kept(
     (before, shows): (&UnitTable, &Case),
     (behind, still_shows): (&UnitTable, &Case),
 ) -> Result<bool, Fail> {
-    let before = events(rt, alloc, before, shows)?;
-    let behind = events(rt, alloc, behind, still_shows)?;
+    let before = case_events(rt, alloc, before, shows)?;
+    let behind = case_events(rt, alloc, behind, still_shows)?;
     Ok(are_kept(&before, &behind))
 }
 
@@ -158,4 +188,24 @@ fn runs_are_the_same_behind_code_motion(rt: HostRuntime) -> Result<(), Fail> {
 fn runs_end_by_depth_and_by_steps(rt: HostRuntime) -> Result<(), Fail> {
     assert_run(&rt, rt.alloc(), &ENDLESS, &ENDLESS_SHOWS)?;
     assert_run(&rt, rt.alloc(), &STRAIGHT, &STRAIGHT_BEGINS)
+}
+
+#[test]
+fn runs_end_before_wild_steps(rt: HostRuntime) -> Result<(), Fail> {
+    for (index, step) in WILD.iter().enumerate() {
+        let events = step_events(&rt, rt.alloc(), *step)?;
+        assert_eq!(rt; events.len(), 1, "at {index}");
+        assert_shows(&rt, rt.alloc(), &events, &[STEP_BEGINS])?;
+    }
+    Ok(())
+}
+
+#[test]
+fn runs_go_on_behind_other_steps(rt: HostRuntime) -> Result<(), Fail> {
+    for (index, (step, behind)) in OTHERS.iter().enumerate() {
+        let events = step_events(&rt, rt.alloc(), *step)?;
+        assert_eq!(rt; events.len(), 3, "at {index}");
+        assert_shows(&rt, rt.alloc(), &events, &[STEP_BEGINS, *behind, "exit 0"])?;
+    }
+    Ok(())
 }

@@ -87,7 +87,7 @@ fn sum(alloc: Global, left: Operand, right: Operand) -> Result<Recipe, AllocErro
 }
 
 /// The instruction of a line; none of a block's end.
-fn instruction(alloc: Global, line: Line) -> Result<Option<Instr>, AllocError> {
+pub fn instruction(alloc: Global, line: Line) -> Result<Option<Instr>, AllocError> {
     Ok(Some(match line {
         Line::Marker(place) => Instr::Marker(Place(place)),
         Line::Noted(x) => note(x, Recipe::of_name(Name(x))),
