@@ -63,23 +63,29 @@ pub static ACCESSES_SHOWS: Case = Case {
     input: b"",
     steps: 100,
     events: &[
-        "at 2: gone",
-        "at 3: 4294967295",
-        "at 4: 255",
-        "at 5: 4294967172",
-        "at 6: 1+1",
-        "at 7: 0",
-        "at 8: 4660",
-        "at 9: 4294967176",
-        "at 10: 65416",
-        "at 11: 1",
+        "at 2: gone [static 0: 4660 65416] [1 at 1: odd odd odd odd] [2 at 1: odd odd]",
+        "at 3: 4294967295 [static 0: 4660 65416] [1 at 1: 65 4294967295 2 0] [2 at 1: odd odd]",
+        "at 4: 255 [static 0: 4660 65416] [1 at 1: 65 4294967295 2 0] [2 at 1: odd odd]",
+        "at 5: 4294967172 [static 0: 4660 65416] [1 at 1: 65 4294967172 2 0] [2 at 1: odd odd]",
+        "at 6: 1+1 [static 0: 4660 65416] [1 at 1: 65 4294967172 2 0] [2 at 1: 1+1 odd]",
+        "at 7: 0 [static 0: 4660 65416] [1 at 1: 0 0 0 0] [2 at 1: 1+1 odd]",
+        "at 8: 4660 [static 0: 4660 65416] [1 at 1: 0 0 0 0] [2 at 1: 1+1 odd]",
+        "at 9: 4294967176 [static 0: 4660 65416] [1 at 1: 0 0 0 0] [2 at 1: 1+1 odd]",
+        "at 10: 65416 [static 0: 4660 65416] [1 at 1: 0 0 0 0] [2 at 1: 1+1 odd]",
+        "at 11: 1 [static 0: 4660 65416] [1 at 1: 0 0 0 0] [2 at 1: 1+1 odd]",
     ],
 };
 
 pub static ENDED_SHOWS: Case = Case {
     input: b"",
     steps: 100,
-    events: &["at 4: gone", "at 2: 4: gone", "out 7", "at 5: 0", "at 6: 1"],
+    events: &[
+        "at 4: gone [2 at 1: odd]",
+        "at 2: 4: gone [2 at 1: odd] [1 at 2: 7]",
+        "out 7",
+        "at 5: 0 [2 at 1: odd] [1 at 2, ended: 7]",
+        "at 6: 1 [2 at 1: odd] [1 at 2, ended: 7]",
+    ],
 };
 
 pub static DANGLING_SHOWS: Case = Case {
@@ -191,4 +197,161 @@ pub static STRAIGHT_BEGINS: Case = Case {
     input: b"",
     steps: 3,
     events: &["at 2: gone"],
+};
+
+pub static ASSIGNED_SHOWS: Case = Case {
+    input: b"",
+    steps: 100,
+    events: &[
+        "at 2: gone",
+        "at 3: 66",
+        "out 66",
+        "at 4: 66",
+        "out 65",
+        "at 5: 65",
+        "exit 0",
+    ],
+};
+
+pub static UNASSIGNED_SHOWS: Case = Case {
+    input: b"",
+    steps: 100,
+    events: &[
+        "at 2: gone",
+        "at 3: 66",
+        "out 66",
+        "at 4: 66",
+        "out 65",
+        "at 5: gone",
+        "exit 0",
+    ],
+};
+
+pub static ADDRESSED_SHOWS: Case = Case {
+    input: b"",
+    steps: 100,
+    events: &[
+        "at 2: gone [static 0: 5 7] [static 1: 0+4]",
+        "at 3: 7 [static 0: 5 7] [static 1: 0+4]",
+        "at 4: 7 [static 0: 5 9] [static 1: 0+4]",
+        "exit 9",
+    ],
+};
+
+pub static EXITING_SHOWS: Case = Case {
+    input: b"",
+    steps: 100,
+    events: &[
+        "at 6: gone",
+        "at 7: 1",
+        "at 2: 1 7: 1",
+        "at 4: 1 7: 1",
+        "at 8: 1",
+        "at 2: 0 8: 1",
+        "at 3: 0 8: 1",
+        "exit 3",
+    ],
+};
+
+pub static READING_SHOWS: Case = Case {
+    input: b"A",
+    steps: 100,
+    events: &[
+        "at 2: gone gone",
+        "at 3: 65 gone",
+        "at 4: 65 4294967295",
+        "at 5: 65 4294967295",
+        "exit 64",
+    ],
+};
+
+pub static READING_NOTHING_SHOWS: Case = Case {
+    input: b"",
+    steps: 100,
+    events: &[
+        "at 2: gone gone",
+        "at 3: 4294967295 gone",
+        "at 4: 4294967295 4294967295",
+        "at 5: 4294967295 4294967295",
+        "exit 4294967294",
+    ],
+};
+
+pub static NESTED_SHOWS: Case = Case {
+    input: b"",
+    steps: 100,
+    events: &[
+        "at 8: gone",
+        "at 2: 2 gone 8: gone",
+        "at 3: 2 4 8: gone",
+        "at 4: 2 4 8: gone",
+        "at 2: 1 gone 4: 2 4 8: gone",
+        "at 3: 1 1 4: 2 4 8: gone",
+        "at 4: 1 1 4: 2 4 8: gone",
+        "at 2: 0 gone 4: 1 1 4: 2 4 8: gone",
+        "at 3: 0 0 4: 1 1 4: 2 4 8: gone",
+        "at 5: 0 0 4: 1 1 4: 2 4 8: gone",
+        "out 48",
+        "at 6: 0 0 4: 1 1 4: 2 4 8: gone",
+        "at 5: 1 1 4: 2 4 8: gone",
+        "out 49",
+        "at 6: 1 1 4: 2 4 8: gone",
+        "at 5: 2 4 8: gone",
+        "out 52",
+        "at 6: 2 4 8: gone",
+        "at 9: 4",
+        "exit 4",
+    ],
+};
+
+pub static STORING_SHOWS: Case = Case {
+    input: b"",
+    steps: 100,
+    events: &[
+        "at 2: gone gone [static 0: 4] [2 at 1: odd odd]",
+        "at 3: gone gone [static 0: 4] [2 at 1: 1 2]",
+        "at 4: 1+0 gone [static 0: 4] [2 at 1: 1 2]",
+        "at 5: 1+0 0 [static 0: 4] [2 at 1: 1 2]",
+        "at 6: 1+0 2 [static 0: 4] [2 at 1: 1 2]",
+        "at 7: 1+0 2 [static 0: 4] [2 at 1: 6 2]",
+        "at 8: 1+0 2 [static 0: 2] [2 at 1: 6 2]",
+        "at 9: 1+0 9 [static 0: 2] [2 at 1: 6 2]",
+        "exit 6",
+    ],
+};
+
+pub static COMPARING_SHOWS: Case = Case {
+    input: b"",
+    steps: 100,
+    events: &[
+        "at 2: gone gone",
+        "at 3: 4294967295 gone",
+        "at 4: 4294967295 4294967295",
+        "at 5: 4294967295 4294967295",
+        "out 65",
+        "at 6: 4294967295 4294967295",
+        "at 8: 4294967295 4294967295",
+        "at 10: 4294967295 4294967295",
+        "at 11: 4294967295 4294967295",
+        "out 68",
+        "at 12: 4294967295 4294967295",
+        "at 13: 4294967295 4294967295",
+        "out 69",
+        "at 14: 4294967295 4294967295",
+        "exit 0",
+    ],
+};
+
+pub static NARROWING_SHOWS: Case = Case {
+    input: b"",
+    steps: 100,
+    events: &[
+        "at 2: gone gone gone gone gone",
+        "at 3: 40136 gone gone gone gone",
+        "at 4: 40136 4294967240 gone gone gone",
+        "at 5: 40136 4294967240 200 gone gone",
+        "at 6: 40136 4294967240 200 4294941896 gone",
+        "at 7: 40136 4294967240 200 4294941896 40136",
+        "exit 144",
+    ],
 };

@@ -1,11 +1,134 @@
-//! Units that passes made, as a separate program in Python writes them.
+//! Programs before and behind passes. A separate program in Python built the units and ran its own passes over them.
 
-use super::tables::{GraphTable, Line, UnitTable};
-use graph_core::{Callee, Comparison, End, Label, Name, Operand};
+use super::tables::{ChangeTable, GraphTable, Line, StaticTable, UnitTable};
+use debug_records::{Kind, Var};
+use graph_core::{Callee, Comparison, Element, End, Label, Location, MemoryObject, Name, Operand};
 use recovery::Operation;
 
-/// `int main(void){int y=getchar(); int x=0; int z=0; x=y; z=x+1; putchar(z); y=7; putchar(y); return 0;}`, where `z=x+1` reads `y`, and the
-/// assignments that are then dead have been removed.
+const X: Operand = Operand::Name(Name(0));
+
+const T: Operand = Operand::Name(Name(1));
+
+/// `int main(void){int y=getchar(); int x=0; int z=0; x=y; z=x+1; putchar(z); y=7; putchar(y); return 0;}`, before any pass. Each assignment is
+/// there, and `z=x+1` reads `x`.
+pub static UNCOPIED: UnitTable = UnitTable {
+    graphs: &[GraphTable {
+        entry: 1,
+        parameters: &[],
+        scalars: 3,
+        objects: &[],
+        names: 3,
+        lines: &[
+            Line::Marker(1),
+            Line::End(End::Jump(Label(1)), None),
+            Line::Marker(2),
+            Line::Call(Some(Name(0)), Callee::Getchar, &[]),
+            Line::Noted(0),
+            Line::End(End::Jump(Label(2)), None),
+            Line::Marker(3),
+            Line::Move(1, Operand::Constant(0)),
+            Line::Noted(1),
+            Line::End(End::Jump(Label(3)), None),
+            Line::Marker(4),
+            Line::Move(2, Operand::Constant(0)),
+            Line::Noted(2),
+            Line::End(End::Jump(Label(4)), None),
+            Line::Marker(5),
+            Line::Move(1, Operand::Name(Name(0))),
+            Line::Noted(1),
+            Line::End(End::Jump(Label(5)), None),
+            Line::Marker(6),
+            Line::Operate(
+                2,
+                Operation::Add,
+                Operand::Name(Name(1)),
+                Operand::Constant(1),
+            ),
+            Line::Noted(2),
+            Line::End(End::Jump(Label(6)), None),
+            Line::Marker(7),
+            Line::Call(None, Callee::Putchar, &[Operand::Name(Name(2))]),
+            Line::End(End::Jump(Label(7)), None),
+            Line::Marker(8),
+            Line::Move(0, Operand::Constant(7)),
+            Line::Noted(0),
+            Line::End(End::Jump(Label(8)), None),
+            Line::Marker(9),
+            Line::Call(None, Callee::Putchar, &[Operand::Name(Name(0))]),
+            Line::End(End::Jump(Label(9)), None),
+            Line::Marker(10),
+            Line::End(End::Return(Some(Operand::Constant(0))), None),
+        ],
+    }],
+    main: 0,
+    statics: &[],
+    array_bytes: &[],
+    changes: &[],
+};
+
+/// The same behind the pass that replaces reads of copies: `z=x+1` reads `y`, which then has the value of `x`. All assignments are still there.
+pub static REPLACED: UnitTable = UnitTable {
+    graphs: &[GraphTable {
+        entry: 1,
+        parameters: &[],
+        scalars: 3,
+        objects: &[],
+        names: 3,
+        lines: &[
+            Line::Marker(1),
+            Line::End(End::Jump(Label(1)), None),
+            Line::Marker(2),
+            Line::Call(Some(Name(0)), Callee::Getchar, &[]),
+            Line::Noted(0),
+            Line::End(End::Jump(Label(2)), None),
+            Line::Marker(3),
+            Line::Move(1, Operand::Constant(0)),
+            Line::Noted(1),
+            Line::End(End::Jump(Label(3)), None),
+            Line::Marker(4),
+            Line::Move(2, Operand::Constant(0)),
+            Line::Noted(2),
+            Line::End(End::Jump(Label(4)), None),
+            Line::Marker(5),
+            Line::Move(1, Operand::Name(Name(0))),
+            Line::Noted(1),
+            Line::End(End::Jump(Label(5)), None),
+            Line::Marker(6),
+            Line::Operate(
+                2,
+                Operation::Add,
+                Operand::Name(Name(0)),
+                Operand::Constant(1),
+            ),
+            Line::Noted(2),
+            Line::End(End::Jump(Label(6)), None),
+            Line::Marker(7),
+            Line::Call(None, Callee::Putchar, &[Operand::Name(Name(2))]),
+            Line::End(End::Jump(Label(7)), None),
+            Line::Marker(8),
+            Line::Move(0, Operand::Constant(7)),
+            Line::Noted(0),
+            Line::End(End::Jump(Label(8)), None),
+            Line::Marker(9),
+            Line::Call(None, Callee::Putchar, &[Operand::Name(Name(0))]),
+            Line::End(End::Jump(Label(9)), None),
+            Line::Marker(10),
+            Line::End(End::Return(Some(Operand::Constant(0))), None),
+        ],
+    }],
+    main: 0,
+    statics: &[],
+    array_bytes: &[],
+    changes: &[ChangeTable {
+        pass: b"copy",
+        kind: Kind::Replaced,
+        place: 6,
+        variable: 1,
+    }],
+};
+
+/// The same when dead assignments have been removed from that: `x=0`, `z=0` and `x=y`, which nothing reads any more. Notes give what they
+/// assigned, and `x` keeps its value where `y` takes another one.
 pub static COPIED: UnitTable = UnitTable {
     graphs: &[GraphTable {
         entry: 1,
@@ -55,11 +178,235 @@ pub static COPIED: UnitTable = UnitTable {
     main: 0,
     statics: &[],
     array_bytes: &[],
-    changed: false,
+    changes: &[
+        ChangeTable {
+            pass: b"copy",
+            kind: Kind::Replaced,
+            place: 6,
+            variable: 1,
+        },
+        ChangeTable {
+            pass: b"dead",
+            kind: Kind::Removed,
+            place: 3,
+            variable: 1,
+        },
+        ChangeTable {
+            pass: b"dead",
+            kind: Kind::Removed,
+            place: 4,
+            variable: 2,
+        },
+        ChangeTable {
+            pass: b"dead",
+            kind: Kind::Removed,
+            place: 5,
+            variable: 1,
+        },
+    ],
 };
 
-/// `int main(void){int a=getchar(); int b=getchar(); int x=1; putchar(x); int i=0; do{x=a*b; putchar(x); i=i+1;}while(i<2); return x;}`, where
-/// the product is computed once, before the loop.
+const F: GraphTable = GraphTable {
+    entry: 1,
+    parameters: &[],
+    scalars: 0,
+    objects: &[],
+    names: 1,
+    lines: &[
+        Line::Marker(1),
+        Line::End(End::Jump(Label(1)), None),
+        Line::Marker(2),
+        Line::Call(Some(Name(0)), Callee::Getchar, &[]),
+        Line::End(End::Return(Some(X)), None),
+    ],
+};
+
+const ON_A: End = End::Branch {
+    comparison: Comparison::Equal,
+    left: T,
+    right: Operand::Constant(65),
+    then: Label(3),
+    otherwise: Label(4),
+};
+
+/// `int f(void){return getchar();} int main(void){int x=1; if(getchar()==65) x=5; else{x=f(); putchar(x);} putchar(66); return 0;}`, before any pass.
+/// On the input `A` the first branch is taken and `x` is never read; on `BZ` the other one calls `f`.
+pub static WHOLE: UnitTable = UnitTable {
+    graphs: &[
+        F,
+        GraphTable {
+            entry: 3,
+            parameters: &[],
+            scalars: 1,
+            objects: &[],
+            names: 2,
+            lines: &[
+                Line::Marker(3),
+                Line::End(End::Jump(Label(1)), None),
+                Line::Marker(4),
+                Line::Move(0, Operand::Constant(1)),
+                Line::Noted(0),
+                Line::End(End::Jump(Label(2)), None),
+                Line::Marker(5),
+                Line::Call(Some(Name(1)), Callee::Getchar, &[]),
+                Line::End(ON_A, None),
+                Line::Marker(6),
+                Line::Move(0, Operand::Constant(5)),
+                Line::Noted(0),
+                Line::End(End::Jump(Label(6)), None),
+                Line::Marker(7),
+                Line::Call(Some(Name(0)), Callee::Function(0), &[]),
+                Line::Noted(0),
+                Line::End(End::Jump(Label(5)), None),
+                Line::Marker(8),
+                Line::Call(None, Callee::Putchar, &[X]),
+                Line::End(End::Jump(Label(6)), None),
+                Line::Marker(9),
+                Line::Call(None, Callee::Putchar, &[Operand::Constant(66)]),
+                Line::End(End::Jump(Label(7)), None),
+                Line::Marker(10),
+                Line::End(End::Return(Some(Operand::Constant(0))), None),
+            ],
+        },
+    ],
+    main: 1,
+    statics: &[],
+    array_bytes: &[],
+    changes: &[],
+};
+
+/// The same behind the pass that removes dead assignments. Those at the places 4 and 6 have been removed, and notes give the constants
+/// that they assigned, so that each shadow is what it was.
+pub static WITHOUT_DEAD: UnitTable = UnitTable {
+    graphs: &[
+        F,
+        GraphTable {
+            entry: 3,
+            parameters: &[],
+            scalars: 1,
+            objects: &[],
+            names: 2,
+            lines: &[
+                Line::Marker(3),
+                Line::End(End::Jump(Label(1)), None),
+                Line::Marker(4),
+                Line::NotedAs(0, Operand::Constant(1)),
+                Line::End(End::Jump(Label(2)), None),
+                Line::Marker(5),
+                Line::Call(Some(Name(1)), Callee::Getchar, &[]),
+                Line::End(ON_A, None),
+                Line::Marker(6),
+                Line::NotedAs(0, Operand::Constant(5)),
+                Line::End(End::Jump(Label(6)), None),
+                Line::Marker(7),
+                Line::Call(Some(Name(0)), Callee::Function(0), &[]),
+                Line::Noted(0),
+                Line::End(End::Jump(Label(5)), None),
+                Line::Marker(8),
+                Line::Call(None, Callee::Putchar, &[X]),
+                Line::End(End::Jump(Label(6)), None),
+                Line::Marker(9),
+                Line::Call(None, Callee::Putchar, &[Operand::Constant(66)]),
+                Line::End(End::Jump(Label(7)), None),
+                Line::Marker(10),
+                Line::End(End::Return(Some(Operand::Constant(0))), None),
+            ],
+        },
+    ],
+    main: 1,
+    statics: &[],
+    array_bytes: &[],
+    changes: &[
+        ChangeTable {
+            pass: b"dead",
+            kind: Kind::Removed,
+            place: 4,
+            variable: 0,
+        },
+        ChangeTable {
+            pass: b"dead",
+            kind: Kind::Removed,
+            place: 6,
+            variable: 0,
+        },
+    ],
+};
+
+/// `int main(void){int a=getchar(); int b=getchar(); int x=1; putchar(x); int i=0; do{x=a*b; putchar(x); i=i+1;}while(i<2); return x;}`, before
+/// any pass. The product is computed in the loop, twice.
+pub static UNMOVED: UnitTable = UnitTable {
+    graphs: &[GraphTable {
+        entry: 1,
+        parameters: &[],
+        scalars: 4,
+        objects: &[],
+        names: 4,
+        lines: &[
+            Line::Marker(1),
+            Line::End(End::Jump(Label(1)), None),
+            Line::Marker(2),
+            Line::Call(Some(Name(0)), Callee::Getchar, &[]),
+            Line::Noted(0),
+            Line::End(End::Jump(Label(2)), None),
+            Line::Marker(3),
+            Line::Call(Some(Name(1)), Callee::Getchar, &[]),
+            Line::Noted(1),
+            Line::End(End::Jump(Label(3)), None),
+            Line::Marker(4),
+            Line::Move(2, Operand::Constant(1)),
+            Line::Noted(2),
+            Line::End(End::Jump(Label(4)), None),
+            Line::Marker(5),
+            Line::Call(None, Callee::Putchar, &[Operand::Name(Name(2))]),
+            Line::End(End::Jump(Label(5)), None),
+            Line::Marker(6),
+            Line::Move(3, Operand::Constant(0)),
+            Line::Noted(3),
+            Line::End(End::Jump(Label(6)), None),
+            Line::Marker(7),
+            Line::Operate(
+                2,
+                Operation::Mul,
+                Operand::Name(Name(0)),
+                Operand::Name(Name(1)),
+            ),
+            Line::Noted(2),
+            Line::End(End::Jump(Label(7)), None),
+            Line::Marker(8),
+            Line::Call(None, Callee::Putchar, &[Operand::Name(Name(2))]),
+            Line::End(End::Jump(Label(8)), None),
+            Line::Marker(9),
+            Line::Operate(
+                3,
+                Operation::Add,
+                Operand::Name(Name(3)),
+                Operand::Constant(1),
+            ),
+            Line::Noted(3),
+            Line::End(End::Jump(Label(9)), None),
+            Line::Marker(10),
+            Line::End(
+                End::Branch {
+                    comparison: Comparison::Less,
+                    left: Operand::Name(Name(3)),
+                    right: Operand::Constant(2),
+                    then: Label(6),
+                    otherwise: Label(10),
+                },
+                None,
+            ),
+            Line::Marker(11),
+            Line::End(End::Return(Some(Operand::Name(Name(2)))), None),
+        ],
+    }],
+    main: 0,
+    statics: &[],
+    array_bytes: &[],
+    changes: &[],
+};
+
+/// The same behind code motion. The product is computed once, into a temporary, at the end of the place before the loop, and in the loop `x` takes
+/// the temporary's value; up to there its shadow is still 1.
 pub static MOVED: UnitTable = UnitTable {
     graphs: &[GraphTable {
         entry: 1,
@@ -129,5 +476,291 @@ pub static MOVED: UnitTable = UnitTable {
     main: 0,
     statics: &[],
     array_bytes: &[],
-    changed: false,
+    changes: &[ChangeTable {
+        pass: b"motion",
+        kind: Kind::Moved,
+        place: 7,
+        variable: 2,
+    }],
+};
+
+/// `int main(void){int x=66; putchar(x); x=putchar(65); return 0;}`, before any pass. What the second call answers is the value of `x` at the last
+/// stop.
+pub static ASSIGNED: UnitTable = UnitTable {
+    graphs: &[GraphTable {
+        entry: 1,
+        parameters: &[],
+        scalars: 1,
+        objects: &[],
+        names: 1,
+        lines: &[
+            Line::Marker(1),
+            Line::End(End::Jump(Label(1)), None),
+            Line::Marker(2),
+            Line::Move(0, Operand::Constant(66)),
+            Line::Noted(0),
+            Line::End(End::Jump(Label(2)), None),
+            Line::Marker(3),
+            Line::Call(None, Callee::Putchar, &[Operand::Name(Name(0))]),
+            Line::End(End::Jump(Label(3)), None),
+            Line::Marker(4),
+            Line::Call(Some(Name(0)), Callee::Putchar, &[Operand::Constant(65)]),
+            Line::Noted(0),
+            Line::End(End::Jump(Label(4)), None),
+            Line::Marker(5),
+            Line::End(End::Return(Some(Operand::Constant(0))), None),
+        ],
+    }],
+    main: 0,
+    statics: &[],
+    array_bytes: &[],
+    changes: &[],
+};
+
+/// The same behind the pass that removes dead assignments. The byte is put out, but what the call answers is nowhere, so that no recipe gives the
+/// value of `x`: its shadow, which was 66, is gone at the last stop.
+pub static UNASSIGNED: UnitTable = UnitTable {
+    graphs: &[GraphTable {
+        entry: 1,
+        parameters: &[],
+        scalars: 1,
+        objects: &[],
+        names: 1,
+        lines: &[
+            Line::Marker(1),
+            Line::End(End::Jump(Label(1)), None),
+            Line::Marker(2),
+            Line::Move(0, Operand::Constant(66)),
+            Line::Noted(0),
+            Line::End(End::Jump(Label(2)), None),
+            Line::Marker(3),
+            Line::Call(None, Callee::Putchar, &[Operand::Name(Name(0))]),
+            Line::End(End::Jump(Label(3)), None),
+            Line::Marker(4),
+            Line::Call(None, Callee::Putchar, &[Operand::Constant(65)]),
+            Line::Gone(0, 1),
+            Line::End(End::Jump(Label(4)), None),
+            Line::Marker(5),
+            Line::End(End::Return(Some(Operand::Constant(0))), None),
+        ],
+    }],
+    main: 0,
+    statics: &[],
+    array_bytes: &[],
+    changes: &[ChangeTable {
+        pass: b"dead",
+        kind: Kind::Removed,
+        place: 4,
+        variable: 0,
+    }],
+};
+
+/// `int g=4; int main(void){int a[2]={1,2}; int *p=a; int x=0; x=p[1]; p[0]=x+g; g=x; x=9; return a[0];}`, before any pass. An array of the
+/// activation and a static variable are written, the array through a pointer. Nothing is known of the array before its declaration.
+pub static STORING: UnitTable = UnitTable {
+    graphs: &[GraphTable {
+        entry: 1,
+        parameters: &[],
+        scalars: 2,
+        objects: &[MemoryObject {
+            var: Var(2),
+            element: Element::Word,
+            count: 2,
+        }],
+        names: 11,
+        lines: &[
+            Line::Marker(1),
+            Line::End(End::Jump(Label(1)), None),
+            Line::Marker(2),
+            Line::Zero(0, 2),
+            Line::Store(Element::Word, Location::Automatic(0), Operand::Constant(1)),
+            Line::Address(2, 0),
+            Line::Operate(
+                3,
+                Operation::Add,
+                Operand::Name(Name(2)),
+                Operand::Constant(4),
+            ),
+            Line::Store(
+                Element::Word,
+                Location::At(Operand::Name(Name(3))),
+                Operand::Constant(2),
+            ),
+            Line::End(End::Jump(Label(2)), None),
+            Line::Marker(3),
+            Line::Address(0, 0),
+            Line::Noted(0),
+            Line::End(End::Jump(Label(3)), None),
+            Line::Marker(4),
+            Line::Move(1, Operand::Constant(0)),
+            Line::Noted(1),
+            Line::End(End::Jump(Label(4)), None),
+            Line::Marker(5),
+            Line::Operate(
+                4,
+                Operation::Add,
+                Operand::Name(Name(0)),
+                Operand::Constant(4),
+            ),
+            Line::Load(1, Element::Word, Location::At(Operand::Name(Name(4)))),
+            Line::Noted(1),
+            Line::End(End::Jump(Label(5)), None),
+            Line::Marker(6),
+            Line::Operate(
+                5,
+                Operation::Add,
+                Operand::Name(Name(0)),
+                Operand::Constant(0),
+            ),
+            Line::Load(6, Element::Word, Location::Static(0)),
+            Line::Operate(
+                7,
+                Operation::Add,
+                Operand::Name(Name(1)),
+                Operand::Name(Name(6)),
+            ),
+            Line::Store(
+                Element::Word,
+                Location::At(Operand::Name(Name(5))),
+                Operand::Name(Name(7)),
+            ),
+            Line::End(End::Jump(Label(6)), None),
+            Line::Marker(7),
+            Line::Store(Element::Word, Location::Static(0), Operand::Name(Name(1))),
+            Line::End(End::Jump(Label(7)), None),
+            Line::Marker(8),
+            Line::Move(1, Operand::Constant(9)),
+            Line::Noted(1),
+            Line::End(End::Jump(Label(8)), None),
+            Line::Marker(9),
+            Line::Address(8, 0),
+            Line::Operate(
+                9,
+                Operation::Add,
+                Operand::Name(Name(8)),
+                Operand::Constant(0),
+            ),
+            Line::Load(10, Element::Word, Location::At(Operand::Name(Name(9)))),
+            Line::End(End::Return(Some(Operand::Name(Name(10)))), None),
+        ],
+    }],
+    main: 0,
+    statics: &[StaticTable {
+        element: Element::Word,
+        count: 1,
+        bytes: &[4, 0, 0, 0],
+        relocations: &[],
+    }],
+    array_bytes: &[],
+    changes: &[],
+};
+
+/// The same behind the pass that removes dead assignments, `x=0` and `x=9`. What is in memory is the same at each stop.
+pub static STORING_WITHOUT_DEAD: UnitTable = UnitTable {
+    graphs: &[GraphTable {
+        entry: 1,
+        parameters: &[],
+        scalars: 2,
+        objects: &[MemoryObject {
+            var: Var(2),
+            element: Element::Word,
+            count: 2,
+        }],
+        names: 11,
+        lines: &[
+            Line::Marker(1),
+            Line::End(End::Jump(Label(1)), None),
+            Line::Marker(2),
+            Line::Zero(0, 2),
+            Line::Store(Element::Word, Location::Automatic(0), Operand::Constant(1)),
+            Line::Address(2, 0),
+            Line::Operate(
+                3,
+                Operation::Add,
+                Operand::Name(Name(2)),
+                Operand::Constant(4),
+            ),
+            Line::Store(
+                Element::Word,
+                Location::At(Operand::Name(Name(3))),
+                Operand::Constant(2),
+            ),
+            Line::End(End::Jump(Label(2)), None),
+            Line::Marker(3),
+            Line::Address(0, 0),
+            Line::Noted(0),
+            Line::End(End::Jump(Label(3)), None),
+            Line::Marker(4),
+            Line::NotedAs(1, Operand::Constant(0)),
+            Line::End(End::Jump(Label(4)), None),
+            Line::Marker(5),
+            Line::Operate(
+                4,
+                Operation::Add,
+                Operand::Name(Name(0)),
+                Operand::Constant(4),
+            ),
+            Line::Load(1, Element::Word, Location::At(Operand::Name(Name(4)))),
+            Line::Noted(1),
+            Line::End(End::Jump(Label(5)), None),
+            Line::Marker(6),
+            Line::Operate(
+                5,
+                Operation::Add,
+                Operand::Name(Name(0)),
+                Operand::Constant(0),
+            ),
+            Line::Load(6, Element::Word, Location::Static(0)),
+            Line::Operate(
+                7,
+                Operation::Add,
+                Operand::Name(Name(1)),
+                Operand::Name(Name(6)),
+            ),
+            Line::Store(
+                Element::Word,
+                Location::At(Operand::Name(Name(5))),
+                Operand::Name(Name(7)),
+            ),
+            Line::End(End::Jump(Label(6)), None),
+            Line::Marker(7),
+            Line::Store(Element::Word, Location::Static(0), Operand::Name(Name(1))),
+            Line::End(End::Jump(Label(7)), None),
+            Line::Marker(8),
+            Line::NotedAs(1, Operand::Constant(9)),
+            Line::End(End::Jump(Label(8)), None),
+            Line::Marker(9),
+            Line::Address(8, 0),
+            Line::Operate(
+                9,
+                Operation::Add,
+                Operand::Name(Name(8)),
+                Operand::Constant(0),
+            ),
+            Line::Load(10, Element::Word, Location::At(Operand::Name(Name(9)))),
+            Line::End(End::Return(Some(Operand::Name(Name(10)))), None),
+        ],
+    }],
+    main: 0,
+    statics: &[StaticTable {
+        element: Element::Word,
+        count: 1,
+        bytes: &[4, 0, 0, 0],
+        relocations: &[],
+    }],
+    array_bytes: &[],
+    changes: &[
+        ChangeTable {
+            pass: b"dead",
+            kind: Kind::Removed,
+            place: 4,
+            variable: 1,
+        },
+        ChangeTable {
+            pass: b"dead",
+            kind: Kind::Removed,
+            place: 8,
+            variable: 1,
+        },
+    ],
 };

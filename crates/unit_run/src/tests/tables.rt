@@ -1,10 +1,10 @@
 //! Units as tables, and events as lines.
 
-use crate::{Event, Frame};
+use crate::{Event, Frame, Object};
 use debug_records::{ChangeLog, Kind, PassName, Place, Var};
 use graph_core::{
     Binding, Block, Bytes, Callee, Element, End, Graph, Instr, Label, Location, MemoryObject, Name,
-    NoteValue, Operand, Recipe, Shadow, StaticObject, Unit, Value,
+    NoteValue, Operand, Owner, Recipe, Relocation, Shadow, StaticObject, Unit, Value,
 };
 use places::FlowTable;
 use recovery::{Operation, Truncation};
@@ -47,15 +47,30 @@ pub struct GraphTable {
     pub lines: &'static [Line],
 }
 
-/// A unit.
+/// A static object.
+pub struct StaticTable {
+    pub element: Element,
+    pub count: u32,
+    pub bytes: &'static [u8],
+    pub relocations: &'static [Relocation],
+}
+
+/// A change of a pass.
+pub struct ChangeTable {
+    pub pass: &'static [u8],
+    pub kind: Kind,
+    pub place: u32,
+    pub variable: u32,
+}
+
+/// A unit. Its flow table is empty, since no run reads it.
 pub struct UnitTable {
     pub graphs: &'static [GraphTable],
     pub main: u32,
-    /// The static objects: their elements, how many, and their bytes.
-    pub statics: &'static [(Element, u32, &'static [u8])],
+    pub statics: &'static [StaticTable],
     pub array_bytes: &'static [&'static [u8]],
-    /// Whether its log has a change.
-    pub changed: bool,
+    /// What is in its log, in order.
+    pub changes: &'static [ChangeTable],
 }
 
 fn note(x: u32, recipe: Recipe) -> Instr {
@@ -72,7 +87,7 @@ fn sum(alloc: Global, left: Operand, right: Operand) -> Result<Recipe, AllocErro
 }
 
 /// The instruction of a line; none of a block's end.
-fn instruction(alloc: Global, line: Line) -> Result<Option<Instr>, AllocError> {
+pub fn instruction(alloc: Global, line: Line) -> Result<Option<Instr>, AllocError> {
     Ok(Some(match line {
         Line::Marker(place) => Instr::Marker(Place(place)),
         Line::Noted(x) => note(x, Recipe::of_name(Name(x))),
@@ -172,27 +187,26 @@ fn graph(alloc: Global, table: &GraphTable) -> Result<Graph, AllocError> {
     })
 }
 
-fn log(alloc: Global, changed: bool) -> Result<ChangeLog, AllocError> {
+fn log(alloc: Global, changes: &[ChangeTable]) -> Result<ChangeLog, AllocError> {
     let mut log = ChangeLog::new(alloc);
-    if let Some(pass) = PassName::of(b"dead") {
-        if changed {
-            log.push(pass, Kind::Removed, Place(4), Var(0))?;
+    for change in changes {
+        if let Some(pass) = PassName::of(change.pass) {
+            if log.changes().len() < 100 {
+                log.push(pass, change.kind, Place(change.place), Var(change.variable))?;
+            }
         }
     }
     Ok(log)
 }
 
-fn statics(
-    alloc: Global,
-    tables: &[(Element, u32, &'static [u8])],
-) -> Result<Vec<StaticObject>, AllocError> {
+fn statics(alloc: Global, tables: &[StaticTable]) -> Result<Vec<StaticObject>, AllocError> {
     let mut statics = Vec::new(alloc);
-    for (element, count, bytes) in tables {
+    for table in tables {
         statics.push(StaticObject {
-            element: *element,
-            count: *count,
-            bytes: Vec::from_slice(alloc, *bytes)?,
-            relocations: Vec::new(alloc),
+            element: table.element,
+            count: table.count,
+            bytes: Vec::from_slice(alloc, table.bytes)?,
+            relocations: Vec::from_slice(alloc, table.relocations)?,
         })?;
     }
     Ok(statics)
@@ -222,7 +236,7 @@ pub fn unit(alloc: Global, table: &UnitTable) -> Result<Unit, AllocError> {
             steps: Vec::new(alloc),
             assignments: Vec::new(alloc),
         },
-        log: log(alloc, table.changed)?,
+        log: log(alloc, table.changes)?,
     })
 }
 
@@ -246,19 +260,47 @@ fn shown_frame(alloc: Global, frame: &Frame) -> Result<String, AllocError> {
     Ok(line)
 }
 
-/// An event as a line: of a stop the places of the live activations, each with the shadows of its scalars.
+fn shown_owner(alloc: Global, owner: Owner) -> Result<String, AllocError> {
+    match owner {
+        Owner::Static(number) => format!(in alloc; "static {number}"),
+        Owner::Automatic { variable, depth } => format!(in alloc; "{variable} at {depth}"),
+    }
+}
+
+fn shown_object(alloc: Global, object: &Object) -> Result<String, AllocError> {
+    let mut line = shown_owner(alloc, object.owner)?;
+    if !object.live {
+        line.push_str(", ended")?;
+    }
+    line.push_str(":")?;
+    for value in &object.values {
+        line.push_str(" ")?;
+        line.push_str(&shown_value(alloc, *value)?)?;
+    }
+    Ok(line)
+}
+
+fn shown_stop(alloc: Global, frames: &[Frame], memory: &[Object]) -> Result<String, AllocError> {
+    let mut line = String::from_str(alloc, "at")?;
+    for frame in frames {
+        line.push_str(" ")?;
+        line.push_str(&shown_frame(alloc, frame)?)?;
+    }
+    for object in memory {
+        line.push_str(" [")?;
+        line.push_str(&shown_object(alloc, object)?)?;
+        line.push_str("]")?;
+    }
+    Ok(line)
+}
+
+/// An event as a line: of a stop the places of the live activations from the innermost on, each with the shadows of its scalars, and then
+/// in brackets all objects, each with its owner, a static object's number or a variable and the depth of its activation, and its values.
 pub fn shown(alloc: Global, event: &Event) -> Result<String, AllocError> {
     match event {
         Event::Put(byte) => format!(in alloc; "out {byte}"),
         Event::Exited(status) => format!(in alloc; "exit {status}"),
         Event::TooDeep => String::from_str(alloc, "too deep"),
-        Event::Stop { frames, .. } => {
-            let mut line = String::from_str(alloc, "at")?;
-            for frame in frames {
-                line.push_str(" ")?;
-                line.push_str(&shown_frame(alloc, frame)?)?;
-            }
-            Ok(line)
-        }
+        Event::Stop { frames, memory } => shown_stop(alloc, frames, memory),
     }
 }
