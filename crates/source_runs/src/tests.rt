@@ -167,7 +167,7 @@ enum Seen {
     TooDeep,
 }
 
-fn seen(event: &Event) -> Seen {
+fn seen_in(event: &Event) -> Seen {
     match event {
         Event::Stop(stop) => Seen::Stop(stop.place),
         Event::Put(byte) => Seen::Put(*byte),
@@ -182,7 +182,7 @@ fn a_byte_is_put_out_where_it_stands_among_the_stops(rt: HostRuntime) -> Result<
     let run = run_text(rt.alloc(), text, &[], 100)?;
     let mut events = Vec::new(rt.alloc());
     for event in &run.events {
-        events.push(seen(event))?;
+        events.push(seen_in(event))?;
     }
     let wanted = [
         Seen::Stop(2),
