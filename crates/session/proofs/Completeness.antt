@@ -9,7 +9,7 @@ use Rattle.line_form.specs.declared.status.Status.TheVariants.{Done, Usage, Sour
 use Rattle.script_form.specs.Refusal.{IsRefused}
 use Rattle.script_form.proofs.ScriptLaws.{readings_one}
 use Rattle.session.specs.Served.{ServedJob, ForDebug, ForAttach, script_of}
-use Rattle.session.specs.Limits.{Held, Holds, AreWithin, ImageIsTooLong, ImageIsWithin, InputIsTooLong, IsBeyond, IsTooLong, IsWithin, ScriptIsTooLong, image_limit, input_limit}
+use Rattle.session.specs.Limits.{Held, Holds, AreWithin, FirstIsLoaded, ImageIsTooLong, InputIsTooLong, IsBeyond, IsTooLong, IsWithin, ScriptIsTooLong, image_limit, input_limit}
 use Rattle.session.specs.Front.{IsRefusedSource, IsSource}
 use Rattle.session.proofs.Refusals.{source_apart}
 use Rattle.session.specs.Causes.{AreNoImage, ImageIsRefused, IsImageText, IsScriptText, IsUnderstood, SourceIsRefused, ScriptIsRefused, AreAccepted}
@@ -23,13 +23,13 @@ short_and_long : (limit : ℕ) (held : Option (List ℕ)) → IsWithin limit hel
 short_and_long limit None s l = s
 short_and_long limit (Some text) s l = let x : length text ≤ limit = s in let y : limit < length text = l in omega arith
 
-image_short_and_long : (held : Held) (job : ServedJob) (name : List ℕ) → ImageIsWithin held job → ImageIsTooLong held job name → ⊥
+image_short_and_long : (held : Held) (job : ServedJob) (name : List ℕ) → FirstIsLoaded held job → ImageIsTooLong held job name → ⊥
 image_short_and_long held (ForDebug given) name w t = t
 image_short_and_long held (ForAttach given) name w t = short_and_long image_limit (held given.image) w t.1
 
 none_too_long : (held : Held) (job : ServedJob) (name : List ℕ) → AreWithin held job → IsTooLong held job name → ⊥
 none_too_long held job name w t =
-    ⊎_elim (λ (i : ImageIsTooLong held job name). image_short_and_long held job name w.image i)
+    ⊎_elim (λ (i : ImageIsTooLong held job name). image_short_and_long held job name w.first i)
     (λ u. ⊎_elim (λ (s : ScriptIsTooLong held job name). short_and_long 1048576 _ w.script s.cause) (λ (i : InputIsTooLong held job name). short_and_long input_limit _ w.input i.cause) u) t
 
 -- what is understood is not refused

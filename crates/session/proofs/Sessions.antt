@@ -1,12 +1,12 @@
 -- What the stages of a session say together.
-use Rattle.std.proofs.Common.{◌≡◌, ℕ, ◌+◌, ◌<◌, ◌≤◌, sym, ap, ◌∙◌, subst, arith, refl, List, length, take}
+use Rattle.std.proofs.Common.{◌≡◌, ℕ, ◌+◌, ◌<◌, ◌≤◌, inl, inr, sym, ap, ◌∙◌, subst, arith, refl, List, [], length, take, append-nil}
 use Rattle.std.specs.Prelude.{Option, Some, None, Err, Ok, String, Vec, string_bytes}
 use Rattle.std.proofs.lemmas.List.{take_all, length-take}
 use Rattle.debug_records.specs.declared.code.Code.{Code}
 use Rattle.image_form.specs.Form.{Form, form}
 use Rattle.image_form.specs.declared.format.Image.{Image}
 use Rattle.std.specs.Global.{Global}
-use Rattle.outside.specs.Held.{Loads}
+use Rattle.outside.specs.Held.{IsKeptOrCut, Loads}
 use Rattle.line_form.specs.declared.status.Status.{Status}
 use Rattle.line_form.specs.declared.status.Status.TheVariants.{SourceRefused, ScriptRefused, ImageRefused, TooLong}
 use Rattle.script_form.specs.Script.{orders}
@@ -15,14 +15,14 @@ use Rattle.script_form.specs.declared.command.Command.{Command}
 use Rattle.stop_engine.specs.Transcript.{transcript_bytes}
 use Rattle.session.specs.declared.preparing.Prepared.{Prepared}
 use Rattle.command_line.specs.Job.{AttachGiven, DebugGiven}
-use Rattle.session.specs.Served.{ForAttach, ForDebug}
-use Rattle.session.specs.Limits.{Held, Holds, AreWithin, IsBeyond, IsWithin, image_limit, input_limit}
+use Rattle.session.specs.Served.{ForAttach, ForDebug, ServedJob}
+use Rattle.session.specs.Limits.{Held, Holds, AreWithin, IsBeyond, IsThere, IsWithin, image_limit, input_limit}
 use Rattle.session.specs.Front.{IsSource}
 use Rattle.session.specs.Causes.{AreNoImage, ImageIsRefused, IsImageText, IsScriptText, ScriptIsRefused, SourceIsRefused, AreAccepted}
 use Rattle.session.proofs.Refusals.{source_held}
 use Rattle.session.specs.Stages.{ImageEnds, LoadEnds, PrepareEnds, ScriptEnds}
 use Rattle.session.specs.Prepared.{IsPrepared}
-use Rattle.session.specs.Outcome.{IsAttached, IsDebugged}
+use Rattle.session.specs.Outcome.{HasLeft, HasSaved, IsAttached, IsDebugged, IsImageOfSource}
 
 -- a text that was loaded within its limit is what the shelf held
 pub held_is : (limit : ℕ) (held : Option (List ℕ)) (got : List ℕ) → Loads held limit got → length got ≤ limit → held ≡ Some got
@@ -31,6 +31,11 @@ held_is limit (Some text) got h short =
     let len : length got ≡ length (take (limit + 1) text) = ap length h in
     let all : length text ≤ limit + 1 = omega (arith, length-take (limit + 1) text) in
     ap Some (sym (h ∙ take_all (limit + 1) text all))
+
+-- what was loaded is there
+pub held_there : (limit : ℕ) (held : Option (List ℕ)) (got : List ℕ) → Loads held limit got → IsThere held
+held_there limit None got h = h
+held_there limit (Some text) got h = tt
 
 -- one that was loaded beyond its limit is longer there
 pub held_beyond : (limit : ℕ) (held : Option (List ℕ)) (got : List ℕ) → Loads held limit got → limit < length got → IsBeyond limit held
@@ -43,9 +48,9 @@ pub held_within : (limit : ℕ) (held : Option (List ℕ)) (got : List ℕ) → 
 held_within limit held got e short = subst (λ h. IsWithin limit h) (sym e) short
 
 -- all texts are within their limits
-pub debug_within : (held : Held) (given : DebugGiven) (script input : List ℕ) → held given.script ≡ Some script → held given.input ≡ Some input → length script ≤ 1048576 → length input ≤ input_limit → AreWithin held (ForDebug given)
-debug_within held given script input s i short small = record {
-  image = tt;
+pub debug_within : (held : Held) (given : DebugGiven) (script input : List ℕ) → IsThere (held given.source) → held given.script ≡ Some script → held given.input ≡ Some input → length script ≤ 1048576 → length input ≤ input_limit → AreWithin held (ForDebug given)
+debug_within held given script input first s i short small = record {
+  first = first;
   script = held_within 1048576 (held given.script) script s short;
   input = held_within input_limit (held given.input) input i small;
 }
@@ -53,7 +58,7 @@ debug_within held given script input s i short small = record {
 pub attach_within : (held : Held) (given : AttachGiven) (image script input : List ℕ) → held given.image ≡ Some image → held given.script ≡ Some script → held given.input ≡ Some input
     → length image ≤ image_limit → length script ≤ 1048576 → length input ≤ input_limit → AreWithin held (ForAttach given)
 attach_within held given image script input m s i few short small = record {
-  image = held_within image_limit (held given.image) image m few;
+  first = held_within image_limit (held given.image) image m few;
   script = held_within 1048576 (held given.script) script s short;
   input = held_within input_limit (held given.input) input i small;
 }
@@ -89,6 +94,44 @@ both_accepted source script prepared held given is loads is_script = record {
   before = source_accepted (held given.source) source loads (record { understood = is.understood; thin = (is.program, is.source) });
   script = holds IsScriptText (held given.script) script is_script (orders prepared.commands.items, is.script);
 }
+
+-- the bytes that were prepared are an image of the source
+pub image_made : (held : Held) (given : DebugGiven) (source script bytes : List ℕ) (prepared : Prepared) → Loads (held given.source) 1048576 source → IsPrepared source script prepared → bytes ≡ prepared.bytes.items → IsImageOfSource held given bytes
+image_made held given source script bytes prepared loads is same = record {
+  source = source;
+  program = is.program;
+  source_held = held_is 1048576 (held given.source) source loads is.source.short;
+  source_is = is.source;
+  understood = is.understood;
+  form = form prepared.image;
+  form_is = is.image;
+  bytes_are = same ∙ is.bytes;
+  truthful = is.truthful;
+}
+
+-- where nothing was saved, the image's name holds what it held
+pub nothing_left : (held held' : Held) (job : ServedJob) → ((n : List ℕ) → held' n ≡ held n) → HasLeft held held' job
+nothing_left held held' (ForDebug given) same = inl (same given.image)
+nothing_left held held' (ForAttach given) same = tt
+
+-- a save that gave an error left what the name held, or a part of the image
+pub part_left : (held before held' : Held) (given : DebugGiven) (name bytes : List ℕ) → IsImageOfSource held given bytes → before name ≡ held name → name ≡ given.image → IsKeptOrCut bytes (before name) (held' name) → HasLeft held held' (ForDebug given)
+part_left held before held' given name bytes made same is part = inr (record {
+  bytes = bytes;
+  made = made;
+  part = subst (λ n. IsKeptOrCut bytes (held n) (held' n)) is (subst (λ h. IsKeptOrCut bytes h (held' name)) same part);
+})
+
+-- one that was made left the whole image
+pub whole_left : (held held' : Held) (given : DebugGiven) (name bytes : List ℕ) → IsImageOfSource held given bytes → name ≡ given.image → held' name ≡ Some bytes → HasLeft held held' (ForDebug given)
+whole_left held held' given name bytes made is saved = inr (record {
+  bytes = bytes;
+  made = made;
+  part = inr (bytes, ([], sym (append-nil bytes)), ap held' (sym is) ∙ saved);
+})
+
+pub whole_saved : (held held' : Held) (given : DebugGiven) (name bytes : List ℕ) → IsImageOfSource held given bytes → name ≡ given.image → held' name ≡ Some bytes → HasSaved held held' (ForDebug given)
+whole_saved held held' given name bytes made is saved = record { bytes = bytes; made = made; saved = ap held' (sym is) ∙ saved }
 
 -- the session saved the image and played it
 pub debugged : (held held' : Held) (given : DebugGiven) (source script input : List ℕ) (prepared : Prepared) → Loads (held given.source) 1048576 source → held given.script ≡ Some script → held given.input ≡ Some input → IsPrepared source script prepared → held' given.image ≡ Some prepared.bytes.items

@@ -31,14 +31,18 @@ IsWithin limit held = Holds held (λ text. length text ≤ limit)
 abbrev pub IsBeyond : ℕ → Option (List ℕ) → Type 0
 IsBeyond limit held = Holds held (λ text. limit < length text)
 
--- an image that is loaded is within its limit
-abbrev pub ImageIsWithin : Held → ServedJob → Type 0
-ImageIsWithin held (ForDebug given) = Unit {0}
-ImageIsWithin held (ForAttach given) = IsWithin image_limit (held given.image)
+-- the name holds a text
+abbrev pub IsThere : Option (List ℕ) → Type 0
+IsThere held = Holds held (λ text. Unit {0})
 
--- the texts of a job are within their limits; a source has its own rule
+-- what is loaded first is there: a source, whose length has a rule of its own, or an image within its limit
+abbrev pub FirstIsLoaded : Held → ServedJob → Type 0
+FirstIsLoaded held (ForDebug given) = IsThere (held given.source)
+FirstIsLoaded held (ForAttach given) = IsWithin image_limit (held given.image)
+
+-- the texts of a job are there, and within their limits
 pub record AreWithin (held : Held) (job : ServedJob) : Type 0 where
-  pub image : ImageIsWithin held job
+  pub first : FirstIsLoaded held job
   pub script : IsWithin script_limit (held (script_of job))
   pub input : IsWithin input_limit (held (input_of job))
 
@@ -47,19 +51,19 @@ abbrev pub ImageIsTooLong : Held → ServedJob → List ℕ → Type 0
 ImageIsTooLong held (ForDebug given) name = ⊥
 ImageIsTooLong held (ForAttach given) name = (name ≡ given.image) × IsBeyond image_limit (held given.image)
 
--- the script of this name is too long, and no image before it
+-- the script of this name is too long, and what is loaded before it is there and not too long
 pub record ScriptIsTooLong (held : Held) (job : ServedJob) (name : List ℕ) : Type 0 where
   pub named : name ≡ script_of job
-  pub image : ImageIsWithin held job
+  pub first : FirstIsLoaded held job
   pub cause : IsBeyond script_limit (held (script_of job))
 
--- the input of this name is too long, and nothing before it
+-- the input of this name is too long, and what is loaded before it is there and not too long
 pub record InputIsTooLong (held : Held) (job : ServedJob) (name : List ℕ) : Type 0 where
   pub named : name ≡ input_of job
-  pub image : ImageIsWithin held job
+  pub first : FirstIsLoaded held job
   pub script : IsWithin script_limit (held (script_of job))
   pub cause : IsBeyond input_limit (held (input_of job))
 
--- The text of this name is the first that is too long, of the image that is attached, the script and the input.
+-- The text of this name is the first that is too long, of the image that is attached, the script and the input, and each text before it is there.
 abbrev pub IsTooLong : Held → ServedJob → List ℕ → Type 0
 IsTooLong held job name = ImageIsTooLong held job name ⊎ (ScriptIsTooLong held job name ⊎ InputIsTooLong held job name)

@@ -1,5 +1,6 @@
 -- What a session leaves behind.
 use Rattle.std.specs.Prelude.{◌≡◌, ℕ, ◌⊎◌, List, ◌++◌, Option, Some}
+use Rattle.outside.specs.Held.{IsKeptOrCut}
 use Rattle.outside.specs.Taken.{TakesPart}
 use Rattle.image_form.specs.Form.{Form}
 use Rattle.image_form.specs.Rules.{IsImage}
@@ -37,6 +38,40 @@ pub record IsDebugged (held held' : Held) (given : DebugGiven) (printed : List �
   pub understood : HasProgram source
   pub played : IsPlayed (held' given.image) (held given.script) (held given.input) given.limit printed
   pub truthful : Truthful program played.form played.bytes
+
+-- The bytes are an image of the source that the shelf held before: they spell one that is truthful to the source, whatever the input.
+pub record IsImageOfSource (held : Held) (given : DebugGiven) (bytes : List ℕ) : Type 0 where
+  pub source : List ℕ
+  pub program : ProgramTree
+  pub source_held : held given.source ≡ Some source
+  pub source_is : IsThin source program
+  pub understood : HasProgram source
+  pub form : Form
+  pub form_is : IsImage form
+  pub bytes_are : bytes ≡ spelling form
+  pub truthful : (input : List ℕ) → Truthful program form input
+
+-- such an image stands under its name
+pub record HoldsImage (held held' : Held) (given : DebugGiven) : Type 0 where
+  pub bytes : List ℕ
+  pub made : IsImageOfSource held given bytes
+  pub saved : held' given.image ≡ Some bytes
+
+-- under the name of the image stands what stood there before, or the first part of such an image
+pub record HoldsPart (held held' : Held) (given : DebugGiven) : Type 0 where
+  pub bytes : List ℕ
+  pub made : IsImageOfSource held given bytes
+  pub part : IsKeptOrCut bytes (held given.image) (held' given.image)
+
+-- what a job that is done leaves under the name of its image
+abbrev pub HasSaved : (held held' : Held) → ServedJob → Type 0
+HasSaved held held' (ForDebug given) = HoldsImage held held' given
+HasSaved held held' (ForAttach given) = Unit {0}
+
+-- what a job that is cut off leaves there: what stood there, or the first part of an image of the source
+abbrev pub HasLeft : (held held' : Held) → ServedJob → Type 0
+HasLeft held held' (ForDebug given) = (held' given.image ≡ held given.image) ⊎ HoldsPart held held' given
+HasLeft held held' (ForAttach given) = Unit {0}
 
 -- what is printed is the transcript of the image that the shelf held
 abbrev pub IsAttached : Held → AttachGiven → List ℕ → Type 0

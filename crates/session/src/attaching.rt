@@ -9,7 +9,7 @@ ghost use Rattle.command_line.specs.Job.{attach_given};
 ghost use Rattle.session.specs.Served.{ForAttach, SavesTo};
 ghost use Rattle.session.specs.Limits.{AreWithin, IsTooLong};
 ghost use Rattle.session.specs.Causes.{SourceIsRefused, ImageIsRefused, ScriptIsRefused, AreAccepted, HasLoaded, IsEarly, IsCut};
-ghost use Rattle.session.specs.Outcome.{IsDone, TookPart};
+ghost use Rattle.session.specs.Outcome.{HasLeft, HasSaved, IsDone, TookPart};
 
 use crate::loading::load_attached;
 use crate::playing::play;
@@ -31,10 +31,13 @@ pub fn attach<S: Shelf, K: Sink>(alloc: Global, job: &Attach, shelf: &mut S, sin
     ensures image { (code : Code) (offset : ℕ) → result ≡ ImageRefused code offset → S.tells shelf.old ≡ true → ImageIsRefused (S.held shelf.old) (ForAttach (attach_given job.now)) code offset }
     ensures source { (code : Code) (line : ℕ) → result ≡ SourceRefused code line → S.tells shelf.old ≡ true → SourceIsRefused (S.held shelf.old) (ForAttach (attach_given job.now)) code line }
     ensures script { (code : Code) (line : ℕ) → result ≡ ScriptRefused code line → S.tells shelf.old ≡ true → ScriptIsRefused (S.held shelf.old) (ForAttach (attach_given job.now)) code line }
-    ensures accepted { result ≡ WriteFault → S.tells shelf.old ≡ true → AreAccepted (S.held shelf.old) (ForAttach (attach_given job.now)) }
+    ensures accepted { (result ≡ Done) ⊎ (result ≡ WriteFault) → S.tells shelf.old ≡ true → AreAccepted (S.held shelf.old) (ForAttach (attach_given job.now)) }
     ensures kept { IsEarly result → S.tells shelf.old ≡ true → (n : List ℕ) → S.held shelf.new n ≡ S.held shelf.old n }
     ensures nothing { IsEarly result → K.tells sink.old ≡ true → K.taken sink.new ≡ K.taken sink.old }
     ensures others { S.tells shelf.old ≡ true → (n : List ℕ) → ¬ SavesTo (ForAttach (attach_given job.now)) n → S.held shelf.new n ≡ S.held shelf.old n }
+    ensures saved { result ≡ Done → S.tells shelf.old ≡ true → HasSaved (S.held shelf.old) (S.held shelf.new) (ForAttach (attach_given job.now)) }
+    ensures whole { result ≡ WriteFault → ¬ RoseOrStands (S.save_count shelf.old) (S.save_count shelf.new) → S.tells shelf.old ≡ true → HasSaved (S.held shelf.old) (S.held shelf.new) (ForAttach (attach_given job.now)) }
+    ensures left { IsCut result → S.tells shelf.old ≡ true → HasLeft (S.held shelf.old) (S.held shelf.new) (ForAttach (attach_given job.now)) }
     ensures part { IsCut result → S.tells shelf.old ≡ true → K.tells sink.old ≡ true → TookPart (S.held shelf.old) (S.held shelf.new) (ForAttach (attach_given job.now)) (K.taken sink.old) (K.taken sink.new) }
     ensures done { result ≡ Done → S.tells shelf.old ≡ true → K.tells sink.old ≡ true → IsDone (S.held shelf.old) (S.held shelf.new) (ForAttach (attach_given job.now)) (K.taken sink.old) (K.taken sink.new) }
 {

@@ -1,10 +1,10 @@
 //! The texts of a session.
 
-ghost use Rattle.std.specs.Prelude.{◌≡◌, ◌≢◌, ℕ, ◌<◌, ◌≤◌, true, List, Some, IfOk, OnOk, length};
-ghost use Rattle.outside.specs.Held.{Loads};
+ghost use Rattle.std.specs.Prelude.{◌≡◌, ◌≢◌, ℕ, ◌<◌, ◌≤◌, true, List, Some, IfOk, OnOk, OnErr, length};
+ghost use Rattle.outside.specs.Held.{IsKeptOrCut, Loads};
 ghost use Rattle.command_line.specs.Job.{attach_given, debug_given};
 ghost use Rattle.session.specs.Served.{ForAttach, ForDebug};
-ghost use Rattle.session.specs.Limits.{IsBeyond, IsTooLong, image_limit, input_limit};
+ghost use Rattle.session.specs.Limits.{IsBeyond, IsThere, IsTooLong, image_limit, input_limit};
 ghost use Rattle.session.specs.Stages.{LoadEnds, SaysTooLong, WriteEnds};
 
 use command_line::{Attach, Debug};
@@ -53,6 +53,7 @@ fn load_text<S: Shelf>(
     ensures telling { S.tells shelf.new ≡ S.tells shelf.old }
     ensures same { (n : List ℕ) → S.tells shelf.old ≡ true → S.held shelf.new n ≡ S.held shelf.old n }
     ensures value { IfOk result (λ v. S.tells shelf.old ≡ true → Loads (S.held shelf.old name.now) limit v.items) }
+    ensures there { IfOk result (λ v. S.tells shelf.old ≡ true → IsThere (S.held shelf.old name.now)) }
 {
     match shelf.load(alloc, name, limit) {
         Ok(text) => Ok(text),
@@ -100,6 +101,7 @@ pub fn load_texts<S: Shelf>(alloc: Global, shelf: &mut S, job: &Debug) -> Result
     ensures telling { S.tells shelf.new ≡ S.tells shelf.old }
     ensures same { (n : List ℕ) → S.tells shelf.old ≡ true → S.held shelf.new n ≡ S.held shelf.old n }
     ensures source { IfOk result (λ t. S.tells shelf.old ≡ true → Loads (S.held shelf.old (debug_given job.now).source) 1048576 t.source.items) }
+    ensures there { IfOk result (λ t. S.tells shelf.old ≡ true → IsThere (S.held shelf.old (debug_given job.now).source)) }
     ensures script { IfOk result (λ t. S.tells shelf.old ≡ true → S.held shelf.old (debug_given job.now).script ≡ Some t.script.items) }
     ensures input { IfOk result (λ t. S.tells shelf.old ≡ true → S.held shelf.old (debug_given job.now).input ≡ Some t.input.items) }
     ensures script_within { IfOk result (λ t. length t.script.items ≤ 1048576) }
@@ -162,6 +164,7 @@ pub fn save_image<S: Shelf>(
     ensures telling { S.tells shelf.new ≡ S.tells shelf.old }
     ensures others { (n : List ℕ) → n ≢ name.now → S.tells shelf.old ≡ true → S.held shelf.new n ≡ S.held shelf.old n }
     ensures saved { OnOk result (S.tells shelf.old ≡ true → S.held shelf.new name.now ≡ Some bytes.now) }
+    ensures part { OnErr result (S.tells shelf.old ≡ true → IsKeptOrCut bytes.now (S.held shelf.old name.now) (S.held shelf.new name.now)) }
 {
     match shelf.save(alloc, name, bytes) {
         Ok(()) => Ok(()),

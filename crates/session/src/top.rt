@@ -8,7 +8,7 @@ ghost use Rattle.debug_records.specs.declared.code.Code.{Code};
 ghost use Rattle.session.specs.Served.{AreNotServed, AreServed, SavesTo, ServedJob, task_job};
 ghost use Rattle.session.specs.Limits.{AreWithin, IsTooLong};
 ghost use Rattle.session.specs.Causes.{SourceIsRefused, ImageIsRefused, ScriptIsRefused, AreAccepted, HasLoaded, IsEarly, IsCut};
-ghost use Rattle.session.specs.Outcome.{IsDone, TookPart};
+ghost use Rattle.session.specs.Outcome.{HasLeft, HasSaved, IsDone, TookPart};
 
 use crate::asking::{Task, asked};
 use crate::attaching::attach;
@@ -29,10 +29,13 @@ fn serve<S: Shelf, K: Sink>(alloc: Global, job: &Task, shelf: &mut S, sink: &mut
     ensures image { (code : Code) (offset : ℕ) → result ≡ ImageRefused code offset → S.tells shelf.old ≡ true → ImageIsRefused (S.held shelf.old) (task_job job.now) code offset }
     ensures source { (code : Code) (line : ℕ) → result ≡ SourceRefused code line → S.tells shelf.old ≡ true → SourceIsRefused (S.held shelf.old) (task_job job.now) code line }
     ensures script { (code : Code) (line : ℕ) → result ≡ ScriptRefused code line → S.tells shelf.old ≡ true → ScriptIsRefused (S.held shelf.old) (task_job job.now) code line }
-    ensures accepted { result ≡ WriteFault → S.tells shelf.old ≡ true → AreAccepted (S.held shelf.old) (task_job job.now) }
+    ensures accepted { (result ≡ Done) ⊎ (result ≡ WriteFault) → S.tells shelf.old ≡ true → AreAccepted (S.held shelf.old) (task_job job.now) }
     ensures kept { IsEarly result → S.tells shelf.old ≡ true → (n : List ℕ) → S.held shelf.new n ≡ S.held shelf.old n }
     ensures nothing { IsEarly result → K.tells sink.old ≡ true → K.taken sink.new ≡ K.taken sink.old }
     ensures others { S.tells shelf.old ≡ true → (n : List ℕ) → ¬ SavesTo (task_job job.now) n → S.held shelf.new n ≡ S.held shelf.old n }
+    ensures saved { result ≡ Done → S.tells shelf.old ≡ true → HasSaved (S.held shelf.old) (S.held shelf.new) (task_job job.now) }
+    ensures whole { result ≡ WriteFault → ¬ RoseOrStands (S.save_count shelf.old) (S.save_count shelf.new) → S.tells shelf.old ≡ true → HasSaved (S.held shelf.old) (S.held shelf.new) (task_job job.now) }
+    ensures left { IsCut result → S.tells shelf.old ≡ true → HasLeft (S.held shelf.old) (S.held shelf.new) (task_job job.now) }
     ensures part { IsCut result → S.tells shelf.old ≡ true → K.tells sink.old ≡ true → TookPart (S.held shelf.old) (S.held shelf.new) (task_job job.now) (K.taken sink.old) (K.taken sink.new) }
     ensures done { result ≡ Done → S.tells shelf.old ≡ true → K.tells sink.old ≡ true → IsDone (S.held shelf.old) (S.held shelf.new) (task_job job.now) (K.taken sink.old) (K.taken sink.new) }
 {
@@ -69,7 +72,7 @@ pub fn session<S: Shelf, K: Sink>(
     ensures image { (asked : ServedJob) (code : Code) (offset : ℕ) → AreServed (map string_bytes words.now) asked → result ≡ ImageRefused code offset → S.tells shelf.old ≡ true → ImageIsRefused (S.held shelf.old) asked code offset }
     ensures source { (asked : ServedJob) (code : Code) (line : ℕ) → AreServed (map string_bytes words.now) asked → result ≡ SourceRefused code line → S.tells shelf.old ≡ true → SourceIsRefused (S.held shelf.old) asked code line }
     ensures script { (asked : ServedJob) (code : Code) (line : ℕ) → AreServed (map string_bytes words.now) asked → result ≡ ScriptRefused code line → S.tells shelf.old ≡ true → ScriptIsRefused (S.held shelf.old) asked code line }
-    ensures accepted { (asked : ServedJob) → AreServed (map string_bytes words.now) asked → result ≡ WriteFault → S.tells shelf.old ≡ true → AreAccepted (S.held shelf.old) asked }
+    ensures accepted { (asked : ServedJob) → AreServed (map string_bytes words.now) asked → (result ≡ Done) ⊎ (result ≡ WriteFault) → S.tells shelf.old ≡ true → AreAccepted (S.held shelf.old) asked }
     ensures write { result ≡ WriteFault → RoseOrStands (S.save_count shelf.old) (S.save_count shelf.new) ⊎ RoseOrStands (K.fault_count sink.old) (K.fault_count sink.new) }
     ensures write_only { result ≢ WriteFault → (S.save_count shelf.new ≡ S.save_count shelf.old) × (K.fault_count sink.new ≡ K.fault_count sink.old) }
     ensures complete { (asked : ServedJob) → AreServed (map string_bytes words.now) asked → S.tells shelf.old ≡ true → AreWithin (S.held shelf.old) asked → AreAccepted (S.held shelf.old) asked
@@ -79,6 +82,14 @@ pub fn session<S: Shelf, K: Sink>(
     ensures kept { IsEarly result → S.tells shelf.old ≡ true → (n : List ℕ) → S.held shelf.new n ≡ S.held shelf.old n }
     ensures nothing { IsEarly result → K.tells sink.old ≡ true → K.taken sink.new ≡ K.taken sink.old }
     ensures others { (asked : ServedJob) → AreServed (map string_bytes words.now) asked → S.tells shelf.old ≡ true → (n : List ℕ) → ¬ SavesTo asked n → S.held shelf.new n ≡ S.held shelf.old n }
+    ensures unasked { AreNotServed (map string_bytes words.now) → S.tells shelf.old ≡ true → (n : List ℕ) → S.held shelf.new n ≡ S.held shelf.old n }
+    ensures silent { AreNotServed (map string_bytes words.now) → K.tells sink.old ≡ true → K.taken sink.new ≡ K.taken sink.old }
+
+    // Under the name of the image a `debug` that is done, or that failed at a line and not at the save, leaves an image that is
+    // truthful to the source, and one that is cut off the first part of such an image, or what stood there.
+    ensures saved { (asked : ServedJob) → AreServed (map string_bytes words.now) asked → result ≡ Done → S.tells shelf.old ≡ true → HasSaved (S.held shelf.old) (S.held shelf.new) asked }
+    ensures whole { (asked : ServedJob) → AreServed (map string_bytes words.now) asked → result ≡ WriteFault → ¬ RoseOrStands (S.save_count shelf.old) (S.save_count shelf.new) → S.tells shelf.old ≡ true → HasSaved (S.held shelf.old) (S.held shelf.new) asked }
+    ensures left { (asked : ServedJob) → AreServed (map string_bytes words.now) asked → IsCut result → S.tells shelf.old ≡ true → HasLeft (S.held shelf.old) (S.held shelf.new) asked }
 
     // A session that is cut off has put out the first part of the transcript; one that is done has put out the whole transcript of the
     // image, and the image that a `debug` saved is truthful to the source.

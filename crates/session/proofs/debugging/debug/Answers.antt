@@ -6,7 +6,8 @@ use Rattle.script_form.specs.Script.{orders}
 use Rattle.stop_engine.specs.Transcript.{transcript_bytes}
 use Rattle.session.specs.declared.preparing.Prepared.{Prepared}
 use Rattle.command_line.specs.Job.{debug_given}
-use Rattle.session.proofs.Sessions.{source_refused, script_refused, both_accepted, debugged, played_same}
+use Rattle.session.specs.Served.{ForDebug}
+use Rattle.session.proofs.Sessions.{source_refused, script_refused, both_accepted, debugged, image_made, nothing_left, part_left, whole_left, whole_saved, played_same}
 use Rattle.session.proofs.debugging.debug.Goals as goal
 
 pub returns-in-Err-prepare-clause-source : goal.returns-in-Err-prepare-clause-source
@@ -31,6 +32,51 @@ returns-clause-accepted g c = λ e told.
     both_accepted c.deref.result.now c.deref-2.result.now c.in-Ok-prepare.prepared (g.S.Shelf.held c.args.shelf.now) (debug_given c.args.job.now) c.in-Ok-prepare.ensures.prepared
     (subst (Loads (g.S.Shelf.held c.args.shelf.now (debug_given c.args.job.now).source) 1048576) (sym c.deref.ensures.value) (c.in-Ok.ensures.source told))
     (c.in-Ok.ensures.script told ∙ ap Some (sym c.deref-2.ensures.value))
+
+pub returns-in-Ok-play-clause-accepted : goal.returns-in-Ok-play-clause-accepted
+returns-in-Ok-play-clause-accepted g c = λ e told.
+    both_accepted c.deref.result.now c.deref-2.result.now c.in-Ok-prepare.prepared (g.S.Shelf.held c.args.shelf.now) (debug_given c.args.job.now) c.in-Ok-prepare.ensures.prepared
+    (subst (Loads (g.S.Shelf.held c.args.shelf.now (debug_given c.args.job.now).source) 1048576) (sym c.deref.ensures.value) (c.in-Ok.ensures.source told))
+    (c.in-Ok.ensures.script told ∙ ap Some (sym c.deref-2.ensures.value))
+
+pub returns-in-Err-clause-left : goal.returns-in-Err-clause-left
+returns-in-Err-clause-left g c = λ cut told. nothing_left (g.S.Shelf.held c.args.shelf.now) (g.S.Shelf.held c.load_texts.new.shelf) (ForDebug (debug_given c.args.job.now)) (λ n. c.load_texts.ensures.same n told)
+
+pub returns-in-Err-prepare-clause-left : goal.returns-in-Err-prepare-clause-left
+returns-in-Err-prepare-clause-left g c = λ cut told. nothing_left (g.S.Shelf.held c.args.shelf.now) (g.S.Shelf.held c.load_texts.new.shelf) (ForDebug (debug_given c.args.job.now)) (λ n. c.load_texts.ensures.same n told)
+
+pub returns-in-Err-save_image-clause-left : goal.returns-in-Err-save_image-clause-left
+returns-in-Err-save_image-clause-left g c = λ cut told.
+    let image : c.as_str.result.now ≡ (debug_given c.args.job.now).image = search rules in
+    let made = image_made (g.S.Shelf.held c.args.shelf.now) (debug_given c.args.job.now) c.deref.result.now c.deref-2.result.now c.deref-3.result.now c.in-Ok-prepare.prepared
+    (subst (Loads (g.S.Shelf.held c.args.shelf.now (debug_given c.args.job.now).source) 1048576) (sym c.deref.ensures.value) (c.in-Ok.ensures.source told))
+    c.in-Ok-prepare.ensures.prepared c.deref-3.ensures.value in
+    part_left (g.S.Shelf.held c.args.shelf.now) (g.S.Shelf.held c.load_texts.new.shelf) (g.S.Shelf.held c.save_image.new.shelf) (debug_given c.args.job.now) c.as_str.result.now c.deref-3.result.now
+    made (c.load_texts.ensures.same c.as_str.result.now told) image (c.in-Err-save_image.ensures.part (c.in-Ok.ensures.telling ∙ told))
+
+pub returns-in-Ok-play-clause-saved : goal.returns-in-Ok-play-clause-saved
+returns-in-Ok-play-clause-saved g c = λ e told.
+    let image : c.as_str.result.now ≡ (debug_given c.args.job.now).image = search rules in
+    let made = image_made (g.S.Shelf.held c.args.shelf.now) (debug_given c.args.job.now) c.deref.result.now c.deref-2.result.now c.deref-3.result.now c.in-Ok-prepare.prepared
+    (subst (Loads (g.S.Shelf.held c.args.shelf.now (debug_given c.args.job.now).source) 1048576) (sym c.deref.ensures.value) (c.in-Ok.ensures.source told))
+    c.in-Ok-prepare.ensures.prepared c.deref-3.ensures.value in
+    whole_saved (g.S.Shelf.held c.args.shelf.now) (g.S.Shelf.held c.save_image.new.shelf) (debug_given c.args.job.now) c.as_str.result.now c.deref-3.result.now made image (c.in-Ok-save_image.ensures.saved (c.in-Ok.ensures.telling ∙ told))
+
+pub returns-clause-whole : goal.returns-clause-whole
+returns-clause-whole g c = λ e saves told.
+    let image : c.as_str.result.now ≡ (debug_given c.args.job.now).image = search rules in
+    let made = image_made (g.S.Shelf.held c.args.shelf.now) (debug_given c.args.job.now) c.deref.result.now c.deref-2.result.now c.deref-3.result.now c.in-Ok-prepare.prepared
+    (subst (Loads (g.S.Shelf.held c.args.shelf.now (debug_given c.args.job.now).source) 1048576) (sym c.deref.ensures.value) (c.in-Ok.ensures.source told))
+    c.in-Ok-prepare.ensures.prepared c.deref-3.ensures.value in
+    whole_saved (g.S.Shelf.held c.args.shelf.now) (g.S.Shelf.held c.save_image.new.shelf) (debug_given c.args.job.now) c.as_str.result.now c.deref-3.result.now made image (c.in-Ok-save_image.ensures.saved (c.in-Ok.ensures.telling ∙ told))
+
+pub returns-clause-left : goal.returns-clause-left
+returns-clause-left g c = λ cut told.
+    let image : c.as_str.result.now ≡ (debug_given c.args.job.now).image = search rules in
+    let made = image_made (g.S.Shelf.held c.args.shelf.now) (debug_given c.args.job.now) c.deref.result.now c.deref-2.result.now c.deref-3.result.now c.in-Ok-prepare.prepared
+    (subst (Loads (g.S.Shelf.held c.args.shelf.now (debug_given c.args.job.now).source) 1048576) (sym c.deref.ensures.value) (c.in-Ok.ensures.source told))
+    c.in-Ok-prepare.ensures.prepared c.deref-3.ensures.value in
+    whole_left (g.S.Shelf.held c.args.shelf.now) (g.S.Shelf.held c.save_image.new.shelf) (debug_given c.args.job.now) c.as_str.result.now c.deref-3.result.now made image (c.in-Ok-save_image.ensures.saved (c.in-Ok.ensures.telling ∙ told))
 
 pub returns-in-Ok-play-clause-done : goal.returns-in-Ok-play-clause-done
 returns-in-Ok-play-clause-done g c = λ e told told_sink.

@@ -1,10 +1,11 @@
-use Rattle.std.proofs.Common.{sym, subst, map, string_bytes}
+use Rattle.std.proofs.Common.{refl, sym, subst, map, string_bytes}
 use Rattle.session.specs.Served.{SavesTo, ServedJob, task_job}
 use Rattle.session.specs.Limits.{AreWithin, IsTooLong}
 use Rattle.session.specs.Causes.{ImageIsRefused, SourceIsRefused, ScriptIsRefused, AreAccepted}
-use Rattle.session.specs.Outcome.{IsDone, TookPart}
+use Rattle.session.specs.Outcome.{HasLeft, HasSaved, IsDone, TookPart}
 use Rattle.session.proofs.AskedLemmas.{one_asked, refused_is_complete}
 use Rattle.session.proofs.Completeness.{complete}
+use Rattle.session.proofs.Sessions.{nothing_left}
 use Rattle.session.proofs.top.session.Goals as goal
 
 pub returns-in-Ok-clause-too_long : goal.returns-in-Ok-clause-too_long
@@ -35,6 +36,27 @@ pub returns-in-Ok-clause-others : goal.returns-in-Ok-clause-others
 returns-in-Ok-clause-others g c = λ asked served told n other.
     let same = one_asked (map string_bytes c.args.words.now) (task_job c.in-Ok.job) asked c.in-Ok.ensures served in
     c.serve.ensures.others told n (λ saves. other (subst (λ a. SavesTo a n) same saves))
+
+pub returns-in-Ok-clause-unasked : goal.returns-in-Ok-clause-unasked
+returns-in-Ok-clause-unasked g c = λ none told n. absurd (none (task_job c.in-Ok.job) c.in-Ok.ensures)
+
+pub returns-in-Ok-clause-silent : goal.returns-in-Ok-clause-silent
+returns-in-Ok-clause-silent g c = λ none told. absurd (none (task_job c.in-Ok.job) c.in-Ok.ensures)
+
+pub returns-in-Ok-clause-saved : goal.returns-in-Ok-clause-saved
+returns-in-Ok-clause-saved g c = λ asked served e told.
+    subst (λ (a : ServedJob). HasSaved (g.S.Shelf.held c.args.shelf.now) (g.S.Shelf.held c.serve.new.shelf) a) (one_asked (map string_bytes c.args.words.now) (task_job c.in-Ok.job) asked c.in-Ok.ensures served) (c.serve.ensures.saved e told)
+
+pub returns-in-Ok-clause-whole : goal.returns-in-Ok-clause-whole
+returns-in-Ok-clause-whole g c = λ asked served e saves told.
+    subst (λ (a : ServedJob). HasSaved (g.S.Shelf.held c.args.shelf.now) (g.S.Shelf.held c.serve.new.shelf) a) (one_asked (map string_bytes c.args.words.now) (task_job c.in-Ok.job) asked c.in-Ok.ensures served) (c.serve.ensures.whole e saves told)
+
+pub returns-in-Ok-clause-left : goal.returns-in-Ok-clause-left
+returns-in-Ok-clause-left g c = λ asked served cut told.
+    subst (λ (a : ServedJob). HasLeft (g.S.Shelf.held c.args.shelf.now) (g.S.Shelf.held c.serve.new.shelf) a) (one_asked (map string_bytes c.args.words.now) (task_job c.in-Ok.job) asked c.in-Ok.ensures served) (c.serve.ensures.left cut told)
+
+pub returns-in-Err-clause-left : goal.returns-in-Err-clause-left
+returns-in-Err-clause-left g c = λ asked served cut told. nothing_left (g.S.Shelf.held c.args.shelf.now) (g.S.Shelf.held c.args.shelf.now) asked (λ n. refl)
 
 pub returns-in-Ok-clause-part : goal.returns-in-Ok-clause-part
 returns-in-Ok-clause-part g c = λ asked served cut told told_sink.
