@@ -81,7 +81,7 @@ is_replaced = record {
 }
 
 is_reused : IsReused [] one_register copying 0 0
-is_reused = record { register = 9; y = 1; other = other_name; kept = refl; shared = refl; foreign = λ of. among_none of.logged }
+is_reused = record { register = 9; y = 1; named = lit< tt; other = other_name; kept = refl; shared = refl; foreign = λ of. among_none of.logged }
 
 pub are_borne_out : AreBorneOut
 are_borne_out = record { moved = is_moved; replaced = is_replaced; reused = is_reused }

@@ -1,5 +1,5 @@
 -- When a change that a pass logged is earned: the units before and after the pass bear it out.
-use Rattle.std.specs.Prelude.{◌≡◌, ◌≢◌, ℕ, ◌+◌, ◌≤◌, ◌⊎◌, ◌==◌, ◌&&◌, ◌||◌, Bool, true, false, if◌then◌else◌, Option, Some, None, List, [], ◌∷◌, ◌++◌, length, slice_get, ⊤}
+use Rattle.std.specs.Prelude.{◌≡◌, ◌≢◌, ℕ, ◌+◌, ◌<◌, ◌≤◌, ◌⊎◌, ◌==◌, ◌&&◌, ◌||◌, Bool, true, false, if◌then◌else◌, Option, Some, None, List, [], ◌∷◌, ◌++◌, length, slice_get, ⊤}
 use Rattle.std.specs.Option.{option_map_or}
 use Rattle.debug_records.specs.declared.change.Kind as declared-kind
 use Rattle.debug_records.specs.declared.change.Kind.TheVariants.{Removed, Moved, Reused, Replaced}
@@ -52,6 +52,15 @@ pub record Behind (g : Graph) (i : Instruction) (n : ℕ) (rest : List Instructi
   pub instructions : block.instructions ≡ before ++ i ∷ rest
   pub ends : end ≡ block.end
 
+-- A point of a graph, where these instructions are left of a block, and the place in force there.
+pub record StandsWith (g : Graph) (p n : ℕ) (rest : List Instruction) (end : End) : Type 0 where
+  pub block : Block
+  pub before : List Instruction
+  pub is : slice_get g.blocks n ≡ Some block
+  pub instructions : block.instructions ≡ before ++ rest
+  pub ends : end ≡ block.end
+  pub place : place_behind before block.place ≡ Some p
+
 -- something passed is so
 abbrev pub some_passed : (Instruction → Bool) → History → Bool
 some_passed is [] = false
@@ -72,7 +81,7 @@ IsUnread g x n rest e =
 pub record IsRemoved (g h : Graph) (p x : ℕ) : Type 0 where
   pub once : writes_in g p x ≡ 1
   pub none : writes_in h p x ≡ 0
-  pub unread : (v : NoteValue) (n : ℕ) (rest : List Instruction) (e : End) → InPlace h p (Note x v) → Behind h (Note x v) n rest e → IsUnread h x n rest e
+  pub unread : (v : NoteValue) (n : ℕ) (rest : List Instruction) (e : End) → StandsWith h p n (Note x v ∷ rest) e → IsUnread h x n rest e
 
 -- The computation is done here in the unit before: it still is, or what it gave is taken from a temporary.
 abbrev pub IsUse : Computation → (t : ℕ) → Instruction → Type 0
@@ -124,15 +133,6 @@ abbrev pub reads_at : List Instruction → End → List ℕ
 reads_at [] e = reads_of_end e
 reads_at (i ∷ rest) e = reads_of i
 
--- the place in force where so many instructions are left
-pub record StandsWith (g : Graph) (p n : ℕ) (rest : List Instruction) (end : End) : Type 0 where
-  pub block : Block
-  pub before : List Instruction
-  pub is : slice_get g.blocks n ≡ Some block
-  pub instructions : block.instructions ≡ before ++ rest
-  pub ends : end ≡ block.end
-  pub place : place_behind before block.place ≡ Some p
-
 -- A read of a scalar in a place was replaced by a read of another one: at one point of both units the same operand was the one and is the other, and one copy reaches it
 -- on every path.
 pub record IsReplaced (g h : Graph) (p x : ℕ) : Type 0 where
@@ -155,17 +155,17 @@ pub record IsReplaced (g h : Graph) (p x : ℕ) : Type 0 where
   pub copy_left : ℕ
   pub reaches : (hist : History) → Path h hist n after later → IsCopiedAt copy_block copy_left x y hist
 
--- the operand of the first copy to a scalar in a place
-abbrev pub first_among : (p x : ℕ) → (in_force : Option ℕ) → List Instruction → Option Operand
+-- the name of which the first copy in a place to a scalar is; what else is moved to the scalar, a constant or an address, is no copy
+abbrev pub first_among : (p x : ℕ) → (in_force : Option ℕ) → List Instruction → Option ℕ
 first_among p x place [] = None
-first_among p x place (Move y a ∷ more) = if is_place p place && y == x then Some a else first_among p x place more
+first_among p x place (Move y (Name m) ∷ more) = if is_place p place && y == x then Some m else first_among p x place more
 first_among p x place (i ∷ more) = first_among p x (place_behind (i ∷ []) place) more
 
 abbrev pub or_else : {A : Type 0} → Option A → Option A → Option A
 or_else None other = other
 or_else (Some a) other = Some a
 
-abbrev pub first_copy : (p x : ℕ) → List Block → Option Operand
+abbrev pub first_copy : (p x : ℕ) → List Block → Option ℕ
 first_copy p x [] = None
 first_copy p x (b ∷ more) = or_else (first_among p x b.place b.instructions) (first_copy p x more)
 
@@ -175,13 +175,14 @@ pub record IsTemporaryOf (log : List Logged) (g : Graph) (x variable t : ℕ) : 
   pub logged : Among change log
   pub moved : change.kind ≡ Moved
   pub of : change.variable ≡ variable
-  pub copied : first_copy change.place x g.blocks ≡ Some (Name t)
+  pub copied : first_copy change.place x g.blocks ≡ Some t
   pub temporary : length g.scalars ≤ t
 
 -- The register of a scalar was given to another name too, which is no temporary of the scalar's moved computations.
 pub record IsReused (log : List Logged) (home : ℕ → Home) (h : Graph) (x variable : ℕ) : Type 0 where
   pub register : ℕ
   pub y : ℕ
+  pub named : y < h.names
   pub other : y ≢ x
   pub kept : home x ≡ Register register
   pub shared : home y ≡ Register register
@@ -194,8 +195,8 @@ IsBorneOut Moved log home g h p x variable = IsMoved g h p x
 IsBorneOut Replaced log home g h p x variable = IsReplaced g h p x
 IsBorneOut Reused log home g h p x variable = IsReused log home h x variable
 
--- A change is earned: it is one of the log, and its function's graphs in the units before and after its pass bear it out.
-pub record IsEarned (change : Logged) (log : List Logged) (home : ℕ → Home) (u v : UnitForm) : Type 0 where
+-- A change is earned: it is one of the log, and its function's graphs in the units before and after its pass bear it out, with the homes of that function.
+pub record IsEarned (change : Logged) (log : List Logged) (homes : (function : ℕ) → ℕ → Home) (u v : UnitForm) : Type 0 where
   pub logged : Among change log
   pub function : ℕ
   pub before : Graph
@@ -204,4 +205,4 @@ pub record IsEarned (change : Logged) (log : List Logged) (home : ℕ → Home) 
   pub stands : slice_get v.graphs function ≡ Some after
   pub x : ℕ
   pub scalar : IsVariable after x change.variable
-  pub borne_out : IsBorneOut change.kind log home before after change.place x change.variable
+  pub borne_out : IsBorneOut change.kind log (homes function) before after change.place x change.variable
