@@ -79,6 +79,7 @@ module _ (u : UnitForm) (added : List Logged) where
 
     is_block : (b : Block) → IsBlock u g b → IsBlock longer g b
     is_block b h = record {
+      place = h.place;
       instructions = all_map (IsInstruction u g) (IsInstruction longer g) is_instruction b.instructions h.instructions;
       operands = end_operands b.end h.operands;
       edges = h.edges;
@@ -93,7 +94,7 @@ module _ (u : UnitForm) (added : List Logged) where
       parameters = h.parameters;
       bindings = h.bindings;
       objects = h.objects;
-      some_block = h.some_block;
+      begins = h.begins;
       blocks = all_map (IsBlock u g) (IsBlock longer g) is_block g.blocks h.blocks;
     }
 

@@ -1,4 +1,5 @@
--- Valid units: their numbers name what they have, their counts stay within bounds, and the place that a block keeps is right along each edge into it.
+-- Valid units: their numbers name what they have, their counts stay within bounds, each instruction has a place, and the place that a block keeps is right along each edge into
+-- it.
 use Rattle.std.specs.Prelude.{◌≡◌, ◌≢◌, ℕ, max, ◌+◌, ◌*◌, ◌<◌, ◌≤◌, Option, Some, None, List, [], ◌∷◌, ◌++◌, length, slice_get, ⊤}
 use Rattle.std.specs.List.{AllByRecursion}
 use Rattle.graph_core.specs.declared.instruction.Callee.{Callee}
@@ -77,6 +78,11 @@ KeepsPlace _ place kept = place ≡ kept
 abbrev pub IsKept : Option ℕ → Option Block → Type 0
 IsKept place None = ⊥
 IsKept place (Some b) = KeepsPlace b.instructions place b.place
+
+-- Each instruction of a block has a place: the block begins with a marker, or it keeps a place.
+abbrev pub HasPlace : List Instruction → (kept : Option ℕ) → Type 0
+HasPlace (Marker p ∷ more) kept = ⊤
+HasPlace _ kept = kept ≢ None
 
 -- there is a function, and it has so many parameters
 abbrev pub HasParameters : Option Graph → (count : ℕ) → Type 0
@@ -168,6 +174,7 @@ module _ (u : UnitForm) where
     AreOperandsOfEnd (Return (Some a)) = IsOperand a
 
     pub record IsBlock (b : Block) : Type 0 where
+      pub place : HasPlace b.instructions b.place
       pub instructions : AllByRecursion IsInstruction b.instructions
       pub operands : AreOperandsOfEnd b.end
       pub edges : AreEdges g (place_at_end b) (targets_of b.end)
@@ -181,7 +188,8 @@ module _ (u : UnitForm) where
       pub bindings : AllByRecursion (IsBinding g) g.parameters
       -- what its objects take
       pub objects : total taken_by_object g.objects ≤ 4096
-      pub some_block : 1 ≤ length g.blocks
+      -- A call begins in the first block, where the entry's place is in force.
+      pub begins : IsKept (Some g.entry) (slice_get g.blocks 0)
       pub blocks : AllByRecursion IsBlock g.blocks
 
   pub record IsValid : Type 0 where

@@ -1,4 +1,5 @@
-//! Whether a unit is valid: its numbers name what it has, its counts stay within bounds, and the place that a block keeps is right along each edge into it.
+//! Whether a unit is valid: its numbers name what it has, its counts stay within bounds, each instruction has a place, and the place that a block keeps is
+//! right along each edge into it.
 
 ghost use Rattle.std.specs.Prelude.{◌≡◌, ◌≤◌, ◌<◌, ◌↔◌, ◌^◌, ◌-◌, IsTrue, MatchOption, None, Some, length, map, min, option_map, slice_get};
 ghost use Rattle.std.specs.List.{AllByRecursion};
@@ -7,7 +8,7 @@ ghost use Rattle.graph_core.specs.Graphs.{binding_view, block_view, bytes_view, 
 ghost use Rattle.graph_core.specs.Uses.{marker_of, targets_of};
 ghost use Rattle.graph_core.specs.Memory.{static_bytes};
 ghost use Rattle.graph_core.specs.Counts.{AreMarkedOnce, AreMarkedOnceInBlocks, AreMarkedOnceIn, IsOnce, KeepsCounts, count_in_blocks, count_in_graphs, share};
-ghost use Rattle.graph_core.specs.Validity.{AreEdges, AreOperandsOf, AreOperandsOfEnd, AreRelocations, HasParameters, IsBinding, IsBlock, IsCall, IsGraph, IsInstruction, IsKept, IsLocation, IsNoteValue, IsObject, IsOperand, IsStatic, IsTarget, IsValid, IsWanted, arguments_in, counts, depth_of, KeepsPlace, place_behind, taken_by, taken_by_object, total};
+ghost use Rattle.graph_core.specs.Validity.{AreEdges, AreOperandsOf, AreOperandsOfEnd, AreRelocations, HasParameters, IsBinding, IsBlock, IsCall, IsGraph, IsInstruction, IsKept, IsLocation, IsNoteValue, IsObject, IsOperand, IsStatic, IsTarget, IsValid, IsWanted, arguments_in, counts, depth_of, HasPlace, KeepsPlace, place_behind, taken_by, taken_by_object, total};
 
 use crate::block::{Block, End};
 use crate::graph::{Binding, Graph, MemoryObject};
@@ -427,6 +428,19 @@ fn keeps_place(instructions: &[Instr], in_force: Option<Place>, kept: Option<Pla
     }
 }
 
+/// Whether each of these instructions has a place where their block keeps one, or none.
+fn has_place(instructions: &[Instr], kept: Option<Place>) -> bool
+    ensures { IsTrue result ↔ HasPlace (map instruction_view instructions.now) (option_map (λ (p : declared-place.Place). p.0) kept) }
+{
+    match instructions {
+        [] => kept.is_some(),
+        [first, ..] => match first.marker() {
+            Some(_) => true,
+            None => kept.is_some(),
+        },
+    }
+}
+
 /// The place in force behind instructions.
 fn place_behind(instructions: &[Instr], before: Option<Place>) -> Option<Place>
     ensures { option_map (λ (p : declared-place.Place). p.0) result ≡ place_behind (map instruction_view instructions.now) (option_map (λ (p : declared-place.Place). p.0) before) }
@@ -468,7 +482,8 @@ fn are_edges(graph: &Graph, in_force: Option<Place>, end: End) -> bool
 fn is_block(unit: &Unit, graph: &Graph, block: &Block) -> bool
     ensures { IsTrue result ↔ IsBlock (unit_view unit.now) (graph_view graph.now) (block_view block.now) }
 {
-    are_instructions(unit, graph, &block.instructions)
+    has_place(&block.instructions, block.place)
+        && are_instructions(unit, graph, &block.instructions)
         && are_operands_of_end(unit, graph, block.end)
         && are_edges(
             graph,
@@ -527,7 +542,7 @@ fn is_graph(unit: &Unit, graph: &Graph) -> bool
     if (graph.moved_from as usize) < graph.scalars.len() || 8 < graph.parameters.len() {
         return false;
     }
-    if graph.blocks.is_empty() {
+    if !is_kept(graph, Some(graph.entry), Label(0)) {
         return false;
     }
     are_bindings(graph, &graph.parameters) && are_blocks(unit, graph, &graph.blocks)
