@@ -9,3 +9,4 @@ pub mod Once
 pub mod Valid
 pub mod WorkedMotion
 pub mod WorkedCopy
+pub mod WorkedRefusals
