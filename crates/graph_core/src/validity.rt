@@ -224,7 +224,7 @@ fn has_parameters(unit: &Unit, function: u32, count: usize) -> bool
 
 /// Whether there is a static object of this number.
 fn is_static(unit: &Unit, object: u32) -> bool
-    ensures { IsTrue result ↔ IsStatic (unit_view unit.now) object }
+    ensures { IsTrue result ↔ IsStatic (unit_view unit.now).statics object }
 {
     (object as usize) < unit.statics.len()
 }
@@ -252,7 +252,7 @@ fn is_target(graph: &Graph, name: Name) -> bool
 
 /// Whether an operand names what its graph and its unit have.
 fn is_operand(unit: &Unit, graph: &Graph, operand: Operand) -> bool
-    ensures { IsTrue result ↔ IsOperand (unit_view unit.now) (graph_view graph.now) (operand_view operand) }
+    ensures { IsTrue result ↔ IsOperand (unit_view unit.now).statics (graph_view graph.now) (operand_view operand) }
 {
     match operand {
         Operand::Name(name) => is_target(graph, name),
@@ -262,7 +262,7 @@ fn is_operand(unit: &Unit, graph: &Graph, operand: Operand) -> bool
 }
 
 fn are_operands(unit: &Unit, graph: &Graph, operands: &[Operand]) -> bool
-    ensures { IsTrue result ↔ AllByRecursion (IsOperand (unit_view unit.now) (graph_view graph.now)) (map operand_view operands.now) }
+    ensures { IsTrue result ↔ AllByRecursion (IsOperand (unit_view unit.now).statics (graph_view graph.now)) (map operand_view operands.now) }
 {
     let mut left = operands;
     while let [first, rest @ ..] = left {
@@ -276,7 +276,7 @@ fn are_operands(unit: &Unit, graph: &Graph, operands: &[Operand]) -> bool
 
 /// Whether a recipe is of operands that its graph and its unit have.
 fn are_operands_of(unit: &Unit, graph: &Graph, recipe: &Recipe) -> bool
-    ensures { IsTrue result ↔ AreOperandsOf (unit_view unit.now) (graph_view graph.now) (recipe_view recipe.now) }
+    ensures { IsTrue result ↔ AreOperandsOf (unit_view unit.now).statics (graph_view graph.now) (recipe_view recipe.now) }
 {
     match recipe {
         Recipe::Operand(operand) => is_operand(unit, graph, *operand),
@@ -299,7 +299,7 @@ fn is_note_value(unit: &Unit, graph: &Graph, value: &NoteValue) -> bool
 }
 
 fn is_location(unit: &Unit, graph: &Graph, location: Location) -> bool
-    ensures { IsTrue result ↔ IsLocation (unit_view unit.now) (graph_view graph.now) (location_view location) }
+    ensures { IsTrue result ↔ IsLocation (unit_view unit.now).statics (graph_view graph.now) (location_view location) }
 {
     match location {
         Location::Automatic(object) => is_object(graph, object),
@@ -310,7 +310,7 @@ fn is_location(unit: &Unit, graph: &Graph, location: Location) -> bool
 
 /// Whether there is what a call calls, and it takes so many arguments.
 fn is_call(unit: &Unit, callee: Callee, arguments: usize) -> bool
-    ensures { IsTrue result ↔ IsCall (unit_view unit.now) callee arguments }
+    ensures { IsTrue result ↔ IsCall (unit_view unit.now).graphs callee arguments }
 {
     match callee {
         Callee::Function(function) => has_parameters(unit, function, arguments),
@@ -328,6 +328,13 @@ fn is_wanted(graph: &Graph, target: Option<Name>) -> bool
     }
 }
 
+/// Whether a graph has the target of an operation, and it and its unit what the operands name.
+fn is_operation(unit: &Unit, graph: &Graph, target: Name, left: Operand, right: Operand) -> bool
+    ensures { IsTrue result ↔ (IsTarget (graph_view graph.now) target.0 × IsOperand (unit_view unit.now).statics (graph_view graph.now) (operand_view left) × IsOperand (unit_view unit.now).statics (graph_view graph.now) (operand_view right)) }
+{
+    is_target(graph, target) && is_operand(unit, graph, left) && is_operand(unit, graph, right)
+}
+
 /// Whether an instruction names what its graph and its unit have.
 fn is_instruction(unit: &Unit, graph: &Graph, instruction: &Instr) -> bool
     ensures { IsTrue result ↔ IsInstruction (unit_view unit.now) (graph_view graph.now) (instruction_view instruction.now) }
@@ -343,20 +350,12 @@ fn is_instruction(unit: &Unit, graph: &Graph, instruction: &Instr) -> bool
             left,
             right,
             ..
-        } => {
-            is_target(graph, *target)
-                && is_operand(unit, graph, *left)
-                && is_operand(unit, graph, *right)
-        }
+        } => is_operation(unit, graph, *target, *left, *right),
         Instr::Same {
             target,
             left,
             right,
-        } => {
-            is_target(graph, *target)
-                && is_operand(unit, graph, *left)
-                && is_operand(unit, graph, *right)
-        }
+        } => is_operation(unit, graph, *target, *left, *right),
         Instr::Address { target, object } => is_target(graph, *target) && is_object(graph, *object),
         Instr::Load { target, from, .. } => is_target(graph, *target)
             && is_location(unit, graph, *from),
@@ -391,7 +390,7 @@ fn are_instructions(unit: &Unit, graph: &Graph, instructions: &[Instr]) -> bool
 }
 
 fn are_operands_of_end(unit: &Unit, graph: &Graph, end: End) -> bool
-    ensures { IsTrue result ↔ AreOperandsOfEnd (unit_view unit.now) (graph_view graph.now) (end_view end) }
+    ensures { IsTrue result ↔ AreOperandsOfEnd (unit_view unit.now).statics (graph_view graph.now) (end_view end) }
 {
     match end {
         End::Jump(_) => true,
@@ -562,7 +561,7 @@ fn are_graphs(unit: &Unit, graphs: &[Graph]) -> bool
 }
 
 fn are_relocations(unit: &Unit, relocations: &[Relocation]) -> bool
-    ensures { IsTrue result ↔ AreRelocations (unit_view unit.now) relocations.now }
+    ensures { IsTrue result ↔ AreRelocations (unit_view unit.now).statics relocations.now }
 {
     let mut left = relocations;
     while let [first, rest @ ..] = left {
@@ -575,7 +574,7 @@ fn are_relocations(unit: &Unit, relocations: &[Relocation]) -> bool
 }
 
 fn have_relocations(unit: &Unit, objects: &[StaticObject]) -> bool
-    ensures { IsTrue result ↔ AllByRecursion (λ o. AreRelocations (unit_view unit.now) o.relocations) (map static_view objects.now) }
+    ensures { IsTrue result ↔ AllByRecursion (λ o. AreRelocations (unit_view unit.now).statics o.relocations) (map static_view objects.now) }
 {
     let mut left = objects;
     while let [first, rest @ ..] = left {
