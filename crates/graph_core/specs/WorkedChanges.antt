@@ -1,4 +1,4 @@
--- Graphs of small functions before and after a pass, which bear out a change of each kind, and such as bear out none; a removal is that of the small program.
+-- Graphs of small functions before and after a pass, which bear out a change of each kind, and such as bear out none.
 use Rattle.std.specs.Prelude.{ℕ, ◌==◌, if◌then◌else◌, Some, None, List, [], ◌∷◌}
 use Rattle.debug_records.specs.declared.change.PassName.{PassName}
 use Rattle.debug_records.specs.declared.change.Kind.TheVariants.{Moved}
@@ -9,7 +9,7 @@ use Rattle.graph_core.specs.declared.block.Comparison.TheVariants.{Less}
 use Rattle.graph_core.specs.declared.instruction.Callee.TheVariants.{Putchar}
 use Rattle.graph_core.specs.Graphs.{Name, Constant, Of, Is, Instruction, Marker, Note, Move, Operate, Call, Jump, Branch, Return, Graph, Logged}
 use Rattle.graph_core.specs.Worked.{block, entry_block, main_of}
-use Rattle.graph_core.specs.Earned.{IsMoved, IsReplaced, IsReused}
+use Rattle.graph_core.specs.Earned.{IsRemoved, IsMoved, IsReplaced, IsReused}
 
 -- The scalars x, y and z are the names 0, 1 and 2; the names from 3 on, so many in all, are temporaries that code motion made.
 abbrev pub of_three : (names : ℕ) → Graph → Graph
@@ -51,6 +51,25 @@ copies_in_three = Marker 3 ∷ Move 0 (Name 3) ∷ Note 0 (Is (Of (Name 0))) ∷
 abbrev pub adding_on_each_way : Graph
 adding_on_each_way = of_three 5 (choosing adds_at_condition copies_in_three)
 
+-- `x = y; putchar(x); x = y; return 0` in the places 2 to 5, where the first assignment was removed before, so that another value of x is put out.
+abbrev pub notes_y_in : (place : ℕ) → List Instruction
+notes_y_in place = Marker place ∷ Note 0 (Is (Of (Name 1))) ∷ []
+
+abbrev pub prints_x : List Instruction
+prints_x = Marker 3 ∷ Call None Putchar (Name 0 ∷ []) ∷ []
+
+abbrev pub printing : (in_four : List Instruction) → Graph
+printing in_four = record (main_of [] (Constant 0)) {
+  blocks = entry_block ∷ block (Some 1) (notes_y_in 2) (Jump 2) ∷ block (Some 2) prints_x (Jump 3) ∷ block (Some 3) in_four (Jump 4) ∷ block (Some 4) (Marker 5 ∷ []) (Return (Some (Constant 0))) ∷ [];
+}
+
+abbrev pub assigning_again : Graph
+assigning_again = of_three 3 (printing (Marker 4 ∷ Move 0 (Name 1) ∷ Note 0 (Is (Of (Name 0))) ∷ []))
+
+-- The second assignment is removed too. Its note is the first one's, behind which x is read; behind its own nothing reads x.
+abbrev pub noting_again : Graph
+noting_again = of_three 3 (printing (notes_y_in 4))
+
 -- `x = y; return x`
 abbrev pub copies_y : List Instruction
 copies_y = Marker 2 ∷ Move 0 (Name 1) ∷ Note 0 (Is (Of (Name 0))) ∷ []
@@ -78,8 +97,9 @@ motion pass = record { pass = pass; kind = Moved; place = 2; variable = 0 }
 abbrev pub apart_from_others : ℕ → Home
 apart_from_others x = if x == 1 then Register 10 else if x == 2 then Register 11 else Register 9
 
--- What was moved in place 2, replaced in place 3, and given to another name too, is borne out.
+-- What was removed in place 4, moved in place 2, replaced in place 3, and given to another name too, is borne out.
 pub record AreBorneOut : Type 0 where
+  pub removed : IsRemoved assigning_again noting_again 4 0
   pub moved : IsMoved adding adding_ahead 2 0
   pub replaced : IsReplaced copying passing_by 3 0
   pub reused : IsReused [] one_register copying 0 0

@@ -25,8 +25,8 @@ pub fn definitions_are_met()
     ensures { (pass : PassName) → AreWorked pass }
 {}
 
-/// The definitions of changes can be met: graphs of small functions bear out what was moved, replaced and reused. And they refuse what
-/// they should: a sum that was moved to where a way does not come to it, and a register that is shared as the log says already.
+/// The definitions of changes can be met: graphs of small functions bear out what was removed, moved, replaced and reused. And they refuse
+/// what they should: a sum that was moved to where a way does not come to it, and a register that is shared as the log says already.
 pub fn changes_are_borne_out()
     ensures met { AreBorneOut }
     ensures refused { AreNotBorneOut }
