@@ -8,4 +8,6 @@ pub mod Lists
 pub mod Once
 pub mod Valid
 pub mod WorkedMotion
+pub mod WorkedRemoval
 pub mod WorkedCopy
+pub mod WorkedRefusals

@@ -5,10 +5,10 @@ use Rattle.std.proofs.Math.Path.{fun_ext}
 use Rattle.graph_core.specs.declared.instruction.Callee.{Callee}
 use Rattle.graph_core.specs.declared.instruction.Callee.TheVariants as callee
 use Rattle.graph_core.specs.declared.value.Value.{Value}
-use Rattle.graph_core.specs.Graphs.{Operand, Name, Constant, StaticAddress, Recipe, Of, Truncated, Operated, NoteValue, Is, Gone, Location, Automatic, Static, At, Instruction, Marker, Note, Move, Operate, Truncate, Same, Address, Load, Store, Zero, CopyWords, Call, End, Jump, Branch, Return, Block, Graph, Logged, UnitForm}
+use Rattle.graph_core.specs.Graphs.{NoteValue, Is, Gone, Instruction, Marker, Note, Move, Operate, Truncate, Same, Address, Load, Store, Zero, CopyWords, Call, End, Jump, Branch, Return, Block, Graph, Logged, UnitForm}
 use Rattle.graph_core.specs.Paths as paths
 use Rattle.graph_core.specs.Paths.{Among}
-use Rattle.graph_core.specs.Validity.{IsOperand, AreOperandsOf, IsNoteValue, IsLocation, IsCall, IsInstruction, AreOperandsOfEnd, IsBlock, IsGraph, IsValid}
+use Rattle.graph_core.specs.Validity.{IsNoteValue, IsInstruction, IsBlock, IsGraph, IsValid}
 use Rattle.graph_core.specs.WellMarked.{WasRemoved, IsRightNote, IsWellMarked, AreWellMarked}
 use Rattle.graph_core.specs.Memory.{first_memory}
 use Rattle.graph_core.specs.Values.{is_odd}
@@ -31,56 +31,30 @@ module _ (u : UnitForm) (added : List Logged) where
   abbrev longer : UnitForm
   longer = with_changes u added
 
-  called : (f : Callee) (n : ℕ) → IsCall u f n → IsCall longer f n
-  called (callee.Function f) n h = h
-  called callee.Getchar n h = h
-  called callee.Putchar n h = h
-  called callee.Exit n h = h
-
   module _ (g : Graph) where
-    operand : (a : Operand) → IsOperand u g a → IsOperand longer g a
-    operand (Name x) h = h
-    operand (Constant w) h = h
-    operand (StaticAddress object offset) h = h
-
-    recipe : (r : Recipe) → AreOperandsOf u g r → AreOperandsOf longer g r
-    recipe (Of a) h = operand a h
-    recipe (Truncated t r) h = recipe r h
-    recipe (Operated o r s) h = (recipe r h.0, recipe s h.1)
-
     note_value : (v : NoteValue) → IsNoteValue u g v → IsNoteValue longer g v
-    note_value (Is r) h = (recipe r h.0, h.1)
+    note_value (Is r) h = h
     note_value (Gone change) h = let most : change ≤ length u.log = h.1 in let more : length (u.log ++ added) ≡ length u.log + length added = length-append u.log added in (h.0, omega arith)
-
-    location : (l : Location) → IsLocation u g l → IsLocation longer g l
-    location (Automatic object) h = h
-    location (Static object) h = h
-    location (At a) h = operand a h
 
     is_instruction : (i : Instruction) → IsInstruction u g i → IsInstruction longer g i
     is_instruction (Marker p) h = h
     is_instruction (Note x v) h = (h.0, note_value v h.1)
-    is_instruction (Move x a) h = (h.0, operand a h.1)
-    is_instruction (Operate x o a b) h = (h.0, operand a h.1, operand b h.2)
-    is_instruction (Truncate x t a) h = (h.0, operand a h.1)
-    is_instruction (Same x a b) h = (h.0, operand a h.1, operand b h.2)
+    is_instruction (Move x a) h = h
+    is_instruction (Operate x o a b) h = h
+    is_instruction (Truncate x t a) h = h
+    is_instruction (Same x a b) h = h
     is_instruction (Address x object) h = h
-    is_instruction (Load x e l) h = (h.0, location l h.1)
-    is_instruction (Store e l a) h = (location l h.0, operand a h.1)
+    is_instruction (Load x e l) h = h
+    is_instruction (Store e l a) h = h
     is_instruction (Zero object words) h = h
     is_instruction (CopyWords object bytes words) h = h
-    is_instruction (Call x f all) h = (h.0, all_map (IsOperand u g) (IsOperand longer g) operand all h.1, called f (length all) h.2)
-
-    end_operands : (e : End) → AreOperandsOfEnd u g e → AreOperandsOfEnd longer g e
-    end_operands (Jump l) h = h
-    end_operands (Branch k a b l m) h = (operand a h.0, operand b h.1)
-    end_operands (Return None) h = h
-    end_operands (Return (Some a)) h = operand a h
+    is_instruction (Call x f all) h = h
 
     is_block : (b : Block) → IsBlock u g b → IsBlock longer g b
     is_block b h = record {
+      place = h.place;
       instructions = all_map (IsInstruction u g) (IsInstruction longer g) is_instruction b.instructions h.instructions;
-      operands = end_operands b.end h.operands;
+      operands = h.operands;
       edges = h.edges;
     }
 
@@ -93,7 +67,7 @@ module _ (u : UnitForm) (added : List Logged) where
       parameters = h.parameters;
       bindings = h.bindings;
       objects = h.objects;
-      some_block = h.some_block;
+      begins = h.begins;
       blocks = all_map (IsBlock u g) (IsBlock longer g) is_block g.blocks h.blocks;
     }
 

@@ -16,7 +16,7 @@ counts_kept u v = record {
   statics = v.statics;
 }
 
-pub valid_if : (u : UnitForm) → KeepsCounts u → HasParameters (slice_get u.graphs u.main) 0 → AllByRecursion (λ (o : StaticObject). AreRelocations u o.relocations) u.statics
+pub valid_if : (u : UnitForm) → KeepsCounts u → HasParameters (slice_get u.graphs u.main) 0 → AllByRecursion (λ (o : StaticObject). AreRelocations u.statics o.relocations) u.statics
     → AllByRecursion (IsGraph u) u.graphs → AreMarkedOnce u.graphs u.graphs → IsValid u
 valid_if u k main relocations graphs once = record {
   functions = k.functions;

@@ -7,7 +7,7 @@ use Rattle.graph_core.specs.Uses.{targets_of}
 use Rattle.graph_core.specs.Paths.{Passed, History, Among, Way, stays, passes, goes, Path, path, place_of, writes, is_call, written, owed}
 use Rattle.graph_core.specs.Validity.{IsValid}
 use Rattle.graph_core.specs.WellMarked as marked
-use Rattle.graph_core.specs.WellMarked.{StandsIn, here, InPlace, ComesToMarker, at_marker, instruction, IsRightNote, IsWellMarked, AreWellMarked}
+use Rattle.graph_core.specs.WellMarked.{StandsIn, here, InPlace, ComesToMarker, at_marker, WrittenIn, instruction, bound, IsRightNote, IsWellMarked, AreWellMarked}
 use Rattle.graph_core.specs.Worked.{assigns_two, assigning, built}
 use Rattle.graph_core.proofs.Inversions.{some_same, none_is_some, false_is_true, among_one, among_none, only_scalar, no_local, apart, each_block, to_second, to_third}
 
@@ -129,6 +129,10 @@ writes_where move_in x variable z w = subst (λ k. assigns built.assignments 2 k
 writes_where note_in x variable z w = absurd (false_is_true w)
 writes_where third x variable z w = absurd (false_is_true w)
 
+assigned_where : {p x : ℕ} → WrittenIn assigning p x → (variable : ℕ) → variable ≡ 0 → assigns built.assignments p variable ≡ true
+assigned_where {p} {x} (instruction i at w) variable z = writes_where (in_place at) x variable z w
+assigned_where (bound begins is) variable z = absurd (false_is_true is)
+
 notes_where : {p x : ℕ} {v : NoteValue} → IsIn p (Note x v) → (variable : ℕ) → variable ≡ 0 → assigns built.assignments p variable ≡ true
 notes_where note_in variable z = subst (λ k. assigns built.assignments 2 k ≡ true) (sym z) refl
 
@@ -155,7 +159,7 @@ well_marked = record {
   copies = λ p object bytes words at. absurd (copy_in (in_place at));
   zeroes_first = λ h n object words rest e at. absurd (zero_at (point at));
   copies_first = λ h n object bytes words rest e at. absurd (copy_at (point at));
-  written_where = λ p x variable i is at w. writes_where (in_place at) x variable (only_scalar x variable is).1 w;
+  written_where = λ p x variable is w. assigned_where w variable (only_scalar x variable is).1;
   noted_where = λ p x variable v is at. notes_where (in_place at) variable (only_scalar x variable is).1;
   noted = λ h n p x variable rest e is at. notes_all (point at) x variable (only_scalar x variable is).0;
   right = λ p x variable v is at. right_note (in_place at) variable;
@@ -185,12 +189,12 @@ valid = record {
       parameters = lit≤ tt;
       bindings = tt;
       objects = lit≤ tt;
-      some_block = lit≤ tt;
+      begins = tt;
       blocks = (
-        record { instructions = (tt, tt); operands = tt; edges = (tt, tt) },
+        record { place = tt; instructions = (tt, tt); operands = tt; edges = (tt, tt) },
         (
-          record { instructions = (tt, ((lit< tt, tt), ((lit< tt, (lit< tt, lit≤ tt)), tt))); operands = tt; edges = (tt, tt) },
-          (record { instructions = (tt, tt); operands = lit< tt; edges = tt }, tt),
+          record { place = tt; instructions = (tt, ((lit< tt, tt), ((lit< tt, (lit< tt, lit≤ tt)), tt))); operands = tt; edges = (tt, tt) },
+          (record { place = tt; instructions = (tt, tt); operands = lit< tt; edges = tt }, tt),
         ),
       );
     },

@@ -8,6 +8,7 @@ use Rattle.graph_core.specs.Earned.{IsCopiedAt, IsReplaced, IsReused}
 use Rattle.graph_core.specs.WorkedChanges.{copies_y, copying, passing_by, one_register, AreBorneOut}
 use Rattle.graph_core.proofs.Inversions.{some_same, among_one, among_none, apart, to_second, to_third}
 use Rattle.graph_core.proofs.WorkedMotion.{is_moved}
+use Rattle.graph_core.proofs.WorkedRemoval.{is_removed}
 
 abbrev passed : ℕ → ℕ → Instruction → Value → Passed
 passed n left i v = record { block = n; left = left; instruction = i; wrote = v }
@@ -81,7 +82,7 @@ is_replaced = record {
 }
 
 is_reused : IsReused [] one_register copying 0 0
-is_reused = record { register = 9; y = 1; other = other_name; kept = refl; shared = refl; foreign = λ of. among_none of.logged }
+is_reused = record { register = 9; y = 1; named = lit< tt; other = other_name; kept = refl; shared = refl; foreign = λ of. among_none of.logged }
 
 pub are_borne_out : AreBorneOut
-are_borne_out = record { moved = is_moved; replaced = is_replaced; reused = is_reused }
+are_borne_out = record { removed = is_removed; moved = is_moved; replaced = is_replaced; reused = is_reused }

@@ -1,13 +1,14 @@
 -- The graph whose sum was moved ahead bears that out.
-use Rattle.std.proofs.Common.{◌≡◌, ℕ, zero, suc, ◌⊎◌, inl, inr, true, List, [], ◌∷◌, ◌++◌, length, Some, refl, sym, subst, slice_get}
+use Rattle.std.proofs.Common.{◌≡◌, ℕ, zero, suc, ◌⊎◌, inl, inr, true, List, [], ◌∷◌, ◌++◌, length, Some, refl, sym, subst, slice_get, lit≤}
 use Rattle.std.specs.Prelude.{⊤}
 use Rattle.recovery.specs.declared.operation.Operation.TheVariants.{Add}
 use Rattle.graph_core.specs.declared.value.Value.{Value}
-use Rattle.graph_core.specs.Graphs.{Name, Of, Is, Instruction, Note, Move, Operate, End, Jump, Block}
+use Rattle.graph_core.specs.Graphs.{Name, Of, Is, Instruction, Marker, Note, Move, Operate, End, Jump, Block}
 use Rattle.graph_core.specs.Paths.{History, Way, stays, passes, goes, writes}
 use Rattle.graph_core.specs.WellMarked as marked
-use Rattle.graph_core.specs.WellMarked.{here, InPlace}
-use Rattle.graph_core.specs.Earned.{Computation, Operating, computed_by, Behind, SomeUse, latest, earlier, StopsIt, IsDownSafe, IsMoved}
+use Rattle.graph_core.specs.WellMarked.{here}
+use Rattle.graph_core.specs.Earned as earned
+use Rattle.graph_core.specs.Earned.{Computation, Operating, computed_by, Behind, WasComputed, latest, earlier, StopsIt, none, puts, in_block, WasDownSafe, IsMoved}
 use Rattle.graph_core.specs.WorkedChanges.{adding, adding_ahead}
 use Rattle.graph_core.proofs.Inversions.{some_same, none_is_some, false_is_true}
 
@@ -16,6 +17,10 @@ sum = Operating Add (Name 1) (Name 2)
 
 abbrev behind_sum : List Instruction
 behind_sum = Move 0 (Name 3) ∷ Note 0 (Is (Of (Name 0))) ∷ []
+
+-- what is left in the graph before where the sum is computed in the one after
+abbrev sum_before : List Instruction
+sum_before = Operate 0 Add (Name 1) (Name 2) ∷ Note 0 (Is (Of (Name 0))) ∷ []
 
 -- The one instruction that writes the temporary, and where it stands.
 data IsSum : Instruction → ℕ → List Instruction → End → Type 0 where
@@ -51,27 +56,34 @@ computes only = refl
 
 -- nothing was passed
 data AtStart : History → List Instruction → Type 0 where
-  start : AtStart [] behind_sum
+  start : AtStart [] sum_before
 
-used_past : {h : History} {n : ℕ} {i : Instruction} {left : List Instruction} → AtStart h (i ∷ left) ⊎ SomeUse sum 3 h → (v : Value) → AtStart (record { block = n; left = length left; instruction = i; wrote = v } ∷ h) left ⊎ SomeUse sum 3 (record { block = n; left = length left; instruction = i; wrote = v } ∷ h)
-used_past (inl start) v = inr (latest (inl (0, refl)))
-used_past (inr used) v = inr (earlier used)
+summed_past : {h : History} {n : ℕ} {i : Instruction} {left : List Instruction} → AtStart h (i ∷ left) ⊎ WasComputed sum h → (v : Value) → AtStart (record { block = n; left = length left; instruction = i; wrote = v } ∷ h) left ⊎ WasComputed sum (record { block = n; left = length left; instruction = i; wrote = v } ∷ h)
+summed_past (inl start) v = inr (latest refl)
+summed_past (inr done) v = inr (earlier done)
 
-used_along : {h : History} → AtStart h [] ⊎ SomeUse sum 3 h → (more : List Instruction) → AtStart h more ⊎ SomeUse sum 3 h
-used_along (inl s) more = elim s [ ]
-used_along (inr used) more = inr used
+summed_along : {h : History} → AtStart h [] ⊎ WasComputed sum h → (more : List Instruction) → AtStart h more ⊎ WasComputed sum h
+summed_along (inl s) more = elim s [ ]
+summed_along (inr done) more = inr done
 
-used : {h : History} {m : ℕ} {left : List Instruction} {f : End} → Way adding_ahead 1 behind_sum (Jump 2) h m left f → AtStart h left ⊎ SomeUse sum 3 h
-used stays = inl start
-used (passes way v) = used_past (used way) v
-used (goes way a b is) = used_along (used way) b.instructions
+summed : {h : History} {m : ℕ} {left : List Instruction} {f : End} → Way adding 1 sum_before (Jump 2) h m left f → AtStart h left ⊎ WasComputed sum h
+summed stays = inl start
+summed (passes way v) = summed_past (summed way) v
+summed (goes way a b is) = summed_along (summed way) b.instructions
 
-stops_used : {h : History} {left : List Instruction} → AtStart h left ⊎ SomeUse sum 3 h → (f : End) → StopsIt sum 3 left f → SomeUse sum 3 h
-stops_used (inl start) f stops = absurd (stops.0 (inl (0, refl)))
-stops_used (inr used) f stops = used
+stops_summed : {h : History} {left : List Instruction} → AtStart h left ⊎ WasComputed sum h → (f : End) → StopsIt sum left f → WasComputed sum h
+stops_summed (inl start) f stops = absurd (stops.0 refl)
+stops_summed (inr done) f stops = done
 
-down_safe : {i : Instruction} {n : ℕ} {rest : List Instruction} {e : End} → IsSum i n rest e → IsDownSafe adding_ahead sum 3 n rest e
-down_safe only = λ h m left f way stops. stops_used (used way) f stops
+-- The sum stands where the graph before is about to compute it.
+down_safe : {i : Instruction} {n : ℕ} {rest : List Instruction} {e : End} → IsSum i n rest e → WasDownSafe adding adding_ahead sum n (i ∷ rest)
+down_safe only = record {
+  block = 1;
+  left = sum_before;
+  end = Jump 2;
+  lies = in_block {before = Marker 2 ∷ []} {after = Marker 2 ∷ []} refl refl refl refl (earned.stays refl refl none) (puts refl (lit≤ tt) (earned.stays refl refl (earned.stays refl refl none)));
+  safe = λ h m left f way stops. stops_summed (summed way) f stops;
+}
 
 pub is_moved : IsMoved adding adding_ahead 2 0
 is_moved = record {

@@ -9,7 +9,7 @@ use Rattle.graph_core.specs.Paths.{History, Among, front, Way, stays, passes, go
 use Rattle.graph_core.specs.Runs.{unit_run}
 use Rattle.graph_core.specs.Keeps as keeps
 use Rattle.graph_core.specs.Keeps.{none, more, stop, exited, Begins, ends, goes_on, SameProgram, Keeps}
-use Rattle.graph_core.specs.Earned.{Behind, ReadsNext, IsRemoved, IsEarned}
+use Rattle.graph_core.specs.Earned.{StandsWith, ReadsNext, IsRemoved, IsEarned}
 use Rattle.graph_core.specs.Worked.{assigning, notes_two, noting, built, removal, reduced, AreWorked}
 use Rattle.graph_core.proofs.Inversions.{among_none, each_block}
 use Rattle.graph_core.proofs.WorkedBuilt.{built_is_marked}
@@ -70,8 +70,8 @@ quiet_rest : (before : List Instruction) (i : Instruction) (rest : List Instruct
 quiet_rest [] i rest all = all.1
 quiet_rest (j ∷ before) i rest all = quiet_rest before i rest all.1
 
-quiet_behind : {i : Instruction} {n : ℕ} {rest : List Instruction} {e : End} → Behind noting i n rest e → IsQuiet rest e
-quiet_behind {i} {n} {rest} {e} at =
+quiet_behind : {p : ℕ} {i : Instruction} {n : ℕ} {rest : List Instruction} {e : End} → StandsWith noting p n (i ∷ rest) e → IsQuiet rest e
+quiet_behind {p} {i} {n} {rest} {e} at =
     let all = quiet_block n at.block at.is in record {
       instructions = quiet_rest at.before i rest (subst NeverReads at.instructions all.instructions);
       end = subst (λ f. Among 0 (reads_of_end f) → ⊥) (sym at.ends) all.end;
@@ -85,11 +85,11 @@ is_removed : IsRemoved assigning noting 2 0
 is_removed = record {
   once = refl;
   none = refl;
-  unread = λ v n rest e at behind. λ h m left f way reads. absurd (reads_nothing left f (quiet_way (quiet_behind behind) way) reads);
+  unread = λ v n rest e at. λ h m left f way reads. absurd (reads_nothing left f (quiet_way (quiet_behind at) way) reads);
 }
 
-is_earned : (pass : PassName) (home : ℕ → Home) → IsEarned (removal pass) (removal pass ∷ []) home built (reduced pass)
-is_earned pass home = record {
+is_earned : (pass : PassName) (homes : (function : ℕ) → ℕ → Home) → IsEarned (removal pass) (removal pass ∷ []) homes built (reduced pass)
+is_earned pass homes = record {
   logged = front;
   function = 0;
   before = assigning;

@@ -129,12 +129,12 @@ other_note : Is (Of (Constant 2)) ≢ Is (Of (Name 0))
 other_note e = cc
 
 module _ (pass : PassName) where
-  not_written : WrittenIn noting 2 0 → ⊥
-  not_written (instruction i at w) = never_writes (in_place at) 0 w
-  not_written (bound begins is) = false_is_true is
+  not_written : (p x : ℕ) → WrittenIn noting p x → ⊥
+  not_written p x (instruction i at w) = never_writes (in_place at) x w
+  not_written p x (bound begins is) = false_is_true is
 
   right_note : {p x : ℕ} {v : NoteValue} → IsIn p (Note x v) → (variable : ℕ) → variable ≡ 0 → IsRightNote (reduced pass) noting p x variable v
-  right_note note_in variable z = inr (other_note, not_written, record { change = removal pass; logged = front; removed = refl; at = refl; of = sym z })
+  right_note note_in variable z = inr (other_note, not_written 2 0, record { change = removal pass; logged = front; removed = refl; at = refl; of = sym z })
 
 own_note : {h : History} {n x : ℕ} {v : NoteValue} {rest : List Instruction} {e : End} → IsPoint h n (Note x v ∷ rest) e → v ≡ Is (Of (Name x)) → ⊥
 own_note (notes u v) is = other_note is
@@ -152,7 +152,7 @@ module _ (pass : PassName) where
     copies = λ p object bytes words at. absurd (copy_in (in_place at));
     zeroes_first = λ h n object words rest e at. absurd (zero_at (point at));
     copies_first = λ h n object bytes words rest e at. absurd (copy_at (point at));
-    written_where = λ p x variable i is at w. absurd (never_writes (in_place at) x w);
+    written_where = λ p x variable is w. absurd (not_written pass p x w);
     noted_where = λ p x variable v is at. notes_where (in_place at) variable (only_scalar x variable is).1;
     noted = λ h n p x variable rest e is at. notes_all (point at) x variable (only_scalar x variable is).0;
     right = λ p x variable v is at. right_note pass (in_place at) variable (only_scalar x variable is).1;
@@ -182,12 +182,12 @@ module _ (pass : PassName) where
         parameters = lit≤ tt;
         bindings = tt;
         objects = lit≤ tt;
-        some_block = lit≤ tt;
+        begins = tt;
         blocks = (
-          record { instructions = (tt, tt); operands = tt; edges = (tt, tt) },
+          record { place = tt; instructions = (tt, tt); operands = tt; edges = (tt, tt) },
           (
-            record { instructions = (tt, ((lit< tt, (tt, lit≤ tt)), tt)); operands = tt; edges = (tt, tt) },
-            (record { instructions = (tt, tt); operands = tt; edges = tt }, tt),
+            record { place = tt; instructions = (tt, ((lit< tt, (tt, lit≤ tt)), tt)); operands = tt; edges = (tt, tt) },
+            (record { place = tt; instructions = (tt, tt); operands = tt; edges = tt }, tt),
           ),
         );
       },

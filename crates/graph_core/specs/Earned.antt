@@ -1,5 +1,5 @@
 -- When a change that a pass logged is earned: the units before and after the pass bear it out.
-use Rattle.std.specs.Prelude.{◌≡◌, ◌≢◌, ℕ, ◌+◌, ◌≤◌, ◌⊎◌, ◌==◌, ◌&&◌, ◌||◌, Bool, true, false, if◌then◌else◌, Option, Some, None, List, [], ◌∷◌, ◌++◌, length, slice_get, ⊤}
+use Rattle.std.specs.Prelude.{◌≡◌, ◌≢◌, ℕ, ◌+◌, ◌<◌, ◌≤◌, ◌==◌, ◌&&◌, ◌||◌, Bool, true, false, if◌then◌else◌, Option, Some, None, List, [], ◌∷◌, ◌++◌, length, slice_get, ⊤}
 use Rattle.std.specs.Option.{option_map_or}
 use Rattle.debug_records.specs.declared.change.Kind as declared-kind
 use Rattle.debug_records.specs.declared.change.Kind.TheVariants.{Removed, Moved, Reused, Replaced}
@@ -7,8 +7,8 @@ use Rattle.recovery.specs.declared.operation.Operation.{Operation}
 use Rattle.recovery.specs.declared.operation.Truncation.{Truncation}
 use Rattle.graph_core.specs.declared.home.Home.{Home}
 use Rattle.graph_core.specs.declared.home.Home.TheVariants.{Register}
-use Rattle.graph_core.specs.Graphs.{Operand, Name, NoteValue, Instruction, Note, Move, Operate, Truncate, Same, End, Return, Block, Graph, Logged, UnitForm}
-use Rattle.graph_core.specs.Uses.{names_of, reads_of, reads_of_end, target_of}
+use Rattle.graph_core.specs.Graphs.{Operand, Name, NoteValue, Instruction, Note, Move, Operate, Truncate, Same, End, Jump, Return, Block, Graph, Logged, UnitForm}
+use Rattle.graph_core.specs.Uses.{names_of, reads_of, reads_of_end, target_of, marker_of}
 use Rattle.graph_core.specs.Paths.{Passed, History, Among, Way, Path, writes}
 use Rattle.graph_core.specs.Validity.{place_behind, total}
 use Rattle.graph_core.specs.WellMarked.{InPlace, IsVariable}
@@ -52,6 +52,15 @@ pub record Behind (g : Graph) (i : Instruction) (n : ℕ) (rest : List Instructi
   pub instructions : block.instructions ≡ before ++ i ∷ rest
   pub ends : end ≡ block.end
 
+-- A point of a graph, where these instructions are left of a block, and the place in force there.
+pub record StandsWith (g : Graph) (p n : ℕ) (rest : List Instruction) (end : End) : Type 0 where
+  pub block : Block
+  pub before : List Instruction
+  pub is : slice_get g.blocks n ≡ Some block
+  pub instructions : block.instructions ≡ before ++ rest
+  pub ends : end ≡ block.end
+  pub place : place_behind before block.place ≡ Some p
+
 -- something passed is so
 abbrev pub some_passed : (Instruction → Bool) → History → Bool
 some_passed is [] = false
@@ -72,29 +81,50 @@ IsUnread g x n rest e =
 pub record IsRemoved (g h : Graph) (p x : ℕ) : Type 0 where
   pub once : writes_in g p x ≡ 1
   pub none : writes_in h p x ≡ 0
-  pub unread : (v : NoteValue) (n : ℕ) (rest : List Instruction) (e : End) → InPlace h p (Note x v) → Behind h (Note x v) n rest e → IsUnread h x n rest e
+  pub unread : (v : NoteValue) (n : ℕ) (rest : List Instruction) (e : End) → StandsWith h p n (Note x v ∷ rest) e → IsUnread h x n rest e
 
--- The computation is done here in the unit before: it still is, or what it gave is taken from a temporary.
-abbrev pub IsUse : Computation → (t : ℕ) → Instruction → Type 0
-IsUse e t i = ((y : ℕ) × (i ≡ Move y (Name t))) ⊎ ((computed_by i ≡ Some e) × (writes t i ≡ false))
+-- something that was passed did the computation
+pub data WasComputed (e : Computation) : History → Type 0 where
+  latest : {i : Passed} {h : History} → computed_by i.instruction ≡ Some e → WasComputed e (i ∷ h)
+  earlier : {i : Passed} {h : History} → WasComputed e h → WasComputed e (i ∷ h)
 
-pub data SomeUse (e : Computation) (t : ℕ) : History → Type 0 where
-  latest : {i : Passed} {h : History} → IsUse e t i.instruction → SomeUse e t (i ∷ h)
-  earlier : {i : Passed} {h : History} → SomeUse e t h → SomeUse e t (i ∷ h)
+-- what comes next writes an operand of the computation without doing it, or leaves the function
+abbrev pub StopsIt : Computation → List Instruction → End → Type 0
+StopsIt e [] (Return a) = ⊤
+StopsIt e [] f = ⊥
+StopsIt e (i ∷ rest) f = (computed_by i ≢ Some e) × (y : ℕ) × Among y (operands_of e) × (writes y i ≡ true)
 
--- what comes next writes an operand of the computation without using it, or leaves the function
-abbrev pub StopsIt : Computation → (t : ℕ) → List Instruction → End → Type 0
-StopsIt e t [] (Return a) = ⊤
-StopsIt e t [] f = ⊥
-StopsIt e t (i ∷ rest) f = (IsUse e t i → ⊥) × (y : ℕ) × Among y (operands_of e) × (writes y i ≡ true)
-
--- The computation is down-safe at a point (Knoop, Rüthing and Steffen 1992): no way from there meets a write of an operand or an end of the function before it uses the
+-- The computation is down-safe at a point (Knoop, Rüthing and Steffen 1992): no way from there meets a write of an operand or an end of the function before it does the
 -- computation.
-abbrev pub IsDownSafe : Graph → Computation → (t n : ℕ) → List Instruction → End → Type 0
-IsDownSafe g e t n rest end =
-    (h : History) (m : ℕ) (left : List Instruction) (f : End) → Way g n rest end h m left f → StopsIt e t left f → SomeUse e t h
+abbrev pub IsDownSafe : Graph → Computation → (n : ℕ) → List Instruction → End → Type 0
+IsDownSafe g e n rest end =
+    (h : History) (m : ℕ) (left : List Instruction) (f : End) → Way g n rest end h m left f → StopsIt e left f → WasComputed e h
 
--- The computation of a scalar's value in a place was moved: what was `x = e` is `x = t`, and each instruction that writes t computes e where it is down-safe.
+-- Instructions as a pass leaves them that moves computations: each stays, perhaps with another way to come to what it writes, and what it puts among them writes names that
+-- the graph before, with so many names, has not.
+pub data Widens (names : ℕ) : (before after : List Instruction) → Type 0 where
+  none : Widens names [] []
+  stays : {i j : Instruction} {before after : List Instruction} → target_of j ≡ target_of i → marker_of j ≡ marker_of i → Widens names before after → Widens names (i ∷ before) (j ∷ after)
+  puts : {i : Instruction} {t : ℕ} {before after : List Instruction} → target_of i ≡ Some t → names ≤ t → Widens names before after → Widens names before (i ∷ after)
+
+-- A point of the graph behind such a pass lies at a point of the graph before it. In a block that both have it is the one with the same instructions before it and behind it,
+-- but for those that were put in. A block of the new graph alone was put on an edge: its points lie where the block begins to which the edge leads.
+pub data LiesAt (g h : Graph) : (n : ℕ) (rest : List Instruction) (m : ℕ) (left : List Instruction) (end : End) → Type 0 where
+  in_block : {n : ℕ} {b c : Block} {before left after rest : List Instruction} → slice_get g.blocks n ≡ Some b → slice_get h.blocks n ≡ Some c
+      → b.instructions ≡ before ++ left → c.instructions ≡ after ++ rest → Widens g.names before after → Widens g.names left rest → LiesAt g h n rest n left b.end
+  on_edge : {n m : ℕ} {b c : Block} {rest : List Instruction} (after : List Instruction) → slice_get g.blocks n ≡ None → slice_get h.blocks n ≡ Some c → c.instructions ≡ after ++ rest
+      → Widens g.names [] c.instructions → c.end ≡ Jump m → slice_get g.blocks m ≡ Some b → LiesAt g h n rest m b.instructions b.end
+
+-- The computation was down-safe in the graph before where a point of the graph after lies.
+pub record WasDownSafe (g h : Graph) (e : Computation) (n : ℕ) (rest : List Instruction) : Type 0 where
+  pub block : ℕ
+  pub left : List Instruction
+  pub end : End
+  pub lies : LiesAt g h n rest block left end
+  pub safe : IsDownSafe g e block left end
+
+-- The computation of a scalar's value in a place was moved: what was `x = e` is `x = t`, and each instruction that writes t computes e and stands where e was down-safe in the
+-- unit before.
 pub record IsMoved (g h : Graph) (p x : ℕ) : Type 0 where
   pub e : Computation
   pub t : ℕ
@@ -104,7 +134,7 @@ pub record IsMoved (g h : Graph) (p x : ℕ) : Type 0 where
   pub computed : computed_by before ≡ Some e
   pub stands : InPlace h p (Move x (Name t))
   pub computes : (i : Instruction) (n : ℕ) (rest : List Instruction) (f : End) → Behind h i n rest f → writes t i ≡ true → computed_by i ≡ Some e
-  pub safe : (i : Instruction) (n : ℕ) (rest : List Instruction) (f : End) → Behind h i n rest f → writes t i ≡ true → IsDownSafe h e t n rest f
+  pub safe : (i : Instruction) (n : ℕ) (rest : List Instruction) (f : End) → Behind h i n rest f → writes t i ≡ true → WasDownSafe g h e n (i ∷ rest)
 
 -- of what was passed, the last that wrote one of two names
 abbrev pub last_write_of : (x y : ℕ) → History → Option Passed
@@ -123,15 +153,6 @@ pub record IsCopiedAt (block left x y : ℕ) (h : History) : Type 0 where
 abbrev pub reads_at : List Instruction → End → List ℕ
 reads_at [] e = reads_of_end e
 reads_at (i ∷ rest) e = reads_of i
-
--- the place in force where so many instructions are left
-pub record StandsWith (g : Graph) (p n : ℕ) (rest : List Instruction) (end : End) : Type 0 where
-  pub block : Block
-  pub before : List Instruction
-  pub is : slice_get g.blocks n ≡ Some block
-  pub instructions : block.instructions ≡ before ++ rest
-  pub ends : end ≡ block.end
-  pub place : place_behind before block.place ≡ Some p
 
 -- A read of a scalar in a place was replaced by a read of another one: at one point of both units the same operand was the one and is the other, and one copy reaches it
 -- on every path.
@@ -155,17 +176,17 @@ pub record IsReplaced (g h : Graph) (p x : ℕ) : Type 0 where
   pub copy_left : ℕ
   pub reaches : (hist : History) → Path h hist n after later → IsCopiedAt copy_block copy_left x y hist
 
--- the operand of the first copy to a scalar in a place
-abbrev pub first_among : (p x : ℕ) → (in_force : Option ℕ) → List Instruction → Option Operand
+-- the name of which the first copy in a place to a scalar is; what else is moved to the scalar, a constant or an address, is no copy
+abbrev pub first_among : (p x : ℕ) → (in_force : Option ℕ) → List Instruction → Option ℕ
 first_among p x place [] = None
-first_among p x place (Move y a ∷ more) = if is_place p place && y == x then Some a else first_among p x place more
+first_among p x place (Move y (Name m) ∷ more) = if is_place p place && y == x then Some m else first_among p x place more
 first_among p x place (i ∷ more) = first_among p x (place_behind (i ∷ []) place) more
 
 abbrev pub or_else : {A : Type 0} → Option A → Option A → Option A
 or_else None other = other
 or_else (Some a) other = Some a
 
-abbrev pub first_copy : (p x : ℕ) → List Block → Option Operand
+abbrev pub first_copy : (p x : ℕ) → List Block → Option ℕ
 first_copy p x [] = None
 first_copy p x (b ∷ more) = or_else (first_among p x b.place b.instructions) (first_copy p x more)
 
@@ -175,13 +196,14 @@ pub record IsTemporaryOf (log : List Logged) (g : Graph) (x variable t : ℕ) : 
   pub logged : Among change log
   pub moved : change.kind ≡ Moved
   pub of : change.variable ≡ variable
-  pub copied : first_copy change.place x g.blocks ≡ Some (Name t)
+  pub copied : first_copy change.place x g.blocks ≡ Some t
   pub temporary : length g.scalars ≤ t
 
 -- The register of a scalar was given to another name too, which is no temporary of the scalar's moved computations.
 pub record IsReused (log : List Logged) (home : ℕ → Home) (h : Graph) (x variable : ℕ) : Type 0 where
   pub register : ℕ
   pub y : ℕ
+  pub named : y < h.names
   pub other : y ≢ x
   pub kept : home x ≡ Register register
   pub shared : home y ≡ Register register
@@ -194,8 +216,8 @@ IsBorneOut Moved log home g h p x variable = IsMoved g h p x
 IsBorneOut Replaced log home g h p x variable = IsReplaced g h p x
 IsBorneOut Reused log home g h p x variable = IsReused log home h x variable
 
--- A change is earned: it is one of the log, and its function's graphs in the units before and after its pass bear it out.
-pub record IsEarned (change : Logged) (log : List Logged) (home : ℕ → Home) (u v : UnitForm) : Type 0 where
+-- A change is earned: it is one of the log, and its function's graphs in the units before and after its pass bear it out, with the homes of that function.
+pub record IsEarned (change : Logged) (log : List Logged) (homes : (function : ℕ) → ℕ → Home) (u v : UnitForm) : Type 0 where
   pub logged : Among change log
   pub function : ℕ
   pub before : Graph
@@ -204,4 +226,4 @@ pub record IsEarned (change : Logged) (log : List Logged) (home : ℕ → Home) 
   pub stands : slice_get v.graphs function ≡ Some after
   pub x : ℕ
   pub scalar : IsVariable after x change.variable
-  pub borne_out : IsBorneOut change.kind log home before after change.place x change.variable
+  pub borne_out : IsBorneOut change.kind log (homes function) before after change.place x change.variable

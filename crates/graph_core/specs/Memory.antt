@@ -124,10 +124,10 @@ address_at statics [] at = None
 address_at statics (r ∷ more) at =
     if r.at == at then option_map (λ o. pointer_at r.object (static_bytes o) r.offset) (slice_get statics r.object) else address_at statics more at
 
--- an element holds the address at the offset where it begins, or else what the bytes say
+-- an element holds the address at the offset where it begins, as it keeps any value, or else what the bytes say
 abbrev pub first_value : List StaticObject → StaticObject → (index : ℕ) → Value
 first_value statics o index =
-    option_map_or (λ v. v) (address_at statics o.relocations (index * size_of o.element)) (element_in o.bytes o.element index)
+    option_map_or (as_element o.element) (address_at statics o.relocations (index * size_of o.element)) (element_in o.bytes o.element index)
 
 abbrev pub first_values : List StaticObject → StaticObject → (index count : ℕ) → List Value
 first_values statics o index zero = []

@@ -82,6 +82,12 @@ is_computation (Zero object words) = false
 is_computation (CopyWords object bytes words) = false
 is_computation (Call x f all) = false
 
+-- whether an instruction makes its value of two operands
+abbrev pub is_of_two : Instruction → Bool
+is_of_two (Operate x o a b) = true
+is_of_two (Same x a b) = true
+is_of_two _ = false
+
 -- the blocks to which an end leads
 abbrev pub targets_of : End → List ℕ
 targets_of (Jump l) = l ∷ []

@@ -1,4 +1,5 @@
--- Valid units: their numbers name what they have, their counts stay within bounds, and the place that a block keeps is right along each edge into it.
+-- Valid units: their numbers name what they have, their counts stay within bounds, each instruction has a place, and the place that a block keeps is right along each edge into
+-- it.
 use Rattle.std.specs.Prelude.{◌≡◌, ◌≢◌, ℕ, max, ◌+◌, ◌*◌, ◌<◌, ◌≤◌, Option, Some, None, List, [], ◌∷◌, ◌++◌, length, slice_get, ⊤}
 use Rattle.std.specs.List.{AllByRecursion}
 use Rattle.graph_core.specs.declared.instruction.Callee.{Callee}
@@ -78,6 +79,11 @@ abbrev pub IsKept : Option ℕ → Option Block → Type 0
 IsKept place None = ⊥
 IsKept place (Some b) = KeepsPlace b.instructions place b.place
 
+-- Each instruction of a block has a place: the block begins with a marker, or it keeps a place.
+abbrev pub HasPlace : List Instruction → (kept : Option ℕ) → Type 0
+HasPlace (Marker p ∷ more) kept = ⊤
+HasPlace _ kept = kept ≢ None
+
 -- there is a function, and it has so many parameters
 abbrev pub HasParameters : Option Graph → (count : ℕ) → Type 0
 HasParameters None n = ⊥
@@ -110,20 +116,20 @@ module _ (g : Graph) where
   abbrev pub AreEdges : Option ℕ → List ℕ → Type 0
   AreEdges place all = AllByRecursion (λ l. IsKept place (slice_get g.blocks l)) all
 
-module _ (u : UnitForm) where
+-- A call has as many arguments as what it calls takes.
+abbrev pub IsCall : List Graph → Callee → (arguments : ℕ) → Type 0
+IsCall graphs (Function f) n = HasParameters (slice_get graphs f) n
+IsCall graphs Getchar n = n ≡ 0
+IsCall graphs Putchar n = n ≡ 1
+IsCall graphs Exit n = n ≡ 1
+
+module _ (statics : List StaticObject) where
   -- the number of a static object
   abbrev pub IsStatic : ℕ → Type 0
-  IsStatic n = n < length u.statics
+  IsStatic n = n < length statics
 
   abbrev pub AreRelocations : List Relocation → Type 0
   AreRelocations all = AllByRecursion (λ (r : Relocation). IsStatic r.object) all
-
-  -- A call has as many arguments as what it calls takes.
-  abbrev pub IsCall : Callee → (arguments : ℕ) → Type 0
-  IsCall (Function f) n = HasParameters (slice_get u.graphs f) n
-  IsCall Getchar n = n ≡ 0
-  IsCall Putchar n = n ≡ 1
-  IsCall Exit n = n ≡ 1
 
   module _ (g : Graph) where
     -- An operand names a name of its graph, or a static object of its unit.
@@ -137,29 +143,10 @@ module _ (u : UnitForm) where
     AreOperandsOf (Truncated t r) = AreOperandsOf r
     AreOperandsOf (Operated o r s) = AreOperandsOf r × AreOperandsOf s
 
-    -- A note's recipe is at most 4 deep; a change is one of the log.
-    abbrev pub IsNoteValue : NoteValue → Type 0
-    IsNoteValue (Is r) = AreOperandsOf r × (depth_of r ≤ 4)
-    IsNoteValue (Gone change) = (1 ≤ change) × (change ≤ length u.log)
-
     abbrev pub IsLocation : Location → Type 0
     IsLocation (Automatic object) = IsObject g object
     IsLocation (Static object) = IsStatic object
     IsLocation (At a) = IsOperand a
-
-    abbrev pub IsInstruction : Instruction → Type 0
-    IsInstruction (Marker p) = ⊤
-    IsInstruction (Note x v) = (x < length g.scalars) × IsNoteValue v
-    IsInstruction (Move x a) = IsTarget g x × IsOperand a
-    IsInstruction (Operate x o a b) = IsTarget g x × IsOperand a × IsOperand b
-    IsInstruction (Truncate x t a) = IsTarget g x × IsOperand a
-    IsInstruction (Same x a b) = IsTarget g x × IsOperand a × IsOperand b
-    IsInstruction (Address x object) = IsTarget g x × IsObject g object
-    IsInstruction (Load x e l) = IsTarget g x × IsLocation l
-    IsInstruction (Store e l a) = IsLocation l × IsOperand a
-    IsInstruction (Zero object words) = IsObject g object
-    IsInstruction (CopyWords object bytes words) = IsObject g object × (bytes < length u.array_bytes)
-    IsInstruction (Call x f all) = IsWanted g x × AllByRecursion IsOperand all × IsCall f (length all)
 
     abbrev pub AreOperandsOfEnd : End → Type 0
     AreOperandsOfEnd (Jump l) = ⊤
@@ -167,9 +154,31 @@ module _ (u : UnitForm) where
     AreOperandsOfEnd (Return None) = ⊤
     AreOperandsOfEnd (Return (Some a)) = IsOperand a
 
+module _ (u : UnitForm) where
+  module _ (g : Graph) where
+    -- A note's recipe is at most 4 deep; a change is one of the log.
+    abbrev pub IsNoteValue : NoteValue → Type 0
+    IsNoteValue (Is r) = AreOperandsOf u.statics g r × (depth_of r ≤ 4)
+    IsNoteValue (Gone change) = (1 ≤ change) × (change ≤ length u.log)
+
+    abbrev pub IsInstruction : Instruction → Type 0
+    IsInstruction (Marker p) = ⊤
+    IsInstruction (Note x v) = (x < length g.scalars) × IsNoteValue v
+    IsInstruction (Move x a) = IsTarget g x × IsOperand u.statics g a
+    IsInstruction (Operate x o a b) = IsTarget g x × IsOperand u.statics g a × IsOperand u.statics g b
+    IsInstruction (Truncate x t a) = IsTarget g x × IsOperand u.statics g a
+    IsInstruction (Same x a b) = IsTarget g x × IsOperand u.statics g a × IsOperand u.statics g b
+    IsInstruction (Address x object) = IsTarget g x × IsObject g object
+    IsInstruction (Load x e l) = IsTarget g x × IsLocation u.statics g l
+    IsInstruction (Store e l a) = IsLocation u.statics g l × IsOperand u.statics g a
+    IsInstruction (Zero object words) = IsObject g object
+    IsInstruction (CopyWords object bytes words) = IsObject g object × (bytes < length u.array_bytes)
+    IsInstruction (Call x f all) = IsWanted g x × AllByRecursion (IsOperand u.statics g) all × IsCall u.graphs f (length all)
+
     pub record IsBlock (b : Block) : Type 0 where
+      pub place : HasPlace b.instructions b.place
       pub instructions : AllByRecursion IsInstruction b.instructions
-      pub operands : AreOperandsOfEnd b.end
+      pub operands : AreOperandsOfEnd u.statics g b.end
       pub edges : AreEdges g (place_at_end b) (targets_of b.end)
 
     pub record IsGraph : Type 0 where
@@ -181,7 +190,8 @@ module _ (u : UnitForm) where
       pub bindings : AllByRecursion (IsBinding g) g.parameters
       -- what its objects take
       pub objects : total taken_by_object g.objects ≤ 4096
-      pub some_block : 1 ≤ length g.blocks
+      -- A call begins in the first block, where the entry's place is in force.
+      pub begins : IsKept (Some g.entry) (slice_get g.blocks 0)
       pub blocks : AllByRecursion IsBlock g.blocks
 
   pub record IsValid : Type 0 where
@@ -194,7 +204,7 @@ module _ (u : UnitForm) where
     pub arguments : total arguments_of u.graphs ≤ 4000
     -- what the static objects and the bytes that initialise arrays take
     pub statics : total (λ o. taken_by (static_bytes o)) u.statics + total (λ (b : List ℕ). taken_by (length b)) u.array_bytes ≤ 1048576
-    pub relocations : AllByRecursion (λ (o : StaticObject). AreRelocations o.relocations) u.statics
+    pub relocations : AllByRecursion (λ (o : StaticObject). AreRelocations u.statics o.relocations) u.statics
     -- no place has two markers
     pub once : AreAllDifferent (markers_of u.graphs)
     pub graphs : AllByRecursion IsGraph u.graphs

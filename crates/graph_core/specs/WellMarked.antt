@@ -71,7 +71,7 @@ module _ (u : UnitForm) (g : Graph) where
     pub zeroes_first : (h : History) (n : ℕ) (object words : ℕ) (rest : List Instruction) (e : End) → Path g h n (Zero object words ∷ rest) e → called h ≡ false
     pub copies_first : (h : History) (n : ℕ) (object bytes words : ℕ) (rest : List Instruction) (e : End) → Path g h n (CopyWords object bytes words ∷ rest) e → called h ≡ false
     -- A scalar is written and noted only in places that assign its variable.
-    pub written_where : (p x variable : ℕ) (i : Instruction) → IsVariable g x variable → InPlace g p i → writes x i ≡ true → assigns u.assignments p variable ≡ true
+    pub written_where : (p x variable : ℕ) → IsVariable g x variable → WrittenIn g p x → assigns u.assignments p variable ≡ true
     pub noted_where : (p x variable : ℕ) (v : NoteValue) → IsVariable g x variable → InPlace g p (Note x v) → assigns u.assignments p variable ≡ true
     -- From the marker of a place that assigns a variable, and from each write of its scalar, each path to the next marker notes the scalar.
     pub noted : (h : History) (n : ℕ) (p x variable : ℕ) (rest : List Instruction) (e : End) → IsVariable g x variable → Path g h n (Marker p ∷ rest) e → owed (λ q. assigns u.assignments q variable) x h ≡ false

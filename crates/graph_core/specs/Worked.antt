@@ -74,9 +74,9 @@ removal pass = record { pass = pass; kind = Removed; place = 2; variable = 0 }
 abbrev pub reduced : PassName → UnitForm
 reduced pass = unit_of noting (removal pass ∷ [])
 
--- Both units are well marked, the second keeps what the first does, and its change is earned wherever the names are kept.
+-- Both units are well marked, the second keeps what the first does, and its change is earned wherever the names of each function are kept.
 pub record AreWorked (pass : PassName) : Type 0 where
   pub marked : AreWellMarked built
   pub still_marked : AreWellMarked (reduced pass)
   pub keeps : Keeps built (reduced pass)
-  pub earned : (home : ℕ → Home) → IsEarned (removal pass) (removal pass ∷ []) home built (reduced pass)
+  pub earned : (homes : (function : ℕ) → ℕ → Home) → IsEarned (removal pass) (removal pass ∷ []) homes built (reduced pass)

@@ -36,7 +36,7 @@ pub enum End {
 /// A basic block.
 #[derive(Drop)]
 pub struct Block {
-    /// The place in force where it begins; none where no place is, as at a function's beginning.
+    /// The place in force where it begins. In a valid unit each block that does not begin with a marker has one.
     pub place: Option<Place>,
     pub instructions: Vec<Instr>,
     pub end: End,

@@ -2,7 +2,7 @@
 
 ghost use Rattle.std.specs.Prelude.{◌≡◌, IfOk, map, true};
 ghost use Rattle.graph_core.specs.Graphs.{block_view, bytes_view, graph_view, instruction_view, note_view, recipe_view, static_view, unit_view};
-ghost use Rattle.graph_core.specs.Uses.{is_computation};
+ghost use Rattle.graph_core.specs.Uses.{is_computation, is_of_two};
 
 use crate::block::Block;
 use crate::graph::Graph;
@@ -47,13 +47,12 @@ impl NoteValue {
 }
 
 impl Instr {
-    /// An equal instruction, where it owns no memory and writes a name.
-    fn duplicate_computation(&self) -> Instr
-        requires { is_computation (instruction_view self.now) ≡ true }
+    /// An equal instruction, where it makes its value of two operands.
+    fn duplicate_operation(&self) -> Instr
+        requires { is_of_two (instruction_view self.now) ≡ true }
         ensures { instruction_view result ≡ instruction_view self.now }
     {
         match *self {
-            Instr::Move { target, from } => Instr::Move { target, from },
             Instr::Operate {
                 target,
                 operation,
@@ -65,15 +64,6 @@ impl Instr {
                 left,
                 right,
             },
-            Instr::Truncate {
-                target,
-                truncation,
-                from,
-            } => Instr::Truncate {
-                target,
-                truncation,
-                from,
-            },
             Instr::Same {
                 target,
                 left,
@@ -82,6 +72,26 @@ impl Instr {
                 target,
                 left,
                 right,
+            },
+            _ => unreachable!(),
+        }
+    }
+
+    /// An equal instruction, where it owns no memory and writes a name.
+    fn duplicate_computation(&self) -> Instr
+        requires { is_computation (instruction_view self.now) ≡ true }
+        ensures { instruction_view result ≡ instruction_view self.now }
+    {
+        match *self {
+            Instr::Move { target, from } => Instr::Move { target, from },
+            Instr::Truncate {
+                target,
+                truncation,
+                from,
+            } => Instr::Truncate {
+                target,
+                truncation,
+                from,
             },
             Instr::Address { target, object } => Instr::Address { target, object },
             Instr::Load {
@@ -93,6 +103,7 @@ impl Instr {
                 element,
                 from,
             },
+            Instr::Operate { .. } | Instr::Same { .. } => self.duplicate_operation(),
             _ => unreachable!(),
         }
     }

@@ -6,7 +6,7 @@ ghost use Rattle.graph_core.specs.Graphs.{Logged, UnitForm};
 ghost use Rattle.graph_core.specs.Keeps.{Keeps};
 ghost use Rattle.graph_core.specs.WellMarked.{AreWellMarked};
 ghost use Rattle.graph_core.specs.Worked.{AreWorked};
-ghost use Rattle.graph_core.specs.WorkedChanges.{AreBorneOut};
+ghost use Rattle.graph_core.specs.WorkedChanges.{AreBorneOut, AreNotBorneOut};
 
 /// Two laws: a well marked unit keeps what it does itself, and what keeps a unit that keeps a first one keeps the first.
 pub fn keeping_composes()
@@ -25,7 +25,9 @@ pub fn definitions_are_met()
     ensures { (pass : PassName) → AreWorked pass }
 {}
 
-/// The definitions of changes can be met: graphs of small functions bear out what was moved, replaced and reused.
+/// The definitions of changes can be met: graphs of small functions bear out what was removed, moved, replaced and reused. And they refuse
+/// what they should: a sum that was moved to where a way does not come to it, and a register that is shared as the log says already.
 pub fn changes_are_borne_out()
-    ensures { AreBorneOut }
+    ensures met { AreBorneOut }
+    ensures refused { AreNotBorneOut }
 {}

@@ -25,8 +25,8 @@ pub struct StaticObject {
     /// Its first bytes, little endian, with zeros in the place of addresses. Those behind them are zero.
     pub bytes: Vec<u8>,
     /// One for each element that holds an address, by ascending `at`. Validity asks for none of this: relocations may stand in
-    /// any order, several at one offset, or so close that their words overlap. An element of any width holds the address of the
-    /// first relocation at the offset where it begins; its bytes are not read then.
+    /// any order, several at one offset, or so close that their words overlap. A word holds the address of the first relocation at the
+    /// offset where it begins; its bytes are not read then. Of a narrower element at such an offset nothing is known.
     pub relocations: Vec<Relocation>,
 }
 

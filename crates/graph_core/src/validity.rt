@@ -1,4 +1,5 @@
-//! Whether a unit is valid: its numbers name what it has, its counts stay within bounds, and the place that a block keeps is right along each edge into it.
+//! Whether a unit is valid: its numbers name what it has, its counts stay within bounds, each instruction has a place, and the place that a block keeps is
+//! right along each edge into it.
 
 ghost use Rattle.std.specs.Prelude.{◌≡◌, ◌≤◌, ◌<◌, ◌↔◌, ◌^◌, ◌-◌, IsTrue, MatchOption, None, Some, length, map, min, option_map, slice_get};
 ghost use Rattle.std.specs.List.{AllByRecursion};
@@ -7,7 +8,7 @@ ghost use Rattle.graph_core.specs.Graphs.{binding_view, block_view, bytes_view, 
 ghost use Rattle.graph_core.specs.Uses.{marker_of, targets_of};
 ghost use Rattle.graph_core.specs.Memory.{static_bytes};
 ghost use Rattle.graph_core.specs.Counts.{AreMarkedOnce, AreMarkedOnceInBlocks, AreMarkedOnceIn, IsOnce, KeepsCounts, count_in_blocks, count_in_graphs, share};
-ghost use Rattle.graph_core.specs.Validity.{AreEdges, AreOperandsOf, AreOperandsOfEnd, AreRelocations, HasParameters, IsBinding, IsBlock, IsCall, IsGraph, IsInstruction, IsKept, IsLocation, IsNoteValue, IsObject, IsOperand, IsStatic, IsTarget, IsValid, IsWanted, arguments_in, counts, depth_of, KeepsPlace, place_behind, taken_by, taken_by_object, total};
+ghost use Rattle.graph_core.specs.Validity.{AreEdges, AreOperandsOf, AreOperandsOfEnd, AreRelocations, HasParameters, IsBinding, IsBlock, IsCall, IsGraph, IsInstruction, IsKept, IsLocation, IsNoteValue, IsObject, IsOperand, IsStatic, IsTarget, IsValid, IsWanted, arguments_in, counts, depth_of, HasPlace, KeepsPlace, place_behind, taken_by, taken_by_object, total};
 
 use crate::block::{Block, End};
 use crate::graph::{Binding, Graph, MemoryObject};
@@ -223,7 +224,7 @@ fn has_parameters(unit: &Unit, function: u32, count: usize) -> bool
 
 /// Whether there is a static object of this number.
 fn is_static(unit: &Unit, object: u32) -> bool
-    ensures { IsTrue result ↔ IsStatic (unit_view unit.now) object }
+    ensures { IsTrue result ↔ IsStatic (unit_view unit.now).statics object }
 {
     (object as usize) < unit.statics.len()
 }
@@ -251,7 +252,7 @@ fn is_target(graph: &Graph, name: Name) -> bool
 
 /// Whether an operand names what its graph and its unit have.
 fn is_operand(unit: &Unit, graph: &Graph, operand: Operand) -> bool
-    ensures { IsTrue result ↔ IsOperand (unit_view unit.now) (graph_view graph.now) (operand_view operand) }
+    ensures { IsTrue result ↔ IsOperand (unit_view unit.now).statics (graph_view graph.now) (operand_view operand) }
 {
     match operand {
         Operand::Name(name) => is_target(graph, name),
@@ -261,7 +262,7 @@ fn is_operand(unit: &Unit, graph: &Graph, operand: Operand) -> bool
 }
 
 fn are_operands(unit: &Unit, graph: &Graph, operands: &[Operand]) -> bool
-    ensures { IsTrue result ↔ AllByRecursion (IsOperand (unit_view unit.now) (graph_view graph.now)) (map operand_view operands.now) }
+    ensures { IsTrue result ↔ AllByRecursion (IsOperand (unit_view unit.now).statics (graph_view graph.now)) (map operand_view operands.now) }
 {
     let mut left = operands;
     while let [first, rest @ ..] = left {
@@ -275,7 +276,7 @@ fn are_operands(unit: &Unit, graph: &Graph, operands: &[Operand]) -> bool
 
 /// Whether a recipe is of operands that its graph and its unit have.
 fn are_operands_of(unit: &Unit, graph: &Graph, recipe: &Recipe) -> bool
-    ensures { IsTrue result ↔ AreOperandsOf (unit_view unit.now) (graph_view graph.now) (recipe_view recipe.now) }
+    ensures { IsTrue result ↔ AreOperandsOf (unit_view unit.now).statics (graph_view graph.now) (recipe_view recipe.now) }
 {
     match recipe {
         Recipe::Operand(operand) => is_operand(unit, graph, *operand),
@@ -298,7 +299,7 @@ fn is_note_value(unit: &Unit, graph: &Graph, value: &NoteValue) -> bool
 }
 
 fn is_location(unit: &Unit, graph: &Graph, location: Location) -> bool
-    ensures { IsTrue result ↔ IsLocation (unit_view unit.now) (graph_view graph.now) (location_view location) }
+    ensures { IsTrue result ↔ IsLocation (unit_view unit.now).statics (graph_view graph.now) (location_view location) }
 {
     match location {
         Location::Automatic(object) => is_object(graph, object),
@@ -309,7 +310,7 @@ fn is_location(unit: &Unit, graph: &Graph, location: Location) -> bool
 
 /// Whether there is what a call calls, and it takes so many arguments.
 fn is_call(unit: &Unit, callee: Callee, arguments: usize) -> bool
-    ensures { IsTrue result ↔ IsCall (unit_view unit.now) callee arguments }
+    ensures { IsTrue result ↔ IsCall (unit_view unit.now).graphs callee arguments }
 {
     match callee {
         Callee::Function(function) => has_parameters(unit, function, arguments),
@@ -327,6 +328,13 @@ fn is_wanted(graph: &Graph, target: Option<Name>) -> bool
     }
 }
 
+/// Whether a graph has the target of an operation, and it and its unit what the operands name.
+fn is_operation(unit: &Unit, graph: &Graph, target: Name, left: Operand, right: Operand) -> bool
+    ensures { IsTrue result ↔ (IsTarget (graph_view graph.now) target.0 × IsOperand (unit_view unit.now).statics (graph_view graph.now) (operand_view left) × IsOperand (unit_view unit.now).statics (graph_view graph.now) (operand_view right)) }
+{
+    is_target(graph, target) && is_operand(unit, graph, left) && is_operand(unit, graph, right)
+}
+
 /// Whether an instruction names what its graph and its unit have.
 fn is_instruction(unit: &Unit, graph: &Graph, instruction: &Instr) -> bool
     ensures { IsTrue result ↔ IsInstruction (unit_view unit.now) (graph_view graph.now) (instruction_view instruction.now) }
@@ -342,20 +350,12 @@ fn is_instruction(unit: &Unit, graph: &Graph, instruction: &Instr) -> bool
             left,
             right,
             ..
-        } => {
-            is_target(graph, *target)
-                && is_operand(unit, graph, *left)
-                && is_operand(unit, graph, *right)
-        }
+        } => is_operation(unit, graph, *target, *left, *right),
         Instr::Same {
             target,
             left,
             right,
-        } => {
-            is_target(graph, *target)
-                && is_operand(unit, graph, *left)
-                && is_operand(unit, graph, *right)
-        }
+        } => is_operation(unit, graph, *target, *left, *right),
         Instr::Address { target, object } => is_target(graph, *target) && is_object(graph, *object),
         Instr::Load { target, from, .. } => is_target(graph, *target)
             && is_location(unit, graph, *from),
@@ -390,7 +390,7 @@ fn are_instructions(unit: &Unit, graph: &Graph, instructions: &[Instr]) -> bool
 }
 
 fn are_operands_of_end(unit: &Unit, graph: &Graph, end: End) -> bool
-    ensures { IsTrue result ↔ AreOperandsOfEnd (unit_view unit.now) (graph_view graph.now) (end_view end) }
+    ensures { IsTrue result ↔ AreOperandsOfEnd (unit_view unit.now).statics (graph_view graph.now) (end_view end) }
 {
     match end {
         End::Jump(_) => true,
@@ -423,6 +423,19 @@ fn keeps_place(instructions: &[Instr], in_force: Option<Place>, kept: Option<Pla
         [first, ..] => match first.marker() {
             Some(_) => true,
             None => is_same_place(in_force, kept),
+        },
+    }
+}
+
+/// Whether each of these instructions has a place where their block keeps one, or none.
+fn has_place(instructions: &[Instr], kept: Option<Place>) -> bool
+    ensures { IsTrue result ↔ HasPlace (map instruction_view instructions.now) (option_map (λ (p : declared-place.Place). p.0) kept) }
+{
+    match instructions {
+        [] => kept.is_some(),
+        [first, ..] => match first.marker() {
+            Some(_) => true,
+            None => kept.is_some(),
         },
     }
 }
@@ -468,7 +481,8 @@ fn are_edges(graph: &Graph, in_force: Option<Place>, end: End) -> bool
 fn is_block(unit: &Unit, graph: &Graph, block: &Block) -> bool
     ensures { IsTrue result ↔ IsBlock (unit_view unit.now) (graph_view graph.now) (block_view block.now) }
 {
-    are_instructions(unit, graph, &block.instructions)
+    has_place(&block.instructions, block.place)
+        && are_instructions(unit, graph, &block.instructions)
         && are_operands_of_end(unit, graph, block.end)
         && are_edges(
             graph,
@@ -527,7 +541,7 @@ fn is_graph(unit: &Unit, graph: &Graph) -> bool
     if (graph.moved_from as usize) < graph.scalars.len() || 8 < graph.parameters.len() {
         return false;
     }
-    if graph.blocks.is_empty() {
+    if !is_kept(graph, Some(graph.entry), Label(0)) {
         return false;
     }
     are_bindings(graph, &graph.parameters) && are_blocks(unit, graph, &graph.blocks)
@@ -547,7 +561,7 @@ fn are_graphs(unit: &Unit, graphs: &[Graph]) -> bool
 }
 
 fn are_relocations(unit: &Unit, relocations: &[Relocation]) -> bool
-    ensures { IsTrue result ↔ AreRelocations (unit_view unit.now) relocations.now }
+    ensures { IsTrue result ↔ AreRelocations (unit_view unit.now).statics relocations.now }
 {
     let mut left = relocations;
     while let [first, rest @ ..] = left {
@@ -560,7 +574,7 @@ fn are_relocations(unit: &Unit, relocations: &[Relocation]) -> bool
 }
 
 fn have_relocations(unit: &Unit, objects: &[StaticObject]) -> bool
-    ensures { IsTrue result ↔ AllByRecursion (λ o. AreRelocations (unit_view unit.now) o.relocations) (map static_view objects.now) }
+    ensures { IsTrue result ↔ AllByRecursion (λ o. AreRelocations (unit_view unit.now).statics o.relocations) (map static_view objects.now) }
 {
     let mut left = objects;
     while let [first, rest @ ..] = left {

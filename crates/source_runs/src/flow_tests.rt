@@ -221,7 +221,7 @@ fn programs() -> [Worked; 7] {
 }
 
 #[test]
-fn tables_are_as_worked_by_hand(rt: HostRuntime) -> Result<(), Fail> {
+fn tables_are_those_of_the_reference(rt: HostRuntime) -> Result<(), Fail> {
     for worked in programs() {
         let program = program_of(rt.alloc(), worked.text)?;
         let fit = fits(rt.alloc(), &program)?;

@@ -2,7 +2,7 @@
 
 ghost use Rattle.std.specs.Prelude.{◌≡◌, IfOk, map, option_map, true};
 ghost use Rattle.graph_core.specs.declared.name.Name as declared-name;
-ghost use Rattle.graph_core.specs.Graphs.{Call, CopyWords, Store, UnitForm, Zero, instruction_view, location_view, operand_view, unit_view};
+ghost use Rattle.graph_core.specs.Graphs.{Call, CopyWords, Load, Operate, Same, Store, Truncate, UnitForm, Zero, instruction_view, location_view, operand_view, unit_view};
 ghost use Rattle.std.specs.List.{list_any};
 ghost use Rattle.graph_core.specs.Values.{is_odd};
 ghost use Rattle.graph_core.specs.Memory.{Memory};
@@ -17,6 +17,7 @@ use crate::evaluation::{value, values};
 use crate::memory::{copy, read, write, zero};
 use crate::operations::{is_odd, operate, truncate};
 use graph_core::{Callee, Element, Instr, Location, Name, Operand, Unit, Value};
+use recovery::{Operation, Truncation};
 use std::alloc::{AllocError, Global};
 
 /// The step goes on, if memory could become another.
@@ -92,16 +93,80 @@ impl<'a> Configuration<'a> {
         self.call(alloc, unit, target, callee, &arguments)
     }
 
+    /// An operation of two values.
+    fn operate(
+        &mut self,
+        unit: &Unit,
+        target: Name,
+        operation: Operation,
+        left: Operand,
+        right: Operand,
+    ) -> Result<Stepped, AllocError>
+        requires { IsValid (unit_view unit.now) }
+        ensures { IfOk result (λ s. stepped_view s (configuration_view self.new) ≡ execute (unit_view unit.now) (Operate target.0 operation (operand_view left) (operand_view right)) (configuration_view self.old)) }
+    {
+        let left = value(unit, &self.here.names, left);
+        let right = value(unit, &self.here.names, right);
+        self.wrote(target, operate(operation, left, right))
+    }
+
+    /// A truncation of a value.
+    fn truncate(
+        &mut self,
+        unit: &Unit,
+        target: Name,
+        truncation: Truncation,
+        from: Operand,
+    ) -> Result<Stepped, AllocError>
+        requires { IsValid (unit_view unit.now) }
+        ensures { IfOk result (λ s. stepped_view s (configuration_view self.new) ≡ execute (unit_view unit.now) (Truncate target.0 truncation (operand_view from)) (configuration_view self.old)) }
+    {
+        let value = value(unit, &self.here.names, from);
+        self.wrote(target, truncate(truncation, value))
+    }
+
+    /// Whether two values are one.
+    fn same(
+        &mut self,
+        unit: &Unit,
+        target: Name,
+        left: Operand,
+        right: Operand,
+    ) -> Result<Stepped, AllocError>
+        requires { IsValid (unit_view unit.now) }
+        ensures { IfOk result (λ s. stepped_view s (configuration_view self.new) ≡ execute (unit_view unit.now) (Same target.0 (operand_view left) (operand_view right)) (configuration_view self.old)) }
+    {
+        let left = value(unit, &self.here.names, left);
+        let right = value(unit, &self.here.names, right);
+        let value = same(&self.memory, left, right);
+        self.wrote(target, value)
+    }
+
+    /// A value is loaded.
+    fn load(
+        &mut self,
+        unit: &Unit,
+        target: Name,
+        element: Element,
+        from: Location,
+    ) -> Result<Stepped, AllocError>
+        requires { IsValid (unit_view unit.now) }
+        ensures { IfOk result (λ s. stepped_view s (configuration_view self.new) ≡ execute (unit_view unit.now) (Load target.0 element (location_view from)) (configuration_view self.old)) }
+    {
+        let at = self.here.pointed(unit, &self.memory, from);
+        let value = read(&self.memory, element, at);
+        self.wrote_some(target, value)
+    }
+
     /// An instruction that computes a value and writes it to a name.
     fn compute(&mut self, unit: &Unit, instruction: &Instr) -> Result<Stepped, AllocError>
         requires valid { IsValid (unit_view unit.now) }
         requires computes { is_computation (instruction_view instruction.now) ≡ true }
         ensures { IfOk result (λ s. stepped_view s (configuration_view self.new) ≡ execute (unit_view unit.now) (instruction_view instruction.now) (configuration_view self.old)) }
     {
-        let names = &self.here.names;
         match *instruction {
             Instr::Move { target, from } => {
-                let value = value(unit, names, from);
+                let value = value(unit, &self.here.names, from);
                 self.wrote(target, value)
             }
             Instr::Operate {
@@ -109,32 +174,17 @@ impl<'a> Configuration<'a> {
                 operation,
                 left,
                 right,
-            } => {
-                let value = operate(
-                    operation,
-                    value(unit, names, left),
-                    value(unit, names, right),
-                );
-                self.wrote(target, value)
-            }
+            } => self.operate(unit, target, operation, left, right),
             Instr::Truncate {
                 target,
                 truncation,
                 from,
-            } => {
-                let value = truncate(truncation, value(unit, names, from));
-                self.wrote(target, value)
-            }
+            } => self.truncate(unit, target, truncation, from),
             Instr::Same {
                 target,
                 left,
                 right,
-            } => {
-                let left = value(unit, names, left);
-                let right = value(unit, names, right);
-                let value = same(&self.memory, left, right);
-                self.wrote(target, value)
-            }
+            } => self.same(unit, target, left, right),
             Instr::Address { target, object } => {
                 let value = self.here.object_address(&self.memory, object);
                 self.wrote(target, value)
@@ -143,11 +193,7 @@ impl<'a> Configuration<'a> {
                 target,
                 element,
                 from,
-            } => {
-                let at = self.here.pointed(unit, &self.memory, from);
-                let value = read(&self.memory, element, at);
-                self.wrote_some(target, value)
-            }
+            } => self.load(unit, target, element, from),
             _ => unreachable!(),
         }
     }

@@ -9,7 +9,7 @@ ghost use Rattle.unit_run.specs.Views.{object_view};
 
 use crate::memory::element_in;
 use crate::object::Object;
-use crate::operations::pointer_at;
+use crate::operations::{as_element, pointer_at};
 use graph_core::{Owner, Relocation, StaticObject, Unit, Value};
 use std::alloc::{AllocError, Global};
 
@@ -67,7 +67,7 @@ fn first_value(unit: &Unit, object: &StaticObject, index: u32) -> Value
 {
     let at = object.element.bytes_of(index);
     match address_at(unit, &object.relocations, at) {
-        Some(address) => address,
+        Some(address) => as_element(object.element, address),
         None => element_in(&object.bytes, object.element, index as usize),
     }
 }

@@ -238,6 +238,15 @@ pub static ADDRESSED_SHOWS: Case = Case {
     ],
 };
 
+pub static NARROW_ADDRESSES_SHOWS: Case = Case {
+    input: b"",
+    steps: 100,
+    events: &[
+        "at 2: [static 0: 1 odd 3 4] [static 1: 5 odd] [static 2: 0+2]",
+        "exit 0",
+    ],
+};
+
 pub static EXITING_SHOWS: Case = Case {
     input: b"",
     steps: 100,

@@ -97,6 +97,11 @@ pub fn instruction(alloc: Global, line: Line) -> Result<Option<Instr>, AllocErro
             of: Name(x),
             value: NoteValue::Gone(change),
         },
+        Line::Copy(object, bytes, words) => Instr::CopyWords {
+            object,
+            bytes,
+            words,
+        },
         Line::Call(target, callee, arguments) => Instr::Call {
             target,
             callee,
@@ -107,7 +112,7 @@ pub fn instruction(alloc: Global, line: Line) -> Result<Option<Instr>, AllocErro
     }))
 }
 
-/// The instruction of a line that takes no memory.
+/// The instruction of each other line.
 fn plain(line: Line) -> Instr {
     match line {
         Line::Move(x, from) => Instr::Move {
@@ -141,11 +146,6 @@ fn plain(line: Line) -> Instr {
         },
         Line::Store(element, to, value) => Instr::Store { element, to, value },
         Line::Zero(object, words) => Instr::Zero { object, words },
-        Line::Copy(object, bytes, words) => Instr::CopyWords {
-            object,
-            bytes,
-            words,
-        },
         _ => Instr::Marker(Place(0)),
     }
 }
@@ -280,17 +280,31 @@ fn shown_object(alloc: Global, object: &Object) -> Result<String, AllocError> {
     Ok(line)
 }
 
-fn shown_stop(alloc: Global, frames: &[Frame], memory: &[Object]) -> Result<String, AllocError> {
-    let mut line = String::from_str(alloc, "at")?;
+/// Live activations, each behind a space.
+fn shown_frames(alloc: Global, frames: &[Frame]) -> Result<String, AllocError> {
+    let mut line = String::from_str(alloc, "")?;
     for frame in frames {
         line.push_str(" ")?;
         line.push_str(&shown_frame(alloc, frame)?)?;
     }
+    Ok(line)
+}
+
+/// Objects, each in brackets behind a space.
+fn shown_memory(alloc: Global, memory: &[Object]) -> Result<String, AllocError> {
+    let mut line = String::from_str(alloc, "")?;
     for object in memory {
         line.push_str(" [")?;
         line.push_str(&shown_object(alloc, object)?)?;
         line.push_str("]")?;
     }
+    Ok(line)
+}
+
+fn shown_stop(alloc: Global, frames: &[Frame], memory: &[Object]) -> Result<String, AllocError> {
+    let mut line = String::from_str(alloc, "at")?;
+    line.push_str(&shown_frames(alloc, frames)?)?;
+    line.push_str(&shown_memory(alloc, memory)?)?;
     Ok(line)
 }
 

@@ -482,6 +482,59 @@ pub static ADDRESSED: UnitTable = UnitTable {
     changes: &[],
 };
 
+/// `int main(void){return 0;}` with three static objects, each with a relocation: of bytes, of which the second has the address of the first object, of
+/// halves, of which the second has it, and of one word, which has it.
+pub static NARROW_ADDRESSES: UnitTable = UnitTable {
+    graphs: &[GraphTable {
+        entry: 1,
+        parameters: &[],
+        scalars: 0,
+        objects: &[],
+        names: 0,
+        lines: &[
+            Line::Marker(1),
+            Line::End(End::Jump(Label(1)), None),
+            Line::Marker(2),
+            Line::End(End::Return(Some(Operand::Constant(0))), None),
+        ],
+    }],
+    main: 0,
+    statics: &[
+        StaticTable {
+            element: Element::Unsigned8,
+            count: 4,
+            bytes: &[1, 2, 3, 4],
+            relocations: &[Relocation {
+                at: 1,
+                object: 0,
+                offset: 2,
+            }],
+        },
+        StaticTable {
+            element: Element::Signed16,
+            count: 2,
+            bytes: &[5, 0, 6, 0],
+            relocations: &[Relocation {
+                at: 2,
+                object: 0,
+                offset: 2,
+            }],
+        },
+        StaticTable {
+            element: Element::Word,
+            count: 1,
+            bytes: &[7, 0, 0, 0],
+            relocations: &[Relocation {
+                at: 0,
+                object: 0,
+                offset: 2,
+            }],
+        },
+    ],
+    array_bytes: &[],
+    changes: &[],
+};
+
 /// `void g(int b){if(b==0) exit(3);} int main(void){int x=1; g(x); g(0); return x;}`. The first call comes back; the second one ends the program from
 /// within `g`, with 3 and not with what `main` would return.
 pub static EXITING: UnitTable = UnitTable {

@@ -6,7 +6,7 @@ use Rattle.graph_core.specs.Validity.{IsOperand}
 use Rattle.graph_core.proofs.validity.are_operands.Given as goal
 
 abbrev pub invariant-loop-left : goal.invariant-loop-left
-invariant-loop-left l = AllByRecursion (IsOperand (unit_view l.unit) (graph_view l.graph)) (map operand_view l.left) ↔ AllByRecursion (IsOperand (unit_view l.unit) (graph_view l.graph)) (map operand_view l.operands)
+invariant-loop-left l = AllByRecursion (IsOperand (unit_view l.unit).statics (graph_view l.graph)) (map operand_view l.left) ↔ AllByRecursion (IsOperand (unit_view l.unit).statics (graph_view l.graph)) (map operand_view l.operands)
 
 abbrev pub decreases-loop-left : goal.decreases-loop-left
 decreases-loop-left l = length l.left

@@ -5,7 +5,7 @@ use Rattle.graph_core.specs.Validity.{AreRelocations}
 use Rattle.graph_core.proofs.validity.are_relocations.Given as goal
 
 abbrev pub invariant-loop-left : goal.invariant-loop-left
-invariant-loop-left l = AreRelocations (unit_view l.unit) l.left ↔ AreRelocations (unit_view l.unit) l.relocations
+invariant-loop-left l = AreRelocations (unit_view l.unit).statics l.left ↔ AreRelocations (unit_view l.unit).statics l.relocations
 
 abbrev pub decreases-loop-left : goal.decreases-loop-left
 decreases-loop-left l = length l.left

@@ -22,7 +22,7 @@ returns-then-not-has_parameters c =
 pub returns-then-not-have_relocations : goal.returns-then-not-have_relocations
 returns-then-not-have_relocations c =
     let u = unit_view c.args.self.now in
-    let P : List declared-static.StaticObject → Type 0 = λ all. AllByRecursion (λ (o : StaticObject). AreRelocations u o.relocations) (map static_view all) in
+    let P : List declared-static.StaticObject → Type 0 = λ all. AllByRecursion (λ (o : StaticObject). AreRelocations u.statics o.relocations) (map static_view all) in
     (λ (t : false ≡ true). cc, λ (v : IsValid u). let h = c.have_relocations.ensures.1 (subst P (sym c.deref.ensures.value) v.relocations) in (cc))
 
 pub returns-then-not-are_graphs : goal.returns-then-not-are_graphs
@@ -34,7 +34,7 @@ returns-then-not-are_graphs c =
 pub returns : goal.returns
 returns c =
     let u = unit_view c.args.self.now in
-    let P : List declared-static.StaticObject → Type 0 = λ all. AllByRecursion (λ (o : StaticObject). AreRelocations u o.relocations) (map static_view all) in
+    let P : List declared-static.StaticObject → Type 0 = λ all. AllByRecursion (λ (o : StaticObject). AreRelocations u.statics o.relocations) (map static_view all) in
     let Q : List declared-graph.Graph → Type 0 = λ all. AllByRecursion (IsGraph u) (map graph_view all) in
     let R : List declared-graph.Graph → Type 0 = λ all. AreMarkedOnce (map graph_view all) u.graphs in
     let S : List declared-graph.Graph → Type 0 = λ some. AreMarkedOnce (map graph_view c.deref-3.result.now) (map graph_view some) in
