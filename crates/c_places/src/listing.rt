@@ -11,8 +11,8 @@ use c_tree::{
     Declared, Program, Rvalue, TypedFunction, TypedStart, TypedStatement, TypedStatements,
     TypedStep,
 };
-use c_type_limits::reaches_end;
-use debug_records::source::Spot;
+use c_facts::reaches_end;
+use debug_records::Spot;
 use std::alloc::{AllocError, Global};
 
 /// Adds a place that is no entry.
