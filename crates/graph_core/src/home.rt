@@ -1,7 +1,7 @@
 //! Homes of names.
 
 /// Where the value of a name is kept while code runs.
-#[derive(Clone, Copy, Debug, PartialEq, Eq)]
+#[derive(Clone, Copy, PartialEq, Eq)]
 pub enum Home {
     /// A register, by its number.
     Register(u8),

@@ -11,7 +11,8 @@ mod operation;
 pub use decoding::decode;
 pub use encoding::encode;
 pub use instruction::{
-    BranchOperation, ImmediateOperation, Instruction, LoadOperation, RegisterOperation, StoreOperation,
+    BranchOperation, ImmediateOperation, Instruction, LoadOperation, RegisterOperation,
+    StoreOperation,
 };
 pub use law::{decoding_undoes_encoding, encoding_undoes_decoding};
 
