@@ -6,11 +6,12 @@ ghost use Rattle.graph_core.specs.Values.{size_of};
 use crate::name::{Name, Operand};
 use crate::recipe::NoteValue;
 use debug_records::Place;
-use recovery::{Operation, Truncation};
+
 use smallvec::SmallVec;
+use word_base::{Operation, Truncation};
 
 /// What an element of an object in memory is: how wide, and with which sign. A pointer is a word.
-#[derive(Clone, Copy, Debug, PartialEq, Eq)]
+#[derive(Clone, Copy, PartialEq, Eq)]
 pub enum Element {
     Unsigned8,
     Signed8,
@@ -44,10 +45,10 @@ impl Element {
 }
 
 /// Where a load reads and a store writes.
-#[derive(Clone, Copy, Debug, PartialEq, Eq)]
+#[derive(Clone, Copy, PartialEq, Eq)]
 pub enum Location {
-    /// The beginning of an automatic object of the graph, by its number.
-    Automatic(u32),
+    /// In an automatic object of the graph, by its number, so many bytes behind its beginning.
+    Automatic { object: u32, offset: u32 },
     /// The beginning of a static object, by its number.
     Static(u32),
     /// Where a value points.
@@ -55,7 +56,7 @@ pub enum Location {
 }
 
 /// What a call calls.
-#[derive(Clone, Copy, Debug, PartialEq, Eq)]
+#[derive(Clone, Copy, PartialEq, Eq)]
 pub enum Callee {
     /// A function of the unit, by its number.
     Function(u32),
