@@ -6,7 +6,6 @@ ghost use Rattle.graph_core.specs.Values.{size_of};
 use crate::name::{Name, Operand};
 use crate::recipe::NoteValue;
 use debug_records::Place;
-
 use smallvec::SmallVec;
 use word_base::{Operation, Truncation};
 

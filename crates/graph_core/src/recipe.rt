@@ -7,7 +7,6 @@ ghost use Rattle.graph_core.specs.Graphs.{recipe_view};
 use crate::name::{Name, Operand};
 use word_base::{Operation, Truncation};
 
-
 /// How the value of a variable is computed from names (Hennessy 1982).
 #[derive(Drop)]
 pub enum Recipe {

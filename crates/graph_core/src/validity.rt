@@ -306,7 +306,8 @@ fn is_note_value(unit: &Unit, graph: &Graph, value: &NoteValue) -> bool
     ensures { IsTrue result ↔ IsNoteValue (unit_view unit.now) (graph_view graph.now) (note_view value.now) }
 {
     match value {
-        NoteValue::Is(recipe) => is_within(recipe, MAX_RECIPE_DEPTH) && are_operands_of(unit, graph, recipe),
+        NoteValue::Is(recipe) => is_within(recipe, MAX_RECIPE_DEPTH)
+            && are_operands_of(unit, graph, recipe),
         NoteValue::Gone(change) => {
             1 <= *change && (*change as usize) <= unit.log.changes().len()
         }

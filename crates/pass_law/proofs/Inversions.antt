@@ -2,6 +2,7 @@
 use Rattle.std.proofs.Common.{◌≡◌, ℕ, zero, suc, ◌<◌, ◌≤◌, true, false, List, [], ◌∷◌, ◌++◌, Some, None, refl, sym, ◌∙◌, subst, arith, slice_get}
 use Rattle.std.specs.Prelude.{option_map}
 use Rattle.graph_core.specs.Graphs.{Operand, Instruction, Marker, End, Jump, Return, Block, Scalar, Graph}
+use Rattle.graph_core.specs.declared.value.Value.TheVariants.{Odd}
 use Rattle.graph_core.specs.Paths as paths
 use Rattle.graph_core.specs.Paths.{History, Among, front, behind, Way, Path, path}
 use Rattle.pass_law.specs.Worked.{scalar, block, entry_block, return_block, main_with}
@@ -62,6 +63,6 @@ way_on before paths.stays = before
 way_on before (paths.passes way v) = paths.passes (way_on before way) v
 way_on before (paths.goes way a b is) = paths.goes (way_on before way) a b is
 
--- a path that goes on is a path
-pub path_on : {g : Graph} {h : History} {n : ℕ} {rest : List Instruction} {e : End} {k : History} {m : ℕ} {left : List Instruction} {f : End} → Path g h n rest e → Way g n rest e k m left f → Path g (k ++ h) m left f
-path_on (path b is before) way = path b is (way_on before way)
+-- behind an instruction that a path comes to, a way goes on as a path does
+pub path_behind : {g : Graph} {h : History} {n : ℕ} {i : Instruction} {rest : List Instruction} {e : End} {k : History} {m : ℕ} {left : List Instruction} {f : End} → Path g h n (i ∷ rest) e → Way g n rest e k m left f → (hist : History) × Path g hist m left f
+path_behind (path b is before) way = (_, path b is (way_on (paths.passes before Odd) way))

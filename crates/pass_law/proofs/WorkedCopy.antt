@@ -4,9 +4,10 @@ use Rattle.graph_core.specs.declared.value.Value.{Value}
 use Rattle.graph_core.specs.Graphs.{Operand, Name, Of, Is, Instruction, Marker, Note, Move, End, Jump, Return, Block}
 use Rattle.graph_core.specs.Uses.{targets_of}
 use Rattle.graph_core.specs.Paths.{Passed, History, Among, Way, stays, passes, goes, Path, path}
-use Rattle.pass_law.specs.Earned.{IsCopiedAt, IsReplaced, IsReused}
-use Rattle.pass_law.specs.WorkedChanges.{copies_y, copying, passing_by, one_register, AreBorneOut}
-use Rattle.pass_law.proofs.Inversions.{some_same, among_one, among_none, apart, to_second, to_third}
+use Rattle.graph_homes.specs.Reused.{IsReused}
+use Rattle.pass_law.specs.Earned.{IsCopiedAt, IsReplaced}
+use Rattle.pass_law.specs.WorkedChanges.{copying, passing_by, one_register, AreBorneOut}
+use Rattle.pass_law.proofs.Inversions.{some_same, among_one, among_none, apart, to_block}
 use Rattle.pass_law.proofs.WorkedMotion.{is_moved}
 use Rattle.pass_law.proofs.WorkedRemoval.{is_removed}
 
@@ -41,8 +42,8 @@ goes_past (notes u v w) x = assigned u v w x
 goes_past (return u v w x) y = returns u v w x y
 
 goes_along : {h : History} {n l : ℕ} {e : End} → IsPoint h n [] e → Among l (targets_of e) → (b : Block) → slice_get passing_by.blocks l ≡ Some b → IsPoint h l b.instructions b.end
-goes_along {l = l} (entered u) a b is = to_second copies_y (Name 1) (IsPoint (passed 0 0 (Marker 1) u ∷ [])) l b (among_one a) is (assignment u)
-goes_along {l = l} (assigned u v w x) a b is = to_third copies_y (Name 1) (IsPoint (noted u v w x)) l b (among_one a) is (return u v w x)
+goes_along {l = l} (entered u) a b is = to_block passing_by.blocks 1 _ refl (IsPoint (passed 0 0 (Marker 1) u ∷ [])) l b (among_one a) is (assignment u)
+goes_along {l = l} (assigned u v w x) a b is = to_block passing_by.blocks 2 _ refl (IsPoint (noted u v w x)) l b (among_one a) is (return u v w x)
 goes_along (returns u v w x y) a b is = absurd (among_none a)
 
 point_of_way : {h : History} {n : ℕ} {rest : List Instruction} {e : End} → Way passing_by 0 (Marker 1 ∷ []) (Jump 1) h n rest e → IsPoint h n rest e

@@ -8,7 +8,9 @@ use Rattle.graph_core.specs.Paths.{History, Way, stays, passes, goes, writes}
 use Rattle.graph_core.specs.WellMarked as marked
 use Rattle.graph_core.specs.WellMarked.{here}
 use Rattle.pass_law.specs.Earned as earned
-use Rattle.pass_law.specs.Earned.{Computation, Operating, computed_by, Behind, WasComputed, latest, earlier, StopsIt, none, puts, in_block, WasDownSafe, IsMoved}
+use Rattle.graph_core.specs.Points.{Behind}
+use Rattle.graph_core.specs.Computations.{Computation, Operating, computed_by}
+use Rattle.pass_law.specs.Earned.{WasComputed, latest, earlier, StopsIt, none, puts, in_block, WasDownSafe, IsMoved}
 use Rattle.pass_law.specs.WorkedChanges.{adding, adding_ahead}
 use Rattle.pass_law.proofs.Inversions.{some_same, none_is_some, false_is_true}
 

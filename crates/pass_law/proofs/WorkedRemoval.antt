@@ -1,90 +1,89 @@
 -- An assignment was removed where nothing reads x behind its own note, though x is read behind an equal note of another place.
-use Rattle.std.proofs.Common.{◌≡◌, ℕ, zero, suc, List, [], ◌∷◌, ◌++◌, Some, refl, sym, subst, slice_get, lit<}
-use Rattle.std.specs.List.{AllByRecursion}
-use Rattle.graph_core.specs.Graphs.{Constant, NoteValue, Instruction, Marker, Note, End, Jump, Return, Block}
-use Rattle.graph_core.specs.Uses.{reads_of, targets_of}
-use Rattle.graph_core.specs.Paths.{Among, History, Way, stays, passes, goes}
-use Rattle.graph_core.specs.Validity.{place_behind}
-use Rattle.pass_law.specs.Earned.{ReadsNext, IsRemoved}
+use Rattle.std.proofs.Common.{◌≡◌, ℕ, List, [], ◌∷◌, Option, Some, None, refl, sym, subst, slice_get, lit<}
+use Rattle.graph_core.specs.declared.instruction.Callee.TheVariants.{Putchar}
+use Rattle.graph_core.specs.Graphs.{Name, Constant, Of, NoteValue, Is, Instruction, Marker, Note, Call, End, Jump, Return, Block}
+use Rattle.graph_core.specs.Uses.{targets_of}
+use Rattle.graph_core.specs.Paths.{Among, History, Way, stays, passes, goes, Path, path, place_by, place_of}
+use Rattle.graph_core.specs.Points.{ReadsNext}
+use Rattle.pass_law.specs.Earned.{IsRemoved}
 use Rattle.pass_law.specs.WorkedChanges.{notes_y_in, prints_x, assigning_again, noting_again}
-use Rattle.pass_law.proofs.Inversions.{some_same, none_is_some, among_one, among_none, apart}
+use Rattle.pass_law.proofs.Inversions.{some_same, none_is_some, among_one, among_none, apart, to_block}
 
--- nothing here reads x
-abbrev NeverReads : List Instruction → Type 0
-NeverReads all = AllByRecursion (λ i. Among 0 (reads_of i) → ⊥) all
+abbrev note : Instruction
+note = Note 0 (Is (Of (Name 1)))
 
--- The points of the blocks of the removed assignment and of the return.
+-- The points that paths come to, each with the place in force.
+data IsPoint : Option ℕ → ℕ → List Instruction → End → Type 0 where
+  entry : IsPoint None 0 (Marker 1 ∷ []) (Jump 1)
+  entered : IsPoint (Some 1) 0 [] (Jump 1)
+  second : IsPoint (Some 1) 1 (notes_y_in 2) (Jump 2)
+  notes_second : IsPoint (Some 2) 1 (note ∷ []) (Jump 2)
+  second_noted : IsPoint (Some 2) 1 [] (Jump 2)
+  third : IsPoint (Some 2) 2 prints_x (Jump 3)
+  prints : IsPoint (Some 3) 2 (Call None Putchar (Name 0 ∷ []) ∷ []) (Jump 3)
+  printed : IsPoint (Some 3) 2 [] (Jump 3)
+  fourth : IsPoint (Some 3) 3 (notes_y_in 4) (Jump 4)
+  notes_fourth : IsPoint (Some 4) 3 (note ∷ []) (Jump 4)
+  fourth_noted : IsPoint (Some 4) 3 [] (Jump 4)
+  return : IsPoint (Some 4) 4 (Marker 5 ∷ []) (Return (Some (Constant 0)))
+  returns : IsPoint (Some 5) 4 [] (Return (Some (Constant 0)))
+
+goes_past : {p : Option ℕ} {n : ℕ} {i : Instruction} {left : List Instruction} {e : End} → IsPoint p n (i ∷ left) e → IsPoint (place_by i p) n left e
+goes_past entry = entered
+goes_past second = notes_second
+goes_past notes_second = second_noted
+goes_past third = prints
+goes_past prints = printed
+goes_past fourth = notes_fourth
+goes_past notes_fourth = fourth_noted
+goes_past return = returns
+
+goes_along : {p : Option ℕ} {n l : ℕ} {e : End} → IsPoint p n [] e → Among l (targets_of e) → (b : Block) → slice_get noting_again.blocks l ≡ Some b → IsPoint p l b.instructions b.end
+goes_along {l = l} entered a b is = to_block noting_again.blocks 1 _ refl (IsPoint (Some 1)) l b (among_one a) is second
+goes_along {l = l} second_noted a b is = to_block noting_again.blocks 2 _ refl (IsPoint (Some 2)) l b (among_one a) is third
+goes_along {l = l} printed a b is = to_block noting_again.blocks 3 _ refl (IsPoint (Some 3)) l b (among_one a) is fourth
+goes_along {l = l} fourth_noted a b is = to_block noting_again.blocks 4 _ refl (IsPoint (Some 4)) l b (among_one a) is return
+goes_along returns a b is = absurd (among_none a)
+
+point_of_way : {h : History} {n : ℕ} {rest : List Instruction} {e : End} → Way noting_again 0 (Marker 1 ∷ []) (Jump 1) h n rest e → IsPoint (place_of h) n rest e
+point_of_way stays = entry
+point_of_way (passes way v) = goes_past (point_of_way way)
+point_of_way (goes way a b is) = goes_along (point_of_way way) a b is
+
+point : {h : History} {n : ℕ} {rest : List Instruction} {e : End} → Path noting_again h n rest e → IsPoint (place_of h) n rest e
+point {h} {n} {rest} {e} (path b is way) = point_of_way (subst (λ (c : Block). Way noting_again 0 c.instructions c.end h n rest e) (sym (some_same is)) way)
+
+-- The points from the note of the removed assignment on.
 data IsLate : ℕ → List Instruction → End → Type 0 where
-  removed : {rest : List Instruction} → NeverReads rest → IsLate 3 rest (Jump 4)
-  returning : {rest : List Instruction} → NeverReads rest → IsLate 4 rest (Return (Some (Constant 0)))
+  removed : IsLate 3 [] (Jump 4)
+  leaving : IsLate 4 (Marker 5 ∷ []) (Return (Some (Constant 0)))
+  gone : IsLate 4 [] (Return (Some (Constant 0)))
 
-late_past : {n : ℕ} {i : Instruction} {left : List Instruction} {e : End} → IsLate n (i ∷ left) e → IsLate n left e
-late_past (removed all) = removed all.1
-late_past (returning all) = returning all.1
-
--- from there the way leads to the return
-to_return : (l : ℕ) (b : Block) → l ≡ 4 → slice_get noting_again.blocks l ≡ Some b → IsLate l b.instructions b.end
-to_return l b z is =
-    let at : slice_get noting_again.blocks 4 ≡ Some b = subst (λ k. slice_get noting_again.blocks k ≡ Some b) z is in
-    subst (λ k. IsLate k b.instructions b.end) (sym z) (subst (λ (c : Block). IsLate 4 c.instructions c.end) (some_same at) (returning (λ a. among_none a, tt)))
+late_past : {n : ℕ} {i : Instruction} {rest : List Instruction} {e : End} → IsLate n (i ∷ rest) e → IsLate n rest e
+late_past leaving = gone
 
 late_along : {n l : ℕ} {e : End} → IsLate n [] e → Among l (targets_of e) → (b : Block) → slice_get noting_again.blocks l ≡ Some b → IsLate l b.instructions b.end
-late_along {l = l} (removed all) a b is = to_return l b (among_one a) is
-late_along (returning all) a b is = absurd (among_none a)
+late_along {l = l} removed a b is = to_block noting_again.blocks 4 _ refl IsLate l b (among_one a) is leaving
+late_along gone a b is = absurd (among_none a)
 
-late : {from : ℕ} {rest : List Instruction} {end : End} {h : History} {m : ℕ} {left : List Instruction} {f : End} → IsLate from rest end → Way noting_again from rest end h m left f → IsLate m left f
+late : {from : ℕ} {start : List Instruction} {first : End} {h : History} {m : ℕ} {rest : List Instruction} {f : End} → IsLate from start first → Way noting_again from start first h m rest f → IsLate m rest f
 late at stays = at
 late at (passes way v) = late_past (late at way)
 late at (goes way a b is) = late_along (late at way) a b is
 
-reads_nothing : {m : ℕ} (left : List Instruction) {f : End} → IsLate m left f → ReadsNext 0 left f → ⊥
-reads_nothing [] (removed all) reads = among_none reads
-reads_nothing [] (returning all) reads = among_none reads
-reads_nothing (i ∷ left) (removed all) reads = all.0 reads
-reads_nothing (i ∷ left) (returning all) reads = all.0 reads
+reads_nothing : {m : ℕ} {rest : List Instruction} {f : End} → IsLate m rest f → ReadsNext 0 rest f → ⊥
+reads_nothing removed reads = among_none reads
+reads_nothing leaving reads = among_none reads
+reads_nothing gone reads = among_none reads
 
--- The equal note is one of place 2.
-not_that_note : (before rest : List Instruction) (v : NoteValue) → notes_y_in 2 ≡ before ++ Note 0 v ∷ rest → place_behind before (Some 1) ≡ Some 4 → ⊥
-not_that_note [] rest v e place = cc
-not_that_note (i ∷ []) rest v e place =
-    let marker : i ≡ Marker 2 = cc in apart 2 4 (lit< tt) (some_same (subst (λ j. place_behind (j ∷ []) (Some 1) ≡ Some 4) marker place))
-not_that_note (i ∷ j ∷ []) rest v e place = cc
-not_that_note (i ∷ j ∷ k ∷ before) rest v e place = cc
-
-no_note : (before rest : List Instruction) (v : NoteValue) → prints_x ≡ before ++ Note 0 v ∷ rest → ⊥
-no_note [] rest v e = cc
-no_note (i ∷ []) rest v e = cc
-no_note (i ∷ j ∷ []) rest v e = cc
-no_note (i ∷ j ∷ k ∷ before) rest v e = cc
-
-only_marker : (p : ℕ) (before rest : List Instruction) (v : NoteValue) → Marker p ∷ [] ≡ before ++ Note 0 v ∷ rest → ⊥
-only_marker p [] rest v e = cc
-only_marker p (i ∷ []) rest v e = cc
-only_marker p (i ∷ j ∷ before) rest v e = cc
-
-behind_note : (before rest : List Instruction) (v : NoteValue) → notes_y_in 4 ≡ before ++ Note 0 v ∷ rest → NeverReads rest
-behind_note [] rest v e = cc
-behind_note (i ∷ []) rest v e = let none : rest ≡ [] = cc in subst NeverReads (sym none) tt
-behind_note (i ∷ j ∷ []) rest v e = cc
-behind_note (i ∷ j ∷ k ∷ before) rest v e = cc
-
--- What is left of a block behind a note in place 4, where these are its instructions and its end.
-abbrev IsLateBehind : ℕ → Block → Type 0
-IsLateBehind n b = (before rest : List Instruction) (v : NoteValue) → b.instructions ≡ before ++ Note 0 v ∷ rest → place_behind before b.place ≡ Some 4 → IsLate n rest b.end
-
-late_behind : (n : ℕ) (b : Block) → slice_get noting_again.blocks n ≡ Some b → IsLateBehind n b
-late_behind zero b is = subst (IsLateBehind 0) (some_same is) (λ before rest v e place. absurd (only_marker 1 before rest v e))
-late_behind (suc zero) b is = subst (IsLateBehind 1) (some_same is) (λ before rest v e place. absurd (not_that_note before rest v e place))
-late_behind (suc (suc zero)) b is = subst (IsLateBehind 2) (some_same is) (λ before rest v e place. absurd (no_note before rest v e))
-late_behind (suc (suc (suc zero))) b is = subst (IsLateBehind 3) (some_same is) (λ before rest v e place. removed (behind_note before rest v e))
-late_behind (suc (suc (suc (suc zero)))) b is = subst (IsLateBehind 4) (some_same is) (λ before rest v e place. absurd (only_marker 5 before rest v e))
-late_behind (suc (suc (suc (suc (suc n))))) b is = absurd (none_is_some is)
+-- behind a note in place 4
+late_behind : {p : Option ℕ} {n : ℕ} {v : NoteValue} {rest : List Instruction} {e : End} → IsPoint p n (Note 0 v ∷ rest) e → p ≡ Some 4 → IsLate n rest e
+late_behind notes_second is = absurd (apart 2 4 (lit< tt) (some_same is))
+late_behind notes_fourth is = removed
 
 pub is_removed : IsRemoved assigning_again noting_again 4 0
 is_removed = record {
   once = refl;
   none = refl;
-  unread = λ v n rest e at. λ h m left f way reads.
-      let start : IsLate n rest e = subst (IsLate n rest) (sym at.ends) (late_behind n at.block at.is at.before rest v at.instructions at.place) in
-      absurd (reads_nothing left (late start way) reads);
+  unread = λ hist v n rest e at place. λ h m more f way reads. absurd (reads_nothing (late (late_behind (point at) place) way) reads);
 }
