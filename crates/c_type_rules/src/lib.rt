@@ -1,10 +1,10 @@
 //! Integer types, the conversions between them, and constant expressions.
 #![tactic(auto)]
 
-pub mod constancy;
-pub mod constant;
-pub mod integer;
-pub mod types;
+mod constancy;
+mod constant;
+mod integer;
+mod types;
 
 pub use constancy::{
     Constancy, and_constant, arithmetic_constant, comparison_constant, conditional_constant,
