@@ -1,3 +1,7 @@
-pub mod Steps
+pub mod Keeps
+pub mod Earned
+pub mod Relations
 pub mod Trails
+pub mod Worked
+pub mod WorkedChanges
 pub mod Examples

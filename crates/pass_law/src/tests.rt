@@ -3,7 +3,7 @@
 ghost use Rattle.std.specs.Prelude.{◌≡◌, ◌≤◌, IfOk, length};
 ghost use Rattle.graph_core.specs.Graphs.{block_view, graph_view, unit_view};
 ghost use Rattle.graph_core.specs.Graphs as form;
-ghost use Rattle.graph_core.specs.Worked.{assigning, assigns_two, block, built, entry_block, return_block};
+ghost use Rattle.pass_law.specs.Worked.{assigning, assigns_two, block, built, entry_block, return_block};
 
 use crate::list::{RunErr, Trail, run_list};
 use crate::pass::Pass;

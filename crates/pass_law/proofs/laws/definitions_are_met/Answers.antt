@@ -1,0 +1,5 @@
+use Rattle.pass_law.proofs.WorkedPass.{are_worked}
+use Rattle.pass_law.proofs.laws.definitions_are_met.Goals as goal
+
+pub returns : goal.returns
+returns c = are_worked
