@@ -8,7 +8,7 @@ use crate::object_type::{Object, ObjectType, Scalar};
 use crate::types::IntegerType;
 
 /// An operator of integer arithmetic, on two operands of one type, but that each operand of a shift has a type of its own (6.5.5 to 6.5.7, 6.5.10 to 6.5.12).
-#[derive(Clone, Copy, Debug, PartialEq, Eq)]
+#[derive(Clone, Copy, PartialEq, Eq)]
 pub enum Arithmetic {
     /// `*`
     Multiply,
@@ -33,7 +33,7 @@ pub enum Arithmetic {
 }
 
 /// A comparison, which gives 0 or 1 (6.5.8 and 6.5.9).
-#[derive(Clone, Copy, Debug, PartialEq, Eq)]
+#[derive(Clone, Copy, PartialEq, Eq)]
 pub enum Comparison {
     /// `<`
     Less,
@@ -50,7 +50,7 @@ pub enum Comparison {
 }
 
 /// An operator on one integer (6.5.3.3).
-#[derive(Clone, Copy, Debug, PartialEq, Eq)]
+#[derive(Clone, Copy, PartialEq, Eq)]
 pub enum Sign {
     /// `+`
     Plus,
@@ -61,21 +61,21 @@ pub enum Sign {
 }
 
 /// Up or down: `++` or `--`, and on pointers `+` or `-`.
-#[derive(Clone, Copy, Debug, PartialEq, Eq)]
+#[derive(Clone, Copy, PartialEq, Eq)]
 pub enum Direction {
     Up,
     Down,
 }
 
 /// Which value `++` and `--` give: the new one before an operand, the old one behind it.
-#[derive(Clone, Copy, Debug, PartialEq, Eq)]
+#[derive(Clone, Copy, PartialEq, Eq)]
 pub enum Given {
     New,
     Old,
 }
 
 /// What a call calls.
-#[derive(Clone, Copy, Debug, PartialEq, Eq)]
+#[derive(Clone, Copy, PartialEq, Eq)]
 pub enum Callee {
     /// A function of the program, by its number from 0 in the text order of the definitions.
     Function(u32),
@@ -262,11 +262,8 @@ impl Lvalue {
                 of: _,
                 pointer,
                 index,
-            } => {
-                drop(index);
-                Some(pointer)
             }
-            Lvalue::ElementFrom {
+            | Lvalue::ElementFrom {
                 of: _,
                 index,
                 pointer,
@@ -288,75 +285,71 @@ impl Rvalue {
             Rvalue::Constant {
                 value: _,
                 integer_type: _,
-            } => None,
-            Rvalue::Null => None,
-            Rvalue::Load { scalar: _, from } => Box::into_inner(from).into_pointer(),
-            Rvalue::Decay(from) => Box::into_inner(from).into_pointer(),
-            Rvalue::AddressOf(from) => Box::into_inner(from).into_pointer(),
-            Rvalue::Convert { to: _, operand } => Some(operand),
-            Rvalue::Discard(operand) => Some(operand),
-            Rvalue::Signed {
+            }
+            | Rvalue::Null => None,
+            Rvalue::Load {
+                scalar: _,
+                from: place,
+            }
+            | Rvalue::Decay(place)
+            | Rvalue::AddressOf(place)
+            | Rvalue::Step {
+                direction: _,
+                given: _,
+                target_type: _,
+                integer_type: _,
+                target: place,
+            }
+            | Rvalue::StepPointer {
+                direction: _,
+                given: _,
+                element: _,
+                target: place,
+            } => Box::into_inner(place).into_pointer(),
+            Rvalue::Convert { to: _, operand }
+            | Rvalue::Discard(operand)
+            | Rvalue::Signed {
                 sign: _,
                 integer_type: _,
                 operand,
-            } => Some(operand),
-            Rvalue::Not(operand) => Some(operand),
+            }
+            | Rvalue::Not(operand) => Some(operand),
             Rvalue::Arithmetic {
                 operator: _,
                 integer_type: _,
                 left,
                 right,
-            } => {
-                drop(right);
-                Some(left)
             }
-            Rvalue::Compare {
+            | Rvalue::Compare {
                 operator: _,
                 integer_type: _,
                 left,
                 right,
-            } => {
-                drop(right);
-                Some(left)
             }
-            Rvalue::ComparePointers {
+            | Rvalue::ComparePointers {
                 operator: _,
                 left,
                 right,
-            } => {
-                drop(right);
-                Some(left)
             }
-            Rvalue::Move {
+            | Rvalue::Move {
                 direction: _,
                 element: _,
-                pointer,
-                by,
-            } => {
-                drop(by);
-                Some(pointer)
+                pointer: left,
+                by: right,
             }
-            Rvalue::MoveFrom {
-                by,
+            | Rvalue::MoveFrom {
+                by: left,
                 element: _,
-                pointer,
-            } => {
-                drop(pointer);
-                Some(by)
+                pointer: right,
             }
-            Rvalue::Difference {
+            | Rvalue::Difference {
                 element: _,
                 left,
                 right,
-            } => {
-                drop(right);
-                Some(left)
             }
-            Rvalue::And(left, right) => {
-                drop(right);
-                Some(left)
-            }
-            Rvalue::Or(left, right) => {
+            | Rvalue::And(left, right)
+            | Rvalue::Or(left, right)
+            | Rvalue::Comma(left, right) => {
                 drop(right);
                 Some(left)
             }
@@ -369,50 +362,27 @@ impl Rvalue {
                 drop(otherwise);
                 Some(condition)
             }
-            Rvalue::Comma(left, right) => {
-                drop(right);
-                Some(left)
-            }
             Rvalue::Assign {
                 scalar: _,
                 target,
                 value,
-            } => {
-                drop(value);
-                Box::into_inner(target).into_pointer()
             }
-            Rvalue::Update {
+            | Rvalue::Update {
                 operator: _,
                 target_type: _,
                 integer_type: _,
                 target,
                 value,
+            }
+            | Rvalue::UpdatePointer {
+                direction: _,
+                element: _,
+                target,
+                by: value,
             } => {
                 drop(value);
                 Box::into_inner(target).into_pointer()
             }
-            Rvalue::UpdatePointer {
-                direction: _,
-                element: _,
-                target,
-                by,
-            } => {
-                drop(by);
-                Box::into_inner(target).into_pointer()
-            }
-            Rvalue::Step {
-                direction: _,
-                given: _,
-                target_type: _,
-                integer_type: _,
-                target,
-            } => Box::into_inner(target).into_pointer(),
-            Rvalue::StepPointer {
-                direction: _,
-                given: _,
-                element: _,
-                target,
-            } => Box::into_inner(target).into_pointer(),
             Rvalue::Call {
                 callee: _,
                 arguments,

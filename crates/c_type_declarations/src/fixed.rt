@@ -18,8 +18,7 @@ use c_tree::{
     Relocation, Scalar, StaticVariable,
 };
 use c_type_expressions::{Meaning, numbered};
-use c_type_rules::integer::residue;
-use c_type_rules::{Constancy, scalar_size};
+use c_type_rules::{Constancy, residue, scalar_size};
 use c_type_values::{Value, given};
 use debug_records::Code;
 use std::alloc::{AllocError, Global};

@@ -25,8 +25,7 @@ use c_tree::{
 };
 use c_type_declarations::{Progress, declaration};
 use c_type_values::{given, node};
-use debug_records::Code;
-use debug_records::Spot;
+use debug_records::{Code, Spot};
 use std::alloc::{AllocError, Global};
 
 /// What a statement means.

@@ -14,11 +14,11 @@ use crate::names::variable_name;
 use crate::reading::{depth, stack_pointer};
 use image_form::{ElementType, Image, Storage, Variable};
 use line_form::{frame_pointer, literal_pointer, null_text, static_pointer, unknown_pointer};
-use rv_machine::machine::Machine;
+use rv_machine::Machine;
 use std::alloc::{AllocError, Global};
 
 /// What an address is taken for.
-#[derive(Clone, Copy, Debug, PartialEq, Eq)]
+#[derive(Clone, Copy, PartialEq, Eq)]
 pub enum Target {
     /// So many bytes behind the start of a static variable, by its number.
     Static {
