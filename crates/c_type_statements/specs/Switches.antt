@@ -6,14 +6,14 @@ use Rattle.c_tree.specs.declared.object_type.ValueType.{ValueType}
 use Rattle.c_tree.specs.declared.object_type.ValueType.TheVariants.{Integer}
 use Rattle.c_tree.specs.Expressions.{ExpressionTree}
 use Rattle.c_tree.specs.Statements.{LabelTree, CaseLabel, DefaultLabel}
-use Rattle.c_tree.specs.TypedExpressions.{RvalueTree, rvalue_view}
+use Rattle.c_tree.specs.TypedExpressions.{RvalueTree}
 use Rattle.c_tree.specs.TypedStatements.{TypedStatementTree, TypedStatementTrees, statement_view}
 use Rattle.c_tree.specs.TypedStatements as typed-tree
 use Rattle.c_type_rules.specs.declared.constancy.Constancy.{Constancy}
 use Rattle.c_type_rules.specs.declared.constancy.Constancy.TheVariants.{Known}
 use Rattle.c_type_rules.specs.Integers.{promoted, wrapped}
 use Rattle.c_type_rules.specs.Constants.{same}
-use Rattle.c_type_values.specs.Values.{ValueTree, to_integer}
+use Rattle.c_type_values.specs.Values.{ValueTree, node_view, to_integer}
 use Rattle.c_type_expressions.specs.Codes.{E22}
 use Rattle.c_type_declarations.specs.Progress.{ProgressTree, Met, means, next_met, reached_by, value_met, breaks}
 use Rattle.c_type_declarations.specs.Initials.{tree_of}
@@ -30,7 +30,7 @@ pub record Chosen : Type 0 where
   pub kind : Option IntegerType
 
 abbrev pub chosen_view : declared-chosen.Chosen → Chosen
-chosen_view c = record { tree = rvalue_view c.tree; kind = c.kind }
+chosen_view c = record { tree = node_view c.tree; kind = c.kind }
 
 abbrev pub chosen_by : ValueType → Extent → ValueTree → ProgressTree → Met Chosen
 chosen_by (Integer t) extent v p = means (record { tree = (to_integer (promoted t) v).tree; kind = Some (promoted t) }) p
@@ -76,7 +76,7 @@ pub data PartTree : Type 0 where
 abbrev pub part_view : declared-part.Part → PartTree
 part_view (part.Case z) = Case z
 part_view part.Default = Default
-part_view (part.Statement s) = Statement (statement_view s)
+part_view (part.Statement s) = Statement (statement_view s.value)
 
 -- parts before statements
 abbrev pub put : PartTree → TypedStatementTrees → TypedStatementTrees

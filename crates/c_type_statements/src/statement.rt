@@ -16,7 +16,7 @@ use crate::ends::last_of_statement;
 use crate::label::{all_labels, misplaced};
 use crate::part::{Part, arranged};
 use crate::setting::{
-    Setting, condition, condition_if_any, return_value, run, start, step, unless,
+    Setting, condition, condition_if_any, return_value, run, start, step, unboxed, unless,
 };
 use crate::switch::{Labels, chosen_value, no_labels};
 use c_tree::{
@@ -24,6 +24,7 @@ use c_tree::{
     TypedStatements,
 };
 use c_type_declarations::{Progress, declaration};
+use c_type_values::{given, node};
 use debug_records::{Code, Spot};
 use std::alloc::{AllocError, Global};
 
@@ -34,23 +35,31 @@ pub fn statement(
     progress: &mut Progress,
     setting: Setting,
     s: &Statement,
-) -> Result<TypedStatement, AllocError>
-    ensures { IfOk result (λ t. means (typed_tree.statement_view t) (progress_view progress.new) ≡ statement_met setting (statement_view s.now) (progress_view progress.old)) }
+) -> Result<Box<TypedStatement>, AllocError>
+    ensures { IfOk result (λ t. means (typed_tree.statement_view t.value) (progress_view progress.new) ≡ statement_met setting (statement_view s.now) (progress_view progress.old)) }
 {
     match s {
         Statement::Block(block) => {
-            let body = block_in_scope(alloc, progress, setting, &block.statements)?;
-            Ok(TypedStatement::Block(Box::new(alloc, body)?))
+            let body = given!(block_in_scope(alloc, progress, setting, &block.statements));
+            let body = given!(node(alloc, body));
+            let made = given!(node(alloc, TypedStatement::Block(body)));
+            Ok(made)
         }
         Statement::Declaration(d) => {
-            let all = declaration(alloc, progress, d)?;
-            Ok(TypedStatement::Declaration(all))
+            let all = given!(declaration(alloc, progress, d));
+            let made = given!(node(alloc, TypedStatement::Declaration(all)));
+            Ok(made)
         }
-        Statement::Empty(spot) => Ok(TypedStatement::Empty(*spot)),
+        Statement::Empty(spot) => {
+            let made = given!(node(alloc, TypedStatement::Empty(*spot)));
+            Ok(made)
+        }
         Statement::Expression { value, .. } => {
             let spot = value.first();
-            let value = run(alloc, progress, value)?;
-            Ok(TypedStatement::Expression { spot, value })
+            let value = given!(run(alloc, progress, value));
+            let value = Box::into_inner(value);
+            let made = given!(node(alloc, TypedStatement::Expression { spot, value }));
+            Ok(made)
         }
         Statement::If {
             first,
@@ -58,9 +67,9 @@ pub fn statement(
             otherwise,
         } => {
             let last = last_of_statement(s);
-            let chosen = branch(alloc, progress, setting, last, first)?;
-            let built = branches(alloc, progress, setting, last, others)?;
-            let other = last_else(alloc, progress, setting, otherwise)?;
+            let chosen = given!(branch(alloc, progress, setting, last, first));
+            let built = given!(branches(alloc, progress, setting, last, others));
+            let other = given!(last_else(alloc, progress, setting, otherwise));
             nested(alloc, chosen, built, other)
         }
         Statement::While {
@@ -72,26 +81,28 @@ pub fn statement(
                 first: *spot,
                 last: last_of_statement(body),
             };
-            let tree = condition(alloc, progress, extent, e)?;
-            let body = statement(alloc, progress, setting.in_loop(), body)?;
-            Ok(TypedStatement::While {
+            let tree = given!(condition(alloc, progress, extent, e));
+            let body = given!(statement(alloc, progress, setting.in_loop(), body));
+            let made = given!(node(alloc, TypedStatement::While {
                 spot: e.first(),
-                condition: tree,
-                body: Box::new(alloc, body)?,
-            })
+                condition: Box::into_inner(tree),
+                body,
+            }));
+            Ok(made)
         }
         Statement::DoWhile {
             extent,
             body,
             condition: e,
         } => {
-            let body = statement(alloc, progress, setting.in_loop(), body)?;
-            let tree = condition(alloc, progress, *extent, e)?;
-            Ok(TypedStatement::DoWhile {
-                body: Box::new(alloc, body)?,
+            let body = given!(statement(alloc, progress, setting.in_loop(), body));
+            let tree = given!(condition(alloc, progress, *extent, e));
+            let made = given!(node(alloc, TypedStatement::DoWhile {
+                body,
                 spot: e.first(),
-                condition: tree,
-            })
+                condition: Box::into_inner(tree),
+            }));
+            Ok(made)
         }
         Statement::For {
             spot,
@@ -100,10 +111,10 @@ pub fn statement(
             step,
             body,
         } => {
-            progress.open(alloc)?;
-            let made = for_loop(
+            given!(progress.open(alloc));
+            let made = given!(for_loop(
                 alloc, progress, setting, *spot, start, condition, step, body,
-            )?;
+            ));
             progress.close();
             Ok(made)
         }
@@ -114,28 +125,31 @@ pub fn statement(
             labels,
             statement: s,
         } => {
-            misplaced(alloc, progress, labels)?;
+            given!(misplaced(alloc, progress, labels));
             statement(alloc, progress, setting, s)
         }
         Statement::Break(extent) => {
-            unless(progress, setting.may_break, Code::MISPLACED_JUMP, *extent)?;
-            Ok(TypedStatement::Break(extent.first))
+            given!(unless(progress, setting.may_break, Code::MISPLACED_JUMP, *extent));
+            let made = given!(node(alloc, TypedStatement::Break(extent.first)));
+            Ok(made)
         }
         Statement::Continue(extent) => {
-            unless(
+            given!(unless(
                 progress,
                 setting.may_continue,
                 Code::MISPLACED_JUMP,
                 *extent,
-            )?;
-            Ok(TypedStatement::Continue(extent.first))
+            ));
+            let made = given!(node(alloc, TypedStatement::Continue(extent.first)));
+            Ok(made)
         }
         Statement::Return { extent, value } => {
-            let value = return_value(alloc, progress, setting.result, *extent, value)?;
-            Ok(TypedStatement::Return {
+            let value = given!(return_value(alloc, progress, setting.result, *extent, value));
+            let made = given!(node(alloc, TypedStatement::Return {
                 spot: extent.first,
-                value,
-            })
+                value: unboxed(value),
+            }));
+            Ok(made)
         }
     }
 }
@@ -152,7 +166,7 @@ pub fn statements(
 {
     let mut parts = Vec::new(alloc);
     for one in all {
-        let made = statement(alloc, progress, setting, one)?;
+        let made = given!(statement(alloc, progress, setting, one));
         parts.push(Part::Statement(made))?;
     }
     arranged(alloc, parts)
@@ -168,8 +182,8 @@ fn block_in_scope(
 ) -> Result<TypedStatements, AllocError>
     ensures { IfOk result (λ t. means (typed_tree.statements_view t) (progress_view progress.new) ≡ in_scope (statements_met setting (chain (map statement_view all.now))) (progress_view progress.old)) }
 {
-    progress.open(alloc)?;
-    let made = statements(alloc, progress, setting, all)?;
+    given!(progress.open(alloc));
+    let made = given!(statements(alloc, progress, setting, all));
     progress.close();
     Ok(made)
 }
@@ -189,8 +203,8 @@ fn branch(
         first: branch.spot,
         last,
     };
-    let tree = condition(alloc, progress, extent, &branch.condition)?;
-    let then = statement(alloc, progress, setting, &branch.then)?;
+    let tree = given!(condition(alloc, progress, extent, &branch.condition));
+    let then = given!(statement(alloc, progress, setting, &branch.then));
     Ok(Built {
         spot: branch.condition.first(),
         condition: tree,
@@ -211,7 +225,7 @@ fn branches(
 {
     let mut built = Vec::new(alloc);
     for one in all {
-        let made = branch(alloc, progress, setting, last, one)?;
+        let made = given!(branch(alloc, progress, setting, last, one));
         built.push(made)?;
     }
     Ok(built)
@@ -224,13 +238,13 @@ fn last_else(
     progress: &mut Progress,
     setting: Setting,
     otherwise: &Option<Box<Statement>>,
-) -> Result<Option<TypedStatement>, AllocError>
-    ensures { IfOk result (λ t. means (option_map typed_tree.statement_view t) (progress_view progress.new) ≡ else_met setting (option_map (λ s. statement_view s.value) otherwise.now) (progress_view progress.old)) }
+) -> Result<Option<Box<TypedStatement>>, AllocError>
+    ensures { IfOk result (λ t. means (option_map (λ s. typed_tree.statement_view s.value) t) (progress_view progress.new) ≡ else_met setting (option_map (λ s. statement_view s.value) otherwise.now) (progress_view progress.old)) }
 {
     match otherwise {
         None => Ok(None),
         Some(s) => {
-            let made = statement(alloc, progress, setting, s)?;
+            let made = given!(statement(alloc, progress, setting, s));
             Ok(Some(made))
         }
     }
@@ -247,24 +261,25 @@ fn for_loop(
     test: &Option<Expression>,
     last: &Option<Expression>,
     body: &Statement,
-) -> Result<TypedStatement, AllocError>
-    ensures { IfOk result (λ t. means (typed_tree.statement_view t) (progress_view progress.new) ≡ for_met setting spot (start_view first.now) (option_map expression_view test.now) (option_map expression_view last.now) (statement_view body.now) (progress_view progress.old)) }
+) -> Result<Box<TypedStatement>, AllocError>
+    ensures { IfOk result (λ t. means (typed_tree.statement_view t.value) (progress_view progress.new) ≡ for_met setting spot (start_view first.now) (option_map expression_view test.now) (option_map expression_view last.now) (statement_view body.now) (progress_view progress.old)) }
 {
     let extent = Extent {
         first: spot,
         last: last_of_statement(body),
     };
-    let start = start(alloc, progress, first)?;
-    let condition = condition_if_any(alloc, progress, extent, test)?;
-    let step = step(alloc, progress, last)?;
-    let body = statement(alloc, progress, setting.in_loop(), body)?;
-    Ok(TypedStatement::For {
+    let start = given!(start(alloc, progress, first));
+    let condition = given!(condition_if_any(alloc, progress, extent, test));
+    let step = given!(step(alloc, progress, last));
+    let body = given!(statement(alloc, progress, setting.in_loop(), body));
+    let made = given!(node(alloc, TypedStatement::For {
         start,
         spot: head_of(spot, test),
-        condition,
+        condition: unboxed(condition),
         step,
-        body: Box::new(alloc, body)?,
-    })
+        body,
+    }));
+    Ok(made)
 }
 
 /// Where the place of a `for` stands: at its condition, or without one at its own first token.
@@ -286,28 +301,30 @@ fn switch(
     spot: Spot,
     block: &Block,
     value: &Expression,
-) -> Result<TypedStatement, AllocError>
-    ensures { IfOk result (λ t. means (typed_tree.statement_view t) (progress_view progress.new) ≡ switch_met setting spot (expression_view value.now) (chain (map statement_view block.now.statements.items)) block.now.closing (progress_view progress.old)) }
+) -> Result<Box<TypedStatement>, AllocError>
+    ensures { IfOk result (λ t. means (typed_tree.statement_view t.value) (progress_view progress.new) ≡ switch_met setting spot (expression_view value.now) (chain (map statement_view block.now.statements.items)) block.now.closing (progress_view progress.old)) }
 {
     let extent = Extent {
         first: spot,
         last: block.closing.at,
     };
-    let chosen = chosen_value(alloc, progress, extent, value)?;
-    progress.open(alloc)?;
-    let body = items(
+    let chosen = given!(chosen_value(alloc, progress, extent, value));
+    given!(progress.open(alloc));
+    let body = given!(items(
         alloc,
         progress,
         setting.in_switch(),
         chosen.kind,
         &block.statements,
-    )?;
+    ));
     progress.close();
-    Ok(TypedStatement::Switch {
+    let body = given!(node(alloc, body));
+    let made = given!(node(alloc, TypedStatement::Switch {
         spot: value.first(),
-        value: chosen.tree,
-        body: Box::new(alloc, body)?,
-    })
+        value: Box::into_inner(chosen.tree),
+        body,
+    }));
+    Ok(made)
 }
 
 /// The statements of the block of a `switch`.
@@ -324,7 +341,7 @@ fn items(
     let mut labels = no_labels(alloc);
     let mut parts = Vec::new(alloc);
     for one in all {
-        item(alloc, progress, setting, kind, &mut labels, &mut parts, one)?;
+        given!(item(alloc, progress, setting, kind, &mut labels, &mut parts, one));
     }
     arranged(alloc, parts)
 }
@@ -347,11 +364,11 @@ fn item(
             labels: own,
             statement: s,
         } => {
-            all_labels(alloc, progress, kind, labels, parts, own)?;
+            given!(all_labels(alloc, progress, kind, labels, parts, own));
             item(alloc, progress, setting, kind, labels, parts, s)
         }
         _ => {
-            let made = statement(alloc, progress, setting, s)?;
+            let made = given!(statement(alloc, progress, setting, s));
             parts.push(Part::Statement(made))?;
             Ok(())
         }
