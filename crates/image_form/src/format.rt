@@ -4,21 +4,14 @@ use crate::recipes::Node;
 use crate::tables::{AssignedPair, Change, FlowPair, Function, Place};
 use crate::variables::Variable;
 use crate::verdicts::VisibleRow;
-
-/// Where the compiler put scalars.
-#[derive(Clone, Copy, Debug, PartialEq, Eq)]
-pub enum Mode {
-    /// Each scalar has a stack slot of its own.
-    Slots,
-    /// Scalars share registers where they can.
-    Registers,
-}
+use debug_records::Mode;
 
 /// Machine code with the tables that its debugger reads.
 ///
 /// Functions, variables, code words and nodes are numbered from 0, places and changes from 1.
 #[derive(Debug, Drop)]
 pub struct Image {
+    /// Where the compiler put scalars.
     pub mode: Mode,
     /// The machine words, from address `0x00010000` on.
     pub code: Vec<u32>,

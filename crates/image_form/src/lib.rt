@@ -24,10 +24,10 @@ mod verdicts;
 mod writing;
 
 pub use fault::ImageErr;
-pub use format::{Image, Mode};
+pub use format::Image;
 pub use reading::read;
-pub use recipes::{Node, NodeOperation};
-pub use tables::{AssignedPair, Change, FlowPair, Function, Kind, Place};
+pub use recipes::Node;
+pub use tables::{AssignedPair, Change, FlowPair, Function, Place};
 pub use variables::{ElementType, Storage, Variable};
 pub use verdicts::{Verdict, VisibleRow};
 pub use writing::{spelling_is_unique, write};
