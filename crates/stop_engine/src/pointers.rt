@@ -4,10 +4,10 @@ ghost use Rattle.std.specs.Prelude.{◌≡◌, ◌≤◌, ◌+◌, ◌<◌, IfOk
 ghost use Rattle.image_form.specs.Form.{form};
 ghost use Rattle.image_form.specs.Rules.{IsImage};
 ghost use Rattle.image_form.specs.RulesOfFunctions.{IsPlaceNumber};
-ghost use Rattle.stop_engine.specs.Pointers.{IsTargetOf, distance, function_of, is_of, is_within, literals, local_offset, local_start, local_target, object_size, offset_within, stack_target, static_offset, static_start, static_target, static_target_of, pointed_at, pointer_text, target_text};
+ghost use Rattle.stop_view.specs.Pointers.{IsTargetOf, distance, function_of, is_of, is_within, literals, local_offset, local_start, local_target, object_size, offset_within, stack_target, static_offset, static_start, static_target, static_target_of, pointed_at, pointer_text, target_text};
 ghost use Rattle.rv_machine.specs.State.{reg};
-ghost use Rattle.stop_engine.specs.Reading.{depth, greatest_depth};
-ghost use Rattle.stop_engine.specs.Words.{element_size};
+ghost use Rattle.stop_view.specs.Reading.{depth, greatest_depth};
+ghost use Rattle.stop_view.specs.Words.{element_size};
 
 use crate::frames::{calling_place, frame_of, greatest_depth};
 use crate::names::variable_name;
@@ -16,27 +16,7 @@ use image_form::{ElementType, Image, Storage, Variable};
 use line_form::{frame_pointer, literal_pointer, null_text, static_pointer, unknown_pointer};
 use rv_machine::machine::Machine;
 use std::alloc::{AllocError, Global};
-
-/// What an address is taken for.
-#[derive(Clone, Copy, Debug, PartialEq, Eq)]
-pub enum Target {
-    /// So many bytes behind the start of a static variable, by its number.
-    Static {
-        variable: u32,
-        offset: u32,
-    },
-    /// So many bytes behind the start of a string literal; the first has number 1.
-    Literal {
-        number: u32,
-        offset: u32,
-    },
-    /// So many bytes behind the start of a variable of the activation at a depth.
-    Local {
-        variable: u32,
-        depth: u32,
-        offset: u32,
-    },
-}
+use stop_view::Target;
 
 /// How many bytes an element has.
 pub fn element_size(element: ElementType) -> u32
@@ -280,7 +260,7 @@ fn target_text(alloc: Global, image: &Image, target: Target) -> Result<Vec<u8>, 
 }
 
 /// The text of a pointer where the session stands at a place. `AllocError` where memory for it was refused.
-#[tactic(auto, unfolding(crate::specs::Pointers::pointer_text))]
+#[tactic(auto, unfolding(stop_view::specs::Pointers::pointer_text))]
 pub fn pointer_text(
     alloc: Global,
     image: &Image,

@@ -9,7 +9,9 @@ ghost use Rattle.places.specs.Flow.{AreInOrder};
 ghost use Rattle.places.specs.Path.{places};
 ghost use Rattle.places.specs.Route.{route_of};
 ghost use Rattle.stop_engine.specs.Tables.{AreTablesOf};
-ghost use Rattle.stop_engine.specs.Rows.{IsChangeNumber, IsFlowOf, IsRow, assignment_of, change_words, held_text, kind_of, recipe_levels, recovered_text, row_path, row_quest, row_sight, step_of, verdict_sight, via_of};
+ghost use Rattle.stop_engine.specs.Rows.{IsChangeNumber, IsFlowOf, IsRow, change_words, row_sight, verdict_sight};
+ghost use Rattle.stop_view.specs.Evidence.{assignment_of, row_path, row_quest, step_of, via_of};
+ghost use Rattle.stop_view.specs.Values.{held_text, recipe_levels, recovered_text};
 ghost use Rattle.stop_engine.specs.Sight.{sight_of};
 ghost use Rattle.stop_engine.specs.Sight as sight;
 
@@ -18,7 +20,7 @@ use crate::recipes::recipe_value;
 use crate::shown::Shown;
 use crate::tables::Tables;
 use crate::values::{variable_text, word_text};
-use debug_records::{Kind, Place, Var};
+use debug_records::{Place, Var};
 use image_form::{AssignedPair, FlowPair, Image, Verdict, VisibleRow};
 use line_form::change_text;
 use places::{Assignment, FlowTable, Path, Step, route};
@@ -61,18 +63,6 @@ pub fn flow_table(alloc: Global, image: &Image) -> Result<FlowTable, AllocError>
     Ok(FlowTable { steps, assignments })
 }
 
-/// What a change did.
-fn kind_of(kind: image_form::Kind) -> Kind
-    ensures { result ≡ kind_of kind }
-{
-    match kind {
-        image_form::Kind::Removed => Kind::Removed,
-        image_form::Kind::Moved => Kind::Moved,
-        image_form::Kind::Reused => Kind::Reused,
-        image_form::Kind::Replaced => Kind::Replaced,
-    }
-}
-
 /// The text of a change, by its number.
 fn change_words(
     alloc: Global,
@@ -89,7 +79,7 @@ fn change_words(
     let index = number as usize - 1;
     let change = image.changes[index];
     let pass = tables.names.pass(image, index);
-    Ok(change_text(alloc, number, pass, kind_of(change.kind), change.place)?)
+    Ok(change_text(alloc, number, pass, change.kind, change.place)?)
 }
 
 /// The place by which a path goes: that of the change, or that of the code word that wrote.
@@ -141,7 +131,7 @@ fn evidence_path(
 }
 
 /// How many levels a recipe has at most.
-#[tactic(auto, unfolding(crate::specs::Rows::recipe_levels))]
+#[tactic(auto, unfolding(stop_view::specs::Values::recipe_levels))]
 fn recipe_levels() -> usize
     ensures { result ≡ recipe_levels }
 {

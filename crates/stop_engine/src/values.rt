@@ -4,8 +4,8 @@ ghost use Rattle.std.specs.Prelude.{◌≡◌, ◌<◌, ◌^◌, IfOk, map};
 ghost use Rattle.image_form.specs.Form.{form};
 ghost use Rattle.image_form.specs.Rules.{IsImage};
 ghost use Rattle.image_form.specs.RulesOfFunctions.{IsPlaceNumber};
-ghost use Rattle.stop_engine.specs.Values.{element_texts, memory_text, most_elements, variable_text, word_text};
-ghost use Rattle.stop_engine.specs.Words.{element_word, memory_half, memory_word};
+ghost use Rattle.stop_view.specs.Values.{element_texts, memory_text, most_elements, variable_text, word_text};
+ghost use Rattle.stop_view.specs.Words.{element_word, memory_half, memory_word};
 
 use crate::pointers::{element_size, pointer_text};
 use crate::reading::stack_pointer;
@@ -26,7 +26,7 @@ fn memory_half(machine: &Machine, address: u32) -> u32
 }
 
 /// The number of four bytes of memory.
-#[tactic(auto, unfolding(crate::specs::Words::memory_word))]
+#[tactic(auto, unfolding(stop_view::specs::Words::memory_word))]
 fn memory_word(machine: &Machine, address: u32) -> u32
     ensures { result ≡ memory_word machine.now address }
 {
@@ -87,7 +87,7 @@ pub fn word_text(
 }
 
 /// How many elements of an array are shown at most.
-#[tactic(auto, unfolding(crate::specs::Values::most_elements))]
+#[tactic(auto, unfolding(stop_view::specs::Values::most_elements))]
 fn most_elements() -> u32
     ensures { result ≡ most_elements }
 {

@@ -12,8 +12,8 @@ use Rattle.image_form.specs.Rules.{IsImage}
 use Rattle.image_form.specs.RulesOfFunctions.{IsPlaceNumber}
 use Rattle.image_form.specs.RulesOfPlaces.{IsInFunction, word_address}
 use Rattle.rv_machine.specs.State.{State, reg, word}
-use Rattle.stop_engine.specs.Reading.{frames, frames_from, frame_of, greatest_depth, is_stack_address, owner_of}
-use Rattle.stop_engine.specs.Frames.{calling_place, return_address}
+use Rattle.stop_view.specs.Reading.{frames, frames_from, frame_of, greatest_depth, is_stack_address, owner_of}
+use Rattle.stop_view.specs.Callers.{calling_place, return_address}
 
 -- a number of which something is known is a number of the places
 numbered_place : (m : Form) (n : ℕ) (P : Place → Type 0) (o : Option Place) → numbered m.places n ≡ o → IsSomeAnd o P → IsPlaceNumber m n

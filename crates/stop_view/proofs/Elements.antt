@@ -6,8 +6,8 @@ use Rattle.std.proofs.lemmas.List.{map-append}
 use Rattle.image_form.specs.Form.{Form}
 use Rattle.image_form.specs.declared.variables.ElementType.{ElementType}
 use Rattle.rv_machine.specs.State.{State, word}
-use Rattle.stop_engine.specs.Words.{element_size, element_word}
-use Rattle.stop_engine.specs.Values.{element_texts, word_text}
+use Rattle.stop_view.specs.Words.{element_size, element_word}
+use Rattle.stop_view.specs.Values.{element_texts, word_text}
 
 -- one element more
 pub elements_more : (m : Form) (s : State) (place : ℕ) (element : ElementType) (n at w size : ℕ) (text : Vec ℕ Global) (texts more : List (Vec ℕ Global)) (whole : List (List ℕ))

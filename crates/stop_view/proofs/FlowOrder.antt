@@ -5,7 +5,7 @@ use Rattle.image_form.specs.Lists.{EachToNext}
 use Rattle.image_form.specs.RulesOfChanges.{IsPairBefore}
 use Rattle.places.specs.declared.flow.Step.{Step}
 use Rattle.places.specs.Flow.{AreInOrder, IsStepBefore}
-use Rattle.stop_engine.specs.Rows.{step_of}
+use Rattle.stop_view.specs.Evidence.{step_of}
 
 step_before_trans : (s u v : Step) → IsStepBefore s u → IsStepBefore u v → IsStepBefore s v
 step_before_trans s u v (inl g) (inl h) = inl (omega arith)

@@ -13,7 +13,7 @@ use Rattle.image_form.specs.RulesOfFunctions.{IsFunction, code_start}
 use Rattle.image_form.specs.RulesOfPlaces.{IsPlace, word_address}
 use Rattle.image_form.specs.Spelling.{size}
 use Rattle.image_form.proofs.TableLaws.{each_at}
-use Rattle.stop_engine.specs.Reading.{place_from}
+use Rattle.stop_view.specs.Reading.{place_from}
 
 -- the address of a word of the code
 pub record IsWordOf (m : Form) (a : ℕ) : Type 0 where

@@ -8,7 +8,7 @@ use Rattle.std.proofs.lemmas.List.Elements.{All-filter, filter_passes}
 use Rattle.image_form.specs.declared.verdicts.VisibleRow.{VisibleRow}
 use Rattle.image_form.specs.Lists.{EachToNext}
 use Rattle.image_form.specs.RulesOfChanges.{IsPairBefore}
-use Rattle.stop_engine.specs.Visible.{rows_at}
+use Rattle.stop_view.specs.Rows.{rows_at}
 
 -- ---- What a filter keeps of a list whose items that pass lie side by side
 

@@ -4,10 +4,10 @@ use Rattle.std.proofs.lemmas.Bool.Decides.{nat_tests}
 use Rattle.image_form.specs.Form.{Form}
 use Rattle.image_form.specs.declared.variables.Variable.{Variable}
 use Rattle.rv_machine.specs.State.{State, word}
-use Rattle.stop_engine.specs.declared.pointers.Target.{Target}
-use Rattle.stop_engine.specs.Reading.{frame_of}
-use Rattle.stop_engine.specs.Frames.{calling_place}
-use Rattle.stop_engine.specs.Pointers.{function_of, local_target, or_else, stack_target}
+use Rattle.stop_view.specs.declared.target.Target.{Target}
+use Rattle.stop_view.specs.Reading.{frame_of}
+use Rattle.stop_view.specs.Callers.{calling_place}
+use Rattle.stop_view.specs.Pointers.{function_of, local_target, or_else, stack_target}
 
 -- the object is one of the activation
 pub stack_found : (n : ℕ) (m : Form) (s : State) (address place frame deep function : ℕ) (variables : List Variable) (t : Target) → variables ≡ m.variables → function ≡ function_of m place

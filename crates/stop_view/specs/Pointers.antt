@@ -9,11 +9,11 @@ use Rattle.image_form.specs.declared.variables.Storage.TheVariants as kept
 use Rattle.image_form.specs.declared.variables.Variable.{Variable}
 use Rattle.rv_machine.specs.State.{State, reg, word}
 use Rattle.line_form.specs.Values.{null_text, static_pointer, literal_pointer, frame_pointer, unknown_pointer}
-use Rattle.stop_engine.specs.declared.pointers.Target.{Target}
-use Rattle.stop_engine.specs.declared.pointers.Target.TheVariants.{Static, Literal, Local}
-use Rattle.stop_engine.specs.Reading.{depth, frame_of, greatest_depth}
-use Rattle.stop_engine.specs.Frames.{calling_place}
-use Rattle.stop_engine.specs.Words.{element_size}
+use Rattle.stop_view.specs.declared.target.Target.{Target}
+use Rattle.stop_view.specs.declared.target.Target.TheVariants.{Static, Literal, Local}
+use Rattle.stop_view.specs.Reading.{depth, frame_of, greatest_depth}
+use Rattle.stop_view.specs.Callers.{calling_place}
+use Rattle.stop_view.specs.Words.{element_size}
 
 -- how many bytes an address lies behind the start of an object, around the end of the addresses
 abbrev pub distance : (address start : ℕ) → ℕ

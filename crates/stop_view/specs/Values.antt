@@ -1,5 +1,6 @@
 -- The texts of the values of variables.
-use Rattle.std.specs.Prelude.{ℕ, zero, suc, ◌+◌, ◌%◌, ◌==◌, nat_lt, min, if◌then◌else◌, List, [], ◌∷◌}
+use Rattle.std.specs.Prelude.{ℕ, zero, suc, ◌+◌, ◌%◌, ◌==◌, nat_lt, min, if◌then◌else◌, List, [], ◌∷◌, slice_get}
+use Rattle.std.specs.Option.{option_map_or}
 use Rattle.std.specs.Int.{cast_signed, w8, w16}
 use Rattle.image_form.specs.Form.{Form}
 use Rattle.image_form.specs.declared.variables.ElementType.{ElementType}
@@ -10,9 +11,10 @@ use Rattle.image_form.specs.declared.variables.Variable.{Variable}
 use Rattle.line_form.specs.Decimal.{decimal, signed_decimal}
 use Rattle.line_form.specs.Values.{array_text}
 use Rattle.rv_machine.specs.State.{State, reg, word}
-use Rattle.stop_engine.specs.Reading.{int_of_word}
-use Rattle.stop_engine.specs.Words.{element_size, element_word, home_word}
-use Rattle.stop_engine.specs.Pointers.{pointer_text}
+use Rattle.stop_view.specs.Reading.{int_of_word}
+use Rattle.stop_view.specs.Words.{element_size, element_word, home_word}
+use Rattle.stop_view.specs.Pointers.{pointer_text}
+use Rattle.stop_view.specs.Recipes.{recipe_value}
 
 -- the text of a word as a value of a type, which takes as many low bits as the type has
 abbrev pub word_text : Form → State → (place : ℕ) → ElementType → ℕ → List ℕ
@@ -50,3 +52,16 @@ stored_text m s place v (Slot offset) = word_text m s place v.element (home_word
 -- the text of what a variable's own storage holds
 abbrev pub variable_text : Form → State → (place : ℕ) → Variable → List ℕ
 variable_text m s place v = stored_text m s place v v.storage
+
+-- how many levels a recipe has at most
+unfoldable pub recipe_levels : ℕ
+recipe_levels = 4
+
+-- the text of the value of a recipe, as one of a variable's type
+abbrev pub recovered_text : Form → State → (place variable node : ℕ) → List ℕ
+recovered_text m s place variable node =
+    option_map_or (λ (v : Variable). word_text m s place v.element (recipe_value m s recipe_levels node)) (slice_get m.variables variable) []
+
+-- the text of the value that a variable's home holds
+abbrev pub held_text : Form → State → (place variable : ℕ) → List ℕ
+held_text m s place variable = option_map_or (λ (v : Variable). variable_text m s place v) (slice_get m.variables variable) []

@@ -6,7 +6,7 @@ use Rattle.image_form.specs.declared.variables.Storage.{Storage}
 use Rattle.image_form.specs.declared.variables.Storage.TheVariants.{Static, Frame, Register, Slot}
 use Rattle.rv_machine.specs.State.{State, reg, word}
 use Rattle.rv_machine.specs.Reading.{byte_at}
-use Rattle.stop_engine.specs.Reading.{slot_word}
+use Rattle.stop_view.specs.Reading.{slot_word}
 
 -- how many bytes an element has
 abbrev pub element_size : ElementType → ℕ

@@ -1,6 +1,6 @@
 use Rattle.std.proofs.Common.{length, ap, ◌∙◌, arith}
 use Rattle.image_form.specs.Form.{Form}
-use Rattle.stop_engine.proofs.PlacesByAddress.{places-fit}
+use Rattle.stop_view.proofs.PlacesByAddress.{places-fit}
 use Rattle.stop_engine.proofs.breaks.stops_on.Goals as goal
 
 pub overflow_cast-index : goal.overflow_cast-index
