@@ -5,7 +5,7 @@ use c_tree::{
     Arguments, Arithmetic, Callee, Declared, Initial, IntegerType, Lvalue, Object, ObjectType,
     Program, Rvalue, Scalar, TypedFunction, TypedStatement, TypedStatements, ValueType,
 };
-use debug_records::source::Spot;
+use debug_records::Spot;
 use std::alloc::Global;
 use std::test::Fail;
 

@@ -16,7 +16,7 @@ use crate::state::{Evaluated, Outcome, State, Tested};
 use crate::value::{Phase, Value};
 use c_places::number_at;
 use c_tree::{Declared, Initial, Rvalue, TypedStart, TypedStatement, TypedStatements, TypedStep};
-use debug_records::source::Spot;
+use debug_records::Spot;
 use std::alloc::{AllocError, Global};
 
 /// What an expression of the place at a spot comes to.
@@ -507,7 +507,7 @@ fn execute_return(
 }
 
 /// How a round of a loop ends.
-#[derive(Clone, Copy, Debug, PartialEq, Eq)]
+#[derive(Clone, Copy, PartialEq, Eq)]
 pub enum Round {
     /// The next round follows.
     Again,

@@ -1,9 +1,9 @@
 //! Where the constructs of a source stand.
 
-use debug_records::source::Spot;
+use debug_records::Spot;
 
 /// Where a construct stands, from its first token to its last.
-#[derive(Clone, Copy, Debug, PartialEq, Eq)]
+#[derive(Clone, Copy, PartialEq, Eq)]
 pub struct Extent {
     /// Where its first token begins.
     pub first: Spot,

@@ -12,8 +12,7 @@ use c_type_declarations::initial::numbered;
 use c_type_declarations::scope::declare;
 use c_type_expressions::{Meaning, Signature};
 use c_type_rules::{same_scalar, same_value};
-use debug_records::code::Code;
-use debug_records::source::Spot;
+use debug_records::{Code, Spot};
 use std::alloc::{AllocError, Global};
 
 /// Whether two lists of types are one.
@@ -100,7 +99,7 @@ pub fn add_function(
 }
 
 /// What becomes of a name that the library declares.
-#[derive(Clone, Copy, Debug, PartialEq, Eq)]
+#[derive(Clone, Copy, PartialEq, Eq)]
 enum Standing {
     /// It is the library's already.
     Known,

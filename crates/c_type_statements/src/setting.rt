@@ -15,11 +15,11 @@ use c_tree::{Expression, Extent, ForStart, Rvalue, TypedStart, TypedStep, ValueT
 use c_type_declarations::{Progress, declaration};
 use c_type_expressions::operand::is_zero;
 use c_type_values::{Value, converted, is_scalar};
-use debug_records::code::Code;
+use debug_records::Code;
 use std::alloc::{AllocError, Global};
 
 /// What a statement stands in.
-#[derive(Clone, Copy, Debug, PartialEq, Eq)]
+#[derive(Clone, Copy, PartialEq, Eq)]
 pub struct Setting {
     /// What its function gives.
     pub result: ValueType,

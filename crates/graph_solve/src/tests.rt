@@ -12,7 +12,7 @@ use crate::live_names::live;
 use crate::problem::Problem;
 use debug_records::Place;
 use graph_core::{Block, Comparison, End, Graph, Instr, Label, Name, NoteValue, Operand, Recipe};
-use recovery::Operation;
+use word_base::Operation;
 use std::alloc::{AllocError, Global};
 use std::test::Fail;
 

@@ -9,7 +9,7 @@ use debug_records::Mode;
 /// Machine code with the tables that its debugger reads.
 ///
 /// Functions, variables, code words and nodes are numbered from 0, places and changes from 1.
-#[derive(Debug, Drop)]
+#[derive(Drop)]
 pub struct Image {
     /// Where the compiler put scalars.
     pub mode: Mode,

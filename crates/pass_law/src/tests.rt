@@ -9,7 +9,7 @@ use crate::list::{RunErr, Trail, run_list};
 use crate::pass::Pass;
 use debug_records::{ChangeLog, Kind, PassName, Place, Var};
 use graph_core::{Block, End, Graph, Instr, Label, Name, NoteValue, Operand, Recipe, Unit};
-use places::{Assignment, FlowTable, Step};
+use places::{Assignment, FlowTable, FlowStep};
 use std::alloc::{AllocError, Global};
 use std::test::Fail;
 
@@ -135,11 +135,11 @@ fn unit_of_main(alloc: Global) -> Result<Unit, AllocError>
     let mut graphs = Vec::new(alloc);
     graphs.push(main_graph(alloc)?)?;
     let mut steps = Vec::new(alloc);
-    steps.push(Step {
+    steps.push(FlowStep {
         from: Place(1),
         to: Place(2),
     })?;
-    steps.push(Step {
+    steps.push(FlowStep {
         from: Place(2),
         to: Place(3),
     })?;

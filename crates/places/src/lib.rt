@@ -6,10 +6,8 @@ mod paths;
 mod routes;
 mod search;
 mod table;
-#[cfg(test)]
-mod tests;
 
-pub use flow::{Assignment, FlowTable, Step};
+pub use flow::{Assignment, FlowStep, FlowTable};
 pub use paths::{Path, is_path};
 pub use routes::route;
 pub use table::{PlaceRow, PlaceTable};

@@ -2,11 +2,7 @@
 #![tactic(auto)]
 
 mod home;
-mod operation;
 mod recipe;
-#[cfg(test)]
-mod tests;
 
-pub use home::{Home, home_value, slot_value};
-pub use operation::{Operation, Truncation, operate, truncate};
+pub use home::{FrameHome, home_value, slot_value};
 pub use recipe::{PlacedRecipe, value};

@@ -11,11 +11,11 @@ use crate::frames::frame_places;
 use crate::tables::Tables;
 use image_form::Image;
 use line_form::frame_line;
-use rv_machine::machine::Machine;
+use rv_machine::Machine;
 use std::alloc::{AllocError, Global};
 
 /// An activation that is live at a stop.
-#[derive(Debug, Drop)]
+#[derive(Drop)]
 pub struct Frame {
     /// The name of its function.
     pub function: Vec<u8>,

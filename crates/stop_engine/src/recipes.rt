@@ -7,7 +7,7 @@ ghost use Rattle.stop_view.specs.Words.{home_word};
 
 use crate::reading::slot_word;
 use image_form::{Image, Node, Storage};
-use rv_machine::machine::Machine;
+use rv_machine::Machine;
 use word_base::{operate, truncate};
 
 /// The value of a register, by its number.

@@ -24,7 +24,7 @@ use debug_records::{Place, Var};
 use image_form::{AssignedPair, FlowPair, Image, Verdict, VisibleRow};
 use line_form::change_text;
 use places::{Assignment, FlowTable, Path, Step, route};
-use rv_machine::machine::Machine;
+use rv_machine::Machine;
 use std::alloc::{AllocError, Global};
 
 /// The steps of an image.
