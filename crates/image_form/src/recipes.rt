@@ -11,7 +11,10 @@ pub enum Node {
     /// What a register holds, by its number below 32, or a slot, by 32 plus its offset.
     Home(u32),
     /// What a truncation leaves of a node's value.
-    Truncated { truncation: Truncation, operand: u32 },
+    Truncated {
+        truncation: Truncation,
+        operand: u32,
+    },
     /// What an operation computes of two nodes' values.
     Operated {
         operation: Operation,
