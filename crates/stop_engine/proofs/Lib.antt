@@ -13,3 +13,5 @@ mod StopTables
 mod ActivationLaws
 mod ValidRows
 mod VisibleLaws
+mod VariableListLaws
+mod StopsByLine

@@ -17,3 +17,4 @@ pub mod Sight
 pub mod Visible
 pub mod Activations
 pub mod AtStop
+pub mod VariableLists

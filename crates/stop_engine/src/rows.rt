@@ -13,7 +13,6 @@ ghost use Rattle.stop_engine.specs.Rows.{IsChangeNumber, IsFlowOf, IsRow, change
 ghost use Rattle.stop_view.specs.Evidence.{assignment_of, row_path, row_quest, step_of, via_of};
 ghost use Rattle.stop_view.specs.Values.{held_text, recipe_levels, recovered_text};
 ghost use Rattle.stop_engine.specs.Sight.{sight_of};
-ghost use Rattle.stop_engine.specs.Sight as sight;
 
 use crate::frames::owner_of;
 use crate::recipes::recipe_value;
@@ -104,6 +103,19 @@ pub struct Evidence {
     pub writer: Option<u32>,
 }
 
+/// What is said of the variable of a row.
+fn evidence_of(row: VisibleRow, change: u32, start: u32, writer: Option<u32>) -> Evidence
+    ensures { result ≡ (record { variable = row.variable; place = row.place; change = change; start = start; writer = writer }) }
+{
+    Evidence {
+        variable: row.variable,
+        place: row.place,
+        change,
+        start,
+        writer,
+    }
+}
+
 /// The path that shows why a variable is not shown, if there is one.
 fn evidence_path(
     alloc: Global,
@@ -143,18 +155,20 @@ fn recovered_text(
     alloc: Global,
     image: &Image,
     machine: &Machine,
+    tables: &Tables,
     place: u32,
     variable: u32,
     node: u32,
 ) -> Result<Vec<u8>, AllocError>
     requires image { IsImage (form image.now) }
+    requires tables { AreTablesOf (form image.now) tables.now }
     requires place { IsPlaceNumber (form image.now) place }
     requires variable { variable < length image.now.variables.items }
     ensures { IfOk result (λ text. text.items ≡ recovered_text (form image.now) machine.now place variable node) }
 {
     let element = image.variables[variable as usize].element;
     let word = recipe_value(image, machine, recipe_levels(), node);
-    Ok(word_text(alloc, image, machine, place, element, word)?)
+    Ok(word_text(alloc, image, machine, tables, place, element, word)?)
 }
 
 /// The text of the value that a variable's home holds.
@@ -162,16 +176,18 @@ pub fn held_text(
     alloc: Global,
     image: &Image,
     machine: &Machine,
+    tables: &Tables,
     place: u32,
     variable: usize,
 ) -> Result<Vec<u8>, AllocError>
     requires image { IsImage (form image.now) }
+    requires tables { AreTablesOf (form image.now) tables.now }
     requires place { IsPlaceNumber (form image.now) place }
     requires variable { variable < length image.now.variables.items }
     ensures { IfOk result (λ text. text.items ≡ held_text (form image.now) machine.now place variable) }
 {
     let kept = image.variables[variable];
-    Ok(variable_text(alloc, image, machine, place, kept)?)
+    Ok(variable_text(alloc, image, machine, tables, place, kept)?)
 }
 
 /// The value of a variable, computed anew.
@@ -191,45 +207,35 @@ fn anew(
     requires change { IsChangeNumber (form image.now) change }
     ensures { IfOk result (λ shown. sight_of shown ≡ verdict_sight (form image.now) machine.now row.place row.variable (Recovered change node)) }
 {
-    let value = recovered_text(alloc, image, machine, row.place, row.variable, node)?;
+    let value = recovered_text(alloc, image, machine, tables, row.place, row.variable, node)?;
     let change = change_words(alloc, image, tables, change)?;
     Ok(Shown::Recovered { value, change })
 }
 
-/// A variable that is not current.
-fn stale(
-    alloc: Global,
-    image: &Image,
-    tables: &Tables,
-    evidence: Evidence,
-) -> Result<Shown, AllocError>
-    requires image { IsImage (form image.now) }
-    requires tables { AreTablesOf (form image.now) tables.now }
-    requires change { IsChangeNumber (form image.now) evidence.change }
-    ensures { IfOk result (λ shown. sight_of shown ≡ sight.Noncurrent (change_words (form image.now) evidence.change)
-        (row_path (form image.now) evidence.variable evidence.change evidence.start evidence.writer evidence.place)) }
-{
-    let path = evidence_path(alloc, image, tables, evidence)?;
-    let change = change_words(alloc, image, tables, evidence.change)?;
-    Ok(Shown::Noncurrent { change, path })
+/// The change for which a variable is not shown, as a text, and the path that shows it, if there is one.
+#[derive(Drop)]
+pub struct Witness {
+    pub change: Vec<u8>,
+    pub path: Option<Path>,
 }
 
-/// A variable that is not resident.
-fn gone(
+/// Why a variable is not shown.
+fn witness(
     alloc: Global,
     image: &Image,
     tables: &Tables,
     evidence: Evidence,
-) -> Result<Shown, AllocError>
+) -> Result<Witness, AllocError>
     requires image { IsImage (form image.now) }
     requires tables { AreTablesOf (form image.now) tables.now }
     requires change { IsChangeNumber (form image.now) evidence.change }
-    ensures { IfOk result (λ shown. sight_of shown ≡ sight.Nonresident (change_words (form image.now) evidence.change)
-        (row_path (form image.now) evidence.variable evidence.change evidence.start evidence.writer evidence.place)) }
+    ensures change { IfOk result (λ w. w.change.items ≡ change_words (form image.now) evidence.change) }
+    ensures path { IfOk result (λ w. unwrap_or (option_map (λ p. places p) w.path) []
+        ≡ row_path (form image.now) evidence.variable evidence.change evidence.start evidence.writer evidence.place) }
 {
     let path = evidence_path(alloc, image, tables, evidence)?;
     let change = change_words(alloc, image, tables, evidence.change)?;
-    Ok(Shown::Nonresident { change, path })
+    Ok(Witness { change, path })
 }
 
 /// What is shown of the variable of a row. `AllocError` where memory for it was refused.
@@ -247,7 +253,7 @@ pub fn row_shown(
 {
     match row.verdict {
         Verdict::Home => {
-            let value = held_text(alloc, image, machine, row.place, row.variable as usize)?;
+            let value = held_text(alloc, image, machine, tables, row.place, row.variable as usize)?;
             Ok(Shown::Value(value))
         }
         Verdict::Recovered { change, node } => {
@@ -258,28 +264,18 @@ pub fn row_shown(
             start,
             writer,
         } => {
-            let evidence = Evidence {
-                variable: row.variable,
-                place: row.place,
-                change,
-                start,
-                writer,
-            };
-            Ok(stale(alloc, image, tables, evidence)?)
+            let evidence = evidence_of(row, change, start, writer);
+            let Witness { change, path } = witness(alloc, image, tables, evidence)?;
+            Ok(Shown::Noncurrent { change, path })
         }
         Verdict::Nonresident {
             change,
             start,
             writer,
         } => {
-            let evidence = Evidence {
-                variable: row.variable,
-                place: row.place,
-                change,
-                start,
-                writer,
-            };
-            Ok(gone(alloc, image, tables, evidence)?)
+            let evidence = evidence_of(row, change, start, writer);
+            let Witness { change, path } = witness(alloc, image, tables, evidence)?;
+            Ok(Shown::Nonresident { change, path })
         }
     }
 }

@@ -3,18 +3,18 @@ use Rattle.std.proofs.Common.{ℕ, zero, suc, ◌<◌, List, [], ◌∷◌, leng
 use Rattle.image_form.specs.declared.tables.FlowPair.{FlowPair}
 use Rattle.image_form.specs.Lists.{EachToNext}
 use Rattle.image_form.specs.RulesOfChanges.{IsPairBefore}
-use Rattle.places.specs.declared.flow.Step.{Step}
+use Rattle.places.specs.declared.flow.FlowStep.{FlowStep}
 use Rattle.places.specs.Flow.{AreInOrder, IsStepBefore}
 use Rattle.stop_view.specs.Evidence.{step_of}
 
-step_before_trans : (s u v : Step) → IsStepBefore s u → IsStepBefore u v → IsStepBefore s v
+step_before_trans : (s u v : FlowStep) → IsStepBefore s u → IsStepBefore u v → IsStepBefore s v
 step_before_trans s u v (inl g) (inl h) = inl (omega arith)
 step_before_trans s u v (inl g) (inr h) = inl (omega (arith, h.0))
 step_before_trans s u v (inr g) (inl h) = inl (omega (arith, g.0))
 step_before_trans s u v (inr g) (inr h) = inr (g.0 ∙ h.0, omega (arith, g.1, h.1))
 
 -- the first step comes before each later one
-first_before_later : (p : FlowPair) (pairs : List FlowPair) → EachToNext (λ (a b : FlowPair). IsPairBefore a.from a.to b.from b.to) (p ∷ pairs) → (j : ℕ) (d : Step) → j < length (map step_of pairs)
+first_before_later : (p : FlowPair) (pairs : List FlowPair) → EachToNext (λ (a b : FlowPair). IsPairBefore a.from a.to b.from b.to) (p ∷ pairs) → (j : ℕ) (d : FlowStep) → j < length (map step_of pairs)
     → IsStepBefore (step_of p) (get_or (map step_of pairs) j d)
 first_before_later p [] ascend j d lt = absurd (omega arith)
 first_before_later p (q ∷ pairs) ascend zero d lt = ascend.0

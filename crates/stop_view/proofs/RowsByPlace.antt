@@ -12,14 +12,14 @@ use Rattle.stop_view.specs.Rows.{rows_at}
 
 -- ---- What a filter keeps of a list whose items that pass lie side by side
 
-kept_behind : {A : Type 0} (p : A → Bool) (i : ℕ) (xs : List A) → ((k : ℕ) (d : A) → k < i → k < length xs → p (get_or xs k d) ≡ false) → filter p xs ≡ filter p (drop i xs)
+pub kept_behind : {A : Type 0} (p : A → Bool) (i : ℕ) (xs : List A) → ((k : ℕ) (d : A) → k < i → k < length xs → p (get_or xs k d) ≡ false) → filter p xs ≡ filter p (drop i xs)
 kept_behind p zero xs fails = refl
 kept_behind p (suc i) [] fails = refl
 kept_behind p (suc i) (x ∷ xs) fails =
     let first : p x ≡ false = fails 0 x (omega arith) (omega arith) in
     rw first (kept_behind p i xs (λ k d lt within. fails (suc k) d (omega arith) (omega arith)))
 
-none_kept : {A : Type 0} (p : A → Bool) (xs : List A) → ((k : ℕ) (d : A) → k < length xs → p (get_or xs k d) ≡ false) → filter p xs ≡ []
+pub none_kept : {A : Type 0} (p : A → Bool) (xs : List A) → ((k : ℕ) (d : A) → k < length xs → p (get_or xs k d) ≡ false) → filter p xs ≡ []
 none_kept p [] fails = refl
 none_kept p (x ∷ xs) fails =
     let first : p x ≡ false = fails 0 x (omega arith) in
