@@ -22,6 +22,7 @@ mod tables;
 #[cfg(test)]
 mod tests;
 mod values;
+mod variable_lists;
 mod views;
 mod visible;
 

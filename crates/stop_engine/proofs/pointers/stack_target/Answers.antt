@@ -1,10 +1,10 @@
 use Rattle.std.proofs.Common.{◌≡◌, suc, ◌+◌, ◌-◌, sym, ◌∙◌, subst, arith}
 use Rattle.image_form.specs.Form.{form}
 use Rattle.rv_machine.specs.State.{reg, word}
-use Rattle.stop_engine.specs.Pointers.{stack_target}
-use Rattle.stop_engine.specs.Reading.{depth, greatest_depth}
+use Rattle.stop_view.specs.Pointers.{stack_target}
+use Rattle.stop_view.specs.Reading.{depth, greatest_depth}
 use Rattle.stop_engine.proofs.NameBounds.{variables_fit}
-use Rattle.stop_engine.proofs.Targets.{stack_found, stack_last, stack_more}
+use Rattle.stop_view.proofs.Targets.{stack_found, stack_last, stack_more}
 use Rattle.stop_engine.proofs.pointers.stack_target.Goals as goal
 
 pub returns-in-Some-clause-found : goal.returns-in-Some-clause-found
