@@ -4,8 +4,6 @@
 pub mod change;
 pub mod code;
 pub mod source;
-#[cfg(test)]
-mod tests;
 
 pub use change::{Change, ChangeLog, Kind, PassName, Place, Var};
 pub use code::{Code, Letter, codes_in_use};

@@ -9,8 +9,6 @@ mod instruction;
 mod laws;
 mod name;
 mod recipe;
-#[cfg(test)]
-mod tests;
 mod unit;
 mod uses;
 mod validity;

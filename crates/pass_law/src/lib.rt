@@ -3,8 +3,6 @@
 
 mod list;
 mod pass;
-#[cfg(test)]
-mod tests;
 
 pub use list::{MAX_LIST_LENGTH, RunErr, Trail, run_list};
 pub use pass::Pass;

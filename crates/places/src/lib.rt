@@ -6,8 +6,6 @@ mod paths;
 mod routes;
 mod search;
 mod table;
-#[cfg(test)]
-mod tests;
 
 pub use flow::{Assignment, FlowTable, Step};
 pub use paths::{Path, is_path};

@@ -4,8 +4,6 @@
 mod home;
 mod operation;
 mod recipe;
-#[cfg(test)]
-mod tests;
 
 pub use home::{Home, home_value, slot_value};
 pub use operation::{Operation, Truncation, operate, truncate};

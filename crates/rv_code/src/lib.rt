@@ -10,6 +10,3 @@ mod operation;
 
 pub use decoding::decode;
 pub use encoding::encode;
-
-#[cfg(test)]
-mod tests;

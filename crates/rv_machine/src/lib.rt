@@ -6,5 +6,3 @@ mod arithmetic;
 pub mod event;
 pub mod law;
 pub mod machine;
-#[cfg(test)]
-mod tests;

@@ -17,6 +17,3 @@ mod word;
 pub use laws::a_text_has_at_most_one_program;
 pub use reading::read;
 pub use refusal::ThinErr;
-
-#[cfg(test)]
-mod tests;

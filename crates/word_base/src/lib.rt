@@ -9,6 +9,3 @@ pub use arithmetic::{
     sll, slt, sltu, sra, srl, sub,
 };
 pub use laws::operations_are_worked;
-
-#[cfg(test)]
-mod tests;
