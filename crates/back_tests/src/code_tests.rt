@@ -10,9 +10,9 @@ use std::process::Abort;
 // A word spells an instruction, and the instruction has that word.
 fn assert_spelled(rt: &impl Abort, word: u32, instruction: Instruction) {
     let found = decode(word);
-    assert_eq!(rt; found, Some(instruction), "decoded {word}");
+    assert!(rt; found == Some(instruction), "decoded {word}");
     if let Some(found) = found {
-        assert_eq!(rt; encode(found), word, "encoded {instruction:?}");
+        assert!(rt; encode(found) == word, "encoded {word}");
     }
 }
 
@@ -768,12 +768,12 @@ static NO_INSTRUCTION: [u32; 28] = [
 #[test]
 fn other_words_spell_nothing(rt: HostRuntime) {
     for word in &NO_INSTRUCTION {
-        assert_eq!(rt; decode(*word), None, "decoded {word}");
+        assert!(rt; decode(*word) == None, "decoded {word}");
     }
 }
 
 #[test]
 fn the_word_of_no_operation(rt: HostRuntime) {
     let nothing = Instruction::Immediate(ImmediateOperation::Addi, 0, 0, 0);
-    assert_eq!(rt; encode(nothing), 0x00000013);
+    assert!(rt; encode(nothing) == 0x00000013);
 }

@@ -56,9 +56,9 @@ fn lines_of(alloc: Global, image: &Image, limit: u64, orders: &[&str]) -> Result
 
 fn assert_lines(rt: &impl Abort, lines: &[Vec<u8>], expected: &[&str], shows: &str) {
     for (line, text) in lines.iter().zip(expected) {
-        assert_eq!(rt; line.as_slice(), text.as_bytes(), "{shows}");
+        assert!(rt; line.as_slice() == text.as_bytes(), "{shows}");
     }
-    assert_eq!(rt; lines.len(), expected.len(), "{shows}");
+    assert!(rt; lines.len() == expected.len(), "{shows}");
 }
 
 fn assert_session(rt: &impl Abort, alloc: Global, session: &Session) -> Result<(), Fail> {
@@ -126,19 +126,16 @@ fn each_session_has_its_lines(rt: HostRuntime) -> Result<(), Fail> {
 fn a_run_has_its_own_output(rt: HostRuntime) -> Result<(), Fail> {
     let image = addition_image(rt.alloc())?;
     let mut engine = Engine::new(rt.alloc(), &image, &[], 1000)?;
-    assert_eq!(rt; engine.taken(), [].as_slice());
+    assert!(rt; engine.taken() == [].as_slice());
     for place in 2..=4 {
-        assert_eq!(rt; engine.run_to(&Stops::Any)?, Halt::At { place, depth: 1 });
-        assert_eq!(rt; engine.taken(), [].as_slice());
+        assert!(rt; engine.run_to(&Stops::Any)? == Halt::At { place, depth: 1 });
+        assert!(rt; engine.taken() == [].as_slice());
     }
-    assert_eq!(rt;
-        engine.run_to(&Stops::Any)?,
-        Halt::At { place: 5, depth: 1 }
-    );
-    assert_eq!(rt; engine.taken(), b"A".as_slice());
+    assert!(rt; engine.run_to(&Stops::Any)? == Halt::At { place: 5, depth: 1 });
+    assert!(rt; engine.taken() == b"A".as_slice());
     for _ in 0..2 {
-        assert_eq!(rt; engine.run_to(&Stops::Any)?, Halt::Exited(5));
-        assert_eq!(rt; engine.taken(), [].as_slice());
+        assert!(rt; engine.run_to(&Stops::Any)? == Halt::Exited(5));
+        assert!(rt; engine.taken() == [].as_slice());
     }
     Ok(())
 }
@@ -154,7 +151,7 @@ fn a_name_is_shown_at_a_stop_alone(rt: HostRuntime) -> Result<(), Fail> {
     let Shown::Value(text) = engine.show(rt.alloc(), "x")? else {
         return Err(Fail::from("x is visible"));
     };
-    assert_eq!(rt; text.as_slice(), b"2".as_slice());
+    assert!(rt; text.as_slice() == b"2".as_slice());
     Ok(())
 }
 

@@ -13,12 +13,9 @@ use std::test::Fail;
 #[test]
 fn a_stop_is_shown_by_place_line_function_and_depth(rt: HostRuntime) -> Result<(), Fail> {
     let first = stop_line(rt.alloc(), 2, 2, b"main", 1)?;
-    assert_eq!(rt; first.as_slice(), b"at 2 line 2 main depth 1".as_slice());
+    assert!(rt; first.as_slice() == b"at 2 line 2 main depth 1".as_slice());
     let deep = stop_line(rt.alloc(), 4294967295, 10, b"f", 1024)?;
-    assert_eq!(rt;
-        deep.as_slice(),
-        b"at 4294967295 line 10 f depth 1024".as_slice()
-    );
+    assert!(rt; deep.as_slice() == b"at 4294967295 line 10 f depth 1024".as_slice());
     Ok(())
 }
 
@@ -32,7 +29,7 @@ fn an_exit_has_a_signed_value(rt: HostRuntime) -> Result<(), Fail> {
         (-2147483648, "exit -2147483648"),
     ];
     for (value, text) in cases {
-        assert_eq!(rt; exit_line(rt.alloc(), value)?.as_slice(), text.as_bytes());
+        assert!(rt; exit_line(rt.alloc(), value)?.as_slice() == text.as_bytes());
     }
     Ok(())
 }
@@ -45,37 +42,25 @@ fn a_fault_has_eight_digits(rt: HostRuntime) -> Result<(), Fail> {
         (0xdeadbeef, "fault 0xdeadbeef"),
     ];
     for (address, text) in cases {
-        assert_eq!(rt;
-            fault_line(rt.alloc(), address)?.as_slice(),
-            text.as_bytes()
-        );
+        assert!(rt; fault_line(rt.alloc(), address)?.as_slice() == text.as_bytes());
     }
     Ok(())
 }
 
 #[test]
 fn other_endings(rt: HostRuntime) -> Result<(), Fail> {
-    assert_eq!(rt; depth_line(rt.alloc())?.as_slice(), b"depth".as_slice());
-    assert_eq!(rt;
-        limit_line(rt.alloc(), 100)?.as_slice(),
-        b"limit 100".as_slice()
-    );
+    assert!(rt; depth_line(rt.alloc())?.as_slice() == b"depth".as_slice());
+    assert!(rt; limit_line(rt.alloc(), 100)?.as_slice() == b"limit 100".as_slice());
     let most = limit_line(rt.alloc(), u64::MAX)?;
-    assert_eq!(rt; most.as_slice(), b"limit 18446744073709551615".as_slice());
+    assert!(rt; most.as_slice() == b"limit 18446744073709551615".as_slice());
     Ok(())
 }
 
 #[test]
 fn variables_are_shown_by_name(rt: HostRuntime) -> Result<(), Fail> {
-    assert_eq!(rt;
-        value_line(rt.alloc(), b"x", b"-2")?.as_slice(),
-        b"x = -2".as_slice()
-    );
-    assert_eq!(rt;
-        nothing_here_line(rt.alloc(), b"h")?.as_slice(),
-        b"no h here".as_slice()
-    );
-    assert_eq!(rt; no_stop_line(rt.alloc())?.as_slice(), b"no stop".as_slice());
+    assert!(rt; value_line(rt.alloc(), b"x", b"-2")?.as_slice() == b"x = -2".as_slice());
+    assert!(rt; nothing_here_line(rt.alloc(), b"h")?.as_slice() == b"no h here".as_slice());
+    assert!(rt; no_stop_line(rt.alloc())?.as_slice() == b"no stop".as_slice());
     Ok(())
 }
 
@@ -86,10 +71,10 @@ fn each_byte_of_the_output_is_quoted(rt: HostRuntime) -> Result<(), Fail> {
         output.push(byte)?;
     }
     let lines = out_lines(rt.alloc(), &output)?;
-    assert_eq!(rt; lines.len(), 4);
-    assert_eq!(rt;
-        lines[0].as_slice(),
-        br##"out "\x00\x01\x02\x03\x04\x05\x06\x07\x08\x09\x0a\x0b\x0c\x0d\x0e\x0f\x10\x11\x12\x13\x14\x15\x16\x17\x18\x19\x1a\x1b\x1c\x1d\x1e\x1f !\"#$%&'()*+,-./0123456789:;<=>?""##.as_slice()
+    assert!(rt; lines.len() == 4);
+    assert!(rt;
+        lines[0].as_slice()
+            == br##"out "\x00\x01\x02\x03\x04\x05\x06\x07\x08\x09\x0a\x0b\x0c\x0d\x0e\x0f\x10\x11\x12\x13\x14\x15\x16\x17\x18\x19\x1a\x1b\x1c\x1d\x1e\x1f !\"#$%&'()*+,-./0123456789:;<=>?""##.as_slice()
     );
     assert_eq!(rt;
         lines[1].as_slice(),
@@ -114,12 +99,12 @@ fn a_line_shows_at_most_64_bytes(rt: HostRuntime) -> Result<(), Fail> {
     assert_eq!(rt; short[0].as_slice(), b"out \"A\"".as_slice());
 
     let full = b"aaaaaaaaaaaaaaaaaaaaaaaaaaaaaaaaaaaaaaaaaaaaaaaaaaaaaaaaaaaaaaaa";
-    assert_eq!(rt; out_lines(rt.alloc(), full)?.len(), 1);
+    assert!(rt; out_lines(rt.alloc(), full)?.len() == 1);
     let longer = [b'a'; 65];
     let lines = out_lines(rt.alloc(), &longer)?;
-    assert_eq!(rt; lines.len(), 2);
-    assert_eq!(rt; lines[0].as_slice(), out_line(rt.alloc(), full)?.as_slice());
-    assert_eq!(rt; lines[1].as_slice(), b"out \"a\"".as_slice());
+    assert!(rt; lines.len() == 2);
+    assert!(rt; lines[0].as_slice() == out_line(rt.alloc(), full)?.as_slice());
+    assert!(rt; lines[1].as_slice() == b"out \"a\"".as_slice());
     Ok(())
 }
 
@@ -127,7 +112,7 @@ fn a_line_shows_at_most_64_bytes(rt: HostRuntime) -> Result<(), Fail> {
 fn a_line_ends_with_a_line_feed(rt: HostRuntime) -> Result<(), Fail> {
     let mut text = no_stop_line(rt.alloc())?;
     end_line(&mut text)?;
-    assert_eq!(rt; text.as_slice(), b"no stop\n".as_slice());
+    assert!(rt; text.as_slice() == b"no stop\n".as_slice());
     Ok(())
 }
 
@@ -170,8 +155,8 @@ fn statuses_have_numbers_and_texts(rt: HostRuntime) -> Result<(), Fail> {
         ),
     ];
     for (status, number, text) in cases {
-        assert_eq!(rt; status.number(), number);
-        assert_eq!(rt; fault_text(rt.alloc(), &status)?.as_str(), text);
+        assert!(rt; status.number() == number);
+        assert!(rt; fault_text(rt.alloc(), &status)?.as_str() == text);
     }
     Ok(())
 }
@@ -179,25 +164,12 @@ fn statuses_have_numbers_and_texts(rt: HostRuntime) -> Result<(), Fail> {
 #[test]
 fn places_and_activations_are_listed(rt: HostRuntime) -> Result<(), Fail> {
     let places = [Place(3), Place(12)];
-    assert_eq!(rt;
-        break_line(rt.alloc(), &places)?.as_slice(),
-        b"break at 3 12".as_slice()
-    );
-    assert_eq!(rt;
-        no_place_line(rt.alloc(), 999)?.as_slice(),
-        b"no place on line 999".as_slice()
-    );
-    assert_eq!(rt;
-        no_function_line(rt.alloc(), b"f")?.as_slice(),
-        b"no function f".as_slice()
-    );
-    assert_eq!(rt;
-        no_locals_line(rt.alloc())?.as_slice(),
-        b"no locals".as_slice()
-    );
-    assert_eq!(rt;
-        frame_line(rt.alloc(), 1, b"main", 7, 9)?.as_slice(),
-        b"#1 main line 7 place 9".as_slice()
+    assert!(rt; break_line(rt.alloc(), &places)?.as_slice() == b"break at 3 12".as_slice());
+    assert!(rt; no_place_line(rt.alloc(), 999)?.as_slice() == b"no place on line 999".as_slice());
+    assert!(rt; no_function_line(rt.alloc(), b"f")?.as_slice() == b"no function f".as_slice());
+    assert!(rt; no_locals_line(rt.alloc())?.as_slice() == b"no locals".as_slice());
+    assert!(rt;
+        frame_line(rt.alloc(), 1, b"main", 7, 9)?.as_slice() == b"#1 main line 7 place 9".as_slice()
     );
     Ok(())
 }
@@ -205,46 +177,34 @@ fn places_and_activations_are_listed(rt: HostRuntime) -> Result<(), Fail> {
 #[test]
 fn changes_hide_and_recover_values(rt: HostRuntime) -> Result<(), Fail> {
     let change = change_text(rt.alloc(), 3, b"dead", Kind::Removed, 8)?;
-    assert_eq!(rt; change.as_slice(), b"3 dead removed 8".as_slice());
-    assert_eq!(rt;
-        change_line(rt.alloc(), 1, b"motion", Kind::Moved, b"x", 4)?.as_slice(),
-        b"1 motion moved x 4".as_slice()
+    assert!(rt; change.as_slice() == b"3 dead removed 8".as_slice());
+    assert!(rt;
+        change_line(rt.alloc(), 1, b"motion", Kind::Moved, b"x", 4)?.as_slice()
+            == b"1 motion moved x 4".as_slice()
     );
-    assert_eq!(rt;
-        recovered_line(rt.alloc(), b"x", b"-2", &change)?.as_slice(),
-        b"x = -2 (recovered: 3 dead removed 8)".as_slice()
+    assert!(rt;
+        recovered_line(rt.alloc(), b"x", b"-2", &change)?.as_slice()
+            == b"x = -2 (recovered: 3 dead removed 8)".as_slice()
     );
     let path = [Place(8), Place(9)];
-    assert_eq!(rt;
-        noncurrent_line(rt.alloc(), b"x", &change, &path)?.as_slice(),
-        b"x noncurrent: 3 dead removed 8, path 8 9".as_slice()
+    assert!(rt;
+        noncurrent_line(rt.alloc(), b"x", &change, &path)?.as_slice()
+            == b"x noncurrent: 3 dead removed 8, path 8 9".as_slice()
     );
-    assert_eq!(rt;
-        nonresident_line(rt.alloc(), b"x", &change, &[])?.as_slice(),
-        b"x nonresident: 3 dead removed 8, path none".as_slice()
+    assert!(rt;
+        nonresident_line(rt.alloc(), b"x", &change, &[])?.as_slice()
+            == b"x nonresident: 3 dead removed 8, path none".as_slice()
     );
     Ok(())
 }
 
 #[test]
 fn pointers_name_their_objects(rt: HostRuntime) -> Result<(), Fail> {
-    assert_eq!(rt; null_text(rt.alloc())?.as_slice(), b"null".as_slice());
-    assert_eq!(rt;
-        static_pointer(rt.alloc(), b"g", 4)?.as_slice(),
-        b"&g+4".as_slice()
-    );
-    assert_eq!(rt;
-        literal_pointer(rt.alloc(), 2, 0)?.as_slice(),
-        b"&#2+0".as_slice()
-    );
-    assert_eq!(rt;
-        frame_pointer(rt.alloc(), b"a", 3, 8)?.as_slice(),
-        b"&a@3+8".as_slice()
-    );
-    assert_eq!(rt;
-        unknown_pointer(rt.alloc(), 0x400)?.as_slice(),
-        b"?0x00000400".as_slice()
-    );
+    assert!(rt; null_text(rt.alloc())?.as_slice() == b"null".as_slice());
+    assert!(rt; static_pointer(rt.alloc(), b"g", 4)?.as_slice() == b"&g+4".as_slice());
+    assert!(rt; literal_pointer(rt.alloc(), 2, 0)?.as_slice() == b"&#2+0".as_slice());
+    assert!(rt; frame_pointer(rt.alloc(), b"a", 3, 8)?.as_slice() == b"&a@3+8".as_slice());
+    assert!(rt; unknown_pointer(rt.alloc(), 0x400)?.as_slice() == b"?0x00000400".as_slice());
     Ok(())
 }
 
@@ -253,13 +213,7 @@ fn an_array_lists_its_elements(rt: HostRuntime) -> Result<(), Fail> {
     let one = Vec::from_slice(rt.alloc(), b"1")?;
     let two = Vec::from_slice(rt.alloc(), b"-2")?;
     let values = vec![in rt.alloc(); one, two]?;
-    assert_eq!(rt;
-        array_text(rt.alloc(), &values, false)?.as_slice(),
-        b"{1, -2}".as_slice()
-    );
-    assert_eq!(rt;
-        array_text(rt.alloc(), &values, true)?.as_slice(),
-        b"{1, -2, ...}".as_slice()
-    );
+    assert!(rt; array_text(rt.alloc(), &values, false)?.as_slice() == b"{1, -2}".as_slice());
+    assert!(rt; array_text(rt.alloc(), &values, true)?.as_slice() == b"{1, -2, ...}".as_slice());
     Ok(())
 }

@@ -50,12 +50,20 @@ fn assert_leaves(rt: &impl Abort, alloc: Global, program: &Program) -> Result<()
     assert!(rt; program.code.len() <= 100 && program.bytes.len() <= 100);
     let machine = Machine::load(alloc, program.code, program.bytes, program.input)?;
     let ran = run(alloc, machine)?;
-    assert_eq!(rt; ran.ending, program.ending, "{}", program.shows);
-    assert_eq!(rt; ran.output.as_slice(), program.output, "{}", program.shows);
-    assert_eq!(rt; ran.machine.pc(), program.pc, "{}", program.shows);
+    assert!(rt; ran.ending == program.ending, "{}", program.shows);
+    assert!(rt;
+        ran.output.as_slice() == program.output,
+        "{}",
+        program.shows
+    );
+    assert!(rt; ran.machine.pc() == program.pc, "{}", program.shows);
     for (number, value) in program.registers {
         let found = ran.machine.registers().get(*number).copied();
-        assert_eq!(rt; found, Some(*value), "register {number}: {}", program.shows);
+        assert!(rt;
+            found == Some(*value),
+            "register {number}: {}",
+            program.shows
+        );
     }
     Ok(())
 }
@@ -539,12 +547,12 @@ fn jumps_go_where_they_say(rt: HostRuntime) -> Result<(), AllocError> {
 fn an_ending_comes_again_and_changes_nothing(rt: HostRuntime) -> Result<(), AllocError> {
     // addi a7, x0, 10; addi a0, x0, 3; ecall
     let mut machine = Machine::load(rt.alloc(), &[0x00a00893, 0x00300513, 0x00000073], &[], &[])?;
-    assert_eq!(rt; machine.step(), Event::Went);
-    assert_eq!(rt; machine.step(), Event::Went);
-    assert_eq!(rt; machine.step(), Event::Exited(3));
-    assert_eq!(rt; machine.step(), Event::Exited(3));
-    assert_eq!(rt; machine.pc(), 0x00010008);
-    assert_eq!(rt; machine.registers()[10], 3);
+    assert!(rt; machine.step() == Event::Went);
+    assert!(rt; machine.step() == Event::Went);
+    assert!(rt; machine.step() == Event::Exited(3));
+    assert!(rt; machine.step() == Event::Exited(3));
+    assert!(rt; machine.pc() == 0x00010008);
+    assert!(rt; machine.registers()[10] == 3);
     Ok(())
 }
 
@@ -552,8 +560,8 @@ fn an_ending_comes_again_and_changes_nothing(rt: HostRuntime) -> Result<(), Allo
 fn every_byte_can_be_read(rt: HostRuntime) -> Result<(), AllocError> {
     // lui sp, 0x2000; sw sp, -4(sp)
     let mut machine = Machine::load(rt.alloc(), &[0x02000137, 0xfe212e23], &[7, 8, 9], &[])?;
-    assert_eq!(rt; machine.step(), Event::Went);
-    assert_eq!(rt; machine.step(), Event::Went);
+    assert!(rt; machine.step() == Event::Went);
+    assert!(rt; machine.step() == Event::Went);
     for (address, byte) in [
         (0x00000000, 0x00),
         (0x0000ffff, 0x00),
@@ -573,7 +581,7 @@ fn every_byte_can_be_read(rt: HostRuntime) -> Result<(), AllocError> {
         (0x02000000, 0x00),
         (0xffffffff, 0x00),
     ] {
-        assert_eq!(rt; machine.byte(address), byte, "at {address}");
+        assert!(rt; machine.byte(address) == byte, "at {address}");
     }
     Ok(())
 }
@@ -582,12 +590,12 @@ fn every_byte_can_be_read(rt: HostRuntime) -> Result<(), AllocError> {
 fn the_stack_can_be_read_to_its_end(rt: HostRuntime) -> Result<(), AllocError> {
     // lui sp, 0x2000; sw sp, -4(sp)
     let mut machine = Machine::load(rt.alloc(), &[0x02000137, 0xfe212e23], &[], &[])?;
-    assert_eq!(rt; machine.step(), Event::Went);
-    assert_eq!(rt; machine.step(), Event::Went);
-    assert_eq!(rt; machine.stack_from(0x01fffffb), [0, 0, 0, 0, 2].as_slice());
-    assert_eq!(rt; machine.stack_from(0x01ffffff), [2].as_slice());
-    assert_eq!(rt; machine.stack_from(0x02000000).len(), 0);
-    assert_eq!(rt; machine.stack_from(0x00ffffff).len(), 0);
-    assert_eq!(rt; machine.stack_from(0x01000000).len(), 16777216);
+    assert!(rt; machine.step() == Event::Went);
+    assert!(rt; machine.step() == Event::Went);
+    assert!(rt; machine.stack_from(0x01fffffb) == [0, 0, 0, 0, 2].as_slice());
+    assert!(rt; machine.stack_from(0x01ffffff) == [2].as_slice());
+    assert!(rt; machine.stack_from(0x02000000).len() == 0);
+    assert!(rt; machine.stack_from(0x00ffffff).len() == 0);
+    assert!(rt; machine.stack_from(0x01000000).len() == 16777216);
     Ok(())
 }

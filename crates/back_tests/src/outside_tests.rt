@@ -41,9 +41,9 @@ fn load_gives_one_byte_past_its_limit(rt: HostRuntime) -> Result<(), Fail> {
     ];
     for (limit, bytes) in wanted {
         let got = shelf.load(alloc, "a", u32::from(limit))?;
-        assert_eq!(rt; got.as_slice(), bytes, "under {limit}");
+        assert!(rt; got.as_slice() == bytes, "under {limit}");
     }
-    assert_eq!(rt; shelf.load_faults(), 0);
+    assert!(rt; shelf.load_faults() == 0);
     Ok(())
 }
 
@@ -51,13 +51,10 @@ fn load_gives_one_byte_past_its_limit(rt: HostRuntime) -> Result<(), Fail> {
 fn absent_name_fails_and_counts(rt: HostRuntime) -> Result<(), Fail> {
     let alloc = rt.alloc();
     let mut shelf = shelf_of_alpha(alloc, &[])?;
-    assert_eq!(rt;
-        loaded(&mut shelf, alloc, "b").err(),
-        Some(ShelfErr::Failed)
-    );
-    assert_eq!(rt; loaded(&mut shelf, alloc, "").err(), Some(ShelfErr::Failed));
-    assert_eq!(rt; shelf.load_faults(), 2);
-    assert_eq!(rt; shelf.save_faults(), 0);
+    assert!(rt; loaded(&mut shelf, alloc, "b").err() == Some(ShelfErr::Failed));
+    assert!(rt; loaded(&mut shelf, alloc, "").err() == Some(ShelfErr::Failed));
+    assert!(rt; shelf.load_faults() == 2);
+    assert!(rt; shelf.save_faults() == 0);
     assert!(rt; shelf.held("b").is_none());
     Ok(())
 }
@@ -66,23 +63,14 @@ fn absent_name_fails_and_counts(rt: HostRuntime) -> Result<(), Fail> {
 fn loads_and_saves_are_numbered_together(rt: HostRuntime) -> Result<(), Fail> {
     let alloc = rt.alloc();
     let mut shelf = shelf_of_alpha(alloc, &[2, 4, 4])?;
-    assert_eq!(rt;
-        loaded(&mut shelf, alloc, "a")?.as_slice(),
-        b"alpha".as_slice()
-    );
-    assert_eq!(rt; shelf.save(alloc, "a", b"beta"), Err(ShelfErr::Failed));
+    assert!(rt; loaded(&mut shelf, alloc, "a")?.as_slice() == b"alpha".as_slice());
+    assert!(rt; shelf.save(alloc, "a", b"beta") == Err(ShelfErr::Failed));
     assert!(rt; holds(&shelf, "a", b"alpha"));
-    assert_eq!(rt; shelf.save(alloc, "a", b"gamma"), Ok(()));
-    assert_eq!(rt;
-        loaded(&mut shelf, alloc, "a").err(),
-        Some(ShelfErr::Failed)
-    );
-    assert_eq!(rt;
-        loaded(&mut shelf, alloc, "a")?.as_slice(),
-        b"gamma".as_slice()
-    );
-    assert_eq!(rt; shelf.load_faults(), 1);
-    assert_eq!(rt; shelf.save_faults(), 1);
+    assert!(rt; shelf.save(alloc, "a", b"gamma") == Ok(()));
+    assert!(rt; loaded(&mut shelf, alloc, "a").err() == Some(ShelfErr::Failed));
+    assert!(rt; loaded(&mut shelf, alloc, "a")?.as_slice() == b"gamma".as_slice());
+    assert!(rt; shelf.load_faults() == 1);
+    assert!(rt; shelf.save_faults() == 1);
     Ok(())
 }
 
@@ -92,8 +80,8 @@ fn place_is_no_numbered_call(rt: HostRuntime) -> Result<(), Fail> {
     let mut shelf = shelf_of_alpha(alloc, &[1])?;
     shelf.place(alloc, "a", b"")?;
     assert!(rt; holds(&shelf, "a", b""));
-    assert_eq!(rt; shelf.save(alloc, "b", b"beta"), Err(ShelfErr::Failed));
-    assert_eq!(rt; shelf.save(alloc, "b", b"beta"), Ok(()));
+    assert!(rt; shelf.save(alloc, "b", b"beta") == Err(ShelfErr::Failed));
+    assert!(rt; shelf.save(alloc, "b", b"beta") == Ok(()));
     assert!(rt; holds(&shelf, "b", b"beta"));
     Ok(())
 }
@@ -102,44 +90,38 @@ fn place_is_no_numbered_call(rt: HostRuntime) -> Result<(), Fail> {
 fn sink_takes_all_but_the_pieces_that_fail(rt: HostRuntime) -> Result<(), Fail> {
     let alloc = rt.alloc();
     let mut sink = MemSink::new(alloc, &[2])?;
-    assert_eq!(rt; put(&mut sink, alloc, b"one "), Ok(()));
-    assert_eq!(rt; put(&mut sink, alloc, b"two "), Err(PutErr::Failed));
-    assert_eq!(rt; put(&mut sink, alloc, b"three"), Ok(()));
-    assert_eq!(rt; sink.bytes(), b"one three".as_slice());
-    assert_eq!(rt; sink.faults(), 1);
+    assert!(rt; put(&mut sink, alloc, b"one ") == Ok(()));
+    assert!(rt; put(&mut sink, alloc, b"two ") == Err(PutErr::Failed));
+    assert!(rt; put(&mut sink, alloc, b"three") == Ok(()));
+    assert!(rt; sink.bytes() == b"one three".as_slice());
+    assert!(rt; sink.faults() == 1);
     Ok(())
 }
 
 #[test]
 fn quiet_sink_never_fails(rt: HostRuntime) {
     let mut sink = QuietSink;
-    assert_eq!(rt; put(&mut sink, rt.alloc(), b"one"), Ok(()));
-    assert_eq!(rt; sink.faults(), 0);
+    assert!(rt; put(&mut sink, rt.alloc(), b"one") == Ok(()));
+    assert!(rt; sink.faults() == 0);
 }
 
 #[test]
 fn path_that_leads_nowhere_fails_and_counts(rt: HostRuntime) -> Result<(), Fail> {
     let alloc = rt.alloc();
     let mut shelf = FileShelf::new(rt.clone()?);
-    assert_eq!(rt;
-        loaded(&mut shelf, alloc, "no-such-folder/a").err(),
-        Some(ShelfErr::Failed)
-    );
-    assert_eq!(rt; shelf.load_faults(), 1);
-    assert_eq!(rt; shelf.save_faults(), 0);
-    assert_eq!(rt;
-        shelf.save(alloc, "no-such-folder/a", b"alpha"),
-        Err(ShelfErr::Failed)
-    );
-    assert_eq!(rt; shelf.load_faults(), 1);
-    assert_eq!(rt; shelf.save_faults(), 1);
+    assert!(rt; loaded(&mut shelf, alloc, "no-such-folder/a").err() == Some(ShelfErr::Failed));
+    assert!(rt; shelf.load_faults() == 1);
+    assert!(rt; shelf.save_faults() == 0);
+    assert!(rt; shelf.save(alloc, "no-such-folder/a", b"alpha") == Err(ShelfErr::Failed));
+    assert!(rt; shelf.load_faults() == 1);
+    assert!(rt; shelf.save_faults() == 1);
     Ok(())
 }
 
 #[test]
 fn standard_output_takes_a_piece(rt: HostRuntime) -> Result<(), Fail> {
     let mut sink = StdoutSink::new(rt.clone()?);
-    assert_eq!(rt; put(&mut sink, rt.alloc(), b"a piece\n"), Ok(()));
-    assert_eq!(rt; sink.faults(), 0);
+    assert!(rt; put(&mut sink, rt.alloc(), b"a piece\n") == Ok(()));
+    assert!(rt; sink.faults() == 0);
     Ok(())
 }

@@ -29,7 +29,7 @@ fn codes_have_a_letter_and_two_digits(rt: HostRuntime) -> Result<(), Fail> {
         ),
     ];
     for (code, text) in cases {
-        assert_eq!(rt; code.to_string(rt.alloc())?.as_str(), text);
+        assert!(rt; code.to_string(rt.alloc())?.as_str() == text);
     }
     Ok(())
 }
@@ -46,7 +46,7 @@ fn pass_names_are_1_to_16_lower_case_letters(rt: HostRuntime) -> Result<(), Fail
         (b"copy2", false),
     ];
     for (bytes, is_name) in cases {
-        assert_eq!(rt; PassName::of(bytes).is_some(), is_name);
+        assert!(rt; PassName::of(bytes).is_some() == is_name);
     }
     Ok(())
 }
@@ -57,8 +57,8 @@ fn changes_are_numbered_from_1(rt: HostRuntime) -> Result<(), Fail> {
     let Some(pass) = PassName::of(b"dead") else {
         return Err(Fail::new("dead is a name"));
     };
-    assert_eq!(rt; log.push(pass, Kind::Removed, Place(3), Var(0))?, 1);
-    assert_eq!(rt; log.push(pass, Kind::Removed, Place(5), Var(1))?, 2);
-    assert_eq!(rt; log.changes().len(), 2);
+    assert!(rt; log.push(pass, Kind::Removed, Place(3), Var(0))? == 1);
+    assert!(rt; log.push(pass, Kind::Removed, Place(5), Var(1))? == 2);
+    assert!(rt; log.changes().len() == 2);
     Ok(())
 }

@@ -64,23 +64,23 @@ fn is_at(statement: &Statement, position: u32, line: u32) -> bool {
 #[test]
 fn worked_program_has_its_positions_and_lines(rt: HostRuntime) -> Result<(), Fail> {
     let program = read(rt.alloc(), WORKED.as_bytes())?;
-    assert_eq!(rt;
-        program.entry,
-        Spot {
-            position: 23,
-            line: 2
-        }
+    assert!(rt;
+        program.entry
+            == Spot {
+                position: 23,
+                line: 2
+            }
     );
-    assert_eq!(rt; program.body.len(), 3);
+    assert!(rt; program.body.len() == 3);
     assert!(rt; is_at(&program.body[0], 38, 2));
     assert!(rt; is_at(&program.body[1], 43, 2));
     assert!(rt; is_at(&program.body[2], 50, 2));
-    assert_eq!(rt;
-        program.last,
-        Spot {
-            position: 63,
-            line: 2
-        }
+    assert!(rt;
+        program.last
+            == Spot {
+                position: 63,
+                line: 2
+            }
     );
     Ok(())
 }
@@ -88,28 +88,28 @@ fn worked_program_has_its_positions_and_lines(rt: HostRuntime) -> Result<(), Fai
 #[test]
 fn worked_program_has_its_tree(rt: HostRuntime) -> Result<(), Fail> {
     let program = read(rt.alloc(), WORKED.as_bytes())?;
-    assert_eq!(rt; program.body.len(), 3);
+    assert!(rt; program.body.len() == 3);
     match &program.body[0].action {
         Action::Declare(name, value) => {
-            assert_eq!(rt; name.as_str(), "x");
-            assert_eq!(rt; value.first, Term::Constant(2));
-            assert_eq!(rt; value.rest.len(), 0);
+            assert!(rt; name.as_str() == "x");
+            assert!(rt; value.first == Term::Constant(2));
+            assert!(rt; value.rest.len() == 0);
         }
         _ => assert!(rt; false),
     }
     match &program.body[1].action {
         Action::Assign(variable, value) => {
-            assert_eq!(rt; *variable, 0);
-            assert_eq!(rt; value.first, Term::Variable(0));
-            assert_eq!(rt; value.rest.as_slice(), [Term::Constant(3)].as_slice());
+            assert!(rt; *variable == 0);
+            assert!(rt; value.first == Term::Variable(0));
+            assert!(rt; value.rest.as_slice() == [Term::Constant(3)].as_slice());
         }
         _ => assert!(rt; false),
     }
     match &program.body[2].action {
-        Action::Put(value) => assert_eq!(rt; value.first, Term::Constant(65)),
+        Action::Put(value) => assert!(rt; value.first == Term::Constant(65)),
         _ => assert!(rt; false),
     }
-    assert_eq!(rt; program.returned.first, Term::Variable(0));
+    assert!(rt; program.returned.first == Term::Variable(0));
     Ok(())
 }
 
@@ -117,21 +117,21 @@ fn worked_program_has_its_tree(rt: HostRuntime) -> Result<(), Fail> {
 fn lines_count_line_feeds(rt: HostRuntime) -> Result<(), Fail> {
     let text = b"#include <stdio.h>\n\nint\r\nmain(\x0bvoid)\x0c{\n\nint\ta\n=1;return\na;\n}";
     let program = read(rt.alloc(), text)?;
-    assert_eq!(rt;
-        program.entry,
-        Spot {
-            position: 25,
-            line: 4
-        }
+    assert!(rt;
+        program.entry
+            == Spot {
+                position: 25,
+                line: 4
+            }
     );
-    assert_eq!(rt; program.body.len(), 1);
+    assert!(rt; program.body.len() == 1);
     assert!(rt; is_at(&program.body[0], 44, 6));
-    assert_eq!(rt;
-        program.last,
-        Spot {
-            position: 49,
-            line: 7
-        }
+    assert!(rt;
+        program.last
+            == Spot {
+                position: 49,
+                line: 7
+            }
     );
     Ok(())
 }

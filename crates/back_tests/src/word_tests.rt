@@ -356,12 +356,12 @@ static ROWS: [Row; 17] = [
 fn sums_and_products(rt: HostRuntime) {
     for row in &ROWS {
         let (a, b) = (row.a, row.b);
-        assert_eq!(rt; add(a, b), row.add, "add {a} {b}");
-        assert_eq!(rt; sub(a, b), row.sub, "sub {a} {b}");
-        assert_eq!(rt; mul(a, b), row.mul, "mul {a} {b}");
-        assert_eq!(rt; mulh(a, b), row.mulh, "mulh {a} {b}");
-        assert_eq!(rt; mulhu(a, b), row.mulhu, "mulhu {a} {b}");
-        assert_eq!(rt; mulhsu(a, b), row.mulhsu, "mulhsu {a} {b}");
+        assert!(rt; add(a, b) == row.add, "add {a} {b}");
+        assert!(rt; sub(a, b) == row.sub, "sub {a} {b}");
+        assert!(rt; mul(a, b) == row.mul, "mul {a} {b}");
+        assert!(rt; mulh(a, b) == row.mulh, "mulh {a} {b}");
+        assert!(rt; mulhu(a, b) == row.mulhu, "mulhu {a} {b}");
+        assert!(rt; mulhsu(a, b) == row.mulhsu, "mulhsu {a} {b}");
     }
 }
 
@@ -369,10 +369,10 @@ fn sums_and_products(rt: HostRuntime) {
 fn quotients_and_remainders(rt: HostRuntime) {
     for row in &ROWS {
         let (a, b) = (row.a, row.b);
-        assert_eq!(rt; div_signed(a, b), row.div_signed, "div {a} {b}");
-        assert_eq!(rt; div_unsigned(a, b), row.div_unsigned, "divu {a} {b}");
-        assert_eq!(rt; rem_signed(a, b), row.rem_signed, "rem {a} {b}");
-        assert_eq!(rt; rem_unsigned(a, b), row.rem_unsigned, "remu {a} {b}");
+        assert!(rt; div_signed(a, b) == row.div_signed, "div {a} {b}");
+        assert!(rt; div_unsigned(a, b) == row.div_unsigned, "divu {a} {b}");
+        assert!(rt; rem_signed(a, b) == row.rem_signed, "rem {a} {b}");
+        assert!(rt; rem_unsigned(a, b) == row.rem_unsigned, "remu {a} {b}");
     }
 }
 
@@ -380,11 +380,11 @@ fn quotients_and_remainders(rt: HostRuntime) {
 fn shifts_and_comparisons(rt: HostRuntime) {
     for row in &ROWS {
         let (a, b) = (row.a, row.b);
-        assert_eq!(rt; sll(a, b), row.sll, "sll {a} {b}");
-        assert_eq!(rt; srl(a, b), row.srl, "srl {a} {b}");
-        assert_eq!(rt; sra(a, b), row.sra, "sra {a} {b}");
-        assert_eq!(rt; slt(a, b), row.slt, "slt {a} {b}");
-        assert_eq!(rt; sltu(a, b), row.sltu, "sltu {a} {b}");
+        assert!(rt; sll(a, b) == row.sll, "sll {a} {b}");
+        assert!(rt; srl(a, b) == row.srl, "srl {a} {b}");
+        assert!(rt; sra(a, b) == row.sra, "sra {a} {b}");
+        assert!(rt; slt(a, b) == row.slt, "slt {a} {b}");
+        assert!(rt; sltu(a, b) == row.sltu, "sltu {a} {b}");
     }
 }
 

@@ -13,7 +13,7 @@ use c_tree::{
 use std::alloc::{AllocError, Global};
 
 /// The place at a position assigns an object.
-#[derive(Clone, Copy, Debug, PartialEq, Eq)]
+#[derive(Clone, Copy, PartialEq, Eq)]
 pub struct Assigned {
     pub at: u32,
     pub object: Object,

@@ -4,7 +4,7 @@ use crate::memory::Object;
 use crate::value::Value;
 
 /// An activation of a function: the function by its number in text order from 0, and the place at which it stands, by its number from 1. Where the activation waits for a call, that is the place of the call.
-#[derive(Clone, Copy, Debug, PartialEq, Eq)]
+#[derive(Clone, Copy, PartialEq, Eq)]
 pub struct Frame {
     pub function: u32,
     pub place: usize,
@@ -45,7 +45,7 @@ pub enum Event {
 }
 
 /// Why a run goes no further.
-#[derive(Clone, Copy, Debug, PartialEq, Eq)]
+#[derive(Clone, Copy, PartialEq, Eq)]
 pub enum Ending {
     /// C does not define what comes next.
     Undefined,

@@ -11,7 +11,7 @@ use c_tree::{ObjectType, Scalar};
 use std::alloc::{AllocError, Global};
 
 /// Whose an object is: a named one of static storage or a string literal by its number, or an automatic variable by its number with the depth of its activation, 1 for the first of `main`.
-#[derive(Clone, Copy, Debug, PartialEq, Eq)]
+#[derive(Clone, Copy, PartialEq, Eq)]
 pub enum Owner {
     Static(usize),
     Literal(usize),

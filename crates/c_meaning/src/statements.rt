@@ -507,7 +507,7 @@ fn execute_return(
 }
 
 /// How a round of a loop ends.
-#[derive(Clone, Copy, Debug, PartialEq, Eq)]
+#[derive(Clone, Copy, PartialEq, Eq)]
 pub enum Round {
     /// The next round follows.
     Again,

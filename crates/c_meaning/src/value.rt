@@ -1,7 +1,7 @@
 //! Values, and what becomes of the objects that hold them (ISO/IEC 9899:2011, 6.2.4 and 6.2.6).
 
 /// A value.
-#[derive(Clone, Copy, Debug, PartialEq, Eq)]
+#[derive(Clone, Copy, PartialEq, Eq)]
 pub enum Value {
     /// A whole number of an integer type.
     Number(i64),
@@ -12,7 +12,7 @@ pub enum Value {
 }
 
 /// How far the lifetime of an object has come (6.2.4).
-#[derive(Clone, Copy, Debug, PartialEq, Eq)]
+#[derive(Clone, Copy, PartialEq, Eq)]
 pub enum Phase {
     /// Its own initializer is being evaluated.
     Initialising,

@@ -22,7 +22,7 @@ use debug_records::Spot;
 use std::alloc::{AllocError, Global};
 
 /// Which expressions may stand at a place: each sort holds those below it.
-#[derive(Clone, Copy, Debug)]
+#[derive(Clone, Copy)]
 pub enum Sort {
     /// Any expression.
     Comma,
@@ -343,7 +343,7 @@ fn size(
 }
 
 /// How a suffix begins.
-#[derive(Clone, Copy, Debug)]
+#[derive(Clone, Copy)]
 pub enum SuffixStart {
     /// `[`
     Index,

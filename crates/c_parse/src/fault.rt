@@ -7,7 +7,7 @@ use debug_records::Code;
 use std::alloc::{AllocError, AllocFailed};
 
 /// Where reading stops.
-#[derive(Clone, Copy, Debug)]
+#[derive(Clone, Copy)]
 pub enum Stuck {
     /// Before a token, for the rule of the code, on the token's line.
     At(Code, u32),
@@ -16,7 +16,7 @@ pub enum Stuck {
 }
 
 /// Why reading gives nothing.
-#[derive(Clone, Copy, Debug)]
+#[derive(Clone, Copy)]
 pub enum ParseErr {
     /// It stops.
     Stuck(Stuck),

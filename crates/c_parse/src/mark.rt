@@ -7,7 +7,7 @@ ghost use Rattle.c_parse.specs.Front.{is, is_punctuator, is_keyword};
 use c_token::{Keyword, Kind, Punctuator};
 
 /// A punctuator or keyword that a construct has at a fixed place.
-#[derive(Clone, Copy, Debug)]
+#[derive(Clone, Copy)]
 pub enum Mark {
     OpenParenthesis,
     CloseParenthesis,

@@ -13,7 +13,7 @@ use c_tree::{Base, IntegerType};
 use debug_records::Spot;
 
 /// Where specifiers stand, which says whether `static` and `void` may be among them.
-#[derive(Clone, Copy, Debug)]
+#[derive(Clone, Copy)]
 pub enum Place {
     /// At file scope: both.
     File,
@@ -24,7 +24,7 @@ pub enum Place {
 }
 
 /// A word for the sign, if one stood.
-#[derive(Clone, Copy, Debug)]
+#[derive(Clone, Copy)]
 pub enum Sign {
     Unstated,
     Signed,
@@ -32,7 +32,7 @@ pub enum Sign {
 }
 
 /// A word for the width, if one stood.
-#[derive(Clone, Copy, Debug)]
+#[derive(Clone, Copy)]
 pub enum Width {
     Unstated,
     Char,
@@ -41,7 +41,7 @@ pub enum Width {
 }
 
 /// Which specifiers stood.
-#[derive(Clone, Copy, Debug)]
+#[derive(Clone, Copy)]
 pub struct SpecifierList {
     pub is_static: bool,
     pub is_void: bool,

@@ -7,7 +7,7 @@ ghost use Rattle.c_token.specs.Lexemes.{word_view};
 use crate::token::{Kind, Punctuator};
 
 /// What stands before a byte.
-#[derive(Clone, Copy, Debug, PartialEq, Eq)]
+#[derive(Clone, Copy, PartialEq, Eq)]
 pub struct Context {
     /// On its line, only white space and comments.
     pub starts_line: bool,

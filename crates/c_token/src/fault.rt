@@ -7,14 +7,14 @@ use debug_records::Code;
 use std::alloc::{AllocError, AllocFailed};
 
 /// A broken rule, and the offset of the byte whose line is told with it.
-#[derive(Clone, Copy, Debug, PartialEq, Eq)]
+#[derive(Clone, Copy, PartialEq, Eq)]
 pub struct Fault {
     pub code: Code,
     pub at: usize,
 }
 
 /// Why what stands at a byte was not read.
-#[derive(Clone, Copy, Debug, PartialEq, Eq)]
+#[derive(Clone, Copy, PartialEq, Eq)]
 pub enum TokenErr {
     /// The text breaks a rule.
     Broken(Fault),

@@ -27,7 +27,7 @@ pub enum Kind {
 }
 
 /// The keywords (6.4.1).
-#[derive(Clone, Copy, Debug, PartialEq, Eq)]
+#[derive(Clone, Copy, PartialEq, Eq)]
 pub enum Keyword {
     Auto,
     Break,
@@ -76,7 +76,7 @@ pub enum Keyword {
 }
 
 /// The value of a constant and its type: `int`, `unsigned int`, `long` or `unsigned long` (6.4.4.1), which all have 32 bits.
-#[derive(Clone, Copy, Debug, PartialEq, Eq)]
+#[derive(Clone, Copy, PartialEq, Eq)]
 pub struct Constant {
     pub value: u32,
     pub is_unsigned: bool,
@@ -84,7 +84,7 @@ pub struct Constant {
 }
 
 /// The headers that a line may include.
-#[derive(Clone, Copy, Debug, PartialEq, Eq)]
+#[derive(Clone, Copy, PartialEq, Eq)]
 pub enum Header {
     /// `<stdio.h>`
     Stdio,
@@ -93,7 +93,7 @@ pub enum Header {
 }
 
 /// The punctuators (6.4.6) but for the digraphs.
-#[derive(Clone, Copy, Debug, PartialEq, Eq)]
+#[derive(Clone, Copy, PartialEq, Eq)]
 pub enum Punctuator {
     OpenBracket,
     CloseBracket,

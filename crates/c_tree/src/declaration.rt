@@ -68,7 +68,7 @@ pub struct Function {
 }
 
 /// A header that a source may include.
-#[derive(Clone, Copy, Debug, PartialEq, Eq)]
+#[derive(Clone, Copy, PartialEq, Eq)]
 pub enum Header {
     /// `<stdio.h>`
     Stdio,

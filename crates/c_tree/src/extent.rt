@@ -3,7 +3,7 @@
 use debug_records::source::Spot;
 
 /// Where a construct stands, from its first token to its last.
-#[derive(Clone, Copy, Debug, PartialEq, Eq)]
+#[derive(Clone, Copy, PartialEq, Eq)]
 pub struct Extent {
     /// Where its first token begins.
     pub first: Spot,

@@ -3,7 +3,7 @@
 use crate::types::IntegerType;
 
 /// A scalar type: an integer type, or a pointer, by so many `*`, that leads to one.
-#[derive(Clone, Copy, Debug, PartialEq, Eq)]
+#[derive(Clone, Copy, PartialEq, Eq)]
 pub struct Scalar {
     pub base: IntegerType,
     /// 0 for an integer type.
@@ -11,7 +11,7 @@ pub struct Scalar {
 }
 
 /// The type of an object.
-#[derive(Clone, Copy, Debug, PartialEq, Eq)]
+#[derive(Clone, Copy, PartialEq, Eq)]
 pub enum ObjectType {
     Scalar(Scalar),
     /// So many elements, at least one.
@@ -19,7 +19,7 @@ pub enum ObjectType {
 }
 
 /// The type of a value.
-#[derive(Clone, Copy, Debug, PartialEq, Eq)]
+#[derive(Clone, Copy, PartialEq, Eq)]
 pub enum ValueType {
     /// No value.
     Void,
@@ -29,7 +29,7 @@ pub enum ValueType {
 }
 
 /// An object: a named one of static storage by its number among those, a named one of automatic storage by its number among those, or a string literal by its number among the literals that are objects, each numbered from 0 by position.
-#[derive(Clone, Copy, Debug, PartialEq, Eq)]
+#[derive(Clone, Copy, PartialEq, Eq)]
 pub enum Object {
     Static(u32),
     Automatic(u32),

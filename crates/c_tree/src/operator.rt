@@ -1,7 +1,7 @@
 //! Operators.
 
 /// An operator between two operands that associates to the left, but for the comma (ISO/IEC 9899:2011, 6.5.5 to 6.5.14).
-#[derive(Clone, Copy, Debug, PartialEq, Eq)]
+#[derive(Clone, Copy, PartialEq, Eq)]
 pub enum BinaryOperator {
     /// `*`
     Multiply,
@@ -42,7 +42,7 @@ pub enum BinaryOperator {
 }
 
 /// An operator before its operand (6.5.3).
-#[derive(Clone, Copy, Debug, PartialEq, Eq)]
+#[derive(Clone, Copy, PartialEq, Eq)]
 pub enum PrefixOperator {
     /// `&`
     AddressOf,
@@ -63,7 +63,7 @@ pub enum PrefixOperator {
 }
 
 /// An operator that assigns its right side to its left side (6.5.16).
-#[derive(Clone, Copy, Debug, PartialEq, Eq)]
+#[derive(Clone, Copy, PartialEq, Eq)]
 pub enum AssignmentOperator {
     /// `=`
     Assign,

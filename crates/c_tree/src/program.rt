@@ -8,7 +8,7 @@ use crate::typed_statement::TypedStatements;
 use debug_records::source::Spot;
 
 /// A word of a static object that holds the address of an object of static storage or a literal, so many bytes on.
-#[derive(Clone, Copy, Debug, PartialEq, Eq)]
+#[derive(Clone, Copy, PartialEq, Eq)]
 pub struct Relocation {
     /// Where the word stands in its object, in bytes.
     pub at: u64,

@@ -8,7 +8,7 @@ use crate::object_type::{Object, ObjectType, Scalar};
 use crate::types::IntegerType;
 
 /// An operator of integer arithmetic, on two operands of one type, but that each operand of a shift has a type of its own (6.5.5 to 6.5.7, 6.5.10 to 6.5.12).
-#[derive(Clone, Copy, Debug, PartialEq, Eq)]
+#[derive(Clone, Copy, PartialEq, Eq)]
 pub enum Arithmetic {
     /// `*`
     Multiply,
@@ -33,7 +33,7 @@ pub enum Arithmetic {
 }
 
 /// A comparison, which gives 0 or 1 (6.5.8 and 6.5.9).
-#[derive(Clone, Copy, Debug, PartialEq, Eq)]
+#[derive(Clone, Copy, PartialEq, Eq)]
 pub enum Comparison {
     /// `<`
     Less,
@@ -50,7 +50,7 @@ pub enum Comparison {
 }
 
 /// An operator on one integer (6.5.3.3).
-#[derive(Clone, Copy, Debug, PartialEq, Eq)]
+#[derive(Clone, Copy, PartialEq, Eq)]
 pub enum Sign {
     /// `+`
     Plus,
@@ -61,21 +61,21 @@ pub enum Sign {
 }
 
 /// Up or down: `++` or `--`, and on pointers `+` or `-`.
-#[derive(Clone, Copy, Debug, PartialEq, Eq)]
+#[derive(Clone, Copy, PartialEq, Eq)]
 pub enum Direction {
     Up,
     Down,
 }
 
 /// Which value `++` and `--` give: the new one before an operand, the old one behind it.
-#[derive(Clone, Copy, Debug, PartialEq, Eq)]
+#[derive(Clone, Copy, PartialEq, Eq)]
 pub enum Given {
     New,
     Old,
 }
 
 /// What a call calls.
-#[derive(Clone, Copy, Debug, PartialEq, Eq)]
+#[derive(Clone, Copy, PartialEq, Eq)]
 pub enum Callee {
     /// A function of the program, by its number from 0 in the text order of the definitions.
     Function(u32),

@@ -1,7 +1,7 @@
 //! Types as a source names them.
 
 /// An integer type (ISO/IEC 9899:2011, 6.2.5).
-#[derive(Clone, Copy, Debug, PartialEq, Eq)]
+#[derive(Clone, Copy, PartialEq, Eq)]
 pub enum IntegerType {
     Char,
     SignedChar,
@@ -15,14 +15,14 @@ pub enum IntegerType {
 }
 
 /// What the specifiers of a function's result or of a cast name.
-#[derive(Clone, Copy, Debug, PartialEq, Eq)]
+#[derive(Clone, Copy, PartialEq, Eq)]
 pub enum Base {
     Void,
     Integer(IntegerType),
 }
 
 /// The type of a cast: a base, and how many `*` stand behind it.
-#[derive(Clone, Copy, Debug, PartialEq, Eq)]
+#[derive(Clone, Copy, PartialEq, Eq)]
 pub struct TypeName {
     pub base: Base,
     pub stars: usize,

@@ -100,7 +100,7 @@ pub fn add_function(
 }
 
 /// What becomes of a name that the library declares.
-#[derive(Clone, Copy, Debug, PartialEq, Eq)]
+#[derive(Clone, Copy, PartialEq, Eq)]
 enum Standing {
     /// It is the library's already.
     Known,

@@ -9,7 +9,7 @@ use debug_records::source::Spot;
 use std::alloc::{AllocError, Global};
 
 /// A rule that a construct breaks.
-#[derive(Clone, Copy, Debug, PartialEq, Eq)]
+#[derive(Clone, Copy, PartialEq, Eq)]
 pub struct Fault {
     /// The offset of the construct's last token.
     pub last: u32,

@@ -7,7 +7,7 @@ use c_tree::{Callee, Object, ObjectType, Scalar, ValueType};
 use indexmap::IndexMap;
 
 /// What a name means.
-#[derive(Clone, Copy, Debug, PartialEq, Eq)]
+#[derive(Clone, Copy, PartialEq, Eq)]
 pub enum Meaning {
     Variable { object: Object, of: ObjectType },
     /// A function, by its number among the signatures.

@@ -7,7 +7,7 @@ ghost use Rattle.c_type_limits.specs.Flow.{exits_of, exits_of_all, has_default, 
 use c_tree::{TypedStatement, TypedStatements};
 
 /// Where a statement that is entered leads.
-#[derive(Clone, Copy, Debug, PartialEq, Eq)]
+#[derive(Clone, Copy, PartialEq, Eq)]
 pub struct Exits {
     /// To what follows it.
     pub next: bool,

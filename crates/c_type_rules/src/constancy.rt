@@ -8,7 +8,7 @@ use crate::integer::wrapped;
 use c_tree::{Arithmetic, Comparison, IntegerType, Object, Sign};
 
 /// Whether an expression is a constant expression, and which constant.
-#[derive(Clone, Copy, Debug, PartialEq, Eq)]
+#[derive(Clone, Copy, PartialEq, Eq)]
 pub enum Constancy {
     /// It is none.
     Varies,

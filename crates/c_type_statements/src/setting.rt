@@ -19,7 +19,7 @@ use debug_records::code::Code;
 use std::alloc::{AllocError, Global};
 
 /// What a statement stands in.
-#[derive(Clone, Copy, Debug, PartialEq, Eq)]
+#[derive(Clone, Copy, PartialEq, Eq)]
 pub struct Setting {
     /// What its function gives.
     pub result: ValueType,

@@ -19,7 +19,7 @@ use c_type_rules::{
 use std::alloc::{AllocError, Global};
 
 /// What an operator between two operands does.
-#[derive(Clone, Copy, Debug, PartialEq, Eq)]
+#[derive(Clone, Copy, PartialEq, Eq)]
 pub enum Operation {
     Calculates(Arithmetic),
     Compares(Comparison),

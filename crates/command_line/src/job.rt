@@ -4,7 +4,7 @@ use crate::values::Mode;
 use debug_records::PassName;
 
 /// Compile a source, save its image, and debug it by a script.
-#[derive(Debug, Drop)]
+#[derive(Drop)]
 pub struct Debug {
     /// The passes, in the order in which they are applied.
     pub passes: Vec<PassName>,
@@ -20,7 +20,7 @@ pub struct Debug {
 }
 
 /// Compile a source and save its image.
-#[derive(Debug, Drop)]
+#[derive(Drop)]
 pub struct Compile {
     /// The passes, in the order in which they are applied.
     pub passes: Vec<PassName>,
@@ -31,7 +31,7 @@ pub struct Compile {
 }
 
 /// Debug a saved image by a script.
-#[derive(Debug, Drop)]
+#[derive(Drop)]
 pub struct Attach {
     /// How many instructions are executed at most.
     pub limit: u32,
@@ -41,7 +41,7 @@ pub struct Attach {
 }
 
 /// List the changes that the passes make in a source.
-#[derive(Debug, Drop)]
+#[derive(Drop)]
 pub struct Passes {
     /// The passes, in the order in which they are applied.
     pub passes: Vec<PassName>,
@@ -49,7 +49,7 @@ pub struct Passes {
 }
 
 /// Compile and run a generated program, and count what can be shown.
-#[derive(Clone, Copy, Debug)]
+#[derive(Clone, Copy)]
 pub struct Sweep {
     /// What the generator begins with.
     pub seed: u32,
@@ -58,7 +58,7 @@ pub struct Sweep {
 }
 
 /// What the program is asked to do.
-#[derive(Debug, Drop)]
+#[derive(Drop)]
 pub enum Job {
     Debug(Debug),
     Compile(Compile),

@@ -9,7 +9,7 @@ use debug_records::PassName;
 use std::alloc::{AllocError, Global};
 
 /// Where the variables of a program live.
-#[derive(Clone, Copy, Debug, PartialEq, Eq)]
+#[derive(Clone, Copy, PartialEq, Eq)]
 pub enum Mode {
     /// Each in a slot of the stack.
     Slots,

@@ -7,18 +7,18 @@ ghost use Rattle.debug_records.specs.Change.{changes, is_lower_case, IsPassName,
 use std::alloc::{AllocError, Global};
 
 /// A place of the source: a point where a debugger may stop, or a function's entry. Places are numbered from 1 in text order.
-#[derive(Clone, Copy, Debug, Default, PartialEq, Eq, PartialOrd, Ord)]
+#[derive(Clone, Copy, Default, PartialEq, Eq, PartialOrd, Ord)]
 pub struct Place(pub u32);
 
 /// A variable of the program, by its number from 0: the named static ones, then literals, then automatic ones, each by position.
-#[derive(Clone, Copy, Debug, Default, PartialEq, Eq, PartialOrd, Ord)]
+#[derive(Clone, Copy, Default, PartialEq, Eq, PartialOrd, Ord)]
 pub struct Var(pub u32);
 
 /// How many letters the name of a pass has at most.
 pub const PASS_NAME_SIZE: usize = 16;
 
 /// The name of a pass: 1 to 16 lower-case letters.
-#[derive(Clone, Copy, Debug, PartialEq, Eq)]
+#[derive(Clone, Copy, PartialEq, Eq)]
 pub struct PassName {
     // the letters, and zeros behind them
     padded: [u8; 16],
@@ -67,7 +67,7 @@ impl PassName {
 }
 
 /// What a pass did to an assignment or a read.
-#[derive(Clone, Copy, Debug, PartialEq, Eq)]
+#[derive(Clone, Copy, PartialEq, Eq)]
 pub enum Kind {
     /// An assignment went.
     Removed,
@@ -80,7 +80,7 @@ pub enum Kind {
 }
 
 /// A change that a pass made.
-#[derive(Clone, Copy, Debug, PartialEq, Eq)]
+#[derive(Clone, Copy, PartialEq, Eq)]
 pub struct Change {
     /// Its number, from 1 in the order of the changes.
     pub number: u32,

@@ -228,17 +228,17 @@ fn tables_are_those_of_the_reference(rt: HostRuntime) -> Result<(), Fail> {
         assert!(rt; fit);
         let (places, flows) = flow(rt.alloc(), &program)?;
         let visible = visible(rt.alloc(), &places)?;
-        assert_eq!(rt; places.rows.len(), worked.places.len());
+        assert!(rt; places.rows.len() == worked.places.len());
         for ((row, seen), wanted) in places.rows.iter().zip(&visible).zip(worked.places) {
-            assert_eq!(rt;
-                (row.position, row.line, row.function, row.is_entry),
-                (wanted.0, wanted.1, wanted.2, wanted.3)
+            assert!(rt;
+                (row.position, row.line, row.function, row.is_entry)
+                    == (wanted.0, wanted.1, wanted.2, wanted.3)
             );
-            assert_eq!(rt; seen.as_slice(), wanted.4);
+            assert!(rt; seen.as_slice() == wanted.4);
         }
         let (steps, assignments) = pairs(rt.alloc(), &flows)?;
-        assert_eq!(rt; steps.as_slice(), worked.steps);
-        assert_eq!(rt; assignments.as_slice(), worked.assignments);
+        assert!(rt; steps.as_slice() == worked.steps);
+        assert!(rt; assignments.as_slice() == worked.assignments);
     }
     Ok(())
 }
@@ -251,7 +251,7 @@ fn assigns_agrees_with_the_table_for_each_place_and_variable(rt: HostRuntime) ->
         for place in 0..12 {
             for variable in 0..6 {
                 let listed = worked.assignments.contains(&(place, variable));
-                assert_eq!(rt; assigns(&program, Place(place), Var(variable)), listed);
+                assert!(rt; assigns(&program, Place(place), Var(variable)) == listed);
             }
         }
     }

@@ -151,15 +151,15 @@ fn runs_stop_and_end_as_worked_by_hand(rt: HostRuntime) -> Result<(), Fail> {
     ];
     for row in rows {
         let run = run_text(rt.alloc(), row.text, row.input, TURNS)?;
-        assert_eq!(rt; stops(rt.alloc(), &run)?.as_slice(), row.stops);
-        assert_eq!(rt; bytes(rt.alloc(), &run)?.as_slice(), row.bytes);
-        assert_eq!(rt; run.ending, row.ending);
+        assert!(rt; stops(rt.alloc(), &run)?.as_slice() == row.stops);
+        assert!(rt; bytes(rt.alloc(), &run)?.as_slice() == row.bytes);
+        assert!(rt; run.ending == row.ending);
     }
     Ok(())
 }
 
 /// What can be seen of a run, with of a stop the number of its place alone.
-#[derive(Clone, Copy, Debug, PartialEq, Eq)]
+#[derive(Clone, Copy, PartialEq, Eq)]
 enum Seen {
     Stop(usize),
     Put(u8),
@@ -192,8 +192,8 @@ fn a_byte_is_put_out_where_it_stands_among_the_stops(rt: HostRuntime) -> Result<
         Seen::Stop(5),
         Seen::Exited(5),
     ];
-    assert_eq!(rt; events.as_slice(), wanted.as_slice());
-    assert_eq!(rt; run.ending, Ending::Exit(5));
+    assert!(rt; events.as_slice() == wanted.as_slice());
+    assert!(rt; run.ending == Ending::Exit(5));
     Ok(())
 }
 
@@ -201,27 +201,21 @@ fn a_byte_is_put_out_where_it_stands_among_the_stops(rt: HostRuntime) -> Result<
 fn no_more_activations_live_than_1024(rt: HostRuntime) -> Result<(), Fail> {
     let deep = b"int f(int n){if(n==0)return 0; return f(n-1);} int main(void){return f(1022);}";
     let deeper = b"int f(int n){if(n==0)return 0; return f(n-1);} int main(void){return f(1023);}";
-    assert_eq!(rt;
-        run_text(rt.alloc(), deep, &[], TURNS)?.ending,
-        Ending::Exit(0)
-    );
-    assert_eq!(rt;
-        run_text(rt.alloc(), deeper, &[], TURNS)?.ending,
-        Ending::Depth
-    );
+    assert!(rt; run_text(rt.alloc(), deep, &[], TURNS)?.ending == Ending::Exit(0));
+    assert!(rt; run_text(rt.alloc(), deeper, &[], TURNS)?.ending == Ending::Depth);
     Ok(())
 }
 
 #[test]
 fn a_loop_ends_with_the_turns(rt: HostRuntime) -> Result<(), Fail> {
     let run = run_text(rt.alloc(), b"int main(void){for(;;){}}", &[], 4)?;
-    assert_eq!(rt; stops(rt.alloc(), &run)?.as_slice(), [2, 2, 2].as_slice());
-    assert_eq!(rt; run.ending, Ending::Turns);
+    assert!(rt; stops(rt.alloc(), &run)?.as_slice() == [2, 2, 2].as_slice());
+    assert!(rt; run.ending == Ending::Turns);
     Ok(())
 }
 
 #[test]
 fn a_text_that_breaks_a_rule_has_no_run(rt: HostRuntime) {
     let run = run_text(rt.alloc(), b"int main(void){return n;}", &[], TURNS);
-    assert_eq!(rt; run.err(), Some(SourceErr::Refused(Code::UNDECLARED, 1)));
+    assert!(rt; run.err() == Some(SourceErr::Refused(Code::UNDECLARED, 1)));
 }

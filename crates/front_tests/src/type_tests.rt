@@ -83,10 +83,7 @@ fn each_rule_is_told_on_its_line(rt: HostRuntime) {
         (b"int f(void){}\n", Code::NO_MAIN, 1),
     ];
     for (text, code, line) in cases {
-        assert_eq!(rt;
-            refusal(rt.alloc(), text),
-            Some(SourceErr::Refused(code, line))
-        );
+        assert!(rt; refusal(rt.alloc(), text) == Some(SourceErr::Refused(code, line)));
     }
 }
 
@@ -138,10 +135,7 @@ fn declarations_of_a_function_agree(rt: HostRuntime) {
         ),
     ];
     for (text, code, line) in cases {
-        assert_eq!(rt;
-            refusal(rt.alloc(), text),
-            Some(SourceErr::Refused(code, line))
-        );
+        assert!(rt; refusal(rt.alloc(), text) == Some(SourceErr::Refused(code, line)));
     }
 }
 
@@ -156,10 +150,7 @@ fn a_main_of_another_type_is_told_on_its_line(rt: HostRuntime) {
         (b"int f(void){return 0;}", Code::NO_MAIN, 1),
     ];
     for (text, code, line) in cases {
-        assert_eq!(rt;
-            refusal(rt.alloc(), text),
-            Some(SourceErr::Refused(code, line))
-        );
+        assert!(rt; refusal(rt.alloc(), text) == Some(SourceErr::Refused(code, line)));
     }
 }
 
@@ -190,10 +181,7 @@ fn the_fault_that_ends_first_is_told(rt: HostRuntime) {
         ),
     ];
     for (text, code, line) in cases {
-        assert_eq!(rt;
-            refusal(rt.alloc(), text),
-            Some(SourceErr::Refused(code, line))
-        );
+        assert!(rt; refusal(rt.alloc(), text) == Some(SourceErr::Refused(code, line)));
     }
 }
 
@@ -206,10 +194,7 @@ fn of_faults_that_end_together_the_lesser_code_or_the_smaller_construct_is_told(
         (b"int main(void){1=\nm;}", Code::UNDECLARED, 2),
     ];
     for (text, code, line) in cases {
-        assert_eq!(rt;
-            refusal(rt.alloc(), text),
-            Some(SourceErr::Refused(code, line))
-        );
+        assert!(rt; refusal(rt.alloc(), text) == Some(SourceErr::Refused(code, line)));
     }
 }
 
@@ -244,10 +229,7 @@ fn the_steps_go_in_order(rt: HostRuntime) {
         ),
     ];
     for (text, code, line) in cases {
-        assert_eq!(rt;
-            refusal(rt.alloc(), text),
-            Some(SourceErr::Refused(code, line))
-        );
+        assert!(rt; refusal(rt.alloc(), text) == Some(SourceErr::Refused(code, line)));
     }
 }
 
@@ -272,10 +254,7 @@ fn functions_keep_their_limits(rt: HostRuntime) {
         ),
     ];
     for (text, code, line) in cases {
-        assert_eq!(rt;
-            refusal(rt.alloc(), text),
-            Some(SourceErr::Refused(code, line))
-        );
+        assert!(rt; refusal(rt.alloc(), text) == Some(SourceErr::Refused(code, line)));
     }
 }
 
@@ -294,10 +273,7 @@ fn static_objects_and_literals_keep_their_limit(rt: HostRuntime) {
         ),
     ];
     for (text, code, line) in cases {
-        assert_eq!(rt;
-            refusal(rt.alloc(), text),
-            Some(SourceErr::Refused(code, line))
-        );
+        assert!(rt; refusal(rt.alloc(), text) == Some(SourceErr::Refused(code, line)));
     }
 }
 
@@ -315,7 +291,7 @@ fn what_keeps_the_rules_is_accepted(rt: HostRuntime) {
         b"char a[1048556];int main(void){char *b=\"x\";char c[]=\"x\";}",
     ];
     for text in texts {
-        assert_eq!(rt; refusal(rt.alloc(), text), None);
+        assert!(rt; refusal(rt.alloc(), text) == None);
     }
 }
 
@@ -324,16 +300,18 @@ fn weights_keep_their_limits(rt: HostRuntime) -> Result<(), Fail> {
     let function = Some(SourceErr::Refused(Code::FUNCTION_WEIGHT, 2));
     for (count, expected) in [(2998, None), (2999, function)] {
         let text = repeated(rt.alloc(), b"\nint main(void){", b";", count, b"}")?;
-        assert_eq!(rt; refusal(rt.alloc(), &text), expected, "{count} statements");
+        assert!(rt;
+            refusal(rt.alloc(), &text) == expected,
+            "{count} statements"
+        );
     }
     let program = Some(SourceErr::Refused(Code::PROGRAM_WEIGHT, 1));
     for (count, expected) in [(1996, None), (1997, program)] {
         let main = repeated(rt.alloc(), b"\nint main(void){", b";", 2000, b"}")?;
         let text = repeated(rt.alloc(), &main, b"", 0, b"int f(void){")?;
         let text = repeated(rt.alloc(), &text, b";", count, b"}")?;
-        assert_eq!(rt;
-            refusal(rt.alloc(), &text),
-            expected,
+        assert!(rt;
+            refusal(rt.alloc(), &text) == expected,
             "{count} statements more"
         );
     }
@@ -349,7 +327,10 @@ fn visible_variables_keep_their_limit(rt: HostRuntime) -> Result<(), Fail> {
             text.extend_from_slice(format!(in rt.alloc(); ",n{number}")?.as_bytes())?;
         }
         let text = repeated(rt.alloc(), &text, b";", count, b"}")?;
-        assert_eq!(rt; refusal(rt.alloc(), &text), expected, "{count} statements");
+        assert!(rt;
+            refusal(rt.alloc(), &text) == expected,
+            "{count} statements"
+        );
     }
     Ok(())
 }
@@ -362,9 +343,8 @@ fn functions_keep_their_number(rt: HostRuntime) -> Result<(), Fail> {
         for number in 0..count {
             text.extend_from_slice(format!(in rt.alloc(); "int f{number}(void){{}}")?.as_bytes())?;
         }
-        assert_eq!(rt;
-            refusal(rt.alloc(), &text),
-            expected,
+        assert!(rt;
+            refusal(rt.alloc(), &text) == expected,
             "{count} functions more"
         );
     }

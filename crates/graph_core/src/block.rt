@@ -5,7 +5,7 @@ use crate::name::{Label, Operand};
 use debug_records::Place;
 
 /// A comparison of two values by which a block's end branches.
-#[derive(Clone, Copy, Debug, PartialEq, Eq)]
+#[derive(Clone, Copy, PartialEq, Eq)]
 pub enum Comparison {
     Equal,
     NotEqual,
@@ -18,7 +18,7 @@ pub enum Comparison {
 }
 
 /// The terminator of a basic block: where control goes from its end.
-#[derive(Clone, Copy, Debug, PartialEq, Eq)]
+#[derive(Clone, Copy, PartialEq, Eq)]
 pub enum End {
     Jump(Label),
     /// To the one block where the comparison holds, and else to the other.

@@ -6,14 +6,14 @@ use crate::name::Name;
 use debug_records::{Place, Var};
 
 /// What a parameter is: its argument becomes the value of a name, or the first element of an automatic object.
-#[derive(Clone, Copy, Debug, PartialEq, Eq)]
+#[derive(Clone, Copy, PartialEq, Eq)]
 pub enum Binding {
     Scalar(Name),
     Object(u32),
 }
 
 /// A variable that is kept in memory: one element, or the elements of an array.
-#[derive(Clone, Copy, Debug, PartialEq, Eq)]
+#[derive(Clone, Copy, PartialEq, Eq)]
 pub struct MemoryObject {
     pub var: Var,
     pub element: Element,

@@ -1,7 +1,7 @@
 //! Homes of names.
 
 /// Where the value of a name is kept while code runs.
-#[derive(Clone, Copy, Debug, PartialEq, Eq)]
+#[derive(Clone, Copy, PartialEq, Eq)]
 pub enum Home {
     /// A register, by its number.
     Register(u8),
@@ -10,7 +10,7 @@ pub enum Home {
 }
 
 /// Which homes names may have.
-#[derive(Clone, Copy, Debug, PartialEq, Eq)]
+#[derive(Clone, Copy, PartialEq, Eq)]
 pub enum Mode {
     /// Each name has a slot of its own.
     Slots,

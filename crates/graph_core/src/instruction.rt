@@ -10,7 +10,7 @@ use recovery::{Operation, Truncation};
 use smallvec::SmallVec;
 
 /// What an element of an object in memory is: how wide, and with which sign. A pointer is a word.
-#[derive(Clone, Copy, Debug, PartialEq, Eq)]
+#[derive(Clone, Copy, PartialEq, Eq)]
 pub enum Element {
     Unsigned8,
     Signed8,
@@ -44,7 +44,7 @@ impl Element {
 }
 
 /// Where a load reads and a store writes.
-#[derive(Clone, Copy, Debug, PartialEq, Eq)]
+#[derive(Clone, Copy, PartialEq, Eq)]
 pub enum Location {
     /// The beginning of an automatic object of the graph, by its number.
     Automatic(u32),
@@ -55,7 +55,7 @@ pub enum Location {
 }
 
 /// What a call calls.
-#[derive(Clone, Copy, Debug, PartialEq, Eq)]
+#[derive(Clone, Copy, PartialEq, Eq)]
 pub enum Callee {
     /// A function of the unit, by its number.
     Function(u32),

@@ -6,7 +6,7 @@ use debug_records::ChangeLog;
 use places::FlowTable;
 
 /// The address that an element of a static object holds as a run begins: that of a static object, so many bytes on.
-#[derive(Clone, Copy, Debug, PartialEq, Eq)]
+#[derive(Clone, Copy, PartialEq, Eq)]
 pub struct Relocation {
     /// How many bytes behind the beginning of its object the element begins. Where none begins, nothing reads the relocation.
     pub at: u32,

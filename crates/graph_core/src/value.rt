@@ -1,7 +1,7 @@
 //! Values, and what a unit's run shows of variables.
 
 /// A value of a name or of an element of an object.
-#[derive(Clone, Copy, Debug, PartialEq, Eq)]
+#[derive(Clone, Copy, PartialEq, Eq)]
 pub enum Value {
     /// A word. The null pointer is 0.
     Number(u32),
@@ -17,14 +17,14 @@ pub enum Value {
 }
 
 /// What a debugger may know of a variable: the value that its last note gave, or that it is gone.
-#[derive(Clone, Copy, Debug, PartialEq, Eq)]
+#[derive(Clone, Copy, PartialEq, Eq)]
 pub enum Shadow {
     Known(Value),
     Gone,
 }
 
 /// What owns an object: a static object's number, or a variable with the depth of its activation, 1 for the first of `main`.
-#[derive(Clone, Copy, Debug, PartialEq, Eq)]
+#[derive(Clone, Copy, PartialEq, Eq)]
 pub enum Owner {
     Static(usize),
     Automatic { variable: u32, depth: usize },

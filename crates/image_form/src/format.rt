@@ -6,7 +6,7 @@ use crate::variables::Variable;
 use crate::verdicts::VisibleRow;
 
 /// Where the compiler put scalars.
-#[derive(Clone, Copy, Debug, PartialEq, Eq)]
+#[derive(Clone, Copy, PartialEq, Eq)]
 pub enum Mode {
     /// Each scalar has a stack slot of its own.
     Slots,
@@ -17,7 +17,7 @@ pub enum Mode {
 /// Machine code with the tables that its debugger reads.
 ///
 /// Functions, variables, code words and nodes are numbered from 0, places and changes from 1.
-#[derive(Debug, Drop)]
+#[derive(Drop)]
 pub struct Image {
     pub mode: Mode,
     /// The machine words, from address `0x00010000` on.

@@ -1,7 +1,7 @@
 //! Recipes, by which a removed value is computed anew.
 
 /// An operation of a recipe on words of 32 bits: those of RV32IM, and truncations, which take one operand.
-#[derive(Clone, Copy, Debug, PartialEq, Eq)]
+#[derive(Clone, Copy, PartialEq, Eq)]
 pub enum NodeOperation {
     Add,
     Sub,
@@ -29,7 +29,7 @@ pub enum NodeOperation {
 }
 
 /// A node of a recipe; its operands are earlier nodes, by their numbers.
-#[derive(Clone, Copy, Debug, PartialEq, Eq)]
+#[derive(Clone, Copy, PartialEq, Eq)]
 pub enum Node {
     Constant(u32),
     /// What a variable's home holds.

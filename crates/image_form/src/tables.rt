@@ -1,7 +1,7 @@
 //! Functions, places, changes and the pairs of the flow and assignment tables.
 
 /// A function of the program.
-#[derive(Clone, Copy, Debug, PartialEq, Eq)]
+#[derive(Clone, Copy, PartialEq, Eq)]
 pub struct Function {
     /// How many bytes its name has.
     pub name_length: u32,
@@ -16,7 +16,7 @@ pub struct Function {
 }
 
 /// A place of the source text, where the debugger may stop.
-#[derive(Clone, Copy, Debug, PartialEq, Eq)]
+#[derive(Clone, Copy, PartialEq, Eq)]
 pub struct Place {
     /// The byte of the text at which it begins.
     pub position: u32,
@@ -29,7 +29,7 @@ pub struct Place {
 }
 
 /// What a compiler pass did to an assignment or a read.
-#[derive(Clone, Copy, Debug, PartialEq, Eq)]
+#[derive(Clone, Copy, PartialEq, Eq)]
 pub enum Kind {
     Removed,
     Moved,
@@ -38,7 +38,7 @@ pub enum Kind {
 }
 
 /// A change that a compiler pass made.
-#[derive(Clone, Copy, Debug, PartialEq, Eq)]
+#[derive(Clone, Copy, PartialEq, Eq)]
 pub struct Change {
     /// How many bytes the name of the pass has.
     pub pass_length: u32,
@@ -50,14 +50,14 @@ pub struct Change {
 }
 
 /// Execution may go from the one place directly to the other.
-#[derive(Clone, Copy, Debug, PartialEq, Eq)]
+#[derive(Clone, Copy, PartialEq, Eq)]
 pub struct FlowPair {
     pub from: u32,
     pub to: u32,
 }
 
 /// The place assigns the variable.
-#[derive(Clone, Copy, Debug, PartialEq, Eq)]
+#[derive(Clone, Copy, PartialEq, Eq)]
 pub struct AssignedPair {
     pub place: u32,
     pub variable: u32,

@@ -7,7 +7,7 @@ use debug_records::Code;
 use std::alloc::{AllocError, Global};
 
 /// How a session ends.
-#[derive(Debug, Drop, PartialEq, Eq)]
+#[derive(Drop, PartialEq, Eq)]
 pub enum Status {
     /// The job was done to its end.
     Done,

@@ -132,17 +132,15 @@ fn every_path_counts_forward(rt: HostRuntime) -> Result<(), Fail> {
     let solution = solve(rt.alloc(), &graph, &Passed { forward: true })?;
     let starts = [false, false, false, true, false, true, true];
     for (block, wanted) in starts.iter().enumerate() {
-        assert_eq!(rt;
-            has(&solution.starts, block, 0),
-            *wanted,
+        assert!(rt;
+            has(&solution.starts, block, 0) == *wanted,
             "at the start of {block}"
         );
     }
     let ends = [false, true, false, true, false, true, true];
     for (block, wanted) in ends.iter().enumerate() {
-        assert_eq!(rt;
-            has(&solution.ends, block, 0),
-            *wanted,
+        assert!(rt;
+            has(&solution.ends, block, 0) == *wanted,
             "at the end of {block}"
         );
     }
@@ -157,17 +155,15 @@ fn every_path_counts_backward(rt: HostRuntime) -> Result<(), Fail> {
     let solution = solve(rt.alloc(), &graph, &Passed { forward: false })?;
     let starts = [false, true, false, false, false, true, true];
     for (block, wanted) in starts.iter().enumerate() {
-        assert_eq!(rt;
-            has(&solution.starts, block, 0),
-            *wanted,
+        assert!(rt;
+            has(&solution.starts, block, 0) == *wanted,
             "at the start of {block}"
         );
     }
     let ends = [false, false, false, false, false, true, true];
     for (block, wanted) in ends.iter().enumerate() {
-        assert_eq!(rt;
-            has(&solution.ends, block, 0),
-            *wanted,
+        assert!(rt;
+            has(&solution.ends, block, 0) == *wanted,
             "at the end of {block}"
         );
     }
@@ -213,28 +209,24 @@ fn names_are_live_until_they_are_read_last(rt: HostRuntime) -> Result<(), Fail> 
     let solution = live(rt.alloc(), &graph)?;
     let starts = [[false, true], [true, true], [true, true], [true, false]];
     for (block, wanted) in starts.iter().enumerate() {
-        assert_eq!(rt;
-            has(&solution.starts, block, 0),
-            wanted[0],
+        assert!(rt;
+            has(&solution.starts, block, 0) == wanted[0],
             "0 at the start of {block}"
         );
-        assert_eq!(rt;
-            has(&solution.starts, block, 1),
-            wanted[1],
+        assert!(rt;
+            has(&solution.starts, block, 1) == wanted[1],
             "1 at the start of {block}"
         );
         assert!(rt; !has(&solution.starts, block, 2) && !has(&solution.starts, block, 3));
     }
     let ends = [[true, true], [true, true], [true, true], [false, false]];
     for (block, wanted) in ends.iter().enumerate() {
-        assert_eq!(rt;
-            has(&solution.ends, block, 0),
-            wanted[0],
+        assert!(rt;
+            has(&solution.ends, block, 0) == wanted[0],
             "0 at the end of {block}"
         );
-        assert_eq!(rt;
-            has(&solution.ends, block, 1),
-            wanted[1],
+        assert!(rt;
+            has(&solution.ends, block, 1) == wanted[1],
             "1 at the end of {block}"
         );
         assert!(rt; !has(&solution.ends, block, 2) && !has(&solution.ends, block, 3));

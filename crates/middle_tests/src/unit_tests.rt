@@ -64,9 +64,9 @@ fn assert_shows(
     expected: &[&str],
 ) -> Result<(), Fail> {
     for (event, line) in events.iter().zip(expected) {
-        assert_eq!(rt; shown(alloc, event)?.as_str(), *line);
+        assert!(rt; shown(alloc, event)?.as_str() == *line);
     }
-    assert_eq!(rt; events.len(), expected.len());
+    assert!(rt; events.len() == expected.len());
     Ok(())
 }
 
@@ -195,7 +195,7 @@ fn runs_end_by_depth_and_by_steps(rt: HostRuntime) -> Result<(), Fail> {
 fn runs_end_before_wild_steps(rt: HostRuntime) -> Result<(), Fail> {
     for (index, step) in WILD.iter().enumerate() {
         let events = step_events(&rt, rt.alloc(), *step)?;
-        assert_eq!(rt; events.len(), 1, "at {index}");
+        assert!(rt; events.len() == 1, "at {index}");
         assert_shows(&rt, rt.alloc(), &events, &[STEP_BEGINS])?;
     }
     Ok(())
@@ -205,7 +205,7 @@ fn runs_end_before_wild_steps(rt: HostRuntime) -> Result<(), Fail> {
 fn runs_go_on_behind_other_steps(rt: HostRuntime) -> Result<(), Fail> {
     for (index, (step, behind)) in OTHERS.iter().enumerate() {
         let events = step_events(&rt, rt.alloc(), *step)?;
-        assert_eq!(rt; events.len(), 3, "at {index}");
+        assert!(rt; events.len() == 3, "at {index}");
         assert_shows(&rt, rt.alloc(), &events, &[STEP_BEGINS, *behind, "exit 0"])?;
     }
     Ok(())

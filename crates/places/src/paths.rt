@@ -8,7 +8,7 @@ use debug_records::Place;
 use smallvec::SmallVec;
 
 /// Places in the order in which execution passes them.
-#[derive(Debug, Drop)]
+#[derive(Drop)]
 pub struct Path {
     pub places: SmallVec<Place, 8>,
 }

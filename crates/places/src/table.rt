@@ -3,7 +3,7 @@
 use debug_records::Var;
 
 /// A place as a debugger knows it.
-#[derive(Debug, Drop)]
+#[derive(Drop)]
 pub struct PlaceRow {
     /// The offset of the first byte of its token, from 0.
     pub position: u32,
@@ -18,7 +18,7 @@ pub struct PlaceRow {
 }
 
 /// The places of a source in text order: the place of number 1 comes first.
-#[derive(Debug, Drop)]
+#[derive(Drop)]
 pub struct PlaceTable {
     pub rows: Vec<PlaceRow>,
 }

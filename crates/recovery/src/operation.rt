@@ -4,7 +4,7 @@ ghost use Rattle.std.specs.Prelude.{◌≡◌, ◌<◌};
 ghost use Rattle.recovery.specs.Operations.{operated, sign_extended, truncated};
 
 /// An operation of RV32IM on two words.
-#[derive(Clone, Copy, Debug, PartialEq, Eq)]
+#[derive(Clone, Copy, PartialEq, Eq)]
 pub enum Operation {
     Add,
     Sub,
@@ -24,7 +24,7 @@ pub enum Operation {
 }
 
 /// A truncation of a word to a narrower type.
-#[derive(Clone, Copy, Debug, PartialEq, Eq)]
+#[derive(Clone, Copy, PartialEq, Eq)]
 pub enum Truncation {
     /// The lowest 8 bits, without a sign.
     Unsigned8,

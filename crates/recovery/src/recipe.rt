@@ -7,7 +7,7 @@ use crate::home::{Home, home_value};
 use crate::operation::{Operation, Truncation, operate, truncate};
 
 /// How a value is computed from what homes hold.
-#[derive(Debug, Drop)]
+#[derive(Drop)]
 pub enum PlacedRecipe {
     /// This word.
     Constant(u32),

@@ -1,7 +1,7 @@
 //! The instructions of RV32IM.
 
 /// The comparison of a conditional branch.
-#[derive(Clone, Copy, PartialEq, Eq, Debug)]
+#[derive(Clone, Copy, PartialEq, Eq)]
 pub enum BranchOperation {
     /// Equal.
     Beq,
@@ -18,7 +18,7 @@ pub enum BranchOperation {
 }
 
 /// How many bytes a load reads, and whether their sign is copied upwards.
-#[derive(Clone, Copy, PartialEq, Eq, Debug)]
+#[derive(Clone, Copy, PartialEq, Eq)]
 pub enum LoadOperation {
     /// A signed byte.
     Lb,
@@ -33,7 +33,7 @@ pub enum LoadOperation {
 }
 
 /// How many bytes a store writes.
-#[derive(Clone, Copy, PartialEq, Eq, Debug)]
+#[derive(Clone, Copy, PartialEq, Eq)]
 pub enum StoreOperation {
     /// One byte.
     Sb,
@@ -44,7 +44,7 @@ pub enum StoreOperation {
 }
 
 /// What an instruction computes of a register and an immediate.
-#[derive(Clone, Copy, PartialEq, Eq, Debug)]
+#[derive(Clone, Copy, PartialEq, Eq)]
 pub enum ImmediateOperation {
     /// The sum.
     Addi,
@@ -67,7 +67,7 @@ pub enum ImmediateOperation {
 }
 
 /// What an instruction computes of two registers.
-#[derive(Clone, Copy, PartialEq, Eq, Debug)]
+#[derive(Clone, Copy, PartialEq, Eq)]
 pub enum RegisterOperation {
     /// The sum.
     Add,
@@ -111,7 +111,7 @@ pub enum RegisterOperation {
 ///
 /// Registers are numbers below 32. An immediate, an offset or a distance is a word: a signed number of 12, 13 or 21 bits with its sign copied upwards.
 /// The amount of a shift by an immediate is below 32.
-#[derive(Clone, Copy, PartialEq, Eq, Debug)]
+#[derive(Clone, Copy, PartialEq, Eq)]
 pub enum Instruction {
     /// `lui rd, upper`: the upper 20 bits.
     Lui(u8, u32),

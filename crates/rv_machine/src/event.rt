@@ -1,7 +1,7 @@
 //! What an instruction shows to the outside.
 
 /// What comes of one instruction.
-#[derive(Clone, Copy, PartialEq, Eq, Debug)]
+#[derive(Clone, Copy, PartialEq, Eq)]
 pub enum Event {
     /// The machine went on.
     Went,

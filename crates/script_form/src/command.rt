@@ -1,7 +1,7 @@
 //! The commands of a script.
 
 /// What `break` marks.
-#[derive(Debug, PartialEq, Eq, Drop)]
+#[derive(PartialEq, Eq, Drop)]
 pub enum Target {
     /// `break LINE`: all stops on this line of the source, counted from 1.
     Line(u32),
@@ -10,7 +10,7 @@ pub enum Target {
 }
 
 /// What a line of a script asks for.
-#[derive(Debug, PartialEq, Eq, Drop)]
+#[derive(PartialEq, Eq, Drop)]
 pub enum Command {
     /// `break LINE` or `break NAME`: mark stops.
     Break(Target),

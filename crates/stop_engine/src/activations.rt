@@ -15,7 +15,7 @@ use rv_machine::machine::Machine;
 use std::alloc::{AllocError, Global};
 
 /// An activation that is live at a stop.
-#[derive(Debug, Drop)]
+#[derive(Drop)]
 pub struct Frame {
     /// The name of its function.
     pub function: Vec<u8>,

@@ -1,7 +1,7 @@
 //! Where a run halts.
 
 /// Where a run came to a halt.
-#[derive(Clone, Copy, Debug, PartialEq, Eq)]
+#[derive(Clone, Copy, PartialEq, Eq)]
 pub enum Halt {
     /// At a stop: the number of its place, from 1, and the depth of the innermost activation, 1 for the first of main.
     At { place: u32, depth: u32 },
@@ -16,7 +16,7 @@ pub enum Halt {
 }
 
 /// Where a session stands between two runs.
-#[derive(Clone, Copy, Debug, PartialEq, Eq)]
+#[derive(Clone, Copy, PartialEq, Eq)]
 pub enum Standing {
     /// Before the first instruction.
     Fresh,

@@ -18,7 +18,7 @@ use rv_machine::machine::Machine;
 use std::alloc::{AllocError, Global};
 
 /// A variable that is visible at a stop.
-#[derive(Debug, Drop)]
+#[derive(Drop)]
 pub struct Local {
     pub name: Vec<u8>,
     /// What is shown of it.

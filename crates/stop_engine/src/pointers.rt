@@ -18,7 +18,7 @@ use rv_machine::machine::Machine;
 use std::alloc::{AllocError, Global};
 
 /// What an address is taken for.
-#[derive(Clone, Copy, Debug, PartialEq, Eq)]
+#[derive(Clone, Copy, PartialEq, Eq)]
 pub enum Target {
     /// So many bytes behind the start of a static variable, by its number.
     Static {

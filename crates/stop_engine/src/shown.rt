@@ -12,7 +12,7 @@ use places::Path;
 use std::alloc::{AllocError, Global};
 
 /// What is shown of a name where a session stands. Values and changes are texts; a change's has its number, its pass, its kind and its place.
-#[derive(Debug, Drop)]
+#[derive(Drop)]
 pub enum Shown {
     /// It stands at no stop.
     NoStop,

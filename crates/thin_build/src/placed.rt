@@ -3,7 +3,7 @@
 use rv_code::instruction::Instruction;
 
 /// An instruction of the code, and the place of the source that it belongs to.
-#[derive(Clone, Copy, PartialEq, Eq, Debug)]
+#[derive(Clone, Copy, PartialEq, Eq)]
 pub struct Placed {
     pub instruction: Instruction,
     /// The place's number from 1, or 0 for an instruction of no place.

@@ -3,7 +3,7 @@
 use crate::tree::Spot;
 
 /// What a token is: a fixed word, a name, a number or a punctuator.
-#[derive(Drop, Debug)]
+#[derive(Drop)]
 pub enum Kind {
     Int,
     Void,
@@ -22,7 +22,7 @@ pub enum Kind {
 }
 
 /// A token, and where its first byte stands.
-#[derive(Drop, Debug)]
+#[derive(Drop)]
 pub struct Token {
     pub kind: Kind,
     pub spot: Spot,

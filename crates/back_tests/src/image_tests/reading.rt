@@ -27,7 +27,7 @@ fn what_is_read_is_written_again(rt: HostRuntime) -> Result<(), Fail> {
     for bytes in [SMALL.as_slice(), LARGE.as_slice()] {
         let image = read(rt.alloc(), bytes)?;
         let again = write(rt.alloc(), &image)?;
-        assert_eq!(rt; again.as_slice(), bytes);
+        assert!(rt; again.as_slice() == bytes);
     }
     Ok(())
 }
@@ -35,12 +35,12 @@ fn what_is_read_is_written_again(rt: HostRuntime) -> Result<(), Fail> {
 #[test]
 fn the_small_image_says_what_it_was_made_of(rt: HostRuntime) -> Result<(), Fail> {
     let image = read(rt.alloc(), SMALL.as_slice())?;
-    assert_eq!(rt; image.mode, Mode::Slots);
-    assert_eq!(rt; image.code.len(), N);
+    assert!(rt; image.mode == Mode::Slots);
+    assert!(rt; image.code.len() == N);
     let positions = [23, 38, 43, 50, 63];
-    assert_eq!(rt; image.places.len(), positions.len());
+    assert!(rt; image.places.len() == positions.len());
     for (place, position) in image.places.iter().zip(positions.iter()) {
-        assert_eq!(rt; place.position, *position);
+        assert!(rt; place.position == *position);
     }
     let variable = Variable {
         name_length: 1,
@@ -50,8 +50,8 @@ fn the_small_image_says_what_it_was_made_of(rt: HostRuntime) -> Result<(), Fail>
         storage: Storage::Slot(4),
         count: 0,
     };
-    assert_eq!(rt; image.variables.as_slice(), [variable].as_slice());
-    assert_eq!(rt; image.names.as_slice(), b"mainx".as_slice());
+    assert!(rt; image.variables.as_slice() == [variable].as_slice());
+    assert!(rt; image.names.as_slice() == b"mainx".as_slice());
     Ok(())
 }
 
@@ -59,13 +59,12 @@ fn the_small_image_says_what_it_was_made_of(rt: HostRuntime) -> Result<(), Fail>
 fn truncated_images_are_refused(rt: HostRuntime) {
     for length in [0, 1, 63] {
         let error = refusal(rt.alloc(), &SMALL[..length]);
-        assert_eq!(rt; error, Some(ImageErr::Refused(Code::HEADER_SIZE, length)));
+        assert!(rt; error == Some(ImageErr::Refused(Code::HEADER_SIZE, length)));
     }
     for length in [64, 10 * N, 4 * N + 300, 376] {
         let error = refusal(rt.alloc(), &SMALL[..length]);
-        assert_eq!(rt;
-            error,
-            Some(ImageErr::Refused(Code::LENGTH, 8)),
+        assert!(rt;
+            error == Some(ImageErr::Refused(Code::LENGTH, 8)),
             "at {length}"
         );
     }
@@ -79,17 +78,14 @@ fn places_must_stand_in_order(rt: HostRuntime) -> Result<(), Fail> {
         bytes.swap(index, index + 16);
     }
     let error = refusal(rt.alloc(), &bytes);
-    assert_eq!(rt; error, Some(ImageErr::Refused(Code::PLACES, second + 16)));
+    assert!(rt; error == Some(ImageErr::Refused(Code::PLACES, second + 16)));
     Ok(())
 }
 
 #[test]
 fn refusals_are_shown(rt: HostRuntime) -> Result<(), Fail> {
     let refused = ImageErr::Refused(Code::PLACES, 144);
-    assert_eq!(rt;
-        refused.to_string(rt.alloc())?.as_str(),
-        "image refused I07 offset 144"
-    );
+    assert!(rt; refused.to_string(rt.alloc())?.as_str() == "image refused I07 offset 144");
     Ok(())
 }
 
@@ -98,9 +94,8 @@ fn each_section_is_refused_at_its_number(rt: HostRuntime) -> Result<(), Fail> {
     for &(at, number, code) in SMALL_REFUSALS.iter() {
         let bytes = altered(rt.alloc(), SMALL.as_slice(), at, number)?;
         let error = refusal(rt.alloc(), &bytes);
-        assert_eq!(rt;
-            error,
-            Some(ImageErr::Refused(code, at)),
+        assert!(rt;
+            error == Some(ImageErr::Refused(code, at)),
             "{number} at {at}"
         );
     }
@@ -112,9 +107,8 @@ fn each_number_has_its_rule(rt: HostRuntime) -> Result<(), Fail> {
     for &(at, number, code, offset) in LARGE_REFUSALS.iter() {
         let bytes = altered(rt.alloc(), LARGE.as_slice(), at, number)?;
         let error = refusal(rt.alloc(), &bytes);
-        assert_eq!(rt;
-            error,
-            Some(ImageErr::Refused(code, offset)),
+        assert!(rt;
+            error == Some(ImageErr::Refused(code, offset)),
             "{number} at {at}"
         );
     }
