@@ -6,8 +6,9 @@ use c_token::tokens;
 use c_tree::Program;
 use c_type::check;
 use debug_records::{Place, SourceErr, Var};
-use places::{FlowTable, PlaceTable};
+use places::{FlowTable, PlaceRow, PlaceTable};
 use std::alloc::{AllocError, Global};
+use std::process::Abort;
 use std::test::Fail;
 
 /// The program of a text.
@@ -18,11 +19,9 @@ fn program_of(alloc: Global, text: &[u8]) -> Result<Program, SourceErr> {
 }
 
 /// A place: where it stands, its line, the number of its function, whether it is an entry, and the numbers of the variables visible there.
-#[derive(Clone, Copy)]
 struct Row(u32, u32, u32, bool, &'static [u32]);
 
 /// A text with its places, and by their numbers the steps between them and what they assign.
-#[derive(Clone, Copy)]
 struct Worked {
     text: &'static [u8],
     places: &'static [Row],
@@ -59,7 +58,8 @@ fn visible(alloc: Global, table: &PlaceTable) -> Result<Vec<Vec<u32>>, AllocErro
     Ok(all)
 }
 
-fn straight_line() -> Worked {
+/// Programs, with what an independent reference in Python gives of them, by ISO/IEC 9899:2011 and the sentences of docs/DEFINITIONS.md on places.
+static PROGRAMS: [Worked; 7] = [
     Worked {
         text: b"#include <stdio.h>\nint main(void){int x=2; x=x+3; putchar(65); return x;}",
         places: &[
@@ -71,11 +71,8 @@ fn straight_line() -> Worked {
         ],
         steps: &[(1, 2), (2, 3), (3, 4), (4, 5)],
         assignments: &[(2, 0), (3, 0)],
-    }
-}
-
-/// Both arms are places of their own.
-fn empty_if() -> Worked {
+    },
+    // both arms are places of their own
     Worked {
         text: b"int main(void){int c=0; if (c) ; else ; return c;}",
         places: &[
@@ -88,21 +85,15 @@ fn empty_if() -> Worked {
         ],
         steps: &[(1, 2), (2, 3), (3, 4), (3, 5), (4, 6), (5, 6)],
         assignments: &[(2, 0)],
-    }
-}
-
-/// No place stands at the closing brace, which is never reached.
-fn endless() -> Worked {
+    },
+    // no place stands at the closing brace, which is never reached
     Worked {
         text: b"int main(void){for(;;){}}",
         places: &[Row(4, 1, 0, true, &[]), Row(15, 1, 0, false, &[])],
         steps: &[(1, 2), (2, 2)],
         assignments: &[],
-    }
-}
-
-/// Control falls from one label into the next, and with a `default` not past them all (6.8.4.2).
-fn falls_through() -> Worked {
+    },
+    // control falls from one label into the next, and with a `default` not past them all (6.8.4.2)
     Worked {
         text: b"#include <stdio.h>\nint main(void){switch(1){case 0: putchar(48); case 1: putchar(49); case 2: putchar(50); break; default: putchar(51);} return 0;}",
         places: &[
@@ -128,11 +119,8 @@ fn falls_through() -> Worked {
             (7, 8),
         ],
         assignments: &[],
-    }
-}
-
-/// A declarator does not see its own name, and hides what has it behind itself (6.2.1): the variables are the static x, main's x, y and the inner x.
-fn shadowed() -> Worked {
+    },
+    // a declarator does not see its own name, and hides what has it behind itself (6.2.1): the variables are the static x, main's x, y and the inner x
     Worked {
         text: b"int x=1; int main(void){int x=x=2; {int y=3, x=y; x=x+1;} return x;}",
         places: &[
@@ -145,11 +133,8 @@ fn shadowed() -> Worked {
         ],
         steps: &[(1, 2), (2, 3), (3, 4), (4, 5), (5, 6)],
         assignments: &[(2, 1), (3, 2), (4, 3), (5, 3)],
-    }
-}
-
-/// The entry assigns the parameter, which is not visible there: the variables are g and a.
-fn parameter() -> Worked {
+    },
+    // the entry assigns the parameter, which is not visible there: the variables are g and a
     Worked {
         text: b"int g;\nint f(int a){a=a+1; return a;}\nint main(void){g=f(1); return g;}",
         places: &[
@@ -162,11 +147,8 @@ fn parameter() -> Worked {
         ],
         steps: &[(1, 2), (2, 3), (4, 5), (5, 6)],
         assignments: &[(1, 1), (2, 1), (5, 0)],
-    }
-}
-
-/// Assignments, increments and decrements within expressions: the variables are g, the literal, p, i and a.
-fn within_expressions() -> Worked {
+    },
+    // assignments, increments and decrements within expressions: the variables are g, the literal, p, i and a
     Worked {
         text: b"int g; int main(void){char *p=\"ab\"; int i=0; int a[2]; a[i++]=g+=2; for(i=1; i<3 && p++; a[i]=0) --i; return i?i-=1:g++;}",
         places: &[
@@ -205,47 +187,54 @@ fn within_expressions() -> Worked {
             (10, 0),
             (10, 3),
         ],
-    }
+    },
+];
+
+/// Whether a place is the one of a row.
+fn is_row(row: &PlaceRow, seen: &[u32], wanted: &Row) -> bool {
+    row.position == wanted.0
+        && row.line == wanted.1
+        && row.function == wanted.2
+        && row.is_entry == wanted.3
+        && seen == wanted.4
 }
 
-fn programs() -> [Worked; 7] {
-    [
-        straight_line(),
-        empty_if(),
-        endless(),
-        falls_through(),
-        shadowed(),
-        parameter(),
-        within_expressions(),
-    ]
+/// Whether the places of a table are those of the rows.
+fn are_rows(alloc: Global, table: &PlaceTable, wanted: &[Row]) -> Result<bool, AllocError> {
+    let seen = visible(alloc, table)?;
+    let mut rows = table.rows.iter().zip(&seen).zip(wanted);
+    Ok(
+        table.rows.len() == wanted.len()
+            && rows.all(|((row, seen), wanted)| is_row(row, seen, wanted)),
+    )
+}
+
+/// The tables of a program are those that it was worked with.
+fn assert_worked(rt: &impl Abort, alloc: Global, worked: &Worked) -> Result<(), Fail> {
+    let text = worked.text;
+    let program = program_of(alloc, text)?;
+    let is_small = fits(alloc, &program)?;
+    assert!(rt; is_small);
+    let (places, flows) = flow(alloc, &program)?;
+    let (steps, assignments) = pairs(alloc, &flows)?;
+    let are_worked = are_rows(alloc, &places, worked.places)?
+        && steps.as_slice() == worked.steps
+        && assignments.as_slice() == worked.assignments;
+    assert!(rt; are_worked, "{text:?}");
+    Ok(())
 }
 
 #[test]
 fn tables_are_those_of_the_reference(rt: HostRuntime) -> Result<(), Fail> {
-    for worked in programs() {
-        let program = program_of(rt.alloc(), worked.text)?;
-        let fit = fits(rt.alloc(), &program)?;
-        assert!(rt; fit);
-        let (places, flows) = flow(rt.alloc(), &program)?;
-        let visible = visible(rt.alloc(), &places)?;
-        assert!(rt; places.rows.len() == worked.places.len());
-        for ((row, seen), wanted) in places.rows.iter().zip(&visible).zip(worked.places) {
-            assert!(rt;
-                (row.position, row.line, row.function, row.is_entry)
-                    == (wanted.0, wanted.1, wanted.2, wanted.3)
-            );
-            assert!(rt; seen.as_slice() == wanted.4);
-        }
-        let (steps, assignments) = pairs(rt.alloc(), &flows)?;
-        assert!(rt; steps.as_slice() == worked.steps);
-        assert!(rt; assignments.as_slice() == worked.assignments);
+    for worked in &PROGRAMS {
+        assert_worked(&rt, rt.alloc(), worked)?;
     }
     Ok(())
 }
 
 #[test]
 fn assigns_agrees_with_the_table_for_each_place_and_variable(rt: HostRuntime) -> Result<(), Fail> {
-    for worked in programs() {
+    for worked in &PROGRAMS {
         let program = program_of(rt.alloc(), worked.text)?;
         // one more of each than any of the programs has
         for place in 0..12 {

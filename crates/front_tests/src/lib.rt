@@ -4,10 +4,10 @@
 #[cfg(test)]
 mod flow_tests;
 #[cfg(test)]
-mod parse_tests;
+mod refusal_tests;
 #[cfg(test)]
 mod run_tests;
 #[cfg(test)]
-mod token_tests;
+mod texts;
 #[cfg(test)]
-mod type_tests;
+mod token_tests;
