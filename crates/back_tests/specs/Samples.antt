@@ -1,6 +1,6 @@
 -- The images that the tests run.
 use Rattle.std.specs.Prelude.{ℕ, ◌+◌, ◌*◌, Some, [], ◌∷◌, codes}
-use Rattle.image_form.specs.declared.format.Mode.TheVariants.{Slots}
+use Rattle.debug_records.specs.declared.mode.Mode.TheVariants.{Slots}
 use Rattle.image_form.specs.declared.variables.ElementType.TheVariants.{I32}
 use Rattle.image_form.specs.declared.variables.Storage.TheVariants.{Slot}
 use Rattle.image_form.specs.declared.verdicts.Verdict.TheVariants.{Home}

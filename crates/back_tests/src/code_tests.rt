@@ -1,19 +1,17 @@
 //! Words that the GNU assembler wrote for RV32IM (binutils 2.40), and words that it writes for no instruction of RV32IM.
 
-use rv_code::instruction::{
+use rv_code::{
     BranchOperation, ImmediateOperation, Instruction, LoadOperation, RegisterOperation,
-    StoreOperation,
+    StoreOperation, decode, encode,
 };
-use rv_code::{decode, encode};
 use std::process::Abort;
 
-// A word spells an instruction, and the instruction has that word.
+/// A word spells an instruction, and the instruction has that word.
 fn assert_spelled(rt: &impl Abort, word: u32, instruction: Instruction) {
-    let found = decode(word);
-    assert!(rt; found == Some(instruction), "decoded {word}");
-    if let Some(found) = found {
-        assert!(rt; encode(found) == word, "encoded {word}");
-    }
+    assert!(rt;
+        decode(word) == Some(instruction) && encode(instruction) == word,
+        "{word}"
+    );
 }
 
 static UPPER_IMMEDIATES: [(u32, Instruction); 8] = [
@@ -26,13 +24,6 @@ static UPPER_IMMEDIATES: [(u32, Instruction); 8] = [
     (0x00001537, Instruction::Lui(10, 0x1)), // lui x10, 0x1
     (0x00001517, Instruction::Auipc(10, 0x1)), // auipc x10, 0x1
 ];
-
-#[test]
-fn upper_immediates_as_the_assembler_writes_them(rt: HostRuntime) {
-    for (word, instruction) in &UPPER_IMMEDIATES {
-        assert_spelled(&rt, *word, *instruction);
-    }
-}
 
 static JUMPS: [(u32, Instruction); 13] = [
     (0x0000006f, Instruction::Jal(0, 0x00000000)), // jal x0, .+0
@@ -49,13 +40,6 @@ static JUMPS: [(u32, Instruction); 13] = [
     (0x800280e7, Instruction::Jalr(1, 5, 0xfffff800)), // jalr x1, -2048(x5)
     (0xfff38367, Instruction::Jalr(6, 7, 0xffffffff)), // jalr x6, -1(x7)
 ];
-
-#[test]
-fn jumps_as_the_assembler_writes_them(rt: HostRuntime) {
-    for (word, instruction) in &JUMPS {
-        assert_spelled(&rt, *word, *instruction);
-    }
-}
 
 static BRANCHES: [(u32, Instruction); 36] = [
     (
@@ -204,13 +188,6 @@ static BRANCHES: [(u32, Instruction); 36] = [
     ), // bgeu x14, x15, .+1024
 ];
 
-#[test]
-fn branches_as_the_assembler_writes_them(rt: HostRuntime) {
-    for (word, instruction) in &BRANCHES {
-        assert_spelled(&rt, *word, *instruction);
-    }
-}
-
 static LOADS: [(u32, Instruction); 15] = [
     (
         0x7fff8003,
@@ -274,13 +251,6 @@ static LOADS: [(u32, Instruction); 15] = [
     ), // lhu x5, -1(x6)
 ];
 
-#[test]
-fn loads_as_the_assembler_writes_them(rt: HostRuntime) {
-    for (word, instruction) in &LOADS {
-        assert_spelled(&rt, *word, *instruction);
-    }
-}
-
 static STORES: [(u32, Instruction); 15] = [
     (
         0x7e0f8fa3,
@@ -343,13 +313,6 @@ static STORES: [(u32, Instruction); 15] = [
         Instruction::Store(StoreOperation::Sw, 9, 10, 0x00000020),
     ), // sw x9, 32(x10)
 ];
-
-#[test]
-fn stores_as_the_assembler_writes_them(rt: HostRuntime) {
-    for (word, instruction) in &STORES {
-        assert_spelled(&rt, *word, *instruction);
-    }
-}
 
 static OPERATIONS_ON_AN_IMMEDIATE: [(u32, Instruction); 33] = [
     (
@@ -485,13 +448,6 @@ static OPERATIONS_ON_AN_IMMEDIATE: [(u32, Instruction); 33] = [
         Instruction::Immediate(ImmediateOperation::Srai, 5, 6, 16),
     ), // srai x5, x6, 16
 ];
-
-#[test]
-fn operations_on_an_immediate_as_the_assembler_writes_them(rt: HostRuntime) {
-    for (word, instruction) in &OPERATIONS_ON_AN_IMMEDIATE {
-        assert_spelled(&rt, *word, *instruction);
-    }
-}
 
 static OPERATIONS_ON_TWO_REGISTERS: [(u32, Instruction); 54] = [
     (
@@ -712,27 +668,17 @@ static OPERATIONS_ON_TWO_REGISTERS: [(u32, Instruction); 54] = [
     ), // remu x5, x6, x31
 ];
 
-#[test]
-fn operations_on_two_registers_as_the_assembler_writes_them(rt: HostRuntime) {
-    for (word, instruction) in &OPERATIONS_ON_TWO_REGISTERS {
-        assert_spelled(&rt, *word, *instruction);
-    }
-}
-
-static FENCES_AND_CALLS: [(u32, Instruction); 5] = [
+static FENCES_AND_CALLS: [(u32, Instruction); 6] = [
+    (
+        0x00000013,
+        Instruction::Immediate(ImmediateOperation::Addi, 0, 0, 0),
+    ), // nop
     (0x0ff0000f, Instruction::Fence(0, 0, 0x000000ff)), // fence iorw, iorw
     (0x0310000f, Instruction::Fence(0, 0, 0x00000031)), // fence rw, w
     (0x8330000f, Instruction::Fence(0, 0, 0xfffff833)), // fence.tso
     (0x00000073, Instruction::Ecall), // ecall
     (0x00100073, Instruction::Ebreak), // ebreak
 ];
-
-#[test]
-fn fences_and_calls_as_the_assembler_writes_them(rt: HostRuntime) {
-    for (word, instruction) in &FENCES_AND_CALLS {
-        assert_spelled(&rt, *word, *instruction);
-    }
-}
 
 static NO_INSTRUCTION: [u32; 28] = [
     0x00000000, // the word 0
@@ -766,14 +712,26 @@ static NO_INSTRUCTION: [u32; 28] = [
 ];
 
 #[test]
-fn other_words_spell_nothing(rt: HostRuntime) {
-    for word in &NO_INSTRUCTION {
-        assert!(rt; decode(*word) == None, "decoded {word}");
+fn words_and_instructions_are_those_of_the_assembler(rt: HostRuntime) {
+    for table in [
+        UPPER_IMMEDIATES.as_slice(),
+        &JUMPS,
+        &BRANCHES,
+        &LOADS,
+        &STORES,
+        &OPERATIONS_ON_AN_IMMEDIATE,
+        &OPERATIONS_ON_TWO_REGISTERS,
+        &FENCES_AND_CALLS,
+    ] {
+        for (word, instruction) in table {
+            assert_spelled(&rt, *word, *instruction);
+        }
     }
 }
 
 #[test]
-fn the_word_of_no_operation(rt: HostRuntime) {
-    let nothing = Instruction::Immediate(ImmediateOperation::Addi, 0, 0, 0);
-    assert!(rt; encode(nothing) == 0x00000013);
+fn other_words_spell_nothing(rt: HostRuntime) {
+    for word in &NO_INSTRUCTION {
+        assert!(rt; decode(*word).is_none(), "{word}");
+    }
 }

@@ -1,11 +1,12 @@
 //! Small programs, in words that the GNU assembler wrote (binutils 2.40). What they must leave was computed by another machine, written in Python.
 
-use rv_machine::event::Event;
-use rv_machine::machine::Machine;
+use rv_machine::{Event, Machine};
 use std::alloc::{AllocError, Global};
 use std::process::Abort;
 
 mod faults;
+
+use faults::{LOADS_OUTSIDE, NO_SUCH_INSTRUCTION, NOT_ALIGNED, STORES_OUTSIDE};
 
 struct Program {
     shows: &'static str,
@@ -46,25 +47,22 @@ fn run(alloc: Global, mut machine: Machine) -> Result<Ran, AllocError> {
     })
 }
 
+/// Whether the registers hold the words of a list.
+fn hold(registers: &[u32], words: &[(usize, u32)]) -> bool {
+    let mut all = words.iter();
+    all.all(|(number, word)| registers.get(*number) == Some(word))
+}
+
+/// A program leaves what is told of it.
 fn assert_leaves(rt: &impl Abort, alloc: Global, program: &Program) -> Result<(), AllocError> {
     assert!(rt; program.code.len() <= 100 && program.bytes.len() <= 100);
     let machine = Machine::load(alloc, program.code, program.bytes, program.input)?;
     let ran = run(alloc, machine)?;
-    assert!(rt; ran.ending == program.ending, "{}", program.shows);
-    assert!(rt;
-        ran.output.as_slice() == program.output,
-        "{}",
-        program.shows
-    );
-    assert!(rt; ran.machine.pc() == program.pc, "{}", program.shows);
-    for (number, value) in program.registers {
-        let found = ran.machine.registers().get(*number).copied();
-        assert!(rt;
-            found == Some(*value),
-            "register {number}: {}",
-            program.shows
-        );
-    }
+    let leaves = ran.ending == program.ending
+        && ran.output.as_slice() == program.output
+        && ran.machine.pc() == program.pc
+        && hold(ran.machine.registers(), program.registers);
+    assert!(rt; leaves, "{}", program.shows);
     Ok(())
 }
 
@@ -141,14 +139,6 @@ static CALLS: [Program; 5] = [
         registers: &[(17, 0x00000003)],
     },
 ];
-
-#[test]
-fn calls_read_and_put_out_bytes_and_end(rt: HostRuntime) -> Result<(), AllocError> {
-    for program in &CALLS {
-        assert_leaves(&rt, rt.alloc(), program)?;
-    }
-    Ok(())
-}
 
 static LOADS_AND_STORES: [Program; 4] = [
     Program {
@@ -235,14 +225,6 @@ static LOADS_AND_STORES: [Program; 4] = [
         registers: &[(18, 0xfffffffd), (19, 0xfffdfd00), (20, 0x00000000)],
     },
 ];
-
-#[test]
-fn loads_and_stores_move_bytes_of_their_width(rt: HostRuntime) -> Result<(), AllocError> {
-    for program in &LOADS_AND_STORES {
-        assert_leaves(&rt, rt.alloc(), program)?;
-    }
-    Ok(())
-}
 
 static OPERATIONS: [Program; 6] = [
     Program {
@@ -384,14 +366,6 @@ static OPERATIONS: [Program; 6] = [
     },
 ];
 
-#[test]
-fn operations_compute_what_the_isa_says(rt: HostRuntime) -> Result<(), AllocError> {
-    for program in &OPERATIONS {
-        assert_leaves(&rt, rt.alloc(), program)?;
-    }
-    Ok(())
-}
-
 static BRANCHES: [Program; 4] = [
     Program {
         shows: "branches at a negative and a positive number",
@@ -474,14 +448,6 @@ static BRANCHES: [Program; 4] = [
     },
 ];
 
-#[test]
-fn branches_are_taken_where_their_comparison_holds(rt: HostRuntime) -> Result<(), AllocError> {
-    for program in &BRANCHES {
-        assert_leaves(&rt, rt.alloc(), program)?;
-    }
-    Ok(())
-}
-
 static JUMPS: [Program; 4] = [
     Program {
         shows: "jumps and returns",
@@ -536,9 +502,75 @@ static JUMPS: [Program; 4] = [
 ];
 
 #[test]
-fn jumps_go_where_they_say(rt: HostRuntime) -> Result<(), AllocError> {
-    for program in &JUMPS {
-        assert_leaves(&rt, rt.alloc(), program)?;
+fn programs_leave_what_the_other_machine_leaves(rt: HostRuntime) -> Result<(), AllocError> {
+    for table in [
+        CALLS.as_slice(),
+        &LOADS_AND_STORES,
+        &OPERATIONS,
+        &BRANCHES,
+        &JUMPS,
+        &NO_SUCH_INSTRUCTION,
+        &STORES_OUTSIDE,
+        &NOT_ALIGNED,
+        &LOADS_OUTSIDE,
+    ] {
+        for program in table {
+            assert_leaves(&rt, rt.alloc(), program)?;
+        }
+    }
+    Ok(())
+}
+
+/// A machine that has run two instructions: lui sp, 0x2000; sw sp, -4(sp).
+fn machine_with_a_stack(alloc: Global) -> Result<Machine, AllocError> {
+    let mut machine = Machine::load(alloc, &[0x02000137, 0xfe212e23], &[7, 8, 9], &[])?;
+    machine.step();
+    machine.step();
+    Ok(machine)
+}
+
+/// Bytes of that machine, each with its address: of the code, the static objects, the heap's end, the stack, and between them.
+static BYTES: [(u32, u8); 17] = [
+    (0x00000000, 0x00),
+    (0x0000ffff, 0x00),
+    (0x00010000, 0x37),
+    (0x00010001, 0x01),
+    (0x00010006, 0x21),
+    (0x00010007, 0xfe),
+    (0x00010008, 0x00),
+    (0x00400000, 0x07),
+    (0x00400002, 0x09),
+    (0x00400003, 0x00),
+    (0x004fffff, 0x00),
+    (0x00500000, 0x00),
+    (0x01000000, 0x00),
+    (0x01fffffc, 0x00),
+    (0x01ffffff, 0x02),
+    (0x02000000, 0x00),
+    (0xffffffff, 0x00),
+];
+
+/// The stack of that machine from addresses on: how many bytes it has there, and its last one.
+static STACKS: [(u32, usize, Option<u8>); 5] = [
+    (0x01fffffb, 5, Some(2)),
+    (0x01ffffff, 1, Some(2)),
+    (0x02000000, 0, None),
+    (0x00ffffff, 0, None),
+    (0x01000000, 16777216, Some(2)),
+];
+
+#[test]
+fn every_byte_can_be_read(rt: HostRuntime) -> Result<(), AllocError> {
+    let machine = machine_with_a_stack(rt.alloc())?;
+    for (address, byte) in &BYTES {
+        assert!(rt; machine.byte(*address) == *byte, "at {address}");
+    }
+    for (address, count, last) in &STACKS {
+        let stack = machine.stack_from(*address);
+        assert!(rt;
+            stack.len() == *count && stack.last().copied() == *last,
+            "from {address}"
+        );
     }
     Ok(())
 }
@@ -546,56 +578,11 @@ fn jumps_go_where_they_say(rt: HostRuntime) -> Result<(), AllocError> {
 #[test]
 fn an_ending_comes_again_and_changes_nothing(rt: HostRuntime) -> Result<(), AllocError> {
     // addi a7, x0, 10; addi a0, x0, 3; ecall
-    let mut machine = Machine::load(rt.alloc(), &[0x00a00893, 0x00300513, 0x00000073], &[], &[])?;
-    assert!(rt; machine.step() == Event::Went);
-    assert!(rt; machine.step() == Event::Went);
-    assert!(rt; machine.step() == Event::Exited(3));
-    assert!(rt; machine.step() == Event::Exited(3));
-    assert!(rt; machine.pc() == 0x00010008);
-    assert!(rt; machine.registers()[10] == 3);
-    Ok(())
-}
-
-#[test]
-fn every_byte_can_be_read(rt: HostRuntime) -> Result<(), AllocError> {
-    // lui sp, 0x2000; sw sp, -4(sp)
-    let mut machine = Machine::load(rt.alloc(), &[0x02000137, 0xfe212e23], &[7, 8, 9], &[])?;
-    assert!(rt; machine.step() == Event::Went);
-    assert!(rt; machine.step() == Event::Went);
-    for (address, byte) in [
-        (0x00000000, 0x00),
-        (0x0000ffff, 0x00),
-        (0x00010000, 0x37),
-        (0x00010001, 0x01),
-        (0x00010006, 0x21),
-        (0x00010007, 0xfe),
-        (0x00010008, 0x00),
-        (0x00400000, 0x07),
-        (0x00400002, 0x09),
-        (0x00400003, 0x00),
-        (0x004fffff, 0x00),
-        (0x00500000, 0x00),
-        (0x01000000, 0x00),
-        (0x01fffffc, 0x00),
-        (0x01ffffff, 0x02),
-        (0x02000000, 0x00),
-        (0xffffffff, 0x00),
-    ] {
-        assert!(rt; machine.byte(address) == byte, "at {address}");
+    let code = [0x00a00893, 0x00300513, 0x00000073];
+    let mut machine = Machine::load(rt.alloc(), &code, &[], &[])?;
+    for wanted in [Event::Went, Event::Went, Event::Exited(3), Event::Exited(3)] {
+        assert!(rt; machine.step() == wanted);
     }
-    Ok(())
-}
-
-#[test]
-fn the_stack_can_be_read_to_its_end(rt: HostRuntime) -> Result<(), AllocError> {
-    // lui sp, 0x2000; sw sp, -4(sp)
-    let mut machine = Machine::load(rt.alloc(), &[0x02000137, 0xfe212e23], &[], &[])?;
-    assert!(rt; machine.step() == Event::Went);
-    assert!(rt; machine.step() == Event::Went);
-    assert!(rt; machine.stack_from(0x01fffffb) == [0, 0, 0, 0, 2].as_slice());
-    assert!(rt; machine.stack_from(0x01ffffff) == [2].as_slice());
-    assert!(rt; machine.stack_from(0x02000000).len() == 0);
-    assert!(rt; machine.stack_from(0x00ffffff).len() == 0);
-    assert!(rt; machine.stack_from(0x01000000).len() == 16777216);
+    assert!(rt; machine.pc() == 0x00010008 && machine.registers()[10] == 3);
     Ok(())
 }

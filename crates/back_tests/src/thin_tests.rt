@@ -1,8 +1,7 @@
 use std::alloc::{AllocError, Global};
 use std::process::Abort;
 use std::test::Fail;
-use thin_form::tree::{Action, Spot, Statement, Term};
-use thin_form::{ThinErr, read};
+use thin_form::{Action, Spot, Statement, Term, ThinErr, read};
 
 const WORKED: &str = "#include <stdio.h>\nint main(void){int x=2; x=x+3; putchar(65); return x;}\n";
 

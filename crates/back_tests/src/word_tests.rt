@@ -1,8 +1,9 @@
 //! Values computed by a C compiler on another machine, in 64-bit arithmetic where the product or the shift needs it.
 
+use std::process::Abort;
 use word_base::{
-    add, div_signed, div_unsigned, fits_i32, mul, mulh, mulhsu, mulhu, rem_signed, rem_unsigned,
-    sll, slt, sltu, sra, srl, sub,
+    Operation, Truncation, add, div_signed, div_unsigned, fits_i32, mul, mulh, mulhsu, mulhu,
+    operate, rem_signed, rem_unsigned, sll, slt, sltu, sra, srl, sub, truncate,
 };
 
 struct Row {
@@ -352,16 +353,22 @@ static ROWS: [Row; 17] = [
     },
 ];
 
+/// An operation has the word that the table has for it.
+fn assert_word(rt: &impl Abort, found: u32, wanted: u32, name: &str, row: &Row) {
+    let (a, b) = (row.a, row.b);
+    assert!(rt; found == wanted, "{name} {a} {b}");
+}
+
 #[test]
 fn sums_and_products(rt: HostRuntime) {
     for row in &ROWS {
         let (a, b) = (row.a, row.b);
-        assert!(rt; add(a, b) == row.add, "add {a} {b}");
-        assert!(rt; sub(a, b) == row.sub, "sub {a} {b}");
-        assert!(rt; mul(a, b) == row.mul, "mul {a} {b}");
-        assert!(rt; mulh(a, b) == row.mulh, "mulh {a} {b}");
-        assert!(rt; mulhu(a, b) == row.mulhu, "mulhu {a} {b}");
-        assert!(rt; mulhsu(a, b) == row.mulhsu, "mulhsu {a} {b}");
+        assert_word(&rt, add(a, b), row.add, "add", row);
+        assert_word(&rt, sub(a, b), row.sub, "sub", row);
+        assert_word(&rt, mul(a, b), row.mul, "mul", row);
+        assert_word(&rt, mulh(a, b), row.mulh, "mulh", row);
+        assert_word(&rt, mulhu(a, b), row.mulhu, "mulhu", row);
+        assert_word(&rt, mulhsu(a, b), row.mulhsu, "mulhsu", row);
     }
 }
 
@@ -369,10 +376,10 @@ fn sums_and_products(rt: HostRuntime) {
 fn quotients_and_remainders(rt: HostRuntime) {
     for row in &ROWS {
         let (a, b) = (row.a, row.b);
-        assert!(rt; div_signed(a, b) == row.div_signed, "div {a} {b}");
-        assert!(rt; div_unsigned(a, b) == row.div_unsigned, "divu {a} {b}");
-        assert!(rt; rem_signed(a, b) == row.rem_signed, "rem {a} {b}");
-        assert!(rt; rem_unsigned(a, b) == row.rem_unsigned, "remu {a} {b}");
+        assert_word(&rt, div_signed(a, b), row.div_signed, "div", row);
+        assert_word(&rt, div_unsigned(a, b), row.div_unsigned, "divu", row);
+        assert_word(&rt, rem_signed(a, b), row.rem_signed, "rem", row);
+        assert_word(&rt, rem_unsigned(a, b), row.rem_unsigned, "remu", row);
     }
 }
 
@@ -380,21 +387,82 @@ fn quotients_and_remainders(rt: HostRuntime) {
 fn shifts_and_comparisons(rt: HostRuntime) {
     for row in &ROWS {
         let (a, b) = (row.a, row.b);
-        assert!(rt; sll(a, b) == row.sll, "sll {a} {b}");
-        assert!(rt; srl(a, b) == row.srl, "srl {a} {b}");
-        assert!(rt; sra(a, b) == row.sra, "sra {a} {b}");
-        assert!(rt; slt(a, b) == row.slt, "slt {a} {b}");
-        assert!(rt; sltu(a, b) == row.sltu, "sltu {a} {b}");
+        assert_word(&rt, sll(a, b), row.sll, "sll", row);
+        assert_word(&rt, srl(a, b), row.srl, "srl", row);
+        assert_word(&rt, sra(a, b), row.sra, "sra", row);
+        assert_word(&rt, slt(a, b), row.slt, "slt", row);
+        assert_word(&rt, sltu(a, b), row.sltu, "sltu", row);
     }
 }
 
+/// What each operation gives of the words of a row.
+fn operated(row: &Row) -> [(Operation, u32); 15] {
+    let (a, b) = (row.a, row.b);
+    [
+        (Operation::Add, row.add),
+        (Operation::Sub, row.sub),
+        (Operation::Mul, row.mul),
+        (Operation::Div, row.div_signed),
+        (Operation::Divu, row.div_unsigned),
+        (Operation::Rem, row.rem_signed),
+        (Operation::Remu, row.rem_unsigned),
+        (Operation::Sll, row.sll),
+        (Operation::Srl, row.srl),
+        (Operation::Sra, row.sra),
+        (Operation::And, a & b),
+        (Operation::Or, a | b),
+        (Operation::Xor, a ^ b),
+        (Operation::Slt, row.slt),
+        (Operation::Sltu, row.sltu),
+    ]
+}
+
+#[test]
+fn operations_are_by_their_names(rt: HostRuntime) {
+    for row in &ROWS {
+        for (operation, wanted) in operated(row) {
+            assert_word(
+                &rt,
+                operate(operation, row.a, row.b),
+                wanted,
+                "operate",
+                row,
+            );
+        }
+    }
+}
+
+/// Words cut to their lowest bits, worked by hand.
+static TRUNCATED: [(Truncation, u32, u32); 6] = [
+    (Truncation::Unsigned8, 0x1234_5688, 0x88),
+    (Truncation::Signed8, 0x1234_5688, 0xffff_ff88),
+    (Truncation::Unsigned16, 0x1234_8678, 0x8678),
+    (Truncation::Signed16, 0x1234_8678, 0xffff_8678),
+    (Truncation::Signed8, 0x7f, 0x7f),
+    (Truncation::Signed16, 0x7fff, 0x7fff),
+];
+
+#[test]
+fn truncations_keep_low_bits(rt: HostRuntime) {
+    for (truncation, word, wanted) in &TRUNCATED {
+        assert!(rt; truncate(*truncation, *word) == *wanted, "{word}");
+    }
+}
+
+/// Numbers, and whether a signed word has them (ISO/IEC 9899:2011, 5.2.4.2.1, at 32 bits).
+static RANGE: [(i64, bool); 7] = [
+    (0, true),
+    (-2147483648, true),
+    (2147483647, true),
+    (-2147483649, false),
+    (2147483648, false),
+    (-9223372036854775808, false),
+    (9223372036854775807, false),
+];
+
 #[test]
 fn range_of_a_signed_word(rt: HostRuntime) {
-    assert!(rt; fits_i32(0));
-    assert!(rt; fits_i32(-2147483648));
-    assert!(rt; fits_i32(2147483647));
-    assert!(rt; !fits_i32(-2147483649));
-    assert!(rt; !fits_i32(2147483648));
-    assert!(rt; !fits_i32(i64::MIN));
-    assert!(rt; !fits_i32(i64::MAX));
+    for (number, fits) in &RANGE {
+        assert!(rt; fits_i32(*number) == *fits, "{number}");
+    }
 }

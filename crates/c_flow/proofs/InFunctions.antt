@@ -6,7 +6,7 @@ use Rattle.debug_records.specs.declared.source.Spot.{Spot}
 use Rattle.c_tree.specs.TypedExpressions.{RvalueTree}
 use Rattle.c_tree.specs.TypedStatements.{DeclaredTree, TypedStartTree, Nothing, Value, Declares, StepTree, TypedStatementTree, Block, Declaration, Empty, Run, If, IfElse, While, DoWhile, For, Switch, Break, Continue, Return, TypedStatementTrees, none, first, case, default}
 use Rattle.c_tree.specs.Programs.{TypedFunctionTree}
-use Rattle.c_type_limits.specs.Flow.{reaches_end}
+use Rattle.c_facts.specs.Flow.{reaches_end}
 use Rattle.c_places.specs.Places.{Place, brought, brought_by_body, brought_by_start, close_of, entry_of, parameters_of, places_of, places_of_all, places_of_declarators, places_of_function, places_of_functions, places_of_head, places_of_start, places_of_step, stop}
 
 module _ (f : ℕ) where

@@ -9,7 +9,7 @@ use Rattle.std.proofs.lemmas.Cmp.{ranked, by_ranked}
 use Rattle.std.proofs.lemmas.List.Elements.{All-from_recursion}
 use Rattle.std.proofs.lemmas.List.Kept.{AllPairs-cons}
 use Rattle.std.proofs.lemmas.Map.Keys.{sorted_head, sorted_tail}
-use Rattle.places.specs.declared.flow.Step.{Step}
+use Rattle.places.specs.declared.flow.FlowStep.{FlowStep}
 use Rattle.places.specs.declared.flow.Assignment.{Assignment}
 use Rattle.places.specs.Flow.{AreInOrder, IsAssignmentBefore}
 
@@ -27,10 +27,10 @@ pair_less a b c d less =
     by_ranked (c < d) (c ≡ d) (d < c) (nat_cmp c d) (ranked c d (nat_cmp c d) refl) (λ here q. inr (p, q)) (λ here q. absurd (cc)) (λ here q. absurd (cc)))
     (λ is p. let greater : Greater ≡ Less = ap (λ o. ordering_then o (nat_cmp c d)) (sym is) ∙ less in absurd (cc))
 
-abbrev pub step_cmp : Step → Step → Ordering
+abbrev pub step_cmp : FlowStep → FlowStep → Ordering
 step_cmp s u = ordering_then (nat_cmp s.from.0 u.from.0) (nat_cmp s.to.0 u.to.0)
 
-pub steps_in_order : (steps : List Step) → IsStrictlySortedBy step_cmp steps → AreInOrder steps
+pub steps_in_order : (steps : List FlowStep) → IsStrictlySortedBy step_cmp steps → AreInOrder steps
 steps_in_order steps h = λ i j d lt within. pair_less _ _ _ _ (strict_pairs step_cmp steps h i j d lt within)
 
 abbrev pub assignment_cmp : Assignment → Assignment → Ordering

@@ -5,7 +5,7 @@ use Rattle.debug_records.specs.declared.source.Spot.{Spot}
 use Rattle.c_tree.specs.TypedExpressions.{RvalueTree}
 use Rattle.c_tree.specs.TypedStatements.{DeclaredTree, TypedStartTree, Nothing, Value, Declares, StepTree, TypedStatementTree, Block, Declaration, Empty, Run, If, IfElse, While, DoWhile, For, Switch, Break, Continue, Return, TypedStatementTrees, none, first, case, default}
 use Rattle.c_tree.specs.Programs.{TypedFunctionTree, ProgramTree}
-use Rattle.c_type_limits.specs.Flow.{reaches_end}
+use Rattle.c_facts.specs.Flow.{reaches_end}
 use Rattle.c_places.specs.Places.{Place, brought, brought_by_start, close_of, count_before, entry_of, number_at, parameters_of, places_of, places_of_all, places_of_declarators, places_of_function, places_of_functions, places_of_head, places_of_program, places_of_start, places_of_step, brought_by_body, stop}
 use Rattle.c_flow.specs.PlacesBefore.{close_before, declarators_before, function_before, functions_before, places_before, spot_before, start_before, statement_before, statements_before, step_before}
 

@@ -3,8 +3,8 @@ use Rattle.std.specs.Prelude.{ℕ, List, [], ◌∷◌, ◌++◌, map, Option, S
 use Rattle.c_tree.specs.TypedExpressions.{RvalueTree}
 use Rattle.c_tree.specs.TypedStatements.{DeclaredTree, TypedStartTree, Nothing, Value, Declares, StepTree, TypedStatementTree, Block, Declaration, Empty, Run, If, IfElse, While, DoWhile, For, Switch, Break, Continue, Return, TypedStatementTrees, none, first, case, default}
 use Rattle.c_tree.specs.Programs.{TypedFunctionTree, ProgramTree}
-use Rattle.c_type_limits.specs.Flow.{has_default, reaches_end}
-use Rattle.places.specs.declared.flow.Step.{Step}
+use Rattle.c_facts.specs.Flow.{has_default, reaches_end}
+use Rattle.places.specs.declared.flow.FlowStep.{FlowStep}
 use Rattle.c_flow.specs.declared.edge.Edge.{Edge}
 use Rattle.c_flow.specs.declared.edge.Ways.{Ways}
 use Rattle.c_places.specs.Places.{Place, number_at, places_of_program}
@@ -141,8 +141,8 @@ abbrev pub flow_of_program : ProgramTree → List Edge
 flow_of_program p = flow_of_functions p.functions
 
 -- the same by the numbers of places
-abbrev pub numbered : List Place → Edge → Step
+abbrev pub numbered : List Place → Edge → FlowStep
 numbered places e = record { from = record { 0 = number_at places e.from }; to = record { 0 = number_at places e.to } }
 
-abbrev pub steps_of_program : ProgramTree → List Step
+abbrev pub steps_of_program : ProgramTree → List FlowStep
 steps_of_program p = map (numbered (places_of_program p)) (flow_of_program p)

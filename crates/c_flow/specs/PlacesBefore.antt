@@ -3,7 +3,7 @@ use Rattle.std.specs.Prelude.{ℕ, ◌+◌, nat_lt, List, [], ◌∷◌, Option,
 use Rattle.debug_records.specs.declared.source.Spot.{Spot}
 use Rattle.c_tree.specs.TypedStatements.{DeclaredTree, TypedStartTree, Nothing, Value, Declares, StepTree, TypedStatementTree, Block, Declaration, Empty, Run, If, IfElse, While, DoWhile, For, Switch, Break, Continue, Return, TypedStatementTrees, none, first, case, default}
 use Rattle.c_tree.specs.Programs.{TypedFunctionTree, ProgramTree}
-use Rattle.c_type_limits.specs.Flow.{reaches_end}
+use Rattle.c_facts.specs.Flow.{reaches_end}
 
 module _ (at : ℕ) where
   -- one, if a spot stands before the position

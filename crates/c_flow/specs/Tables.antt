@@ -2,7 +2,7 @@
 use Rattle.std.specs.Prelude.{ℕ, ◌+◌, ◌<◌, ◌^◌, nat_lt, List, [], ◌∷◌, ◌++◌, map, length, All, Bool, Option, Some, None}
 use Rattle.std.specs.List.{count_by}
 use Rattle.debug_records.specs.declared.change.Var.{Var}
-use Rattle.places.specs.declared.flow.Step.{Step}
+use Rattle.places.specs.declared.flow.FlowStep.{FlowStep}
 use Rattle.places.specs.declared.flow.Assignment.{Assignment}
 use Rattle.places.specs.declared.table.PlaceRow.{PlaceRow}
 use Rattle.c_tree.specs.declared.object_type.Object.TheVariants as object
@@ -17,7 +17,7 @@ abbrev pub place_number : List ℕ → ℕ → ℕ
 place_number positions at = count_by (λ (y : ℕ). nat_lt y at) positions + 1
 
 -- the step that an edge is, among places at these positions
-abbrev pub step_between : List ℕ → Edge → Step
+abbrev pub step_between : List ℕ → Edge → FlowStep
 step_between positions e = record { from = record { 0 = place_number positions e.from }; to = record { 0 = place_number positions e.to } }
 
 -- the assignments that these are, among places at these positions

@@ -1,7 +1,7 @@
 -- Where execution may go in small programs, and what their places assign.
 use Rattle.std.specs.Prelude.{◌≡◌, ℕ, pos, false, List, [], ◌∷◌, Some, None, codes}
 use Rattle.debug_records.specs.declared.source.Spot.{Spot}
-use Rattle.places.specs.declared.flow.Step.{Step}
+use Rattle.places.specs.declared.flow.FlowStep.{FlowStep}
 use Rattle.places.specs.declared.flow.Assignment.{Assignment}
 use Rattle.c_tree.specs.declared.types.IntegerType.TheVariants.{Int}
 use Rattle.c_tree.specs.declared.object_type.Scalar.{Scalar}
@@ -129,7 +129,7 @@ two_functions =
     (static 103 4 ∷ []) (automatic 97 17 ∷ [])
 
 -- from place to place
-abbrev pub step : (from to : ℕ) → Step
+abbrev pub step : (from to : ℕ) → FlowStep
 step from to = record { from = record { 0 = from }; to = record { 0 = to } }
 
 -- a place assigns a variable
@@ -137,7 +137,7 @@ abbrev pub assigns : (place variable : ℕ) → Assignment
 assigns place variable = record { place = record { 0 = place }; var = record { 0 = variable } }
 
 -- a program has these steps and assignments
-pub record Flows (of : ProgramTree) (steps : List Step) (assignments : List Assignment) : Type 0 where
+pub record Flows (of : ProgramTree) (steps : List FlowStep) (assignments : List Assignment) : Type 0 where
   pub steps_are : steps_of_program of ≡ steps
   pub assignments_are : assignments_of_program of ≡ assignments
 

@@ -4,7 +4,7 @@ ghost use Rattle.std.specs.Prelude.{◌≡◌, ◌++◌, IfOk, OnOk, map, option
 ghost use Rattle.c_tree.specs.Programs.{function_view, program_view};
 ghost use Rattle.c_tree.specs.TypedExpressions.{rvalue_view};
 ghost use Rattle.c_tree.specs.TypedStatements.{declared_view, start_view, statement_view, statements_view, step_view};
-ghost use Rattle.c_type_limits.specs.Flow.{has_default};
+ghost use Rattle.c_facts.specs.Flow.{has_default};
 ghost use Rattle.c_flow.specs.Flow as definition;
 ghost use Rattle.c_flow.specs.Flow.{edge, flow_of, flow_of_all, flow_of_declarators, flow_of_function, flow_of_program, flow_of_start, flow_of_step, flow_out, flow_past, flow_to_labels, round_of, ways_of_body, within_loop};
 
@@ -14,7 +14,7 @@ use c_tree::{
     Declared, Program, Rvalue, TypedFunction, TypedStart, TypedStatement, TypedStatements,
     TypedStep,
 };
-use c_type_limits::reaches_end;
+use c_facts::reaches_end;
 use std::alloc::{AllocError, Global};
 
 /// Adds the edge from a place to another, if there is one.

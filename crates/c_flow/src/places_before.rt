@@ -8,8 +8,8 @@ ghost use Rattle.c_flow.specs.PlacesBefore.{close_before, declarators_before, fu
 use c_tree::{
     Declared, Program, TypedFunction, TypedStart, TypedStatement, TypedStatements, TypedStep,
 };
-use c_type_limits::reaches_end;
-use debug_records::source::Spot;
+use c_facts::reaches_end;
+use debug_records::Spot;
 
 /// What is left of a number after a spot that may stand before the position.
 fn after_spot(at: u32, spot: Spot, number: u32) -> u32

@@ -15,11 +15,11 @@ use crate::numbering::number_in;
 use crate::order::put_in_order;
 use c_tree::Program;
 use debug_records::Place;
-use places::Step;
+use places::FlowStep;
 use std::alloc::{AllocError, Global};
 
 /// The steps that edges are, among places at these positions, in order of the edges.
-fn numbered_steps(alloc: Global, positions: &[u32], edges: &[Edge]) -> Result<Vec<Step>, AllocError>
+fn numbered_steps(alloc: Global, positions: &[u32], edges: &[Edge]) -> Result<Vec<FlowStep>, AllocError>
     requires sorted { IsNonDecreasing positions.now }
     requires few { length positions.now + 1 < 2 ^ 32 }
     ensures { IfOk result (λ v. v.items ≡ map (step_between positions.now) edges.now) }
@@ -28,7 +28,7 @@ fn numbered_steps(alloc: Global, positions: &[u32], edges: &[Edge]) -> Result<Ve
     for edge in edges {
         let from = number_in(positions, edge.from);
         let to = number_in(positions, edge.to);
-        steps.push(Step {
+        steps.push(FlowStep {
             from: Place(from),
             to: Place(to),
         })?;
@@ -37,11 +37,11 @@ fn numbered_steps(alloc: Global, positions: &[u32], edges: &[Edge]) -> Result<Ve
 }
 
 /// The steps that edges are, among places at these positions, in order and each once.
-fn steps_of(alloc: Global, positions: &[u32], edges: &[Edge]) -> Result<Vec<Step>, AllocError>
+fn steps_of(alloc: Global, positions: &[u32], edges: &[Edge]) -> Result<Vec<FlowStep>, AllocError>
     requires sorted { IsNonDecreasing positions.now }
     requires few { length positions.now + 1 < 2 ^ 32 }
     ensures ordered { IfOk result (λ v. AreInOrder v.items) }
-    ensures exact { IfOk result (λ v. (s : Step) → Contains v.items s ↔ Contains (map (step_between positions.now) edges.now) s) }
+    ensures exact { IfOk result (λ v. (s : FlowStep) → Contains v.items s ↔ Contains (map (step_between positions.now) edges.now) s) }
 {
     let mut steps = numbered_steps(alloc, positions, edges)?;
     put_in_order(&mut steps);
@@ -53,12 +53,12 @@ pub fn step_table(
     alloc: Global,
     program: &Program,
     positions: &[u32],
-) -> Result<Vec<Step>, AllocError>
+) -> Result<Vec<FlowStep>, AllocError>
     requires sorted { IsNonDecreasing positions.now }
     requires few { length positions.now + 1 < 2 ^ 32 }
     requires numbers { (at : ℕ) → place_number positions.now at ≡ number_at (places_of_program (program_view program.now)) at }
     ensures ordered { IfOk result (λ v. AreInOrder v.items) }
-    ensures exact { IfOk result (λ v. (s : Step) → Contains v.items s ↔ Contains (steps_of_program (program_view program.now)) s) }
+    ensures exact { IfOk result (λ v. (s : FlowStep) → Contains v.items s ↔ Contains (steps_of_program (program_view program.now)) s) }
 {
     let edges = flow_of_program(alloc, program)?;
     let steps = steps_of(alloc, positions, &edges)?;

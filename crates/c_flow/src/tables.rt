@@ -3,7 +3,7 @@
 ghost use Rattle.std.specs.Prelude.{◌≡◌, ◌<◌, ◌^◌, ◌↔◌, All, AllPairs, IfOk, map};
 ghost use Rattle.std.specs.List.{Contains};
 ghost use Rattle.places.specs.declared.flow.Assignment.{Assignment};
-ghost use Rattle.places.specs.declared.flow.Step.{Step};
+ghost use Rattle.places.specs.declared.flow.FlowStep.{FlowStep};
 ghost use Rattle.places.specs.Flow.{AreInOrder, IsAssignmentBefore};
 ghost use Rattle.c_tree.specs.Programs.{program_view};
 ghost use Rattle.c_places.specs.Places.{place_view, places_of_program};
@@ -42,7 +42,7 @@ fn flow_table(alloc: Global, program: &Program, places: &[Place]) -> Result<Flow
     requires fits { Fits32 (program_view program.now) }
     requires places { map place_view places.now ≡ places_of_program (program_view program.now) }
     ensures steps_in_order { IfOk result (λ t. AreInOrder t.steps.items) }
-    ensures steps { IfOk result (λ t. (s : Step) → Contains t.steps.items s ↔ Contains (steps_of_program (program_view program.now)) s) }
+    ensures steps { IfOk result (λ t. (s : FlowStep) → Contains t.steps.items s ↔ Contains (steps_of_program (program_view program.now)) s) }
     ensures assignments_in_order { IfOk result (λ t. AllPairs IsAssignmentBefore t.assignments.items) }
     ensures assignments { IfOk result (λ t. (a : Assignment) → Contains t.assignments.items a ↔ Contains (assignments_of_program (program_view program.now)) a) }
 {
@@ -57,7 +57,7 @@ pub fn flow(alloc: Global, program: &Program) -> Result<(PlaceTable, FlowTable),
     requires { Fits32 (program_view program.now) }
     ensures places { IfOk result (λ t. map row_view t.0.rows.items ≡ rows_of_program (program_view program.now)) }
     ensures steps_in_order { IfOk result (λ t. AreInOrder t.1.steps.items) }
-    ensures steps { IfOk result (λ t. (s : Step) → Contains t.1.steps.items s ↔ Contains (steps_of_program (program_view program.now)) s) }
+    ensures steps { IfOk result (λ t. (s : FlowStep) → Contains t.1.steps.items s ↔ Contains (steps_of_program (program_view program.now)) s) }
     ensures assignments_in_order { IfOk result (λ t. AllPairs IsAssignmentBefore t.1.assignments.items) }
     ensures assignments { IfOk result (λ t. (a : Assignment) → Contains t.1.assignments.items a ↔ Contains (assignments_of_program (program_view program.now)) a) }
 {

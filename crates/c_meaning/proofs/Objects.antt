@@ -5,7 +5,7 @@ use Rattle.std.specs.Option.{option_map_or}
 use Rattle.std.proofs.lemmas.List.{map-set}
 use Rattle.std.proofs.lemmas.Option.{slice_get-map, slice_get-get_or}
 use Rattle.c_meaning.specs.declared.value.Phase.TheVariants.{Ended}
-use Rattle.word_base.specs.Values.{Owner}
+use Rattle.word_base.specs.Owners.{Owner}
 use Rattle.c_meaning.specs.declared.memory.Object as declared-object
 use Rattle.c_meaning.specs.Views.{object_view}
 use Rattle.c_meaning.specs.Memory.{Object, is_owned, object_of, in_phase, ended_from}

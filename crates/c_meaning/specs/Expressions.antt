@@ -11,7 +11,7 @@ use Rattle.c_tree.specs.declared.typed_expression.Callee.{Callee}
 use Rattle.c_tree.specs.declared.typed_expression.Callee.TheVariants.{Function, Getchar, Putchar, Exit}
 use Rattle.c_tree.specs.TypedExpressions.{RvalueTree, LvalueTree, ArgumentTrees, Constant, Null, Load, Decay, AddressOf, Convert, Discard, Signed, Not, Arithmetic, Compare, ComparePointers, Move, MoveFrom, Difference, And, Or, Conditional, Comma, Assign, Update, UpdatePointer, Step, StepPointer, Call, Named, Target, Element, ElementFrom, none, first}
 use Rattle.word_base.specs.Types.{char_type, converted, bits_of}
-use Rattle.word_base.specs.Values as owner
+use Rattle.word_base.specs.Owners as owner
 use Rattle.c_meaning.specs.declared.value.Value.{Value}
 use Rattle.c_meaning.specs.declared.value.Value.TheVariants as value
 use Rattle.c_meaning.specs.declared.event.Ending.TheVariants as ending

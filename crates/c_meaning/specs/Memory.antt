@@ -3,7 +3,7 @@ use Rattle.std.specs.Prelude.{◌≡◌, ℕ, suc, ◌*◌, ◌/◌, ◌&&◌, n
 use Rattle.std.specs.Option.{option_map_or}
 use Rattle.c_tree.specs.declared.object_type.Scalar.{Scalar}
 use Rattle.c_tree.specs.declared.object_type.ObjectType.{ObjectType}
-use Rattle.word_base.specs.Values.{Owner, Static, Literal, Variable, is_same_owner}
+use Rattle.word_base.specs.Owners.{Owner, Static, Literal, Variable, is_same_owner}
 use Rattle.c_meaning.specs.declared.value.Value.{Value}
 use Rattle.c_meaning.specs.declared.value.Value.TheVariants.{Number, Null, Pointer}
 use Rattle.c_meaning.specs.declared.value.Phase.{Phase}

@@ -8,7 +8,7 @@ use Rattle.c_tree.specs.declared.object_type.Object.TheVariants as designator-is
 use Rattle.c_tree.specs.declared.program.Relocation.{Relocation}
 use Rattle.c_tree.specs.Programs.{StaticTree, LiteralTree, TypedFunctionTree, ProgramTree}
 use Rattle.word_base.specs.Types.{number_of}
-use Rattle.word_base.specs.Values.{Static, Literal}
+use Rattle.word_base.specs.Owners.{Static, Literal}
 use Rattle.c_meaning.specs.declared.value.Value.{Value}
 use Rattle.c_meaning.specs.declared.value.Value.TheVariants.{Number, Null, Pointer}
 use Rattle.c_meaning.specs.declared.value.Phase.TheVariants.{Live}

@@ -6,7 +6,7 @@ use Rattle.c_tree.specs.TypedExpressions.{RvalueTree}
 use Rattle.c_tree.specs.TypedStatements as tree
 use Rattle.c_tree.specs.TypedStatements.{InitialTree, Zero, Scalar, Elements, Literal, DeclaredTree, TypedStartTree, Nothing, Declares, StepTree, TypedStatementTree, Block, Declaration, Empty, Run, If, IfElse, While, DoWhile, For, Switch, Break, Continue, Return, TypedStatementTrees, none, first, case, default}
 use Rattle.c_tree.specs.Programs.{AutomaticTree, LiteralTree, ProgramTree}
-use Rattle.word_base.specs.Values.{Owner, Variable}
+use Rattle.word_base.specs.Owners.{Owner, Variable}
 use Rattle.c_meaning.specs.declared.value.Value.{Value}
 use Rattle.c_meaning.specs.declared.value.Value.TheVariants.{Number}
 use Rattle.c_meaning.specs.declared.value.Phase.{Phase}

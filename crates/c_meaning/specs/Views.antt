@@ -1,6 +1,6 @@
 -- Memory, states and events of the code, as contracts see them.
 use Rattle.std.specs.Prelude.{ℤ, Option, Some, None, List, ◌++◌, ◌≡◌, ℕ, Bool, true, false, map}
-use Rattle.word_base.specs.Values.{Owner, Static, Literal, Variable}
+use Rattle.word_base.specs.Owners.{Owner, Static, Literal, Variable}
 use Rattle.c_meaning.specs.declared.memory.Owner as declared-owner
 use Rattle.c_meaning.specs.declared.memory.Owner.TheVariants as owner
 use Rattle.c_meaning.specs.declared.memory.Object as declared-object

@@ -14,7 +14,7 @@ use Rattle.c_tree.specs.TypedExpressions as expression
 use Rattle.c_tree.specs.TypedStatements.{TypedStatementTree, TypedStatementTrees, DeclaredTree, Block, Declaration, Empty, Run, IfElse, For, Switch, Break, Continue, Return, none, first, case, default, Nothing, Declares}
 use Rattle.c_tree.specs.TypedStatements as statement
 use Rattle.c_tree.specs.Programs.{AutomaticTree, ProgramTree}
-use Rattle.word_base.specs.Values.{Variable}
+use Rattle.word_base.specs.Owners.{Variable}
 use Rattle.c_meaning.specs.declared.value.Value.TheVariants.{Number}
 use Rattle.c_meaning.specs.declared.value.Phase.TheVariants.{Live}
 use Rattle.c_meaning.specs.declared.event.Ending.{Ending}

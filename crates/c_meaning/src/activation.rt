@@ -11,7 +11,7 @@ use crate::state::State;
 use crate::value::Value;
 use c_places::{Place, number_at, scope_at, visible};
 use c_tree::Program;
-use debug_records::source::Spot;
+use debug_records::Spot;
 use std::alloc::{AllocError, Global};
 
 /// What is the same for all of an activation.

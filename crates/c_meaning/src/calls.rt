@@ -14,7 +14,7 @@ use crate::memory::{Object, Owner};
 use crate::state::{Evaluated, Outcome, State};
 use crate::value::{Phase, Value};
 use c_tree::{Program, TypedFunction};
-use debug_records::source::Spot;
+use debug_records::Spot;
 use std::alloc::{AllocError, Global};
 
 /// The function of a number.

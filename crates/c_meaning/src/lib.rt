@@ -4,12 +4,12 @@
 mod activation;
 mod arithmetic;
 mod calls;
-pub mod event;
+mod event;
 mod execution;
 mod joints;
 mod laws;
 mod lifetimes;
-pub mod memory;
+mod memory;
 mod operations;
 mod source_run;
 mod state;
@@ -17,7 +17,7 @@ mod statements;
 mod static_storage;
 mod steps;
 mod types;
-pub mod value;
+mod value;
 
 pub use event::{Ending, Event, Frame, Shown, SourceRun, Stop};
 pub use laws::runs_are_worked;

@@ -1,7 +1,7 @@
 //! Memory: all objects of a run (ISO/IEC 9899:2011, 6.2.4).
 
 ghost use Rattle.std.specs.Prelude.{pos, ◌+ℤ◌, ◌≡◌, ◌<◌, ◌*◌, ◌++◌, ◌∷◌, [], map, length, Some, None, IfOk, OnOk, OnErr, true, false, option_map, option_and_then, slice_get, MatchOption};
-ghost use Rattle.word_base.specs.Values.{is_same_owner};
+ghost use Rattle.word_base.specs.Owners.{is_same_owner};
 ghost use Rattle.c_meaning.specs.Views.{owner_view, object_view};
 ghost use Rattle.c_meaning.specs.Memory.{is_over, is_begun, new_object, bytes_of, index_at, is_owned, object_of, address_of, in_bytes, is_usable, value_in, read, with_value, IsOpen, IsClosed, is_literal, set_value, is_writable, write, moved, begun, ended_from};
 

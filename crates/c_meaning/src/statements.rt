@@ -16,7 +16,7 @@ use crate::state::{Evaluated, Outcome, State, Tested};
 use crate::value::{Phase, Value};
 use c_places::number_at;
 use c_tree::{Declared, Initial, Rvalue, TypedStart, TypedStatement, TypedStatements, TypedStep};
-use debug_records::source::Spot;
+use debug_records::Spot;
 use std::alloc::{AllocError, Global};
 
 /// What an expression of the place at a spot comes to.

@@ -6,7 +6,7 @@ ghost use Rattle.c_places.specs.Places.{place_view};
 ghost use Rattle.c_places.specs.Places.{count_before, is_hidden, is_same_name, name_of, number_at, scope_at, visible};
 
 use c_tree::AutomaticVariable;
-use debug_records::source::Spot;
+use debug_records::Spot;
 use std::alloc::{AllocError, Global};
 
 /// A place: a point at which the execution of a program may be stopped, or the entry of a function.

@@ -4,7 +4,7 @@ use crate::expression::Expression;
 use crate::extent::{Extent, Identifier};
 use crate::statement::Block;
 use crate::types::{Base, IntegerType};
-use debug_records::source::Spot;
+use debug_records::Spot;
 
 /// A declaration of objects, from its first specifier to its semicolon. `static` is no part of the tree.
 #[derive(Drop)]

@@ -7,7 +7,7 @@ ghost use Rattle.c_tree.specs.Ends.{first_of, last_of, suffix_last};
 use crate::extent::{Extent, Identifier};
 use crate::operator::{AssignmentOperator, BinaryOperator, PrefixOperator};
 use crate::types::{IntegerType, TypeName};
-use debug_records::source::Spot;
+use debug_records::Spot;
 
 /// An expression.
 ///

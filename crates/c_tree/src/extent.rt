@@ -1,6 +1,6 @@
 //! Where the constructs of a source stand.
 
-use debug_records::source::Spot;
+use debug_records::Spot;
 
 /// Where a construct stands, from its first token to its last.
 #[derive(Clone, Copy, PartialEq, Eq)]

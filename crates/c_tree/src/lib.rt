@@ -3,16 +3,16 @@
 //! A tree is what the grammar reads from the tokens, before names and types are looked at. A program is an accepted tree, with every name resolved and every type known.
 #![tactic(auto)]
 
-pub mod declaration;
-pub mod expression;
-pub mod extent;
-pub mod object_type;
-pub mod operator;
-pub mod program;
-pub mod statement;
-pub mod typed_expression;
-pub mod typed_statement;
-pub mod types;
+mod declaration;
+mod expression;
+mod extent;
+mod object_type;
+mod operator;
+mod program;
+mod statement;
+mod typed_expression;
+mod typed_statement;
+mod types;
 
 pub use declaration::{
     Brackets, Declaration, Declarator, Function, Header, Initializer, Item, Parameter, Tree,

@@ -5,7 +5,7 @@ ghost use Rattle.c_tree.specs.Programs.{program_view};
 
 use crate::object_type::{Object, ObjectType, ValueType};
 use crate::typed_statement::TypedStatements;
-use debug_records::source::Spot;
+use debug_records::Spot;
 
 /// A word of a static object that holds the address of an object of static storage or a literal, so many bytes on.
 #[derive(Clone, Copy, PartialEq, Eq)]

@@ -3,7 +3,7 @@
 use crate::declaration::Declaration;
 use crate::expression::Expression;
 use crate::extent::Extent;
-use debug_records::source::Spot;
+use debug_records::Spot;
 
 /// A statement, or a declaration in a block.
 ///

@@ -4,7 +4,7 @@ ghost use Rattle.std.specs.Prelude.{◌<◌, IfSome};
 ghost use Rattle.c_tree.specs.declared.typed_statement.TypedStatement.{size-TypedStatement};
 
 use crate::typed_expression::Rvalue;
-use debug_records::source::Spot;
+use debug_records::Spot;
 
 /// What a declaration writes into its object.
 #[derive(Drop)]

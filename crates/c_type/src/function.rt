@@ -24,7 +24,7 @@ use c_type_declarations::{Progress, size};
 use c_type_expressions::{Meaning, Signature};
 use c_type_rules::loaded;
 use c_type_statements::{Setting, statements};
-use debug_records::code::Code;
+use debug_records::Code;
 use indexmap::IndexMap;
 use std::alloc::{AllocError, Global};
 

@@ -12,8 +12,7 @@ use c_type_declarations::initial::numbered;
 use c_type_declarations::scope::declare;
 use c_type_expressions::{Meaning, Signature};
 use c_type_rules::{same_scalar, same_value};
-use debug_records::code::Code;
-use debug_records::source::Spot;
+use debug_records::{Code, Spot};
 use std::alloc::{AllocError, Global};
 
 /// Whether two lists of types are one.

@@ -14,8 +14,7 @@ use crate::main_function::no_main;
 use c_tree::{Program, Tree, TypedFunction};
 use c_type_bounds::{check_functions, program_breach, tree_weight};
 use c_type_declarations::Progress;
-use debug_records::code::Code;
-use debug_records::source::SourceErr;
+use debug_records::{Code, SourceErr};
 use indexmap::IndexMap;
 use std::alloc::Global;
 

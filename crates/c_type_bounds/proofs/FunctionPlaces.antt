@@ -6,7 +6,7 @@ use Rattle.std.proofs.lemmas.List.{take-map, drop-map}
 use Rattle.c_tree.specs.declared.program.AutomaticVariable.{AutomaticVariable}
 use Rattle.c_tree.specs.declared.program.TypedFunction.{TypedFunction}
 use Rattle.c_tree.specs.Programs.{AutomaticTree, TypedFunctionTree, automatic_view, function_view}
-use Rattle.c_type_limits.specs.Flow.{reaches_end}
+use Rattle.c_facts.specs.Flow.{reaches_end}
 use Rattle.c_type_bounds.specs.Visible.{at_close, at_function, at_statements, behind_statements, names_of, parameter_names}
 
 -- some of the variables, as trees

@@ -6,7 +6,7 @@ use Rattle.debug_records.specs.Refusals.{Refuses}
 use Rattle.debug_records.specs.declared.code.Letter.TheVariants.{L}
 use Rattle.c_tree.specs.Programs.{AutomaticTree, StaticTree, LiteralTree, TypedFunctionTree, ProgramTree}
 use Rattle.c_type_rules.specs.Integers.{object_size, room}
-use Rattle.c_type_limits.specs.Memory.{kept_by_all}
+use Rattle.c_facts.specs.Memory.{kept_by_all}
 use Rattle.c_type_bounds.specs.Visible.{at_functions}
 
 abbrev pub limit : ℕ → Code

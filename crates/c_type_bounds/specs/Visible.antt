@@ -7,7 +7,7 @@ use Rattle.std.specs.Str.{bytes_eq}
 use Rattle.c_tree.specs.Programs.{AutomaticTree, TypedFunctionTree}
 use Rattle.c_tree.specs.TypedExpressions.{RvalueTree}
 use Rattle.c_tree.specs.TypedStatements.{DeclaredTree, TypedStartTree, Nothing, Value, Declares, StepTree, TypedStatementTree, Block, Declaration, Empty, Run, If, IfElse, While, DoWhile, For, Switch, Break, Continue, Return, TypedStatementTrees, none, first, case, default}
-use Rattle.c_type_limits.specs.Flow.{reaches_end}
+use Rattle.c_facts.specs.Flow.{reaches_end}
 
 -- names, as a program has them
 abbrev pub names_view : List (Bor (List ℕ)) → List (List ℕ)

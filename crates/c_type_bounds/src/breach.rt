@@ -9,9 +9,8 @@ use crate::count::plus;
 use crate::room::{literal_room, memory_room, static_room};
 use crate::visible::{at_functions, variables_of};
 use c_tree::{AutomaticVariable, Program, TypedFunction};
-use c_type_limits::kept_in_memory;
-use debug_records::code::Code;
-use debug_records::source::SourceErr;
+use c_facts::kept_in_memory;
+use debug_records::{Code, SourceErr};
 use std::alloc::{AllocError, Global};
 
 /// Marks a variable as kept in memory.

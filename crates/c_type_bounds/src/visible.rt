@@ -15,7 +15,7 @@ use c_tree::{
     AutomaticVariable, Declared, Rvalue, TypedFunction, TypedStart, TypedStatement,
     TypedStatements, TypedStep,
 };
-use c_type_limits::reaches_end;
+use c_facts::reaches_end;
 use std::alloc::{AllocError, Global};
 
 /// Whether a name is one of these.

@@ -21,7 +21,7 @@ use c_type_expressions::Meaning;
 use c_type_rules::integer::residue;
 use c_type_rules::{Constancy, scalar_size};
 use c_type_values::Value;
-use debug_records::code::Code;
+use debug_records::Code;
 use std::alloc::{AllocError, Global};
 
 /// Bytes, and the words among them that hold addresses.

@@ -17,7 +17,7 @@ use c_tree::{Expression, Extent, Initial, Initializer, ObjectType, Rvalue, Scala
 use c_type_expressions::operand::is_zero;
 use c_type_rules::loaded;
 use c_type_values::{Value, converted};
-use debug_records::code::Code;
+use debug_records::Code;
 use std::alloc::{AllocError, Global};
 
 /// A count as a number of 32 bits. More than those take more memory than there is.

@@ -16,8 +16,7 @@ use c_tree::{
 use c_type_expressions::judgement::count_of;
 use c_type_rules::same_integer;
 use c_type_values::Value;
-use debug_records::code::Code;
-use debug_records::source::Spot;
+use debug_records::{Code, Spot};
 use std::alloc::{AllocError, Global};
 
 /// A string literal as it is written.

@@ -11,7 +11,7 @@ use crate::scope::{declare, declared_here, enter, leave};
 use c_tree::{AutomaticVariable, Expression, Extent, StaticVariable, StringLiteral};
 use c_type_expressions::{Findings, Meaning, Names, value};
 use c_type_values::Value;
-use debug_records::code::Code;
+use debug_records::Code;
 use std::alloc::{AllocError, Global};
 
 /// What is declared and what was found, as far as a source is checked.

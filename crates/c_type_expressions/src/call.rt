@@ -13,8 +13,7 @@ use crate::names::Signature;
 use c_tree::{Arguments, Callee, Rvalue, Scalar};
 use c_type_rules::{Constancy, loaded};
 use c_type_values::{Meant, Value, converted};
-use debug_records::code::Code;
-use debug_records::source::Spot;
+use debug_records::{Code, Spot};
 use std::alloc::{AllocError, Global};
 
 /// The parameter of a number.

@@ -22,7 +22,7 @@ use crate::operand::{direct_callee, is_zero};
 use c_tree::{Arguments, BinaryOperator, Direction, Expression, Given, Scalar, Suffix};
 use c_type_rules::scalar_size;
 use c_type_values::{Meant, Value};
-use debug_records::source::Spot;
+use debug_records::Spot;
 use std::alloc::{AllocError, Global};
 
 /// What an expression means, if it breaks no rule, with what is found in it.

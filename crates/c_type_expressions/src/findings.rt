@@ -4,8 +4,7 @@ ghost use Rattle.std.specs.Prelude.{◌≡◌, OnOk};
 ghost use Rattle.c_type_expressions.specs.Findings.{faulted, findings_view, restored, with_literal, with_undefined};
 
 use c_tree::StringLiteral;
-use debug_records::code::Code;
-use debug_records::source::Spot;
+use debug_records::{Code, Spot};
 use std::alloc::{AllocError, Global};
 
 /// A rule that a construct breaks.

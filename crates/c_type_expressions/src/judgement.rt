@@ -21,8 +21,7 @@ use c_type_values::{
     discarded, element_of, is_modifiable, is_scalar, is_updatable, meant_type, negated, sequenced,
     signed_value, stepped, updated,
 };
-use debug_records::code::Code;
-use debug_records::source::Spot;
+use debug_records::{Code, Spot};
 use std::alloc::{AllocError, Global};
 
 /// The value of an expression, if it breaks no rule.

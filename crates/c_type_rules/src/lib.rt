@@ -1,17 +1,17 @@
 //! Integer types, the conversions between them, and constant expressions.
 #![tactic(auto)]
 
-pub mod constancy;
-pub mod constant;
-pub mod integer;
-pub mod types;
+mod constancy;
+mod constant;
+mod integer;
+mod types;
 
 pub use constancy::{
     Constancy, and_constant, arithmetic_constant, comparison_constant, conditional_constant,
     converted_constant, is_formed, not_constant, or_constant, sign_constant,
 };
 pub use constant::{calculated, compared, signed};
-pub use integer::{common, object_size, promoted, room, scalar_size, size, wrapped};
+pub use integer::{common, object_size, promoted, residue, room, scalar_size, size, wrapped};
 pub use types::{
     loaded, pointed_to, same_integer, same_object, same_scalar, same_value, value_size,
 };

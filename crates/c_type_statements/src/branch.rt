@@ -6,7 +6,7 @@ ghost use Rattle.c_tree.specs.TypedStatements.{statement_view};
 ghost use Rattle.c_type_statements.specs.Chains.{built_view, nested, with_else};
 
 use c_tree::{Rvalue, TypedStatement};
-use debug_records::source::Spot;
+use debug_records::Spot;
 use std::alloc::{AllocError, Global};
 
 /// `if (condition) then` with what it means. The spot is the condition's.

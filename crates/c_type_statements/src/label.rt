@@ -12,7 +12,7 @@ use crate::switch::{Labels, case, default};
 use c_tree::{IntegerType, Label};
 use c_type_declarations::Progress;
 use c_type_declarations::initial::look_at_expression;
-use debug_records::code::Code;
+use debug_records::Code;
 use std::alloc::{AllocError, Global};
 
 /// Looks at a label out of place.

@@ -15,7 +15,7 @@ use c_tree::{Expression, Extent, ForStart, Rvalue, TypedStart, TypedStep, ValueT
 use c_type_declarations::{Progress, declaration};
 use c_type_expressions::operand::is_zero;
 use c_type_values::{Value, converted, is_scalar};
-use debug_records::code::Code;
+use debug_records::Code;
 use std::alloc::{AllocError, Global};
 
 /// What a statement stands in.

@@ -24,8 +24,7 @@ use c_tree::{
     TypedStatements,
 };
 use c_type_declarations::{Progress, declaration};
-use debug_records::code::Code;
-use debug_records::source::Spot;
+use debug_records::{Code, Spot};
 use std::alloc::{AllocError, Global};
 
 /// What a statement means.

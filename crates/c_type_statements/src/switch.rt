@@ -15,7 +15,7 @@ use c_tree::{Expression, Extent, IntegerType, Rvalue, ValueType};
 use c_type_declarations::Progress;
 use c_type_rules::{Constancy, promoted, wrapped};
 use c_type_values::{Value, to_integer};
-use debug_records::code::Code;
+use debug_records::Code;
 use std::alloc::{AllocError, Global};
 
 /// What a `switch` tests.

@@ -5,7 +5,7 @@ use Rattle.debug_records.specs.Change.{letters}
 use Rattle.command_line.specs.Words.{Text, Use}
 use Rattle.command_line.specs.Forms.{reading}
 use Rattle.command_line.specs.Values.{mode_named, names_in, number_in}
-use Rattle.command_line.specs.declared.values.Mode.{Mode}
+use Rattle.debug_records.specs.declared.mode.Mode.{Mode}
 use Rattle.command_line.specs.declared.job.Debug.{Debug}
 use Rattle.command_line.specs.declared.job.Compile.{Compile}
 use Rattle.command_line.specs.declared.job.Attach.{Attach}

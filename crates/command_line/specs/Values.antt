@@ -5,8 +5,8 @@ use Rattle.std.specs.Char.{is_ascii_digit}
 use Rattle.std.specs.Str.{bytes_eq}
 use Rattle.debug_records.specs.Change.{is_lower_case}
 use Rattle.command_line.specs.Words.{Text}
-use Rattle.command_line.specs.declared.values.Mode.{Mode}
-use Rattle.command_line.specs.declared.values.Mode.TheVariants.{Slots, Registers}
+use Rattle.debug_records.specs.declared.mode.Mode.{Mode}
+use Rattle.debug_records.specs.declared.mode.Mode.TheVariants.{Slots, Registers}
 
 -- the number that these digits write behind those of n
 abbrev pub number_after : ℕ → Text → ℕ

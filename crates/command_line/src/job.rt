@@ -1,7 +1,6 @@
 //! What the program is asked to do.
 
-use crate::values::Mode;
-use debug_records::PassName;
+use debug_records::{Mode, PassName};
 
 /// Compile a source, save its image, and debug it by a script.
 #[derive(Drop)]

@@ -11,4 +11,3 @@ mod values;
 pub use job::{Attach, Compile, Debug, Job, Passes, Sweep};
 pub use laws::words_are_one_job_at_most;
 pub use reading::job_of;
-pub use values::Mode;

@@ -9,9 +9,9 @@ ghost use Rattle.command_line.specs.Grammar.{IsJob, IsNoJob};
 
 use crate::job::{Attach, Compile, Debug, Job, Passes, Sweep};
 use crate::matching::matches_of;
-use crate::values::{Mode, mode_of, names_of, number_of};
+use crate::values::{mode_of, names_of, number_of};
 use clap::ArgMatches;
-use debug_records::PassName;
+use debug_records::{Mode, PassName};
 use std::alloc::{AllocError, Global};
 
 fn names_or_default(alloc: Global, value: Option<&str>) -> Result<Option<Vec<PassName>>, AllocError>

@@ -5,17 +5,8 @@ ghost use Rattle.std.specs.List.{list_all};
 ghost use Rattle.debug_records.specs.Change.{letters};
 ghost use Rattle.command_line.specs.Values.{all_named, are_digits, mode_named, names_in, number_in, pieces};
 
-use debug_records::PassName;
+use debug_records::{Mode, PassName};
 use std::alloc::{AllocError, Global};
-
-/// Where the variables of a program live.
-#[derive(Clone, Copy, PartialEq, Eq)]
-pub enum Mode {
-    /// Each in a slot of the stack.
-    Slots,
-    /// In registers as far as these suffice.
-    Registers,
-}
 
 /// How many passes a list names at most.
 const MOST_PASSES: usize = 32;

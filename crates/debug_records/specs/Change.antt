@@ -1,5 +1,5 @@
 -- The names of passes, and the changes that they made.
-use Rattle.std.specs.Prelude.{◌≡◌, ◌≤◌, ◌&&◌, ℕ, nat_le, Bool, true, List, take, length}
+use Rattle.std.specs.Prelude.{◌≡◌, ◌≤◌, ◌-◌, ◌++◌, ◌&&◌, ℕ, nat_le, Bool, true, List, replicate, take, length}
 use Rattle.std.specs.List.{list_all}
 use Rattle.debug_records.specs.declared.change.Change.{Change}
 use Rattle.debug_records.specs.declared.change.ChangeLog.{ChangeLog}
@@ -18,6 +18,10 @@ pub record IsPassName (bytes : List ℕ) : Type 0 where
 -- the letters of a pass's name
 abbrev pub letters : PassName → List ℕ
 letters name = take name.length name.padded
+
+-- the name that these letters are: they, and zeros behind them, so that names of the same letters are one name
+abbrev pub pass_name : List ℕ → PassName
+pass_name bytes = record { padded = bytes ++ replicate (16 - length bytes) 0; length = length bytes }
 
 -- the changes of a log, in order
 abbrev pub changes : ChangeLog → List Change

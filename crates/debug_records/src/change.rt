@@ -1,8 +1,8 @@
 //! What the passes changed, numbered.
 
-ghost use Rattle.std.specs.Prelude.{◌≡◌, ◌≢◌, ◌≤◌, ◌<◌, ◌+◌, ◌++◌, [], ◌∷◌, IfOk, MatchOption, OnErr, length, true};
+ghost use Rattle.std.specs.Prelude.{◌≡◌, ◌≢◌, ◌≤◌, ◌<◌, ◌+◌, ◌++◌, [], ◌∷◌, IfOk, IfSome, MatchOption, OnErr, length, true};
 ghost use Rattle.std.specs.List.{list_all};
-ghost use Rattle.debug_records.specs.Change.{changes, is_lower_case, IsPassName, letters};
+ghost use Rattle.debug_records.specs.Change.{changes, is_lower_case, IsPassName, letters, pass_name};
 
 use std::alloc::{AllocError, Global};
 
@@ -42,7 +42,8 @@ fn are_lower_case(bytes: &[u8]) -> bool
 impl PassName {
     /// The name of these letters. None exactly where they are not 1 to 16 lower-case letters.
     pub fn of(bytes: &[u8]) -> Option<PassName>
-        ensures { MatchOption result (IsPassName bytes.now → ⊥) (λ name. IsPassName bytes.now × (letters name ≡ bytes.now)) }
+        ensures letters { MatchOption result (IsPassName bytes.now → ⊥) (λ name. IsPassName bytes.now × (letters name ≡ bytes.now)) }
+        ensures whole { IfSome result (λ name. name ≡ pass_name bytes.now) }
     {
         if bytes.is_empty() || bytes.len() > PASS_NAME_SIZE {
             return None;

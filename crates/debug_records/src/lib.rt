@@ -1,10 +1,12 @@
-//! The records that the compiler leaves for the debugger.
+//! The records that the compiler leaves for the debugger, and what all of the compiler shares with it: places and variables, spots of a source, and the codes of refusals.
 #![tactic(auto)]
 
-pub mod change;
-pub mod code;
-pub mod source;
+mod change;
+mod code;
+mod mode;
+mod source;
 
 pub use change::{Change, ChangeLog, Kind, PassName, Place, Var};
 pub use code::{Code, Letter, codes_in_use};
+pub use mode::Mode;
 pub use source::{SourceErr, Spot};

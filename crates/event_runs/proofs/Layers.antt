@@ -1,16 +1,9 @@
 -- A run through layers: where one run comes by the events of another and a third follows that one, the third follows the first.
 use Rattle.std.proofs.Common.{◌≡◌, ℕ, zero, suc, ◌+◌, ◌≤◌, sym, ap, ◌∙◌, subst, arith, refl, List, [], ◌∷◌, ◌++◌}
 use Rattle.event_runs.specs.Agreement.{Pairs}
-use Rattle.event_runs.specs.Following.{Shows, Follows, Comes, Both}
+use Rattle.event_runs.specs.Following.{Shows, Follows, Comes, Both, Reached}
 
--- with enough steps the run between shows all of the events, and perhaps more
-pub record Reached {A B : Type 0} (R : A → B → Type 0) (es : List A) (run : ℕ → List B) : Type 0 where
-  pub steps : ℕ
-  pub shown : List B
-  pub more : List B
-  pub is : run steps ≡ shown ++ more
-  pub same : Pairs R es shown
-
+-- a run that comes by all of the events reaches them
 pub comes_reached : {A B : Type 0} (R : A → B → Type 0) (es : List A) (run : ℕ → List B) → Comes R es run → Reached R es run
 comes_reached R [] run h = record { steps = 0; shown = []; more = run 0; is = refl; same = tt }
 comes_reached R (e ∷ es) run h =

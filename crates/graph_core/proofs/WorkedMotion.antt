@@ -1,7 +1,7 @@
 -- The graph whose sum was moved ahead bears that out.
 use Rattle.std.proofs.Common.{◌≡◌, ℕ, zero, suc, ◌⊎◌, inl, inr, true, List, [], ◌∷◌, ◌++◌, length, Some, refl, sym, subst, slice_get, lit≤}
 use Rattle.std.specs.Prelude.{⊤}
-use Rattle.recovery.specs.declared.operation.Operation.TheVariants.{Add}
+use Rattle.word_base.specs.declared.operation.Operation.TheVariants.{Add}
 use Rattle.graph_core.specs.declared.value.Value.{Value}
 use Rattle.graph_core.specs.Graphs.{Name, Of, Is, Instruction, Marker, Note, Move, Operate, End, Jump, Block}
 use Rattle.graph_core.specs.Paths.{History, Way, stays, passes, goes, writes}

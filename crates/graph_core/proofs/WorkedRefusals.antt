@@ -2,7 +2,7 @@
 -- name.
 use Rattle.std.proofs.Common.{◌≡◌, ◌≢◌, ℕ, zero, suc, ◌<◌, ◌⊎◌, inl, inr, true, List, [], ◌∷◌, ◌++◌, Some, None, refl, sym, subst, slice_get, arith, ◌∙◌, lit≤, lit<}
 use Rattle.debug_records.specs.declared.change.PassName.{PassName}
-use Rattle.recovery.specs.declared.operation.Operation.TheVariants.{Add}
+use Rattle.word_base.specs.declared.operation.Operation.TheVariants.{Add}
 use Rattle.graph_core.specs.declared.home.Home.TheVariants.{Register}
 use Rattle.graph_core.specs.declared.block.Comparison.TheVariants.{Less}
 use Rattle.graph_core.specs.declared.value.Value.TheVariants.{Odd}

@@ -3,8 +3,8 @@ use Rattle.std.specs.Prelude.{◌≡◌, ◌≢◌, ℕ, ◌+◌, ◌<◌, ◌�
 use Rattle.std.specs.Option.{option_map_or}
 use Rattle.debug_records.specs.declared.change.Kind as declared-kind
 use Rattle.debug_records.specs.declared.change.Kind.TheVariants.{Removed, Moved, Reused, Replaced}
-use Rattle.recovery.specs.declared.operation.Operation.{Operation}
-use Rattle.recovery.specs.declared.operation.Truncation.{Truncation}
+use Rattle.word_base.specs.declared.operation.Operation.{Operation}
+use Rattle.word_base.specs.declared.operation.Truncation.{Truncation}
 use Rattle.graph_core.specs.declared.home.Home.{Home}
 use Rattle.graph_core.specs.declared.home.Home.TheVariants.{Register}
 use Rattle.graph_core.specs.Graphs.{Operand, Name, NoteValue, Instruction, Note, Move, Operate, Truncate, Same, End, Jump, Return, Block, Graph, Logged, UnitForm}

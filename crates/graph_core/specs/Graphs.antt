@@ -6,10 +6,10 @@ use Rattle.debug_records.specs.declared.change.Change as declared-change
 use Rattle.debug_records.specs.declared.change.Place as declared-place
 use Rattle.debug_records.specs.declared.change.Var as declared-var
 use Rattle.debug_records.specs.Change.{changes}
-use Rattle.places.specs.declared.flow.Step.{Step}
+use Rattle.places.specs.declared.flow.FlowStep.{FlowStep}
 use Rattle.places.specs.declared.flow.Assignment.{Assignment}
-use Rattle.recovery.specs.declared.operation.Operation.{Operation}
-use Rattle.recovery.specs.declared.operation.Truncation.{Truncation}
+use Rattle.word_base.specs.declared.operation.Operation.{Operation}
+use Rattle.word_base.specs.declared.operation.Truncation.{Truncation}
 use Rattle.graph_core.specs.declared.name.Operand as declared-operand
 use Rattle.graph_core.specs.declared.name.Operand.TheVariants as operand
 use Rattle.graph_core.specs.declared.recipe.Recipe as declared-recipe
@@ -118,7 +118,7 @@ pub record UnitForm : Type 0 where
   pub main : ℕ
   pub statics : List StaticObject
   pub array_bytes : List (List ℕ)
-  pub steps : List Step
+  pub steps : List FlowStep
   pub assignments : List Assignment
   pub log : List Logged
 

@@ -1,10 +1,10 @@
 -- Values and what operations make of them.
 use Rattle.std.specs.Prelude.{ℕ, ◌+◌, ◌-◌, ◌%◌, ◌==◌, ◌&&◌, nat_le, nat_lt, Bool, true, false, not, if◌then◌else◌, Option, Some, None, option_map}
-use Rattle.recovery.specs.declared.operation.Operation.{Operation}
-use Rattle.recovery.specs.declared.operation.Operation.TheVariants.{Add, Sub, Slt, Sltu}
-use Rattle.recovery.specs.declared.operation.Truncation.{Truncation}
-use Rattle.recovery.specs.declared.operation.Truncation.TheVariants as truncation
-use Rattle.recovery.specs.Operations.{operated, truncated}
+use Rattle.word_base.specs.declared.operation.Operation.{Operation}
+use Rattle.word_base.specs.declared.operation.Operation.TheVariants.{Add, Sub, Slt, Sltu}
+use Rattle.word_base.specs.declared.operation.Truncation.{Truncation}
+use Rattle.word_base.specs.declared.operation.Truncation.TheVariants as truncation
+use Rattle.word_base.specs.WordOperations.{operated, truncated}
 use Rattle.graph_core.specs.declared.value.Value.{Value}
 use Rattle.graph_core.specs.declared.value.Value.TheVariants.{Number, Pointer, Odd}
 use Rattle.graph_core.specs.declared.instruction.Element.{Element}

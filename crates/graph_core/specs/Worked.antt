@@ -3,7 +3,7 @@
 use Rattle.std.specs.Prelude.{ℕ, List, [], ◌∷◌, Option, Some, None}
 use Rattle.debug_records.specs.declared.change.PassName.{PassName}
 use Rattle.debug_records.specs.declared.change.Kind.TheVariants.{Removed}
-use Rattle.places.specs.declared.flow.Step.{Step}
+use Rattle.places.specs.declared.flow.FlowStep.{FlowStep}
 use Rattle.places.specs.declared.flow.Assignment.{Assignment}
 use Rattle.graph_core.specs.declared.home.Home.{Home}
 use Rattle.graph_core.specs.Graphs.{Operand, Name, Constant, Of, Is, Instruction, Marker, Note, Move, End, Jump, Return, Block, Graph, Logged, UnitForm}
@@ -11,7 +11,7 @@ use Rattle.graph_core.specs.WellMarked.{AreWellMarked}
 use Rattle.graph_core.specs.Keeps.{Keeps}
 use Rattle.graph_core.specs.Earned.{IsEarned}
 
-abbrev pub step : (from to : ℕ) → Step
+abbrev pub step : (from to : ℕ) → FlowStep
 step from to = record { from = record { 0 = from }; to = record { 0 = to } }
 
 abbrev pub assignment : (place variable : ℕ) → Assignment

@@ -2,7 +2,7 @@
 use Rattle.std.specs.Prelude.{ℕ, ◌==◌, if◌then◌else◌, Some, None, List, [], ◌∷◌}
 use Rattle.debug_records.specs.declared.change.PassName.{PassName}
 use Rattle.debug_records.specs.declared.change.Kind.TheVariants.{Moved}
-use Rattle.recovery.specs.declared.operation.Operation.TheVariants.{Add}
+use Rattle.word_base.specs.declared.operation.Operation.TheVariants.{Add}
 use Rattle.graph_core.specs.declared.home.Home.{Home}
 use Rattle.graph_core.specs.declared.home.Home.TheVariants.{Register}
 use Rattle.graph_core.specs.declared.block.Comparison.TheVariants.{Less}

@@ -8,12 +8,3 @@ pub enum Home {
     /// A slot of the frame, by its number.
     Slot(u32),
 }
-
-/// Which homes names may have.
-#[derive(Clone, Copy, PartialEq, Eq)]
-pub enum Mode {
-    /// Each name has a slot of its own.
-    Slots,
-    /// Names share registers as far as those reach.
-    Registers,
-}

@@ -6,8 +6,8 @@ ghost use Rattle.graph_core.specs.Values.{size_of};
 use crate::name::{Name, Operand};
 use crate::recipe::NoteValue;
 use debug_records::Place;
-use recovery::{Operation, Truncation};
 use smallvec::SmallVec;
+use word_base::{Operation, Truncation};
 
 /// What an element of an object in memory is: how wide, and with which sign. A pointer is a word.
 #[derive(Clone, Copy, PartialEq, Eq)]

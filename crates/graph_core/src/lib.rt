@@ -16,7 +16,7 @@ mod value;
 
 pub use block::{Block, Comparison, End};
 pub use graph::{Binding, Graph, MemoryObject};
-pub use home::{Home, Mode};
+pub use home::Home;
 pub use instruction::{Callee, Element, Instr, Location};
 pub use laws::{changes_are_borne_out, definitions_are_met, keeping_composes, logs_may_grow};
 pub use name::{Label, Name, Operand};

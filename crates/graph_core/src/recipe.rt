@@ -5,7 +5,7 @@ ghost use Rattle.graph_core.specs.Graphs as form;
 ghost use Rattle.graph_core.specs.Graphs.{recipe_view};
 
 use crate::name::{Name, Operand};
-use recovery::{Operation, Truncation};
+use word_base::{Operation, Truncation};
 
 /// How the value of a variable is computed from names (Hennessy 1982).
 #[derive(Drop)]

@@ -3,8 +3,8 @@ use Rattle.std.proofs.Common.{◌≡◌, ℕ, suc, ◌+◌, ◌*◌, ◌<◌, Li
 use Rattle.std.specs.Prelude.{codes, map}
 use Rattle.std.specs.List.{AllByRecursion}
 use Rattle.std.proofs.lemmas.List.{take_at, drop_at, length-append}
-use Rattle.image_form.specs.declared.format.Mode.{Mode}
-use Rattle.image_form.specs.declared.format.Mode.TheVariants.{Slots, Registers}
+use Rattle.debug_records.specs.declared.mode.Mode.{Mode}
+use Rattle.debug_records.specs.declared.mode.Mode.TheVariants.{Slots, Registers}
 use Rattle.image_form.specs.declared.recipes.Node.{Node}
 use Rattle.image_form.specs.declared.recipes.Node.TheVariants.{Constant, Variable, Home, Operation}
 use Rattle.image_form.specs.declared.verdicts.Verdict.{Verdict}

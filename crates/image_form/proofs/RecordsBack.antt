@@ -4,8 +4,8 @@ use Rattle.std.specs.Prelude.{slice_get, unwrap_or, IsSomeAnd, ◌==◌}
 use Rattle.std.specs.List.{AllByRecursion}
 use Rattle.std.proofs.lemmas.Bool.{ne_eqb}
 use Rattle.std.proofs.lemmas.Option.{slice_get_within}
-use Rattle.image_form.specs.declared.format.Mode.{Mode}
-use Rattle.image_form.specs.declared.format.Mode.TheVariants.{Slots, Registers}
+use Rattle.debug_records.specs.declared.mode.Mode.{Mode}
+use Rattle.debug_records.specs.declared.mode.Mode.TheVariants.{Slots, Registers}
 use Rattle.image_form.specs.declared.recipes.Node.{Node}
 use Rattle.image_form.specs.declared.recipes.Node.TheVariants as node
 use Rattle.image_form.specs.declared.recipes.NodeOperation.{NodeOperation}

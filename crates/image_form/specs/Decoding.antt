@@ -1,7 +1,7 @@
 -- What rows of numbers say, and the numbers that say an image.
 use Rattle.std.specs.Prelude.{ℕ, ◌-◌, ◌==◌, if◌then◌else◌, List, [], ◌∷◌, Option, Some, None, map, slice_index, slice_index_or}
-use Rattle.image_form.specs.declared.format.Mode.{Mode}
-use Rattle.image_form.specs.declared.format.Mode.TheVariants.{Slots, Registers}
+use Rattle.debug_records.specs.declared.mode.Mode.{Mode}
+use Rattle.debug_records.specs.declared.mode.Mode.TheVariants.{Slots, Registers}
 use Rattle.image_form.specs.declared.recipes.Node.{Node}
 use Rattle.image_form.specs.declared.recipes.Node.TheVariants as node
 use Rattle.image_form.specs.declared.recipes.NodeOperation.{NodeOperation}

@@ -1,7 +1,7 @@
 -- An image without where it lies in memory, and the look-ups by number.
 use Rattle.std.specs.Prelude.{ℕ, zero, suc, List, Option, None, slice_get}
 use Rattle.image_form.specs.declared.format.Image.{Image}
-use Rattle.image_form.specs.declared.format.Mode.{Mode}
+use Rattle.debug_records.specs.declared.mode.Mode.{Mode}
 use Rattle.image_form.specs.declared.recipes.Node.{Node}
 use Rattle.image_form.specs.declared.tables.AssignedPair.{AssignedPair}
 use Rattle.image_form.specs.declared.tables.Change.{Change}

@@ -1,7 +1,7 @@
 -- The numbers that stand for each record, in the order of its fields.
 use Rattle.std.specs.Prelude.{ℕ, List, [], ◌∷◌, unwrap_or}
-use Rattle.image_form.specs.declared.format.Mode.{Mode}
-use Rattle.image_form.specs.declared.format.Mode.TheVariants.{Slots, Registers}
+use Rattle.debug_records.specs.declared.mode.Mode.{Mode}
+use Rattle.debug_records.specs.declared.mode.Mode.TheVariants.{Slots, Registers}
 use Rattle.image_form.specs.declared.recipes.Node.{Node}
 use Rattle.image_form.specs.declared.recipes.Node.TheVariants as node
 use Rattle.image_form.specs.declared.recipes.NodeOperation.{NodeOperation}

@@ -4,15 +4,7 @@ use crate::recipes::Node;
 use crate::tables::{AssignedPair, Change, FlowPair, Function, Place};
 use crate::variables::Variable;
 use crate::verdicts::VisibleRow;
-
-/// Where the compiler put scalars.
-#[derive(Clone, Copy, PartialEq, Eq)]
-pub enum Mode {
-    /// Each scalar has a stack slot of its own.
-    Slots,
-    /// Scalars share registers where they can.
-    Registers,
-}
+use debug_records::Mode;
 
 /// Machine code with the tables that its debugger reads.
 ///

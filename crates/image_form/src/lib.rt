@@ -22,7 +22,7 @@ mod verdicts;
 mod writing;
 
 pub use fault::ImageErr;
-pub use format::{Image, Mode};
+pub use format::Image;
 pub use reading::read;
 pub use recipes::{Node, NodeOperation};
 pub use tables::{AssignedPair, Change, FlowPair, Function, Kind, Place};

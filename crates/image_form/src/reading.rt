@@ -13,7 +13,7 @@ ghost use Rattle.image_form.specs.Spelling.{spelling};
 use crate::change_rules::{AssignedRule, ChangeRule, FlowRule, VisibleRule};
 use crate::code_rules::{FunctionRule, OwnerRule, PlaceRule, first_places};
 use crate::fault::ImageErr;
-use crate::format::{Image, Mode};
+use crate::format::Image;
 use crate::header::{HEADER_SIZE, check_header};
 use crate::layout::{Layout, layout_of};
 use crate::name_rules::first_misfit;
@@ -25,7 +25,7 @@ use crate::starts::{
     owners_start, places_start, rows_start, variables_start,
 };
 use crate::variable_rules::VariableRule;
-use debug_records::Code;
+use debug_records::{Code, Mode};
 use std::alloc::{AllocError, Global};
 
 /// The image that the bytes spell.

@@ -7,9 +7,10 @@ ghost use Rattle.image_form.specs.Rules.{IsImage};
 ghost use Rattle.image_form.specs.Spelling.{header, size, spelling};
 ghost use Rattle.image_form.specs.Unique.{SpellsOneImage};
 
-use crate::format::{Image, Mode};
+use crate::format::Image;
 use crate::header::{FORMAT_VERSION, HEADER_SIZE, MAGIC};
 use crate::records::{put_numbers, put_records};
+use debug_records::Mode;
 use std::alloc::{AllocError, Global};
 
 /// The bytes that spell an image: a header of 64 bytes, then its sections.

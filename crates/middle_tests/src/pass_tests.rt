@@ -8,7 +8,7 @@ ghost use Rattle.graph_core.specs.Worked.{assigning, assigns_two, block, built, 
 use debug_records::{ChangeLog, Kind, PassName, Place, Var};
 use graph_core::{Block, End, Graph, Instr, Label, Name, NoteValue, Operand, Recipe, Unit};
 use pass_law::{Pass, RunErr, Trail, run_list};
-use places::{Assignment, FlowTable, Step};
+use places::{Assignment, FlowTable, FlowStep};
 use std::alloc::{AllocError, Global};
 use std::test::Fail;
 
@@ -134,11 +134,11 @@ fn unit_of_main(alloc: Global) -> Result<Unit, AllocError>
     let mut graphs = Vec::new(alloc);
     graphs.push(main_graph(alloc)?)?;
     let mut steps = Vec::new(alloc);
-    steps.push(Step {
+    steps.push(FlowStep {
         from: Place(1),
         to: Place(2),
     })?;
-    steps.push(Step {
+    steps.push(FlowStep {
         from: Place(2),
         to: Place(3),
     })?;

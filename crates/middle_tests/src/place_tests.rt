@@ -1,11 +1,11 @@
 use debug_records::{Place, Var};
-use places::{Assignment, FlowTable, Path, Step, is_path, route};
+use places::{Assignment, FlowTable, Path, FlowStep, is_path, route};
 use smallvec::SmallVec;
 use std::alloc::{AllocError, Global};
 use std::test::Fail;
 
-fn step(from: u32, to: u32) -> Step {
-    Step {
+fn step(from: u32, to: u32) -> FlowStep {
+    FlowStep {
         from: Place(from),
         to: Place(to),
     }

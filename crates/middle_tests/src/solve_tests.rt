@@ -9,7 +9,7 @@ ghost use Rattle.graph_solve.specs.SetProblems.{every_path};
 use debug_records::Place;
 use graph_core::{Block, Comparison, End, Graph, Instr, Label, Name, NoteValue, Operand, Recipe};
 use graph_solve::{Facts, Problem, live, solve, targets_are_within};
-use recovery::Operation;
+use word_base::Operation;
 use std::alloc::{AllocError, Global};
 use std::test::Fail;
 

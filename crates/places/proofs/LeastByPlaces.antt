@@ -6,7 +6,7 @@ use Rattle.std.specs.Option.{option_map_or}
 use Rattle.std.proofs.lemmas.Bool.{cases_eq}
 use Rattle.std.proofs.lemmas.Bool.Decides.{nat_tests}
 use Rattle.std.proofs.lemmas.Option.{none-some, same_Some}
-use Rattle.places.specs.declared.flow.Step.{Step}
+use Rattle.places.specs.declared.flow.FlowStep.{FlowStep}
 use Rattle.places.specs.Flow.{can_go, assigns, AreInOrder}
 use Rattle.places.specs.Path.{Quest, LeadOn, IsRoute, IsLess, IsBefore, IsNotBehind, IsLeastRoute}
 use Rattle.places.specs.Route.{after, goes_in, first_of, least_on, fewest, most_steps, route_of}
@@ -34,21 +34,21 @@ any_among test q _ (later r qs h) t = let rest = any_among test q qs h t in rw r
     or_true false = refl
 
 -- a place that can be gone to comes after
-goes_among : (steps : List Step) (p q : ℕ) → list_any (λ (s : Step). s.from.0 == p && s.to.0 == q) steps ≡ true → Among q (after steps p)
+goes_among : (steps : List FlowStep) (p q : ℕ) → list_any (λ (s : FlowStep). s.from.0 == p && s.to.0 == q) steps ≡ true → Among q (after steps p)
 goes_among [] p q e = absurd cc
 goes_among (s ∷ steps) p q e = by_test (s.from.0 == p) refl (goes_among steps p q)
   where
-    by_test : (b : Bool) → (s.from.0 == p) ≡ b → (list_any (λ (u : Step). u.from.0 == p && u.to.0 == q) steps ≡ true → Among q (after steps p)) → Among q (after (s ∷ steps) p)
+    by_test : (b : Bool) → (s.from.0 == p) ≡ b → (list_any (λ (u : FlowStep). u.from.0 == p && u.to.0 == q) steps ≡ true → Among q (after steps p)) → Among q (after (s ∷ steps) p)
     by_test true t rest = rw t (elim (cases_eq s.to.0 q) [
       | inl same ↦ subst (λ r. Among q (r ∷ after steps p)) (sym same) (here (after steps p))
       | inr other ↦ later s.to.0 (after steps p) (rest (let none : (s.to.0 == q) ≡ false = grind (arith, nat_tests, other) in rw (t, none) at e))
     ])
     by_test false t rest = rw t (rest (rw t at e))
 
-among_goes : (steps : List Step) (p q : ℕ) → Among q (after steps p) → list_any (λ (s : Step). s.from.0 == p && s.to.0 == q) steps ≡ true
+among_goes : (steps : List FlowStep) (p q : ℕ) → Among q (after steps p) → list_any (λ (s : FlowStep). s.from.0 == p && s.to.0 == q) steps ≡ true
 among_goes [] p q h = none q h
   where
-    none : (q : ℕ) → Among q [] → list_any (λ (s : Step). s.from.0 == p && s.to.0 == q) [] ≡ true
+    none : (q : ℕ) → Among q [] → list_any (λ (s : FlowStep). s.from.0 == p && s.to.0 == q) [] ≡ true
     none q h = elim h [ ]
 among_goes (s ∷ steps) p q h = by_test (s.from.0 == p) refl (among_goes steps p q)
   where
@@ -56,7 +56,7 @@ among_goes (s ∷ steps) p q h = by_test (s.from.0 == p) refl (among_goes steps 
     or_true true = refl
     or_true false = refl
 
-    by_test : (b : Bool) → (s.from.0 == p) ≡ b → (Among q (after steps p) → list_any (λ (u : Step). u.from.0 == p && u.to.0 == q) steps ≡ true) → list_any (λ (u : Step). u.from.0 == p && u.to.0 == q) (s ∷ steps) ≡ true
+    by_test : (b : Bool) → (s.from.0 == p) ≡ b → (Among q (after steps p) → list_any (λ (u : FlowStep). u.from.0 == p && u.to.0 == q) steps ≡ true) → list_any (λ (u : FlowStep). u.from.0 == p && u.to.0 == q) (s ∷ steps) ≡ true
     by_test true t rest = elim (at_front q s.to.0 (after steps p) (rw t at h)) [
       | inl same ↦ let one : (s.from.0 == p && s.to.0 == q) ≡ true = grind (arith, nat_tests, t, same) in rw one refl
       | inr behind ↦ let there = rest behind in rw there (or_true _)
@@ -93,14 +93,14 @@ first_before test _ q (more r qs above up) h t = by_test (test r) refl (first_be
     ]
 
 -- a place that comes after is one of a step
-record ComesBy (steps : List Step) (p q : ℕ) : Type 0 where
+record ComesBy (steps : List FlowStep) (p q : ℕ) : Type 0 where
   pub index : ℕ
-  pub step : Step
+  pub step : FlowStep
   pub is : slice_get steps index ≡ Some step
   pub from : step.from.0 ≡ p
   pub to : step.to.0 ≡ q
 
-comes_by : (steps : List Step) (p q : ℕ) → Among q (after steps p) → ComesBy steps p q
+comes_by : (steps : List FlowStep) (p q : ℕ) → Among q (after steps p) → ComesBy steps p q
 comes_by [] p q h = elim h [ ]
 comes_by (s ∷ steps) p q h = by_test (s.from.0 == p) refl (comes_by steps p q)
   where
@@ -114,11 +114,11 @@ comes_by (s ∷ steps) p q h = by_test (s.from.0 == p) refl (comes_by steps p q)
     ]
     by_test false t rest = further (rest (rw t at h))
 
-tail_in_order : (s : Step) (steps : List Step) → AreInOrder (s ∷ steps) → AreInOrder steps
+tail_in_order : (s : FlowStep) (steps : List FlowStep) → AreInOrder (s ∷ steps) → AreInOrder steps
 tail_in_order s steps order i j d lt within = order (suc i) (suc j) d (omega arith) (omega arith)
 
 -- the places after one ascend
-after_ascends : (steps : List Step) (p : ℕ) → AreInOrder steps → Ascends (after steps p)
+after_ascends : (steps : List FlowStep) (p : ℕ) → AreInOrder steps → Ascends (after steps p)
 after_ascends [] p order = none
 after_ascends (s ∷ steps) p order = by_test (s.from.0 == p) refl (after_ascends steps p (tail_in_order s steps order))
   where

@@ -8,7 +8,7 @@ use Rattle.std.proofs.lemmas.Bool.{cases_lt}
 use Rattle.std.proofs.lemmas.Bool.Decides.{nat_tests}
 use Rattle.std.proofs.lemmas.List.{get_or-set_same, get_or-set_other, length-set, length-append, map-append}
 use Rattle.std.proofs.lemmas.Option.{slice_get_within, get_or_from_slice_get, none-some, same_Some}
-use Rattle.places.specs.declared.flow.Step.{Step}
+use Rattle.places.specs.declared.flow.FlowStep.{FlowStep}
 use Rattle.places.specs.declared.search.Visit.{Visit}
 use Rattle.places.specs.Flow.{can_go, assigns, IsStepBefore, AreInOrder}
 use Rattle.places.specs.Path.{Quest, LeadOn, IsRoute, IsBefore, IsNotBehind, IsLeastRoute}
@@ -50,7 +50,7 @@ length_map f [] = refl
 length_map f (x ∷ xs) = ap suc (length_map f xs)
 
 -- steps of one place come in the order of the places that they lead to
-pub step_order : (steps : List Step) (i j : ℕ) (s u : Step) → AreInOrder steps → slice_get steps i ≡ Some s → slice_get steps j ≡ Some u → i < j → s.from.0 ≡ u.from.0 → s.to.0 < u.to.0
+pub step_order : (steps : List FlowStep) (i j : ℕ) (s u : FlowStep) → AreInOrder steps → slice_get steps i ≡ Some s → slice_get steps j ≡ Some u → i < j → s.from.0 ≡ u.from.0 → s.to.0 < u.to.0
 step_order steps i j s u order g h lt same =
     let within = slice_get_within steps j u h in
     let before = order i j s lt within in
@@ -59,7 +59,7 @@ step_order steps i j s u order g h lt same =
     let here : IsStepBefore s u = subst (λ x. IsStepBefore x u) left (subst (IsStepBefore (get_or steps i s)) right before) in
     elim here [ inl lt ↦ absurd (omega arith) | inr e ↦ e.1 ]
 
-pub steps_order : (steps : List Step) (i j : ℕ) (s u : Step) → AreInOrder steps → slice_get steps i ≡ Some s → slice_get steps j ≡ Some u → i < j → s.from.0 ≤ u.from.0
+pub steps_order : (steps : List FlowStep) (i j : ℕ) (s u : FlowStep) → AreInOrder steps → slice_get steps i ≡ Some s → slice_get steps j ≡ Some u → i < j → s.from.0 ≤ u.from.0
 steps_order steps i j s u order g h lt =
     let within = slice_get_within steps j u h in
     let before = order i j s lt within in
@@ -98,7 +98,7 @@ lead_next quest h place [] go free lead l = absurd l
 lead_next quest h place (q ∷ rest) go free lead l = subst (IsRoute quest) (sym (append_assoc h.way (place ∷ []) (q ∷ rest))) (lead (place ∷ q ∷ rest) (go, free, l))
 
 -- one step of a visit is taken: the step, the visit, and what it leads to
-pub record TakesStep (quest : Quest) (head k : ℕ) (rows : List Row) (h : Row) (s : Step) : Type 0 where
+pub record TakesStep (quest : Quest) (head k : ℕ) (rows : List Row) (h : Row) (s : FlowStep) : Type 0 where
   pub visit : slice_get rows head ≡ Some h
   pub step : slice_get quest.steps k ≡ Some s
   pub from : s.from.0 ≡ h.place
@@ -107,9 +107,9 @@ pub record TakesStep (quest : Quest) (head k : ℕ) (rows : List Row) (h : Row) 
   pub order : AreInOrder quest.steps
 
 -- what became of the steps taken, where the one at k was settled
-settled_next : (quest : Quest) (head k : ℕ) (rows : List Row) (h : Row) (s : Step) → TakesStep quest head k rows h s → Settled quest rows h s.to.0
-    → ((i j : ℕ) (r : Row) (u : Step) → slice_get rows i ≡ Some r → slice_get quest.steps j ≡ Some u → u.from.0 ≡ r.place → IsTaken i j head k → Settled quest rows r u.to.0)
-    → (i j : ℕ) (r : Row) (u : Step) → slice_get rows i ≡ Some r → slice_get quest.steps j ≡ Some u → u.from.0 ≡ r.place → IsTaken i j head (k + 1) → Settled quest rows r u.to.0
+settled_next : (quest : Quest) (head k : ℕ) (rows : List Row) (h : Row) (s : FlowStep) → TakesStep quest head k rows h s → Settled quest rows h s.to.0
+    → ((i j : ℕ) (r : Row) (u : FlowStep) → slice_get rows i ≡ Some r → slice_get quest.steps j ≡ Some u → u.from.0 ≡ r.place → IsTaken i j head k → Settled quest rows r u.to.0)
+    → (i j : ℕ) (r : Row) (u : FlowStep) → slice_get rows i ≡ Some r → slice_get quest.steps j ≡ Some u → u.from.0 ≡ r.place → IsTaken i j head (k + 1) → Settled quest rows r u.to.0
 settled_next quest head k rows h s t done old i j r u g e same (inl lt) = old i j r u g e same (inl lt)
 settled_next quest head k rows h s t done old i j r u g e same (inr here) = elim (cases_eq j k) [ inl at_k ↦ now at_k | inr other ↦ old i j r u g e same (inr (here.0, omega (arith, here.1))) ]
   where
@@ -117,10 +117,10 @@ settled_next quest head k rows h s t done old i j r u g e same (inr here) = elim
     now at_k =
         let row : h ≡ r = one_get rows head h r t.visit (subst (λ n. slice_get rows n ≡ Some r) here.0 g) in
         let step : s ≡ u = one_get quest.steps k s u t.step (subst (λ n. slice_get quest.steps n ≡ Some u) at_k e) in
-        subst (λ x. Settled quest rows x u.to.0) row (subst (λ (y : Step). Settled quest rows h y.to.0) step done)
+        subst (λ x. Settled quest rows x u.to.0) row (subst (λ (y : FlowStep). Settled quest rows h y.to.0) step done)
 
 -- The search came there before, or will never.
-pub skip : (quest : Quest) (head k : ℕ) (visits : List Visit) (closed : List Bool) (s : Step) (found : Searched quest head k visits closed) (h : Row) → TakesStep quest head k found.rows h s
+pub skip : (quest : Quest) (head k : ℕ) (visits : List Visit) (closed : List Bool) (s : FlowStep) (found : Searched quest head k visits closed) (h : Row) → TakesStep quest head k found.rows h s
     → IsClosed quest found.rows s.to.0 (passes quest h s.to.0) → (next : Searched quest head (k + 1) visits closed) × (next.rows ≡ found.rows)
 skip quest head k visits closed s found h t is_closed = (
   record {
@@ -145,7 +145,7 @@ skip quest head k visits closed s found h t is_closed = (
     came (Visited index row is p b) = inr (record { index = index; row = row; is = is; place_is = p; passed_is = b; early = inr (found.beyond index k row h s is t.visit t.step t.from (omega arith)) })
 
 -- The search comes there for the first time.
-pub come : (quest : Quest) (head k : ℕ) (visits : List Visit) (closed : List Bool) (s : Step) (found : Searched quest head k visits closed) (h : Row) → TakesStep quest head k found.rows h s
+pub come : (quest : Quest) (head k : ℕ) (visits : List Visit) (closed : List Bool) (s : FlowStep) (found : Searched quest head k visits closed) (h : Row) → TakesStep quest head k found.rows h s
     → assigns quest.assignments s.to.0 quest.var ≡ false
     → (next : Searched quest head (k + 1) (visits ++ visit_of (next_row quest head h s.to.0) ∷ []) closed) × IsClosed quest next.rows s.to.0 (passes quest h s.to.0)
 come quest head k visits closed s found h t free = (
@@ -211,12 +211,12 @@ come quest head k visits closed s found h t free = (
     within : head < length rows
     within = slice_get_within rows head h t.visit
 
-    now : (i j : ℕ) (r : Row) (u : Step) → slice_get rows i ≡ Some r → slice_get quest.steps j ≡ Some u → i ≡ head → j ≡ k → Settled quest rows' r u.to.0
+    now : (i j : ℕ) (r : Row) (u : FlowStep) → slice_get rows i ≡ Some r → slice_get quest.steps j ≡ Some u → i ≡ head → j ≡ k → Settled quest rows' r u.to.0
     now i j r u g e at_head at_k =
         let row : h ≡ r = one_get rows head h r t.visit (subst (λ n. slice_get rows n ≡ Some r) at_head g) in
         let step : s ≡ u = one_get quest.steps k s u t.step (subst (λ n. slice_get quest.steps n ≡ Some u) at_k e) in
         let done : Settled quest rows' h s.to.0 = record { no_answer = t.no_answer; came = inr (record { index = length rows; row = new; is = snoc_new rows new; place_is = refl; passed_is = refl; early = inl refl }) } in
-        subst (λ x. Settled quest rows' x u.to.0) row (subst (λ (y : Step). Settled quest rows' h y.to.0) step done)
+        subst (λ x. Settled quest rows' x u.to.0) row (subst (λ (y : FlowStep). Settled quest rows' h y.to.0) step done)
 
 -- A flag is set for a place that the search came to.
 pub close : (quest : Quest) (head k : ℕ) (visits : List Visit) (closed : List Bool) (place : ℕ) (passed : Bool) (found : Searched quest head k visits closed) → IsClosed quest found.rows place passed
@@ -246,7 +246,7 @@ close quest head k visits closed place passed found is_closed = record {
 
 -- Steps that are not from the visit are passed over.
 pub pass_over : (quest : Quest) (head k m : ℕ) (visits : List Visit) (closed : List Bool) (found : Searched quest head k visits closed) (h : Row) → slice_get found.rows head ≡ Some h → k ≤ m
-    → ((j : ℕ) (s : Step) → slice_get quest.steps j ≡ Some s → k ≤ j → j < m → s.from.0 ≢ h.place) → Searched quest head m visits closed
+    → ((j : ℕ) (s : FlowStep) → slice_get quest.steps j ≡ Some s → k ≤ j → j < m → s.from.0 ≢ h.place) → Searched quest head m visits closed
 pass_over quest head k m visits closed found h is le others = record {
   rows = found.rows;
   visits_are = found.visits_are;
@@ -275,7 +275,7 @@ way_some quest rows i r (Later parent is lt w) = omega (arith, ap length w, leng
 
 -- All steps of a visit are taken, and the search goes on to the next one.
 pub go_on : (quest : Quest) (head k : ℕ) (visits : List Visit) (closed : List Bool) (found : Searched quest head k visits closed) (h : Row) → slice_get found.rows head ≡ Some h
-    → ((j : ℕ) (s : Step) → slice_get quest.steps j ≡ Some s → k ≤ j → s.from.0 ≢ h.place) → Searched quest (head + 1) 0 visits closed
+    → ((j : ℕ) (s : FlowStep) → slice_get quest.steps j ≡ Some s → k ≤ j → s.from.0 ≢ h.place) → Searched quest (head + 1) 0 visits closed
 go_on quest head k visits closed found h is others = record {
   rows = found.rows;
   visits_are = found.visits_are;
@@ -300,7 +300,7 @@ go_on quest head k visits closed found h is others = record {
   blocked = found.blocked;
 }
   where
-    behind : (i : ℕ) (r g : Row) (u : Step) → slice_get found.rows i ≡ Some r → slice_get found.rows (head + 1) ≡ Some g → ComesFrom quest found.rows i r → IsBefore r.way (g.way ++ u.to.0 ∷ [])
+    behind : (i : ℕ) (r g : Row) (u : FlowStep) → slice_get found.rows i ≡ Some r → slice_get found.rows (head + 1) ≡ Some g → ComesFrom quest found.rows i r → IsBefore r.way (g.way ++ u.to.0 ∷ [])
     behind i r g u a b (Start e p w) = inl (omega (arith, ap length w, length-append g.way (u.to.0 ∷ []), way_some quest found.rows (head + 1) g (found.from (head + 1) g b)))
     behind i r g u a b (Later parent at_parent lt w) =
         let near : r.parent ≤ head = found.near i r a in
@@ -308,7 +308,7 @@ go_on quest head k visits closed found h is others = record {
 
 -- the search begins with a visit of the start
 pub begins : (quest : Quest) (visit : Visit) (closed : List Bool) → visit ≡ record { place = record { 0 = quest.start }; passed = quest.start == quest.via; parent = 0 }
-    → ((j : ℕ) (s : Step) → slice_get quest.steps j ≡ Some s → 2 * s.to.0 + 1 < length closed) → ((n : ℕ) → length closed ≤ n → get_or closed n false ≡ false)
+    → ((j : ℕ) (s : FlowStep) → slice_get quest.steps j ≡ Some s → 2 * s.to.0 + 1 < length closed) → ((n : ℕ) → length closed ≤ n → get_or closed n false ≡ false)
     → AreBlocked quest.assignments quest.var closed → Searched quest 0 0 (visit ∷ []) closed
 begins quest visit closed is room beyond blocked = record {
   rows = first ∷ [];
@@ -359,22 +359,22 @@ any_at test (y ∷ xs) (suc j) x e t = let later = any_at test xs j x e t in rw 
     or_true false = refl
 
 -- a step of the table
-pub record StepOf (steps : List Step) (p q : ℕ) : Type 0 where
+pub record StepOf (steps : List FlowStep) (p q : ℕ) : Type 0 where
   pub index : ℕ
-  pub step : Step
+  pub step : FlowStep
   pub is : slice_get steps index ≡ Some step
   pub from : step.from.0 ≡ p
   pub to : step.to.0 ≡ q
 
-pub step_of : (steps : List Step) (p q : ℕ) → can_go steps p q ≡ true → StepOf steps p q
+pub step_of : (steps : List FlowStep) (p q : ℕ) → can_go steps p q ≡ true → StepOf steps p q
 step_of steps p q go =
-    let found = any_found (λ (s : Step). s.from.0 == p && s.to.0 == q) steps go in
-    let s : Step = found.1 in
+    let found = any_found (λ (s : FlowStep). s.from.0 == p && s.to.0 == q) steps go in
+    let s : FlowStep = found.1 in
     let test : (s.from.0 == p && s.to.0 == q) ≡ true = found.3 in
     record { index = found.0; step = s; is = found.2; from = grind (arith, nat_tests, test); to = grind (arith, nat_tests, test) }
 
-pub step_goes : (steps : List Step) (j : ℕ) (s : Step) (p : ℕ) → slice_get steps j ≡ Some s → s.from.0 ≡ p → can_go steps p s.to.0 ≡ true
-step_goes steps j s p is from = any_at (λ (u : Step). u.from.0 == p && u.to.0 == s.to.0) steps j s is (grind (arith, nat_tests, from))
+pub step_goes : (steps : List FlowStep) (j : ℕ) (s : FlowStep) (p : ℕ) → slice_get steps j ≡ Some s → s.from.0 ≡ p → can_go steps p s.to.0 ≡ true
+step_goes steps j s p is from = any_at (λ (u : FlowStep). u.from.0 == p && u.to.0 == s.to.0) steps j s is (grind (arith, nat_tests, from))
 
 -- where the search has come to the next place, it leads on from there
 pub record ComesOn (quest : Quest) (rows : List Row) (r : Row) (q : ℕ) (rest : List ℕ) : Type 0 where

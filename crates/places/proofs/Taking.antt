@@ -7,7 +7,7 @@ use Rattle.std.proofs.lemmas.Bool.{cases_eq}
 use Rattle.std.proofs.lemmas.Bool.Decides.{nat_tests}
 use Rattle.std.proofs.lemmas.List.{get_or_past}
 use Rattle.std.proofs.lemmas.Option.{slice_get_within, slice_get-get_or, get_or_from_slice_get}
-use Rattle.places.specs.declared.flow.Step.{Step}
+use Rattle.places.specs.declared.flow.FlowStep.{FlowStep}
 use Rattle.places.specs.declared.search.Visit.{Visit}
 use Rattle.places.specs.Flow.{can_go, assigns, AreInOrder}
 use Rattle.places.specs.Path.{Quest}
@@ -20,7 +20,7 @@ pub item_at : {A : Type 0} (xs : List A) (i : ℕ) (x : A) → i < length xs →
 item_at xs i x lt e = slice_get-get_or xs i x lt ∙ ap Some (sym e)
 
 -- the tests of a search among the steps
-pub parted_from : (steps : List Step) (place : ℕ) → AreInOrder steps → IsPartitionedBy (λ (s : Step). ltb s.from.0 place) steps
+pub parted_from : (steps : List FlowStep) (place : ℕ) → AreInOrder steps → IsPartitionedBy (λ (s : FlowStep). ltb s.from.0 place) steps
 parted_from steps place order i j d le lt t = elim (cases_eq i j) [
   | inl same ↦ ap (λ k. ltb (get_or steps k d).from.0 place) same ∙ t
   | inr other ↦
@@ -31,15 +31,15 @@ parted_from steps place order i j d le lt t = elim (cases_eq i j) [
       grind (arith, nat_tests, below, less)
 ]
 
-pub first_point : (steps : List Step) (place i : ℕ) → IsPartitionPoint (λ (s : Step). ltb s.from.0 place ≡ true) (λ (s : Step). ltb s.from.0 place ≡ false) steps i → IsFirstFrom steps place i
+pub first_point : (steps : List FlowStep) (place i : ℕ) → IsPartitionPoint (λ (s : FlowStep). ltb s.from.0 place ≡ true) (λ (s : FlowStep). ltb s.from.0 place ≡ false) steps i → IsFirstFrom steps place i
 first_point steps place i point = record {
   before = λ j s is lt.
       let same : get_or steps j s ≡ s = get_or_from_slice_get steps j s s is in
-      let less : ltb s.from.0 place ≡ true = ap (λ (u : Step). ltb u.from.0 place) (sym same) ∙ point.0 j s (omega arith) lt in
+      let less : ltb s.from.0 place ≡ true = ap (λ (u : FlowStep). ltb u.from.0 place) (sym same) ∙ point.0 j s (omega arith) lt in
       ltb-true _ _ less;
   after = λ j s is le.
       let same : get_or steps j s ≡ s = get_or_from_slice_get steps j s s is in
-      let not_less : ltb s.from.0 place ≡ false = ap (λ (u : Step). ltb u.from.0 place) (sym same) ∙ point.1 j s le (slice_get_within steps j s is) in
+      let not_less : ltb s.from.0 place ≡ false = ap (λ (u : FlowStep). ltb u.from.0 place) (sym same) ∙ point.1 j s le (slice_get_within steps j s is) in
       grind (arith, nat_tests, not_less);
 }
 
@@ -59,7 +59,7 @@ start_steps quest head visits closed visit first found is firsts =
     pass_over quest head 0 first visits closed found row.0 row.1 (omega arith) (λ j s at le lt same. let less = firsts.before j s at lt in omega (arith, less, same, place))
 
 -- A step from a greater place follows the last one from the visit.
-pub stop_steps : (quest : Quest) (head k : ℕ) (visits : List Visit) (closed : List Bool) (visit : Visit) (step : Step) (first : ℕ) → Searched quest head k visits closed → slice_get visits head ≡ Some visit
+pub stop_steps : (quest : Quest) (head k : ℕ) (visits : List Visit) (closed : List Bool) (visit : Visit) (step : FlowStep) (first : ℕ) → Searched quest head k visits closed → slice_get visits head ≡ Some visit
     → AreInOrder quest.steps → IsFirstFrom quest.steps visit.place.0 first → first ≤ k → slice_get quest.steps k ≡ Some step → step.from.0 ≢ visit.place.0
     → Searched quest (head + 1) 0 visits closed
 stop_steps quest head k visits closed visit step first found is order firsts le at_k other =
@@ -70,7 +70,7 @@ stop_steps quest head k visits closed visit step first found is order firsts le 
     go_on quest head k visits closed found row.0 row.1 (λ j s at past same. elim (cases_eq j k) [
       | inl at_j ↦
           let one : step ≡ s = one_get quest.steps k step s at_k (subst (λ n. slice_get quest.steps n ≡ Some s) at_j at) in
-          let from : step.from.0 ≡ s.from.0 = ap (λ (u : Step). u.from.0) one in
+          let from : step.from.0 ≡ s.from.0 = ap (λ (u : FlowStep). u.from.0) one in
           omega (arith, from, beyond, place, same)
       | inr later ↦ let up = steps_order quest.steps k j step s order at_k at (omega arith) in omega (arith, up, beyond, place, same)
     ])
@@ -83,7 +83,7 @@ end_steps quest head k visits closed visit found is le =
     go_on quest head k visits closed found row.0 row.1 (λ j s at past same. let within = slice_get_within quest.steps j s at in absurd (omega arith))
 
 -- A step to the stop is an answer.
-pub answer_step : (quest : Quest) (head k : ℕ) (visits : List Visit) (closed : List Bool) (visit : Visit) (step : Step) → Searched quest head k visits closed → slice_get visits head ≡ Some visit
+pub answer_step : (quest : Quest) (head k : ℕ) (visits : List Visit) (closed : List Bool) (visit : Visit) (step : FlowStep) → Searched quest head k visits closed → slice_get visits head ≡ Some visit
     → slice_get quest.steps k ≡ Some step → step.from.0 ≡ visit.place.0 → (visit.passed && step.to.0 == quest.stop) ≡ true → Answered quest head visits
 answer_step quest head k visits closed visit step found is at_k from test =
     let stop : step.to.0 ≡ quest.stop = grind (arith, nat_tests, test) in
@@ -97,12 +97,12 @@ answer_step quest head k visits closed visit step found is at_k from test =
     }
 
 -- the place that a step leads to has flags
-pub step_room : (quest : Quest) (head k : ℕ) (visits : List Visit) (closed : List Bool) (step : Step) (passed : Bool) → Searched quest head k visits closed → slice_get quest.steps k ≡ Some step
+pub step_room : (quest : Quest) (head k : ℕ) (visits : List Visit) (closed : List Bool) (step : FlowStep) (passed : Bool) → Searched quest head k visits closed → slice_get quest.steps k ≡ Some step
     → state_number step.to.0 passed < length closed
 step_room quest head k visits closed step passed found at_k = state_below step.to.0 (length closed) passed (found.room k step at_k)
 
 -- Another step is taken.
-pub take_step : (quest : Quest) (head k : ℕ) (visits visits' : List Visit) (closed closed' : List Bool) (visit : Visit) (step : Step) → Searched quest head k visits closed → slice_get visits head ≡ Some visit
+pub take_step : (quest : Quest) (head k : ℕ) (visits visits' : List Visit) (closed closed' : List Bool) (visit : Visit) (step : FlowStep) → Searched quest head k visits closed → slice_get visits head ≡ Some visit
     → AreInOrder quest.steps → slice_get quest.steps k ≡ Some step → step.from.0 ≡ visit.place.0 → (visit.passed && step.to.0 == quest.stop) ≡ false
     → visits' ≡ (if get_or closed (state_number step.to.0 (visit.passed || step.to.0 == quest.via)) false then visits else visits ++ record { place = step.to; passed = visit.passed || step.to.0 == quest.via; parent = head } ∷ [])
     → closed' ≡ set closed (state_number step.to.0 (visit.passed || step.to.0 == quest.via)) true
@@ -153,19 +153,19 @@ take_step quest head k visits visits' closed closed' visit step found is order a
         (subst (λ vs. Searched quest head (k + 1) vs closed') (sym same) (subst (Searched quest head (k + 1) (visits ++ new ∷ [])) (sym set_is) turned), ap (λ vs. slice_get vs head) same ∙ snoc_old visits new head visit is)
 
 -- The search begins.
-pub first_visit : (quest : Quest) (closed : List Bool) (bound : ℕ) → All (λ (s : Step). s.to.0 < bound) quest.steps → length closed ≡ 2 * bound
+pub first_visit : (quest : Quest) (closed : List Bool) (bound : ℕ) → All (λ (s : FlowStep). s.to.0 < bound) quest.steps → length closed ≡ 2 * bound
     → AreBlocked quest.assignments quest.var closed
     → Searched quest 0 0 (record { place = record { 0 = quest.start }; passed = quest.start == quest.via; parent = 0 } ∷ []) closed
 first_visit quest closed bound above size blocked = begins quest _ closed refl
     (λ j s is.
     let same : get_or quest.steps j s ≡ s = get_or_from_slice_get quest.steps j s s is in
     let below : (get_or quest.steps j s).to.0 < bound = above j s (slice_get_within quest.steps j s is) in
-    let to : s.to.0 < bound = subst (λ (u : Step). u.to.0 < bound) same below in
+    let to : s.to.0 < bound = subst (λ (u : FlowStep). u.to.0 < bound) same below in
     omega (arith, size, to))
     (λ n le. get_or_past closed n false le) blocked
 
 -- the same, where the bit of the next visit has a name
-pub take_one : (quest : Quest) (head k : ℕ) (visits visits' : List Visit) (closed closed' : List Bool) (visit : Visit) (step : Step) (passed : Bool) → passed ≡ (visit.passed || step.to.0 == quest.via)
+pub take_one : (quest : Quest) (head k : ℕ) (visits visits' : List Visit) (closed closed' : List Bool) (visit : Visit) (step : FlowStep) (passed : Bool) → passed ≡ (visit.passed || step.to.0 == quest.via)
     → Searched quest head k visits closed → slice_get visits head ≡ Some visit
     → AreInOrder quest.steps → slice_get quest.steps k ≡ Some step → step.from.0 ≡ visit.place.0 → (visit.passed && step.to.0 == quest.stop) ≡ false
     → visits' ≡ (if get_or closed (state_number step.to.0 passed) false then visits else visits ++ record { place = step.to; passed = passed; parent = head } ∷ [])
@@ -177,5 +177,5 @@ take_one quest head k visits visits' closed closed' visit step passed is_passed 
     (subst (λ b. closed' ≡ set closed (state_number step.to.0 b) true) is_passed set_is)
 
 -- a step of a slice that is the table's
-pub step_at : (xs ys : List Step) (i : ℕ) (d : Step) → xs ≡ ys → i < length xs → slice_get ys i ≡ Some (get_or xs i d)
+pub step_at : (xs ys : List FlowStep) (i : ℕ) (d : FlowStep) → xs ≡ ys → i < length xs → slice_get ys i ≡ Some (get_or xs i d)
 step_at xs ys i d same lt = ap (λ zs. slice_get zs i) (sym same) ∙ slice_get-get_or xs i d lt

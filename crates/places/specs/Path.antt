@@ -2,7 +2,7 @@
 use Rattle.std.specs.Prelude.{◌≡◌, ℕ, ◌<◌, ◌⊎◌, ◌==◌, ◌||◌, Bool, true, false, List, [], ◌∷◌, length, map, ⊤}
 use Rattle.debug_records.specs.declared.change.Place.{Place}
 use Rattle.debug_records.specs.declared.change.Var.{Var}
-use Rattle.places.specs.declared.flow.Step.{Step}
+use Rattle.places.specs.declared.flow.FlowStep.{FlowStep}
 use Rattle.places.specs.declared.flow.Assignment.{Assignment}
 use Rattle.places.specs.declared.flow.FlowTable.{FlowTable}
 use Rattle.places.specs.declared.paths.Path.{Path}
@@ -17,14 +17,14 @@ abbrev pub places : Path → List ℕ
 places path = numbers path.places.items
 
 -- Execution may go from each place directly to the next one.
-abbrev pub GoesOn : List Step → List ℕ → Type 0
+abbrev pub GoesOn : List FlowStep → List ℕ → Type 0
 GoesOn steps [] = ⊤
 GoesOn steps (p ∷ []) = ⊤
 GoesOn steps (p ∷ q ∷ path) = (can_go steps p q ≡ true) × GoesOn steps (q ∷ path)
 
 -- What a route is asked for: from a start by way of a place to a stop, while a variable is not assigned.
 pub record Quest : Type 0 where
-  pub steps : List Step
+  pub steps : List FlowStep
   pub assignments : List Assignment
   pub var : ℕ
   pub start : ℕ

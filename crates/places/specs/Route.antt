@@ -2,12 +2,12 @@
 use Rattle.std.specs.Prelude.{ℕ, zero, suc, ◌+◌, ◌^◌, ◌==◌, ◌&&◌, ◌||◌, not, Bool, false, if◌then◌else◌, Option, Some, None, option_map, List, [], ◌∷◌}
 use Rattle.std.specs.List.{list_any}
 use Rattle.std.specs.Option.{option_map_or}
-use Rattle.places.specs.declared.flow.Step.{Step}
+use Rattle.places.specs.declared.flow.FlowStep.{FlowStep}
 use Rattle.places.specs.Flow.{can_go, assigns}
 use Rattle.places.specs.Path.{Quest}
 
 -- the places to which these steps lead from a place
-abbrev pub after : List Step → ℕ → List ℕ
+abbrev pub after : List FlowStep → ℕ → List ℕ
 after [] p = []
 after (s ∷ steps) p = if s.from.0 == p then s.to.0 ∷ after steps p else after steps p
 

@@ -1,7 +1,7 @@
 -- A search for a route, breadth first: the places that it came to, in order, and what it knows of them.
 use Rattle.std.specs.Prelude.{◌≡◌, ◌≢◌, ℕ, ◌+◌, ◌*◌, ◌<◌, ◌≤◌, ◌⊎◌, ◌==◌, ◌&&◌, ◌||◌, Bool, true, false, List, [], ◌∷◌, ◌++◌, length, map, Some, slice_get, slice_index_or}
 use Rattle.std.specs.List.{list_any}
-use Rattle.places.specs.declared.flow.Step.{Step}
+use Rattle.places.specs.declared.flow.FlowStep.{FlowStep}
 use Rattle.places.specs.declared.flow.Assignment.{Assignment}
 use Rattle.places.specs.declared.search.Visit.{Visit}
 use Rattle.places.specs.declared.search.Request.{Request}
@@ -14,9 +14,9 @@ state_number place true = 2 * place + 1
 state_number place false = 2 * place
 
 -- The steps before an index are from lesser places, the others are not.
-pub record IsFirstFrom (steps : List Step) (place first : ℕ) : Type 0 where
-  pub before : (j : ℕ) (s : Step) → slice_get steps j ≡ Some s → j < first → s.from.0 < place
-  pub after : (j : ℕ) (s : Step) → slice_get steps j ≡ Some s → first ≤ j → place ≤ s.from.0
+pub record IsFirstFrom (steps : List FlowStep) (place first : ℕ) : Type 0 where
+  pub before : (j : ℕ) (s : FlowStep) → slice_get steps j ≡ Some s → j < first → s.from.0 < place
+  pub after : (j : ℕ) (s : FlowStep) → slice_get steps j ≡ Some s → first ≤ j → place ≤ s.from.0
 
 -- whether one of these assignments is of the place and the variable
 abbrev pub is_assigned : List Assignment → (place var : ℕ) → Bool
@@ -84,11 +84,11 @@ pub record Searched (quest : Quest) (head k : ℕ) (visits : List Visit) (closed
   -- the ways come one behind the other
   pub ascend : (i j : ℕ) (r s : Row) → slice_get rows i ≡ Some r → slice_get rows j ≡ Some s → i < j → IsBefore r.way s.way
   -- and all of them before those that the search comes to next
-  pub beyond : (i j : ℕ) (r h : Row) (s : Step) → slice_get rows i ≡ Some r → slice_get rows head ≡ Some h → slice_get quest.steps j ≡ Some s
+  pub beyond : (i j : ℕ) (r h : Row) (s : FlowStep) → slice_get rows i ≡ Some r → slice_get rows head ≡ Some h → slice_get quest.steps j ≡ Some s
       → s.from.0 ≡ h.place → k ≤ j → IsBefore r.way (h.way ++ s.to.0 ∷ [])
-  pub settled : (i j : ℕ) (r : Row) (s : Step) → slice_get rows i ≡ Some r → slice_get quest.steps j ≡ Some s → s.from.0 ≡ r.place
+  pub settled : (i j : ℕ) (r : Row) (s : FlowStep) → slice_get rows i ≡ Some r → slice_get quest.steps j ≡ Some s → s.from.0 ≡ r.place
       → IsTaken i j head k → Settled quest rows r s.to.0
-  pub room : (j : ℕ) (s : Step) → slice_get quest.steps j ≡ Some s → 2 * s.to.0 + 1 < length closed
+  pub room : (j : ℕ) (s : FlowStep) → slice_get quest.steps j ≡ Some s → 2 * s.to.0 + 1 < length closed
   pub flags : (place : ℕ) (passed : Bool) → slice_index_or closed (state_number place passed) false ≡ true → IsClosed quest rows place passed
   pub blocked : (place : ℕ) (passed : Bool) → state_number place passed < length closed → assigns quest.assignments place quest.var ≡ true
       → slice_index_or closed (state_number place passed) false ≡ true

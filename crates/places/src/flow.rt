@@ -7,7 +7,7 @@ use debug_records::{Place, Var};
 
 /// Execution may go from the one place directly to the other. Steps are in order by where they lead from, then by where they lead to.
 #[derive(Clone, Copy, PartialEq, Eq, PartialOrd, Ord)]
-pub struct Step {
+pub struct FlowStep {
     pub from: Place,
     pub to: Place,
 }
@@ -23,7 +23,7 @@ pub struct Assignment {
 #[derive(Drop)]
 pub struct FlowTable {
     /// Each step once, by the places that they lead from, and then by those that they lead to.
-    pub steps: Vec<Step>,
+    pub steps: Vec<FlowStep>,
     pub assignments: Vec<Assignment>,
 }
 

@@ -7,7 +7,7 @@ mod routes;
 mod search;
 mod table;
 
-pub use flow::{Assignment, FlowTable, Step};
+pub use flow::{Assignment, FlowStep, FlowTable};
 pub use paths::{Path, is_path};
 pub use routes::route;
 pub use table::{PlaceRow, PlaceTable};

@@ -5,7 +5,7 @@ ghost use Rattle.places.specs.Flow.{AreInOrder};
 ghost use Rattle.places.specs.Path.{places};
 ghost use Rattle.places.specs.Search.{AreBlocked, Expanded, IsFirstFrom, IsWayTo, Searched, passes, quest_of, state_number};
 
-use crate::flow::{Assignment, FlowTable, Step};
+use crate::flow::{Assignment, FlowStep, FlowTable};
 use crate::paths::Path;
 use debug_records::{Place, Var};
 use smallvec::SmallVec;
@@ -39,7 +39,7 @@ pub fn state_number(place: Place, passed: bool) -> usize
 }
 
 /// A number above each place that a step leads to.
-pub fn place_bound(steps: &[Step]) -> usize
+pub fn place_bound(steps: &[FlowStep]) -> usize
     ensures above { All (λ s. s.to.0 < result) steps.now }
     ensures small { result ≤ 4294967296 }
 {
@@ -76,7 +76,7 @@ pub fn blocked_places(
 }
 
 /// The index of the first step from a place or from a greater one.
-pub fn first_from(steps: &[Step], place: Place) -> usize
+pub fn first_from(steps: &[FlowStep], place: Place) -> usize
     requires { AreInOrder steps.now }
     ensures { IsFirstFrom steps.now place.0 result }
 {

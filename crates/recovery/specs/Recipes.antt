@@ -2,7 +2,7 @@
 use Rattle.std.specs.Prelude.{ℕ, List}
 use Rattle.recovery.specs.declared.recipe.PlacedRecipe.{PlacedRecipe}
 use Rattle.recovery.specs.declared.recipe.PlacedRecipe.TheVariants as placed
-use Rattle.recovery.specs.Operations.{operated, truncated}
+use Rattle.word_base.specs.WordOperations.{operated, truncated}
 use Rattle.recovery.specs.Homes.{home_value}
 
 -- The value of a recipe over what registers and the stack from a frame on hold.

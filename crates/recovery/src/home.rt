@@ -3,9 +3,9 @@
 ghost use Rattle.std.specs.Prelude.{◌≡◌, ◌+◌, ◌≤◌, ◌<◌, ◌^◌, length, slice_index};
 ghost use Rattle.recovery.specs.Homes.{home_value, slot_value, word_from};
 
-/// A home of a value.
-#[derive(Clone, Copy, PartialEq, Eq)]
-pub enum Home {
+/// A home of a value, as the debugger finds it in a frame.
+#[derive(Clone, Copy)]
+pub enum FrameHome {
     /// A register, by its number.
     Register(u32),
     /// A slot, by its offset in the frame, in bytes.
@@ -44,11 +44,11 @@ pub fn slot_value(ram: &[u8], offset: u32) -> u32
 }
 
 /// What a home holds, of the registers and the stack from the frame on; a register above 31 reads as 0.
-pub fn home_value(registers: &[u32; 32], ram: &[u8], home: Home) -> u32
+pub fn home_value(registers: &[u32; 32], ram: &[u8], home: FrameHome) -> u32
     ensures { result ≡ home_value registers.now ram.now home }
 {
     match home {
-        Home::Register(number) => registers.get(number as usize).copied().unwrap_or(0),
-        Home::Slot(offset) => slot_value(ram, offset),
+        FrameHome::Register(number) => registers.get(number as usize).copied().unwrap_or(0),
+        FrameHome::Slot(offset) => slot_value(ram, offset),
     }
 }

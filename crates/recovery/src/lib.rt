@@ -2,9 +2,7 @@
 #![tactic(auto)]
 
 mod home;
-mod operation;
 mod recipe;
 
-pub use home::{Home, home_value, slot_value};
-pub use operation::{Operation, Truncation, operate, truncate};
+pub use home::{FrameHome, home_value, slot_value};
 pub use recipe::{PlacedRecipe, value};

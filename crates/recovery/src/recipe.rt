@@ -3,8 +3,8 @@
 ghost use Rattle.std.specs.Prelude.{◌≡◌};
 ghost use Rattle.recovery.specs.Recipes.{value};
 
-use crate::home::{Home, home_value};
-use crate::operation::{Operation, Truncation, operate, truncate};
+use crate::home::{FrameHome, home_value};
+use word_base::{Operation, Truncation, operate, truncate};
 
 /// How a value is computed from what homes hold.
 #[derive(Drop)]
@@ -12,7 +12,7 @@ pub enum PlacedRecipe {
     /// This word.
     Constant(u32),
     /// What a home holds.
-    Home(Home),
+    Home(FrameHome),
     /// What is left of a value by a truncation.
     Truncated(Truncation, Box<PlacedRecipe>),
     /// What an operation computes of two values.

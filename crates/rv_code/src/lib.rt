@@ -3,10 +3,15 @@
 
 mod decoding;
 mod encoding;
-pub mod instruction;
-pub mod law;
+mod instruction;
+mod law;
 mod opcode;
 mod operation;
 
 pub use decoding::decode;
 pub use encoding::encode;
+pub use instruction::{
+    BranchOperation, ImmediateOperation, Instruction, LoadOperation, RegisterOperation,
+    StoreOperation,
+};
+pub use law::{decoding_undoes_encoding, encoding_undoes_decoding};

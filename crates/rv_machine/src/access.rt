@@ -4,7 +4,7 @@ ghost use Rattle.std.specs.Prelude.{◌≡◌, ◌+◌, ◌≤◌, ◌<◌, ◌*
 ghost use Rattle.rv_machine.specs.Memory.{half_in, word_in, with_half, with_word, bytes_of_words};
 ghost use Rattle.rv_machine.specs.Table.{load_size, store_size, signed_byte, signed_half, loaded_from, stored_in};
 
-use rv_code::instruction::{LoadOperation, StoreOperation};
+use rv_code::{LoadOperation, StoreOperation};
 
 /// The address of the first word of the code.
 pub const CODE_START: u32 = 0x00010000;

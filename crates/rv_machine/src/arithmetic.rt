@@ -3,7 +3,7 @@
 ghost use Rattle.std.specs.Prelude.{◌≡◌};
 ghost use Rattle.rv_machine.specs.Table.{operated, operated_immediate, taken};
 
-use rv_code::instruction::{BranchOperation, ImmediateOperation, RegisterOperation};
+use rv_code::{BranchOperation, ImmediateOperation, RegisterOperation};
 
 /// What an operation computes of the values of two registers.
 #[tactic(auto, unfolding(crate::specs::Table::operated))]

@@ -3,6 +3,9 @@
 
 mod access;
 mod arithmetic;
-pub mod event;
-pub mod law;
-pub mod machine;
+mod event;
+mod law;
+mod machine;
+pub use event::Event;
+pub use law::{effects_keep, endings_repeat};
+pub use machine::Machine;

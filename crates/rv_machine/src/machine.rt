@@ -13,8 +13,7 @@ use crate::access::{
 };
 use crate::arithmetic::{is_taken, operate, operate_immediate};
 use crate::event::Event;
-use rv_code::decode;
-use rv_code::instruction::{Instruction, LoadOperation, StoreOperation};
+use rv_code::{Instruction, LoadOperation, StoreOperation, decode};
 use std::alloc::{AllocError, Global};
 use std::marker::Model;
 

@@ -3,7 +3,7 @@ use Rattle.std.specs.Prelude.{◌≡◌, List, []}
 use Rattle.command_line.specs.Words.{Text}
 use Rattle.command_line.specs.Grammar.{IsJob}
 use Rattle.command_line.specs.Job.{AttachGiven, DebugGiven, JobGiven, attach, attach_given, debug, debug_given}
-use Rattle.command_line.specs.declared.values.Mode.TheVariants.{Slots}
+use Rattle.debug_records.specs.declared.mode.Mode.TheVariants.{Slots}
 use Rattle.session.specs.declared.asking.Task as declared-task
 use Rattle.session.specs.declared.asking.Task.TheVariants as task
 

@@ -1,12 +1,13 @@
 //! What the words ask for.
 
 ghost use Rattle.std.specs.Prelude.{◌≡◌, ◌↔◌, IsTrue, MatchOption, [], map, string_bytes};
-ghost use Rattle.command_line.specs.declared.values.Mode.TheVariants.{Slots};
+ghost use Rattle.debug_records.specs.declared.mode.Mode.TheVariants.{Slots};
 ghost use Rattle.command_line.specs.Job.{debug_given, job_given};
 ghost use Rattle.session.specs.Served.{ServedJob, Serves, task_job};
 ghost use Rattle.session.specs.Stages.{AskEnds};
 
-use command_line::{Attach, Debug, Job, Mode, job_of};
+use command_line::{Attach, Debug, Job, job_of};
+use debug_records::Mode;
 use line_form::Status;
 use std::alloc::Global;
 

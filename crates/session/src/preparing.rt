@@ -11,15 +11,13 @@ ghost use Rattle.thin_form.specs.Thin.{IsThin};
 use c_parse::parse;
 use c_token::tokens;
 use c_type::check;
-use debug_records::Code;
-use debug_records::source::SourceErr;
+use debug_records::{Code, SourceErr};
 use image_form::{Image, ImageErr, write};
 use line_form::Status;
 use script_form::{Command, ScriptErr};
 use std::alloc::Global;
 use thin_build::build;
-use thin_form::ThinErr;
-use thin_form::tree::Program;
+use thin_form::{Program, ThinErr};
 
 /// The image of a source, its bytes, and the commands of a script.
 #[derive(Drop)]

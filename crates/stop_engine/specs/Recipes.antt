@@ -7,9 +7,9 @@ use Rattle.image_form.specs.declared.recipes.Node.TheVariants as node
 use Rattle.image_form.specs.declared.recipes.NodeOperation.{NodeOperation}
 use Rattle.image_form.specs.declared.recipes.NodeOperation.TheVariants as op
 use Rattle.image_form.specs.declared.variables.Variable.{Variable}
-use Rattle.recovery.specs.declared.operation.Operation.TheVariants.{Add, Sub, Mul, Div, Divu, Rem, Remu, Sll, Srl, Sra, And, Or, Xor, Slt, Sltu}
-use Rattle.recovery.specs.declared.operation.Truncation.TheVariants.{Unsigned8, Signed16, Unsigned16, Signed8}
-use Rattle.recovery.specs.Operations.{operated, truncated}
+use Rattle.word_base.specs.declared.operation.Operation.TheVariants.{Add, Sub, Mul, Div, Divu, Rem, Remu, Sll, Srl, Sra, And, Or, Xor, Slt, Sltu}
+use Rattle.word_base.specs.declared.operation.Truncation.TheVariants.{Unsigned8, Signed16, Unsigned16, Signed8}
+use Rattle.word_base.specs.WordOperations.{operated, truncated}
 use Rattle.rv_machine.specs.State.{State, reg}
 use Rattle.stop_engine.specs.Reading.{slot_word}
 use Rattle.stop_engine.specs.Words.{home_word}

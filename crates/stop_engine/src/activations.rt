@@ -11,7 +11,7 @@ use crate::frames::frame_places;
 use crate::tables::Tables;
 use image_form::Image;
 use line_form::frame_line;
-use rv_machine::machine::Machine;
+use rv_machine::Machine;
 use std::alloc::{AllocError, Global};
 
 /// An activation that is live at a stop.

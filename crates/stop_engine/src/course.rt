@@ -11,8 +11,7 @@ use crate::halt::Halt;
 use crate::reading::depth;
 use crate::stop_table::StopTable;
 use crate::stops::Stops;
-use rv_machine::event::Event;
-use rv_machine::machine::Machine;
+use rv_machine::{Event, Machine};
 use std::alloc::AllocError;
 
 /// How many bytes of output a run takes room for at a time.

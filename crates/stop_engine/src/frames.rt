@@ -10,7 +10,7 @@ ghost use Rattle.stop_engine.specs.Reading.{frame_of, frames, greatest_depth, is
 
 use crate::reading::{CODE_START, STACK_END, STACK_START, stack_pointer, word_in};
 use image_form::Image;
-use rv_machine::machine::Machine;
+use rv_machine::Machine;
 use std::alloc::{AllocError, Global};
 
 /// The number of the place that a code word belongs to, by the word's address, or 0 for none.

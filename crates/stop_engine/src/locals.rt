@@ -14,7 +14,7 @@ use crate::tables::Tables;
 use crate::visible::rows_at;
 use image_form::{Image, VisibleRow};
 use line_form::no_locals_line;
-use rv_machine::machine::Machine;
+use rv_machine::Machine;
 use std::alloc::{AllocError, Global};
 
 /// A variable that is visible at a stop.

@@ -14,7 +14,7 @@ use crate::names::variable_name;
 use crate::reading::{depth, stack_pointer};
 use image_form::{ElementType, Image, Storage, Variable};
 use line_form::{frame_pointer, literal_pointer, null_text, static_pointer, unknown_pointer};
-use rv_machine::machine::Machine;
+use rv_machine::Machine;
 use std::alloc::{AllocError, Global};
 
 /// What an address is taken for.

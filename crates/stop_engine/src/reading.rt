@@ -5,7 +5,7 @@ ghost use Rattle.rv_machine.specs.Memory.{word_in};
 ghost use Rattle.rv_machine.specs.State.{reg};
 ghost use Rattle.stop_engine.specs.Reading.{depth, slot_word};
 
-use rv_machine::machine::Machine;
+use rv_machine::Machine;
 
 /// How many activations may be live.
 const ACTIVATIONS: u32 = 1024;

@@ -7,8 +7,8 @@ ghost use Rattle.stop_engine.specs.Words.{home_word};
 
 use crate::reading::slot_word;
 use image_form::{Image, Node, NodeOperation, Storage};
-use recovery::{Operation, Truncation, operate, truncate};
-use rv_machine::machine::Machine;
+use word_base::{Operation, Truncation, operate, truncate};
+use rv_machine::Machine;
 
 /// What an operation of a node computes of its operands; a truncation has one.
 #[tactic(auto, unfolding(crate::specs::Recipes::node_operated))]

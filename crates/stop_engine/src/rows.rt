@@ -22,7 +22,7 @@ use debug_records::{Kind, Place, Var};
 use image_form::{AssignedPair, FlowPair, Image, Verdict, VisibleRow};
 use line_form::change_text;
 use places::{Assignment, FlowTable, Path, Step, route};
-use rv_machine::machine::Machine;
+use rv_machine::Machine;
 use std::alloc::{AllocError, Global};
 
 /// The steps of an image.

@@ -15,7 +15,7 @@ use crate::halt::{Halt, Standing};
 use crate::stop_table::StopTable;
 use crate::stops::Stops;
 use image_form::Image;
-use rv_machine::machine::Machine;
+use rv_machine::Machine;
 use std::alloc::{AllocError, Global};
 use std::marker::Model;
 

@@ -12,7 +12,7 @@ use crate::reading::stack_pointer;
 use crate::recipes::home_word;
 use image_form::{ElementType, Image, Storage, Variable};
 use line_form::array_text;
-use rv_machine::machine::Machine;
+use rv_machine::Machine;
 use std::alloc::{AllocError, Global};
 
 /// The number of two bytes of memory, the lower one first.

@@ -13,7 +13,7 @@ use crate::shown::Shown;
 use crate::tables::Tables;
 use crate::visible::visible_row;
 use image_form::{Image, Variable};
-use rv_machine::machine::Machine;
+use rv_machine::Machine;
 use std::alloc::{AllocError, Global};
 
 /// The byte of the text at which a place begins.

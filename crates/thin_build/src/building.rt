@@ -14,10 +14,11 @@ ghost use Rattle.thin_build.specs.Truthful.{Truthful};
 use crate::draft::draft_of;
 use crate::placed::Placed;
 use crate::sections::sections_of;
-use image_form::{Function, Image, Mode};
+use debug_records::Mode;
+use image_form::{Function, Image};
 use rv_code::encode;
 use std::alloc::{AllocError, Global};
-use thin_form::tree::Program;
+use thin_form::Program;
 
 // The words of the code.
 fn words(alloc: Global, code: &[Placed]) -> Result<Vec<u32>, AllocError>

@@ -9,12 +9,9 @@ ghost use Rattle.thin_form.specs.Tree.{sum_view, action_view};
 ghost use Rattle.thin_form.specs.Program.{TermFits, SumFits, ActionFits};
 ghost use Rattle.thin_build.specs.Code.{upper, lower, slot, constant_code, far_code, load_code, store_code, term_code, added_code, sum_code, put_code, lowered_code, raised_code, return_code, action_code, stub_code, begin_code};
 
-use rv_code::instruction::{
-    BranchOperation, ImmediateOperation, Instruction, LoadOperation, RegisterOperation,
-    StoreOperation,
-};
+use rv_code::{BranchOperation, ImmediateOperation, Instruction, LoadOperation, RegisterOperation, StoreOperation};
 use std::alloc::{AllocError, Global};
-use thin_form::tree::{Action, Sum, Term};
+use thin_form::{Action, Sum, Term};
 
 /// The registers by their names in the RISC-V calling convention.
 pub const RA: u8 = 1;

@@ -12,9 +12,9 @@ use crate::code::{
 };
 use crate::placed::Placed;
 use image_form::Place;
-use rv_code::instruction::Instruction;
+use rv_code::Instruction;
 use std::alloc::{AllocError, Global};
-use thin_form::tree::{Action, Program, Spot};
+use thin_form::{Action, Program, Spot};
 
 /// The placed instructions, and the places of the image.
 #[derive(Drop)]

@@ -4,7 +4,7 @@
 mod building;
 mod code;
 mod draft;
-pub mod placed;
+mod placed;
 mod sections;
 
 pub use building::build;

@@ -1,6 +1,6 @@
 //! Instructions in their places.
 
-use rv_code::instruction::Instruction;
+use rv_code::Instruction;
 
 /// An instruction of the code, and the place of the source that it belongs to.
 #[derive(Clone, Copy, PartialEq, Eq)]

@@ -10,7 +10,7 @@ ghost use Rattle.thin_build.specs.Growing.{names_by, AreNamesShort};
 use crate::draft::declared_behind;
 use image_form::{AssignedPair, ElementType, FlowPair, Storage, Variable, Verdict, VisibleRow};
 use std::alloc::{AllocError, Global};
-use thin_form::tree::{Action, Program, Statement};
+use thin_form::{Action, Program, Statement};
 
 /// The sections of the image that the code does not decide.
 #[derive(Drop)]

@@ -10,10 +10,11 @@ mod statement;
 mod sum;
 mod text;
 mod token;
-pub mod tree;
+mod tree;
 mod weight;
 mod word;
 
 pub use laws::a_text_has_at_most_one_program;
 pub use reading::read;
 pub use refusal::ThinErr;
+pub use tree::{Action, Program, Spot, Statement, Sum, Term};

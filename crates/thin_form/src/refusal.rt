@@ -6,7 +6,7 @@ ghost use Rattle.thin_form.specs.declared.refusal.ThinErr.TheVariants.{NoMemory}
 use std::alloc::{AllocError, AllocFailed};
 
 /// Why `read` answers no program.
-#[derive(Clone, Copy, PartialEq, Eq, Debug)]
+#[derive(Clone, Copy, PartialEq, Eq)]
 pub enum ThinErr {
     /// The text is not of the thin form.
     Refused,

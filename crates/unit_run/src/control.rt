@@ -20,7 +20,7 @@ use crate::operations::{is_true, operate, truth};
 use graph_core::{
     Binding, Block, Callee, Comparison, End, Graph, Label, MemoryObject, Name, Unit, Value,
 };
-use recovery::Operation;
+use word_base::Operation;
 use std::alloc::{AllocError, Global};
 
 /// Whether a word and a value are one, where that is known.

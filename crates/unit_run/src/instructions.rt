@@ -17,7 +17,7 @@ use crate::evaluation::{value, values};
 use crate::memory::{copy, read, write, zero};
 use crate::operations::{is_odd, operate, truncate};
 use graph_core::{Callee, Element, Instr, Location, Name, Operand, Unit, Value};
-use recovery::{Operation, Truncation};
+use word_base::{Operation, Truncation};
 use std::alloc::{AllocError, Global};
 
 /// The step goes on, if memory could become another.

@@ -5,7 +5,7 @@ ghost use Rattle.graph_core.specs.declared.value.Value.TheVariants.{Number, Poin
 ghost use Rattle.graph_core.specs.Values.{as_element, between, is_odd, is_true, moved_by, moving, operate, pointer_at, truncate, truth};
 
 use graph_core::{Element, Value};
-use recovery::{Operation, Truncation};
+use word_base::{Operation, Truncation};
 
 /// A pointer at an offset of its object, if that is within the object or directly behind it.
 pub fn pointer_at(object: usize, size: u32, offset: u32) -> Value
@@ -106,7 +106,7 @@ fn operate_word(operation: Operation, word: u32, right: Value) -> Value
     ensures { result ≡ operate operation (Number word) right }
 {
     match right {
-        Value::Number(other) => Value::Number(recovery::operate(operation, word, other)),
+        Value::Number(other) => Value::Number(word_base::operate(operation, word, other)),
         Value::Pointer {
             object,
             size,
@@ -163,7 +163,7 @@ pub fn truncate(truncation: Truncation, value: Value) -> Value
     ensures { result ≡ truncate truncation value }
 {
     match value {
-        Value::Number(word) => Value::Number(recovery::truncate(truncation, word)),
+        Value::Number(word) => Value::Number(word_base::truncate(truncation, word)),
         Value::Pointer { .. } => Value::Odd,
         Value::Odd => Value::Odd,
     }

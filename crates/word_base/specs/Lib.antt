@@ -2,5 +2,6 @@ pub mod Words
 pub mod Arithmetic
 pub mod Types
 pub mod Operations
-pub mod Values
+pub mod Owners
 pub mod Worked
+pub mod WordOperations

@@ -1,10 +1,9 @@
 //! Programs that fault.
 
-use super::{Program, assert_leaves};
-use rv_machine::event::Event;
-use std::alloc::AllocError;
+use super::Program;
+use rv_machine::Event;
 
-static NO_SUCH_INSTRUCTION: [Program; 4] = [
+pub static NO_SUCH_INSTRUCTION: [Program; 4] = [
     Program {
         shows: "faults at ebreak",
         // EBREAK.
@@ -51,15 +50,7 @@ static NO_SUCH_INSTRUCTION: [Program; 4] = [
     },
 ];
 
-#[test]
-fn what_is_no_instruction_and_no_call_faults(rt: HostRuntime) -> Result<(), AllocError> {
-    for program in &NO_SUCH_INSTRUCTION {
-        assert_leaves(&rt, rt.alloc(), program)?;
-    }
-    Ok(())
-}
-
-static NOWHERE_TO_GO: [Program; 5] = [
+pub static NOWHERE_TO_GO: [Program; 5] = [
     Program {
         shows: "faults past the code",
         // The pc runs off the end.
@@ -127,7 +118,7 @@ fn a_pc_outside_the_code_and_a_jump_to_no_multiple_of_4_fault(
     Ok(())
 }
 
-static STORES_OUTSIDE: [Program; 4] = [
+pub static STORES_OUTSIDE: [Program; 4] = [
     Program {
         shows: "faults at a store into the code",
         // And the code stays.
@@ -174,15 +165,7 @@ static STORES_OUTSIDE: [Program; 4] = [
     },
 ];
 
-#[test]
-fn stores_outside_the_last_two_regions_fault(rt: HostRuntime) -> Result<(), AllocError> {
-    for program in &STORES_OUTSIDE {
-        assert_leaves(&rt, rt.alloc(), program)?;
-    }
-    Ok(())
-}
-
-static NOT_ALIGNED: [Program; 5] = [
+pub static NOT_ALIGNED: [Program; 5] = [
     Program {
         shows: "faults at a load of a halfword that is not aligned",
         // Of the bytes.
@@ -240,15 +223,7 @@ static NOT_ALIGNED: [Program; 5] = [
     },
 ];
 
-#[test]
-fn accesses_that_are_not_aligned_fault(rt: HostRuntime) -> Result<(), AllocError> {
-    for program in &NOT_ALIGNED {
-        assert_leaves(&rt, rt.alloc(), program)?;
-    }
-    Ok(())
-}
-
-static LOADS_OUTSIDE: [Program; 6] = [
+pub static LOADS_OUTSIDE: [Program; 6] = [
     Program {
         shows: "faults at a load below the code",
         // At 0x0000fffc.
@@ -316,11 +291,3 @@ static LOADS_OUTSIDE: [Program; 6] = [
         registers: &[],
     },
 ];
-
-#[test]
-fn loads_outside_the_regions_fault(rt: HostRuntime) -> Result<(), AllocError> {
-    for program in &LOADS_OUTSIDE {
-        assert_leaves(&rt, rt.alloc(), program)?;
-    }
-    Ok(())
-}

@@ -3,7 +3,7 @@
 use super::tables::{ChangeTable, GraphTable, Line, StaticTable, UnitTable};
 use debug_records::{Kind, Var};
 use graph_core::{Callee, Comparison, Element, End, Label, Location, MemoryObject, Name, Operand};
-use recovery::Operation;
+use word_base::Operation;
 
 const X: Operand = Operand::Name(Name(0));
 

@@ -5,7 +5,7 @@ use debug_records::Var;
 use graph_core::{
     Binding, Callee, Comparison, Element, End, Label, Location, MemoryObject, Name, Operand, Unit,
 };
-use recovery::Operation;
+use word_base::Operation;
 use std::alloc::{AllocError, Global};
 
 /// No value has been given to this name.

@@ -6,7 +6,7 @@ use graph_core::{
     NoteValue, Operand, Owner, Recipe, Relocation, Shadow, StaticObject, Unit, Value,
 };
 use places::FlowTable;
-use recovery::{Operation, Truncation};
+use word_base::{Operation, Truncation};
 use smallvec::SmallVec;
 use std::alloc::{AllocError, Global};
 use unit_run::{Event, Frame, Object};

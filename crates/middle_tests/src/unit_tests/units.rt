@@ -6,7 +6,7 @@ use graph_core::{
     Binding, Callee, Comparison, Element, End, Label, Location, MemoryObject, Name, Operand,
     Relocation,
 };
-use recovery::{Operation, Truncation};
+use word_base::{Operation, Truncation};
 
 const X: Operand = Operand::Name(Name(0));
 

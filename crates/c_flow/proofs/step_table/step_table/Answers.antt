@@ -1,6 +1,6 @@
 use Rattle.std.proofs.Common.{◌≡◌, List, map, sym, ap, ◌∙◌, subst}
 use Rattle.std.specs.List.{Contains}
-use Rattle.places.specs.declared.flow.Step.{Step}
+use Rattle.places.specs.declared.flow.FlowStep.{FlowStep}
 use Rattle.c_tree.specs.Programs.{program_view}
 use Rattle.c_places.specs.Places.{places_of_program}
 use Rattle.c_flow.specs.Flow.{numbered, steps_of_program}
@@ -16,4 +16,4 @@ returns-clause-exact c =
     let passed : map (step_between c.args.positions.now) c.deref.result.now ≡ steps_of_program (program_view c.args.program.now) =
     ap (map (step_between c.args.positions.now)) c.deref.ensures.value ∙ same in
     let exact = c.in_ok-steps.ensures.exact in
-    λ s. (λ h. subst (λ (xs : List Step). Contains xs s) passed ((exact s).0 h), λ h. (exact s).1 (subst (λ (xs : List Step). Contains xs s) (sym passed) h))
+    λ s. (λ h. subst (λ (xs : List FlowStep). Contains xs s) passed ((exact s).0 h), λ h. (exact s).1 (subst (λ (xs : List FlowStep). Contains xs s) (sym passed) h))

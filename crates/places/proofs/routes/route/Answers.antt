@@ -1,6 +1,6 @@
 use Rattle.std.proofs.Common.{arith, ◌≡◌, ◌<◌, ◌≤◌, All, length, sym, subst, rules}
 use Rattle.debug_records.specs.declared.change.Place.{Place}
-use Rattle.places.specs.declared.flow.Step.{Step}
+use Rattle.places.specs.declared.flow.FlowStep.{FlowStep}
 use Rattle.places.specs.Path.{IsLeastRoute, places, quest}
 use Rattle.places.specs.Search.{AreBlocked, Expanded, IsWayTo, Searched}
 use Rattle.places.proofs.LeastByPlaces.{found_route, no_route_of}
@@ -11,7 +11,7 @@ use Rattle.places.proofs.routes.route.Goals as goal
 pub loop-head-init : goal.loop-head-init
 loop-head-init c =
     let q = quest c.args.table.now c.args.var c.args.start c.args.via c.args.stop in
-    let above : All (λ (s : Step). s.to.0 < c.place_bound-bound.result) c.args.table.now.steps.items = subst (λ ss. All (λ (s : Step). s.to.0 < c.place_bound-bound.result) ss) c.deref.ensures.value c.place_bound-bound.ensures.above in
+    let above : All (λ (s : FlowStep). s.to.0 < c.place_bound-bound.result) c.args.table.now.steps.items = subst (λ ss. All (λ (s : FlowStep). s.to.0 < c.place_bound-bound.result) ss) c.deref.ensures.value c.place_bound-bound.ensures.above in
     let flags = subst (λ given. AreBlocked given c.args.var.0 c.in_ok-closed.closed.items) c.deref-2.ensures.value c.in_ok-closed.ensures.flags in
     subst (λ vs. Searched q 0 0 vs c.in_ok-closed.closed.items) (sym c.in_ok-visits.ensures.items) (first_visit q c.in_ok-closed.closed.items c.place_bound-bound.result above c.in_ok-closed.ensures.size flags)
 

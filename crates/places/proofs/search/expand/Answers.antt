@@ -1,5 +1,5 @@
 use Rattle.std.proofs.Common.{◌≤◌, length, sym, subst, ◌∙◌}
-use Rattle.places.specs.declared.flow.Step.{Step}
+use Rattle.places.specs.declared.flow.FlowStep.{FlowStep}
 use Rattle.places.specs.Search.{quest_of, IsFirstFrom}
 use Rattle.places.proofs.Taking.{answer_step, end_steps, item_at, start_steps, step_at, step_room, stop_steps, take_one}
 use Rattle.places.proofs.search.expand.Goals as goal
@@ -12,7 +12,7 @@ loop-index-init c =
 
 pub returns-then-step-visit : goal.returns-then-step-visit
 returns-then-step-visit c =
-    let none : Step = record { from = record { 0 = 0 }; to = record { 0 = 0 } } in
+    let none : FlowStep = record { from = record { 0 = 0 }; to = record { 0 = 0 } } in
     let firsts : IsFirstFrom c.args.request.now.table.now.steps.items c.index-visit.result.now.place.0 c.first_from-index.result = subst (λ ss. IsFirstFrom ss c.index-visit.result.now.place.0 c.first_from-index.result) c.as_slice-steps.ensures.value c.first_from-index.ensures in
     let at = step_at c.as_slice-steps.result.now c.args.request.now.table.now.steps.items c.loop-index.index none c.as_slice-steps.ensures.value c.loop-index-test.true in
     stop_steps (quest_of c.args.request.now) c.args.head c.loop-index.index c.loop-index.visits.items c.loop-index.closed c.index-visit.result.now _ c.first_from-index.result
@@ -20,20 +20,20 @@ returns-then-step-visit c =
 
 pub returns-then-is_answer : goal.returns-then-is_answer
 returns-then-is_answer c =
-    let none : Step = record { from = record { 0 = 0 }; to = record { 0 = 0 } } in
+    let none : FlowStep = record { from = record { 0 = 0 }; to = record { 0 = 0 } } in
     let at = step_at c.as_slice-steps.result.now c.args.request.now.table.now.steps.items c.loop-index.index none c.as_slice-steps.ensures.value c.loop-index-test.true in
     answer_step (quest_of c.args.request.now) c.args.head c.loop-index.index c.loop-index.visits.items c.loop-index.closed c.index-visit.result.now _
     c.loop-index.invariant.0 c.loop-index.invariant.1 at c.if-step-visit.false (sym c.is_answer.ensures ∙ c.if-is_answer.true)
 
 pub come_to-requires : goal.come_to-requires
 come_to-requires c =
-    let none : Step = record { from = record { 0 = 0 }; to = record { 0 = 0 } } in
+    let none : FlowStep = record { from = record { 0 = 0 }; to = record { 0 = 0 } } in
     let at = step_at c.as_slice-steps.result.now c.args.request.now.table.now.steps.items c.loop-index.index none c.as_slice-steps.ensures.value c.loop-index-test.true in
     step_room (quest_of c.args.request.now) c.args.head c.loop-index.index c.loop-index.visits.items c.loop-index.closed _ c.passes_by-passed.result c.loop-index.invariant.0 at
 
 pub loop-index-preserved : goal.loop-index-preserved
 loop-index-preserved c =
-    let none : Step = record { from = record { 0 = 0 }; to = record { 0 = 0 } } in
+    let none : FlowStep = record { from = record { 0 = 0 }; to = record { 0 = 0 } } in
     let at = step_at c.as_slice-steps.result.now c.args.request.now.table.now.steps.items c.loop-index.index none c.as_slice-steps.ensures.value c.loop-index-test.true in
     take_one (quest_of c.args.request.now) c.args.head c.loop-index.index c.loop-index.visits.items c.come_to.new.visits.items c.loop-index.closed c.come_to.new.closed c.index-visit.result.now _
     c.passes_by-passed.result c.passes_by-passed.ensures c.loop-index.invariant.0 c.loop-index.invariant.1 c.requires.order at c.if-step-visit.false (sym c.is_answer.ensures ∙ c.if-is_answer.false)

@@ -1,7 +1,7 @@
 use Rattle.std.proofs.Common.{◌≡◌, ℕ, ◌+◌, ◌*◌, ◌/◌, ◌<◌, ◌≤◌, List, [], ◌∷◌, length, map, zero, suc, sym, ap, ◌∙◌, subst, arith, refl}
 use Rattle.std.specs.List.{AllByRecursion}
 use Rattle.rv_code.specs.InForm.{IsInForm}
-use Rattle.image_form.specs.declared.format.Mode.TheVariants.{Slots}
+use Rattle.debug_records.specs.declared.mode.Mode.TheVariants.{Slots}
 use Rattle.thin_form.specs.Places.{variables_of}
 use Rattle.thin_form.specs.Tree.{program_view}
 use Rattle.thin_build.specs.declared.placed.Placed.{Placed}
