@@ -54,11 +54,12 @@ fn lines_of(alloc: Global, image: &Image, limit: u64, orders: &[&str]) -> Result
     Ok(lines)
 }
 
+/// The lines are those of a list.
 fn assert_lines(rt: &impl Abort, lines: &[Vec<u8>], expected: &[&str], shows: &str) {
-    for (line, text) in lines.iter().zip(expected) {
-        assert!(rt; line.as_slice() == text.as_bytes(), "{shows}");
-    }
-    assert!(rt; lines.len() == expected.len(), "{shows}");
+    let mut all = lines.iter().zip(expected);
+    let are_same = lines.len() == expected.len()
+        && all.all(|(line, text)| line.as_slice() == text.as_bytes());
+    assert!(rt; are_same, "{shows}");
 }
 
 fn assert_session(rt: &impl Abort, alloc: Global, session: &Session) -> Result<(), Fail> {
@@ -71,50 +72,6 @@ fn assert_session(rt: &impl Abort, alloc: Global, session: &Session) -> Result<(
 }
 
 #[test]
-fn the_addition_is_followed(rt: HostRuntime) -> Result<(), Fail> {
-    let image = addition_image(rt.alloc())?;
-    let orders = ["step", "step", "print x", "step", "print x", "step", "step"];
-    let lines = lines_of(rt.alloc(), &image, 10_000_000, &orders)?;
-    let expected = [
-        "at 2 line 2 main depth 1",
-        "at 3 line 2 main depth 1",
-        "x = 2",
-        "at 4 line 2 main depth 1",
-        "x = 5",
-        "out \"A\"",
-        "at 5 line 2 main depth 1",
-        "exit 5",
-    ];
-    assert_lines(&rt, &lines, &expected, "the addition");
-    Ok(())
-}
-
-#[test]
-fn a_function_is_found_by_its_name(rt: HostRuntime) -> Result<(), Fail> {
-    let image = addition_image(rt.alloc())?;
-    let orders = [
-        "break main",
-        "break nosuch",
-        "continue",
-        "where",
-        "locals",
-        "continue",
-    ];
-    let lines = lines_of(rt.alloc(), &image, 1000, &orders)?;
-    let expected = [
-        "break at 2",
-        "no function nosuch",
-        "at 2 line 2 main depth 1",
-        "#0 main line 2 place 2",
-        "no locals",
-        "out \"A\"",
-        "exit 5",
-    ];
-    assert_lines(&rt, &lines, &expected, "a function's first stop");
-    Ok(())
-}
-
-#[test]
 fn each_session_has_its_lines(rt: HostRuntime) -> Result<(), Fail> {
     for session in &SESSIONS {
         assert_session(&rt, rt.alloc(), session)?;
@@ -122,36 +79,71 @@ fn each_session_has_its_lines(rt: HostRuntime) -> Result<(), Fail> {
     Ok(())
 }
 
+/// Orders over the image that adds, and their lines.
+static ADDITIONS: [(&[&str], &[&str]); 2] = [
+    (
+        &["step", "step", "print x", "step", "print x", "step", "step"],
+        &[
+            "at 2 line 2 main depth 1",
+            "at 3 line 2 main depth 1",
+            "x = 2",
+            "at 4 line 2 main depth 1",
+            "x = 5",
+            "out \"A\"",
+            "at 5 line 2 main depth 1",
+            "exit 5",
+        ],
+    ),
+    (
+        &[
+            "break main",
+            "break nosuch",
+            "continue",
+            "where",
+            "locals",
+            "continue",
+        ],
+        &[
+            "break at 2",
+            "no function nosuch",
+            "at 2 line 2 main depth 1",
+            "#0 main line 2 place 2",
+            "no locals",
+            "out \"A\"",
+            "exit 5",
+        ],
+    ),
+];
+
 #[test]
-fn a_run_has_its_own_output(rt: HostRuntime) -> Result<(), Fail> {
+fn the_addition_is_followed(rt: HostRuntime) -> Result<(), Fail> {
     let image = addition_image(rt.alloc())?;
-    let mut engine = Engine::new(rt.alloc(), &image, &[], 1000)?;
-    assert!(rt; engine.taken() == [].as_slice());
-    for place in 2..=4 {
-        assert!(rt; engine.run_to(&Stops::Any)? == Halt::At { place, depth: 1 });
-        assert!(rt; engine.taken() == [].as_slice());
-    }
-    assert!(rt; engine.run_to(&Stops::Any)? == Halt::At { place: 5, depth: 1 });
-    assert!(rt; engine.taken() == b"A".as_slice());
-    for _ in 0..2 {
-        assert!(rt; engine.run_to(&Stops::Any)? == Halt::Exited(5));
-        assert!(rt; engine.taken() == [].as_slice());
+    for (orders, expected) in &ADDITIONS {
+        let lines = lines_of(rt.alloc(), &image, 1000, *orders)?;
+        assert_lines(&rt, &lines, *expected, "the addition");
     }
     Ok(())
 }
 
+/// The halts of the image that adds, from stop to stop, each with the bytes that were put out before it.
+static HALTS: [(Halt, &[u8]); 6] = [
+    (Halt::At { place: 2, depth: 1 }, b""),
+    (Halt::At { place: 3, depth: 1 }, b""),
+    (Halt::At { place: 4, depth: 1 }, b""),
+    (Halt::At { place: 5, depth: 1 }, b"A"),
+    (Halt::Exited(5), b""),
+    (Halt::Exited(5), b""),
+];
+
 #[test]
-fn a_name_is_shown_at_a_stop_alone(rt: HostRuntime) -> Result<(), Fail> {
+fn a_run_has_its_own_output(rt: HostRuntime) -> Result<(), Fail> {
     let image = addition_image(rt.alloc())?;
     let mut engine = Engine::new(rt.alloc(), &image, &[], 1000)?;
     assert!(rt; matches!(engine.show(rt.alloc(), "x")?, Shown::NoStop));
-    engine.run_to(&Stops::Any)?;
-    assert!(rt; matches!(engine.show(rt.alloc(), "x")?, Shown::NoName));
-    engine.run_to(&Stops::Any)?;
-    let Shown::Value(text) = engine.show(rt.alloc(), "x")? else {
-        return Err(Fail::from("x is visible"));
-    };
-    assert!(rt; text.as_slice() == b"2".as_slice());
+    for (halt, taken) in &HALTS {
+        assert!(rt; engine.run_to(&Stops::Any)? == *halt);
+        assert!(rt; engine.taken() == *taken);
+    }
     Ok(())
 }
 

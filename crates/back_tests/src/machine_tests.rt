@@ -6,7 +6,7 @@ use std::process::Abort;
 
 mod faults;
 
-use faults::{LOADS_OUTSIDE, NO_SUCH_INSTRUCTION, NOT_ALIGNED, STORES_OUTSIDE};
+use faults::{LOADS_OUTSIDE, NO_SUCH_INSTRUCTION, NOT_ALIGNED, NOWHERE_TO_GO, STORES_OUTSIDE};
 
 struct Program {
     shows: &'static str,
@@ -501,24 +501,38 @@ static JUMPS: [Program; 4] = [
     },
 ];
 
+/// Each program of each table leaves what is told of it.
+fn assert_all(rt: &impl Abort, alloc: Global, tables: &[&[Program]]) -> Result<(), AllocError> {
+    for table in tables {
+        for program in *table {
+            assert_leaves(rt, alloc, program)?;
+        }
+    }
+    Ok(())
+}
+
 #[test]
 fn programs_leave_what_the_other_machine_leaves(rt: HostRuntime) -> Result<(), AllocError> {
-    for table in [
+    let tables = [
         CALLS.as_slice(),
         &LOADS_AND_STORES,
         &OPERATIONS,
         &BRANCHES,
         &JUMPS,
-        &NO_SUCH_INSTRUCTION,
+    ];
+    assert_all(&rt, rt.alloc(), &tables)
+}
+
+#[test]
+fn programs_fault_where_the_other_machine_faults(rt: HostRuntime) -> Result<(), AllocError> {
+    let tables = [
+        NO_SUCH_INSTRUCTION.as_slice(),
         &STORES_OUTSIDE,
         &NOT_ALIGNED,
         &LOADS_OUTSIDE,
-    ] {
-        for program in table {
-            assert_leaves(&rt, rt.alloc(), program)?;
-        }
-    }
-    Ok(())
+        &NOWHERE_TO_GO,
+    ];
+    assert_all(&rt, rt.alloc(), &tables)
 }
 
 /// A machine that has run two instructions: lui sp, 0x2000; sw sp, -4(sp).

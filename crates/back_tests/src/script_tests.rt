@@ -1,4 +1,4 @@
-//! Scripts, and what texts are refused for.
+//! Scripts, and what texts are refused for, worked by hand from docs/CODES.md.
 
 use debug_records::Code;
 use script_form::{Command, ScriptErr, Target, read};
@@ -12,7 +12,7 @@ fn name(alloc: Global, text: &str) -> Result<String, AllocError> {
 #[test]
 fn each_command_is_read(rt: HostRuntime) -> Result<(), Fail> {
     let text =
-        b"break 12\nbreak main\nstep\ncontinue\r\n\n  print\tx_1  \n \t\nlocals\nwhere\nquit";
+        b"break 12\nbreak main\nstep                                                                                                                                                                                                    \r\ncontinue\r\n\n  print\tx_1  \n \t\nlocals\nwhere\nquit";
     let commands = read(rt.alloc(), text.as_slice())?;
     let expected = vec![in rt.alloc();
         Command::Break(Target::Line(12)),
@@ -28,16 +28,8 @@ fn each_command_is_read(rt: HostRuntime) -> Result<(), Fail> {
     Ok(())
 }
 
-#[test]
-fn each_rule_has_its_code(rt: HostRuntime) {
-    for &(text, code, line) in REFUSALS.iter() {
-        let error = read(rt.alloc(), text).err();
-        assert!(rt; error == Some(ScriptErr::Refused(code, line)), "{text:?}");
-    }
-}
-
-/// Texts that are no scripts, the rule that each breaks, and its line.
-static REFUSALS: [(&[u8], Code, usize); 13] = [
+/// Texts that are no scripts, the rule that each breaks as docs/CODES.md has it, and its line. The last one has a line of 201 bytes.
+static REFUSALS: [(&[u8], Code, usize); 14] = [
     (b"jump 3\n", Code::UNKNOWN_COMMAND, 1),
     (b"quit\njump", Code::UNKNOWN_COMMAND, 2),
     (b"step step\n", Code::UNKNOWN_COMMAND, 1),
@@ -51,18 +43,17 @@ static REFUSALS: [(&[u8], Code, usize); 13] = [
     (b"print\n", Code::COMMAND_NAME, 1),
     (b"print 9x\n", Code::COMMAND_NAME, 1),
     (b"print x-y\n", Code::COMMAND_NAME, 1),
+    (
+        b" step                                                                                                                                                                                                    \r\n",
+        Code::LINE_SIZE,
+        1,
+    ),
 ];
 
 #[test]
-fn a_line_has_at_most_200_bytes(rt: HostRuntime) -> Result<(), Fail> {
-    let mut text = Vec::from_slice(rt.alloc(), b"step")?;
-    for _ in 0..196 {
-        text.push(b' ')?;
+fn each_rule_has_its_code(rt: HostRuntime) {
+    for (text, code, line) in &REFUSALS {
+        let error = read(rt.alloc(), *text).err();
+        assert!(rt; error == Some(ScriptErr::Refused(*code, *line)), "{text:?}");
     }
-    text.extend_from_slice(b"\r\n")?;
-    assert!(rt; read(rt.alloc(), &text)?.len() == 1);
-    text.insert(0, b' ')?;
-    let error = read(rt.alloc(), &text).err();
-    assert!(rt; error == Some(ScriptErr::Refused(Code::LINE_SIZE, 1)));
-    Ok(())
 }

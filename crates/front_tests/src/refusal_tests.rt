@@ -251,7 +251,7 @@ static ORDER: [Row; 16] = [
     ),
 ];
 
-/// Texts over a limit of objects or functions (L03 to L07).
+/// Texts over a limit of objects or functions (L05, L06, L07).
 static LIMITS: [Row; 6] = [
     Row(b"\nint main(void){int a[1024];}", Code::FUNCTION_OBJECTS, 2),
     Row(

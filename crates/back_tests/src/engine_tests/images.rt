@@ -4,8 +4,9 @@ ghost use Rattle.std.specs.Prelude.{◌≡◌, ◌<◌, Some, IfOk};
 ghost use Rattle.image_form.specs.Form.{form};
 ghost use Rattle.back_tests.specs.Samples.{addition_form, calling_form};
 
+use debug_records::Mode;
 use image_form::{
-    AssignedPair, ElementType, FlowPair, Function, Image, Mode, Place, Storage, Variable, Verdict,
+    AssignedPair, ElementType, FlowPair, Function, Image, Place, Storage, Variable, Verdict,
     VisibleRow,
 };
 use std::alloc::{AllocError, Global};

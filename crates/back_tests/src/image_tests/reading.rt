@@ -1,9 +1,10 @@
 //! What images say, and what altered and truncated bytes are refused for.
 
 use crate::image_tests::samples::{LARGE, N, SMALL};
-use debug_records::Code;
-use image_form::{ElementType, ImageErr, Mode, Storage, Variable, read, write};
+use debug_records::{Code, Mode};
+use image_form::{ElementType, ImageErr, Storage, Variable, read, write};
 use std::alloc::{AllocError, Global};
+use std::process::Abort;
 use std::test::Fail;
 
 /// Why the bytes are no image, if they are none.
@@ -22,118 +23,78 @@ fn altered(alloc: Global, bytes: &[u8], at: usize, number: u32) -> Result<Vec<u8
     Ok(copy)
 }
 
-#[test]
-fn what_is_read_is_written_again(rt: HostRuntime) -> Result<(), Fail> {
-    for bytes in [SMALL.as_slice(), LARGE.as_slice()] {
-        let image = read(rt.alloc(), bytes)?;
-        let again = write(rt.alloc(), &image)?;
-        assert!(rt; again.as_slice() == bytes);
-    }
-    Ok(())
-}
+/// Where a number of an image is altered, the number that stands there then, the rule that it breaks, and at which byte.
+type Row = (usize, u32, Code, usize);
 
-#[test]
-fn the_small_image_says_what_it_was_made_of(rt: HostRuntime) -> Result<(), Fail> {
-    let image = read(rt.alloc(), SMALL.as_slice())?;
-    assert!(rt; image.mode == Mode::Slots);
-    assert!(rt; image.code.len() == N);
-    let positions = [23, 38, 43, 50, 63];
-    assert!(rt; image.places.len() == positions.len());
-    for (place, position) in image.places.iter().zip(positions.iter()) {
-        assert!(rt; place.position == *position);
-    }
-    let variable = Variable {
-        name_length: 1,
-        function: Some(0),
-        position: 38,
-        element: ElementType::I32,
-        storage: Storage::Slot(4),
-        count: 0,
-    };
-    assert!(rt; image.variables.as_slice() == [variable].as_slice());
-    assert!(rt; image.names.as_slice() == b"mainx".as_slice());
-    Ok(())
-}
-
-#[test]
-fn truncated_images_are_refused(rt: HostRuntime) {
-    for length in [0, 1, 63] {
-        let error = refusal(rt.alloc(), &SMALL[..length]);
-        assert!(rt; error == Some(ImageErr::Refused(Code::HEADER_SIZE, length)));
-    }
-    for length in [64, 10 * N, 4 * N + 300, 376] {
-        let error = refusal(rt.alloc(), &SMALL[..length]);
-        assert!(rt;
-            error == Some(ImageErr::Refused(Code::LENGTH, 8)),
-            "at {length}"
-        );
-    }
-}
-
-#[test]
-fn places_must_stand_in_order(rt: HostRuntime) -> Result<(), Fail> {
-    let mut bytes = SMALL.to_vec(rt.alloc())?;
-    let second = 100 + 4 * N;
-    for index in second..second + 16 {
-        bytes.swap(index, index + 16);
-    }
-    let error = refusal(rt.alloc(), &bytes);
-    assert!(rt; error == Some(ImageErr::Refused(Code::PLACES, second + 16)));
-    Ok(())
-}
-
-#[test]
-fn refusals_are_shown(rt: HostRuntime) -> Result<(), Fail> {
-    let refused = ImageErr::Refused(Code::PLACES, 144);
-    assert!(rt; refused.to_string(rt.alloc())?.as_str() == "image refused I07 offset 144");
-    Ok(())
-}
-
-#[test]
-fn each_section_is_refused_at_its_number(rt: HostRuntime) -> Result<(), Fail> {
-    for &(at, number, code) in SMALL_REFUSALS.iter() {
-        let bytes = altered(rt.alloc(), SMALL.as_slice(), at, number)?;
-        let error = refusal(rt.alloc(), &bytes);
-        assert!(rt;
-            error == Some(ImageErr::Refused(code, at)),
-            "{number} at {at}"
-        );
+/// Each altered image is refused as it should be.
+fn assert_refused(rt: &impl Abort, alloc: Global, image: &[u8], rows: &[Row]) -> Result<(), Fail> {
+    for (at, number, code, offset) in rows {
+        let bytes = altered(alloc, image, *at, *number)?;
+        let wanted = ImageErr::Refused(*code, *offset);
+        assert!(rt; refusal(alloc, &bytes) == Some(wanted), "{number} at {at}");
     }
     Ok(())
 }
 
 #[test]
 fn each_number_has_its_rule(rt: HostRuntime) -> Result<(), Fail> {
-    for &(at, number, code, offset) in LARGE_REFUSALS.iter() {
-        let bytes = altered(rt.alloc(), LARGE.as_slice(), at, number)?;
-        let error = refusal(rt.alloc(), &bytes);
-        assert!(rt;
-            error == Some(ImageErr::Refused(code, offset)),
-            "{number} at {at}"
-        );
+    assert_refused(&rt, rt.alloc(), SMALL.as_slice(), SMALL_REFUSALS.as_slice())?;
+    assert_refused(&rt, rt.alloc(), LARGE.as_slice(), LARGE_REFUSALS.as_slice())
+}
+
+/// The variable of the small image.
+static X: Variable = Variable {
+    name_length: 1,
+    function: Some(0),
+    position: 38,
+    element: ElementType::I32,
+    storage: Storage::Slot(4),
+    count: 0,
+};
+
+#[test]
+fn the_small_image_says_what_it_was_made_of(rt: HostRuntime) -> Result<(), Fail> {
+    let image = read(rt.alloc(), SMALL.as_slice())?;
+    assert!(rt; image.mode == Mode::Slots && image.code.len() == N);
+    let positions = [23, 38, 43, 50, 63];
+    assert!(rt; image.places.len() == positions.len());
+    for (place, position) in image.places.iter().zip(&positions) {
+        assert!(rt; place.position == *position, "{position}");
     }
+    assert!(rt; image.variables.as_slice() == [X].as_slice());
+    assert!(rt; image.names.as_slice() == b"mainx".as_slice());
     Ok(())
 }
 
-/// Where a number of the small image is altered, the number that stands there then, and the rule that it breaks at that byte.
-static SMALL_REFUSALS: [(usize, u32, Code); 13] = [
-    (0, 0x47424444, Code::MAGIC), // the first byte
-    (4, 9, Code::VERSION), // the version
-    (8, 378, Code::LENGTH), // one byte more
-    (12, 2, Code::HEADER_NUMBERS), // the mode
-    (60, 1, Code::HEADER_NUMBERS), // the zero
-    (64 + 4 * N, 0, Code::FUNCTIONS), // the length of the function's name
-    (76 + 4 * N, 8, Code::FUNCTIONS), // its frame size
-    (120 + 4 * N, 1, Code::PLACES), // the line of the third place
-    (164 + 4 * N, 6, Code::OWNERS), // the owner of the first word
-    (176 + 8 * N, 7, Code::VARIABLES), // the variable's type
-    (196 + 8 * N, 0, Code::PAIRS_AND_ROWS), // where the first flow pair comes from
-    (252 + 8 * N, 4, Code::PAIRS_AND_ROWS), // the verdict of the first visible row
-    (320 + 8 * N, 0x20, Code::NODES_AND_NAMES), // the last name
+#[test]
+fn what_is_read_is_written_again(rt: HostRuntime) -> Result<(), Fail> {
+    for bytes in [SMALL.as_slice(), &LARGE] {
+        let image = read(rt.alloc(), bytes)?;
+        let again = write(rt.alloc(), &image)?;
+        assert!(rt; again.as_slice() == bytes);
+    }
+    let refused = ImageErr::Refused(Code::PLACES, 144).to_string(rt.alloc())?;
+    assert!(rt; refused.as_str() == "image refused I07 offset 144");
+    Ok(())
+}
+
+static SMALL_REFUSALS: [Row; 13] = [
+    (0, 0x47424444, Code::MAGIC, 0), // the first byte
+    (4, 9, Code::VERSION, 4), // the version
+    (8, 378, Code::LENGTH, 8), // one byte more
+    (12, 2, Code::HEADER_NUMBERS, 12), // the mode
+    (60, 1, Code::HEADER_NUMBERS, 60), // the zero
+    (64 + 4 * N, 0, Code::FUNCTIONS, 64 + 4 * N), // the length of the function's name
+    (76 + 4 * N, 8, Code::FUNCTIONS, 76 + 4 * N), // its frame size
+    (120 + 4 * N, 1, Code::PLACES, 120 + 4 * N), // the line of the third place
+    (164 + 4 * N, 6, Code::OWNERS, 164 + 4 * N), // the owner of the first word
+    (176 + 8 * N, 7, Code::VARIABLES, 176 + 8 * N), // the variable's type
+    (196 + 8 * N, 0, Code::PAIRS_AND_ROWS, 196 + 8 * N), // where the first flow pair comes from
+    (252 + 8 * N, 4, Code::PAIRS_AND_ROWS, 252 + 8 * N), // the verdict of the first visible row
+    (320 + 8 * N, 0x20, Code::NODES_AND_NAMES, 320 + 8 * N), // the last name
 ];
 
-/// Where a number of the large image is altered, the number that stands there then, the rule that it breaks, and at which byte.
-static LARGE_REFUSALS: [(usize, u32, Code, usize); 65] = [
+static LARGE_REFUSALS: [Row; 65] = [
     (112, 0, Code::FUNCTIONS, 112), // name length
     (116, 65532, Code::FUNCTIONS, 116), // first address
     (136, 65548, Code::FUNCTIONS, 136), // first address

@@ -108,16 +108,6 @@ pub static NOWHERE_TO_GO: [Program; 5] = [
     },
 ];
 
-#[test]
-fn a_pc_outside_the_code_and_a_jump_to_no_multiple_of_4_fault(
-    rt: HostRuntime,
-) -> Result<(), AllocError> {
-    for program in &NOWHERE_TO_GO {
-        assert_leaves(&rt, rt.alloc(), program)?;
-    }
-    Ok(())
-}
-
 pub static STORES_OUTSIDE: [Program; 4] = [
     Program {
         shows: "faults at a store into the code",
