@@ -9,6 +9,3 @@ mod machine;
 pub use event::Event;
 pub use law::{effects_keep, endings_repeat};
 pub use machine::Machine;
-
-#[cfg(test)]
-mod tests;
