@@ -1,5 +1,5 @@
 use debug_records::{Place, Var};
-use places::{Assignment, FlowTable, Path, FlowStep, is_path, route};
+use places::{Assignment, FlowStep, FlowTable, Path, is_path, route};
 use smallvec::SmallVec;
 use std::alloc::{AllocError, Global};
 use std::test::Fail;

@@ -9,9 +9,9 @@ ghost use Rattle.graph_solve.specs.SetProblems.{every_path};
 use debug_records::Place;
 use graph_core::{Block, Comparison, End, Graph, Instr, Label, Name, NoteValue, Operand, Recipe};
 use graph_solve::{Facts, Problem, live, solve, targets_are_within};
-use word_base::Operation;
 use std::alloc::{AllocError, Global};
 use std::test::Fail;
+use word_base::Operation;
 
 /// Whether each path passed block 1, and not block 2 since then: the fact 0.
 #[derive(Drop)]
@@ -103,8 +103,8 @@ fn graph(alloc: Global, blocks: Vec<Block>) -> Graph {
         parameters: Vec::new(alloc),
         scalars: Vec::new(alloc),
         objects: Vec::new(alloc),
-        names: 4,
-        moved_from: 4,
+        name_count: 4,
+        first_moved: 4,
         blocks,
     }
 }

@@ -1,17 +1,19 @@
 //! Runs of small units.
 
-use graph_core::Unit;
+use graph_core::{Element, Unit};
 use std::alloc::Global;
 use std::process::Abort;
 use std::test::Fail;
 use unit_run::{Event, run};
 
 mod cases;
+mod elements;
 mod kept;
 mod passed;
 mod steps;
 mod tables;
 mod units;
+mod unreached;
 
 use cases::{
     ACCESSES_SHOWS, ADDRESSED_SHOWS, ASSIGNED_SHOWS, COMPARING_SHOWS, COPIED_SHOWS, Case,
@@ -20,17 +22,19 @@ use cases::{
     RECURSION_SHOWS, REMOVED_SHOWS, STORING_SHOWS, STRAIGHT_BEGINS, STRAIGHT_SHOWS,
     UNASSIGNED_SHOWS, UNKNOWN_SHOWS, WHOLE_ON_A, WHOLE_ON_B,
 };
+use elements::{ELEMENTS, ELEMENTS_SHOWS};
 use kept::are_kept;
 use passed::{
     ASSIGNED, COPIED, MOVED, REPLACED, STORING, STORING_WITHOUT_DEAD, UNASSIGNED, UNCOPIED,
     UNMOVED, WHOLE, WITHOUT_DEAD,
 };
-use steps::{OTHERS, STEP_BEGINS, WILD, unit_with};
+use steps::{BEHIND_OBJECT, BEYOND_OBJECT, OTHERS, STEP_BEGINS, WILD, unit_with};
 use tables::{Line, UnitTable, shown, unit};
 use units::{
     ACCESSES, ADDRESSED, COMPARING, DANGLING, ENDED, ENDLESS, EXITING, LOOP, NARROW_ADDRESSES,
     NARROWING, NESTED, READING, RECURSION, REMOVED, STRAIGHT, UNKNOWN,
 };
+use unreached::{KEPT, UNREACHED, UNREACHED_SHOWS, UNREACHED_WITHOUT_DEAD, unreached_in};
 
 /// What can be seen of a unit's run. The unit is valid.
 fn events(
@@ -117,6 +121,37 @@ fn runs_keep_memory(rt: HostRuntime) -> Result<(), Fail> {
     assert_run(&rt, rt.alloc(), &ENDED, &ENDED_SHOWS)?;
     assert_run(&rt, rt.alloc(), &DANGLING, &DANGLING_SHOWS)?;
     assert_run(&rt, rt.alloc(), &UNKNOWN, &UNKNOWN_SHOWS)
+}
+
+#[test]
+fn elements_are_stored_at_their_offsets(rt: HostRuntime) -> Result<(), Fail> {
+    assert_run(&rt, rt.alloc(), &ELEMENTS, &ELEMENTS_SHOWS)?;
+    let behind = unit_with(rt.alloc(), Line::Load(0, Element::Word, BEHIND_OBJECT))?;
+    assert!(rt; behind.is_valid());
+    let beyond = unit_with(rt.alloc(), Line::Load(0, Element::Word, BEYOND_OBJECT))?;
+    assert!(rt; !beyond.is_valid());
+    Ok(())
+}
+
+#[test]
+fn blocks_keep_places_of_their_function(rt: HostRuntime) -> Result<(), Fail> {
+    for (place, valid) in KEPT {
+        assert!(rt;
+            unreached_in(rt.alloc(), *place)?.is_valid() == *valid,
+            "at {place}"
+        );
+    }
+    Ok(())
+}
+
+#[test]
+fn notes_stay_where_no_path_comes(rt: HostRuntime) -> Result<(), Fail> {
+    assert_kept(
+        &rt,
+        rt.alloc(),
+        (&UNREACHED, &UNREACHED_SHOWS),
+        (&UNREACHED_WITHOUT_DEAD, &UNREACHED_SHOWS),
+    )
 }
 
 #[test]
