@@ -16,8 +16,6 @@ mod rule;
 mod starts;
 mod table;
 mod tables;
-#[cfg(test)]
-mod tests;
 mod variable_rules;
 mod variables;
 mod verdicts;

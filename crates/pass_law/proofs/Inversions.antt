@@ -1,7 +1,7 @@
 -- What stands where in the graph of a small program, and what values that are known say.
 use Rattle.std.proofs.Common.{◌≡◌, ℕ, zero, suc, ◌<◌, ◌≤◌, true, false, List, [], ◌∷◌, ◌++◌, Some, None, refl, sym, ◌∙◌, subst, arith, slice_get}
 use Rattle.std.specs.Prelude.{option_map}
-use Rattle.graph_core.specs.Graphs.{Operand, Instruction, Marker, End, Jump, Return, Block, Scalar, Graph}
+use Rattle.graph_core.specs.Graphs.{Operand, Instruction, End, Jump, Block, Scalar, Graph}
 use Rattle.graph_core.specs.declared.value.Value.TheVariants.{Odd}
 use Rattle.graph_core.specs.Paths as paths
 use Rattle.graph_core.specs.Paths.{History, Among, front, behind, Way, Path, path}

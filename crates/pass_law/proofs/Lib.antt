@@ -11,4 +11,5 @@ pub mod WorkedNot
 pub mod WorkedRemoval
 pub mod WorkedMotion
 pub mod WorkedCopy
+pub mod WorkedOthers
 pub mod WorkedRefusals

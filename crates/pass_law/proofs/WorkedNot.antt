@@ -52,7 +52,7 @@ three_is_two e = let same : ◌≡◌ {A = ℕ} 3 2 = cc in apart 2 3 (lit< tt) 
 
 -- events with that end are not related to such as have no such end
 is_two : {e : Event} → SameEvent (Exited 2) e → NotTwo e → ⊥
-is_two exited no = no refl
+is_two exited not_so = not_so refl
 
 meets : (events shown more : List Event) → Among (Exited 2) events → Pairs SameEvent events shown → AllByRecursion NotTwo (shown ++ more) → ⊥
 meets [] shown more a p all = elim a [ ]

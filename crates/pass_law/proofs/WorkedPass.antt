@@ -1,12 +1,12 @@
 -- The unit of a small program without its assignment keeps what the unit with it does, and the change is earned.
-use Rattle.std.proofs.Common.{◌≡◌, ℕ, zero, suc, List, [], ◌∷◌, Some, refl, take, drop}
+use Rattle.std.proofs.Common.{ℕ, zero, suc, List, [], ◌∷◌, refl, take, drop}
 use Rattle.debug_records.specs.declared.change.PassName.{PassName}
 use Rattle.event_runs.specs.Following.{Reached}
 use Rattle.graph_homes.specs.declared.home.Home.{Home}
 use Rattle.graph_core.specs.Graphs.{Instruction, End}
 use Rattle.graph_core.specs.Points.{ReadsNext}
 use Rattle.graph_core.specs.Paths.{History, front}
-use Rattle.graph_core.specs.Runs.{Frame, unit_run}
+use Rattle.graph_core.specs.Runs.{unit_run}
 use Rattle.pass_law.specs.Keeps as keeps
 use Rattle.pass_law.specs.Keeps.{SameFrame, SameEvent, stop, exited, SameProgram, Keeps}
 use Rattle.pass_law.specs.Earned.{IsRemoved, IsEarned}

@@ -1,5 +1,5 @@
--- A sum that is computed on a way that did not compute it before was not moved; and a register that x shares with the temporary of its moved sum alone was not given to another
--- name.
+-- A sum that is computed on a way that did not compute it before was not moved; and a register that x has alone, or shares with the temporary of its moved sum alone, was not given
+-- to another name.
 use Rattle.std.proofs.Common.{◌≡◌, ◌≢◌, ℕ, zero, suc, ◌<◌, ◌⊎◌, inl, inr, true, List, [], ◌∷◌, ◌++◌, Some, None, refl, sym, subst, slice_get, arith, ◌∙◌, lit≤, lit<}
 use Rattle.debug_records.specs.declared.change.PassName.{PassName}
 use Rattle.word_base.specs.declared.operation.Operation.TheVariants.{Add}
@@ -11,9 +11,12 @@ use Rattle.graph_core.specs.Paths as paths
 use Rattle.graph_core.specs.Paths.{Passed, History, front, stays, passes, goes, writes}
 use Rattle.graph_core.specs.WellMarked as marked
 use Rattle.graph_core.specs.WellMarked.{StandsIn, here}
-use Rattle.pass_law.specs.Earned.{Computation, computed_by, WasComputed, latest, earlier, IsDownSafe, LiesAt, in_block, on_edge, IsMoved, IsTemporaryOf}
+use Rattle.graph_core.specs.Computations.{Computation, computed_by}
+use Rattle.graph_homes.specs.Reused.{IsTemporaryOf}
+use Rattle.pass_law.specs.Earned.{WasComputed, latest, earlier, IsDownSafe, LiesAt, in_block, on_edge, IsMoved}
 use Rattle.pass_law.specs.WorkedChanges.{adding_on_one_way, adds_at_condition, copies_in_three, adding_on_each_way, assigning_twice, motion, apart_from_others, AreNotBorneOut}
 use Rattle.pass_law.proofs.Inversions.{some_same, none_is_some, apart}
+use Rattle.pass_law.proofs.WorkedOthers.{not_removed, not_another, not_replaced}
 
 -- What stands in which place behind the pass.
 data IsIn : ℕ → Instruction → Type 0 where
@@ -106,8 +109,16 @@ shares pass register (suc (suc (suc zero))) named other kept shared foreign =
     foreign (record { change = motion pass; logged = front; moved = refl; of = refl; copied = refl; temporary = lit≤ tt })
 shares pass register (suc (suc (suc (suc y)))) named other kept shared foreign = absurd (omega (arith, named))
 
+-- x has its register alone
+has_own : (register y : ℕ) → y ≢ 0 → Register 0 ≡ Register register → Register y ≡ Register register → ⊥
+has_own register y other kept shared = other cc
+
 pub are_not_borne_out : AreNotBorneOut
 are_not_borne_out = record {
+  removed = not_removed;
+  another = not_another;
   moved = not_moved;
+  replaced = not_replaced;
+  own = λ r. has_own r.register r.y r.other r.kept r.shared;
   reused = λ pass r. shares pass r.register r.y r.named r.other r.kept r.shared r.foreign;
 }

@@ -7,7 +7,7 @@ use Rattle.graph_core.specs.Paths.{Among, History, Way, stays, passes, goes, Pat
 use Rattle.graph_core.specs.Points.{ReadsNext}
 use Rattle.pass_law.specs.Earned.{IsRemoved}
 use Rattle.pass_law.specs.WorkedChanges.{notes_y_in, prints_x, assigning_again, noting_again}
-use Rattle.pass_law.proofs.Inversions.{some_same, none_is_some, among_one, among_none, apart, to_block}
+use Rattle.pass_law.proofs.Inversions.{some_same, among_one, among_none, apart, to_block}
 
 abbrev note : Instruction
 note = Note 0 (Is (Of (Name 1)))

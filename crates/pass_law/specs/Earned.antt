@@ -4,7 +4,7 @@ use Rattle.debug_records.specs.declared.change.Kind as declared-kind
 use Rattle.debug_records.specs.declared.change.Kind.TheVariants.{Removed, Moved, Reused, Replaced}
 use Rattle.graph_homes.specs.declared.home.Home.{Home}
 use Rattle.graph_homes.specs.Reused.{IsReused}
-use Rattle.graph_core.specs.Graphs.{Operand, Name, NoteValue, Instruction, Note, Move, End, Jump, Return, Block, Graph, Logged, UnitForm}
+use Rattle.graph_core.specs.Graphs.{Name, NoteValue, Instruction, Note, Move, End, Jump, Return, Block, Graph, Logged, UnitForm}
 use Rattle.graph_core.specs.Uses.{target_of, marker_of}
 use Rattle.graph_core.specs.Paths.{Passed, History, Among, Way, Path, place_of, writes}
 use Rattle.graph_core.specs.WellMarked.{InPlace, IsVariable}

@@ -4,4 +4,3 @@ pub mod Relations
 pub mod Trails
 pub mod Worked
 pub mod WorkedChanges
-pub mod Examples

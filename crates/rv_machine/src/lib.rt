@@ -10,6 +10,3 @@ mod machine;
 pub use event::Event;
 pub use law::{effects_keep, endings_repeat};
 pub use machine::Machine;
-
-#[cfg(test)]
-mod tests;

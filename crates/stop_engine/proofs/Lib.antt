@@ -1,10 +1,8 @@
-mod AdditionImage
 mod Answering
 mod Followers
 mod Called
 mod MarkBounds
 mod MarkLaws
-mod CallingImage
 mod NameBounds
 mod NameStartLaws
 mod Slots

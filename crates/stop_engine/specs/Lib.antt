@@ -8,7 +8,6 @@ pub mod Halting
 pub mod Standing
 pub mod StopTable
 pub mod EngineState
-pub mod Samples
 pub mod Frames
 pub mod Rows
 pub mod Shown

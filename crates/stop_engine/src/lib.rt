@@ -19,8 +19,6 @@ mod shown;
 mod stop_table;
 mod stops;
 mod tables;
-#[cfg(test)]
-mod tests;
 mod values;
 mod variable_lists;
 mod views;
