@@ -1,13 +1,18 @@
 -- Lists of the variables of functions are made from the last variable to the first, and followed from the first one on.
-use Rattle.std.proofs.Common.{◌≡◌, ◌≢◌, ℕ, zero, suc, ◌+◌, ◌<◌, ◌≤◌, ◌==◌, Bool, true, false, Option, Some, None, List, [], ◌∷◌, length, take, drop, get_or, refl, sym, ap, ◌∙◌, inl, inr, ◌⊎◌, arith, All}
-use Rattle.std.specs.Prelude.{slice_index, slice_index_or, slice_set}
+use Rattle.std.proofs.Common.{◌≡◌, ◌≢◌, ℕ, zero, suc, ◌+◌, ◌<◌, ◌≤◌, ◌==◌, Bool, true, false, Option, Some, None, List, [], ◌∷◌, length, take, drop, get_or, refl, sym, ap, ◌∙◌, subst, inl, inr, ◌⊎◌, arith, All}
+use Rattle.std.specs.Prelude.{IfSome, slice_index, slice_index_or, slice_set}
 use Rattle.std.specs.Option.{option_map_or}
 use Rattle.std.proofs.lemmas.Bool.{cases_Bool, eqb-true, eqb-false, eq-eqb, ne_eqb, true≢false}
 use Rattle.std.proofs.lemmas.List.{drop-drop, drop_all, drop_more, get_or_default, get_or-set_same, get_or-set_other, length-set}
-use Rattle.std.proofs.lemmas.Option.{same_Some}
+use Rattle.std.proofs.lemmas.Option.{same_Some, slice_get-get_or}
+use Rattle.image_form.specs.Form.{Form}
+use Rattle.image_form.specs.Rules.{IsImage}
+use Rattle.image_form.specs.RulesOfVariables.{IsKept, IsVariable}
 use Rattle.image_form.specs.declared.variables.Storage.{Storage}
 use Rattle.image_form.specs.declared.variables.Storage.TheVariants.{Static, Frame, Register, Slot}
 use Rattle.image_form.specs.declared.variables.Variable.{Variable}
+use Rattle.image_form.proofs.RecordsBack.{kept_there}
+use Rattle.image_form.proofs.TableLaws.{each_at}
 use Rattle.stop_view.specs.declared.target.Target.{Target}
 use Rattle.stop_view.specs.declared.target.Target.TheVariants.{Local}
 use Rattle.stop_view.specs.Pointers.{is_of, literals, local_offset, local_target, offset_within, static_offset, static_start, static_target, static_target_of}
@@ -71,7 +76,9 @@ local-skip address f frame deep n (v ∷ vs) whole e = by_test (is_of f v) refl 
     by_test : (b : Bool) → is_of f v ≡ b
         → local_target address f frame deep (n + 1) vs ≡ local_target address f frame deep (next_of f (n + 1) vs) (drop (next_of f (n + 1) vs) whole)
         → local_target address f frame deep n (v ∷ vs) ≡ local_target address f frame deep (next_of f n (v ∷ vs)) (drop (next_of f n (v ∷ vs)) whole)
-    by_test true t rest = rw t (ap (local_target address f frame deep n) e)
+    by_test true t rest =
+        let here : next_of f n (v ∷ vs) ≡ n = rw t refl in
+        subst (λ k. local_target address f frame deep n (v ∷ vs) ≡ local_target address f frame deep k (drop k whole)) (sym here) (ap (local_target address f frame deep n) e)
     by_test false t rest = rw t rest
 
 -- the object is the variable at which one stands
@@ -92,10 +99,10 @@ local-end address f frame deep i vs past = rw (drop_all i vs past) refl
 -- ---- Linking
 
 -- The variables from one on are linked.
-pub record AreLinked (vs : List Variable) (left : ℕ) (first next : List ℕ) : Type 0 where
-  pub rows : length next ≡ length vs
-  pub first : (f : ℕ) → f < length first → slice_index first f ≡ next_of f left (drop left vs)
-  pub next : (i f : ℕ) (d : Variable) → left ≤ i → i < length vs → (slice_index_or vs i d).function ≡ Some f → slice_index next i ≡ next_of f (i + 1) (drop (i + 1) vs)
+pub record AreLinked (vs : List Variable) (left : ℕ) (firsts nexts : List ℕ) : Type 0 where
+  pub rows : length nexts ≡ length vs
+  pub first : (f : ℕ) → f < length firsts → slice_index firsts f ≡ next_of f left (drop left vs)
+  pub next : (i f : ℕ) (d : Variable) → left ≤ i → i < length vs → (slice_index_or vs i d).function ≡ Some f → slice_index nexts i ≡ next_of f (i + 1) (drop (i + 1) vs)
 
 next-here : (f i : ℕ) (d : Variable) (vs : List Variable) → i < length vs → (slice_index_or vs i d).function ≡ Some f → next_of f i (drop i vs) ≡ i
 next-here f i d vs lt own =
@@ -158,6 +165,17 @@ linked-more vs left g d first next so_far lt own known = record {
     by_index i f e le within owner (inr other) =
         let apart : i ≢ left = eqb-false i left other in
         get_or-set_other next left i (slice_index first g) 0 apart ∙ so_far.next i f e (omega (arith, le, apart)) within owner
+
+-- the functions of variables are there
+pub owners-there : (m : Form) (n : ℕ) → IsImage m → n ≡ length m.functions → All (λ (v : Variable). IfSome v.function (λ f. f < n)) m.variables
+owners-there m n image same k d lt =
+    let v = get_or m.variables k d in
+    let its = each_at (IsVariable m) m.variables k v image.variables.each (slice_get-get_or m.variables k d lt) in
+    by_owner v.function v.storage its.kept
+  where
+    by_owner : (owner : Option ℕ) (storage : Storage) → IsKept m owner storage → IfSome owner (λ f. f < n)
+    by_owner None storage kept = tt
+    by_owner (Some g) storage kept = rw same (kept_there m g storage kept)
 
 -- ---- The static ones
 

@@ -5,7 +5,7 @@ ghost use Rattle.image_form.specs.Form.{form};
 ghost use Rattle.image_form.specs.Names.{function_name};
 ghost use Rattle.image_form.specs.Lists.{EachToNext};
 ghost use Rattle.image_form.specs.declared.tables.FlowPair.{FlowPair};
-ghost use Rattle.image_form.specs.declared.tables.Place.{Place};
+ghost use Rattle.image_form.specs.declared.tables.Place.{Place as SourcePlace};
 ghost use Rattle.image_form.specs.Rules.{IsImage};
 ghost use Rattle.image_form.specs.RulesOfChanges.{IsPairBefore};
 ghost use Rattle.script_form.specs.Script.{mark};
@@ -31,8 +31,8 @@ fn is_stop_on(table: &StopTable, line: u32, place: &image_form::Place) -> bool
 /// The index of the first place that is on no earlier line.
 fn first_on(places: &[image_form::Place], line: u32) -> usize
     requires { EachToNext (λ p q. p.line ≤ q.line) places.now }
-    ensures before { (k : ℕ) (d : Place) → k < result → k < length places.now → (slice_index_or places.now k d).line < line }
-    ensures behind { (k : ℕ) (d : Place) → result ≤ k → k < length places.now → line ≤ (slice_index_or places.now k d).line }
+    ensures before { (k : ℕ) (d : SourcePlace) → k < result → k < length places.now → (slice_index_or places.now k d).line < line }
+    ensures behind { (k : ℕ) (d : SourcePlace) → result ≤ k → k < length places.now → line ≤ (slice_index_or places.now k d).line }
 {
     places.partition_point(|place| place.line < line)
 }

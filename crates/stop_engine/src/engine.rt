@@ -147,7 +147,12 @@ impl<'a> Engine<'a> {
         match command {
             Command::Break(target) => self.set_marks(alloc, target),
             Command::Step => run_lines(alloc, &mut self.run, &self.tables, &Stops::Any),
-            Command::Continue => run_lines(alloc, &mut self.run, &self.tables, &Stops::At(&self.marks)),
+            Command::Continue => run_lines(
+                alloc,
+                &mut self.run,
+                &self.tables,
+                &Stops::At(&self.marks),
+            ),
             Command::Print(name) => self.print(alloc, name),
             Command::Locals => self.locals_lines(alloc),
             Command::Where => self.where_lines(alloc),

@@ -70,7 +70,10 @@ pub fn recipe_value(image: &Image, machine: &Machine, levels: usize, root: u32) 
                 truncation,
                 operand,
             },
-        ) => truncate(*truncation, recipe_value(image, machine, levels - 1, *operand)),
+        ) => truncate(
+            *truncation,
+            recipe_value(image, machine, levels - 1, *operand),
+        ),
         Some(
             Node::Operated {
                 operation,

@@ -22,16 +22,16 @@ use crate::values::{variable_text, word_text};
 use debug_records::{Place, Var};
 use image_form::{AssignedPair, FlowPair, Image, Verdict, VisibleRow};
 use line_form::change_text;
-use places::{Assignment, FlowTable, Path, Step, route};
+use places::{Assignment, FlowStep, FlowTable, Path, route};
 use rv_machine::Machine;
 use std::alloc::{AllocError, Global};
 
 /// The steps of an image.
-fn flow_steps(alloc: Global, flow: &[FlowPair]) -> Result<Vec<Step>, AllocError>
+fn flow_steps(alloc: Global, flow: &[FlowPair]) -> Result<Vec<FlowStep>, AllocError>
     ensures { IfOk result (λ steps. steps.items ≡ map step_of flow.now) }
 {
     flow.iter()
-        .map(|pair| Step {
+        .map(|pair| FlowStep {
             from: Place(pair.from),
             to: Place(pair.to),
         })
@@ -220,7 +220,7 @@ pub struct Witness {
 }
 
 /// Why a variable is not shown.
-fn witness(
+fn tell(
     alloc: Global,
     image: &Image,
     tables: &Tables,
@@ -253,7 +253,14 @@ pub fn row_shown(
 {
     match row.verdict {
         Verdict::Home => {
-            let value = held_text(alloc, image, machine, tables, row.place, row.variable as usize)?;
+            let value = held_text(
+                alloc,
+                image,
+                machine,
+                tables,
+                row.place,
+                row.variable as usize,
+            )?;
             Ok(Shown::Value(value))
         }
         Verdict::Recovered { change, node } => {
@@ -265,7 +272,7 @@ pub fn row_shown(
             writer,
         } => {
             let evidence = evidence_of(row, change, start, writer);
-            let Witness { change, path } = witness(alloc, image, tables, evidence)?;
+            let Witness { change, path } = tell(alloc, image, tables, evidence)?;
             Ok(Shown::Noncurrent { change, path })
         }
         Verdict::Nonresident {
@@ -274,7 +281,7 @@ pub fn row_shown(
             writer,
         } => {
             let evidence = evidence_of(row, change, start, writer);
-            let Witness { change, path } = witness(alloc, image, tables, evidence)?;
+            let Witness { change, path } = tell(alloc, image, tables, evidence)?;
             Ok(Shown::Nonresident { change, path })
         }
     }

@@ -147,7 +147,9 @@ fn memory_text(
         return Ok(word_text(alloc, image, machine, tables, place, element, word)?);
     }
     let count = variable.count.min(most_elements());
-    let texts = element_texts(alloc, image, machine, tables, place, element, count, address)?;
+    let texts = element_texts(
+        alloc, image, machine, tables, place, element, count, address,
+    )?;
     Ok(array_text(alloc, &texts, most_elements() < variable.count)?)
 }
 

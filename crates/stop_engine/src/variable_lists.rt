@@ -25,11 +25,12 @@ pub fn variable_lists(alloc: Global, image: &Image) -> Result<VariableLists, All
     requires { IsImage (form image.now) }
     ensures { IfOk result (AreListsOf (form image.now)) }
 {
-    let count = image.variables.len();
-    let mut first = vec![in alloc; count as u32; image.functions.len()]?;
-    let mut next = vec![in alloc; count as u32; count]?;
-    link(&image.variables, &mut first, &mut next);
-    let statics = statics_end(&image.variables);
+    let variables = image.variables.as_slice();
+    let none = variables.len() as u32;
+    let mut first = vec![in alloc; none; image.functions.len()]?;
+    let mut next = vec![in alloc; none; variables.len()]?;
+    link(variables, &mut first, &mut next);
+    let statics = statics_end(variables);
     Ok(VariableLists {
         first,
         next,
