@@ -100,7 +100,8 @@ fn exits_of(statement: &TypedStatement) -> Exits
     }
 }
 
-fn has_default(all: &TypedStatements) -> bool
+/// Whether the block of a `switch` has a `default`.
+pub fn has_default(all: &TypedStatements) -> bool
     ensures { result ≡ has_default (statements_view all.now) }
 {
     let mut left = all;
