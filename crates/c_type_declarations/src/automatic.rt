@@ -116,7 +116,7 @@ pub fn declaration(
 {
     let mut all = Vec::new(alloc);
     for declarator in &declaration.declarators {
-        let one = given!(automatic(alloc, progress, declaration.integer_type, declarator));
+        let one = automatic(alloc, progress, declaration.integer_type, declarator)?;
         all.push(one)?;
     }
     Ok(all)

@@ -127,8 +127,8 @@ fn fills(
 {
     let mut contents = nothing(alloc);
     for one in initializers {
-        let value = given!(scalar(alloc, progress, element, extent, one));
-        given!(fill(progress, &mut contents, element, extent, value));
+        let value = scalar(alloc, progress, element, extent, one)?;
+        fill(progress, &mut contents, element, extent, value)?;
     }
     Ok(contents)
 }
@@ -160,12 +160,12 @@ fn list(
 {
     match initializer {
         Initializer::List(initializers) => {
-            given!(within_count(progress, initializers.len(), size, extent));
-            let made = given!(fills(alloc, progress, element, extent, initializers));
+            within_count(progress, initializers.len(), size, extent)?;
+            let made = fills(alloc, progress, element, extent, initializers)?;
             Ok(made)
         }
         Initializer::Expression(e) => {
-            given!(misfit(alloc, progress, extent, e));
+            misfit(alloc, progress, extent, e)?;
             Ok(nothing(alloc))
         }
     }

@@ -159,8 +159,8 @@ fn elements(
 {
     let mut values = Vec::new(alloc);
     for one in initializers {
-        let value = given!(scalar(alloc, progress, of, extent, one));
-        let tree = given!(tree_of(alloc, value));
+        let value = scalar(alloc, progress, of, extent, one)?;
+        let tree = tree_of(alloc, value)?;
         values.push(Box::into_inner(tree))?;
     }
     Ok(values)
@@ -228,12 +228,12 @@ fn list(
 {
     match initializer {
         Initializer::List(initializers) => {
-            given!(within_count(progress, initializers.len(), size, extent));
-            let values = given!(elements(alloc, progress, element, extent, initializers));
+            within_count(progress, initializers.len(), size, extent)?;
+            let values = elements(alloc, progress, element, extent, initializers)?;
             Ok(Initial::Elements(values))
         }
         Initializer::Expression(e) => {
-            given!(misfit(alloc, progress, extent, e));
+            misfit(alloc, progress, extent, e)?;
             Ok(Initial::Zero)
         }
     }

@@ -11,7 +11,7 @@ ghost use Rattle.c_type_values.specs.Values.{value_view};
 
 use crate::progress::Progress;
 use c_tree::{
-    Brackets, Declarator, Expression, Extent, Initializer, IntegerType, ObjectType, Scalar,
+    Brackets, Core, Declarator, Expression, Extent, Initializer, IntegerType, ObjectType, Scalar,
 };
 use c_type_expressions::count_of;
 use c_type_rules::same_integer;
@@ -39,38 +39,12 @@ pub fn is_char(of: Scalar) -> bool
 pub fn literal_in(e: &Expression) -> Option<Written<'_>>
     ensures { option_map (λ w. (w.spot, w.bytes.now)) result ≡ literal_in (expression_view e.now) }
 {
-    match e {
-        Expression::Literal { extent, bytes } => Some(Written {
+    match e.core() {
+        Core::Literal { extent, bytes } => Some(Written {
             spot: extent.first,
             bytes,
         }),
-        Expression::Parenthesized { inner, .. } => literal_in(inner),
-        Expression::Postfix { operand, suffixes } => {
-            if suffixes.is_empty() {
-                return literal_in(operand);
-            }
-            None
-        }
-        Expression::Binary { first, operations } => {
-            if operations.is_empty() {
-                return literal_in(first);
-            }
-            None
-        }
-        Expression::Comma { first, rest } => {
-            if rest.is_empty() {
-                return literal_in(first);
-            }
-            None
-        }
-        Expression::Name(_)
-        | Expression::Constant { .. }
-        | Expression::Prefix { .. }
-        | Expression::Cast { .. }
-        | Expression::SizeofExpression { .. }
-        | Expression::SizeofType { .. }
-        | Expression::Conditional { .. }
-        | Expression::Assignment { .. } => None,
+        Core::Name(_) | Core::Constant { .. } | Core::Compound => None,
     }
 }
 

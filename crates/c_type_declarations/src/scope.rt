@@ -59,7 +59,7 @@ pub fn declare(
 {
     let name = String::from_str(alloc, name)?;
     let mut scope = take_innermost(alloc, &mut names.scopes);
-    given!(give(&mut scope, name, meaning));
+    give(&mut scope, name, meaning)?;
     names.scopes.push(scope)?;
     Ok(())
 }

@@ -2,10 +2,10 @@
 
 ghost use Rattle.std.specs.Prelude.{◌≡◌, IfOk, OnOk, Some, length, map};
 ghost use Rattle.std.specs.Option.{option_map};
+ghost use Rattle.debug_records.specs.declared.code.TheConstants.Code.{OPERAND_TYPES};
 ghost use Rattle.c_type_values.specs.Values.{IsValue, as_value, meant_view, value_view};
 ghost use Rattle.c_type_values.specs.Operations.{combined, conditional, operation_of, sequenced, signed_value};
 ghost use Rattle.c_type_values.specs.Pointers.{element_of};
-ghost use Rattle.c_type_expressions.specs.Codes.{E11, E22};
 ghost use Rattle.c_type_expressions.specs.Findings.{FoundTree, findings_view, gives, judged, with_one, with_three, with_two};
 ghost use Rattle.c_type_expressions.specs.Judgements.{address_of, arithmetic_of, assignable, assigning, assignment_by, cast, cast_from, cast_to, count_of, literal_met, measured, named, number_of, prefixed, size_of, size_value, sized, stepping, updating, writing};
 
@@ -215,7 +215,7 @@ fn signing(
     first: Spot,
     last: u32,
 ) -> Result<Option<Meant>, AllocError>
-    ensures { IfOk result (λ m. gives (option_map meant_view m) (findings_view found.new) ≡ judged (option_map IsValue (signed_value sign (as_value (meant_view meant)))) E22 first last (findings_view found.old)) }
+    ensures { IfOk result (λ m. gives (option_map meant_view m) (findings_view found.new) ≡ judged (option_map IsValue (signed_value sign (as_value (meant_view meant)))) OPERAND_TYPES first last (findings_view found.old)) }
 {
     let value = given!(as_value(alloc, meant));
     let made = given!(signed_value(alloc, sign, value));
@@ -435,7 +435,7 @@ pub fn indexed(
     first: Spot,
     last: u32,
 ) -> Result<Option<Meant>, AllocError>
-    ensures { IfOk result (λ m. gives (option_map meant_view m) (findings_view found.new) ≡ with_two (option_map value_view left) (option_map value_view right) (λ v w. judged (element_of v w) E22 first last) (findings_view found.old)) }
+    ensures { IfOk result (λ m. gives (option_map meant_view m) (findings_view found.new) ≡ with_two (option_map value_view left) (option_map value_view right) (λ v w. judged (element_of v w) OPERAND_TYPES first last) (findings_view found.old)) }
 {
     match (left, right) {
         (Some(left), Some(right)) => {
@@ -458,7 +458,7 @@ pub fn operated(
     first: Spot,
     last: u32,
 ) -> Result<Option<Meant>, AllocError>
-    ensures { IfOk result (λ m. gives (option_map meant_view m) (findings_view found.new) ≡ with_two (option_map value_view left) (option_map value_view right) (λ v w. judged (option_map IsValue (combined (operation_of operator) v w left_zero right_zero)) E22 first last) (findings_view found.old)) }
+    ensures { IfOk result (λ m. gives (option_map meant_view m) (findings_view found.new) ≡ with_two (option_map value_view left) (option_map value_view right) (λ v w. judged (option_map IsValue (combined (operation_of operator) v w left_zero right_zero)) OPERAND_TYPES first last) (findings_view found.old)) }
 {
     match (left, right) {
         (Some(left), Some(right)) => {
@@ -498,7 +498,7 @@ pub fn chosen(
     first: Spot,
     last: u32,
 ) -> Result<Option<Meant>, AllocError>
-    ensures { IfOk result (λ m. gives (option_map meant_view m) (findings_view found.new) ≡ with_three (option_map value_view condition) (option_map value_view then) (option_map value_view otherwise) (λ v w r. judged (option_map IsValue (conditional v w r then_zero other_zero)) E22 first last) (findings_view found.old)) }
+    ensures { IfOk result (λ m. gives (option_map meant_view m) (findings_view found.new) ≡ with_three (option_map value_view condition) (option_map value_view then) (option_map value_view otherwise) (λ v w r. judged (option_map IsValue (conditional v w r then_zero other_zero)) OPERAND_TYPES first last) (findings_view found.old)) }
 {
     match (condition, then, otherwise) {
         (Some(condition), Some(then), Some(otherwise)) => {

@@ -69,7 +69,7 @@ pub fn all_labels(
     ensures { OnOk result (means (so_far parts.new.items known.new) (progress_view progress.new) ≡ next_met (labels_met kind (map label_view all.now) (labels_view known.old) (progress_view progress.old)) (behind (map part_view parts.old.items))) }
 {
     for label in all {
-        given!(labeled(alloc, progress, kind, known, parts, label));
+        labeled(alloc, progress, kind, known, parts, label)?;
     }
     Ok(())
 }

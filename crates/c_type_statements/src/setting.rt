@@ -69,7 +69,11 @@ pub fn unless(
 }
 
 /// What an expression computes that is a statement or a part of a `for`.
-pub fn run(alloc: Global, progress: &mut Progress, e: &Expression) -> Result<Box<Rvalue>, AllocError>
+pub fn run(
+    alloc: Global,
+    progress: &mut Progress,
+    e: &Expression,
+) -> Result<Box<Rvalue>, AllocError>
     ensures { IfOk result (λ r. means (node_view r) (progress_view progress.new) ≡ run_met (expression_view e.now) (progress_view progress.old)) }
 {
     let value = given!(progress.value(alloc, e));

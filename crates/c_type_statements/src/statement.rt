@@ -24,7 +24,7 @@ use c_tree::{
     TypedStatements,
 };
 use c_type_declarations::{Progress, declaration};
-use c_type_values::{given, node};
+use c_type_values::node;
 use debug_records::{Code, Spot};
 use std::alloc::{AllocError, Global};
 
@@ -40,25 +40,25 @@ pub fn statement(
 {
     match s {
         Statement::Block(block) => {
-            let body = given!(block_in_scope(alloc, progress, setting, &block.statements));
-            let body = given!(node(alloc, body));
-            let made = given!(node(alloc, TypedStatement::Block(body)));
+            let all = block_in_scope(alloc, progress, setting, &block.statements)?;
+            let body = node(alloc, all)?;
+            let made = node(alloc, TypedStatement::Block(body))?;
             Ok(made)
         }
         Statement::Declaration(d) => {
-            let all = given!(declaration(alloc, progress, d));
-            let made = given!(node(alloc, TypedStatement::Declaration(all)));
+            let all = declaration(alloc, progress, d)?;
+            let made = node(alloc, TypedStatement::Declaration(all))?;
             Ok(made)
         }
         Statement::Empty(spot) => {
-            let made = given!(node(alloc, TypedStatement::Empty(*spot)));
+            let made = node(alloc, TypedStatement::Empty(*spot))?;
             Ok(made)
         }
         Statement::Expression { value, .. } => {
             let spot = value.first();
-            let value = given!(run(alloc, progress, value));
-            let value = Box::into_inner(value);
-            let made = given!(node(alloc, TypedStatement::Expression { spot, value }));
+            let tree = run(alloc, progress, value)?;
+            let value = Box::into_inner(tree);
+            let made = node(alloc, TypedStatement::Expression { spot, value })?;
             Ok(made)
         }
         Statement::If {
@@ -67,9 +67,9 @@ pub fn statement(
             otherwise,
         } => {
             let last = last_of_statement(s);
-            let chosen = given!(branch(alloc, progress, setting, last, first));
-            let built = given!(branches(alloc, progress, setting, last, others));
-            let other = given!(last_else(alloc, progress, setting, otherwise));
+            let chosen = branch(alloc, progress, setting, last, first)?;
+            let built = branches(alloc, progress, setting, last, others)?;
+            let other = last_else(alloc, progress, setting, otherwise)?;
             nested(alloc, chosen, built, other)
         }
         Statement::While {
@@ -81,13 +81,16 @@ pub fn statement(
                 first: *spot,
                 last: last_of_statement(body),
             };
-            let tree = given!(condition(alloc, progress, extent, e));
-            let body = given!(statement(alloc, progress, setting.in_loop(), body));
-            let made = given!(node(alloc, TypedStatement::While {
-                spot: e.first(),
-                condition: Box::into_inner(tree),
-                body,
-            }));
+            let tree = condition(alloc, progress, extent, e)?;
+            let body = statement(alloc, progress, setting.in_loop(), body)?;
+            let made = node(
+                alloc,
+                TypedStatement::While {
+                    spot: e.first(),
+                    condition: Box::into_inner(tree),
+                    body,
+                }
+            )?;
             Ok(made)
         }
         Statement::DoWhile {
@@ -95,13 +98,16 @@ pub fn statement(
             body,
             condition: e,
         } => {
-            let body = given!(statement(alloc, progress, setting.in_loop(), body));
-            let tree = given!(condition(alloc, progress, *extent, e));
-            let made = given!(node(alloc, TypedStatement::DoWhile {
-                body,
-                spot: e.first(),
-                condition: Box::into_inner(tree),
-            }));
+            let body = statement(alloc, progress, setting.in_loop(), body)?;
+            let tree = condition(alloc, progress, *extent, e)?;
+            let made = node(
+                alloc,
+                TypedStatement::DoWhile {
+                    body,
+                    spot: e.first(),
+                    condition: Box::into_inner(tree),
+                }
+            )?;
             Ok(made)
         }
         Statement::For {
@@ -111,10 +117,10 @@ pub fn statement(
             step,
             body,
         } => {
-            given!(progress.open(alloc));
-            let made = given!(for_loop(
+            progress.open(alloc)?;
+            let made = for_loop(
                 alloc, progress, setting, *spot, start, condition, step, body,
-            ));
+            )?;
             progress.close();
             Ok(made)
         }
@@ -125,30 +131,33 @@ pub fn statement(
             labels,
             statement: s,
         } => {
-            given!(misplaced(alloc, progress, labels));
+            misplaced(alloc, progress, labels)?;
             statement(alloc, progress, setting, s)
         }
         Statement::Break(extent) => {
-            given!(unless(progress, setting.may_break, Code::MISPLACED_JUMP, *extent));
-            let made = given!(node(alloc, TypedStatement::Break(extent.first)));
+            unless(progress, setting.may_break, Code::MISPLACED_JUMP, *extent)?;
+            let made = node(alloc, TypedStatement::Break(extent.first))?;
             Ok(made)
         }
         Statement::Continue(extent) => {
-            given!(unless(
+            unless(
                 progress,
                 setting.may_continue,
                 Code::MISPLACED_JUMP,
                 *extent,
-            ));
-            let made = given!(node(alloc, TypedStatement::Continue(extent.first)));
+            )?;
+            let made = node(alloc, TypedStatement::Continue(extent.first))?;
             Ok(made)
         }
         Statement::Return { extent, value } => {
-            let value = given!(return_value(alloc, progress, setting.result, *extent, value));
-            let made = given!(node(alloc, TypedStatement::Return {
-                spot: extent.first,
-                value: unboxed(value),
-            }));
+            let value = return_value(alloc, progress, setting.result, *extent, value)?;
+            let made = node(
+                alloc,
+                TypedStatement::Return {
+                    spot: extent.first,
+                    value: unboxed(value),
+                }
+            )?;
             Ok(made)
         }
     }
@@ -166,7 +175,7 @@ pub fn statements(
 {
     let mut parts = Vec::new(alloc);
     for one in all {
-        let made = given!(statement(alloc, progress, setting, one));
+        let made = statement(alloc, progress, setting, one)?;
         parts.push(Part::Statement(made))?;
     }
     arranged(alloc, parts)
@@ -182,8 +191,8 @@ fn block_in_scope(
 ) -> Result<TypedStatements, AllocError>
     ensures { IfOk result (λ t. means (typed_tree.statements_view t) (progress_view progress.new) ≡ in_scope (statements_met setting (chain (map statement_view all.now))) (progress_view progress.old)) }
 {
-    given!(progress.open(alloc));
-    let made = given!(statements(alloc, progress, setting, all));
+    progress.open(alloc)?;
+    let made = statements(alloc, progress, setting, all)?;
     progress.close();
     Ok(made)
 }
@@ -203,8 +212,8 @@ fn branch(
         first: branch.spot,
         last,
     };
-    let tree = given!(condition(alloc, progress, extent, &branch.condition));
-    let then = given!(statement(alloc, progress, setting, &branch.then));
+    let tree = condition(alloc, progress, extent, &branch.condition)?;
+    let then = statement(alloc, progress, setting, &branch.then)?;
     Ok(Built {
         spot: branch.condition.first(),
         condition: tree,
@@ -225,7 +234,7 @@ fn branches(
 {
     let mut built = Vec::new(alloc);
     for one in all {
-        let made = given!(branch(alloc, progress, setting, last, one));
+        let made = branch(alloc, progress, setting, last, one)?;
         built.push(made)?;
     }
     Ok(built)
@@ -244,7 +253,7 @@ fn last_else(
     match otherwise {
         None => Ok(None),
         Some(s) => {
-            let made = given!(statement(alloc, progress, setting, s));
+            let made = statement(alloc, progress, setting, s)?;
             Ok(Some(made))
         }
     }
@@ -268,17 +277,20 @@ fn for_loop(
         first: spot,
         last: last_of_statement(body),
     };
-    let start = given!(start(alloc, progress, first));
-    let condition = given!(condition_if_any(alloc, progress, extent, test));
-    let step = given!(step(alloc, progress, last));
-    let body = given!(statement(alloc, progress, setting.in_loop(), body));
-    let made = given!(node(alloc, TypedStatement::For {
-        start,
-        spot: head_of(spot, test),
-        condition: unboxed(condition),
-        step,
-        body,
-    }));
+    let start = start(alloc, progress, first)?;
+    let condition = condition_if_any(alloc, progress, extent, test)?;
+    let step = step(alloc, progress, last)?;
+    let body = statement(alloc, progress, setting.in_loop(), body)?;
+    let made = node(
+        alloc,
+        TypedStatement::For {
+            start,
+            spot: head_of(spot, test),
+            condition: unboxed(condition),
+            step,
+            body,
+        }
+    )?;
     Ok(made)
 }
 
@@ -308,22 +320,25 @@ fn switch(
         first: spot,
         last: block.closing.at,
     };
-    let chosen = given!(chosen_value(alloc, progress, extent, value));
-    given!(progress.open(alloc));
-    let body = given!(items(
+    let chosen = chosen_value(alloc, progress, extent, value)?;
+    progress.open(alloc)?;
+    let body = items(
         alloc,
         progress,
         setting.in_switch(),
         chosen.kind,
         &block.statements,
-    ));
+    )?;
     progress.close();
-    let body = given!(node(alloc, body));
-    let made = given!(node(alloc, TypedStatement::Switch {
-        spot: value.first(),
-        value: Box::into_inner(chosen.tree),
-        body,
-    }));
+    let body = node(alloc, body)?;
+    let made = node(
+        alloc,
+        TypedStatement::Switch {
+            spot: value.first(),
+            value: Box::into_inner(chosen.tree),
+            body,
+        }
+    )?;
     Ok(made)
 }
 
@@ -341,7 +356,7 @@ fn items(
     let mut labels = no_labels(alloc);
     let mut parts = Vec::new(alloc);
     for one in all {
-        given!(item(alloc, progress, setting, kind, &mut labels, &mut parts, one));
+        item(alloc, progress, setting, kind, &mut labels, &mut parts, one)?;
     }
     arranged(alloc, parts)
 }
@@ -364,11 +379,11 @@ fn item(
             labels: own,
             statement: s,
         } => {
-            given!(all_labels(alloc, progress, kind, labels, parts, own));
+            all_labels(alloc, progress, kind, labels, parts, own)?;
             item(alloc, progress, setting, kind, labels, parts, s)
         }
         _ => {
-            let made = given!(statement(alloc, progress, setting, s));
+            let made = statement(alloc, progress, setting, s)?;
             parts.push(Part::Statement(made))?;
             Ok(())
         }

@@ -142,7 +142,7 @@ fn numbered(
         return progress.fault(Code::MISPLACED_JUMP, extent);
     };
     let is_new = !is_among(value, &labels.values);
-    given!(unless(progress, is_new, Code::REPEATED_LABEL, extent));
+    unless(progress, is_new, Code::REPEATED_LABEL, extent)?;
     labels.values.push(value)?;
     parts.push(Part::Case(value))?;
     Ok(())
@@ -160,7 +160,7 @@ pub fn case(
 ) -> Result<(), AllocError>
     ensures { OnOk result (means (so_far parts.new.items labels.new) (progress_view progress.new) ≡ next_met (case_met kind extent (expression_view e.now) (labels_view labels.old) (progress_view progress.old)) (behind (map part_view parts.old.items))) }
 {
-    let value = given!(progress.value(alloc, e));
+    let value = progress.value(alloc, e)?;
     match value {
         None => Ok(()),
         Some(value) => {
@@ -180,7 +180,7 @@ pub fn default(
 ) -> Result<(), AllocError>
     ensures { OnOk result (means (so_far parts.new.items labels.new) (progress_view progress.new) ≡ next_met (default_met extent (labels_view labels.old) (progress_view progress.old)) (behind (map part_view parts.old.items))) }
 {
-    given!(unless(progress, !labels.has_default, Code::REPEATED_LABEL, extent));
+    unless(progress, !labels.has_default, Code::REPEATED_LABEL, extent)?;
     labels.has_default = true;
     parts.push(Part::Default)?;
     Ok(())

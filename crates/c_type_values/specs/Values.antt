@@ -1,12 +1,11 @@
 -- What expressions mean: objects, or values with their types.
-use Rattle.std.specs.Prelude.{ℕ, pos, Bool, true, false, Option, Some, None, Box, if◌then◌else◌}
+use Rattle.std.specs.Prelude.{pos, Bool, false, Option, Some, None, Box, if◌then◌else◌}
 use Rattle.std.specs.Global.{Global}
 use Rattle.c_tree.specs.declared.types.IntegerType.{IntegerType}
-use Rattle.c_tree.specs.declared.object_type.Scalar.{Scalar}
 use Rattle.c_tree.specs.declared.object_type.ObjectType.{ObjectType}
 use Rattle.c_tree.specs.declared.object_type.ObjectType.TheVariants as object
 use Rattle.c_tree.specs.declared.object_type.ValueType.{ValueType}
-use Rattle.c_tree.specs.declared.object_type.ValueType.TheVariants.{Void, Integer, Pointer}
+use Rattle.c_tree.specs.declared.object_type.ValueType.TheVariants.{Integer, Pointer}
 use Rattle.c_tree.specs.declared.typed_expression.Rvalue.{Rvalue}
 use Rattle.c_tree.specs.TypedExpressions.{RvalueTree, LvalueTree, Load, Decay, Convert, Null, rvalue_view, lvalue_view}
 use Rattle.c_type_rules.specs.declared.constancy.Constancy.{Constancy}
