@@ -8,7 +8,7 @@ ghost use Rattle.graph_core.specs.Worked.{assigning, assigns_two, block, built, 
 use debug_records::{ChangeLog, Kind, PassName, Place, Var};
 use graph_core::{Block, End, Graph, Instr, Label, Name, NoteValue, Operand, Recipe, Unit};
 use pass_law::{Pass, RunErr, Trail, run_list};
-use places::{Assignment, FlowTable, FlowStep};
+use places::{Assignment, FlowStep, FlowTable};
 use std::alloc::{AllocError, Global};
 use std::test::Fail;
 

@@ -5,8 +5,8 @@ use debug_records::Var;
 use graph_core::{
     Binding, Callee, Comparison, Element, End, Label, Location, MemoryObject, Name, Operand, Unit,
 };
-use word_base::Operation;
 use std::alloc::{AllocError, Global};
+use word_base::Operation;
 
 /// No value has been given to this name.
 const UNKNOWN: Operand = Operand::Name(Name(1));

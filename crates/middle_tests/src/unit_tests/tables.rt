@@ -6,10 +6,10 @@ use graph_core::{
     NoteValue, Operand, Owner, Recipe, Relocation, Shadow, StaticObject, Unit, Value,
 };
 use places::FlowTable;
-use word_base::{Operation, Truncation};
 use smallvec::SmallVec;
 use std::alloc::{AllocError, Global};
 use unit_run::{Event, Frame, Object};
+use word_base::{Operation, Truncation};
 
 /// An instruction, or the end of a block.
 #[derive(Clone, Copy)]
