@@ -9,37 +9,55 @@ use std::test::Fail;
 
 const RETURN: End = End::Return(None);
 
-fn marker(place: u32) -> Instr {
-    Instr::Marker(Place(place))
+/// An instruction: a marker, a move to the one name, or a call of `main`.
+enum Step {
+    Marker(u32),
+    Move,
+    Call,
 }
 
-/// Zero is moved to the one name.
-fn moving() -> Instr {
-    Instr::Move {
-        target: Name(0),
-        from: Operand::Constant(0),
+/// A block: its place, its instructions and its end.
+struct BlockTable(Option<u32>, &'static [Step], End);
+
+/// A unit of `main` alone, with the place of its entry and its blocks, and whether it is valid.
+struct UnitTable {
+    shows: &'static str,
+    entry: u32,
+    blocks: &'static [BlockTable],
+    is_valid: bool,
+}
+
+/// The instruction of a step.
+fn instruction(alloc: Global, step: &Step) -> Instr {
+    match step {
+        Step::Marker(place) => Instr::Marker(Place(*place)),
+        Step::Move => Instr::Move {
+            target: Name(0),
+            from: Operand::Constant(0),
+        },
+        Step::Call => Instr::Call {
+            target: None,
+            callee: Callee::Function(0),
+            arguments: SmallVec::new(alloc),
+        },
     }
 }
 
-/// A call of `main`.
-fn calling(alloc: Global) -> Instr {
-    Instr::Call {
-        target: None,
-        callee: Callee::Function(0),
-        arguments: SmallVec::new(alloc),
+/// The blocks of their tables.
+fn blocks_of(alloc: Global, tables: &[BlockTable]) -> Result<Vec<Block>, AllocError> {
+    let mut blocks = Vec::new(alloc);
+    for BlockTable(place, steps, end) in tables {
+        let mut instructions = Vec::new(alloc);
+        for step in *steps {
+            instructions.push(instruction(alloc, step))?;
+        }
+        blocks.push(Block {
+            place: place.map(Place),
+            instructions,
+            end: *end,
+        })?;
     }
-}
-
-fn jump(to: u32) -> End {
-    End::Jump(Label(to))
-}
-
-fn block(place: Option<u32>, instructions: Vec<Instr>, end: End) -> Block {
-    Block {
-        place: place.map(Place),
-        instructions,
-        end,
-    }
+    Ok(blocks)
 }
 
 /// The unit of `main` alone, with one name.
@@ -68,55 +86,87 @@ fn unit_of(alloc: Global, entry: u32, blocks: Vec<Block>) -> Result<Unit, AllocE
     })
 }
 
-/// The unit whose first block keeps a place, calls, begins the place 2 and begins again; the place at its end is the one that it keeps there.
-fn calling_again(alloc: Global, entry: u32) -> Result<Unit, AllocError> {
-    let instructions = vec![in alloc; calling(alloc), marker(2)]?;
-    let blocks = vec![in alloc; block(Some(2), instructions, jump(0))]?;
-    unit_of(alloc, entry, blocks)
-}
-
-/// The unit whose entry is the place 1, with one more block, to which nothing leads.
-fn with_block(alloc: Global, more: Block) -> Result<Unit, AllocError> {
-    let entry = vec![in alloc; marker(1)]?;
-    let blocks = vec![in alloc; block(None, entry, RETURN), more]?;
-    unit_of(alloc, 1, blocks)
-}
+static UNITS: [UnitTable; 10] = [
+    UnitTable {
+        shows: "a block that keeps the entry, calls, begins the entry and begins again",
+        entry: 2,
+        blocks: &[BlockTable(Some(2), &[Step::Call, Step::Marker(2)], End::Jump(Label(0)))],
+        is_valid: true,
+    },
+    UnitTable {
+        shows: "the same block in a function of another entry",
+        entry: 1,
+        blocks: &[BlockTable(Some(2), &[Step::Call, Step::Marker(2)], End::Jump(Label(0)))],
+        is_valid: false,
+    },
+    UnitTable {
+        shows: "no block",
+        entry: 1,
+        blocks: &[],
+        is_valid: false,
+    },
+    UnitTable {
+        shows: "a first block that keeps the entry, without a marker",
+        entry: 1,
+        blocks: &[BlockTable(Some(1), &[], RETURN)],
+        is_valid: true,
+    },
+    UnitTable {
+        shows: "a first block that keeps another place",
+        entry: 1,
+        blocks: &[BlockTable(Some(2), &[], RETURN)],
+        is_valid: false,
+    },
+    UnitTable {
+        shows: "a first block without a place",
+        entry: 1,
+        blocks: &[BlockTable(None, &[], RETURN)],
+        is_valid: false,
+    },
+    UnitTable {
+        shows: "an instruction in a block that keeps a place",
+        entry: 1,
+        blocks: &[
+            BlockTable(None, &[Step::Marker(1)], RETURN),
+            BlockTable(Some(1), &[Step::Move], RETURN),
+        ],
+        is_valid: true,
+    },
+    UnitTable {
+        shows: "an instruction behind a marker",
+        entry: 1,
+        blocks: &[
+            BlockTable(None, &[Step::Marker(1)], RETURN),
+            BlockTable(None, &[Step::Marker(2), Step::Move], RETURN),
+        ],
+        is_valid: true,
+    },
+    UnitTable {
+        shows: "an instruction at no place",
+        entry: 1,
+        blocks: &[
+            BlockTable(None, &[Step::Marker(1)], RETURN),
+            BlockTable(None, &[Step::Move], RETURN),
+        ],
+        is_valid: false,
+    },
+    UnitTable {
+        shows: "an instruction before its block's first marker",
+        entry: 1,
+        blocks: &[
+            BlockTable(None, &[Step::Marker(1)], RETURN),
+            BlockTable(None, &[Step::Move, Step::Marker(2)], RETURN),
+        ],
+        is_valid: false,
+    },
+];
 
 #[test]
-fn a_function_begins_at_its_entry(rt: HostRuntime) -> Result<(), Fail> {
-    assert!(rt; calling_again(rt.alloc(), 2)?.is_valid());
-    assert!(rt; !calling_again(rt.alloc(), 1)?.is_valid());
-    Ok(())
-}
-
-#[test]
-fn a_function_has_a_block(rt: HostRuntime) -> Result<(), Fail> {
-    assert!(rt; !unit_of(rt.alloc(), 1, Vec::new(rt.alloc()))?.is_valid());
-    Ok(())
-}
-
-#[test]
-fn a_function_may_begin_in_its_entry_without_a_marker(rt: HostRuntime) -> Result<(), Fail> {
-    let alloc = rt.alloc();
-    let kept = vec![in alloc; block(Some(1), Vec::new(alloc), RETURN)]?;
-    assert!(rt; unit_of(alloc, 1, kept)?.is_valid());
-    let other = vec![in alloc; block(Some(2), Vec::new(alloc), RETURN)]?;
-    assert!(rt; !unit_of(alloc, 1, other)?.is_valid());
-    let none = vec![in alloc; block(None, Vec::new(alloc), RETURN)]?;
-    assert!(rt; !unit_of(alloc, 1, none)?.is_valid());
-    Ok(())
-}
-
-#[test]
-fn each_instruction_has_a_place(rt: HostRuntime) -> Result<(), Fail> {
-    let alloc = rt.alloc();
-    let placed = block(Some(1), vec![in alloc; moving()]?, RETURN);
-    assert!(rt; with_block(alloc, placed)?.is_valid());
-    let marked = block(None, vec![in alloc; marker(2), moving()]?, RETURN);
-    assert!(rt; with_block(alloc, marked)?.is_valid());
-    let nowhere = block(None, vec![in alloc; moving()]?, RETURN);
-    assert!(rt; !with_block(alloc, nowhere)?.is_valid());
-    let late = block(None, vec![in alloc; moving(), marker(2)]?, RETURN);
-    assert!(rt; !with_block(alloc, late)?.is_valid());
+fn units_are_valid_by_the_rules_of_places(rt: HostRuntime) -> Result<(), Fail> {
+    for table in &UNITS {
+        let blocks = blocks_of(rt.alloc(), table.blocks)?;
+        let unit = unit_of(rt.alloc(), table.entry, blocks)?;
+        assert!(rt; unit.is_valid() == table.is_valid, "{}", table.shows);
+    }
     Ok(())
 }

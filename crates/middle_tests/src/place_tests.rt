@@ -1,3 +1,5 @@
+//! Paths of a loop, worked by hand: a call of each function.
+
 use debug_records::{Place, Var};
 use places::{Assignment, FlowStep, FlowTable, Path, is_path, route};
 use smallvec::SmallVec;
@@ -30,43 +32,26 @@ fn path(alloc: Global, places: &[Place]) -> Result<Path, AllocError> {
     })
 }
 
-#[test]
-fn a_path_goes_by_flow(rt: HostRuntime) -> Result<(), Fail> {
-    let table = loop_table(rt.alloc())?;
-    let around = path(rt.alloc(), &[Place(1), Place(2), Place(3), Place(2)])?;
-    assert!(rt; is_path(&table, &around));
-    let across = path(rt.alloc(), &[Place(1), Place(3)])?;
-    assert!(rt; !is_path(&table, &across));
-    let back = path(rt.alloc(), &[Place(2), Place(1)])?;
-    assert!(rt; !is_path(&table, &back));
-    assert!(rt; is_path(&table, &path(rt.alloc(), &[])?));
-    Ok(())
-}
+/// Lists of places, and whether each is a path of the loop.
+static PATHS: [(&[Place], bool); 4] = [
+    (&[], true),
+    (&[Place(1), Place(2), Place(3), Place(2)], true),
+    (&[Place(1), Place(3)], false),
+    (&[Place(2), Place(1)], false),
+];
 
 #[test]
-fn a_table_tells_steps_and_assignments(rt: HostRuntime) -> Result<(), Fail> {
+fn paths_go_by_flow(rt: HostRuntime) -> Result<(), Fail> {
     let table = loop_table(rt.alloc())?;
-    assert!(rt; table.can_go(Place(3), Place(2)));
-    assert!(rt; !table.can_go(Place(1), Place(3)));
-    assert!(rt; table.assigns(Place(3), Var(7)));
-    assert!(rt; !table.assigns(Place(2), Var(7)));
-    Ok(())
-}
-
-#[test]
-fn a_route_goes_by_a_place(rt: HostRuntime) -> Result<(), Fail> {
-    let table = FlowTable {
-        steps: vec![in rt.alloc(); step(1, 2)]?,
-        assignments: Vec::new(rt.alloc()),
-    };
-    let one = route(rt.alloc(), &table, Var(0), Place(1), Place(1), Place(2))?;
-    match one {
-        Some(found) => {
-            assert!(rt; found.places.as_slice() == [Place(1), Place(2)].as_slice());
-        }
-        None => assert!(rt; false),
+    for (places, wanted) in &PATHS {
+        let path = path(rt.alloc(), *places)?;
+        assert!(rt; is_path(&table, &path) == *wanted);
     }
-    let none = route(rt.alloc(), &table, Var(0), Place(1), Place(2), Place(2))?;
-    assert!(rt; none.is_none());
+    assert!(rt; table.can_go(Place(3), Place(2)) && !table.can_go(Place(1), Place(3)));
+    assert!(rt; table.assigns(Place(3), Var(7)) && !table.assigns(Place(2), Var(7)));
+    let Some(found) = route(rt.alloc(), &table, Var(0), Place(1), Place(1), Place(2))? else {
+        return Err(Fail::from("a path from 1 to 2"));
+    };
+    assert!(rt; found.places.as_slice() == [Place(1), Place(2)].as_slice());
     Ok(())
 }

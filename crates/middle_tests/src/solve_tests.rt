@@ -10,6 +10,7 @@ use debug_records::Place;
 use graph_core::{Block, Comparison, End, Graph, Instr, Label, Name, NoteValue, Operand, Recipe};
 use graph_solve::{Facts, Problem, live, solve, targets_are_within};
 use std::alloc::{AllocError, Global};
+use std::process::Abort;
 use std::test::Fail;
 use word_base::Operation;
 
@@ -124,48 +125,40 @@ fn two_cycles(alloc: Global) -> Result<Graph, AllocError> {
     Ok(graph(alloc, blocks))
 }
 
-#[test]
-fn every_path_counts_forward(rt: HostRuntime) -> Result<(), Fail> {
-    let graph = two_cycles(rt.alloc())?;
-    assert!(rt; graph.blocks.len() < 100);
-    assert!(rt; targets_are_within(&graph));
-    let solution = solve(rt.alloc(), &graph, &Passed { forward: true })?;
-    let starts = [false, false, false, true, false, true, true];
-    for (block, wanted) in starts.iter().enumerate() {
+/// In which blocks a fact is wanted.
+fn assert_has(rt: &impl Abort, values: &[Facts], fact: u32, wanted: &[bool], shows: &str) {
+    for (block, is_wanted) in wanted.iter().enumerate() {
         assert!(rt;
-            has(&solution.starts, block, 0) == *wanted,
-            "at the start of {block}"
+            has(values, block, fact) == *is_wanted,
+            "{fact} at {shows} of {block}"
         );
     }
-    let ends = [false, true, false, true, false, true, true];
-    for (block, wanted) in ends.iter().enumerate() {
-        assert!(rt;
-            has(&solution.ends, block, 0) == *wanted,
-            "at the end of {block}"
-        );
-    }
-    Ok(())
 }
 
+/// Whether the problem goes forward, and in which blocks the fact is wanted at the start, and at the end.
+static EVERY_PATH: [(bool, [bool; 7], [bool; 7]); 2] = [
+    (
+        true,
+        [false, false, false, true, false, true, true],
+        [false, true, false, true, false, true, true],
+    ),
+    (
+        false,
+        [false, true, false, false, false, true, true],
+        [false, false, false, false, false, true, true],
+    ),
+];
+
 #[test]
-fn every_path_counts_backward(rt: HostRuntime) -> Result<(), Fail> {
+fn every_path_counts(rt: HostRuntime) -> Result<(), Fail> {
     let graph = two_cycles(rt.alloc())?;
     assert!(rt; graph.blocks.len() < 100);
     assert!(rt; targets_are_within(&graph));
-    let solution = solve(rt.alloc(), &graph, &Passed { forward: false })?;
-    let starts = [false, true, false, false, false, true, true];
-    for (block, wanted) in starts.iter().enumerate() {
-        assert!(rt;
-            has(&solution.starts, block, 0) == *wanted,
-            "at the start of {block}"
-        );
-    }
-    let ends = [false, false, false, false, false, true, true];
-    for (block, wanted) in ends.iter().enumerate() {
-        assert!(rt;
-            has(&solution.ends, block, 0) == *wanted,
-            "at the end of {block}"
-        );
+    for (forward, starts, ends) in &EVERY_PATH {
+        let problem = Passed { forward: *forward };
+        let solution = solve(rt.alloc(), &graph, &problem)?;
+        assert_has(&rt, &solution.starts, 0, starts.as_slice(), "the start");
+        assert_has(&rt, &solution.ends, 0, ends.as_slice(), "the end");
     }
     Ok(())
 }
@@ -201,35 +194,23 @@ fn loop_graph(alloc: Global) -> Result<Graph, AllocError> {
     Ok(graph(alloc, blocks))
 }
 
+/// In which blocks each of the four names is live at the start, and at the end.
+static LIVE: [([bool; 4], [bool; 4]); 4] = [
+    ([false, true, true, true], [true, true, true, false]),
+    ([true, true, true, false], [true, true, true, false]),
+    ([false, false, false, false], [false, false, false, false]),
+    ([false, false, false, false], [false, false, false, false]),
+];
+
 #[test]
 fn names_are_live_until_they_are_read_last(rt: HostRuntime) -> Result<(), Fail> {
     let graph = loop_graph(rt.alloc())?;
     assert!(rt; graph.blocks.len() < 100);
     assert!(rt; targets_are_within(&graph));
     let solution = live(rt.alloc(), &graph)?;
-    let starts = [[false, true], [true, true], [true, true], [true, false]];
-    for (block, wanted) in starts.iter().enumerate() {
-        assert!(rt;
-            has(&solution.starts, block, 0) == wanted[0],
-            "0 at the start of {block}"
-        );
-        assert!(rt;
-            has(&solution.starts, block, 1) == wanted[1],
-            "1 at the start of {block}"
-        );
-        assert!(rt; !has(&solution.starts, block, 2) && !has(&solution.starts, block, 3));
-    }
-    let ends = [[true, true], [true, true], [true, true], [false, false]];
-    for (block, wanted) in ends.iter().enumerate() {
-        assert!(rt;
-            has(&solution.ends, block, 0) == wanted[0],
-            "0 at the end of {block}"
-        );
-        assert!(rt;
-            has(&solution.ends, block, 1) == wanted[1],
-            "1 at the end of {block}"
-        );
-        assert!(rt; !has(&solution.ends, block, 2) && !has(&solution.ends, block, 3));
+    for (name, (starts, ends)) in (0..4u32).zip(&LIVE) {
+        assert_has(&rt, &solution.starts, name, starts.as_slice(), "the start");
+        assert_has(&rt, &solution.ends, name, ends.as_slice(), "the end");
     }
     Ok(())
 }

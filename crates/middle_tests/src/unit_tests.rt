@@ -1,7 +1,7 @@
 //! Runs of small units.
 
 use graph_core::{Element, Unit};
-use std::alloc::Global;
+use std::alloc::{AllocError, Global};
 use std::process::Abort;
 use std::test::Fail;
 use unit_run::{Event, run};
@@ -61,16 +61,23 @@ fn step_events(rt: &impl Abort, alloc: Global, step: Line) -> Result<Vec<Event>,
     events(rt, alloc, &unit_with(alloc, step)?, b"", 100)
 }
 
+/// Whether each event is shown by its line.
+fn are_shown(alloc: Global, events: &[Event], expected: &[&str]) -> Result<bool, AllocError> {
+    for (event, line) in events.iter().zip(expected) {
+        if shown(alloc, event)?.as_str() != *line {
+            return Ok(false);
+        }
+    }
+    Ok(events.len() == expected.len())
+}
+
 fn assert_shows(
     rt: &impl Abort,
     alloc: Global,
     events: &[Event],
     expected: &[&str],
 ) -> Result<(), Fail> {
-    for (event, line) in events.iter().zip(expected) {
-        assert!(rt; shown(alloc, event)?.as_str() == *line);
-    }
-    assert!(rt; events.len() == expected.len());
+    assert!(rt; are_shown(alloc, events, expected)?, "{expected:?}");
     Ok(())
 }
 
@@ -104,32 +111,92 @@ fn assert_kept(
     Ok(())
 }
 
+/// Units, each with what its run shows.
+fn runs() -> [(&'static UnitTable, &'static Case); 19] {
+    [
+        (&STRAIGHT, &STRAIGHT_SHOWS),
+        (&LOOP, &LOOP_SHOWS),
+        (&RECURSION, &RECURSION_SHOWS),
+        (&COMPARING, &COMPARING_SHOWS),
+        (&NARROWING, &NARROWING_SHOWS),
+        (&ACCESSES, &ACCESSES_SHOWS),
+        (&ADDRESSED, &ADDRESSED_SHOWS),
+        (&ELEMENTS, &ELEMENTS_SHOWS),
+        (&NARROW_ADDRESSES, &NARROW_ADDRESSES_SHOWS),
+        (&ENDED, &ENDED_SHOWS),
+        (&DANGLING, &DANGLING_SHOWS),
+        (&UNKNOWN, &UNKNOWN_SHOWS),
+        (&NESTED, &NESTED_SHOWS),
+        (&READING, &READING_SHOWS),
+        (&READING, &READING_NOTHING_SHOWS),
+        (&EXITING, &EXITING_SHOWS),
+        (&REMOVED, &REMOVED_SHOWS),
+        (&ENDLESS, &ENDLESS_SHOWS),
+        (&STRAIGHT, &STRAIGHT_BEGINS),
+    ]
+}
+
 #[test]
 fn runs_show_what_the_programs_do(rt: HostRuntime) -> Result<(), Fail> {
-    assert_run(&rt, rt.alloc(), &STRAIGHT, &STRAIGHT_SHOWS)?;
-    assert_run(&rt, rt.alloc(), &LOOP, &LOOP_SHOWS)?;
-    assert_run(&rt, rt.alloc(), &RECURSION, &RECURSION_SHOWS)?;
-    assert_run(&rt, rt.alloc(), &COMPARING, &COMPARING_SHOWS)?;
-    assert_run(&rt, rt.alloc(), &NARROWING, &NARROWING_SHOWS)
+    for (of, case) in runs() {
+        assert_run(&rt, rt.alloc(), of, case)?;
+    }
+    Ok(())
+}
+
+/// Units before passes and behind them, each with what its run shows.
+fn passed_units() -> [[(&'static UnitTable, &'static Case); 2]; 8] {
+    [
+        [(&UNCOPIED, &COPIED_SHOWS), (&REPLACED, &COPIED_SHOWS)],
+        [(&UNCOPIED, &COPIED_SHOWS), (&COPIED, &COPIED_SHOWS)],
+        [(&WHOLE, &WHOLE_ON_A), (&WITHOUT_DEAD, &WHOLE_ON_A)],
+        [(&WHOLE, &WHOLE_ON_B), (&WITHOUT_DEAD, &WHOLE_ON_B)],
+        [
+            (&STORING, &STORING_SHOWS),
+            (&STORING_WITHOUT_DEAD, &STORING_SHOWS),
+        ],
+        [
+            (&ASSIGNED, &ASSIGNED_SHOWS),
+            (&UNASSIGNED, &UNASSIGNED_SHOWS),
+        ],
+        [(&UNMOVED, &MOVED_SHOWS), (&MOVED, &MOVED_SHOWS)],
+        [
+            (&UNREACHED, &UNREACHED_SHOWS),
+            (&UNREACHED_WITHOUT_DEAD, &UNREACHED_SHOWS),
+        ],
+    ]
 }
 
 #[test]
-fn runs_keep_memory(rt: HostRuntime) -> Result<(), Fail> {
-    assert_run(&rt, rt.alloc(), &ACCESSES, &ACCESSES_SHOWS)?;
-    assert_run(&rt, rt.alloc(), &ADDRESSED, &ADDRESSED_SHOWS)?;
-    assert_run(&rt, rt.alloc(), &NARROW_ADDRESSES, &NARROW_ADDRESSES_SHOWS)?;
-    assert_run(&rt, rt.alloc(), &ENDED, &ENDED_SHOWS)?;
-    assert_run(&rt, rt.alloc(), &DANGLING, &DANGLING_SHOWS)?;
-    assert_run(&rt, rt.alloc(), &UNKNOWN, &UNKNOWN_SHOWS)
+fn runs_are_kept_behind_passes(rt: HostRuntime) -> Result<(), Fail> {
+    for [before, behind] in passed_units() {
+        assert_kept(&rt, rt.alloc(), before, behind)?;
+    }
+    let assigned = (&ASSIGNED, &ASSIGNED_SHOWS);
+    let unassigned = (&UNASSIGNED, &UNASSIGNED_SHOWS);
+    assert!(rt; !is_kept(&rt, rt.alloc(), unassigned, assigned)?);
+    Ok(())
 }
 
 #[test]
-fn elements_are_stored_at_their_offsets(rt: HostRuntime) -> Result<(), Fail> {
-    assert_run(&rt, rt.alloc(), &ELEMENTS, &ELEMENTS_SHOWS)?;
-    let behind = unit_with(rt.alloc(), Line::Load(0, Element::Word, BEHIND_OBJECT))?;
-    assert!(rt; behind.is_valid());
-    let beyond = unit_with(rt.alloc(), Line::Load(0, Element::Word, BEYOND_OBJECT))?;
-    assert!(rt; !beyond.is_valid());
+fn runs_end_before_wild_steps_and_go_on_behind_others(rt: HostRuntime) -> Result<(), Fail> {
+    for step in WILD {
+        let events = step_events(&rt, rt.alloc(), *step)?;
+        assert_shows(&rt, rt.alloc(), &events, &[STEP_BEGINS])?;
+    }
+    for (step, behind) in OTHERS {
+        let events = step_events(&rt, rt.alloc(), *step)?;
+        assert_shows(&rt, rt.alloc(), &events, &[STEP_BEGINS, *behind, "exit 0"])?;
+    }
+    Ok(())
+}
+
+#[test]
+fn accesses_lie_within_their_objects(rt: HostRuntime) -> Result<(), Fail> {
+    for (location, valid) in [(BEHIND_OBJECT, true), (BEYOND_OBJECT, false)] {
+        let unit = unit_with(rt.alloc(), Line::Load(0, Element::Word, location))?;
+        assert!(rt; unit.is_valid() == valid);
+    }
     Ok(())
 }
 
@@ -140,108 +207,6 @@ fn blocks_keep_places_of_their_function(rt: HostRuntime) -> Result<(), Fail> {
             unreached_in(rt.alloc(), *place)?.is_valid() == *valid,
             "at {place}"
         );
-    }
-    Ok(())
-}
-
-#[test]
-fn notes_stay_where_no_path_comes(rt: HostRuntime) -> Result<(), Fail> {
-    assert_kept(
-        &rt,
-        rt.alloc(),
-        (&UNREACHED, &UNREACHED_SHOWS),
-        (&UNREACHED_WITHOUT_DEAD, &UNREACHED_SHOWS),
-    )
-}
-
-#[test]
-fn activations_keep_their_own_shadows(rt: HostRuntime) -> Result<(), Fail> {
-    assert_run(&rt, rt.alloc(), &NESTED, &NESTED_SHOWS)
-}
-
-#[test]
-fn library_calls_read_and_exit(rt: HostRuntime) -> Result<(), Fail> {
-    assert_run(&rt, rt.alloc(), &READING, &READING_SHOWS)?;
-    assert_run(&rt, rt.alloc(), &READING, &READING_NOTHING_SHOWS)?;
-    assert_run(&rt, rt.alloc(), &EXITING, &EXITING_SHOWS)
-}
-
-#[test]
-fn notes_tell_of_removed_assignments(rt: HostRuntime) -> Result<(), Fail> {
-    assert_run(&rt, rt.alloc(), &REMOVED, &REMOVED_SHOWS)
-}
-
-#[test]
-fn runs_are_the_same_behind_replaced_reads(rt: HostRuntime) -> Result<(), Fail> {
-    let before = (&UNCOPIED, &COPIED_SHOWS);
-    assert_kept(&rt, rt.alloc(), before, (&REPLACED, &COPIED_SHOWS))?;
-    assert_kept(&rt, rt.alloc(), before, (&COPIED, &COPIED_SHOWS))
-}
-
-#[test]
-fn runs_are_the_same_without_dead_assignments(rt: HostRuntime) -> Result<(), Fail> {
-    let alloc = rt.alloc();
-    assert_kept(
-        &rt,
-        alloc,
-        (&WHOLE, &WHOLE_ON_A),
-        (&WITHOUT_DEAD, &WHOLE_ON_A),
-    )?;
-    assert_kept(
-        &rt,
-        alloc,
-        (&WHOLE, &WHOLE_ON_B),
-        (&WITHOUT_DEAD, &WHOLE_ON_B),
-    )?;
-    assert_kept(
-        &rt,
-        alloc,
-        (&STORING, &STORING_SHOWS),
-        (&STORING_WITHOUT_DEAD, &STORING_SHOWS),
-    )
-}
-
-#[test]
-fn shadows_stay_or_go_behind_passes(rt: HostRuntime) -> Result<(), Fail> {
-    let assigned = (&ASSIGNED, &ASSIGNED_SHOWS);
-    let unassigned = (&UNASSIGNED, &UNASSIGNED_SHOWS);
-    assert_kept(&rt, rt.alloc(), assigned, unassigned)?;
-    assert!(rt; !is_kept(&rt, rt.alloc(), unassigned, assigned)?);
-    Ok(())
-}
-
-#[test]
-fn runs_are_the_same_behind_code_motion(rt: HostRuntime) -> Result<(), Fail> {
-    assert_kept(
-        &rt,
-        rt.alloc(),
-        (&UNMOVED, &MOVED_SHOWS),
-        (&MOVED, &MOVED_SHOWS),
-    )
-}
-
-#[test]
-fn runs_end_by_depth_and_by_steps(rt: HostRuntime) -> Result<(), Fail> {
-    assert_run(&rt, rt.alloc(), &ENDLESS, &ENDLESS_SHOWS)?;
-    assert_run(&rt, rt.alloc(), &STRAIGHT, &STRAIGHT_BEGINS)
-}
-
-#[test]
-fn runs_end_before_wild_steps(rt: HostRuntime) -> Result<(), Fail> {
-    for (index, step) in WILD.iter().enumerate() {
-        let events = step_events(&rt, rt.alloc(), *step)?;
-        assert!(rt; events.len() == 1, "at {index}");
-        assert_shows(&rt, rt.alloc(), &events, &[STEP_BEGINS])?;
-    }
-    Ok(())
-}
-
-#[test]
-fn runs_go_on_behind_other_steps(rt: HostRuntime) -> Result<(), Fail> {
-    for (index, (step, behind)) in OTHERS.iter().enumerate() {
-        let events = step_events(&rt, rt.alloc(), *step)?;
-        assert!(rt; events.len() == 3, "at {index}");
-        assert_shows(&rt, rt.alloc(), &events, &[STEP_BEGINS, *behind, "exit 0"])?;
     }
     Ok(())
 }
