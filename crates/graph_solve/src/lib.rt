@@ -9,8 +9,6 @@ mod live_names;
 mod problem;
 mod rounds;
 mod solving;
-#[cfg(test)]
-mod tests;
 
 pub use facts::Facts;
 pub use flow_graph::{Edge, FlowGraph};
