@@ -89,7 +89,7 @@ pub fn statement(
                     spot: e.first(),
                     condition: Box::into_inner(tree),
                     body,
-                }
+                },
             )?;
             Ok(made)
         }
@@ -106,7 +106,7 @@ pub fn statement(
                     body,
                     spot: e.first(),
                     condition: Box::into_inner(tree),
-                }
+                },
             )?;
             Ok(made)
         }
@@ -156,7 +156,7 @@ pub fn statement(
                 TypedStatement::Return {
                     spot: extent.first,
                     value: unboxed(value),
-                }
+                },
             )?;
             Ok(made)
         }
@@ -289,7 +289,7 @@ fn for_loop(
             condition: unboxed(condition),
             step,
             body,
-        }
+        },
     )?;
     Ok(made)
 }
@@ -337,7 +337,7 @@ fn switch(
             spot: value.first(),
             value: Box::into_inner(chosen.tree),
             body,
-        }
+        },
     )?;
     Ok(made)
 }
