@@ -1,4 +1,4 @@
--- How much a valid unit may have. What is said "of a function" is asked of each.
+-- How much a valid unit, and a run of it, may have. What is said "of a function" is asked of each.
 use Rattle.std.specs.Prelude.{ℕ}
 
 -- functions
@@ -48,3 +48,7 @@ most_depth = 4
 -- words that one instruction of a well marked unit sets or copies
 abbrev pub most_words : ℕ
 most_words = 1023
+
+-- activations that live at once
+abbrev pub most_activations : ℕ
+most_activations = 1024

@@ -14,6 +14,7 @@ use Rattle.graph_core.specs.Validity.{arguments_in, arguments_of, counts, instru
 abbrev pub marks : (ℕ → ℕ) → Instruction → ℕ
 marks count i = option_map_or count (marker_of i) 0
 
+-- 1 for each number
 abbrev pub any : ℕ → ℕ
 any p = 1
 
@@ -28,9 +29,11 @@ share Arguments i = arguments_in i
 share Markers i = marks any i
 share (MarkersOf q) i = marks (only q.0) i
 
+-- how much of what is counted blocks have
 abbrev pub count_in_blocks : Counted → List Block → ℕ
 count_in_blocks counted blocks = total (λ (b : Block). total (share counted) b.instructions) blocks
 
+-- how much of what is counted graphs have
 abbrev pub count_in_graphs : Counted → List Graph → ℕ
 count_in_graphs counted graphs = total (λ (g : Graph). count_in_blocks counted g.blocks) graphs
 
@@ -47,9 +50,11 @@ IsOnce graphs (Some q) = markers_in_graphs q graphs ≤ 1
 abbrev pub AreMarkedOnceIn : List Graph → List Instruction → Type 0
 AreMarkedOnceIn graphs all = AllByRecursion (λ i. IsOnce graphs (marker_of i)) all
 
+-- the same for each block
 abbrev pub AreMarkedOnceInBlocks : List Graph → List Block → Type 0
 AreMarkedOnceInBlocks graphs all = AllByRecursion (λ (b : Block). AreMarkedOnceIn graphs b.instructions) all
 
+-- No place that some graphs begin has two markers in all of them.
 abbrev pub AreMarkedOnce : List Graph → List Graph → Type 0
 AreMarkedOnce graphs all = AllByRecursion (λ (g : Graph). AreMarkedOnceInBlocks graphs g.blocks) all
 

@@ -24,6 +24,7 @@ counts (Marker p) = 0
 counts (Note x v) = 0
 counts _ = 1
 
+-- how many instructions of a graph are counted
 abbrev pub instructions_of : Graph → ℕ
 instructions_of g = total (λ (b : Block). total counts b.instructions) g.blocks
 
@@ -32,6 +33,7 @@ abbrev pub arguments_in : Instruction → ℕ
 arguments_in (Call x f all) = length all
 arguments_in _ = 0
 
+-- the arguments of all calls of a graph
 abbrev pub arguments_of : Graph → ℕ
 arguments_of g = total (λ (b : Block). total arguments_in b.instructions) g.blocks
 
@@ -41,10 +43,12 @@ markers_in [] = []
 markers_in (Marker p ∷ more) = p ∷ markers_in more
 markers_in (_ ∷ more) = markers_in more
 
+-- the places that blocks begin, in order
 abbrev pub markers_of_blocks : List Block → List ℕ
 markers_of_blocks [] = []
 markers_of_blocks (b ∷ more) = markers_in b.instructions ++ markers_of_blocks more
 
+-- the places that graphs begin, in order
 abbrev pub markers_of : List Graph → List ℕ
 markers_of [] = []
 markers_of (g ∷ more) = markers_of_blocks g.blocks ++ markers_of more
@@ -53,6 +57,7 @@ markers_of (g ∷ more) = markers_of_blocks g.blocks ++ markers_of more
 abbrev pub taken_by : (bytes : ℕ) → ℕ
 taken_by bytes = 4 * words_of bytes + 4
 
+-- what an automatic object takes
 abbrev pub taken_by_object : MemoryObject → ℕ
 taken_by_object o = taken_by (o.count * size_of o.element)
 
@@ -77,6 +82,7 @@ abbrev pub KeepsPlace : List Instruction → (in_force kept : Option ℕ) → Ty
 KeepsPlace (Marker p ∷ more) place kept = ⊤
 KeepsPlace _ place kept = place ≡ kept
 
+-- there is a block, and it keeps the place in force
 abbrev pub IsKept : Option ℕ → Option Block → Type 0
 IsKept place None = ⊥
 IsKept place (Some b) = KeepsPlace b.instructions place b.place
@@ -111,6 +117,7 @@ module _ (g : Graph) where
   abbrev pub IsTarget : ℕ → Type 0
   IsTarget x = x < g.name_count
 
+  -- a name of the graph, if there is one
   abbrev pub IsWanted : Option ℕ → Type 0
   IsWanted None = ⊤
   IsWanted (Some x) = IsTarget x
@@ -140,6 +147,7 @@ module _ (statics : List StaticObject) where
   abbrev pub IsStatic : ℕ → Type 0
   IsStatic n = n < length statics
 
+  -- each relocation names a static object
   abbrev pub AreRelocations : List Relocation → Type 0
   AreRelocations all = AllByRecursion (λ (r : Relocation). IsStatic r.object) all
 
@@ -150,16 +158,19 @@ module _ (statics : List StaticObject) where
     IsOperand (Constant w) = ⊤
     IsOperand (StaticAddress object offset) = IsStatic object
 
+    -- each operand of a recipe names what its graph and its unit have
     abbrev pub AreOperandsOf : Recipe → Type 0
     AreOperandsOf (Of a) = IsOperand a
     AreOperandsOf (Truncated t r) = AreOperandsOf r
     AreOperandsOf (Operated o r s) = AreOperandsOf r × AreOperandsOf s
 
+    -- a location names what its graph and its unit have
     abbrev pub IsLocation : Location → Type 0
     IsLocation (Automatic object offset) = IsInObject (slice_get g.objects object) offset
     IsLocation (Static object) = IsStatic object
     IsLocation (At a) = IsOperand a
 
+    -- each operand of the end of a block names what its graph and its unit have
     abbrev pub AreOperandsOfEnd : End → Type 0
     AreOperandsOfEnd (Jump l) = ⊤
     AreOperandsOfEnd (Branch k a b l m) = IsOperand a × IsOperand b
@@ -173,6 +184,7 @@ module _ (u : UnitForm) where
     IsNoteValue (Is r) = AreOperandsOf u.statics g r × (depth_of r ≤ most_depth)
     IsNoteValue (Gone change) = (1 ≤ change) × (change ≤ length u.log)
 
+    -- An instruction names what its graph and its unit have.
     abbrev pub IsInstruction : Instruction → Type 0
     IsInstruction (Marker p) = ⊤
     IsInstruction (Note x v) = (x < length g.scalars) × IsNoteValue v
@@ -187,6 +199,7 @@ module _ (u : UnitForm) where
     IsInstruction (CopyWords object bytes words) = IsObject g object × (bytes < length u.array_bytes)
     IsInstruction (Call x f all) = IsWanted g x × AllByRecursion (IsOperand u.statics g) all × IsCall u.graphs f (length all)
 
+    -- A block is valid: its instructions have places, it keeps a place of its graph, it names what there is, and each edge from it leads to a block that keeps the place in force.
     pub record IsBlock (b : Block) : Type 0 where
       pub place : HasPlace b.instructions b.place
       pub own : IsOwnPlace g b.place
@@ -194,6 +207,7 @@ module _ (u : UnitForm) where
       pub operands : AreOperandsOfEnd u.statics g b.end
       pub edges : AreEdges g (place_at_end b) (targets_of b.end)
 
+    -- A graph is valid: its counts are within bounds, it begins in its entry's place, and its bindings and blocks name what there is.
     pub record IsGraph : Type 0 where
       pub instructions : instructions_of g ≤ most_instructions_of_function
       pub names : g.name_count ≤ most_names
@@ -207,6 +221,7 @@ module _ (u : UnitForm) where
       pub begins : IsKept (Some g.entry) (slice_get g.blocks 0)
       pub blocks : AllByRecursion IsBlock g.blocks
 
+  -- A unit is valid.
   pub record IsValid : Type 0 where
     pub functions : length u.graphs ≤ most_functions
     -- main is called with no argument

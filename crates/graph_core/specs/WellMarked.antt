@@ -55,6 +55,7 @@ module _ (u : UnitForm) (g : Graph) where
   IsRightNote p x variable v =
       ((v ≡ Is (Of (Name x))) × WrittenIn g p x) ⊎ ((v ≢ Is (Of (Name x))) × (WrittenIn g p x → ⊥) × WasRemoved u.log p variable)
 
+  -- A graph is well marked.
   pub record IsWellMarked : Type 0 where
     -- The graph begins with the marker of its entry, and no edge leads back there.
     pub begins : (b : Block) → slice_get g.blocks 0 ≡ Some b → (rest : List Instruction) × (b.instructions ≡ Marker g.entry ∷ rest)

@@ -1,4 +1,4 @@
-//! How much a valid unit may have. What is said "of a function" is asked of each.
+//! How much a valid unit, and a run of it, may have. What is said "of a function" is asked of each.
 
 /// Functions.
 pub const MAX_FUNCTIONS: usize = 256;
@@ -32,3 +32,6 @@ pub const MAX_STATIC_BYTES: u64 = 1_048_576;
 
 /// How deep the recipe of a note is.
 pub const MAX_RECIPE_DEPTH: u32 = 4;
+
+/// Activations that live at once.
+pub const MAX_ACTIVATIONS: usize = 1024;

@@ -32,6 +32,7 @@ block place instructions end = record { place = place; instructions = instructio
 abbrev pub entry_block : Block
 entry_block = block None (Marker 1 ∷ []) (Jump 1)
 
+-- the block of the return, with what is returned
 abbrev pub return_block : Operand → Block
 return_block returned = block (Some 2) (Marker 3 ∷ []) (Return (Some returned))
 
@@ -47,6 +48,7 @@ main_with assigns returned behind = record {
   blocks = entry_block ∷ block (Some 1) assigns (Jump 2) ∷ return_block returned ∷ behind;
 }
 
+-- the graph with no block behind those three
 abbrev pub main_of : List Instruction → Operand → Graph
 main_of assigns returned = main_with assigns returned []
 
@@ -54,6 +56,7 @@ main_of assigns returned = main_with assigns returned []
 abbrev pub unreached : List Instruction
 unreached = Note 0 (Is (Of (Name 0))) ∷ Call None Putchar (Name 0 ∷ []) ∷ []
 
+-- that block
 abbrev pub unreached_block : Block
 unreached_block = block (Some 2) unreached (Jump 2)
 
@@ -73,9 +76,11 @@ unit_of g log = record {
 abbrev pub assigns_two : List Instruction
 assigns_two = Marker 2 ∷ Move 0 (Constant 2) ∷ Note 0 (Is (Of (Name 0))) ∷ []
 
+-- the graph as it is built
 abbrev pub assigning : Graph
 assigning = main_with assigns_two (Name 0) (unreached_block ∷ [])
 
+-- the unit as it is built
 abbrev pub built : UnitForm
 built = unit_of assigning []
 
@@ -87,6 +92,7 @@ notes_two = Marker 2 ∷ Note 0 (Is (Of (Constant 2))) ∷ []
 abbrev pub noting_with : Operand → Graph
 noting_with returned = main_with notes_two returned (unreached_block ∷ [])
 
+-- the graph in which 2 is returned
 abbrev pub noting : Graph
 noting = noting_with (Constant 2)
 
@@ -94,6 +100,7 @@ noting = noting_with (Constant 2)
 abbrev pub removal : PassName → Logged
 removal pass = record { pass = pass; kind = Removed; place = 2; variable = 0 }
 
+-- the unit without the assignment
 abbrev pub reduced : PassName → UnitForm
 reduced pass = unit_of noting (removal pass ∷ [])
 
@@ -108,6 +115,7 @@ pub record AreWorked (pass : PassName) : Type 0 where
 abbrev pub notes_itself : List Instruction
 notes_itself = Marker 2 ∷ Note 0 (Is (Of (Name 0))) ∷ []
 
+-- that graph
 abbrev pub noting_itself : Graph
 noting_itself = main_with notes_itself (Constant 2) (unreached_block ∷ [])
 

@@ -28,9 +28,11 @@ noting_sum = of_three 3 (main_of (Marker 2 ∷ Note 0 (Is (Operated Add (Of (Nam
 abbrev pub by_temporary : List Instruction
 by_temporary = Operate 3 Add (Name 1) (Name 2) ∷ Move 0 (Name 3) ∷ Note 0 (Is (Of (Name 0))) ∷ []
 
+-- the instructions of that assignment
 abbrev pub adds_ahead : List Instruction
 adds_ahead = Marker 2 ∷ by_temporary
 
+-- the graph with them
 abbrev pub adding_ahead : Graph
 adding_ahead = of_three 4 (main_of adds_ahead (Name 0))
 
@@ -38,6 +40,7 @@ adding_ahead = of_three 4 (main_of adds_ahead (Name 0))
 abbrev pub adds_another : List Instruction
 adds_another = Marker 2 ∷ Operate 3 Add (Name 1) (Name 1) ∷ Move 0 (Name 3) ∷ Note 0 (Is (Of (Name 0))) ∷ []
 
+-- the graph with that sum
 abbrev pub adding_another : Graph
 adding_another = of_three 4 (main_of adds_another (Name 0))
 
@@ -45,11 +48,13 @@ adding_another = of_three 4 (main_of adds_another (Name 0))
 abbrev pub adds_in_three : List Instruction
 adds_in_three = Marker 3 ∷ Operate 0 Add (Name 1) (Name 2) ∷ Note 0 (Is (Of (Name 0))) ∷ []
 
+-- the graph with these instructions at the condition and at the assignment
 abbrev pub choosing : (at_condition at_assignment : List Instruction) → Graph
 choosing at_condition at_assignment = record (main_of [] (Name 0)) {
   blocks = entry_block ∷ block (Some 1) at_condition (Branch Less (Name 1) (Name 2) 2 3) ∷ block (Some 2) at_assignment (Jump 3) ∷ block None (Marker 4 ∷ []) (Return (Some (Name 0))) ∷ [];
 }
 
+-- the graph before
 abbrev pub adding_on_one_way : Graph
 adding_on_one_way = of_three 3 (choosing (Marker 2 ∷ []) adds_in_three)
 
@@ -57,9 +62,11 @@ adding_on_one_way = of_three 3 (choosing (Marker 2 ∷ []) adds_in_three)
 abbrev pub adds_at_condition : List Instruction
 adds_at_condition = Marker 2 ∷ Operate 3 Add (Name 1) (Name 2) ∷ Move 4 (Name 3) ∷ []
 
+-- the instructions of the assignment behind it
 abbrev pub copies_in_three : List Instruction
 copies_in_three = Marker 3 ∷ Move 0 (Name 3) ∷ Note 0 (Is (Of (Name 0))) ∷ []
 
+-- the graph behind it
 abbrev pub adding_on_each_way : Graph
 adding_on_each_way = of_three 5 (choosing adds_at_condition copies_in_three)
 
@@ -67,14 +74,17 @@ adding_on_each_way = of_three 5 (choosing adds_at_condition copies_in_three)
 abbrev pub notes_y_in : (place : ℕ) → List Instruction
 notes_y_in place = Marker place ∷ Note 0 (Is (Of (Name 1))) ∷ []
 
+-- the instructions of place 3
 abbrev pub prints_x : List Instruction
 prints_x = Marker 3 ∷ Call None Putchar (Name 0 ∷ []) ∷ []
 
+-- the graph with these instructions in place 4
 abbrev pub printing : (in_four : List Instruction) → Graph
 printing in_four = record (main_of [] (Constant 0)) {
   blocks = entry_block ∷ block (Some 1) (notes_y_in 2) (Jump 2) ∷ block (Some 2) prints_x (Jump 3) ∷ block (Some 3) in_four (Jump 4) ∷ block (Some 4) (Marker 5 ∷ []) (Return (Some (Constant 0))) ∷ [];
 }
 
+-- the graph before
 abbrev pub assigning_again : Graph
 assigning_again = of_three 3 (printing (Marker 4 ∷ Move 0 (Name 1) ∷ Note 0 (Is (Of (Name 0))) ∷ []))
 
@@ -86,6 +96,7 @@ noting_again = of_three 3 (printing (notes_y_in 4))
 abbrev pub copies_y : List Instruction
 copies_y = Marker 2 ∷ Move 0 (Name 1) ∷ Note 0 (Is (Of (Name 0))) ∷ []
 
+-- the graph as it is built
 abbrev pub copying : Graph
 copying = of_three 3 (main_of copies_y (Name 0))
 
