@@ -11,3 +11,8 @@ pub mod Valid
 pub mod Carrying
 pub mod Living
 pub mod Within
+pub mod Bitsets
+pub mod Weighing
+pub mod Working
+pub mod Tasks
+pub mod Following

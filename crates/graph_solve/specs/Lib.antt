@@ -9,3 +9,5 @@ pub mod SetProblems
 pub mod GraphFlow
 pub mod Live
 pub mod LiveLaws
+pub mod Rows
+pub mod Work

@@ -77,6 +77,22 @@ impl<'a> Problem for LiveNames<'a> {
         self.graph.name_count
     }
 
+    fn width(&self) -> u32 {
+        self.graph.name_count
+    }
+
+    fn unites(&self) -> bool {
+        true
+    }
+
+    fn kept(&self, block: u32, fact: u32) -> bool {
+        true
+    }
+
+    fn written(&self, block: u32, fact: u32) -> bool {
+        false
+    }
+
     fn edge(&self, alloc: Global) -> Result<Facts, AllocError> {
         Ok(Facts::new(alloc))
     }

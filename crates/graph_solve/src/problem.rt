@@ -19,6 +19,22 @@ pub trait Problem {
     fn height(&self) -> u32
         ensures { result ≡ (flow self.now).height };
 
+    /// A number below which all facts lie.
+    fn width(&self) -> u32
+        ensures { result ≡ (flow self.now).width };
+
+    /// Whether the meet is union, or else intersection.
+    fn unites(&self) -> bool
+        ensures { result ≡ (flow self.now).unites };
+
+    /// Whether a block keeps a fact that it is given.
+    fn kept(&self, block: u32, fact: u32) -> bool
+        ensures { result ≡ (flow self.now).kept block fact };
+
+    /// Whether a block makes a fact of its own.
+    fn written(&self, block: u32, fact: u32) -> bool
+        ensures { result ≡ (flow self.now).written block fact };
+
     /// The value at the entry, or at the function's ends where the problem is not forward.
     fn edge(&self, alloc: Global) -> Result<Facts, AllocError>
         ensures { IfOk result (λ value. value ≡ (flow self.now).edge) };

@@ -1,0 +1,53 @@
+//! What the solver knows of a problem and a graph before it begins.
+
+ghost use Rattle.std.specs.Prelude.{◌≡◌, ◌<◌, ◌≤◌, ◌+◌, ◌^◌, true, false, length, IfOk, map};
+ghost use Rattle.graph_solve.specs.Rounds.{directed};
+ghost use Rattle.graph_solve.specs.Solution.{AreWithin};
+ghost use Rattle.graph_solve.specs.Work.{AreTargets};
+
+use crate::directed::directed_edge;
+use crate::flow_graph::FlowGraph;
+use bit_rows::Rows;
+use std::alloc::{AllocError, Global};
+
+/// The problem in rows of bits, and the graph in the direction of its paths.
+#[derive(Drop)]
+pub(crate) struct Task {
+    pub blocks: u32,
+    pub height: u32,
+    pub unites: bool,
+    /// For each block the facts that it keeps.
+    pub kept: Rows,
+    /// For each block the facts that it makes.
+    pub written: Rows,
+    /// For each block those that paths lead to from it.
+    pub targets: Vec<Vec<u32>>,
+}
+
+/// As many empty lists as blocks.
+fn no_targets(alloc: Global, blocks: usize) -> Result<Vec<Vec<u32>>, AllocError>
+    ensures { IfOk result (λ targets. AreTargets [] blocks targets.items) }
+{
+    let mut targets = Vec::new(alloc);
+    for _block in 0..blocks {
+        targets.push(Vec::new(alloc))?;
+    }
+    Ok(targets)
+}
+
+/// For each block those that paths lead to from it.
+pub(crate) fn targets_of(
+    alloc: Global,
+    graph: &FlowGraph,
+    forward: bool,
+) -> Result<Vec<Vec<u32>>, AllocError>
+    requires { AreWithin (length graph.now.ends.items) graph.now.edges.items }
+    ensures { IfOk result (λ targets. AreTargets (map (directed forward) graph.now.edges.items) (length graph.now.ends.items) targets.items) }
+{
+    let mut targets = no_targets(alloc, graph.ends.len())?;
+    for edge in &graph.edges {
+        let edge = directed_edge(*edge, forward);
+        targets[edge.from as usize].push(edge.to)?;
+    }
+    Ok(targets)
+}
