@@ -15,7 +15,7 @@ use Rattle.bit_rows.proofs.Bits.{at_index, same_made, made_set}
 use Rattle.graph_solve.specs.Numbers.{Numbers, IsBelow}
 use Rattle.graph_solve.specs.Problem.{DataFlow}
 use Rattle.graph_solve.specs.SetLaws.{equal}
-use Rattle.graph_solve.specs.Rows.{numbers_from, set_of, set_at, sets_at}
+use Rattle.graph_solve.specs.Rows.{numbers_from, set_of, set_at, sets_at, table}
 
 apart : (n q : ℕ) → (q ≡ n → ⊥) → eq_by_cmp nat_cmp q n ≡ false
 apart n q ne = unsigned_tied q n ∙ ne_eqb q n ne
@@ -155,3 +155,6 @@ sets_set rows count to r lt = made_set (λ row. set_at rows (0 + row)) (λ row. 
 -- the sets of the first rows are not changed by a write behind them
 pub sets_before : (rows : List (List Bool)) (count to : ℕ) (r : List Bool) → count ≤ to → sets_at (set rows to r) 0 count ≡ sets_at rows 0 count
 sets_before rows count to r le = same_made (λ row. set_at (set rows to r) (0 + row)) (λ row. set_at rows (0 + row)) count (λ j less. elsewhere rows to (0 + j) r (λ q. omega (arith, q)))
+
+pub table_rows : (rows width : ℕ) (bits : ℕ → ℕ → Bool) → length (table rows width bits) ≡ rows
+table_rows rows width bits = length-map-range_with_len (λ row. map (bits row) (range_with_len 0 width)) 0 rows

@@ -16,3 +16,4 @@ pub mod Weighing
 pub mod Working
 pub mod Tasks
 pub mod Following
+pub mod Visiting
