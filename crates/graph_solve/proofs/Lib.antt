@@ -17,3 +17,5 @@ pub mod Working
 pub mod Tasks
 pub mod Following
 pub mod Visiting
+pub mod Filling
+pub mod Targets

@@ -9,5 +9,6 @@ pub mod SetProblems
 pub mod GraphFlow
 pub mod Live
 pub mod LiveLaws
+pub mod First
 pub mod Rows
 pub mod Work

@@ -3,6 +3,7 @@
 
 mod directed;
 mod facts;
+mod first;
 mod flow_graph;
 mod graph;
 mod live_names;

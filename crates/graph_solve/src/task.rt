@@ -1,6 +1,6 @@
 //! What the solver knows of a problem and a graph before it begins.
 
-ghost use Rattle.std.specs.Prelude.{◌≡◌, ◌<◌, ◌≤◌, ◌+◌, ◌^◌, true, false, length, IfOk, map};
+ghost use Rattle.std.specs.Prelude.{[], length, IfOk, map};
 ghost use Rattle.graph_solve.specs.Rounds.{directed};
 ghost use Rattle.graph_solve.specs.Solution.{AreWithin};
 ghost use Rattle.graph_solve.specs.Work.{AreTargets};
