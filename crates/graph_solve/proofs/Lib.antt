@@ -1,4 +1,4 @@
-pub mod Sets
+pub mod Trees
 pub mod Lists
 pub mod Falling
 pub mod Relaxing
@@ -19,3 +19,5 @@ pub mod Following
 pub mod Visiting
 pub mod Filling
 pub mod Targets
+pub mod Beginning
+pub mod Reading

@@ -12,3 +12,4 @@ pub mod LiveLaws
 pub mod First
 pub mod Rows
 pub mod Work
+pub mod Solved

@@ -77,3 +77,8 @@ to_come weight height work = falls_to_come weight height 0 work.counts.items + w
 -- of how many edges a block is the start
 abbrev pub edges_from : Task → ℕ → ℕ
 edges_from task block = length (slice_index_or (map (λ (v : Vec ℕ Global). v.items) task.targets.items) block [])
+
+-- the sum of the first weights, so many
+abbrev pub sum_to : (weight : ℕ → ℕ) → (count : ℕ) → ℕ
+sum_to weight zero = 0
+sum_to weight (suc count) = sum_to weight count + weight count

@@ -10,7 +10,7 @@ ghost use Rattle.graph_solve.specs.LiveLaws.{live_flow};
 use crate::facts::Facts;
 use crate::graph::solve;
 use crate::problem::Problem;
-use crate::solving::Solution;
+use crate::solved_rows::Solution;
 use graph_core::{Block, Graph, Instr, Name};
 use std::alloc::{AllocError, Global};
 
