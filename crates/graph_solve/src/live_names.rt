@@ -10,7 +10,7 @@ ghost use Rattle.graph_solve.specs.LiveLaws.{live_flow};
 use crate::facts::Facts;
 use crate::graph::solve;
 use crate::problem::Problem;
-use crate::solving::Solution;
+use crate::solved_rows::Solution;
 use graph_core::{Block, Graph, Instr, Name};
 use std::alloc::{AllocError, Global};
 
@@ -75,6 +75,22 @@ impl<'a> Problem for LiveNames<'a> {
 
     fn height(&self) -> u32 {
         self.graph.name_count
+    }
+
+    fn width(&self) -> u32 {
+        self.graph.name_count
+    }
+
+    fn unites(&self) -> bool {
+        true
+    }
+
+    fn kept(&self, block: u32, fact: u32) -> bool {
+        true
+    }
+
+    fn written(&self, block: u32, fact: u32) -> bool {
+        false
     }
 
     fn edge(&self, alloc: Global) -> Result<Facts, AllocError> {

@@ -4,7 +4,7 @@ use Rattle.graph_solve.specs.Rounds.{AreAllSettled, AreDirected, AreFalling, Fol
 use Rattle.graph_solve.proofs.Falling.{first_falling, follows_falling, met}
 use Rattle.graph_solve.proofs.Directing.{directed_within}
 use Rattle.graph_solve.proofs.Solved.{all_values, follows_size}
-use Rattle.graph_solve.proofs.solving.values_met.Goals as goal
+use Rattle.graph_solve.proofs.plain.values_met.Goals as goal
 
 pub loop-counts-init : goal.loop-counts-init
 loop-counts-init g c =

@@ -1,7 +1,7 @@
 use Rattle.std.proofs.Common.{◌≡◌, length}
 use Rattle.graph_solve.specs.Solution.{control_flow}
 use Rattle.graph_solve.specs.Rounds.{AreFalling, falls_left}
-use Rattle.graph_solve.proofs.solving.values_met.Given as goal
+use Rattle.graph_solve.proofs.plain.values_met.Given as goal
 
 abbrev pub invariant-loop-counts : goal.invariant-loop-counts
 invariant-loop-counts g l = record {

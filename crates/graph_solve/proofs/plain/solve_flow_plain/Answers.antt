@@ -2,7 +2,7 @@ use Rattle.std.proofs.Common.{sym, ◌∙◌, subst, length}
 use Rattle.graph_solve.specs.Solution.{control_flow}
 use Rattle.graph_solve.specs.Rounds.{AreMade}
 use Rattle.graph_solve.proofs.Solved.{solved_forward, solved_backward}
-use Rattle.graph_solve.proofs.solving.solve_flow.Goals as goal
+use Rattle.graph_solve.proofs.plain.solve_flow_plain.Goals as goal
 
 pub returns-then-forward : goal.returns-then-forward
 returns-then-forward g c =
