@@ -1,6 +1,6 @@
 //! What the operators give on values, or none where C leaves it undefined (ISO/IEC 9899:2011, 6.5).
 
-ghost use Rattle.std.specs.Prelude.{◌≡◌, map, pos, option_map};
+ghost use Rattle.std.specs.Prelude.{◌≡◌, ◌*ℤ◌, map, pos, option_map};
 ghost use Rattle.c_meaning.specs.Types.{size};
 ghost use Rattle.c_meaning.specs.declared.value.Value.TheVariants.{Number};
 ghost use Rattle.c_meaning.specs.Views.{object_view};
@@ -226,11 +226,18 @@ fn stride(direction: Direction, element: ObjectType) -> i64
     }
 }
 
+/// A product.
+fn product(left: i64, right: i64) -> i128
+    ensures { result ≡ left *ℤ right }
+{
+    i128::from(left) * i128::from(right)
+}
+
 /// So many elements in bytes, up or down.
 fn distance(direction: Direction, element: ObjectType, count: i64) -> i128
     ensures { result ≡ distance direction element count }
 {
-    i128::from(count) * i128::from(stride(direction, element))
+    product(count, stride(direction, element))
 }
 
 /// A pointer moved by so many elements.
