@@ -81,6 +81,6 @@ is_image = record {
   flow = record { each = search rules; ascend = search rules };
   assigned = record { each = search rules; ascend = search rules };
   rows = record { visible = search rules; verdicts = search rules; ascend = search rules };
-  nodes = record { homes = tt; tidy = tt; earlier = λ i n e. absurd cc; shallow = λ i lt. absurd (omega (arith, lt)); differ = λ i j x y ei ej same. absurd cc };
+  nodes = record { homes = tt; earlier = λ i n e. absurd cc; shallow = λ i lt. absurd (omega (arith, lt)); differ = λ i j x y ei ej same. absurd cc };
   names = names;
 }

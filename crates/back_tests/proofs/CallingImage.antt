@@ -84,6 +84,6 @@ is_image count call last few low short = record {
   flow = record { each = tt; ascend = tt };
   assigned = record { each = tt; ascend = tt };
   rows = record { visible = search rules; verdicts = search rules; ascend = search rules };
-  nodes = record { homes = tt; tidy = tt; earlier = λ i n e. absurd cc; shallow = λ i lt. absurd (omega (arith, lt)); differ = λ i j x y ei ej same. absurd cc };
+  nodes = record { homes = tt; earlier = λ i n e. absurd cc; shallow = λ i lt. absurd (omega (arith, lt)); differ = λ i j x y ei ej same. absurd cc };
   names = names count call last;
 }

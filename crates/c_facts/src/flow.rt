@@ -38,7 +38,8 @@ fn exits_of(statement: &TypedStatement) -> Exits
         TypedStatement::Block(body) => exits_of_all(ENTERED, body),
         TypedStatement::Declaration(_)
         | TypedStatement::Empty(_)
-        | TypedStatement::Expression { .. } => ENTERED,
+        | TypedStatement::Expression { .. }
+        | TypedStatement::While { .. } => ENTERED,
         TypedStatement::If { then, .. } => {
             let one = exits_of(then);
             Exits {
@@ -60,7 +61,6 @@ fn exits_of(statement: &TypedStatement) -> Exits
                 continues: one.continues || other.continues,
             }
         }
-        TypedStatement::While { .. } => ENTERED,
         TypedStatement::DoWhile { body, .. } => {
             let one = exits_of(body);
             Exits {
@@ -100,7 +100,8 @@ fn exits_of(statement: &TypedStatement) -> Exits
     }
 }
 
-fn has_default(all: &TypedStatements) -> bool
+/// Whether the block of a `switch` has a `default`.
+pub fn has_default(all: &TypedStatements) -> bool
     ensures { result ≡ has_default (statements_view all.now) }
 {
     let mut left = all;
@@ -108,8 +109,7 @@ fn has_default(all: &TypedStatements) -> bool
         match left {
             TypedStatements::End => return false,
             TypedStatements::Default(_) => return true,
-            TypedStatements::More(_, rest) => left = rest,
-            TypedStatements::Case(_, rest) => left = rest,
+            TypedStatements::More(_, rest) | TypedStatements::Case(_, rest) => left = rest,
         }
     }
 }
@@ -135,11 +135,7 @@ fn exits_of_all(before: Exits, all: &TypedStatements) -> Exits
                 }
                 left = rest;
             }
-            TypedStatements::Case(_, rest) => {
-                so_far.next = true;
-                left = rest;
-            }
-            TypedStatements::Default(rest) => {
+            TypedStatements::Case(_, rest) | TypedStatements::Default(rest) => {
                 so_far.next = true;
                 left = rest;
             }

@@ -1,8 +1,8 @@
-//! What the limits of programs count: which variables are kept in memory, and whether flow reaches the end of a function.
+//! Facts of typed statements: which variables are kept in memory, and where flow leads.
 #![tactic(auto)]
 
-pub mod flow;
-pub mod memory;
+mod flow;
+mod memory;
 
-pub use flow::{Exits, reaches_end};
+pub use flow::{has_default, reaches_end};
 pub use memory::kept_in_memory;

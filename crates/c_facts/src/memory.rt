@@ -12,6 +12,16 @@ use c_tree::{
 };
 use std::alloc::{AllocError, Global};
 
+// What a call gives; its failure is the function's own.
+macro_rules! given {
+    ($call:expr) => {
+        match $call {
+            Ok(value) => value,
+            Err(fault) => return Err(fault),
+        }
+    };
+}
+
 /// An object that is named.
 fn named(target: &Lvalue, kept: &mut Vec<u32>) -> Result<(), AllocError>
     ensures { OnOk result (kept.new.items ≡ named (lvalue_view target.now) kept.old.items) }
@@ -29,7 +39,7 @@ fn written(target: &Lvalue, skipped: bool, kept: &mut Vec<u32>) -> Result<(), Al
     ensures { OnOk result (kept.new.items ≡ written skipped (lvalue_view target.now) kept.old.items) }
 {
     if skipped {
-        named(target, kept)?;
+        given!(named(target, kept));
     }
     of_lvalue(target, skipped, kept)
 }
@@ -41,13 +51,18 @@ fn of_lvalue(l: &Lvalue, skipped: bool, kept: &mut Vec<u32>) -> Result<(), Alloc
     match l {
         Lvalue::Named { .. } => Ok(()),
         Lvalue::Target { pointer, .. } => of_rvalue(pointer, skipped, kept),
-        Lvalue::Element { pointer, index, .. } => {
-            of_rvalue(pointer, skipped, kept)?;
-            of_rvalue(index, skipped, kept)
+        Lvalue::Element {
+            pointer: first,
+            index: second,
+            ..
         }
-        Lvalue::ElementFrom { index, pointer, .. } => {
-            of_rvalue(index, skipped, kept)?;
-            of_rvalue(pointer, skipped, kept)
+        | Lvalue::ElementFrom {
+            index: first,
+            pointer: second,
+            ..
+        } => {
+            given!(of_rvalue(first, skipped, kept));
+            of_rvalue(second, skipped, kept)
         }
     }
 }
@@ -59,7 +74,7 @@ fn of_arguments(all: &Arguments, skipped: bool, kept: &mut Vec<u32>) -> Result<(
     match all {
         Arguments::End => Ok(()),
         Arguments::More(first, rest) => {
-            of_rvalue(first, skipped, kept)?;
+            given!(of_rvalue(first, skipped, kept));
             of_arguments(rest, skipped, kept)
         }
     }
@@ -72,46 +87,35 @@ fn of_rvalue(r: &Rvalue, skipped: bool, kept: &mut Vec<u32>) -> Result<(), Alloc
 {
     match r {
         Rvalue::Constant { .. } | Rvalue::Null => Ok(()),
-        Rvalue::Load { from, .. } => of_lvalue(from, skipped, kept),
-        Rvalue::Decay(from) => of_lvalue(from, skipped, kept),
+        Rvalue::Load { from, .. } | Rvalue::Decay(from) => of_lvalue(from, skipped, kept),
         Rvalue::AddressOf(from) => {
-            named(from, kept)?;
+            given!(named(from, kept));
             of_lvalue(from, skipped, kept)
         }
-        Rvalue::Convert { operand, .. } => of_rvalue(operand, skipped, kept),
-        Rvalue::Discard(operand) => of_rvalue(operand, skipped, kept),
-        Rvalue::Signed { operand, .. } => of_rvalue(operand, skipped, kept),
-        Rvalue::Not(operand) => of_rvalue(operand, skipped, kept),
-        Rvalue::Arithmetic { left, right, .. } => {
-            of_rvalue(left, skipped, kept)?;
+        Rvalue::Convert { operand, .. }
+        | Rvalue::Discard(operand)
+        | Rvalue::Signed { operand, .. }
+        | Rvalue::Not(operand) => of_rvalue(operand, skipped, kept),
+        Rvalue::Arithmetic { left, right, .. }
+        | Rvalue::Compare { left, right, .. }
+        | Rvalue::ComparePointers { left, right, .. }
+        | Rvalue::Move {
+            pointer: left,
+            by: right,
+            ..
+        }
+        | Rvalue::MoveFrom {
+            by: left,
+            pointer: right,
+            ..
+        }
+        | Rvalue::Difference { left, right, .. }
+        | Rvalue::Comma(left, right) => {
+            given!(of_rvalue(left, skipped, kept));
             of_rvalue(right, skipped, kept)
         }
-        Rvalue::Compare { left, right, .. } => {
-            of_rvalue(left, skipped, kept)?;
-            of_rvalue(right, skipped, kept)
-        }
-        Rvalue::ComparePointers { left, right, .. } => {
-            of_rvalue(left, skipped, kept)?;
-            of_rvalue(right, skipped, kept)
-        }
-        Rvalue::Move { pointer, by, .. } => {
-            of_rvalue(pointer, skipped, kept)?;
-            of_rvalue(by, skipped, kept)
-        }
-        Rvalue::MoveFrom { by, pointer, .. } => {
-            of_rvalue(by, skipped, kept)?;
-            of_rvalue(pointer, skipped, kept)
-        }
-        Rvalue::Difference { left, right, .. } => {
-            of_rvalue(left, skipped, kept)?;
-            of_rvalue(right, skipped, kept)
-        }
-        Rvalue::And(left, right) => {
-            of_rvalue(left, skipped, kept)?;
-            of_rvalue(right, true, kept)
-        }
-        Rvalue::Or(left, right) => {
-            of_rvalue(left, skipped, kept)?;
+        Rvalue::And(left, right) | Rvalue::Or(left, right) => {
+            given!(of_rvalue(left, skipped, kept));
             of_rvalue(right, true, kept)
         }
         Rvalue::Conditional {
@@ -119,28 +123,23 @@ fn of_rvalue(r: &Rvalue, skipped: bool, kept: &mut Vec<u32>) -> Result<(), Alloc
             then,
             otherwise,
         } => {
-            of_rvalue(condition, skipped, kept)?;
-            of_rvalue(then, true, kept)?;
+            given!(of_rvalue(condition, skipped, kept));
+            given!(of_rvalue(then, true, kept));
             of_rvalue(otherwise, true, kept)
         }
-        Rvalue::Comma(left, right) => {
-            of_rvalue(left, skipped, kept)?;
-            of_rvalue(right, skipped, kept)
-        }
-        Rvalue::Assign { target, value, .. } => {
-            written(target, skipped, kept)?;
+        Rvalue::Assign { target, value, .. }
+        | Rvalue::Update { target, value, .. }
+        | Rvalue::UpdatePointer {
+            target,
+            by: value,
+            ..
+        } => {
+            given!(written(target, skipped, kept));
             of_rvalue(value, skipped, kept)
         }
-        Rvalue::Update { target, value, .. } => {
-            written(target, skipped, kept)?;
-            of_rvalue(value, skipped, kept)
+        Rvalue::Step { target, .. } | Rvalue::StepPointer { target, .. } => {
+            written(target, skipped, kept)
         }
-        Rvalue::UpdatePointer { target, by, .. } => {
-            written(target, skipped, kept)?;
-            of_rvalue(by, skipped, kept)
-        }
-        Rvalue::Step { target, .. } => written(target, skipped, kept),
-        Rvalue::StepPointer { target, .. } => written(target, skipped, kept),
         Rvalue::Call { arguments, .. } => of_arguments(arguments, skipped, kept),
     }
 }
@@ -149,7 +148,7 @@ fn of_values(values: &[Rvalue], kept: &mut Vec<u32>) -> Result<(), AllocError>
     ensures { OnOk result (kept.new.items ≡ kept_values (map rvalue_view values.now) kept.old.items) }
 {
     for value in values {
-        of_rvalue(value, false, kept)?;
+        given!(of_rvalue(value, false, kept));
     }
     Ok(())
 }
@@ -168,7 +167,7 @@ fn of_declared(declared: &[Declared], kept: &mut Vec<u32>) -> Result<(), AllocEr
     ensures { OnOk result (kept.new.items ≡ kept_declared (map declared_view declared.now) kept.old.items) }
 {
     for one in declared {
-        of_initial(&one.initial, kept)?;
+        given!(of_initial(&one.initial, kept));
     }
     Ok(())
 }
@@ -212,11 +211,16 @@ fn of_statement(s: &TypedStatement, kept: &mut Vec<u32>) -> Result<(), AllocErro
         TypedStatement::Expression { value, .. } => of_rvalue(value, false, kept),
         TypedStatement::If {
             condition,
-            then,
+            then: body,
+            ..
+        }
+        | TypedStatement::While {
+            condition,
+            body,
             ..
         } => {
-            of_rvalue(condition, false, kept)?;
-            of_statement(then, kept)
+            given!(of_rvalue(condition, false, kept));
+            of_statement(body, kept)
         }
         TypedStatement::IfElse {
             condition,
@@ -224,24 +228,16 @@ fn of_statement(s: &TypedStatement, kept: &mut Vec<u32>) -> Result<(), AllocErro
             otherwise,
             ..
         } => {
-            of_rvalue(condition, false, kept)?;
-            of_statement(then, kept)?;
+            given!(of_rvalue(condition, false, kept));
+            given!(of_statement(then, kept));
             of_statement(otherwise, kept)
-        }
-        TypedStatement::While {
-            condition,
-            body,
-            ..
-        } => {
-            of_rvalue(condition, false, kept)?;
-            of_statement(body, kept)
         }
         TypedStatement::DoWhile {
             body,
             condition,
             ..
         } => {
-            of_statement(body, kept)?;
+            given!(of_statement(body, kept));
             of_rvalue(condition, false, kept)
         }
         TypedStatement::For {
@@ -251,13 +247,13 @@ fn of_statement(s: &TypedStatement, kept: &mut Vec<u32>) -> Result<(), AllocErro
             body,
             ..
         } => {
-            of_start(start, kept)?;
-            of_option(condition, kept)?;
-            of_step(step, kept)?;
+            given!(of_start(start, kept));
+            given!(of_option(condition, kept));
+            given!(of_step(step, kept));
             of_statement(body, kept)
         }
         TypedStatement::Switch { value, body, .. } => {
-            of_rvalue(value, false, kept)?;
+            given!(of_rvalue(value, false, kept));
             of_statements(body, kept)
         }
         TypedStatement::Return { value, .. } => of_option(value, kept),
@@ -273,11 +269,10 @@ fn of_statements(all: &TypedStatements, kept: &mut Vec<u32>) -> Result<(), Alloc
         match left {
             TypedStatements::End => return Ok(()),
             TypedStatements::More(first, rest) => {
-                of_statement(first, kept)?;
+                given!(of_statement(first, kept));
                 left = rest;
             }
-            TypedStatements::Case(_, rest) => left = rest,
-            TypedStatements::Default(rest) => left = rest,
+            TypedStatements::Case(_, rest) | TypedStatements::Default(rest) => left = rest,
         }
     }
 }

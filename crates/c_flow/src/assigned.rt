@@ -19,6 +19,16 @@ pub struct Assigned {
     pub object: Object,
 }
 
+// What a call gives; its failure is the function's own.
+macro_rules! given {
+    ($call:expr) => {
+        match $call {
+            Ok(value) => value,
+            Err(fault) => return Err(fault),
+        }
+    };
+}
+
 /// Adds an object that the place at a position assigns.
 fn add(at: u32, object: Object, found: &mut Vec<Assigned>) -> Result<(), AllocError>
     ensures { OnOk result (found.new.items ≡ found.old.items ++ assigns_object at object ∷ []) }
@@ -45,13 +55,18 @@ fn add_within(at: u32, target: &Lvalue, found: &mut Vec<Assigned>) -> Result<(),
     match target {
         Lvalue::Named { .. } => Ok(()),
         Lvalue::Target { pointer, .. } => add_expression(at, pointer, found),
-        Lvalue::Element { pointer, index, .. } => {
-            add_expression(at, pointer, found)?;
-            add_expression(at, index, found)
+        Lvalue::Element {
+            pointer: first,
+            index: second,
+            ..
         }
-        Lvalue::ElementFrom { index, pointer, .. } => {
-            add_expression(at, index, found)?;
-            add_expression(at, pointer, found)
+        | Lvalue::ElementFrom {
+            index: first,
+            pointer: second,
+            ..
+        } => {
+            given!(add_expression(at, first, found));
+            add_expression(at, second, found)
         }
     }
 }
@@ -64,7 +79,7 @@ fn add_arguments(at: u32, all: &Arguments, found: &mut Vec<Assigned>) -> Result<
     match all {
         Arguments::End => Ok(()),
         Arguments::More(first, rest) => {
-            add_expression(at, first, found)?;
+            given!(add_expression(at, first, found));
             add_arguments(at, rest, found)
         }
     }
@@ -77,38 +92,31 @@ fn add_expression(at: u32, e: &Rvalue, found: &mut Vec<Assigned>) -> Result<(), 
 {
     match e {
         Rvalue::Constant { .. } | Rvalue::Null => Ok(()),
-        Rvalue::Load { from, .. } => add_within(at, from, found),
-        Rvalue::Decay(from) | Rvalue::AddressOf(from) => add_within(at, from, found),
-        Rvalue::Convert { operand, .. } | Rvalue::Signed { operand, .. } => {
-            add_expression(at, operand, found)
+        Rvalue::Load { from, .. } | Rvalue::Decay(from) | Rvalue::AddressOf(from) => {
+            add_within(at, from, found)
         }
-        Rvalue::Discard(operand) | Rvalue::Not(operand) => add_expression(at, operand, found),
-        Rvalue::Arithmetic { left, right, .. } => {
-            add_expression(at, left, found)?;
-            add_expression(at, right, found)
+        Rvalue::Convert { operand, .. }
+        | Rvalue::Signed { operand, .. }
+        | Rvalue::Discard(operand)
+        | Rvalue::Not(operand) => add_expression(at, operand, found),
+        Rvalue::Arithmetic { left, right, .. }
+        | Rvalue::Compare { left, right, .. }
+        | Rvalue::ComparePointers { left, right, .. }
+        | Rvalue::Difference { left, right, .. }
+        | Rvalue::Move {
+            pointer: left,
+            by: right,
+            ..
         }
-        Rvalue::Compare { left, right, .. } => {
-            add_expression(at, left, found)?;
-            add_expression(at, right, found)
+        | Rvalue::MoveFrom {
+            by: left,
+            pointer: right,
+            ..
         }
-        Rvalue::ComparePointers { left, right, .. } => {
-            add_expression(at, left, found)?;
-            add_expression(at, right, found)
-        }
-        Rvalue::Difference { left, right, .. } => {
-            add_expression(at, left, found)?;
-            add_expression(at, right, found)
-        }
-        Rvalue::Move { pointer, by, .. } => {
-            add_expression(at, pointer, found)?;
-            add_expression(at, by, found)
-        }
-        Rvalue::MoveFrom { by, pointer, .. } => {
-            add_expression(at, by, found)?;
-            add_expression(at, pointer, found)
-        }
-        Rvalue::And(left, right) | Rvalue::Or(left, right) | Rvalue::Comma(left, right) => {
-            add_expression(at, left, found)?;
+        | Rvalue::And(left, right)
+        | Rvalue::Or(left, right)
+        | Rvalue::Comma(left, right) => {
+            given!(add_expression(at, left, found));
             add_expression(at, right, found)
         }
         Rvalue::Conditional {
@@ -116,27 +124,23 @@ fn add_expression(at: u32, e: &Rvalue, found: &mut Vec<Assigned>) -> Result<(), 
             then,
             otherwise,
         } => {
-            add_expression(at, condition, found)?;
-            add_expression(at, then, found)?;
+            given!(add_expression(at, condition, found));
+            given!(add_expression(at, then, found));
             add_expression(at, otherwise, found)
         }
-        Rvalue::Assign { target, value, .. } => {
-            add_named(at, target, found)?;
-            add_within(at, target, found)?;
+        Rvalue::Assign { target, value, .. }
+        | Rvalue::Update { target, value, .. }
+        | Rvalue::UpdatePointer {
+            target,
+            by: value,
+            ..
+        } => {
+            given!(add_named(at, target, found));
+            given!(add_within(at, target, found));
             add_expression(at, value, found)
-        }
-        Rvalue::Update { target, value, .. } => {
-            add_named(at, target, found)?;
-            add_within(at, target, found)?;
-            add_expression(at, value, found)
-        }
-        Rvalue::UpdatePointer { target, by, .. } => {
-            add_named(at, target, found)?;
-            add_within(at, target, found)?;
-            add_expression(at, by, found)
         }
         Rvalue::Step { target, .. } | Rvalue::StepPointer { target, .. } => {
-            add_named(at, target, found)?;
+            given!(add_named(at, target, found));
             add_within(at, target, found)
         }
         Rvalue::Call { arguments, .. } => add_arguments(at, arguments, found),
@@ -148,7 +152,7 @@ fn add_values(at: u32, all: &[Rvalue], found: &mut Vec<Assigned>) -> Result<(), 
     ensures { OnOk result (found.new.items ≡ found.old.items ++ assigned_by_values at (map rvalue_view all.now)) }
 {
     for e in all {
-        add_expression(at, e, found)?;
+        given!(add_expression(at, e, found));
     }
     Ok(())
 }
@@ -174,7 +178,7 @@ fn add_declarators(all: &[Declared], found: &mut Vec<Assigned>) -> Result<(), Al
             Object::Automatic(declared.variable),
             found,
         )?;
-        add_initial(declared.spot.at, &declared.initial, found)?;
+        given!(add_initial(declared.spot.at, &declared.initial, found));
     }
     Ok(())
 }
@@ -223,10 +227,20 @@ fn add_statement(statement: &TypedStatement, found: &mut Vec<Assigned>) -> Resul
         TypedStatement::If {
             spot,
             condition,
-            then,
+            then: body,
+        }
+        | TypedStatement::While {
+            spot,
+            condition,
+            body,
+        }
+        | TypedStatement::DoWhile {
+            body,
+            spot,
+            condition,
         } => {
-            add_expression(spot.at, condition, found)?;
-            add_statement(then, found)
+            given!(add_expression(spot.at, condition, found));
+            add_statement(body, found)
         }
         TypedStatement::IfElse {
             spot,
@@ -234,25 +248,9 @@ fn add_statement(statement: &TypedStatement, found: &mut Vec<Assigned>) -> Resul
             then,
             otherwise,
         } => {
-            add_expression(spot.at, condition, found)?;
-            add_statement(then, found)?;
+            given!(add_expression(spot.at, condition, found));
+            given!(add_statement(then, found));
             add_statement(otherwise, found)
-        }
-        TypedStatement::While {
-            spot,
-            condition,
-            body,
-        } => {
-            add_expression(spot.at, condition, found)?;
-            add_statement(body, found)
-        }
-        TypedStatement::DoWhile {
-            body,
-            spot,
-            condition,
-        } => {
-            add_expression(spot.at, condition, found)?;
-            add_statement(body, found)
         }
         TypedStatement::For {
             start,
@@ -261,13 +259,13 @@ fn add_statement(statement: &TypedStatement, found: &mut Vec<Assigned>) -> Resul
             step,
             body,
         } => {
-            add_start(start, found)?;
-            add_option(spot.at, condition, found)?;
-            add_step(step, found)?;
+            given!(add_start(start, found));
+            given!(add_option(spot.at, condition, found));
+            given!(add_step(step, found));
             add_statement(body, found)
         }
         TypedStatement::Switch { spot, value, body } => {
-            add_expression(spot.at, value, found)?;
+            given!(add_expression(spot.at, value, found));
             add_statements(body, found)
         }
         TypedStatement::Return { spot, value } => add_option(spot.at, value, found),
@@ -284,11 +282,10 @@ fn add_statements(all: &TypedStatements, found: &mut Vec<Assigned>) -> Result<()
         match left {
             TypedStatements::End => return Ok(()),
             TypedStatements::More(first, rest) => {
-                add_statement(first, found)?;
+                given!(add_statement(first, found));
                 left = rest;
             }
-            TypedStatements::Case(_, rest) => left = rest,
-            TypedStatements::Default(rest) => left = rest,
+            TypedStatements::Case(_, rest) | TypedStatements::Default(rest) => left = rest,
         }
     }
 }

@@ -97,31 +97,30 @@ fn is_in_expression(wanted: &Wanted<'_>, at: u32, e: &Rvalue) -> bool
 {
     match e {
         Rvalue::Constant { .. } | Rvalue::Null => false,
-        Rvalue::Load { from, .. } => is_within(wanted, at, from),
-        Rvalue::Decay(from) | Rvalue::AddressOf(from) => is_within(wanted, at, from),
-        Rvalue::Convert { operand, .. } | Rvalue::Signed { operand, .. } => {
-            is_in_expression(wanted, at, operand)
+        Rvalue::Load { from, .. } | Rvalue::Decay(from) | Rvalue::AddressOf(from) => {
+            is_within(wanted, at, from)
         }
-        Rvalue::Discard(operand) | Rvalue::Not(operand) => is_in_expression(wanted, at, operand),
-        Rvalue::Arithmetic { left, right, .. } => {
-            is_in_expression(wanted, at, left) || is_in_expression(wanted, at, right)
+        Rvalue::Convert { operand, .. }
+        | Rvalue::Signed { operand, .. }
+        | Rvalue::Discard(operand)
+        | Rvalue::Not(operand) => is_in_expression(wanted, at, operand),
+        Rvalue::Arithmetic { left, right, .. }
+        | Rvalue::Compare { left, right, .. }
+        | Rvalue::ComparePointers { left, right, .. }
+        | Rvalue::Difference { left, right, .. }
+        | Rvalue::Move {
+            pointer: left,
+            by: right,
+            ..
         }
-        Rvalue::Compare { left, right, .. } => {
-            is_in_expression(wanted, at, left) || is_in_expression(wanted, at, right)
+        | Rvalue::MoveFrom {
+            by: left,
+            pointer: right,
+            ..
         }
-        Rvalue::ComparePointers { left, right, .. } => {
-            is_in_expression(wanted, at, left) || is_in_expression(wanted, at, right)
-        }
-        Rvalue::Difference { left, right, .. } => {
-            is_in_expression(wanted, at, left) || is_in_expression(wanted, at, right)
-        }
-        Rvalue::Move { pointer, by, .. } => {
-            is_in_expression(wanted, at, pointer) || is_in_expression(wanted, at, by)
-        }
-        Rvalue::MoveFrom { by, pointer, .. } => {
-            is_in_expression(wanted, at, by) || is_in_expression(wanted, at, pointer)
-        }
-        Rvalue::And(left, right) | Rvalue::Or(left, right) | Rvalue::Comma(left, right) => {
+        | Rvalue::And(left, right)
+        | Rvalue::Or(left, right)
+        | Rvalue::Comma(left, right) => {
             is_in_expression(wanted, at, left) || is_in_expression(wanted, at, right)
         }
         Rvalue::Conditional {
@@ -133,15 +132,13 @@ fn is_in_expression(wanted: &Wanted<'_>, at: u32, e: &Rvalue) -> bool
                 || is_in_expression(wanted, at, then)
                 || is_in_expression(wanted, at, otherwise)
         }
-        Rvalue::Assign { target, value, .. } => {
-            is_in_target(wanted, at, target) || is_in_expression(wanted, at, value)
-        }
-        Rvalue::Update { target, value, .. } => {
-            is_in_target(wanted, at, target) || is_in_expression(wanted, at, value)
-        }
-        Rvalue::UpdatePointer { target, by, .. } => {
-            is_in_target(wanted, at, target) || is_in_expression(wanted, at, by)
-        }
+        Rvalue::Assign { target, value, .. }
+        | Rvalue::Update { target, value, .. }
+        | Rvalue::UpdatePointer {
+            target,
+            by: value,
+            ..
+        } => is_in_target(wanted, at, target) || is_in_expression(wanted, at, value),
         Rvalue::Step { target, .. } | Rvalue::StepPointer { target, .. } => {
             is_in_target(wanted, at, target)
         }
@@ -234,11 +231,6 @@ fn is_in_statement(wanted: &Wanted<'_>, statement: &TypedStatement) -> bool
         TypedStatement::Declaration(all) => is_in_declarators(wanted, all),
         TypedStatement::Empty(_) | TypedStatement::Break(_) | TypedStatement::Continue(_) => false,
         TypedStatement::Expression { spot, value } => is_in_expression(wanted, spot.at, value),
-        TypedStatement::If {
-            spot,
-            condition,
-            then,
-        } => is_in_expression(wanted, spot.at, condition) || is_in_statement(wanted, then),
         TypedStatement::IfElse {
             spot,
             condition,
@@ -249,7 +241,12 @@ fn is_in_statement(wanted: &Wanted<'_>, statement: &TypedStatement) -> bool
                 || is_in_statement(wanted, then)
                 || is_in_statement(wanted, otherwise)
         }
-        TypedStatement::While {
+        TypedStatement::If {
+            spot,
+            condition,
+            then: body,
+        }
+        | TypedStatement::While {
             spot,
             condition,
             body,
@@ -293,8 +290,7 @@ fn is_in_statements(wanted: &Wanted<'_>, all: &TypedStatements) -> bool
                 }
                 left = rest;
             }
-            TypedStatements::Case(_, rest) => left = rest,
-            TypedStatements::Default(rest) => left = rest,
+            TypedStatements::Case(_, rest) | TypedStatements::Default(rest) => left = rest,
         }
     }
 }

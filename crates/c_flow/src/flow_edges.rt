@@ -4,18 +4,27 @@ ghost use Rattle.std.specs.Prelude.{◌≡◌, ◌++◌, IfOk, OnOk, map, option
 ghost use Rattle.c_tree.specs.Programs.{function_view, program_view};
 ghost use Rattle.c_tree.specs.TypedExpressions.{rvalue_view};
 ghost use Rattle.c_tree.specs.TypedStatements.{declared_view, start_view, statement_view, statements_view, step_view};
-ghost use Rattle.c_facts.specs.Flow.{has_default};
 ghost use Rattle.c_flow.specs.Flow as definition;
 ghost use Rattle.c_flow.specs.Flow.{edge, flow_of, flow_of_all, flow_of_declarators, flow_of_function, flow_of_program, flow_of_start, flow_of_step, flow_out, flow_past, flow_to_labels, round_of, ways_of_body, within_loop};
 
 use crate::edge::{Edge, Ways};
 use crate::start::{start, start_of_all, start_of_declarators};
+use c_facts::{has_default, reaches_end};
 use c_tree::{
     Declared, Program, Rvalue, TypedFunction, TypedStart, TypedStatement, TypedStatements,
     TypedStep,
 };
-use c_facts::reaches_end;
 use std::alloc::{AllocError, Global};
+
+// What a call gives; its failure is the function's own.
+macro_rules! given {
+    ($call:expr) => {
+        match $call {
+            Ok(value) => value,
+            Err(fault) => return Err(fault),
+        }
+    };
+}
 
 /// Adds the edge from a place to another, if there is one.
 fn add_edge(from: u32, to: Option<u32>, found: &mut Vec<Edge>) -> Result<(), AllocError>
@@ -108,29 +117,10 @@ fn add_labels(
         match left {
             TypedStatements::End => return Ok(()),
             TypedStatements::More(_, rest) => left = rest,
-            TypedStatements::Case(_, rest) => {
+            TypedStatements::Case(_, rest) | TypedStatements::Default(rest) => {
                 add_edge(from, start_of_all(rest, next), found)?;
                 left = rest;
             }
-            TypedStatements::Default(rest) => {
-                add_edge(from, start_of_all(rest, next), found)?;
-                left = rest;
-            }
-        }
-    }
-}
-
-/// Whether the block of a `switch` has a `default`.
-fn has_default(all: &TypedStatements) -> bool
-    ensures { result ≡ has_default (statements_view all.now) }
-{
-    let mut left = all;
-    loop {
-        match left {
-            TypedStatements::End => return false,
-            TypedStatements::Default(_) => return true,
-            TypedStatements::More(_, rest) => left = rest,
-            TypedStatements::Case(_, rest) => left = rest,
         }
     }
 }
@@ -190,8 +180,8 @@ fn add_statement(
             add_edge(spot.at, ways.next, found)
         }
         TypedStatement::If { spot, then, .. } => {
-            add_edge(spot.at, start(then, ways.next), found)?;
-            add_edge(spot.at, ways.next, found)?;
+            given!(add_edge(spot.at, start(then, ways.next), found));
+            given!(add_edge(spot.at, ways.next, found));
             add_statement(ways, then, found)
         }
         TypedStatement::IfElse {
@@ -200,13 +190,13 @@ fn add_statement(
             otherwise,
             ..
         } => {
-            add_edge(spot.at, start(then, ways.next), found)?;
-            add_edge(spot.at, start(otherwise, ways.next), found)?;
-            add_statement(ways, then, found)?;
+            given!(add_edge(spot.at, start(then, ways.next), found));
+            given!(add_edge(spot.at, start(otherwise, ways.next), found));
+            given!(add_statement(ways, then, found));
             add_statement(ways, otherwise, found)
         }
         TypedStatement::While { spot, body, .. } | TypedStatement::DoWhile { body, spot, .. } => {
-            add_condition(spot.at, body, ways.next, found)?;
+            given!(add_condition(spot.at, body, ways.next, found));
             add_statement(within_loop(spot.at, ways), body, found)
         }
         TypedStatement::For {
@@ -217,15 +207,15 @@ fn add_statement(
             body,
         } => {
             let round = round_of(step, spot.at);
-            add_start(begin, spot.at, found)?;
-            add_edge(spot.at, start(body, Some(round)), found)?;
-            add_way_out(condition, spot.at, ways.next, found)?;
-            add_step(step, spot.at, found)?;
+            given!(add_start(begin, spot.at, found));
+            given!(add_edge(spot.at, start(body, Some(round)), found));
+            given!(add_way_out(condition, spot.at, ways.next, found));
+            given!(add_step(step, spot.at, found));
             add_statement(within_loop(round, ways), body, found)
         }
         TypedStatement::Switch { spot, body, .. } => {
-            add_labels(spot.at, body, ways.next, found)?;
-            add_way_past(spot.at, body, ways.next, found)?;
+            given!(add_labels(spot.at, body, ways.next, found));
+            given!(add_way_past(spot.at, body, ways.next, found));
             let within = Ways {
                 next: ways.next,
                 by_break: ways.next,
@@ -258,11 +248,10 @@ fn add_statements(
                     by_break: ways.by_break,
                     by_continue: ways.by_continue,
                 };
-                add_statement(before, first, found)?;
+                given!(add_statement(before, first, found));
                 left = rest;
             }
-            TypedStatements::Case(_, rest) => left = rest,
-            TypedStatements::Default(rest) => left = rest,
+            TypedStatements::Case(_, rest) | TypedStatements::Default(rest) => left = rest,
         }
     }
 }

@@ -5,10 +5,10 @@ ghost use Rattle.c_tree.specs.Programs.{function_view, program_view};
 ghost use Rattle.c_tree.specs.TypedStatements.{declared_view, start_view, statement_view, statements_view, step_view};
 ghost use Rattle.c_flow.specs.PlacesBefore.{close_before, declarators_before, function_before, places_before, spot_before, start_before, statement_before, statements_before, step_before};
 
+use c_facts::reaches_end;
 use c_tree::{
     Declared, Program, TypedFunction, TypedStart, TypedStatement, TypedStatements, TypedStep,
 };
-use c_facts::reaches_end;
 use debug_records::Spot;
 
 /// What is left of a number after a spot that may stand before the position.
@@ -115,8 +115,7 @@ fn after_statements(at: u32, all: &TypedStatements, number: u32) -> u32
                 left = after_statement(at, first, left);
                 rest = others;
             }
-            TypedStatements::Case(_, others) => rest = others,
-            TypedStatements::Default(others) => rest = others,
+            TypedStatements::Case(_, others) | TypedStatements::Default(others) => rest = others,
         }
     }
 }

@@ -61,7 +61,8 @@ pub fn start_of_all(all: &TypedStatements, next: Option<u32>) -> Option<u32>
             Some(at) => Some(at),
             None => start_of_all(rest, next),
         },
-        TypedStatements::Case(_, rest) => start_of_all(rest, next),
-        TypedStatements::Default(rest) => start_of_all(rest, next),
+        TypedStatements::Case(_, rest) | TypedStatements::Default(rest) => {
+            start_of_all(rest, next)
+        }
     }
 }

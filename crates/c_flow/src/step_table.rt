@@ -19,7 +19,11 @@ use places::FlowStep;
 use std::alloc::{AllocError, Global};
 
 /// The steps that edges are, among places at these positions, in order of the edges.
-fn numbered_steps(alloc: Global, positions: &[u32], edges: &[Edge]) -> Result<Vec<FlowStep>, AllocError>
+fn numbered_steps(
+    alloc: Global,
+    positions: &[u32],
+    edges: &[Edge],
+) -> Result<Vec<FlowStep>, AllocError>
     requires sorted { IsNonDecreasing positions.now }
     requires few { length positions.now + 1 < 2 ^ 32 }
     ensures { IfOk result (λ v. v.items ≡ map (step_between positions.now) edges.now) }

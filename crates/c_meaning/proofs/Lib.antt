@@ -1,4 +1,3 @@
-pub mod Numbers
 pub mod Objects
 pub mod Rounds
 pub mod Statics

@@ -1,62 +1,41 @@
 -- What the operators give on values, or none where C leaves it undefined (ISO/IEC 9899:2011, 6.5).
 use Rattle.std.specs.Prelude.{ℕ, zero, suc, ◌==◌, ◌&&◌, not, ℤ, pos, negsuc, ◌-ℤ◌, ◌*ℤ◌, int_div, neg_ℤ, Bool, true, false, if◌then◌else◌, Option, Some, None, option_map}
-use Rattle.c_tree.specs.declared.types.IntegerType as named
+use Rattle.c_tree.specs.declared.types.IntegerType.{IntegerType}
 use Rattle.c_tree.specs.declared.object_type.ObjectType.{ObjectType}
 use Rattle.c_tree.specs.declared.typed_expression.Arithmetic.{Arithmetic}
-use Rattle.c_tree.specs.declared.typed_expression.Arithmetic.TheVariants.{Multiply, Divide, Remainder, Add, Subtract, ShiftLeft, ShiftRight, BitAnd, BitXor, BitOr}
+use Rattle.c_tree.specs.declared.typed_expression.Arithmetic.TheVariants.{Add, Subtract}
 use Rattle.c_tree.specs.declared.typed_expression.Comparison.{Comparison}
 use Rattle.c_tree.specs.declared.typed_expression.Comparison.TheVariants.{Less, Greater, LessEqual, GreaterEqual, Equal, NotEqual}
 use Rattle.c_tree.specs.declared.typed_expression.Sign.{Sign}
-use Rattle.c_tree.specs.declared.typed_expression.Sign.TheVariants.{Plus, Minus, Complement}
 use Rattle.c_tree.specs.declared.typed_expression.Direction.{Direction}
 use Rattle.c_tree.specs.declared.typed_expression.Direction.TheVariants.{Up, Down}
-use Rattle.word_base.specs.Types.{IntegerType, converted, in_range, int_type}
-use Rattle.word_base.specs.Operations.{sum, difference, product, quotient, remainder, left_shift, right_shift, bits_in_both, bits_in_either, bits_in_one, complement, negation, truth, less_than, at_most, equal_to}
+use Rattle.word_base.specs.Types.{in_range, int_type}
+use Rattle.word_base.specs.Operations.{truth}
+use Rattle.c_type_rules.specs.Constants as constant
+use Rattle.c_type_rules.specs.Integers.{wrapped}
 use Rattle.c_meaning.specs.declared.value.Value.{Value}
 use Rattle.c_meaning.specs.declared.value.Value.TheVariants.{Number, Null, Pointer}
-use Rattle.c_meaning.specs.Types.{integer, size}
+use Rattle.c_meaning.specs.Types.{size}
 use Rattle.c_meaning.specs.Memory.{Memory, is_usable, moved}
 
 -- an operator on two numbers of a type, of which a shift's count has a type of its own (6.5.5 to 6.5.7, 6.5.10 to 6.5.12)
-abbrev pub calculated : Arithmetic → IntegerType → ℤ → ℤ → Option ℤ
-calculated Multiply t a b = product t a b
-calculated Divide t a b = quotient t a b
-calculated Remainder t a b = remainder t a b
-calculated Add t a b = sum t a b
-calculated Subtract t a b = difference t a b
-calculated ShiftLeft t a b = left_shift t a b
-calculated ShiftRight t a b = right_shift t a b
-calculated BitAnd t a b = bits_in_both t a b
-calculated BitXor t a b = bits_in_one t a b
-calculated BitOr t a b = bits_in_either t a b
-
-abbrev pub arithmetic : Arithmetic → named.IntegerType → Value → Value → Option Value
-arithmetic o t (Number a) (Number b) = option_map Number (calculated o (integer t) a b)
+abbrev pub arithmetic : Arithmetic → IntegerType → Value → Value → Option Value
+arithmetic o t (Number a) (Number b) = option_map Number (constant.calculated o t a b)
 arithmetic o t _ _ = None
 
 -- a sign before a number of a promoted type (6.5.3.3)
-abbrev pub sign_of : Sign → IntegerType → ℤ → Option ℤ
-sign_of Plus t z = Some z
-sign_of Minus t z = negation t z
-sign_of Complement t z = complement t z
-
-abbrev pub signed : Sign → named.IntegerType → Value → Option Value
-signed o t (Number z) = option_map Number (sign_of o (integer t) z)
+abbrev pub signed : Sign → IntegerType → Value → Option Value
+signed o t (Number z) = option_map Number (constant.signed o t z)
 signed o t _ = None
 
 -- a number converted to an integer type (6.3.1.3)
-abbrev pub convert : named.IntegerType → Value → Option Value
-convert t (Number z) = Some (Number (converted (integer t) z))
+abbrev pub convert : IntegerType → Value → Option Value
+convert t (Number z) = Some (Number (wrapped t z))
 convert t _ = None
 
 -- whether a comparison of two numbers holds, as an `int` (6.5.8p6, 6.5.9p3)
 abbrev pub compared : Comparison → ℤ → ℤ → ℤ
-compared Less a b = less_than a b
-compared Greater a b = less_than b a
-compared LessEqual a b = at_most a b
-compared GreaterEqual a b = at_most b a
-compared Equal a b = equal_to a b
-compared NotEqual a b = pos 1 -ℤ equal_to a b
+compared o a b = truth (constant.compared o a b)
 
 abbrev pub comparison : Comparison → Value → Value → Option Value
 comparison o (Number a) (Number b) = Some (Number (compared o a b))

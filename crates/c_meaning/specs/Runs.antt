@@ -15,7 +15,8 @@ use Rattle.c_meaning.specs.declared.value.Phase.TheVariants.{Live}
 use Rattle.c_meaning.specs.declared.event.Frame.{Frame}
 use Rattle.c_meaning.specs.declared.event.Ending.{Ending}
 use Rattle.c_meaning.specs.declared.event.Ending.TheVariants.{Undefined, Exit, Depth, Turns}
-use Rattle.c_meaning.specs.Types.{integer, integer_size, scalar_size, element_of, count_of}
+use Rattle.c_type_rules.specs.Integers.{integer}
+use Rattle.c_meaning.specs.Types.{integer_size, scalar_size, element_of, count_of}
 use Rattle.c_meaning.specs.Memory.{Object, Memory, with_value}
 use Rattle.c_places.specs.Places.{Place, places_of_program, numbers_from, parameters_of}
 use Rattle.c_meaning.specs.States.{Event, Exited, TooDeep, State, Evaluated, Gives, Leaves, Ends, Outcome, Next, Broken, Continued, Returned, Ended}

@@ -1,28 +1,15 @@
--- The types of a program: their numbers, and how many bytes they have (ISO/IEC 9899:2011, 6.2.5, 6.5.3.4).
+-- The types of a program: how many bytes they have (ISO/IEC 9899:2011, 6.2.5, 6.5.3.4).
 use Rattle.std.specs.Prelude.{ℕ, zero, suc, ◌*◌, pos}
-use Rattle.c_tree.specs.declared.types.IntegerType as named
+use Rattle.c_tree.specs.declared.types.IntegerType.{IntegerType}
 use Rattle.c_tree.specs.declared.types.IntegerType.TheVariants.{Char, SignedChar, UnsignedChar, Short, UnsignedShort, Int, UnsignedInt, Long, UnsignedLong}
 use Rattle.c_tree.specs.declared.object_type.Scalar.{Scalar}
 use Rattle.c_tree.specs.declared.object_type.ObjectType.{ObjectType}
 use Rattle.c_tree.specs.declared.object_type.ObjectType.TheVariants as type
-use Rattle.word_base.specs.Types.{IntegerType, char_type, signed_char_type, short_type, unsigned_short_type, int_type, unsigned_type}
 use Rattle.c_meaning.specs.declared.value.Value.{Value}
 use Rattle.c_meaning.specs.declared.value.Value.TheVariants.{Number, Null}
 
--- the width and the sign of a named integer type
-abbrev pub integer : named.IntegerType → IntegerType
-integer Char = char_type
-integer SignedChar = signed_char_type
-integer UnsignedChar = char_type
-integer Short = short_type
-integer UnsignedShort = unsigned_short_type
-integer Int = int_type
-integer UnsignedInt = unsigned_type
-integer Long = int_type
-integer UnsignedLong = unsigned_type
-
 -- how many bytes an integer type has
-abbrev pub integer_size : named.IntegerType → ℕ
+abbrev pub integer_size : IntegerType → ℕ
 integer_size Char = 1
 integer_size SignedChar = 1
 integer_size UnsignedChar = 1
@@ -34,7 +21,7 @@ integer_size Long = 4
 integer_size UnsignedLong = 4
 
 -- by how many `*` a type leads to an integer type: with none it has the integer type's bytes, a pointer has 4
-abbrev pub size_by_stars : named.IntegerType → ℕ → ℕ
+abbrev pub size_by_stars : IntegerType → ℕ → ℕ
 size_by_stars base zero = integer_size base
 size_by_stars base (suc stars) = 4
 

@@ -28,6 +28,16 @@ use std::alloc::{AllocError, Global};
 
 const UNDEFINED: Evaluated = Evaluated::Ends(Ending::Undefined);
 
+// What a call gives; its failure is the function's own.
+macro_rules! done {
+    ($call:expr) => {
+        match $call {
+            Ok(value) => value,
+            Err(fault) => return Err(fault),
+        }
+    };
+}
+
 /// What an expression comes to at a place.
 #[cycle(run)]
 pub fn evaluate(
@@ -43,23 +53,23 @@ pub fn evaluate(
         Rvalue::Constant { value, .. } => Ok(Evaluated::Gives(Value::Number(*value))),
         Rvalue::Null => Ok(Evaluated::Gives(Value::Null)),
         Rvalue::Load { from, .. } => {
-            let found = designate(alloc, here, place, from, state)?;
+            let found = done!(designate(alloc, here, place, from, state));
             Ok(load_from(found, state))
         }
         Rvalue::Decay(from) => {
-            let found = designate(alloc, here, place, from, state)?;
+            let found = done!(designate(alloc, here, place, from, state));
             Ok(decay_from(found, state))
         }
         Rvalue::AddressOf(from) => {
-            let found = designate(alloc, here, place, from, state)?;
+            let found = done!(designate(alloc, here, place, from, state));
             Ok(found)
         }
         Rvalue::Convert { to, operand } => {
-            let value = evaluate(alloc, here, place, operand, state)?;
+            let value = done!(evaluate(alloc, here, place, operand, state));
             Ok(convert_from(*to, value))
         }
         Rvalue::Discard(operand) => {
-            let value = evaluate(alloc, here, place, operand, state)?;
+            let value = done!(evaluate(alloc, here, place, operand, state));
             Ok(discard(value))
         }
         Rvalue::Signed {
@@ -67,11 +77,11 @@ pub fn evaluate(
             integer_type,
             operand,
         } => {
-            let value = evaluate(alloc, here, place, operand, state)?;
+            let value = done!(evaluate(alloc, here, place, operand, state));
             Ok(sign_from(*sign, *integer_type, value))
         }
         Rvalue::Not(operand) => {
-            let test = evaluate_test(alloc, here, place, operand, state)?;
+            let test = done!(evaluate_test(alloc, here, place, operand, state));
             Ok(not_of(test))
         }
         Rvalue::Arithmetic {
@@ -80,7 +90,7 @@ pub fn evaluate(
             left,
             right,
         } => {
-            let operands = evaluate_both(alloc, here, place, left, right, state)?;
+            let operands = done!(evaluate_both(alloc, here, place, left, right, state));
             Ok(arithmetic_from(*operator, *integer_type, operands))
         }
         Rvalue::Compare {
@@ -89,7 +99,7 @@ pub fn evaluate(
             right,
             ..
         } => {
-            let operands = evaluate_both(alloc, here, place, left, right, state)?;
+            let operands = done!(evaluate_both(alloc, here, place, left, right, state));
             Ok(comparison_from(*operator, operands))
         }
         Rvalue::ComparePointers {
@@ -97,7 +107,7 @@ pub fn evaluate(
             left,
             right,
         } => {
-            let operands = evaluate_both(alloc, here, place, left, right, state)?;
+            let operands = done!(evaluate_both(alloc, here, place, left, right, state));
             Ok(pointer_comparison_from(*operator, operands, state))
         }
         Rvalue::Move {
@@ -106,7 +116,7 @@ pub fn evaluate(
             pointer,
             by,
         } => {
-            let operands = evaluate_both(alloc, here, place, pointer, by, state)?;
+            let operands = done!(evaluate_both(alloc, here, place, pointer, by, state));
             Ok(moved_from(*direction, *element, operands, state))
         }
         Rvalue::MoveFrom {
@@ -114,7 +124,7 @@ pub fn evaluate(
             element,
             pointer,
         } => {
-            let operands = evaluate_both(alloc, here, place, by, pointer, state)?;
+            let operands = done!(evaluate_both(alloc, here, place, by, pointer, state));
             Ok(moved_behind(*element, operands, state))
         }
         Rvalue::Difference {
@@ -122,21 +132,21 @@ pub fn evaluate(
             left,
             right,
         } => {
-            let operands = evaluate_both(alloc, here, place, left, right, state)?;
+            let operands = done!(evaluate_both(alloc, here, place, left, right, state));
             Ok(difference_from(*element, operands, state))
         }
-        Rvalue::And(left, right) => match evaluate_test(alloc, here, place, left, state)? {
+        Rvalue::And(left, right) => match done!(evaluate_test(alloc, here, place, left, state)) {
             Tested::Holds => {
-                let test = evaluate_test(alloc, here, place, right, state)?;
+                let test = done!(evaluate_test(alloc, here, place, right, state));
                 Ok(truth_of(test))
             }
             Tested::Fails => Ok(Evaluated::Gives(Value::Number(0))),
             Tested::NoTest(ending) => Ok(Evaluated::Ends(ending)),
         },
-        Rvalue::Or(left, right) => match evaluate_test(alloc, here, place, left, state)? {
+        Rvalue::Or(left, right) => match done!(evaluate_test(alloc, here, place, left, state)) {
             Tested::Holds => Ok(Evaluated::Gives(Value::Number(1))),
             Tested::Fails => {
-                let test = evaluate_test(alloc, here, place, right, state)?;
+                let test = done!(evaluate_test(alloc, here, place, right, state));
                 Ok(truth_of(test))
             }
             Tested::NoTest(ending) => Ok(Evaluated::Ends(ending)),
@@ -145,26 +155,26 @@ pub fn evaluate(
             condition,
             then,
             otherwise,
-        } => match evaluate_test(alloc, here, place, condition, state)? {
+        } => match done!(evaluate_test(alloc, here, place, condition, state)) {
             Tested::Holds => {
-                let value = evaluate(alloc, here, place, then, state)?;
+                let value = done!(evaluate(alloc, here, place, then, state));
                 Ok(value)
             }
             Tested::Fails => {
-                let value = evaluate(alloc, here, place, otherwise, state)?;
+                let value = done!(evaluate(alloc, here, place, otherwise, state));
                 Ok(value)
             }
             Tested::NoTest(ending) => Ok(Evaluated::Ends(ending)),
         },
-        Rvalue::Comma(left, right) => match evaluate(alloc, here, place, left, state)? {
+        Rvalue::Comma(left, right) => match done!(evaluate(alloc, here, place, left, state)) {
             Evaluated::Gives(_) | Evaluated::Leaves => {
-                let value = evaluate(alloc, here, place, right, state)?;
+                let value = done!(evaluate(alloc, here, place, right, state));
                 Ok(value)
             }
             Evaluated::Ends(ending) => Ok(Evaluated::Ends(ending)),
         },
         Rvalue::Assign { target, value, .. } => {
-            let operands = designate_and_evaluate(alloc, here, place, target, value, state)?;
+            let operands = done!(designate_and_evaluate(alloc, here, place, target, value, state));
             Ok(assigned(operands, state))
         }
         Rvalue::Update {
@@ -173,9 +183,9 @@ pub fn evaluate(
             integer_type,
             target,
             value,
-        } => match locate(alloc, here, place, target, state)? {
+        } => match done!(locate(alloc, here, place, target, state)) {
             Operands::Pair(pointer, old) => {
-                let right = evaluate(alloc, here, place, value, state)?;
+                let right = done!(evaluate(alloc, here, place, value, state));
                 Ok(update(
                     *operator,
                     *target_type,
@@ -193,9 +203,9 @@ pub fn evaluate(
             element,
             target,
             by,
-        } => match locate(alloc, here, place, target, state)? {
+        } => match done!(locate(alloc, here, place, target, state)) {
             Operands::Pair(pointer, old) => {
-                let right = evaluate(alloc, here, place, by, state)?;
+                let right = done!(evaluate(alloc, here, place, by, state));
                 Ok(update_pointer(*direction, *element, pointer, old, right, state))
             }
             Operands::NoPair(ending) => Ok(Evaluated::Ends(ending)),
@@ -207,7 +217,7 @@ pub fn evaluate(
             integer_type,
             target,
         } => {
-            let operands = locate(alloc, here, place, target, state)?;
+            let operands = done!(locate(alloc, here, place, target, state));
             Ok(step(
                 *direction,
                 *given,
@@ -223,15 +233,15 @@ pub fn evaluate(
             element,
             target,
         } => {
-            let operands = locate(alloc, here, place, target, state)?;
+            let operands = done!(locate(alloc, here, place, target, state));
             Ok(step_pointer(*direction, *given, *element, operands, state))
         }
         Rvalue::Call { callee, arguments } => {
             let mut values = Vec::new(alloc);
-            match evaluate_all(alloc, here, place, arguments, &mut values, state)? {
+            match done!(evaluate_all(alloc, here, place, arguments, &mut values, state)) {
                 Some(ending) => Ok(Evaluated::Ends(ending)),
                 None => {
-                    let value = call_callee(alloc, here, place, *callee, &values, state)?;
+                    let value = done!(call_callee(alloc, here, place, *callee, &values, state));
                     Ok(value)
                 }
             }
@@ -250,7 +260,7 @@ fn evaluate_test(
 ) -> Result<Tested, AllocError>
     ensures { IfOk result (λ t. tested_view t (state_view state.new) ≡ tested (evaluates here.now place (rvalue_view e.now) (state_view state.old))) }
 {
-    let value = evaluate(alloc, here, place, e, state)?;
+    let value = done!(evaluate(alloc, here, place, e, state));
     Ok(tested(value, state))
 }
 
@@ -266,9 +276,9 @@ fn evaluate_both(
 ) -> Result<Operands, AllocError>
     ensures { IfOk result (λ b. both_view b (state_view state.new) ≡ both (evaluates here.now place (rvalue_view left.now) (state_view state.old)) (evaluates here.now place (rvalue_view right.now))) }
 {
-    match evaluate(alloc, here, place, left, state)? {
+    match done!(evaluate(alloc, here, place, left, state)) {
         Evaluated::Gives(value) => {
-            let other = evaluate(alloc, here, place, right, state)?;
+            let other = done!(evaluate(alloc, here, place, right, state));
             Ok(second(value, other))
         }
         Evaluated::Leaves => Ok(Operands::NoPair(Ending::Undefined)),
@@ -288,9 +298,9 @@ fn designate_and_evaluate(
 ) -> Result<Operands, AllocError>
     ensures { IfOk result (λ b. both_view b (state_view state.new) ≡ both (designates here.now place (lvalue_view target.now) (state_view state.old)) (evaluates here.now place (rvalue_view right.now))) }
 {
-    match designate(alloc, here, place, target, state)? {
+    match done!(designate(alloc, here, place, target, state)) {
         Evaluated::Gives(value) => {
-            let other = evaluate(alloc, here, place, right, state)?;
+            let other = done!(evaluate(alloc, here, place, right, state));
             Ok(second(value, other))
         }
         Evaluated::Leaves => Ok(Operands::NoPair(Ending::Undefined)),
@@ -309,7 +319,7 @@ fn locate(
 ) -> Result<Operands, AllocError>
     ensures { IfOk result (λ b. both_view b (state_view state.new) ≡ located (designates here.now place (lvalue_view target.now) (state_view state.old))) }
 {
-    let found = designate(alloc, here, place, target, state)?;
+    let found = done!(designate(alloc, here, place, target, state));
     Ok(located(found, state))
 }
 
@@ -327,15 +337,15 @@ fn designate(
     match l {
         Lvalue::Named { object, .. } => { Ok(given(named(here.depth(), *object, &state.memory))) }
         Lvalue::Target { pointer, .. } => {
-            let found = evaluate(alloc, here, place, pointer, state)?;
+            let found = done!(evaluate(alloc, here, place, pointer, state));
             Ok(usable_from(found, state))
         }
         Lvalue::Element { of, pointer, index } => {
-            let operands = evaluate_both(alloc, here, place, pointer, index, state)?;
+            let operands = done!(evaluate_both(alloc, here, place, pointer, index, state));
             Ok(moved_from(c_tree::Direction::Up, *of, operands, state))
         }
         Lvalue::ElementFrom { of, index, pointer } => {
-            let operands = evaluate_both(alloc, here, place, index, pointer, state)?;
+            let operands = done!(evaluate_both(alloc, here, place, index, pointer, state));
             Ok(moved_behind(*of, operands, state))
         }
     }
@@ -355,10 +365,10 @@ fn evaluate_all(
 {
     match arguments {
         Arguments::End => Ok(None),
-        Arguments::More(first, rest) => match evaluate(alloc, here, place, first, state)? {
+        Arguments::More(first, rest) => match done!(evaluate(alloc, here, place, first, state)) {
             Evaluated::Gives(value) => {
                 values.push(value)?;
-                let ending = evaluate_all(alloc, here, place, rest, values, state)?;
+                let ending = done!(evaluate_all(alloc, here, place, rest, values, state));
                 Ok(ending)
             }
             Evaluated::Leaves => Ok(Some(Ending::Undefined)),
@@ -431,7 +441,7 @@ pub fn call_function(
         waiting,
         left: left - 1,
     };
-    let value = activate(alloc, &here, values, state)?;
+    let value = done!(activate(alloc, &here, values, state));
     Ok(value)
 }
 
@@ -453,8 +463,8 @@ fn activate(
             }
             let first = state.memory.len();
             bind(alloc, here, function, values, state)?;
-            let outcome = execute_statements(alloc, here, &function.body, state)?;
-            let closed = at_close(alloc, here, function.close, outcome, state)?;
+            let outcome = done!(execute_statements(alloc, here, &function.body, state));
+            let closed = done!(at_close(alloc, here, function.close, outcome, state));
             let value = handed_back(here.function == here.program.main, closed);
             forget(first, value, state);
             Ok(value)

@@ -2,7 +2,6 @@
 #![tactic(auto)]
 
 mod activation;
-mod arithmetic;
 mod calls;
 mod event;
 mod execution;

@@ -6,11 +6,11 @@ ghost use Rattle.c_meaning.specs.declared.value.Value.TheVariants.{Number};
 ghost use Rattle.c_meaning.specs.Views.{object_view};
 ghost use Rattle.c_meaning.specs.Operations.{arithmetic, compared, comparison, convert, distance, stride, elements_from, elements_between, if_usable, is_same_pointer, is_true, moved_by, order_of, pointer_comparison, pointer_difference, pointers_compared, signed};
 
-use crate::arithmetic::{calculated, compared, converted, product, sign_of, truth};
 use crate::memory::{Object, is_usable, moved};
 use crate::types::size;
 use crate::value::Value;
 use c_tree::{Arithmetic, Comparison, Direction, IntegerType, ObjectType, Sign};
+use c_type_rules::{calculated, compared, truth, wrapped};
 
 /// A number, or none.
 fn number(value: Option<i64>) -> Option<Value>
@@ -37,7 +37,7 @@ pub fn signed(sign: Sign, of: IntegerType, operand: Value) -> Option<Value>
     ensures { result ≡ signed sign of operand }
 {
     match operand {
-        Value::Number(a) => number(sign_of(sign, of, a)),
+        Value::Number(a) => number(c_type_rules::signed(sign, of, a)),
         _ => None,
     }
 }
@@ -47,7 +47,7 @@ pub fn convert(of: IntegerType, operand: Value) -> Option<Value>
     ensures { result ≡ convert of operand }
 {
     match operand {
-        Value::Number(a) => Some(Value::Number(converted(of, i128::from(a)))),
+        Value::Number(a) => Some(Value::Number(wrapped(of, i128::from(a)))),
         _ => None,
     }
 }
@@ -57,7 +57,9 @@ pub fn comparison(operator: Comparison, left: Value, right: Value) -> Option<Val
     ensures { result ≡ comparison operator left right }
 {
     match (left, right) {
-        (Value::Number(a), Value::Number(b)) => Some(Value::Number(compared(operator, a, b))),
+        (Value::Number(a), Value::Number(b)) => Some(Value::Number(truth(compared(
+            operator, a, b,
+        )))),
         _ => None,
     }
 }
@@ -92,7 +94,7 @@ fn offsets_compared(operator: Comparison, i: u128, j: u128) -> i64
         Comparison::LessEqual => truth(i <= j),
         Comparison::GreaterEqual => truth(j <= i),
         Comparison::Equal => truth(i == j),
-        Comparison::NotEqual => 1 - truth(i == j),
+        Comparison::NotEqual => truth(i != j),
     }
 }
 
@@ -228,7 +230,7 @@ fn stride(direction: Direction, element: ObjectType) -> i64
 fn distance(direction: Direction, element: ObjectType, count: i64) -> i128
     ensures { result ≡ distance direction element count }
 {
-    product(count, stride(direction, element))
+    i128::from(count) * i128::from(stride(direction, element))
 }
 
 /// A pointer moved by so many elements.

@@ -19,6 +19,16 @@ use c_tree::{Declared, Initial, Rvalue, TypedStart, TypedStatement, TypedStateme
 use debug_records::Spot;
 use std::alloc::{AllocError, Global};
 
+// What a call gives; its failure is the function's own.
+macro_rules! done {
+    ($call:expr) => {
+        match $call {
+            Ok(value) => value,
+            Err(fault) => return Err(fault),
+        }
+    };
+}
+
 /// What an expression of the place at a spot comes to.
 #[cycle(run)]
 fn value_at(
@@ -30,7 +40,7 @@ fn value_at(
 ) -> Result<Evaluated, AllocError>
     ensures { IfOk result (λ v. evaluated_view v (state_view state.new) ≡ values_at here.now spot (rvalue_view e.now) (state_view state.old)) }
 {
-    let value = evaluate(alloc, here, number_at(here.places, spot.at), e, state)?;
+    let value = done!(evaluate(alloc, here, number_at(here.places, spot.at), e, state));
     Ok(value)
 }
 
@@ -45,7 +55,7 @@ fn test_at(
 ) -> Result<Tested, AllocError>
     ensures { IfOk result (λ t. tested_view t (state_view state.new) ≡ tests_at here.now spot (rvalue_view e.now) (state_view state.old)) }
 {
-    let value = value_at(alloc, here, spot, e, state)?;
+    let value = done!(value_at(alloc, here, spot, e, state));
     Ok(tested(value, state))
 }
 
@@ -63,7 +73,7 @@ fn check(
     match condition {
         None => Ok(Tested::Holds),
         Some(e) => {
-            let test = test_at(alloc, here, spot, e, state)?;
+            let test = done!(test_at(alloc, here, spot, e, state));
             Ok(test)
         }
     }
@@ -80,10 +90,10 @@ fn run(
 ) -> Result<Outcome, AllocError>
     ensures { IfOk result (λ o. outcome_view o (state_view state.new) ≡ runs here.now spot (rvalue_view e.now) (state_view state.old)) }
 {
-    if !here.begin(alloc, spot, state)? {
+    if !done!(here.begin(alloc, spot, state)) {
         return Ok(Outcome::Ended(Ending::Turns));
     }
-    let value = value_at(alloc, here, spot, e, state)?;
+    let value = done!(value_at(alloc, here, spot, e, state));
     Ok(effect(value))
 }
 
@@ -100,7 +110,7 @@ fn run_step(
     match part {
         None => Ok(Outcome::Next),
         Some(part) => {
-            let outcome = run(alloc, here, part.spot, &part.value, state)?;
+            let outcome = done!(run(alloc, here, part.spot, &part.value, state));
             Ok(outcome)
         }
     }
@@ -119,11 +129,11 @@ fn begin_loop(
     match start {
         TypedStart::Nothing => Ok(Outcome::Next),
         TypedStart::Expression { spot, value } => {
-            let outcome = run(alloc, here, *spot, value, state)?;
+            let outcome = done!(run(alloc, here, *spot, value, state));
             Ok(outcome)
         }
         TypedStart::Declaration(all) => {
-            let outcome = declare_all(alloc, here, all, state)?;
+            let outcome = done!(declare_all(alloc, here, all, state));
             Ok(outcome)
         }
     }
@@ -141,9 +151,9 @@ fn declare_all(
 {
     match all.split_first() {
         None => Ok(Outcome::Next),
-        Some((first, rest)) => match declare(alloc, here, first, state)? {
+        Some((first, rest)) => match done!(declare(alloc, here, first, state)) {
             Outcome::Next => {
-                let outcome = declare_all(alloc, here, rest, state)?;
+                let outcome = done!(declare_all(alloc, here, rest, state));
                 Ok(outcome)
             }
             outcome => Ok(outcome),
@@ -161,7 +171,7 @@ fn declare(
 ) -> Result<Outcome, AllocError>
     ensures { IfOk result (λ o. outcome_view o (state_view state.new) ≡ declares here.now (declared_view d.now) (state_view state.old)) }
 {
-    if !here.begin(alloc, d.spot, state)? {
+    if !done!(here.begin(alloc, d.spot, state)) {
         return Ok(Outcome::Ended(Ending::Turns));
     }
     let object = state.memory.len();
@@ -172,7 +182,7 @@ fn declare(
         }
         Initial::Scalar(e) => {
             make(alloc, here, Phase::Initialising, d.variable as usize, state)?;
-            match value_at(alloc, here, d.spot, e, state)? {
+            match done!(value_at(alloc, here, d.spot, e, state)) {
                 Evaluated::Gives(value) => {
                     initialise(object, value, state);
                     Ok(Outcome::Next)
@@ -183,7 +193,7 @@ fn declare(
         }
         Initial::Elements(all) => {
             make(alloc, here, Phase::Live, d.variable as usize, state)?;
-            let outcome = initialise_elements(alloc, here, d.spot, object, 0, all, state)?;
+            let outcome = done!(initialise_elements(alloc, here, d.spot, object, 0, all, state));
             Ok(outcome)
         }
         Initial::Literal(number) => {
@@ -210,10 +220,10 @@ fn initialise_elements(
 {
     match all.split_first() {
         None => Ok(Outcome::Next),
-        Some((first, rest)) => match value_at(alloc, here, spot, first, state)? {
+        Some((first, rest)) => match done!(value_at(alloc, here, spot, first, state)) {
             Evaluated::Gives(value) => {
                 store_element(object, index, value, state);
-                let outcome = initialise_elements(
+                let outcome = done!(initialise_elements(
                     alloc,
                     here,
                     spot,
@@ -221,7 +231,7 @@ fn initialise_elements(
                     index + 1,
                     rest,
                     state,
-                )?;
+                ));
                 Ok(outcome)
             }
             Evaluated::Leaves => Ok(Outcome::Ended(Ending::Undefined)),
@@ -243,22 +253,22 @@ fn execute(
     match statement {
         TypedStatement::Block(all) => {
             let first = state.memory.len();
-            let outcome = execute_all(alloc, here, all, state)?;
+            let outcome = done!(execute_all(alloc, here, all, state));
             close(first, outcome, state);
             Ok(outcome)
         }
         TypedStatement::Declaration(all) => {
-            let outcome = declare_all(alloc, here, all, state)?;
+            let outcome = done!(declare_all(alloc, here, all, state));
             Ok(outcome)
         }
         TypedStatement::Empty(spot) => {
-            if !here.begin(alloc, *spot, state)? {
+            if !done!(here.begin(alloc, *spot, state)) {
                 return Ok(Outcome::Ended(Ending::Turns));
             }
             Ok(Outcome::Next)
         }
         TypedStatement::Expression { spot, value } => {
-            let outcome = run(alloc, here, *spot, value, state)?;
+            let outcome = done!(run(alloc, here, *spot, value, state));
             Ok(outcome)
         }
         TypedStatement::If {
@@ -266,12 +276,12 @@ fn execute(
             condition,
             then,
         } => {
-            if !here.begin(alloc, *spot, state)? {
+            if !done!(here.begin(alloc, *spot, state)) {
                 return Ok(Outcome::Ended(Ending::Turns));
             }
-            match test_at(alloc, here, *spot, condition, state)? {
+            match done!(test_at(alloc, here, *spot, condition, state)) {
                 Tested::Holds => {
-                    let outcome = execute(alloc, here, then, state)?;
+                    let outcome = done!(execute(alloc, here, then, state));
                     Ok(outcome)
                 }
                 Tested::Fails => Ok(Outcome::Next),
@@ -284,16 +294,16 @@ fn execute(
             then,
             otherwise,
         } => {
-            if !here.begin(alloc, *spot, state)? {
+            if !done!(here.begin(alloc, *spot, state)) {
                 return Ok(Outcome::Ended(Ending::Turns));
             }
-            match test_at(alloc, here, *spot, condition, state)? {
+            match done!(test_at(alloc, here, *spot, condition, state)) {
                 Tested::Holds => {
-                    let outcome = execute(alloc, here, then, state)?;
+                    let outcome = done!(execute(alloc, here, then, state));
                     Ok(outcome)
                 }
                 Tested::Fails => {
-                    let outcome = execute(alloc, here, otherwise, state)?;
+                    let outcome = done!(execute(alloc, here, otherwise, state));
                     Ok(outcome)
                 }
                 Tested::NoTest(ending) => Ok(Outcome::Ended(ending)),
@@ -304,7 +314,7 @@ fn execute(
             condition,
             body,
         } => {
-            let outcome = execute_while(alloc, here, *spot, condition, body, state)?;
+            let outcome = done!(execute_while(alloc, here, *spot, condition, body, state));
             Ok(outcome)
         }
         TypedStatement::DoWhile {
@@ -312,7 +322,7 @@ fn execute(
             spot,
             condition,
         } => {
-            let outcome = execute_do(alloc, here, *spot, condition, body, state)?;
+            let outcome = done!(execute_do(alloc, here, *spot, condition, body, state));
             Ok(outcome)
         }
         TypedStatement::For {
@@ -323,7 +333,7 @@ fn execute(
             body,
         } => {
             let first = state.memory.len();
-            let outcome = match begin_loop(alloc, here, start, state)? {
+            let outcome = match done!(begin_loop(alloc, here, start, state)) {
                 Outcome::Next => execute_for(alloc, here, *spot, condition, step, body, state)?,
                 outcome => outcome,
             };
@@ -331,23 +341,23 @@ fn execute(
             Ok(outcome)
         }
         TypedStatement::Switch { spot, value, body } => {
-            let outcome = execute_switch(alloc, here, *spot, value, body, state)?;
+            let outcome = done!(execute_switch(alloc, here, *spot, value, body, state));
             Ok(outcome)
         }
         TypedStatement::Break(spot) => {
-            if !here.begin(alloc, *spot, state)? {
+            if !done!(here.begin(alloc, *spot, state)) {
                 return Ok(Outcome::Ended(Ending::Turns));
             }
             Ok(Outcome::Broken)
         }
         TypedStatement::Continue(spot) => {
-            if !here.begin(alloc, *spot, state)? {
+            if !done!(here.begin(alloc, *spot, state)) {
                 return Ok(Outcome::Ended(Ending::Turns));
             }
             Ok(Outcome::Continued)
         }
         TypedStatement::Return { spot, value } => {
-            let outcome = execute_return(alloc, here, *spot, value, state)?;
+            let outcome = done!(execute_return(alloc, here, *spot, value, state));
             Ok(outcome)
         }
     }
@@ -365,15 +375,15 @@ pub fn execute_all(
 {
     match all {
         TypedStatements::End => Ok(Outcome::Next),
-        TypedStatements::More(first, rest) => match execute(alloc, here, first, state)? {
+        TypedStatements::More(first, rest) => match done!(execute(alloc, here, first, state)) {
             Outcome::Next => {
-                let outcome = execute_all(alloc, here, rest, state)?;
+                let outcome = done!(execute_all(alloc, here, rest, state));
                 Ok(outcome)
             }
             outcome => Ok(outcome),
         },
         TypedStatements::Case(_, rest) | TypedStatements::Default(rest) => {
-            let outcome = execute_all(alloc, here, rest, state)?;
+            let outcome = done!(execute_all(alloc, here, rest, state));
             Ok(outcome)
         }
     }
@@ -394,15 +404,15 @@ fn execute_case(
         TypedStatements::End => Ok(Outcome::Next),
         TypedStatements::Case(label, rest) => {
             if number == *label {
-                let outcome = execute_all(alloc, here, rest, state)?;
+                let outcome = done!(execute_all(alloc, here, rest, state));
                 Ok(outcome)
             } else {
-                let outcome = execute_case(alloc, here, number, rest, state)?;
+                let outcome = done!(execute_case(alloc, here, number, rest, state));
                 Ok(outcome)
             }
         }
         TypedStatements::More(_, rest) | TypedStatements::Default(rest) => {
-            let outcome = execute_case(alloc, here, number, rest, state)?;
+            let outcome = done!(execute_case(alloc, here, number, rest, state));
             Ok(outcome)
         }
     }
@@ -421,11 +431,11 @@ fn execute_default(
     match all {
         TypedStatements::End => Ok(Outcome::Next),
         TypedStatements::Default(rest) => {
-            let outcome = execute_all(alloc, here, rest, state)?;
+            let outcome = done!(execute_all(alloc, here, rest, state));
             Ok(outcome)
         }
         TypedStatements::More(_, rest) | TypedStatements::Case(_, rest) => {
-            let outcome = execute_default(alloc, here, rest, state)?;
+            let outcome = done!(execute_default(alloc, here, rest, state));
             Ok(outcome)
         }
     }
@@ -454,16 +464,16 @@ fn execute_switch(
 ) -> Result<Outcome, AllocError>
     ensures { IfOk result (λ o. outcome_view o (state_view state.new) ≡ executes here.now (Switch spot (rvalue_view value.now) (statements_view body.now)) (state_view state.old)) }
 {
-    if !here.begin(alloc, spot, state)? {
+    if !done!(here.begin(alloc, spot, state)) {
         return Ok(Outcome::Ended(Ending::Turns));
     }
-    match value_at(alloc, here, spot, value, state)? {
+    match done!(value_at(alloc, here, spot, value, state)) {
         Evaluated::Gives(Value::Number(number)) => {
             if has_case(number, body) {
-                let outcome = execute_case(alloc, here, number, body, state)?;
+                let outcome = done!(execute_case(alloc, here, number, body, state));
                 Ok(left_switch(outcome))
             } else {
-                let outcome = execute_default(alloc, here, body, state)?;
+                let outcome = done!(execute_default(alloc, here, body, state));
                 Ok(left_switch(outcome))
             }
         }
@@ -493,12 +503,12 @@ fn execute_return(
 ) -> Result<Outcome, AllocError>
     ensures { IfOk result (λ o. outcome_view o (state_view state.new) ≡ executes here.now (Return spot (option_map rvalue_view value.now)) (state_view state.old)) }
 {
-    if !here.begin(alloc, spot, state)? {
+    if !done!(here.begin(alloc, spot, state)) {
         return Ok(Outcome::Ended(Ending::Turns));
     }
     match value {
         None => Ok(Outcome::Returned(None)),
-        Some(e) => match value_at(alloc, here, spot, e, state)? {
+        Some(e) => match done!(value_at(alloc, here, spot, e, state)) {
             Evaluated::Gives(value) => Ok(Outcome::Returned(Some(value))),
             Evaluated::Leaves => Ok(Outcome::Ended(Ending::Undefined)),
             Evaluated::Ends(ending) => Ok(Outcome::Ended(ending)),
@@ -543,7 +553,7 @@ fn execute_while(
     let mut rest = state.turns;
     while rest > 0 {
         rest -= 1;
-        let round = while_round(alloc, here, spot, condition, body, state)?;
+        let round = done!(while_round(alloc, here, spot, condition, body, state));
         match round {
             Round::Again => {}
             Round::Leave(outcome) => return Ok(outcome),
@@ -564,12 +574,12 @@ fn while_round(
 ) -> Result<Round, AllocError>
     ensures { IfOk result (λ r. (again : states.State → states.Outcome) → round_view r again (state_view state.new) ≡ while_round (activation_view here.now) spot (tests_at here.now spot (rvalue_view condition.now)) (executes here.now (statement_view body.now)) again (state_view state.old)) }
 {
-    if !here.begin(alloc, spot, state)? {
+    if !done!(here.begin(alloc, spot, state)) {
         return Ok(Round::Leave(Outcome::Ended(Ending::Turns)));
     }
-    match test_at(alloc, here, spot, condition, state)? {
+    match done!(test_at(alloc, here, spot, condition, state)) {
         Tested::Holds => {
-            let outcome = execute(alloc, here, body, state)?;
+            let outcome = done!(execute(alloc, here, body, state));
             Ok(behind_body(outcome))
         }
         Tested::Fails => Ok(Round::Leave(Outcome::Next)),
@@ -593,7 +603,7 @@ fn execute_do(
     let mut rest = state.turns;
     while rest > 0 {
         rest -= 1;
-        let round = do_round(alloc, here, spot, condition, body, state)?;
+        let round = done!(do_round(alloc, here, spot, condition, body, state));
         match round {
             Round::Again => {}
             Round::Leave(outcome) => return Ok(outcome),
@@ -614,14 +624,14 @@ fn do_round(
 ) -> Result<Round, AllocError>
     ensures { IfOk result (λ r. (again : states.State → states.Outcome) → round_view r again (state_view state.new) ≡ do_round (activation_view here.now) spot (tests_at here.now spot (rvalue_view condition.now)) (executes here.now (statement_view body.now)) again (state_view state.old)) }
 {
-    let outcome = execute(alloc, here, body, state)?;
+    let outcome = done!(execute(alloc, here, body, state));
     match behind_body(outcome) {
         Round::Leave(outcome) => Ok(Round::Leave(outcome)),
         Round::Again => {
-            if !here.begin(alloc, spot, state)? {
+            if !done!(here.begin(alloc, spot, state)) {
                 return Ok(Round::Leave(Outcome::Ended(Ending::Turns)));
             }
-            match test_at(alloc, here, spot, condition, state)? {
+            match done!(test_at(alloc, here, spot, condition, state)) {
                 Tested::Holds => Ok(Round::Again),
                 Tested::Fails => Ok(Round::Leave(Outcome::Next)),
                 Tested::NoTest(ending) => Ok(Round::Leave(Outcome::Ended(ending))),
@@ -647,7 +657,7 @@ fn execute_for(
     let mut rest = state.turns;
     while rest > 0 {
         rest -= 1;
-        let round = for_round(alloc, here, spot, condition, part, body, state)?;
+        let round = done!(for_round(alloc, here, spot, condition, part, body, state));
         match round {
             Round::Again => {}
             Round::Leave(outcome) => return Ok(outcome),
@@ -669,16 +679,16 @@ fn for_round(
 ) -> Result<Round, AllocError>
     ensures { IfOk result (λ r. (again : states.State → states.Outcome) → round_view r again (state_view state.new) ≡ for_round (activation_view here.now) spot (checks here.now spot (option_map rvalue_view condition.now)) (executes here.now (statement_view body.now)) (steps here.now (option_map step_view part.now)) again (state_view state.old)) }
 {
-    if !here.begin(alloc, spot, state)? {
+    if !done!(here.begin(alloc, spot, state)) {
         return Ok(Round::Leave(Outcome::Ended(Ending::Turns)));
     }
-    match check(alloc, here, spot, condition, state)? {
+    match done!(check(alloc, here, spot, condition, state)) {
         Tested::Holds => {
-            let outcome = execute(alloc, here, body, state)?;
+            let outcome = done!(execute(alloc, here, body, state));
             match behind_body(outcome) {
                 Round::Leave(outcome) => Ok(Round::Leave(outcome)),
                 Round::Again => {
-                    let outcome = run_step(alloc, here, part, state)?;
+                    let outcome = done!(run_step(alloc, here, part, state));
                     Ok(behind_step(outcome))
                 }
             }

@@ -8,11 +8,11 @@ ghost use Rattle.c_meaning.specs.Types.{count_of, element_of, integer_size};
 ghost use Rattle.c_meaning.specs.Views.{object_view};
 ghost use Rattle.c_meaning.specs.Runs.{address_at, first_memory, first_value, first_values, literal_object, literal_objects, spelled, static_number, static_object, static_objects};
 
-use crate::arithmetic::number_of;
 use crate::memory::{Object, Owner};
 use crate::types::{count_of, element_of, scalar_size};
 use crate::value::{Phase, Value};
 use c_tree::{IntegerType, Program, Relocation, Scalar, StaticVariable, StringLiteral};
+use c_type_rules::number_of;
 use std::alloc::{AllocError, Global};
 
 /// The byte at a place; 0 behind the last.

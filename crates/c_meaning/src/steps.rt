@@ -7,12 +7,12 @@ ghost use Rattle.c_meaning.specs.States as states;
 ghost use Rattle.c_meaning.specs.States.{given, usable};
 ghost use Rattle.c_meaning.specs.Expressions.{decayed, leave, load, named, next_byte, put, replaced, store};
 
-use crate::arithmetic::converted;
 use crate::event::{Ending, Event};
 use crate::memory::{Object, Owner, address_of, is_usable, read, write};
 use crate::state::{Evaluated, State};
 use crate::value::Value;
 use c_tree::{Given, IntegerType};
+use c_type_rules::wrapped;
 use std::alloc::AllocError;
 
 /// A value, or undefined where there is none.
@@ -122,7 +122,7 @@ pub fn put(value: Value, state: &mut State) -> Result<Evaluated, AllocError>
 {
     match value {
         Value::Number(number) => {
-            let byte = converted(IntegerType::Char, i128::from(number));
+            let byte = wrapped(IntegerType::Char, i128::from(number));
             state.events.push(Event::Put(byte as u8))?;
             Ok(Evaluated::Gives(Value::Number(byte)))
         }

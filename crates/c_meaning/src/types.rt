@@ -1,78 +1,10 @@
 //! The types of a program: how many bytes they have, and their zeros (ISO/IEC 9899:2011, 6.2.5, 6.5.3.4).
 
 ghost use Rattle.std.specs.Prelude.{◌≡◌, ◌<◌, ◌≤◌, ◌^◌};
-ghost use Rattle.word_base.specs.Types.{least, greatest};
-ghost use Rattle.c_meaning.specs.Types.{integer, scalar_size, size, element_of, count_of, zero_of};
+ghost use Rattle.c_meaning.specs.Types.{scalar_size, size, element_of, count_of, zero_of};
 
 use crate::value::Value;
 use c_tree::{IntegerType, ObjectType, Scalar};
-
-/// Whether an integer type has negative numbers. `char` has none.
-pub fn is_signed(of: IntegerType) -> bool
-    ensures { result ≡ (integer of).is_signed }
-{
-    matches!(
-        of,
-        IntegerType::SignedChar | IntegerType::Short | IntegerType::Int | IntegerType::Long
-    )
-}
-
-/// How many bits an integer type has.
-pub fn width(of: IntegerType) -> u32
-    ensures number { result ≡ (integer of).width }
-    ensures bounded { result ≤ 32 }
-{
-    match of {
-        IntegerType::Char | IntegerType::SignedChar | IntegerType::UnsignedChar => 8,
-        IntegerType::Short | IntegerType::UnsignedShort => 16,
-        IntegerType::Int
-        | IntegerType::UnsignedInt
-        | IntegerType::Long
-        | IntegerType::UnsignedLong => 32,
-    }
-}
-
-/// How many numbers an integer type has.
-pub fn modulus(of: IntegerType) -> u64
-    ensures number { result ≡ 2 ^ (integer of).width }
-    ensures positive { 0 < result }
-    ensures bounded { result ≤ 4294967296 }
-{
-    match of {
-        IntegerType::Char | IntegerType::SignedChar | IntegerType::UnsignedChar => 256,
-        IntegerType::Short | IntegerType::UnsignedShort => 65536,
-        IntegerType::Int
-        | IntegerType::UnsignedInt
-        | IntegerType::Long
-        | IntegerType::UnsignedLong => 4294967296,
-    }
-}
-
-/// The least number of an integer type.
-pub fn least(of: IntegerType) -> i64
-    ensures { result ≡ least (integer of) }
-{
-    match of {
-        IntegerType::SignedChar => -128,
-        IntegerType::Short => -32768,
-        IntegerType::Int | IntegerType::Long => -2147483648,
-        _ => 0,
-    }
-}
-
-/// The greatest number of an integer type.
-pub fn greatest(of: IntegerType) -> i64
-    ensures { result ≡ greatest (integer of) }
-{
-    match of {
-        IntegerType::SignedChar => 127,
-        IntegerType::Char | IntegerType::UnsignedChar => 255,
-        IntegerType::Short => 32767,
-        IntegerType::UnsignedShort => 65535,
-        IntegerType::Int | IntegerType::Long => 2147483647,
-        IntegerType::UnsignedInt | IntegerType::UnsignedLong => 4294967295,
-    }
-}
 
 /// How many bytes an integer or a pointer has.
 pub fn scalar_size(of: Scalar) -> u64

@@ -15,6 +15,16 @@ use c_tree::{
 use debug_records::Spot;
 use std::alloc::{AllocError, Global};
 
+// What a call gives; its failure is the function's own.
+macro_rules! given {
+    ($call:expr) => {
+        match $call {
+            Ok(value) => value,
+            Err(fault) => return Err(fault),
+        }
+    };
+}
+
 /// Adds a place that is no entry.
 fn add_stop(
     alloc: Global,
@@ -144,10 +154,10 @@ fn add_statement(
 {
     match statement {
         TypedStatement::Block(body) => {
-            add_statements(alloc, function, scope.to_vec(alloc)?, body, found)
+            add_statements(alloc, function, given!(scope.to_vec(alloc)), body, found)
         }
         TypedStatement::Declaration(all) => {
-            let mut inner = scope.to_vec(alloc)?;
+            let mut inner = given!(scope.to_vec(alloc));
             add_declarators(alloc, function, all, &mut inner, found)
         }
         TypedStatement::Empty(spot)
@@ -155,9 +165,14 @@ fn add_statement(
         | TypedStatement::Break(spot)
         | TypedStatement::Continue(spot)
         | TypedStatement::Return { spot, .. } => add_stop(alloc, function, scope, *spot, found),
-        TypedStatement::If { spot, then, .. } => {
-            add_stop(alloc, function, scope, *spot, found)?;
-            add_statement(alloc, function, scope, then, found)
+        TypedStatement::If {
+            spot,
+            then: body,
+            ..
+        }
+        | TypedStatement::While { spot, body, .. } => {
+            given!(add_stop(alloc, function, scope, *spot, found));
+            add_statement(alloc, function, scope, body, found)
         }
         TypedStatement::IfElse {
             spot,
@@ -165,16 +180,12 @@ fn add_statement(
             otherwise,
             ..
         } => {
-            add_stop(alloc, function, scope, *spot, found)?;
-            add_statement(alloc, function, scope, then, found)?;
+            given!(add_stop(alloc, function, scope, *spot, found));
+            given!(add_statement(alloc, function, scope, then, found));
             add_statement(alloc, function, scope, otherwise, found)
         }
-        TypedStatement::While { spot, body, .. } => {
-            add_stop(alloc, function, scope, *spot, found)?;
-            add_statement(alloc, function, scope, body, found)
-        }
         TypedStatement::DoWhile { body, spot, .. } => {
-            add_statement(alloc, function, scope, body, found)?;
+            given!(add_statement(alloc, function, scope, body, found));
             add_stop(alloc, function, scope, *spot, found)
         }
         TypedStatement::For {
@@ -184,14 +195,14 @@ fn add_statement(
             step,
             body,
         } => {
-            let mut inner = scope.to_vec(alloc)?;
-            add_head(alloc, function, start, *spot, condition, &mut inner, found)?;
-            add_step(alloc, function, inner.as_slice(), step, found)?;
+            let mut inner = given!(scope.to_vec(alloc));
+            given!(add_head(alloc, function, start, *spot, condition, &mut inner, found));
+            given!(add_step(alloc, function, inner.as_slice(), step, found));
             add_statement(alloc, function, inner.as_slice(), body, found)
         }
         TypedStatement::Switch { spot, body, .. } => {
-            add_stop(alloc, function, scope, *spot, found)?;
-            add_statements(alloc, function, scope.to_vec(alloc)?, body, found)
+            given!(add_stop(alloc, function, scope, *spot, found));
+            add_statements(alloc, function, given!(scope.to_vec(alloc)), body, found)
         }
     }
 }
@@ -213,12 +224,11 @@ fn add_statements(
         match left {
             TypedStatements::End => return Ok(()),
             TypedStatements::More(first, rest) => {
-                add_statement(alloc, function, scope.as_slice(), first, found)?;
-                bring_by(first, &mut scope)?;
+                given!(add_statement(alloc, function, scope.as_slice(), first, found));
+                given!(bring_by(first, &mut scope));
                 left = rest;
             }
-            TypedStatements::Case(_, rest) => left = rest,
-            TypedStatements::Default(rest) => left = rest,
+            TypedStatements::Case(_, rest) | TypedStatements::Default(rest) => left = rest,
         }
     }
 }
@@ -247,8 +257,7 @@ fn bring_by_body(body: &TypedStatements, scope: &mut Vec<usize>) -> Result<(), A
                 bring_by(first, scope)?;
                 left = rest;
             }
-            TypedStatements::Case(_, rest) => left = rest,
-            TypedStatements::Default(rest) => left = rest,
+            TypedStatements::Case(_, rest) | TypedStatements::Default(rest) => left = rest,
         }
     }
 }

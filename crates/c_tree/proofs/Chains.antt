@@ -1,7 +1,6 @@
 -- Where chains begin and end.
-use Rattle.std.proofs.Common.{◌≡◌, ℕ, List, [], ◌∷◌, ◌++◌, refl, ◌∙◌}
+use Rattle.std.proofs.Common.{◌≡◌, List, [], ◌∷◌, refl, ◌∙◌}
 use Rattle.std.specs.Prelude.{fold}
-use Rattle.debug_records.specs.declared.source.Spot.{Spot}
 use Rattle.c_tree.specs.declared.operator.BinaryOperator.{BinaryOperator}
 use Rattle.c_tree.specs.Expressions.{ExpressionTree, Comma, operation, suffixed, SuffixTree, Indexes, Calls, Increments, Decrements}
 use Rattle.c_tree.specs.Ends.{first_of}

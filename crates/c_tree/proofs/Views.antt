@@ -1,5 +1,5 @@
 -- The views of expressions, one equation for each variant.
-use Rattle.std.proofs.Common.{◌≡◌, ℕ, Option, None, Some, Box, Vec, Global, ap, sym, ◌∙◌}
+use Rattle.std.proofs.Common.{◌≡◌, ℕ, None, Some, Box, Vec, Global, ap, sym, ◌∙◌}
 use Rattle.std.specs.Prelude.{fold, map}
 use Rattle.debug_records.specs.declared.source.Spot.{Spot}
 use Rattle.c_tree.specs.declared.extent.Extent.{Extent}

@@ -1,5 +1,5 @@
 -- Expressions as contracts see them: operators, suffixes and commas nest to the left, as the grammar has them.
-use Rattle.std.specs.Prelude.{ℕ, List, [], ◌∷◌, Option, Some, None, fold, string_bytes}
+use Rattle.std.specs.Prelude.{ℕ, List, [], ◌∷◌, Some, None, fold, string_bytes}
 use Rattle.debug_records.specs.declared.source.Spot.{Spot}
 use Rattle.c_tree.specs.declared.extent.Extent.{Extent}
 use Rattle.c_tree.specs.declared.extent.Identifier.{Identifier}

@@ -1,3 +1,4 @@
+pub mod Cores
 pub mod Expressions
 pub mod Declarations
 pub mod Statements

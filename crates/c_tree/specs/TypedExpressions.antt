@@ -1,5 +1,5 @@
 -- Typed expressions as contracts see them, without where they lie in memory.
-use Rattle.std.specs.Prelude.{ℕ, ℤ, List, [], ◌∷◌}
+use Rattle.std.specs.Prelude.{ℤ}
 use Rattle.c_tree.specs.declared.types.IntegerType.{IntegerType}
 use Rattle.c_tree.specs.declared.object_type.Scalar.{Scalar}
 use Rattle.c_tree.specs.declared.object_type.ObjectType.{ObjectType}

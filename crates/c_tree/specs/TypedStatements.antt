@@ -1,5 +1,5 @@
 -- Typed statements as contracts see them. Each spot is that of the place that the construct is or has.
-use Rattle.std.specs.Prelude.{ℕ, ℤ, List, [], ◌∷◌, map, Option, Some, None}
+use Rattle.std.specs.Prelude.{ℕ, ℤ, List, map, Option}
 use Rattle.std.specs.Option.{option_map}
 use Rattle.debug_records.specs.declared.source.Spot.{Spot}
 use Rattle.c_tree.specs.declared.typed_statement.Initial as declared-initial

@@ -2,6 +2,7 @@
 
 ghost use Rattle.std.specs.Prelude.{◌≡◌};
 ghost use Rattle.c_tree.specs.Expressions.{expression_view, suffix_view};
+ghost use Rattle.c_tree.specs.Cores.{core_of, core_view};
 ghost use Rattle.c_tree.specs.Ends.{first_of, last_of, suffix_last};
 
 use crate::extent::{Extent, Identifier};
@@ -110,7 +111,74 @@ pub enum Suffix {
     },
 }
 
+/// What an expression is, once the parentheses around all of it are left out.
+#[derive(Clone, Copy)]
+pub enum Core<'a> {
+    /// A name.
+    Name(&'a Identifier),
+    /// An integer or character constant.
+    Constant {
+        spot: Spot,
+        value: u32,
+        integer_type: IntegerType,
+    },
+    /// String literals, joined: their bytes without the final zero.
+    Literal {
+        extent: Extent,
+        bytes: &'a [u8],
+    },
+    /// An expression with operators.
+    Compound,
+}
+
 impl Expression {
+    /// What it is, once the parentheses around all of it are left out.
+    pub fn core(&self) -> Core<'_>
+        ensures { core_view result ≡ core_of (expression_view self.now) }
+    {
+        match self {
+            Expression::Name(identifier) => Core::Name(identifier),
+            Expression::Constant {
+                spot,
+                value,
+                integer_type,
+            } => Core::Constant {
+                spot: *spot,
+                value: *value,
+                integer_type: *integer_type,
+            },
+            Expression::Literal { extent, bytes } => Core::Literal {
+                extent: *extent,
+                bytes,
+            },
+            Expression::Parenthesized { inner, .. } => inner.core(),
+            Expression::Postfix { operand, suffixes } => {
+                if suffixes.is_empty() {
+                    return operand.core();
+                }
+                Core::Compound
+            }
+            Expression::Binary { first, operations } => {
+                if operations.is_empty() {
+                    return first.core();
+                }
+                Core::Compound
+            }
+            Expression::Comma { first, rest } => {
+                if rest.is_empty() {
+                    return first.core();
+                }
+                Core::Compound
+            }
+            Expression::Prefix { .. }
+            | Expression::Cast { .. }
+            | Expression::SizeofExpression { .. }
+            | Expression::SizeofType { .. }
+            | Expression::Conditional { .. }
+            | Expression::Assignment { .. } => Core::Compound,
+        }
+    }
+
     /// Where its first token stands.
     #[tactic(auto, using(crate::proofs::Chains::suffixes_first, crate::proofs::Chains::operations_first, crate::proofs::Chains::commas_first))]
     pub fn first(&self) -> Spot

@@ -17,7 +17,7 @@ mod types;
 pub use declaration::{
     Brackets, Declaration, Declarator, Function, Header, Initializer, Item, Parameter, Tree,
 };
-pub use expression::{Expression, Suffix};
+pub use expression::{Core, Expression, Suffix};
 pub use extent::{Extent, Identifier};
 pub use object_type::{Object, ObjectType, Scalar, ValueType};
 pub use operator::{AssignmentOperator, BinaryOperator, PrefixOperator};

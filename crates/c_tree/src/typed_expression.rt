@@ -262,11 +262,8 @@ impl Lvalue {
                 of: _,
                 pointer,
                 index,
-            } => {
-                drop(index);
-                Some(pointer)
             }
-            Lvalue::ElementFrom {
+            | Lvalue::ElementFrom {
                 of: _,
                 index,
                 pointer,
@@ -288,75 +285,71 @@ impl Rvalue {
             Rvalue::Constant {
                 value: _,
                 integer_type: _,
-            } => None,
-            Rvalue::Null => None,
-            Rvalue::Load { scalar: _, from } => Box::into_inner(from).into_pointer(),
-            Rvalue::Decay(from) => Box::into_inner(from).into_pointer(),
-            Rvalue::AddressOf(from) => Box::into_inner(from).into_pointer(),
-            Rvalue::Convert { to: _, operand } => Some(operand),
-            Rvalue::Discard(operand) => Some(operand),
-            Rvalue::Signed {
+            }
+            | Rvalue::Null => None,
+            Rvalue::Load {
+                scalar: _,
+                from: place,
+            }
+            | Rvalue::Decay(place)
+            | Rvalue::AddressOf(place)
+            | Rvalue::Step {
+                direction: _,
+                given: _,
+                target_type: _,
+                integer_type: _,
+                target: place,
+            }
+            | Rvalue::StepPointer {
+                direction: _,
+                given: _,
+                element: _,
+                target: place,
+            } => Box::into_inner(place).into_pointer(),
+            Rvalue::Convert { to: _, operand }
+            | Rvalue::Discard(operand)
+            | Rvalue::Signed {
                 sign: _,
                 integer_type: _,
                 operand,
-            } => Some(operand),
-            Rvalue::Not(operand) => Some(operand),
+            }
+            | Rvalue::Not(operand) => Some(operand),
             Rvalue::Arithmetic {
                 operator: _,
                 integer_type: _,
                 left,
                 right,
-            } => {
-                drop(right);
-                Some(left)
             }
-            Rvalue::Compare {
+            | Rvalue::Compare {
                 operator: _,
                 integer_type: _,
                 left,
                 right,
-            } => {
-                drop(right);
-                Some(left)
             }
-            Rvalue::ComparePointers {
+            | Rvalue::ComparePointers {
                 operator: _,
                 left,
                 right,
-            } => {
-                drop(right);
-                Some(left)
             }
-            Rvalue::Move {
+            | Rvalue::Move {
                 direction: _,
                 element: _,
-                pointer,
-                by,
-            } => {
-                drop(by);
-                Some(pointer)
+                pointer: left,
+                by: right,
             }
-            Rvalue::MoveFrom {
-                by,
+            | Rvalue::MoveFrom {
+                by: left,
                 element: _,
-                pointer,
-            } => {
-                drop(pointer);
-                Some(by)
+                pointer: right,
             }
-            Rvalue::Difference {
+            | Rvalue::Difference {
                 element: _,
                 left,
                 right,
-            } => {
-                drop(right);
-                Some(left)
             }
-            Rvalue::And(left, right) => {
-                drop(right);
-                Some(left)
-            }
-            Rvalue::Or(left, right) => {
+            | Rvalue::And(left, right)
+            | Rvalue::Or(left, right)
+            | Rvalue::Comma(left, right) => {
                 drop(right);
                 Some(left)
             }
@@ -369,50 +362,27 @@ impl Rvalue {
                 drop(otherwise);
                 Some(condition)
             }
-            Rvalue::Comma(left, right) => {
-                drop(right);
-                Some(left)
-            }
             Rvalue::Assign {
                 scalar: _,
                 target,
                 value,
-            } => {
-                drop(value);
-                Box::into_inner(target).into_pointer()
             }
-            Rvalue::Update {
+            | Rvalue::Update {
                 operator: _,
                 target_type: _,
                 integer_type: _,
                 target,
                 value,
+            }
+            | Rvalue::UpdatePointer {
+                direction: _,
+                element: _,
+                target,
+                by: value,
             } => {
                 drop(value);
                 Box::into_inner(target).into_pointer()
             }
-            Rvalue::UpdatePointer {
-                direction: _,
-                element: _,
-                target,
-                by,
-            } => {
-                drop(by);
-                Box::into_inner(target).into_pointer()
-            }
-            Rvalue::Step {
-                direction: _,
-                given: _,
-                target_type: _,
-                integer_type: _,
-                target,
-            } => Box::into_inner(target).into_pointer(),
-            Rvalue::StepPointer {
-                direction: _,
-                given: _,
-                element: _,
-                target,
-            } => Box::into_inner(target).into_pointer(),
             Rvalue::Call {
                 callee: _,
                 arguments,

@@ -116,6 +116,9 @@ impl TypedStatement {
         ensures { IfSome result (λ last. size-TypedStatement last.value < size-TypedStatement self) }
     {
         match self {
+            TypedStatement::Empty(_) | TypedStatement::Break(_) | TypedStatement::Continue(_) => {
+                None
+            }
             TypedStatement::Block(body) => {
                 drop(body);
                 None
@@ -124,18 +127,40 @@ impl TypedStatement {
                 drop(declared);
                 None
             }
-            TypedStatement::Empty(_) => None,
             TypedStatement::Expression { spot: _, value } => {
                 drop(value);
+                None
+            }
+            TypedStatement::Return { spot: _, value } => {
+                drop(value);
+                None
+            }
+            TypedStatement::Switch {
+                spot: _,
+                value,
+                body,
+            } => {
+                drop(value);
+                drop(body);
                 None
             }
             TypedStatement::If {
                 spot: _,
                 condition,
-                then,
+                then: body,
+            }
+            | TypedStatement::While {
+                spot: _,
+                condition,
+                body,
+            }
+            | TypedStatement::DoWhile {
+                body,
+                spot: _,
+                condition,
             } => {
                 drop(condition);
-                Some(then)
+                Some(body)
             }
             TypedStatement::IfElse {
                 spot: _,
@@ -146,22 +171,6 @@ impl TypedStatement {
                 drop(condition);
                 drop(then);
                 Some(otherwise)
-            }
-            TypedStatement::While {
-                spot: _,
-                condition,
-                body,
-            } => {
-                drop(condition);
-                Some(body)
-            }
-            TypedStatement::DoWhile {
-                body,
-                spot: _,
-                condition,
-            } => {
-                drop(condition);
-                Some(body)
             }
             TypedStatement::For {
                 start,
@@ -174,21 +183,6 @@ impl TypedStatement {
                 drop(condition);
                 drop(step);
                 Some(body)
-            }
-            TypedStatement::Switch {
-                spot: _,
-                value,
-                body,
-            } => {
-                drop(value);
-                drop(body);
-                None
-            }
-            TypedStatement::Break(_) => None,
-            TypedStatement::Continue(_) => None,
-            TypedStatement::Return { spot: _, value } => {
-                drop(value);
-                None
             }
         }
     }
@@ -218,8 +212,9 @@ impl Drop for TypedStatements {
                     drop(first);
                     self = Box::into_inner(rest);
                 }
-                TypedStatements::Case(_, rest) => self = Box::into_inner(rest),
-                TypedStatements::Default(rest) => self = Box::into_inner(rest),
+                TypedStatements::Case(_, rest) | TypedStatements::Default(rest) => {
+                    self = Box::into_inner(rest);
+                }
             }
         }
     }

@@ -1,23 +1,16 @@
 -- The variables and the places of a function.
-use Rattle.std.proofs.Common.{◌≡◌, ◌+◌, arith, ℕ, List, [], length, take, drop, Bool, true, false, if◌then◌else◌, refl, ap, ◌∙◌, sym}
+use Rattle.std.proofs.Common.{◌≡◌, ◌+◌, arith, ℕ, List, length, take, drop, Bool, true, false, if◌then◌else◌, refl, ap, ◌∙◌, sym}
 use Rattle.std.proofs.lemmas.Bool.{false≢true}
 use Rattle.std.specs.Prelude.{map}
 use Rattle.std.proofs.lemmas.List.{take-map, drop-map}
 use Rattle.c_tree.specs.declared.program.AutomaticVariable.{AutomaticVariable}
-use Rattle.c_tree.specs.declared.program.TypedFunction.{TypedFunction}
-use Rattle.c_tree.specs.Programs.{AutomaticTree, TypedFunctionTree, automatic_view, function_view}
+use Rattle.c_tree.specs.Programs.{AutomaticTree, TypedFunctionTree, automatic_view}
 use Rattle.c_facts.specs.Flow.{reaches_end}
-use Rattle.c_type_bounds.specs.Visible.{at_close, at_function, at_statements, behind_statements, names_of, parameter_names}
+use Rattle.c_type_bounds.specs.Visible.{at_close, at_function, at_statements, behind_statements, parameter_names}
 
 -- some of the variables, as trees
 pub own_view : (vs : List AutomaticVariable) (first count : ℕ) → map automatic_view (take count (drop first vs)) ≡ take count (drop first (map automatic_view vs))
 own_view vs first count = sym (take-map automatic_view count (drop first vs)) ∙ ap (take count) (sym (drop-map automatic_view first vs))
-
--- the names of a function's parameters
-pub parameters_named : (vs own : List AutomaticVariable) (f : TypedFunction) (before names : List (List ℕ)) → before ≡ [] → own ≡ take f.parameters (drop f.first_variable vs) → names ≡ names_of (map automatic_view own) before
-    → names ≡ parameter_names (map automatic_view vs) (function_view f)
-parameters_named vs own f before names none is named =
-    named ∙ ap (names_of (map automatic_view own)) none ∙ ap (λ xs. names_of xs []) (ap (map automatic_view) is ∙ own_view vs f.first_variable f.parameters)
 
 if_true : (b : Bool) (n : ℕ) → b ≡ true → n ≡ (if b then n else 0)
 if_true true n h = refl

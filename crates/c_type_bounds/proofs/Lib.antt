@@ -5,3 +5,5 @@ pub mod NamesBehind
 pub mod FunctionPlaces
 pub mod KeptVariables
 pub mod FunctionLimits
+pub mod DistinctNames
+pub mod PlacesCounted

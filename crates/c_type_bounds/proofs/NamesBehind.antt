@@ -1,7 +1,6 @@
 -- Behind a statement the names before it still stand first.
-use Rattle.std.proofs.Common.{◌≡◌, ◌<◌, ◌≤◌, ◌+◌, ◌^◌, get_or, drop, arith, ℕ, List, [], ◌∷◌, ◌++◌, length, take, Bool, true, false, Option, None, Some, if◌then◌else◌, refl, ap, ◌∙◌, sym}
-use Rattle.std.specs.Prelude.{slice_get, map}
-use Rattle.std.specs.Option.{option_map_or}
+use Rattle.std.proofs.Common.{◌≡◌, ◌<◌, ◌≤◌, ◌+◌, ◌^◌, get_or, drop, arith, ℕ, List, [], ◌∷◌, ◌++◌, length, take, Bool, true, false, if◌then◌else◌, refl, ap, ◌∙◌, sym}
+use Rattle.std.specs.Prelude.{map}
 use Rattle.std.specs.List.{list_any}
 use Rattle.std.specs.Borrow.{Bor}
 use Rattle.std.specs.Str.{bytes_eq}
@@ -10,6 +9,7 @@ use Rattle.c_tree.specs.Programs.{AutomaticTree}
 use Rattle.c_tree.specs.TypedStatements.{DeclaredTree, TypedStartTree, Nothing, Value, Declares, TypedStatementTree, Block, Declaration, Empty, Run, If, IfElse, While, DoWhile, For, Switch, Break, Continue, Return, TypedStatementTrees, none, first, case, default}
 use Rattle.c_tree.specs.declared.typed_statement.Declared.{Declared}
 use Rattle.c_tree.specs.TypedStatements.{declared_view}
+use Rattle.c_places.specs.Places.{name_of}
 use Rattle.c_type_bounds.specs.Counts.{capped}
 use Rattle.c_type_bounds.proofs.Sums.{capped_more, capped_more_of}
 use Rattle.c_type_bounds.specs.Visible.{at_declared, at_statement, at_statements, names_view, with_visible, behind_one, behind_all, behind_start, behind_statement, behind_statements}
@@ -37,12 +37,8 @@ take_whole [] ys = refl
 take_whole (x ∷ xs) ys = ap (λ zs. x ∷ zs) (take_whole xs ys)
 
 module _ (all : List AutomaticTree) where
-  found : (o : Option AutomaticTree) (names : List (List ℕ)) → Holds names (option_map_or (λ v. with_visible v.name names) o names)
-  found None names = same names
-  found (Some v) names = with_one v.name names
-
   one_holds : (k : ℕ) (names : List (List ℕ)) → Holds names (behind_one all k names)
-  one_holds k names = found (slice_get all k) names
+  one_holds k names = with_one (name_of all k) names
 
   all_hold : (ds : List DeclaredTree) (names : List (List ℕ)) → Holds names (behind_all all ds names)
   all_hold [] names = same names

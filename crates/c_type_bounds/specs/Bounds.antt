@@ -7,7 +7,7 @@ use Rattle.debug_records.specs.declared.code.Letter.TheVariants.{L}
 use Rattle.c_tree.specs.Programs.{AutomaticTree, StaticTree, LiteralTree, TypedFunctionTree, ProgramTree}
 use Rattle.c_type_rules.specs.Integers.{object_size, room}
 use Rattle.c_facts.specs.Memory.{kept_by_all}
-use Rattle.c_type_bounds.specs.Visible.{at_functions}
+use Rattle.c_type_bounds.specs.Visible.{visible_pairs}
 
 abbrev pub limit : ℕ → Code
 limit n = record { letter = L; number = n }
@@ -80,7 +80,7 @@ objects_room p = static_room p.statics + literal_room p.literals + literal_room 
 -- the limits of a program: it weighs 4,000 at most (L04), its static objects take 1 MiB at most (L06), and at its places 1,000,000 variables are visible at most (L08)
 abbrev pub program_breach : ProgramTree → Option Code
 program_breach p =
-    if nat_lt 4000 p.weight then Some (limit 4) else (if nat_lt 1048576 (objects_room p) then Some (limit 6) else (if nat_lt 1000000 (at_functions p.automatics p.functions) then Some (limit 8) else None))
+    if nat_lt 4000 p.weight then Some (limit 4) else (if nat_lt 1048576 (objects_room p) then Some (limit 6) else (if nat_lt 1000000 (visible_pairs p) then Some (limit 8) else None))
 
 -- what the check of functions answers: their variables as marked, or the refusal, but for the want of memory, which says nothing of them
 abbrev pub Marks : {U X : Type 0} → Result U SourceErr → X → Result X (Code × ℕ) → Type 0

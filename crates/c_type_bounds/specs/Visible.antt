@@ -1,13 +1,23 @@
--- How many variables are visible at the places of a function, in all: at each place those automatic ones in whose scope it stands, but for those that an inner name hides.
-use Rattle.std.specs.Prelude.{ℕ, ◌+◌, List, [], ◌∷◌, ◌++◌, length, map, sum_by, Option, Some, None, if◌then◌else◌, take, drop, slice_get}
-use Rattle.std.specs.Option.{option_map_or}
+-- How many variables are visible at the places of a program, in all: at each place those automatic ones in whose scope it stands, but for those that an inner name hides.
+use Rattle.std.specs.Prelude.{ℕ, ◌+◌, List, [], ◌∷◌, ◌++◌, length, map, sum_by, Option, Some, None, if◌then◌else◌}
 use Rattle.std.specs.List.{list_any}
 use Rattle.std.specs.Borrow.{Bor}
 use Rattle.std.specs.Str.{bytes_eq}
-use Rattle.c_tree.specs.Programs.{AutomaticTree, TypedFunctionTree}
+use Rattle.c_tree.specs.Programs.{AutomaticTree, ProgramTree, TypedFunctionTree}
 use Rattle.c_tree.specs.TypedExpressions.{RvalueTree}
 use Rattle.c_tree.specs.TypedStatements.{DeclaredTree, TypedStartTree, Nothing, Value, Declares, StepTree, TypedStatementTree, Block, Declaration, Empty, Run, If, IfElse, While, DoWhile, For, Switch, Break, Continue, Return, TypedStatementTrees, none, first, case, default}
 use Rattle.c_facts.specs.Flow.{reaches_end}
+use Rattle.c_places.specs.Places.{Place, name_of, parameters_of, places_of_program, visible}
+
+-- how many variables are visible at places, in all
+abbrev pub visible_at : List AutomaticTree → List Place → ℕ
+visible_at automatics places = sum_by (λ (place : Place). length (visible automatics place.scope)) places
+
+-- how many variables are visible at the places of a program, in all
+abbrev pub visible_pairs : ProgramTree → ℕ
+visible_pairs p = visible_at p.automatics (places_of_program p)
+
+-- The walk that counts them goes over the text once, and carries the visible names. What follows says what it counts and which names it carries.
 
 -- names, as a program has them
 abbrev pub names_view : List (Bor (List ℕ)) → List (List ℕ)
@@ -26,15 +36,15 @@ abbrev pub at_step : Option StepTree → List (List ℕ) → ℕ
 at_step (Some s) names = length names
 at_step None names = 0
 
--- the names of variables
-abbrev pub names_of : List AutomaticTree → List (List ℕ) → List (List ℕ)
-names_of [] names = names
-names_of (v ∷ vs) names = names_of vs (with_visible v.name names)
-
 module _ (automatics : List AutomaticTree) where
   -- behind the declarator of a variable
   abbrev pub behind_one : ℕ → List (List ℕ) → List (List ℕ)
-  behind_one k names = option_map_or (λ v. with_visible v.name names) (slice_get automatics k) names
+  behind_one k names = with_visible (name_of automatics k) names
+
+  -- behind variables that are in scope from the first one on
+  abbrev pub behind_scope : List ℕ → List (List ℕ) → List (List ℕ)
+  behind_scope [] names = names
+  behind_scope (k ∷ scope) names = behind_scope scope (behind_one k names)
 
   -- behind declarators
   abbrev pub behind_all : List DeclaredTree → List (List ℕ) → List (List ℕ)
@@ -96,7 +106,7 @@ module _ (automatics : List AutomaticTree) where
 
   -- a function's parameters
   abbrev pub parameter_names : TypedFunctionTree → List (List ℕ)
-  parameter_names f = names_of (take f.parameters (drop f.first_variable automatics)) []
+  parameter_names f = behind_scope (parameters_of f) []
 
   -- its closing brace is a place where flow reaches it
   abbrev pub at_close : TypedFunctionTree → ℕ

@@ -5,6 +5,7 @@ use Rattle.c_tree.specs.declared.operator.BinaryOperator.{BinaryOperator}
 use Rattle.c_tree.specs.declared.expression.Expression.{Expression}
 use Rattle.c_tree.specs.declared.operator.PrefixOperator.{PrefixOperator}
 use Rattle.c_tree.specs.declared.operator.PrefixOperator.TheVariants as prefix
+use Rattle.c_tree.specs.Cores.{CoreTree, Named, core_of}
 use Rattle.c_tree.specs.Expressions.{ExpressionTree, expression_view, Name, Constant, Literal, Parenthesized, Index, Call, PostIncrement, PostDecrement, Prefix, Cast, SizeofExpression, SizeofType, SizeofArray, Binary, Conditional, Assignment, Comma, ExpressionTrees}
 use Rattle.c_tree.specs.Expressions as expression
 use Rattle.c_tree.specs.Declarations.{BracketsTree, Absent, Empty, Sized, InitializerTree, Value, Braces, InitializerTrees, DeclaratorTree, DeclarationTree, ParameterTree}
@@ -23,11 +24,14 @@ prefix_weight o = 1
 abbrev pub operation_view : BinaryOperator × Expression → BinaryOperator × ExpressionTree
 operation_view o = (o.0, expression_view o.1)
 
--- a name, perhaps in parentheses
+-- an expression of one token is a name
+abbrev pub is_named : CoreTree → Bool
+is_named (Named n) = true
+is_named _ = false
+
+-- an expression is a name, perhaps in parentheses
 abbrev pub is_name : ExpressionTree → Bool
-is_name (Name n) = true
-is_name (Parenthesized extent e) = is_name e
-is_name _ = false
+is_name e = is_named (core_of e)
 
 -- the weight of what is called: a name is no node
 abbrev pub called_weight : ExpressionTree → ℕ → ℕ

@@ -1,15 +1,15 @@
 //! The limits of the compiler on programs that break no other rule.
 
-ghost use Rattle.std.specs.Prelude.{◌≡◌, IfOk, OnOk, map};
+ghost use Rattle.std.specs.Prelude.{◌≡◌, IfOk, OnOk, drop, map, take};
 ghost use Rattle.c_tree.specs.Programs.{automatic_view, function_view, program_view};
 ghost use Rattle.c_type_bounds.specs.Bounds.{Marks, behind_function, behind_functions, kept, kept_all, objects_room, program_breach, with_kept};
 ghost use Rattle.c_type_bounds.specs.Counts.{capped};
 
 use crate::count::plus;
 use crate::room::{literal_room, memory_room, static_room};
-use crate::visible::{at_functions, variables_of};
-use c_tree::{AutomaticVariable, Program, TypedFunction};
+use crate::visible::visible_pairs;
 use c_facts::kept_in_memory;
+use c_tree::{AutomaticVariable, Program, TypedFunction};
 use debug_records::{Code, SourceErr};
 use std::alloc::{AllocError, Global};
 
@@ -43,6 +43,16 @@ fn mark(
     let numbers = kept_in_memory(alloc, &f.body)?;
     keep_all(automatics, &numbers);
     Ok(())
+}
+
+/// The variables of a function from its first on, as many as are asked for.
+fn variables_of(automatics: &[AutomaticVariable], first: u32, count: u32) -> &[AutomaticVariable]
+    ensures { result.now ≡ take count (drop first automatics.now) }
+{
+    let begin = automatics.len().min(first as usize);
+    let (_, own) = automatics.split_at(begin);
+    let (own, _) = own.split_at(own.len().min(count as usize));
+    own
 }
 
 /// Checks the limits of a function, one of the program's by its number. What it keeps in memory is marked, once its weight is known to be within the limit.
@@ -103,7 +113,7 @@ pub fn program_breach(alloc: Global, program: &Program) -> Result<Option<Code>, 
     if objects_room(program) > 1048576 {
         return Ok(Some(Code::STATIC_OBJECTS));
     }
-    if at_functions(alloc, &program.automatics, &program.functions)? > 1000000 {
+    if visible_pairs(alloc, program)? > 1000000 {
         return Ok(Some(Code::VISIBLE_PAIRS));
     }
     Ok(None)

@@ -4,18 +4,19 @@ ghost use Rattle.std.specs.Prelude.{◌≡◌, ℕ, List, IfOk, OnOk, drop, leng
 ghost use Rattle.std.specs.List.{list_any};
 ghost use Rattle.std.specs.Option.{option_map};
 ghost use Rattle.std.specs.Str.{bytes_eq};
-ghost use Rattle.c_tree.specs.Programs.{automatic_view, function_view};
+ghost use Rattle.c_tree.specs.Programs.{automatic_view, function_view, program_view};
 ghost use Rattle.c_tree.specs.TypedExpressions.{rvalue_view};
 ghost use Rattle.c_tree.specs.TypedStatements.{declared_view, start_view, statement_view, statements_view, step_view};
+ghost use Rattle.c_places.specs.Places.{parameters_of};
 ghost use Rattle.c_type_bounds.specs.Counts.{capped};
-ghost use Rattle.c_type_bounds.specs.Visible.{at_declared, at_function, at_functions, at_head, at_start, at_statement, at_statements, at_step, behind_all, behind_one, behind_start, behind_statement, behind_statements, names_of, names_view, with_visible};
+ghost use Rattle.c_type_bounds.specs.Visible.{at_declared, at_function, at_head, at_start, at_statement, at_statements, at_step, behind_all, behind_one, behind_scope, behind_start, behind_statement, behind_statements, names_view, visible_pairs, with_visible};
 
 use crate::count::plus;
+use c_facts::reaches_end;
 use c_tree::{
-    AutomaticVariable, Declared, Rvalue, TypedFunction, TypedStart, TypedStatement,
+    AutomaticVariable, Declared, Program, Rvalue, TypedFunction, TypedStart, TypedStatement,
     TypedStatements, TypedStep,
 };
-use c_facts::reaches_end;
 use std::alloc::{AllocError, Global};
 
 /// Whether a name is one of these.
@@ -41,16 +42,16 @@ fn add_name<'a>(names: &mut Vec<&'a str>, name: &'a str) -> Result<(), AllocErro
     Ok(())
 }
 
-/// Adds the name of a variable.
+/// Adds the name of a variable; where there is none of that number, it has the empty name.
 fn add_variable<'a>(
     automatics: &'a [AutomaticVariable],
     names: &mut Vec<&'a str>,
-    variable: u32,
+    variable: usize,
 ) -> Result<(), AllocError>
     ensures { OnOk result (names_view names.new.items ≡ behind_one (map automatic_view automatics.now) variable (names_view names.old.items)) }
 {
-    match automatics.get(variable as usize) {
-        None => Ok(()),
+    match automatics.get(variable) {
+        None => add_name(names, ""),
         Some(variable) => add_name(names, &variable.name),
     }
 }
@@ -67,7 +68,7 @@ fn at_declared<'a>(
     let mut total = 0;
     for one in all {
         total = plus(total, names.len() as u64);
-        add_variable(automatics, names, one.variable)?;
+        add_variable(automatics, names, one.variable as usize)?;
     }
     Ok(total)
 }
@@ -200,8 +201,7 @@ fn at_statements<'a>(
                 total = plus(total, one);
                 left = rest;
             }
-            TypedStatements::Case(_, rest) => left = rest,
-            TypedStatements::Default(rest) => left = rest,
+            TypedStatements::Case(_, rest) | TypedStatements::Default(rest) => left = rest,
         }
     }
 }
@@ -222,29 +222,16 @@ fn at_block<'a>(
     Ok(total)
 }
 
-/// The variables of a function from its first on, as many as are asked for.
-pub fn variables_of(
-    automatics: &[AutomaticVariable],
-    first: u32,
-    count: u32,
-) -> &[AutomaticVariable]
-    ensures { result.now ≡ take count (drop first automatics.now) }
-{
-    let begin = automatics.len().min(first as usize);
-    let (_, own) = automatics.split_at(begin);
-    let (own, _) = own.split_at(own.len().min(count as usize));
-    own
-}
-
-/// Adds the names of variables.
-fn add_all<'a>(
+/// Adds the names of a function's parameters.
+fn add_parameters<'a>(
+    automatics: &'a [AutomaticVariable],
     names: &mut Vec<&'a str>,
-    variables: &'a [AutomaticVariable],
+    f: &TypedFunction,
 ) -> Result<(), AllocError>
-    ensures { OnOk result (names_view names.new.items ≡ names_of (map automatic_view variables.now) (names_view names.old.items)) }
+    ensures { OnOk result (names_view names.new.items ≡ behind_scope (map automatic_view automatics.now) (parameters_of (function_view f.now)) (names_view names.old.items)) }
 {
-    for one in variables {
-        add_name(names, &one.name)?;
+    for i in 0..f.parameters as usize {
+        add_variable(automatics, names, f.first_variable as usize + i)?;
     }
     Ok(())
 }
@@ -258,10 +245,7 @@ fn at_function(
     ensures { IfOk result (λ n. n ≡ capped (at_function (map automatic_view automatics.now) (function_view f.now))) }
 {
     let mut names = Vec::new(alloc);
-    add_all(
-        &mut names,
-        variables_of(automatics, f.first_variable, f.parameters),
-    )?;
+    add_parameters(automatics, &mut names, f)?;
     let inner = at_statements(automatics, &mut names, &f.body)?;
     if reaches_end(&f.body) {
         return Ok(plus(inner, names.len() as u64));
@@ -269,17 +253,13 @@ fn at_function(
     Ok(inner)
 }
 
-/// How many variables are visible at the places of functions.
-pub fn at_functions(
-    alloc: Global,
-    automatics: &[AutomaticVariable],
-    functions: &[TypedFunction],
-) -> Result<u64, AllocError>
-    ensures { IfOk result (λ n. n ≡ capped (at_functions (map automatic_view automatics.now) (map function_view functions.now))) }
+/// How many variables are visible at the places of a program, in all.
+pub fn visible_pairs(alloc: Global, program: &Program) -> Result<u64, AllocError>
+    ensures { IfOk result (λ n. n ≡ capped (visible_pairs (program_view program.now))) }
 {
     let mut total = 0;
-    for f in functions {
-        let one = at_function(alloc, automatics, f)?;
+    for f in &program.functions {
+        let one = at_function(alloc, &program.automatics, f)?;
         total = plus(total, one);
     }
     Ok(total)

@@ -9,7 +9,7 @@ ghost use Rattle.c_type_bounds.specs.Weights.{declarator_weight, declarators_wei
 
 use crate::count::plus;
 use c_tree::{
-    BinaryOperator, Brackets, Declarator, Expression, Initializer, PrefixOperator, Suffix,
+    BinaryOperator, Brackets, Core, Declarator, Expression, Initializer, PrefixOperator, Suffix,
 };
 
 /// What an operator before its operand weighs.
@@ -31,36 +31,7 @@ fn prefix_weight(operator: PrefixOperator) -> u64
 fn is_name(e: &Expression) -> bool
     ensures { result ≡ named (expression_view e.now) }
 {
-    match e {
-        Expression::Name(_) => true,
-        Expression::Parenthesized { inner, .. } => is_name(inner),
-        Expression::Postfix { operand, suffixes } => {
-            if suffixes.is_empty() {
-                return is_name(operand);
-            }
-            false
-        }
-        Expression::Binary { first, operations } => {
-            if operations.is_empty() {
-                return is_name(first);
-            }
-            false
-        }
-        Expression::Comma { first, rest } => {
-            if rest.is_empty() {
-                return is_name(first);
-            }
-            false
-        }
-        Expression::Constant { .. }
-        | Expression::Literal { .. }
-        | Expression::Prefix { .. }
-        | Expression::Cast { .. }
-        | Expression::SizeofExpression { .. }
-        | Expression::SizeofType { .. }
-        | Expression::Conditional { .. }
-        | Expression::Assignment { .. } => false,
-    }
+    matches!(e.core(), Core::Name(_))
 }
 
 /// What an expression weighs.

@@ -1,11 +1,12 @@
 -- Whether an expression is a constant expression, and which constant (6.6).
-use Rattle.std.specs.Prelude.{ℕ, zero, ℤ, pos, Bool, true, false, ◌&&◌, not, Option, Some, None, if◌then◌else◌}
+use Rattle.std.specs.Prelude.{zero, ℤ, pos, Bool, true, false, ◌&&◌, Option, Some, None, if◌then◌else◌}
 use Rattle.c_tree.specs.declared.types.IntegerType.{IntegerType}
 use Rattle.c_tree.specs.declared.typed_expression.Arithmetic.{Arithmetic}
 use Rattle.c_tree.specs.declared.typed_expression.Comparison.{Comparison}
 use Rattle.c_tree.specs.declared.typed_expression.Sign.{Sign}
 use Rattle.c_type_rules.specs.declared.constancy.Constancy.{Constancy}
 use Rattle.c_type_rules.specs.declared.constancy.Constancy.TheVariants.{Varies, Formed, Known, Address}
+use Rattle.word_base.specs.Operations.{truth}
 use Rattle.c_type_rules.specs.Integers.{wrapped}
 use Rattle.c_type_rules.specs.Constants.{calculated, compared, signed, same}
 
@@ -24,10 +25,6 @@ only_formed k l = if is_formed k && is_formed l then Formed else Varies
 abbrev pub or_formed : Option ℤ → Constancy
 or_formed None = Formed
 or_formed (Some z) = Known z
-
--- 1 where a test holds, else 0
-abbrev pub truth : Bool → ℤ
-truth b = if b then pos 1 else pos 0
 
 -- of a conversion to an integer type
 abbrev pub converted_constant : IntegerType → Constancy → Constancy

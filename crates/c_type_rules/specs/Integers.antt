@@ -1,24 +1,27 @@
 -- Integer types: their ranges, promotions and conversions (ISO/IEC 9899:2011, 6.2.5 and 6.3.1).
-use Rattle.std.specs.Prelude.{ℕ, zero, suc, ◌+◌, ◌*◌, ◌/◌, ℤ, pos, negsuc, ◌-ℤ◌, Bool, true, false, ◌&&◌, not, nat_lt, ◌==◌, unsigned_abs, if◌then◌else◌}
-use Rattle.std.specs.Int.{int_rem_euclid}
-use Rattle.std.specs.Int.RustNames.{int_le}
+use Rattle.std.specs.Prelude.{ℕ, ◌+◌, ◌*◌, ◌/◌, ℤ, Bool, ◌&&◌, not, nat_lt, ◌==◌, if◌then◌else◌}
+use Rattle.word_base.specs.Types as word
 use Rattle.c_tree.specs.declared.types.IntegerType.{IntegerType}
 use Rattle.c_tree.specs.declared.types.IntegerType.TheVariants.{Char, SignedChar, UnsignedChar, Short, UnsignedShort, Int, UnsignedInt, Long, UnsignedLong}
 use Rattle.c_tree.specs.declared.object_type.Scalar.{Scalar}
 use Rattle.c_tree.specs.declared.object_type.ObjectType.{ObjectType}
 use Rattle.c_tree.specs.declared.object_type.ObjectType.TheVariants as type
 
+-- the width and the sign of an integer type
+abbrev pub integer : IntegerType → word.IntegerType
+integer Char = word.char_type
+integer SignedChar = word.signed_char_type
+integer UnsignedChar = word.char_type
+integer Short = word.short_type
+integer UnsignedShort = word.unsigned_short_type
+integer Int = word.int_type
+integer UnsignedInt = word.unsigned_type
+integer Long = word.int_type
+integer UnsignedLong = word.unsigned_type
+
 -- the types that have negative numbers; `char` has none
 abbrev pub is_signed : IntegerType → Bool
-is_signed Char = false
-is_signed SignedChar = true
-is_signed UnsignedChar = false
-is_signed Short = true
-is_signed UnsignedShort = false
-is_signed Int = true
-is_signed UnsignedInt = false
-is_signed Long = true
-is_signed UnsignedLong = false
+is_signed t = (integer t).is_signed
 
 -- the rank of a type: that of the character types, of `short`, of `int`, of `long`
 abbrev pub rank : IntegerType → ℕ
@@ -44,61 +47,17 @@ size UnsignedInt = 4
 size Long = 4
 size UnsignedLong = 4
 
--- how many bits a type has
-abbrev pub bits : IntegerType → ℕ
-bits t = 8 * size t
-
--- how many numbers a type has
-abbrev pub modulus : IntegerType → ℕ
-modulus Char = 256
-modulus SignedChar = 256
-modulus UnsignedChar = 256
-modulus Short = 65536
-modulus UnsignedShort = 65536
-modulus Int = 4294967296
-modulus UnsignedInt = 4294967296
-modulus Long = 4294967296
-modulus UnsignedLong = 4294967296
-
--- the least number of a type
-abbrev pub lowest : IntegerType → ℤ
-lowest Char = pos 0
-lowest SignedChar = negsuc 127
-lowest UnsignedChar = pos 0
-lowest Short = negsuc 32767
-lowest UnsignedShort = pos 0
-lowest Int = negsuc 2147483647
-lowest UnsignedInt = pos 0
-lowest Long = negsuc 2147483647
-lowest UnsignedLong = pos 0
-
--- the greatest number of a type
-abbrev pub greatest : IntegerType → ℕ
-greatest Char = 255
-greatest SignedChar = 127
-greatest UnsignedChar = 255
-greatest Short = 32767
-greatest UnsignedShort = 65535
-greatest Int = 2147483647
-greatest UnsignedInt = 4294967295
-greatest Long = 2147483647
-greatest UnsignedLong = 4294967295
-
 -- a number is one of a type's
 abbrev pub fits : IntegerType → ℤ → Bool
-fits t z = int_le (lowest t) z && int_le z (pos (greatest t))
+fits t z = word.holds (integer t) z
 
 -- the residue of a number, from 0 to below the modulus
 unfoldable pub residue : ℤ → ℕ → ℕ
-residue z m = unsigned_abs (int_rem_euclid z (pos m))
-
--- the number of a type that has this residue: that itself, where it is one of the type's numbers
-abbrev pub of_residue : IntegerType → ℕ → ℤ
-of_residue t r = if nat_lt (greatest t) r then pos r -ℤ pos (modulus t) else pos r
+residue z m = word.modulo m z
 
 -- a number converted to a type: the one of the type's numbers that differs from it by a multiple of how many there are (6.3.1.3)
-unfoldable pub wrapped : IntegerType → ℤ → ℤ
-wrapped t z = of_residue t (residue z (modulus t))
+abbrev pub wrapped : IntegerType → ℤ → ℤ
+wrapped t z = word.converted (integer t) z
 
 -- the integer promotions: a type of lesser rank than `int` becomes `int` (6.3.1.1)
 abbrev pub promoted : IntegerType → IntegerType

@@ -1,7 +1,8 @@
 //! Whether an expression is a constant expression (6.6).
 
 ghost use Rattle.std.specs.Prelude.{◌≡◌};
-ghost use Rattle.c_type_rules.specs.Constancies.{and_constant, arithmetic_constant, comparison_constant, conditional_constant, converted_constant, is_formed, not_constant, only_formed, or_constant, or_formed, sign_constant, truth, truth_constant};
+ghost use Rattle.word_base.specs.Operations.{truth};
+ghost use Rattle.c_type_rules.specs.Constancies.{and_constant, arithmetic_constant, comparison_constant, conditional_constant, converted_constant, is_formed, not_constant, only_formed, or_constant, or_formed, sign_constant, truth_constant};
 
 use crate::constant::{calculated, compared, signed};
 use crate::integer::wrapped;
@@ -50,8 +51,8 @@ fn or_formed(value: Option<i64>) -> Constancy
     }
 }
 
-/// 1 where a test holds, else 0.
-fn truth(test: bool) -> i64
+/// The `int` that a test gives: 1 where it holds, and else 0.
+pub fn truth(test: bool) -> i64
     ensures { result ≡ truth test }
 {
     if test { 1 } else { 0 }

@@ -1,7 +1,8 @@
 //! Integer types: their ranges, promotions and conversions (ISO/IEC 9899:2011, 6.2.5 and 6.3.1).
 
 ghost use Rattle.std.specs.Prelude.{◌≡◌, ◌<◌, ◌≤◌, ◌^◌};
-ghost use Rattle.c_type_rules.specs.Integers.{bits, common, fits, greatest, is_signed, joined, lowest, modulus, promoted, rank, residue, room, object_size, scalar_size, size, unsigned_of, wrapped};
+ghost use Rattle.word_base.specs.Types.{bits_of, greatest, least, number_of};
+ghost use Rattle.c_type_rules.specs.Integers.{common, fits, integer, is_signed, joined, promoted, rank, residue, room, object_size, scalar_size, size, unsigned_of, wrapped};
 
 use c_tree::{IntegerType, ObjectType, Scalar};
 
@@ -17,16 +18,10 @@ pub fn is_signed(of: IntegerType) -> bool
 
 /// How many bits a type has.
 pub fn bits(of: IntegerType) -> u32
-    ensures { result ≡ bits of }
+    ensures number { result ≡ (integer of).width }
+    ensures bounded { result ≤ 32 }
 {
-    match of {
-        IntegerType::Char | IntegerType::SignedChar | IntegerType::UnsignedChar => 8,
-        IntegerType::Short | IntegerType::UnsignedShort => 16,
-        IntegerType::Int
-        | IntegerType::UnsignedInt
-        | IntegerType::Long
-        | IntegerType::UnsignedLong => 32,
-    }
+    8 * size(of)
 }
 
 /// How many bytes a type has.
@@ -46,7 +41,7 @@ pub fn size(of: IntegerType) -> u32
 
 /// How many numbers a type has.
 fn modulus(of: IntegerType) -> u64
-    ensures number { result ≡ modulus of }
+    ensures number { result ≡ 2 ^ (integer of).width }
     ensures positive { 0 < result }
     ensures bounded { result ≤ 4294967296 }
 {
@@ -62,7 +57,7 @@ fn modulus(of: IntegerType) -> u64
 
 /// The least number of a type.
 fn lowest(of: IntegerType) -> i64
-    ensures { result ≡ lowest of }
+    ensures { result ≡ least (integer of) }
 {
     match of {
         IntegerType::SignedChar => -128,
@@ -73,9 +68,8 @@ fn lowest(of: IntegerType) -> i64
 }
 
 /// The greatest number of a type.
-fn greatest(of: IntegerType) -> u64
-    ensures number { result ≡ greatest of }
-    ensures bounded { result < 4294967296 }
+fn highest(of: IntegerType) -> i64
+    ensures { result ≡ greatest (integer of) }
 {
     match of {
         IntegerType::SignedChar => 127,
@@ -91,11 +85,11 @@ fn greatest(of: IntegerType) -> u64
 pub fn fits(of: IntegerType, number: i128) -> bool
     ensures { result ≡ fits of number }
 {
-    i128::from(lowest(of)) <= number && number <= i128::from(greatest(of))
+    i128::from(lowest(of)) <= number && number <= i128::from(highest(of))
 }
 
 /// The residue of a number, from 0 to below the modulus.
-#[tactic(auto, unfolding(crate::specs::Integers::residue))]
+#[tactic(auto, using(crate::proofs::Numbers::remainder_is_modulo), unfolding(crate::specs::Integers::residue))]
 pub fn residue(number: i128, modulus: u64) -> u64
     requires positive { 0 < modulus }
     requires bounded { modulus ≤ 4294967296 }
@@ -105,18 +99,29 @@ pub fn residue(number: i128, modulus: u64) -> u64
     number.rem_euclid(i128::from(modulus)) as u64
 }
 
+/// The bits of a number in a type, in two's complement.
+#[tactic(auto, unfolding(crate::specs::Integers::residue))]
+pub fn bits_of(of: IntegerType, number: i128) -> u32
+    ensures { result ≡ bits_of (integer of) number }
+{
+    residue(number, modulus(of)) as u32
+}
+
+/// The number of a type that has these bits.
+pub fn number_of(of: IntegerType, bits: u32) -> i64
+    ensures { result ≡ number_of (integer of) bits }
+{
+    if is_signed(of) && modulus(of) <= 2 * u64::from(bits) {
+        return i64::from(bits) - modulus(of) as i64;
+    }
+    i64::from(bits)
+}
+
 /// A number converted to a type: the one of the type's numbers that differs from it by a multiple of how many there are (6.3.1.3).
-#[tactic(auto, unfolding(crate::specs::Integers::wrapped))]
 pub fn wrapped(of: IntegerType, number: i128) -> i64
     ensures { result ≡ wrapped of number }
 {
-    let all = modulus(of);
-    let rest = residue(number, all);
-    if greatest(of) < rest {
-        rest as i64 - all as i64
-    } else {
-        rest as i64
-    }
+    number_of(of, bits_of(of, number))
 }
 
 /// The rank of a type (6.3.1.1).

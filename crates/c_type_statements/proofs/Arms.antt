@@ -2,6 +2,7 @@
 use Rattle.std.proofs.Common.{◌≡◌, ℕ, false, List, [], ◌∷◌, ◌++◌, map, Option, Some, None, Box, Vec, Global, refl, ap, sym, ◌∙◌, append_assoc}
 use Rattle.std.specs.Option.{option_map}
 use Rattle.debug_records.specs.declared.source.Spot.{Spot}
+use Rattle.debug_records.specs.declared.code.TheConstants.Code.{MISPLACED_JUMP}
 use Rattle.c_tree.specs.declared.extent.Extent.{Extent}
 use Rattle.c_tree.specs.declared.types.IntegerType.{IntegerType}
 use Rattle.c_tree.specs.declared.statement.Statement as declared-statement
@@ -16,7 +17,6 @@ use Rattle.c_tree.specs.TypedStatements.{DeclaredTree, TypedStatementTree, Typed
 use Rattle.c_tree.specs.TypedStatements as typed-tree
 use Rattle.c_type_declarations.specs.Progress.{ProgressTree, Met, means, next_met, opened, closed}
 use Rattle.c_type_declarations.specs.Declarations.{declaration_met}
-use Rattle.c_type_statements.specs.Codes.{E26}
 use Rattle.c_type_statements.specs.declared.setting.Setting.{Setting}
 use Rattle.c_type_statements.specs.StatementEnds.{last_of_statement}
 use Rattle.c_type_statements.specs.Settings.{in_loop, unless, run_met, condition_met, return_met}
@@ -63,11 +63,11 @@ pub switch_arm : (g : Setting) (spot : Spot) (e : ExpressionTree) (opening : Spo
     → switch_met g spot e all closing p ≡ statement_met g (Switch spot e opening all closing) p
 switch_arm g spot e opening all closing p = sym (bare_unlabeled no_labels (switch_met g spot e all closing p))
 
-pub break_arm : (g : Setting) (extent : Extent) (p q : ProgressTree) → q ≡ unless g.may_break E26 extent p → means (typed-tree.Break extent.first) q ≡ statement_met g (Break extent) p
-break_arm g extent p q h = ap (means (typed-tree.Break extent.first)) h ∙ sym (bare_unlabeled no_labels (means (typed-tree.Break extent.first) (unless g.may_break E26 extent p)))
+pub break_arm : (g : Setting) (extent : Extent) (p q : ProgressTree) → q ≡ unless g.may_break MISPLACED_JUMP extent p → means (typed-tree.Break extent.first) q ≡ statement_met g (Break extent) p
+break_arm g extent p q h = ap (means (typed-tree.Break extent.first)) h ∙ sym (bare_unlabeled no_labels (means (typed-tree.Break extent.first) (unless g.may_break MISPLACED_JUMP extent p)))
 
-pub continue_arm : (g : Setting) (extent : Extent) (p q : ProgressTree) → q ≡ unless g.may_continue E26 extent p → means (typed-tree.Continue extent.first) q ≡ statement_met g (Continue extent) p
-continue_arm g extent p q h = ap (means (typed-tree.Continue extent.first)) h ∙ sym (bare_unlabeled no_labels (means (typed-tree.Continue extent.first) (unless g.may_continue E26 extent p)))
+pub continue_arm : (g : Setting) (extent : Extent) (p q : ProgressTree) → q ≡ unless g.may_continue MISPLACED_JUMP extent p → means (typed-tree.Continue extent.first) q ≡ statement_met g (Continue extent) p
+continue_arm g extent p q h = ap (means (typed-tree.Continue extent.first)) h ∙ sym (bare_unlabeled no_labels (means (typed-tree.Continue extent.first) (unless g.may_continue MISPLACED_JUMP extent p)))
 
 pub return_arm : (g : Setting) (extent : Extent) (e : Option ExpressionTree) (r : Option RvalueTree) (p q : ProgressTree)
     → means r q ≡ return_met g.result extent e p → means (typed-tree.Return extent.first r) q ≡ statement_met g (Return extent e) p

@@ -16,7 +16,7 @@ use crate::ends::last_of_statement;
 use crate::label::{all_labels, misplaced};
 use crate::part::{Part, arranged};
 use crate::setting::{
-    Setting, condition, condition_if_any, return_value, run, start, step, unless,
+    Setting, condition, condition_if_any, return_value, run, start, step, unboxed, unless,
 };
 use crate::switch::{Labels, chosen_value, no_labels};
 use c_tree::{
@@ -24,6 +24,7 @@ use c_tree::{
     TypedStatements,
 };
 use c_type_declarations::{Progress, declaration};
+use c_type_values::node;
 use debug_records::{Code, Spot};
 use std::alloc::{AllocError, Global};
 
@@ -34,23 +35,31 @@ pub fn statement(
     progress: &mut Progress,
     setting: Setting,
     s: &Statement,
-) -> Result<TypedStatement, AllocError>
-    ensures { IfOk result (λ t. means (typed_tree.statement_view t) (progress_view progress.new) ≡ statement_met setting (statement_view s.now) (progress_view progress.old)) }
+) -> Result<Box<TypedStatement>, AllocError>
+    ensures { IfOk result (λ t. means (typed_tree.statement_view t.value) (progress_view progress.new) ≡ statement_met setting (statement_view s.now) (progress_view progress.old)) }
 {
     match s {
         Statement::Block(block) => {
-            let body = block_in_scope(alloc, progress, setting, &block.statements)?;
-            Ok(TypedStatement::Block(Box::new(alloc, body)?))
+            let all = block_in_scope(alloc, progress, setting, &block.statements)?;
+            let body = node(alloc, all)?;
+            let made = node(alloc, TypedStatement::Block(body))?;
+            Ok(made)
         }
         Statement::Declaration(d) => {
             let all = declaration(alloc, progress, d)?;
-            Ok(TypedStatement::Declaration(all))
+            let made = node(alloc, TypedStatement::Declaration(all))?;
+            Ok(made)
         }
-        Statement::Empty(spot) => Ok(TypedStatement::Empty(*spot)),
+        Statement::Empty(spot) => {
+            let made = node(alloc, TypedStatement::Empty(*spot))?;
+            Ok(made)
+        }
         Statement::Expression { value, .. } => {
             let spot = value.first();
-            let value = run(alloc, progress, value)?;
-            Ok(TypedStatement::Expression { spot, value })
+            let tree = run(alloc, progress, value)?;
+            let value = Box::into_inner(tree);
+            let made = node(alloc, TypedStatement::Expression { spot, value })?;
+            Ok(made)
         }
         Statement::If {
             first,
@@ -74,11 +83,15 @@ pub fn statement(
             };
             let tree = condition(alloc, progress, extent, e)?;
             let body = statement(alloc, progress, setting.in_loop(), body)?;
-            Ok(TypedStatement::While {
-                spot: e.first(),
-                condition: tree,
-                body: Box::new(alloc, body)?,
-            })
+            let made = node(
+                alloc,
+                TypedStatement::While {
+                    spot: e.first(),
+                    condition: Box::into_inner(tree),
+                    body,
+                },
+            )?;
+            Ok(made)
         }
         Statement::DoWhile {
             extent,
@@ -87,11 +100,15 @@ pub fn statement(
         } => {
             let body = statement(alloc, progress, setting.in_loop(), body)?;
             let tree = condition(alloc, progress, *extent, e)?;
-            Ok(TypedStatement::DoWhile {
-                body: Box::new(alloc, body)?,
-                spot: e.first(),
-                condition: tree,
-            })
+            let made = node(
+                alloc,
+                TypedStatement::DoWhile {
+                    body,
+                    spot: e.first(),
+                    condition: Box::into_inner(tree),
+                },
+            )?;
+            Ok(made)
         }
         Statement::For {
             spot,
@@ -119,7 +136,8 @@ pub fn statement(
         }
         Statement::Break(extent) => {
             unless(progress, setting.may_break, Code::MISPLACED_JUMP, *extent)?;
-            Ok(TypedStatement::Break(extent.first))
+            let made = node(alloc, TypedStatement::Break(extent.first))?;
+            Ok(made)
         }
         Statement::Continue(extent) => {
             unless(
@@ -128,14 +146,19 @@ pub fn statement(
                 Code::MISPLACED_JUMP,
                 *extent,
             )?;
-            Ok(TypedStatement::Continue(extent.first))
+            let made = node(alloc, TypedStatement::Continue(extent.first))?;
+            Ok(made)
         }
         Statement::Return { extent, value } => {
             let value = return_value(alloc, progress, setting.result, *extent, value)?;
-            Ok(TypedStatement::Return {
-                spot: extent.first,
-                value,
-            })
+            let made = node(
+                alloc,
+                TypedStatement::Return {
+                    spot: extent.first,
+                    value: unboxed(value),
+                },
+            )?;
+            Ok(made)
         }
     }
 }
@@ -224,8 +247,8 @@ fn last_else(
     progress: &mut Progress,
     setting: Setting,
     otherwise: &Option<Box<Statement>>,
-) -> Result<Option<TypedStatement>, AllocError>
-    ensures { IfOk result (λ t. means (option_map typed_tree.statement_view t) (progress_view progress.new) ≡ else_met setting (option_map (λ s. statement_view s.value) otherwise.now) (progress_view progress.old)) }
+) -> Result<Option<Box<TypedStatement>>, AllocError>
+    ensures { IfOk result (λ t. means (option_map (λ s. typed_tree.statement_view s.value) t) (progress_view progress.new) ≡ else_met setting (option_map (λ s. statement_view s.value) otherwise.now) (progress_view progress.old)) }
 {
     match otherwise {
         None => Ok(None),
@@ -247,8 +270,8 @@ fn for_loop(
     test: &Option<Expression>,
     last: &Option<Expression>,
     body: &Statement,
-) -> Result<TypedStatement, AllocError>
-    ensures { IfOk result (λ t. means (typed_tree.statement_view t) (progress_view progress.new) ≡ for_met setting spot (start_view first.now) (option_map expression_view test.now) (option_map expression_view last.now) (statement_view body.now) (progress_view progress.old)) }
+) -> Result<Box<TypedStatement>, AllocError>
+    ensures { IfOk result (λ t. means (typed_tree.statement_view t.value) (progress_view progress.new) ≡ for_met setting spot (start_view first.now) (option_map expression_view test.now) (option_map expression_view last.now) (statement_view body.now) (progress_view progress.old)) }
 {
     let extent = Extent {
         first: spot,
@@ -258,13 +281,17 @@ fn for_loop(
     let condition = condition_if_any(alloc, progress, extent, test)?;
     let step = step(alloc, progress, last)?;
     let body = statement(alloc, progress, setting.in_loop(), body)?;
-    Ok(TypedStatement::For {
-        start,
-        spot: head_of(spot, test),
-        condition,
-        step,
-        body: Box::new(alloc, body)?,
-    })
+    let made = node(
+        alloc,
+        TypedStatement::For {
+            start,
+            spot: head_of(spot, test),
+            condition: unboxed(condition),
+            step,
+            body,
+        },
+    )?;
+    Ok(made)
 }
 
 /// Where the place of a `for` stands: at its condition, or without one at its own first token.
@@ -286,8 +313,8 @@ fn switch(
     spot: Spot,
     block: &Block,
     value: &Expression,
-) -> Result<TypedStatement, AllocError>
-    ensures { IfOk result (λ t. means (typed_tree.statement_view t) (progress_view progress.new) ≡ switch_met setting spot (expression_view value.now) (chain (map statement_view block.now.statements.items)) block.now.closing (progress_view progress.old)) }
+) -> Result<Box<TypedStatement>, AllocError>
+    ensures { IfOk result (λ t. means (typed_tree.statement_view t.value) (progress_view progress.new) ≡ switch_met setting spot (expression_view value.now) (chain (map statement_view block.now.statements.items)) block.now.closing (progress_view progress.old)) }
 {
     let extent = Extent {
         first: spot,
@@ -303,11 +330,16 @@ fn switch(
         &block.statements,
     )?;
     progress.close();
-    Ok(TypedStatement::Switch {
-        spot: value.first(),
-        value: chosen.tree,
-        body: Box::new(alloc, body)?,
-    })
+    let body = node(alloc, body)?;
+    let made = node(
+        alloc,
+        TypedStatement::Switch {
+            spot: value.first(),
+            value: Box::into_inner(chosen.tree),
+            body,
+        },
+    )?;
+    Ok(made)
 }
 
 /// The statements of the block of a `switch`.

@@ -6,6 +6,7 @@ use Rattle.graph_core.specs.declared.validity.Counted.{Counted}
 use Rattle.graph_core.specs.declared.validity.Counted.TheVariants.{Instructions, Arguments, Markers, MarkersOf}
 use Rattle.graph_core.specs.Graphs.{Instruction, Block, Graph, UnitForm}
 use Rattle.graph_core.specs.Uses.{marker_of}
+use Rattle.graph_core.specs.Bounds.{most_functions, most_instructions, most_blocks, most_markers, most_arguments, most_static_bytes}
 use Rattle.graph_core.specs.Memory.{static_bytes}
 use Rattle.graph_core.specs.Validity.{arguments_in, arguments_of, counts, instructions_of, markers_of, taken_by, total}
 
@@ -54,9 +55,9 @@ AreMarkedOnce graphs all = AllByRecursion (λ (g : Graph). AreMarkedOnceInBlocks
 
 -- The counts of a unit are within their bounds.
 pub record KeepsCounts (u : UnitForm) : Type 0 where
-  pub functions : length u.graphs ≤ 256
-  pub instructions : total instructions_of u.graphs ≤ 8000
-  pub blocks : total (λ (g : Graph). length g.blocks) u.graphs ≤ 12000
-  pub markers : length (markers_of u.graphs) ≤ 4000
-  pub arguments : total arguments_of u.graphs ≤ 4000
-  pub statics : total (λ o. taken_by (static_bytes o)) u.statics + total (λ (b : List ℕ). taken_by (length b)) u.array_bytes ≤ 1048576
+  pub functions : length u.graphs ≤ most_functions
+  pub instructions : total instructions_of u.graphs ≤ most_instructions
+  pub blocks : total (λ (g : Graph). length g.blocks) u.graphs ≤ most_blocks
+  pub markers : length (markers_of u.graphs) ≤ most_markers
+  pub arguments : total arguments_of u.graphs ≤ most_arguments
+  pub statics : total (λ o. taken_by (static_bytes o)) u.statics + total (λ (b : List ℕ). taken_by (length b)) u.array_bytes ≤ most_static_bytes

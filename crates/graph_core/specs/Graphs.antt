@@ -4,7 +4,6 @@ use Rattle.debug_records.specs.declared.change.PassName.{PassName}
 use Rattle.debug_records.specs.declared.change.Kind as declared-kind
 use Rattle.debug_records.specs.declared.change.Change as declared-change
 use Rattle.debug_records.specs.declared.change.Place as declared-place
-use Rattle.debug_records.specs.declared.change.Var as declared-var
 use Rattle.debug_records.specs.Change.{changes}
 use Rattle.places.specs.declared.flow.FlowStep.{FlowStep}
 use Rattle.places.specs.declared.flow.Assignment.{Assignment}
@@ -29,6 +28,7 @@ use Rattle.graph_core.specs.declared.block.Block as declared-block
 use Rattle.graph_core.specs.declared.graph.Binding as declared-binding
 use Rattle.graph_core.specs.declared.graph.Binding.TheVariants as binding
 use Rattle.graph_core.specs.declared.graph.MemoryObject.{MemoryObject}
+use Rattle.graph_core.specs.declared.graph.Scalar as declared-scalar
 use Rattle.graph_core.specs.declared.graph.Graph as declared-graph
 use Rattle.graph_core.specs.declared.unit.Relocation.{Relocation}
 use Rattle.graph_core.specs.declared.unit.StaticObject as declared-static
@@ -53,9 +53,9 @@ pub data NoteValue : Type 0 where
   Is : Recipe → NoteValue
   Gone : (change : ℕ) → NoteValue
 
--- Where a load reads and a store writes: at the beginning of an automatic or a static object, or where a value points.
+-- Where a load reads and a store writes: in an automatic object, so many bytes behind its beginning, at the beginning of a static object, or where a value points.
 pub data Location : Type 0 where
-  Automatic : (object : ℕ) → Location
+  Automatic : (object offset : ℕ) → Location
   Static : (object : ℕ) → Location
   At : Operand → Location
 
@@ -90,14 +90,20 @@ pub data Binding : Type 0 where
   ToScalar : ℕ → Binding
   ToObject : ℕ → Binding
 
--- The graph of a function. Its first names are its scalars, each a variable; behind them come the temporaries, last those that code motion made.
+-- A scalar variable: its number; that of its type, which equal types alone share; and the place of its declarator, or of the function's entry where it is a parameter.
+pub record Scalar : Type 0 where
+  pub variable : ℕ
+  pub of : ℕ
+  pub place : ℕ
+
+-- The graph of a function. Its first names are its scalars; behind them come the temporaries, last those that code motion made.
 pub record Graph : Type 0 where
   pub entry : ℕ
   pub parameters : List Binding
-  pub scalars : List ℕ
+  pub scalars : List Scalar
   pub objects : List MemoryObject
-  pub names : ℕ
-  pub moved_from : ℕ
+  pub name_count : ℕ
+  pub first_moved : ℕ
   pub blocks : List Block
 
 pub record StaticObject : Type 0 where
@@ -125,7 +131,7 @@ pub record UnitForm : Type 0 where
 abbrev pub operand_view : declared-operand.Operand → Operand
 operand_view (operand.Name n) = Name n.0
 operand_view (operand.Constant word) = Constant word
-operand_view (operand.Address object offset) = StaticAddress object offset
+operand_view (operand.StaticAddress object offset) = StaticAddress object offset
 
 abbrev pub recipe_view : declared-recipe.Recipe → Recipe
 recipe_view (recipe.Operand o) = Of (operand_view o)
@@ -137,7 +143,7 @@ note_view (note.Is r) = Is (recipe_view r)
 note_view (note.Gone change) = Gone change
 
 abbrev pub location_view : declared-location.Location → Location
-location_view (location.Automatic object) = Automatic object
+location_view (location.Automatic object offset) = Automatic object offset
 location_view (location.Static object) = Static object
 location_view (location.At o) = At (operand_view o)
 
@@ -168,14 +174,17 @@ abbrev pub binding_view : declared-binding.Binding → Binding
 binding_view (binding.Scalar n) = ToScalar n.0
 binding_view (binding.Object object) = ToObject object
 
+abbrev pub scalar_view : declared-scalar.Scalar → Scalar
+scalar_view s = record { variable = s.var.0; of = s.of; place = s.place.0 }
+
 abbrev pub graph_view : declared-graph.Graph → Graph
 graph_view g = record {
   entry = g.entry.0;
   parameters = map binding_view g.parameters.items;
-  scalars = map (λ (x : declared-var.Var). x.0) g.scalars.items;
+  scalars = map scalar_view g.scalars.items;
   objects = g.objects.items;
-  names = g.names;
-  moved_from = g.moved_from;
+  name_count = g.name_count;
+  first_moved = g.first_moved;
   blocks = map block_view g.blocks.items;
 }
 

@@ -38,6 +38,10 @@ is_live memory n = option_map_or (λ o. o.live) (slice_get memory n) false
 abbrev pub address_of : Memory → ℕ → Value
 address_of memory n = option_map_or (λ o. Pointer n (bytes_of o) 0) (slice_get memory n) Odd
 
+-- the address of so many bytes behind the beginning of an object
+abbrev pub address_in : Memory → (object offset : ℕ) → Value
+address_in memory n offset = option_map_or (λ o. pointer_at n (bytes_of o) offset) (slice_get memory n) Odd
+
 -- Which of an object's values an access by an element reaches at an offset in bytes: the object lives, its elements are as wide, and one stands there.
 abbrev pub index_in : Element → (offset : ℕ) → Object → Option ℕ
 index_in e offset o =

@@ -10,7 +10,7 @@ use Rattle.graph_core.specs.declared.instruction.Callee.{Callee}
 use Rattle.graph_core.specs.declared.instruction.Callee.TheVariants as callee
 use Rattle.graph_core.specs.Graphs.{Operand, Name, Constant, StaticAddress, Recipe, Of, Truncated, Operated, NoteValue, Is, Gone, Location, Automatic, Static, At, Instruction, Marker, Note, Move, Operate, Truncate, Same, Address, Load, Store, Zero, CopyWords, Call, End, Jump, Branch, Return, Block, Binding, ToScalar, ToObject, Graph, StaticObject, UnitForm}
 use Rattle.graph_core.specs.Values.{pointer_at, operate, truncate, same, holds, is_odd}
-use Rattle.graph_core.specs.Memory.{Memory, is_live, address_of, static_bytes, read, write, zeroed, copied, new_object, ended_from, first_memory}
+use Rattle.graph_core.specs.Memory.{Memory, is_live, address_of, address_in, static_bytes, read, write, zeroed, copied, new_object, ended_from, first_memory}
 
 -- An activation of a function: its function, its graph, the place that it has come to, the values of its names, the shadows of its scalars, the number of its first
 -- object, what is left of its block, and the name that a call's value goes to while it waits.
@@ -75,7 +75,7 @@ recipe_value statics names (Operated o r s) = operate o (recipe_value statics na
 
 -- where a location points
 abbrev pub pointed : List StaticObject → Memory → Activation → Location → Value
-pointed statics memory here (Automatic object) = address_of memory (here.first_object + object)
+pointed statics memory here (Automatic object offset) = address_in memory (here.first_object + object) offset
 pointed statics memory here (Static object) = static_address statics object 0
 pointed statics memory here (At a) = value statics here.names a
 

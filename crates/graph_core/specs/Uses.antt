@@ -18,7 +18,7 @@ names_of_all [] = []
 names_of_all (a ∷ more) = names_of a ++ names_of_all more
 
 abbrev pub names_of_location : Location → List ℕ
-names_of_location (Automatic object) = []
+names_of_location (Automatic object offset) = []
 names_of_location (Static object) = []
 names_of_location (At a) = names_of a
 

@@ -34,8 +34,8 @@ IsLiveAtEnd g x n = (b : Block) × (slice_get g.blocks n ≡ Some b) × ((to : �
 pub record AreLive (g : Graph) (starts ends : List Numbers) : Type 0 where
   pub starts_each : length starts ≡ length g.blocks
   pub ends_each : length ends ≡ length g.blocks
-  pub at_starts : (n x : ℕ) (live : Numbers) → slice_get starts n ≡ Some live → (contains live x ≡ true) ↔ ((x < g.names) × IsLiveAtStart g x n)
-  pub at_ends : (n x : ℕ) (live : Numbers) → slice_get ends n ≡ Some live → (contains live x ≡ true) ↔ ((x < g.names) × IsLiveAtEnd g x n)
+  pub at_starts : (n x : ℕ) (live : Numbers) → slice_get starts n ≡ Some live → (contains live x ≡ true) ↔ ((x < g.name_count) × IsLiveAtStart g x n)
+  pub at_ends : (n x : ℕ) (live : Numbers) → slice_get ends n ≡ Some live → (contains live x ≡ true) ↔ ((x < g.name_count) × IsLiveAtEnd g x n)
 
 -- with these names, as far as they lie below the width
 abbrev pub with_names : (width : ℕ) → List ℕ → Numbers → Numbers

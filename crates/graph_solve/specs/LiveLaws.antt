@@ -120,4 +120,4 @@ some_below width (Some b) live below = λ x ge. block_in width x b live ∙ ap (
 
 -- Live names flow against execution, from none at the ends. A name is live where it is on some path.
 abbrev pub live_flow : Graph → DataFlow
-live_flow g = some_path false g.names empty (λ n live. before_some g.names (slice_get g.blocks n) live) (below_empty g.names) (λ n live below. some_below g.names (slice_get g.blocks n) live below) (λ n s t. some_union g.names (slice_get g.blocks n) s t)
+live_flow g = some_path false g.name_count empty (λ n live. before_some g.name_count (slice_get g.blocks n) live) (below_empty g.name_count) (λ n live below. some_below g.name_count (slice_get g.blocks n) live below) (λ n s t. some_union g.name_count (slice_get g.blocks n) s t)

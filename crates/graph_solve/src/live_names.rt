@@ -74,7 +74,7 @@ impl<'a> Problem for LiveNames<'a> {
     }
 
     fn height(&self) -> u32 {
-        self.graph.names
+        self.graph.name_count
     }
 
     fn edge(&self, alloc: Global) -> Result<Facts, AllocError> {
@@ -91,7 +91,7 @@ impl<'a> Problem for LiveNames<'a> {
 
     fn transfer(&self, alloc: Global, block: u32, value: &Facts) -> Result<Facts, AllocError> {
         match self.graph.blocks.get(block as usize) {
-            Some(block) => live_at_start(alloc, block, self.graph.names, value),
+            Some(block) => live_at_start(alloc, block, self.graph.name_count, value),
             None => value.duplicate(),
         }
     }

@@ -67,8 +67,8 @@ fn unit_of(alloc: Global, entry: u32, blocks: Vec<Block>) -> Result<Unit, AllocE
         parameters: Vec::new(alloc),
         scalars: Vec::new(alloc),
         objects: Vec::new(alloc),
-        names: 1,
-        moved_from: 1,
+        name_count: 1,
+        first_moved: 1,
         blocks,
     };
     let mut graphs = Vec::new(alloc);

@@ -3,12 +3,15 @@
 ghost use Rattle.std.specs.Prelude.{◌≡◌, ◌≤◌, IfOk, length};
 ghost use Rattle.graph_core.specs.Graphs.{block_view, graph_view, unit_view};
 ghost use Rattle.graph_core.specs.Graphs as form;
-ghost use Rattle.graph_core.specs.Worked.{assigning, assigns_two, block, built, entry_block, return_block};
+ghost use Rattle.pass_law.specs.Worked.{assigning, assigns_two, block, built, entry_block, return_block, unreached_block};
 
 use debug_records::{ChangeLog, Kind, PassName, Place, Var};
-use graph_core::{Block, End, Graph, Instr, Label, Name, NoteValue, Operand, Recipe, Unit};
+use graph_core::{
+    Block, Callee, End, Graph, Instr, Label, Name, NoteValue, Operand, Recipe, Scalar, Unit,
+};
 use pass_law::{Pass, RunErr, Trail, run_list};
 use places::{Assignment, FlowStep, FlowTable};
+use smallvec::SmallVec;
 use std::alloc::{AllocError, Global};
 use std::test::Fail;
 
@@ -19,7 +22,7 @@ struct Same {
 }
 
 impl Pass for Same {
-    ghost use Rattle.pass_law.specs.Examples.{same_steps};
+    ghost use Rattle.middle_tests.specs.Examples.{same_steps};
 
     ghost named = { λ p. p.name };
 
@@ -41,7 +44,7 @@ struct Logs {
 }
 
 impl Pass for Logs {
-    ghost use Rattle.pass_law.specs.Examples.{logging_steps};
+    ghost use Rattle.middle_tests.specs.Examples.{logging_steps};
 
     ghost named = { λ p. p.name };
 
@@ -71,7 +74,7 @@ fn entry(alloc: Global) -> Result<Block, AllocError>
     })
 }
 
-/// The block of `x = 2`.
+/// The block of `int x = 2`.
 fn assignment(alloc: Global) -> Result<Block, AllocError>
     ensures { IfOk result (λ b. block_view b ≡ block (Some 1) assigns_two (form.Jump 2)) }
 {
@@ -106,7 +109,29 @@ fn returning(alloc: Global) -> Result<Block, AllocError>
     })
 }
 
-/// The graph of `int main(void) { int x; x = 2; return x; }`.
+/// The block to which nothing leads.
+fn unreached(alloc: Global) -> Result<Block, AllocError>
+    ensures { IfOk result (λ b. block_view b ≡ unreached_block) }
+{
+    let x = Name(0);
+    let mut instructions = Vec::new(alloc);
+    instructions.push(Instr::Note {
+        of: x,
+        value: NoteValue::Is(Recipe::Operand(Operand::Name(x))),
+    })?;
+    instructions.push(Instr::Call {
+        target: None,
+        callee: Callee::Putchar,
+        arguments: SmallVec::from_slice(alloc, &[Operand::Name(x)])?,
+    })?;
+    Ok(Block {
+        place: Some(Place(2)),
+        instructions,
+        end: End::Jump(Label(2)),
+    })
+}
+
+/// The graph of `int main(void) { int x = 2; return x; }`.
 fn main_graph(alloc: Global) -> Result<Graph, AllocError>
     ensures { IfOk result (λ g. graph_view g ≡ assigning) }
 {
@@ -114,15 +139,20 @@ fn main_graph(alloc: Global) -> Result<Graph, AllocError>
     blocks.push(entry(alloc)?)?;
     blocks.push(assignment(alloc)?)?;
     blocks.push(returning(alloc)?)?;
+    blocks.push(unreached(alloc)?)?;
     let mut scalars = Vec::new(alloc);
-    scalars.push(Var(0))?;
+    scalars.push(Scalar {
+        var: Var(0),
+        of: 0,
+        place: Place(2),
+    })?;
     Ok(Graph {
         entry: Place(1),
         parameters: Vec::new(alloc),
         scalars,
         objects: Vec::new(alloc),
-        names: 1,
-        moved_from: 1,
+        name_count: 1,
+        first_moved: 1,
         blocks,
     })
 }

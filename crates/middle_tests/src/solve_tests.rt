@@ -104,8 +104,8 @@ fn graph(alloc: Global, blocks: Vec<Block>) -> Graph {
         parameters: Vec::new(alloc),
         scalars: Vec::new(alloc),
         objects: Vec::new(alloc),
-        names: 4,
-        moved_from: 4,
+        name_count: 4,
+        first_moved: 4,
         blocks,
     }
 }

@@ -1,17 +1,19 @@
 //! Runs of small units.
 
-use graph_core::Unit;
+use graph_core::{Element, Unit};
 use std::alloc::{AllocError, Global};
 use std::process::Abort;
 use std::test::Fail;
 use unit_run::{Event, run};
 
 mod cases;
+mod elements;
 mod kept;
 mod passed;
 mod steps;
 mod tables;
 mod units;
+mod unreached;
 
 use cases::{
     ACCESSES_SHOWS, ADDRESSED_SHOWS, ASSIGNED_SHOWS, COMPARING_SHOWS, COPIED_SHOWS, Case,
@@ -20,17 +22,19 @@ use cases::{
     RECURSION_SHOWS, REMOVED_SHOWS, STORING_SHOWS, STRAIGHT_BEGINS, STRAIGHT_SHOWS,
     UNASSIGNED_SHOWS, UNKNOWN_SHOWS, WHOLE_ON_A, WHOLE_ON_B,
 };
+use elements::{ELEMENTS, ELEMENTS_SHOWS};
 use kept::are_kept;
 use passed::{
     ASSIGNED, COPIED, MOVED, REPLACED, STORING, STORING_WITHOUT_DEAD, UNASSIGNED, UNCOPIED,
     UNMOVED, WHOLE, WITHOUT_DEAD,
 };
-use steps::{OTHERS, STEP_BEGINS, WILD, unit_with};
+use steps::{BEHIND_OBJECT, BEYOND_OBJECT, OTHERS, STEP_BEGINS, WILD, unit_with};
 use tables::{Line, UnitTable, shown, unit};
 use units::{
     ACCESSES, ADDRESSED, COMPARING, DANGLING, ENDED, ENDLESS, EXITING, LOOP, NARROW_ADDRESSES,
     NARROWING, NESTED, READING, RECURSION, REMOVED, STRAIGHT, UNKNOWN,
 };
+use unreached::{KEPT, UNREACHED, UNREACHED_SHOWS, UNREACHED_WITHOUT_DEAD, unreached_in};
 
 /// What can be seen of a unit's run. The unit is valid.
 fn events(
@@ -108,7 +112,7 @@ fn assert_kept(
 }
 
 /// Units, each with what its run shows.
-fn runs() -> [(&'static UnitTable, &'static Case); 18] {
+fn runs() -> [(&'static UnitTable, &'static Case); 19] {
     [
         (&STRAIGHT, &STRAIGHT_SHOWS),
         (&LOOP, &LOOP_SHOWS),
@@ -117,6 +121,7 @@ fn runs() -> [(&'static UnitTable, &'static Case); 18] {
         (&NARROWING, &NARROWING_SHOWS),
         (&ACCESSES, &ACCESSES_SHOWS),
         (&ADDRESSED, &ADDRESSED_SHOWS),
+        (&ELEMENTS, &ELEMENTS_SHOWS),
         (&NARROW_ADDRESSES, &NARROW_ADDRESSES_SHOWS),
         (&ENDED, &ENDED_SHOWS),
         (&DANGLING, &DANGLING_SHOWS),
@@ -140,7 +145,7 @@ fn runs_show_what_the_programs_do(rt: HostRuntime) -> Result<(), Fail> {
 }
 
 /// Units before passes and behind them, each with what its run shows.
-fn passed_units() -> [[(&'static UnitTable, &'static Case); 2]; 7] {
+fn passed_units() -> [[(&'static UnitTable, &'static Case); 2]; 8] {
     [
         [(&UNCOPIED, &COPIED_SHOWS), (&REPLACED, &COPIED_SHOWS)],
         [(&UNCOPIED, &COPIED_SHOWS), (&COPIED, &COPIED_SHOWS)],
@@ -155,6 +160,10 @@ fn passed_units() -> [[(&'static UnitTable, &'static Case); 2]; 7] {
             (&UNASSIGNED, &UNASSIGNED_SHOWS),
         ],
         [(&UNMOVED, &MOVED_SHOWS), (&MOVED, &MOVED_SHOWS)],
+        [
+            (&UNREACHED, &UNREACHED_SHOWS),
+            (&UNREACHED_WITHOUT_DEAD, &UNREACHED_SHOWS),
+        ],
     ]
 }
 
@@ -178,6 +187,26 @@ fn runs_end_before_wild_steps_and_go_on_behind_others(rt: HostRuntime) -> Result
     for (step, behind) in OTHERS {
         let events = step_events(&rt, rt.alloc(), *step)?;
         assert_shows(&rt, rt.alloc(), &events, &[STEP_BEGINS, *behind, "exit 0"])?;
+    }
+    Ok(())
+}
+
+#[test]
+fn accesses_lie_within_their_objects(rt: HostRuntime) -> Result<(), Fail> {
+    for (location, valid) in [(BEHIND_OBJECT, true), (BEYOND_OBJECT, false)] {
+        let unit = unit_with(rt.alloc(), Line::Load(0, Element::Word, location))?;
+        assert!(rt; unit.is_valid() == valid);
+    }
+    Ok(())
+}
+
+#[test]
+fn blocks_keep_places_of_their_function(rt: HostRuntime) -> Result<(), Fail> {
+    for (place, valid) in KEPT {
+        assert!(rt;
+            unreached_in(rt.alloc(), *place)?.is_valid() == *valid,
+            "at {place}"
+        );
     }
     Ok(())
 }

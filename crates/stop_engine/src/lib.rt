@@ -20,6 +20,7 @@ mod stop_table;
 mod stops;
 mod tables;
 mod values;
+mod variable_lists;
 mod views;
 mod visible;
 

@@ -20,8 +20,8 @@ use crate::operations::{is_true, operate, truth};
 use graph_core::{
     Binding, Block, Callee, Comparison, End, Graph, Label, MemoryObject, Name, Unit, Value,
 };
-use word_base::Operation;
 use std::alloc::{AllocError, Global};
+use word_base::Operation;
 
 /// Whether a word and a value are one, where that is known.
 fn same_as_word(word: u32, right: Value) -> Value

@@ -573,7 +573,14 @@ pub static STORING: UnitTable = UnitTable {
             Line::End(End::Jump(Label(1)), None),
             Line::Marker(2),
             Line::Zero(0, 2),
-            Line::Store(Element::Word, Location::Automatic(0), Operand::Constant(1)),
+            Line::Store(
+                Element::Word,
+                Location::Automatic {
+                    object: 0,
+                    offset: 0,
+                },
+                Operand::Constant(1),
+            ),
             Line::Address(2, 0),
             Line::Operate(
                 3,
@@ -672,7 +679,14 @@ pub static STORING_WITHOUT_DEAD: UnitTable = UnitTable {
             Line::End(End::Jump(Label(1)), None),
             Line::Marker(2),
             Line::Zero(0, 2),
-            Line::Store(Element::Word, Location::Automatic(0), Operand::Constant(1)),
+            Line::Store(
+                Element::Word,
+                Location::Automatic {
+                    object: 0,
+                    offset: 0,
+                },
+                Operand::Constant(1),
+            ),
             Line::Address(2, 0),
             Line::Operate(
                 3,

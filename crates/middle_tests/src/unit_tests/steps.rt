@@ -26,6 +26,24 @@ const WITHIN: Operand = Operand::Name(Name(5));
 /// What would be an address farther behind the first object.
 const BEYOND: Operand = Operand::Name(Name(6));
 
+/// Within the first object's word.
+const WITHIN_OBJECT: Location = Location::Automatic {
+    object: 0,
+    offset: 2,
+};
+
+/// Directly behind the first object.
+pub const BEHIND_OBJECT: Location = Location::Automatic {
+    object: 0,
+    offset: 4,
+};
+
+/// Farther behind the first object.
+pub const BEYOND_OBJECT: Location = Location::Automatic {
+    object: 0,
+    offset: 5,
+};
+
 const NULL: Operand = Operand::Constant(0);
 
 /// The place 2, in which a step is put to the test, and then the place 3 and the end of the program. There are two automatic objects of one word,
@@ -123,7 +141,14 @@ pub static WILD: &[Line] = &[
     Line::Call(None, Callee::Function(1), &[UNKNOWN]),
     Line::NotedAs(0, UNKNOWN),
     Line::NotedAs(0, BEYOND),
-    Line::Store(Element::Word, Location::Automatic(0), UNKNOWN),
+    Line::Store(
+        Element::Word,
+        Location::Automatic {
+            object: 0,
+            offset: 0,
+        },
+        UNKNOWN,
+    ),
     Line::Store(Element::Word, Location::At(NULL), Operand::Constant(7)),
     Line::Store(Element::Word, Location::At(BEHIND), Operand::Constant(7)),
     Line::Load(0, Element::Word, Location::At(NULL)),
@@ -131,6 +156,9 @@ pub static WILD: &[Line] = &[
     Line::Load(0, Element::Word, Location::At(BEHIND)),
     Line::Load(0, Element::Word, Location::At(WITHIN)),
     Line::Load(0, Element::Unsigned8, Location::At(FIRST)),
+    Line::Load(0, Element::Word, WITHIN_OBJECT),
+    Line::Load(0, Element::Word, BEHIND_OBJECT),
+    Line::Store(Element::Word, BEHIND_OBJECT, Operand::Constant(7)),
     Line::Zero(0, 2),
     Line::Copy(0, 0, 2),
 ];
@@ -198,7 +226,14 @@ pub static OTHERS: &[(Line, &str)] = &[
         "at 3: 0+4 [1 at 1: odd] [2 at 1: odd]",
     ),
     (
-        Line::Load(0, Element::Word, Location::Automatic(0)),
+        Line::Load(
+            0,
+            Element::Word,
+            Location::Automatic {
+                object: 0,
+                offset: 0,
+            },
+        ),
         "at 3: gone [1 at 1: odd] [2 at 1: odd]",
     ),
     (

@@ -3,7 +3,7 @@
 use debug_records::{ChangeLog, Kind, PassName, Place, Var};
 use graph_core::{
     Binding, Block, Bytes, Callee, Element, End, Graph, Instr, Label, Location, MemoryObject, Name,
-    NoteValue, Operand, Owner, Recipe, Relocation, Shadow, StaticObject, Unit, Value,
+    NoteValue, Operand, Owner, Recipe, Relocation, Scalar, Shadow, StaticObject, Unit, Value,
 };
 use places::FlowTable;
 use smallvec::SmallVec;
@@ -40,7 +40,7 @@ pub enum Line {
 pub struct GraphTable {
     pub entry: u32,
     pub parameters: &'static [Binding],
-    /// How many scalars it has. Their variables have the same numbers.
+    /// How many scalars it has, all of one type and of the entry's place. Their variables have the same numbers.
     pub scalars: u32,
     pub objects: &'static [MemoryObject],
     pub names: u32,
@@ -174,15 +174,19 @@ fn blocks(alloc: Global, lines: &[Line]) -> Result<Vec<Block>, AllocError> {
 fn graph(alloc: Global, table: &GraphTable) -> Result<Graph, AllocError> {
     let mut scalars = Vec::new(alloc);
     for number in 0..table.scalars {
-        scalars.push(Var(number))?;
+        scalars.push(Scalar {
+            var: Var(number),
+            of: 0,
+            place: Place(table.entry),
+        })?;
     }
     Ok(Graph {
         entry: Place(table.entry),
         parameters: Vec::from_slice(alloc, table.parameters)?,
         scalars,
         objects: Vec::from_slice(alloc, table.objects)?,
-        names: table.names,
-        moved_from: table.names,
+        name_count: table.names,
+        first_moved: table.names,
         blocks: blocks(alloc, table.lines)?,
     })
 }

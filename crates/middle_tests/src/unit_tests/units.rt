@@ -181,8 +181,22 @@ pub static ACCESSES: UnitTable = UnitTable {
             Line::Load(0, Element::Signed8, Location::At(T)),
             Line::Noted(0),
             Line::Marker(5),
-            Line::Store(Element::Word, Location::Automatic(1), T),
-            Line::Load(0, Element::Word, Location::Automatic(1)),
+            Line::Store(
+                Element::Word,
+                Location::Automatic {
+                    object: 1,
+                    offset: 0,
+                },
+                T,
+            ),
+            Line::Load(
+                0,
+                Element::Word,
+                Location::Automatic {
+                    object: 1,
+                    offset: 0,
+                },
+            ),
             Line::Noted(0),
             Line::Marker(6),
             Line::Zero(0, 1),
@@ -194,7 +208,7 @@ pub static ACCESSES: UnitTable = UnitTable {
             Line::Marker(8),
             Line::Move(
                 2,
-                Operand::Address {
+                Operand::StaticAddress {
                     object: 0,
                     offset: 2,
                 },
@@ -241,7 +255,14 @@ pub static ENDED: UnitTable = UnitTable {
             lines: &[
                 Line::Marker(1),
                 Line::Marker(2),
-                Line::Load(0, Element::Word, Location::Automatic(0)),
+                Line::Load(
+                    0,
+                    Element::Word,
+                    Location::Automatic {
+                        object: 0,
+                        offset: 0,
+                    },
+                ),
                 Line::Call(None, Callee::Putchar, &[X]),
                 Line::Address(0, 0),
                 Line::End(End::Return(Some(X)), None),
@@ -449,7 +470,7 @@ pub static ADDRESSED: UnitTable = UnitTable {
             Line::Operate(
                 4,
                 Operation::Add,
-                Operand::Address {
+                Operand::StaticAddress {
                     object: 0,
                     offset: 0,
                 },

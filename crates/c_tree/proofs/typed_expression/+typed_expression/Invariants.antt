@@ -1,6 +1,5 @@
-use Rattle.std.proofs.Common.{◌+◌, ◌*◌, ◌≤◌}
+use Rattle.std.proofs.Common.{◌≤◌}
 use Rattle.c_tree.specs.declared.typed_expression.Rvalue.{size-Rvalue}
-use Rattle.c_tree.specs.declared.typed_expression.Lvalue.{size-Lvalue}
 use Rattle.c_tree.specs.declared.typed_expression.Arguments.{size-Arguments}
 use Rattle.c_tree.proofs.typed_expression.+typed_expression.Given as goal
 

@@ -1,4 +1,4 @@
-use Rattle.std.proofs.Common.{◌+◌, ◌*◌, ◌≤◌}
+use Rattle.std.proofs.Common.{◌≤◌}
 use Rattle.c_tree.specs.declared.typed_statement.TypedStatement.{size-TypedStatement}
 use Rattle.c_tree.specs.declared.typed_statement.TypedStatements.{size-TypedStatements}
 use Rattle.c_tree.proofs.typed_statement.+typed_statement.Given as goal

@@ -1,6 +1,6 @@
 use Rattle.std.proofs.Common.{sym, subst}
 use Rattle.graph_core.specs.WellMarked.{AreWellMarked}
-use Rattle.graph_core.proofs.WorkedBuilt.{built_is_marked}
+use Rattle.pass_law.proofs.WorkedBuilt.{built_is_marked}
 use Rattle.middle_tests.proofs.pass_tests.trail_of.Goals as goal
 
 pub run_list-requires-clause-marked : goal.run_list-requires-clause-marked

@@ -1,7 +1,4 @@
-use Rattle.std.proofs.Common.{rules, ◌≡◌, sym, ◌∙◌}
-use Rattle.std.specs.Prelude.{fold, map}
-use Rattle.c_tree.specs.Expressions.{expression_view, suffix_view}
-use Rattle.c_tree.specs.Ends.{first_of}
+use Rattle.std.proofs.Common.{rules}
 use Rattle.c_tree.proofs.Chains.{suffixes_first, operations_first, commas_first}
 use Rattle.c_tree.proofs.Views.{postfix_view, binary_view, comma_view}
 use Rattle.c_tree.proofs.expression.Expression.+first.Goals as goal
