@@ -9,6 +9,7 @@ use unit_run::{Event, run};
 mod cases;
 mod elements;
 mod kept;
+mod memory_units;
 mod passed;
 mod steps;
 mod tables;
@@ -24,6 +25,7 @@ use cases::{
 };
 use elements::{ELEMENTS, ELEMENTS_SHOWS};
 use kept::are_kept;
+use memory_units::{ACCESSES, ADDRESSED, DANGLING, ENDED, NARROW_ADDRESSES};
 use passed::{
     ASSIGNED, COPIED, MOVED, REPLACED, STORING, STORING_WITHOUT_DEAD, UNASSIGNED, UNCOPIED,
     UNMOVED, WHOLE, WITHOUT_DEAD,
@@ -31,8 +33,8 @@ use passed::{
 use steps::{BEHIND_OBJECT, BEYOND_OBJECT, OTHERS, STEP_BEGINS, WILD, unit_with};
 use tables::{Line, UnitTable, shown, unit};
 use units::{
-    ACCESSES, ADDRESSED, COMPARING, DANGLING, ENDED, ENDLESS, EXITING, LOOP, NARROW_ADDRESSES,
-    NARROWING, NESTED, READING, RECURSION, REMOVED, STRAIGHT, UNKNOWN,
+    COMPARING, ENDLESS, EXITING, LOOP, NARROWING, NESTED, READING, RECURSION, REMOVED, STRAIGHT,
+    UNKNOWN,
 };
 use unreached::{KEPT, UNREACHED, UNREACHED_SHOWS, UNREACHED_WITHOUT_DEAD, unreached_in};
 
