@@ -21,3 +21,4 @@ pub mod Filling
 pub mod Targets
 pub mod Beginning
 pub mod Reading
+pub mod Waiting
