@@ -4,8 +4,10 @@
 mod branch;
 mod ends;
 mod label;
+mod made;
 mod part;
 mod setting;
+mod simple;
 mod statement;
 mod switch;
 

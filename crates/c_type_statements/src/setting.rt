@@ -5,7 +5,6 @@ ghost use Rattle.std.specs.Prelude.{◌≡◌, IfOk, OnOk};
 ghost use Rattle.std.specs.Option.{option_map};
 ghost use Rattle.c_tree.specs.Expressions.{expression_view};
 ghost use Rattle.c_tree.specs.Statements as tree;
-ghost use Rattle.c_tree.specs.TypedExpressions.{rvalue_view};
 ghost use Rattle.c_tree.specs.TypedStatements.{start_view, step_view};
 ghost use Rattle.c_type_declarations.specs.Progress.{means, progress_view};
 ghost use Rattle.c_type_statements.specs.Settings.{condition_if_any, condition_met, given, in_loop, in_switch, is_void, return_met, returnable, returns, run_met, start_met, step_met, tested, unless};
@@ -14,7 +13,7 @@ ghost use Rattle.c_type_values.specs.Values.{node_view, value_view};
 use c_tree::{Expression, Extent, ForStart, Rvalue, TypedStart, TypedStep, ValueType};
 use c_type_declarations::{Progress, declaration, tree_of};
 use c_type_expressions::is_zero;
-use c_type_values::{Value, converted, given, is_scalar};
+use c_type_values::{Value, converted, given, is_scalar, node};
 use debug_records::Code;
 use std::alloc::{AllocError, Global};
 
@@ -111,16 +110,6 @@ pub fn condition(
     tested(alloc, progress, extent, value)
 }
 
-/// A tree that may be there, out of its box.
-pub fn unboxed(tree: Option<Box<Rvalue>>) -> Option<Rvalue>
-    ensures { option_map rvalue_view result ≡ option_map node_view tree }
-{
-    match tree {
-        None => None,
-        Some(tree) => Some(Box::into_inner(tree)),
-    }
-}
-
 /// The condition of a `for`, if it has one.
 pub fn condition_if_any(
     alloc: Global,
@@ -144,21 +133,25 @@ pub fn start(
     alloc: Global,
     progress: &mut Progress,
     start: &ForStart,
-) -> Result<TypedStart, AllocError>
-    ensures { IfOk result (λ s. means (start_view s) (progress_view progress.new) ≡ start_met (tree.start_view start.now) (progress_view progress.old)) }
+) -> Result<Box<TypedStart>, AllocError>
+    ensures { IfOk result (λ s. means (start_view s.value) (progress_view progress.new) ≡ start_met (tree.start_view start.now) (progress_view progress.old)) }
 {
     match start {
-        ForStart::Nothing => Ok(TypedStart::Nothing),
+        ForStart::Nothing => {
+            let made = given!(node(alloc, TypedStart::Nothing));
+            Ok(made)
+        }
         ForStart::Expression(e) => {
-            let value = given!(run(alloc, progress, e));
-            Ok(TypedStart::Expression {
-                spot: e.first(),
-                value: Box::into_inner(value),
-            })
+            let tree = given!(run(alloc, progress, e));
+            let spot = e.first();
+            let value = Box::into_inner(tree);
+            let made = given!(node(alloc, TypedStart::Expression { spot, value }));
+            Ok(made)
         }
         ForStart::Declaration(d) => {
             let all = given!(declaration(alloc, progress, d));
-            Ok(TypedStart::Declaration(all))
+            let made = given!(node(alloc, TypedStart::Declaration(all)));
+            Ok(made)
         }
     }
 }
@@ -168,17 +161,17 @@ pub fn step(
     alloc: Global,
     progress: &mut Progress,
     e: &Option<Expression>,
-) -> Result<Option<TypedStep>, AllocError>
-    ensures { IfOk result (λ s. means (option_map step_view s) (progress_view progress.new) ≡ step_met (option_map expression_view e.now) (progress_view progress.old)) }
+) -> Result<Option<Box<TypedStep>>, AllocError>
+    ensures { IfOk result (λ s. means (option_map (λ x. step_view x.value) s) (progress_view progress.new) ≡ step_met (option_map expression_view e.now) (progress_view progress.old)) }
 {
     match e {
         None => Ok(None),
         Some(e) => {
-            let value = given!(run(alloc, progress, e));
-            Ok(Some(TypedStep {
-                spot: e.first(),
-                value: Box::into_inner(value),
-            }))
+            let tree = given!(run(alloc, progress, e));
+            let spot = e.first();
+            let value = Box::into_inner(tree);
+            let made = given!(node(alloc, TypedStep { spot, value }));
+            Ok(Some(made))
         }
     }
 }

@@ -14,18 +14,17 @@ ghost use Rattle.c_type_statements.specs.Switches.{Inside, added, labels_view, n
 use crate::branch::{Built, nested};
 use crate::ends::last_of_statement;
 use crate::label::{all_labels, misplaced};
+use crate::made::{block_of, do_while_of, empty, for_of, switch_of, while_of};
 use crate::part::{Part, arranged};
-use crate::setting::{
-    Setting, condition, condition_if_any, return_value, run, start, step, unboxed, unless,
-};
+use crate::setting::{Setting, condition, condition_if_any, start, step};
+use crate::simple::{broken, continued, declared, executed, returned};
 use crate::switch::{Labels, chosen_value, no_labels};
 use c_tree::{
     Block, Branch, Expression, Extent, ForStart, IntegerType, Statement, TypedStatement,
     TypedStatements,
 };
-use c_type_declarations::{Progress, declaration};
-use c_type_values::node;
-use debug_records::{Code, Spot};
+use c_type_declarations::Progress;
+use debug_records::Spot;
 use std::alloc::{AllocError, Global};
 
 /// What a statement means.
@@ -41,26 +40,11 @@ pub fn statement(
     match s {
         Statement::Block(block) => {
             let all = block_in_scope(alloc, progress, setting, &block.statements)?;
-            let body = node(alloc, all)?;
-            let made = node(alloc, TypedStatement::Block(body))?;
-            Ok(made)
+            block_of(alloc, all)
         }
-        Statement::Declaration(d) => {
-            let all = declaration(alloc, progress, d)?;
-            let made = node(alloc, TypedStatement::Declaration(all))?;
-            Ok(made)
-        }
-        Statement::Empty(spot) => {
-            let made = node(alloc, TypedStatement::Empty(*spot))?;
-            Ok(made)
-        }
-        Statement::Expression { value, .. } => {
-            let spot = value.first();
-            let tree = run(alloc, progress, value)?;
-            let value = Box::into_inner(tree);
-            let made = node(alloc, TypedStatement::Expression { spot, value })?;
-            Ok(made)
-        }
+        Statement::Declaration(d) => declared(alloc, progress, d),
+        Statement::Empty(spot) => empty(alloc, *spot),
+        Statement::Expression { value, .. } => executed(alloc, progress, value),
         Statement::If {
             first,
             others,
@@ -83,15 +67,7 @@ pub fn statement(
             };
             let tree = condition(alloc, progress, extent, e)?;
             let body = statement(alloc, progress, setting.in_loop(), body)?;
-            let made = node(
-                alloc,
-                TypedStatement::While {
-                    spot: e.first(),
-                    condition: Box::into_inner(tree),
-                    body,
-                },
-            )?;
-            Ok(made)
+            while_of(alloc, e.first(), tree, body)
         }
         Statement::DoWhile {
             extent,
@@ -100,15 +76,7 @@ pub fn statement(
         } => {
             let body = statement(alloc, progress, setting.in_loop(), body)?;
             let tree = condition(alloc, progress, *extent, e)?;
-            let made = node(
-                alloc,
-                TypedStatement::DoWhile {
-                    body,
-                    spot: e.first(),
-                    condition: Box::into_inner(tree),
-                },
-            )?;
-            Ok(made)
+            do_while_of(alloc, body, e.first(), tree)
         }
         Statement::For {
             spot,
@@ -134,32 +102,9 @@ pub fn statement(
             misplaced(alloc, progress, labels)?;
             statement(alloc, progress, setting, s)
         }
-        Statement::Break(extent) => {
-            unless(progress, setting.may_break, Code::MISPLACED_JUMP, *extent)?;
-            let made = node(alloc, TypedStatement::Break(extent.first))?;
-            Ok(made)
-        }
-        Statement::Continue(extent) => {
-            unless(
-                progress,
-                setting.may_continue,
-                Code::MISPLACED_JUMP,
-                *extent,
-            )?;
-            let made = node(alloc, TypedStatement::Continue(extent.first))?;
-            Ok(made)
-        }
-        Statement::Return { extent, value } => {
-            let value = return_value(alloc, progress, setting.result, *extent, value)?;
-            let made = node(
-                alloc,
-                TypedStatement::Return {
-                    spot: extent.first,
-                    value: unboxed(value),
-                },
-            )?;
-            Ok(made)
-        }
+        Statement::Break(extent) => broken(alloc, progress, setting, *extent),
+        Statement::Continue(extent) => continued(alloc, progress, setting, *extent),
+        Statement::Return { extent, value } => returned(alloc, progress, setting, *extent, value),
     }
 }
 
@@ -281,16 +226,8 @@ fn for_loop(
     let condition = condition_if_any(alloc, progress, extent, test)?;
     let step = step(alloc, progress, last)?;
     let body = statement(alloc, progress, setting.in_loop(), body)?;
-    let made = node(
-        alloc,
-        TypedStatement::For {
-            start,
-            spot: head_of(spot, test),
-            condition: unboxed(condition),
-            step,
-            body,
-        },
-    )?;
+    let head = head_of(spot, test);
+    let made = for_of(alloc, start, head, condition, step, body)?;
     Ok(made)
 }
 
@@ -330,15 +267,7 @@ fn switch(
         &block.statements,
     )?;
     progress.close();
-    let body = node(alloc, body)?;
-    let made = node(
-        alloc,
-        TypedStatement::Switch {
-            spot: value.first(),
-            value: Box::into_inner(chosen.tree),
-            body,
-        },
-    )?;
+    let made = switch_of(alloc, value.first(), chosen.tree, body)?;
     Ok(made)
 }
 

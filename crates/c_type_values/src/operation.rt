@@ -3,7 +3,7 @@
 ghost use Rattle.std.specs.Prelude.{◌≡◌, IfOk};
 ghost use Rattle.std.specs.Option.{option_map};
 ghost use Rattle.c_type_values.specs.Values.{value_view};
-ghost use Rattle.c_type_values.specs.Operations.{arithmetic_value, both, calculated_value, chosen, chosen_integer, combined, compared_value, conditional, difference, discarded, either, integers_compared, is_equality, is_scalar, is_shift, moved, moved_from, negated, operation_of, pointers_compared, sequenced, signed_value};
+ghost use Rattle.c_type_values.specs.Operations.{arithmetic_value, both, calculated_value, chosen, chosen_as, chosen_integer, combined, compared_value, conditional, difference, discarded, either, integers_compared, is_equality, is_scalar, is_shift, moved, moved_from, negated, operation_of, pointers_compared, sequenced, signed_value};
 
 use crate::conversion::{null, to_integer};
 use crate::given;
@@ -508,6 +508,52 @@ fn chosen_integer(
     )
 }
 
+/// `a?b:c` by its arms: two integers, of one type, or a pointer and a constant token 0; none of others.
+fn chosen_as(
+    alloc: Global,
+    condition: Value,
+    then: Value,
+    otherwise: Value,
+    then_zero: bool,
+    other_zero: bool,
+) -> Result<Option<Value>, AllocError>
+    ensures { IfOk result (λ v. option_map value_view v ≡ chosen_as then.of otherwise.of (value_view condition) (value_view then) (value_view otherwise) then_zero other_zero) }
+{
+    let varies = Constancy::Varies;
+    match (then.of, otherwise.of) {
+        (ValueType::Integer(left), ValueType::Integer(right)) => {
+            let of = common(left, right);
+            let made = given!(chosen_integer(alloc, of, condition, then, otherwise));
+            Ok(Some(made))
+        }
+        (ValueType::Pointer(_), ValueType::Integer(_)) => {
+            if !other_zero {
+                return Ok(None);
+            }
+            let of = then.of;
+            let nothing = given!(null(alloc, of));
+            let made = given!(chosen(alloc, of, condition, then, nothing, varies));
+            Ok(Some(made))
+        }
+        (ValueType::Integer(_), ValueType::Pointer(_)) => {
+            if !then_zero {
+                return Ok(None);
+            }
+            let of = otherwise.of;
+            let nothing = given!(null(alloc, of));
+            let made = given!(chosen(alloc, of, condition, nothing, otherwise, varies));
+            Ok(Some(made))
+        }
+        (of, other) => {
+            if !same_value(of, other) {
+                return Ok(None);
+            }
+            let made = given!(chosen(alloc, of, condition, then, otherwise, varies));
+            Ok(Some(made))
+        }
+    }
+}
+
 /// `a?b:c`: the condition is a scalar, and the arms are two integers, of one type, or a pointer and a constant token 0; none of others.
 pub fn conditional(
     alloc: Global,
@@ -522,51 +568,5 @@ pub fn conditional(
     if !is_scalar(condition.of) {
         return Ok(None);
     }
-    match (then.of, otherwise.of) {
-        (ValueType::Integer(left), ValueType::Integer(right)) => {
-            let made = given!(chosen_integer(
-                alloc,
-                common(left, right),
-                condition,
-                then,
-                otherwise
-            ));
-            Ok(Some(made))
-        }
-        (ValueType::Pointer(_), ValueType::Integer(_)) => {
-            if other_zero {
-                let of = then.of;
-                let nothing = given!(null(alloc, of));
-                let made = given!(chosen(alloc, of, condition, then, nothing, Constancy::Varies,));
-                Ok(Some(made))
-            } else {
-                Ok(None)
-            }
-        }
-        (ValueType::Integer(_), ValueType::Pointer(_)) => {
-            if then_zero {
-                let of = otherwise.of;
-                let nothing = given!(null(alloc, of));
-                let made = given!(chosen(
-                    alloc,
-                    of,
-                    condition,
-                    nothing,
-                    otherwise,
-                    Constancy::Varies,
-                ));
-                Ok(Some(made))
-            } else {
-                Ok(None)
-            }
-        }
-        (of, other) => {
-            if same_value(of, other) {
-                let made = given!(chosen(alloc, of, condition, then, otherwise, Constancy::Varies));
-                Ok(Some(made))
-            } else {
-                Ok(None)
-            }
-        }
-    }
+    chosen_as(alloc, condition, then, otherwise, then_zero, other_zero)
 }

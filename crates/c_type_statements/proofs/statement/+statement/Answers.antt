@@ -81,26 +81,28 @@ statements-returns t c =
     (λ r h. ap (λ (ts : TypedStatementTrees). means ts (progress_view c.loop-one.progress)) h ∙ sym (statements_end c.args.setting c.args.all.now c.loop-one.one-index (map part_view c.loop-one.parts.items) (progress_view c.loop-one.progress) c.loop-one-test.false) ∙ c.loop-one.invariant)
     c.arranged.ensures
 
-pub statement-returns-in_ok-made-in-Block : goal.statement-returns-in_ok-made-in-Block
-statement-returns-in_ok-made-in-Block t c =
+pub statement-returns-in_ok-all-in-Block : goal.statement-returns-in_ok-all-in-Block
+statement-returns-in_ok-all-in-Block t c =
     let b = c.in-Block.block in
-    rw (c.in-Block.is, compound_view b, c.in_ok-made-in-Block.ensures, c.in_ok-body-in-Block.ensures)
-    (block_arm c.args.setting b.opening (chain (map statement_view b.statements.items)) b.closing (statements_view c.in_ok-all-in-Block.all) (progress_view c.args.progress.now) (progress_view c.block_in_scope.new.progress) (rw c.deref.ensures.value at c.in_ok-all-in-Block.ensures))
+    rw (c.in-Block.is, compound_view b)
+    (IfOk-weaker c.block_of.result _ _
+    (λ r h. rw h (block_arm c.args.setting b.opening (chain (map statement_view b.statements.items)) b.closing (statements_view c.in_ok-all-in-Block.all) (progress_view c.args.progress.now) (progress_view c.block_in_scope.new.progress) (rw c.deref.ensures.value at c.in_ok-all-in-Block.ensures)))
+    c.block_of.ensures)
 
-pub statement-returns-in_ok-made-in-Declaration : goal.statement-returns-in_ok-made-in-Declaration
-statement-returns-in_ok-made-in-Declaration t c =
-    rw (c.in-Declaration.is, declare_view c.in-Declaration.d, c.in_ok-made-in-Declaration.ensures)
-    (declare_arm c.args.setting (declaration_view c.in-Declaration.d) (map declared_view c.in_ok-all-in-Declaration.all.items) (progress_view c.args.progress.now) (progress_view c.declaration.new.progress) c.in_ok-all-in-Declaration.ensures)
+pub statement-returns-in-Declaration : goal.statement-returns-in-Declaration
+statement-returns-in-Declaration t c =
+    rw (c.in-Declaration.is, declare_view c.in-Declaration.d)
+    (IfOk-weaker c.declared.result _ _ (λ r h. h ∙ declare_arm c.args.setting (declaration_view c.in-Declaration.d) (progress_view c.args.progress.now)) c.declared.ensures)
 
-pub statement-returns-in_ok-made-in-Empty : goal.statement-returns-in_ok-made-in-Empty
-statement-returns-in_ok-made-in-Empty t c =
-    rw (c.in-Empty.is, empty_view c.in-Empty.spot, c.in_ok-made-in-Empty.ensures)
-    (empty_arm c.args.setting c.in-Empty.spot (progress_view c.args.progress.now))
+pub statement-returns-in-Empty : goal.statement-returns-in-Empty
+statement-returns-in-Empty t c =
+    rw (c.in-Empty.is, empty_view c.in-Empty.spot)
+    (IfOk-weaker c.empty.result _ _ (λ r h. rw h (empty_arm c.args.setting c.in-Empty.spot (progress_view c.args.progress.now))) c.empty.ensures)
 
-pub statement-returns-in_ok-made-in-Expression : goal.statement-returns-in_ok-made-in-Expression
-statement-returns-in_ok-made-in-Expression t c =
-    rw (c.in-Expression.is, run_view c.in-Expression.value c.in-Expression.last, c.in_ok-made-in-Expression.ensures, c.into_inner-value.ensures, c.first-spot.ensures)
-    (run_arm c.args.setting (expression_view c.in-Expression.value) c.in-Expression.last (node_view c.in_ok-tree-in-Expression.tree) (progress_view c.args.progress.now) (progress_view c.run.new.progress) c.in_ok-tree-in-Expression.ensures)
+pub statement-returns-in-Expression : goal.statement-returns-in-Expression
+statement-returns-in-Expression t c =
+    rw (c.in-Expression.is, run_view c.in-Expression.value c.in-Expression.last)
+    (IfOk-weaker c.executed.result _ _ (λ r h. h ∙ run_arm c.args.setting (expression_view c.in-Expression.value) c.in-Expression.last (progress_view c.args.progress.now)) c.executed.ensures)
 
 pub statement-returns-in_ok-other-in-If : goal.statement-returns-in_ok-other-in-If
 statement-returns-in_ok-other-in-If t c =
@@ -116,19 +118,25 @@ statement-returns-in_ok-other-in-If t c =
     ∙ if_arm g c.args.s.now c.in-If.first c.in-If.others c.in-If.otherwise last first others p c.in-If.is c.last_of_statement-last.ensures c.deref-in-If.ensures c.deref-in-If-2.ensures.value)
     c.nested.ensures
 
-pub statement-returns-in_ok-made-in-While : goal.statement-returns-in_ok-made-in-While
-statement-returns-in_ok-made-in-While t c =
+pub statement-returns-in_ok-body-in-While : goal.statement-returns-in_ok-body-in-While
+statement-returns-in_ok-body-in-While t c =
     let s = c.in-While.body in
-    rw (c.in-While.is, while_view c.in-While.spot c.in-While.e s, c.in_ok-made-in-While.ensures, c.into_inner.ensures, c.first.ensures)
+    rw (c.in-While.is, while_view c.in-While.spot c.in-While.e s)
+    (IfOk-weaker c.while_of.result _ _
+    (λ r h. rw (rw c.first.ensures at h)
     (while_arm c.args.setting c.in-While.spot (expression_view c.in-While.e) (statement_view s.value) (node_view c.in_ok-tree-in-While.tree) (typed-tree.statement_view c.in_ok-body-in-While.body.value) (progress_view c.args.progress.now) (progress_view c.condition.new.progress) (progress_view c.statement.new.progress)
-    (rw (c.last_of_statement.ensures, c.deref-in-While.ensures) at c.in_ok-tree-in-While.ensures) (rw (c.in_loop.ensures, c.deref-in-While-2.ensures) at c.in_ok-body-in-While.ensures))
+    (rw (c.last_of_statement.ensures, c.deref-in-While.ensures) at c.in_ok-tree-in-While.ensures) (rw (c.in_loop.ensures, c.deref-in-While-2.ensures) at c.in_ok-body-in-While.ensures)))
+    c.while_of.ensures)
 
-pub statement-returns-in_ok-made-in-DoWhile : goal.statement-returns-in_ok-made-in-DoWhile
-statement-returns-in_ok-made-in-DoWhile t c =
+pub statement-returns-in_ok-tree-in-DoWhile : goal.statement-returns-in_ok-tree-in-DoWhile
+statement-returns-in_ok-tree-in-DoWhile t c =
     let s = c.in-DoWhile.body in
-    rw (c.in-DoWhile.is, do_view c.in-DoWhile.extent s c.in-DoWhile.e, c.in_ok-made-in-DoWhile.ensures, c.into_inner-in-DoWhile.ensures, c.first-in-DoWhile.ensures)
+    rw (c.in-DoWhile.is, do_view c.in-DoWhile.extent s c.in-DoWhile.e)
+    (IfOk-weaker c.do_while_of.result _ _
+    (λ r h. rw (rw c.first-in-DoWhile.ensures at h)
     (do_arm c.args.setting c.in-DoWhile.extent (statement_view s.value) (expression_view c.in-DoWhile.e) (typed-tree.statement_view c.in_ok-body-in-DoWhile.body.value) (node_view c.in_ok-tree-in-DoWhile.tree) (progress_view c.args.progress.now) (progress_view c.statement-in-DoWhile.new.progress) (progress_view c.condition-in-DoWhile.new.progress)
-    (rw (c.in_loop-in-DoWhile.ensures, c.deref-in-DoWhile.ensures) at c.in_ok-body-in-DoWhile.ensures) c.in_ok-tree-in-DoWhile.ensures)
+    (rw (c.in_loop-in-DoWhile.ensures, c.deref-in-DoWhile.ensures) at c.in_ok-body-in-DoWhile.ensures) c.in_ok-tree-in-DoWhile.ensures))
+    c.do_while_of.ensures)
 
 pub statement-returns-in_ok-made-in-For : goal.statement-returns-in_ok-made-in-For
 statement-returns-in_ok-made-in-For t c =
@@ -149,15 +157,17 @@ statement-returns-in_ok-misplaced-in-Labeled t c =
     let s = c.in-Labeled.s in
     rw (c.in-Labeled.is, labeled_view ls s, misplaced_labels c.args.setting (map label_view ls.items) (statement_view s.value) (progress_view c.args.progress.now), ← c.deref-in-Labeled.ensures.value, ← c.in_ok-misplaced-in-Labeled.ensures, ← c.deref-in-Labeled-2.ensures) c.statement-in-Labeled.ensures
 
-pub statement-returns-in_ok-made-in-Break : goal.statement-returns-in_ok-made-in-Break
-statement-returns-in_ok-made-in-Break t c =
-    rw (c.in-Break.is, break_view c.in-Break.extent, c.in_ok-made-in-Break.ensures) (break_arm c.args.setting c.in-Break.extent (progress_view c.args.progress.now) (progress_view c.unless.new.progress) c.in_ok-unless-in-Break.ensures)
+pub statement-returns-in-Break : goal.statement-returns-in-Break
+statement-returns-in-Break t c =
+    rw (c.in-Break.is, break_view c.in-Break.extent)
+    (IfOk-weaker c.broken.result _ _ (λ r h. h ∙ break_arm c.args.setting c.in-Break.extent (progress_view c.args.progress.now)) c.broken.ensures)
 
-pub statement-returns-in_ok-made-in-Continue : goal.statement-returns-in_ok-made-in-Continue
-statement-returns-in_ok-made-in-Continue t c =
-    rw (c.in-Continue.is, continue_view c.in-Continue.extent, c.in_ok-made-in-Continue.ensures) (continue_arm c.args.setting c.in-Continue.extent (progress_view c.args.progress.now) (progress_view c.unless-in-Continue.new.progress) c.in_ok-unless-in-Continue.ensures)
+pub statement-returns-in-Continue : goal.statement-returns-in-Continue
+statement-returns-in-Continue t c =
+    rw (c.in-Continue.is, continue_view c.in-Continue.extent)
+    (IfOk-weaker c.continued.result _ _ (λ r h. h ∙ continue_arm c.args.setting c.in-Continue.extent (progress_view c.args.progress.now)) c.continued.ensures)
 
-pub statement-returns-in_ok-made-in-Return : goal.statement-returns-in_ok-made-in-Return
-statement-returns-in_ok-made-in-Return t c =
-    rw (c.in-Return.is, return_view c.in-Return.extent c.in-Return.value, c.in_ok-made-in-Return.ensures, c.unboxed.ensures)
-    (return_arm c.args.setting c.in-Return.extent (option_map expression_view c.in-Return.value) (option_map node_view c.in_ok-value-in-Return.value) (progress_view c.args.progress.now) (progress_view c.return_value.new.progress) c.in_ok-value-in-Return.ensures)
+pub statement-returns-in-Return : goal.statement-returns-in-Return
+statement-returns-in-Return t c =
+    rw (c.in-Return.is, return_view c.in-Return.extent c.in-Return.value)
+    (IfOk-weaker c.returned.result _ _ (λ r h. h ∙ return_arm c.args.setting c.in-Return.extent (option_map expression_view c.in-Return.value) (progress_view c.args.progress.now)) c.returned.ensures)
