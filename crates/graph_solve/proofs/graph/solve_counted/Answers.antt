@@ -25,6 +25,6 @@ returns-clause-solution g c =
     subst (λ n. AreFlow graph n c.in_ok-flow.flow.ends.items c.in_ok-flow.flow.edges.items) (sym same) c.in_ok-flow.ensures.are in
     let by_rows = subst (λ n. IsSolution flow (control_flow c.in_ok-flow.flow) n (starts_of solved) (ends_of solved)) are.each c.in_ok-solved.ensures.solution in
     let by_sets = subst (λ ss. IsSolution flow (control_flow c.in_ok-flow.flow) (length graph.blocks) ss solution.ends.items) (sym c.in_ok-solution.ensures.starts)
-        (subst (λ es. IsSolution flow (control_flow c.in_ok-flow.flow) (length graph.blocks) (starts_of solved) es) (sym c.in_ok-solution.ensures.ends) by_rows) in
+    (subst (λ es. IsSolution flow (control_flow c.in_ok-flow.flow) (length graph.blocks) (starts_of solved) es) (sym c.in_ok-solution.ensures.ends) by_rows) in
     subst (λ n. IsSolution flow (graph_flow graph) n solution.starts.items solution.ends.items) same
     (graph_solution graph c.in_ok-flow.flow are flow solution.starts.items solution.ends.items by_sets)
