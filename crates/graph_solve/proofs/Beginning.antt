@@ -1,10 +1,9 @@
 -- The work as it begins.
-use Rattle.std.proofs.Common.{◌≡◌, ℕ, zero, suc, ◌+◌, ◌*◌, ◌-◌, ◌<◌, ◌≤◌, ◌==◌, ◌&&◌, ◌||◌, ◌⊎◌, inl, inr, Bool, true, false, true≢false, cond, not, nat_lt, Vec, Global, List, [], ◌∷◌, ◌++◌, Some, length, map, get_or, replicate, refl, sym, ap, ◌∙◌, subst, arith, zero-add}
-use Rattle.std.specs.Prelude.{slice_get}
+use Rattle.std.proofs.Common.{◌≡◌, ℕ, zero, suc, ◌+◌, ◌*◌, ◌-◌, ◌<◌, ◌≤◌, ◌==◌, ◌&&◌, ◌||◌, ◌⊎◌, inl, inr, Bool, true, false, true≢false, cond, not, nat_lt, List, [], ◌∷◌, ◌++◌, Some, length, map, get_or, replicate, refl, sym, ap, ◌∙◌, subst, arith, zero-add}
 use Rattle.std.specs.FinSet.{contains, empty}
 use Rattle.std.specs.List.{All, Contains, range_with_len}
 use Rattle.std.proofs.Math.Nat.{mul-suc, add-mul}
-use Rattle.std.proofs.lemmas.Bool.{cases_Bool, cases_lt, cases_eq, eqb-true, eq-eqb, ne_eqb, lt-ltb, cond-true, cond-false, and_from, and_right}
+use Rattle.std.proofs.lemmas.Bool.{cases_lt, cases_eq, eqb-true, eq-eqb, ne_eqb, lt-ltb, cond-true, cond-false, and_from, and_right}
 use Rattle.std.proofs.lemmas.List.{get_or_past, get_or-replicate, length-replicate}
 use Rattle.std.proofs.lemmas.List.Elements.{All-cons, All-tail, All-push, Contains-push, Contains-append_left}
 use Rattle.std.proofs.lemmas.List.FromFn.{length-map-range_with_len}
@@ -14,7 +13,7 @@ use Rattle.bit_rows.proofs.Bits.{at_index, same_made}
 use Rattle.graph_solve.specs.declared.flow_graph.Edge.{Edge}
 use Rattle.graph_solve.specs.declared.flow_graph.FlowGraph.{FlowGraph}
 use Rattle.graph_solve.specs.First.{is_first, first_bit}
-use Rattle.graph_solve.specs.Numbers.{Numbers, IsBelow, numbers_below}
+use Rattle.graph_solve.specs.Numbers.{Numbers, numbers_below}
 use Rattle.graph_solve.specs.Problem.{DataFlow}
 use Rattle.graph_solve.specs.Paths.{Begins}
 use Rattle.graph_solve.specs.SetLaws.{equal, below_empty, in_below, not_below}

@@ -1,8 +1,6 @@
 -- An edge that is followed, over the solver's own records.
-use Rattle.std.proofs.Common.{◌≡◌, ℕ, ◌+◌, ◌<◌, Bool, true, false, true≢false, List, [], ◌∷◌, ◌++◌, Some, length, get_or, sym, ap, ◌∙◌, subst, arith}
-use Rattle.std.specs.Prelude.{slice_get}
+use Rattle.std.proofs.Common.{◌≡◌, ℕ, ◌+◌, ◌<◌, Bool, true, false, List, [], ◌∷◌, ◌++◌, length, get_or, sym, ap, ◌∙◌, subst}
 use Rattle.std.proofs.Math.ListN.{set}
-use Rattle.std.proofs.lemmas.List.{get_or_default}
 use Rattle.bit_rows.specs.Grid.{row_at, met}
 use Rattle.graph_solve.specs.declared.flow_graph.FlowGraph.{FlowGraph}
 use Rattle.graph_solve.specs.declared.task.Task.{Task}

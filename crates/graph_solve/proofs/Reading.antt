@@ -1,13 +1,10 @@
 -- Rows that are read bit by bit.
-use Rattle.std.proofs.Common.{nat_cmp, ◌≡◌, ℕ, zero, suc, ◌+◌, ◌<◌, ◌||◌, ◌==◌, inl, inr, Bool, true, false, List, [], ◌∷◌, ◌++◌, length, map, take, get_or, refl, sym, ap, ◌∙◌, subst, arith, zero-add}
+use Rattle.std.proofs.Common.{◌≡◌, ℕ, ◌+◌, ◌<◌, ◌||◌, inl, inr, Bool, true, false, List, [], ◌∷◌, ◌++◌, length, take, get_or, sym, ap, ◌∙◌, arith, zero-add}
 use Rattle.std.specs.Cmp.{nat_cmp_total, unsigned_tied}
 use Rattle.std.specs.FinSet.{contains, insert, contains-insert}
-use Rattle.std.specs.List.{range_with_len}
-use Rattle.std.specs.Ordering.{eq_by_cmp}
 use Rattle.std.proofs.lemmas.Bool.{cases_eq, cases_lt, eq-eqb, ne_eqb}
-use Rattle.std.proofs.lemmas.List.{take_more, get_or_at, get_or_append_left, get_or_past, length-take-le, get_or_push, length_push, get_or-take}
+use Rattle.std.proofs.lemmas.List.{get_or_past, length-take-le, get_or-take}
 use Rattle.std.proofs.lemmas.List.FromFn.{map-range_with_len_more}
-use Rattle.graph_solve.specs.Numbers.{Numbers}
 use Rattle.graph_solve.specs.SetLaws.{equal}
 use Rattle.graph_solve.specs.Rows.{set_of, set_at, sets_at}
 use Rattle.graph_solve.proofs.Bitsets.{in_row}

@@ -1,11 +1,11 @@
 -- What the solver knows of the problem and the graph.
-use Rattle.std.proofs.Common.{◌≡◌, ℕ, ◌<◌, List, length, map, refl, sym, subst}
+use Rattle.std.proofs.Common.{length, refl, subst}
 use Rattle.std.proofs.lemmas.List.Sorted.{IsPermutation-refl}
 use Rattle.graph_solve.specs.declared.flow_graph.FlowGraph.{FlowGraph}
 use Rattle.graph_solve.specs.declared.task.Task.{Task}
 use Rattle.graph_solve.specs.Problem.{DataFlow}
 use Rattle.graph_solve.specs.Solution.{AreWithin, control_flow}
-use Rattle.graph_solve.specs.Rounds.{AreDirected, directed}
+use Rattle.graph_solve.specs.Rounds.{AreDirected}
 use Rattle.graph_solve.specs.Work.{IsTask, edges_of}
 use Rattle.graph_solve.proofs.Directing.{directed_permuted}
 

@@ -1,8 +1,8 @@
 -- A block that is visited: it waits no longer, and has made its further row.
-use Rattle.std.proofs.Common.{◌≡◌, ℕ, zero, suc, ◌+◌, ◌<◌, ◌≤◌, ◌==◌, ◌||◌, ◌&&◌, ◌⊎◌, inl, inr, Bool, true, false, true≢false, cond, Vec, Global, List, [], ◌∷◌, Some, length, map, get_or, refl, sym, ap, ◌∙◌, subst, arith}
-use Rattle.std.specs.List.{All, Contains, range_with_len}
+use Rattle.std.proofs.Common.{◌≡◌, ℕ, zero, suc, ◌+◌, ◌<◌, ◌==◌, ◌||◌, ◌&&◌, inl, inr, Bool, true, false, true≢false, Vec, Global, List, [], ◌∷◌, length, map, get_or, refl, sym, ap, ◌∙◌, subst, arith}
+use Rattle.std.specs.List.{Contains, range_with_len}
 use Rattle.std.proofs.Math.ListN.{set}
-use Rattle.std.proofs.lemmas.Bool.{cases_eq, eqb-true, eqb-false, eq-eqb, cases_Bool, cond-true, cond-false}
+use Rattle.std.proofs.lemmas.Bool.{cases_eq, eqb-true, eq-eqb, cases_Bool, cond-true, cond-false}
 use Rattle.std.proofs.lemmas.List.{length-set, get_or-set_same, get_or-set_other}
 use Rattle.std.proofs.lemmas.List.Elements.{All-contains, All-tail, All-head}
 use Rattle.std.proofs.lemmas.List.FromFn.{length-map-range_with_len}
@@ -13,7 +13,7 @@ use Rattle.graph_solve.specs.Problem.{DataFlow}
 use Rattle.graph_solve.specs.Paths.{ControlFlow}
 use Rattle.graph_solve.specs.Solution.{AreWithin, HasEdge}
 use Rattle.graph_solve.specs.Rounds.{AreFalling}
-use Rattle.graph_solve.specs.Rows.{set_of, set_at, sets_at, table}
+use Rattle.graph_solve.specs.Rows.{set_at, table}
 use Rattle.graph_solve.specs.Work.{AreTargets, IsState, targets_from}
 use Rattle.graph_solve.proofs.Bitsets.{set_passed, length_joined, there_same, elsewhere, sets_before}
 use Rattle.std.proofs.lemmas.Option.{get_or_from_slice_get}

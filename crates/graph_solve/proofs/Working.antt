@@ -1,5 +1,5 @@
 -- The state of the work, from one edge that is followed to the next.
-use Rattle.std.proofs.Common.{◌≡◌, ◌≢◌, ℕ, zero, suc, ◌+◌, ◌<◌, ◌≤◌, ◌⊎◌, inl, inr, Bool, true, false, true≢false, List, [], ◌∷◌, ◌++◌, Some, length, get_or, refl, sym, ap, ◌∙◌, subst, arith}
+use Rattle.std.proofs.Common.{◌≡◌, ℕ, zero, suc, ◌+◌, ◌<◌, ◌⊎◌, inl, inr, Bool, true, false, true≢false, List, [], ◌∷◌, ◌++◌, Some, length, get_or, refl, sym, ap, ◌∙◌, subst, arith}
 use Rattle.std.specs.Prelude.{slice_get}
 use Rattle.std.specs.List.{All, Contains}
 use Rattle.std.proofs.Math.ListN.{set}
@@ -18,7 +18,6 @@ use Rattle.graph_solve.specs.Rows.{set_of, set_at, sets_at}
 use Rattle.graph_solve.specs.Work.{IsState}
 use Rattle.graph_solve.proofs.Bitsets.{row_value, same_row, set_met, length_joined, made_stays, at_sets, there_same, elsewhere, sets_set}
 use Rattle.graph_solve.proofs.Falling.{below_meet, still_falling, falls_within}
-use Rattle.graph_solve.proofs.Lists.{there}
 
 -- it is the first of a list, or one of the others
 pub contains_cases : {X : Type 0} (x : X) (xs : List X) (y : X) → Contains (x ∷ xs) y → (y ≡ x) ⊎ Contains xs y

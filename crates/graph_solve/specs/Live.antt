@@ -1,7 +1,7 @@
 -- Names that are read later, before they are written (Hennessy 1982).
-use Rattle.std.specs.Prelude.{◌≡◌, ℕ, ◌<◌, ◌==◌, ◌↔◌, Bool, true, false, if◌then◌else◌, nat_lt, ◌||◌, ◌&&◌, not, Option, Some, None, List, [], ◌∷◌, length, slice_get}
+use Rattle.std.specs.Prelude.{◌≡◌, ℕ, ◌<◌, ◌==◌, ◌↔◌, Bool, true, false, if◌then◌else◌, nat_lt, not, Option, Some, None, List, [], ◌∷◌, length, slice_get}
 use Rattle.std.specs.List.{Contains, list_any}
-use Rattle.std.specs.FinSet.{contains, insert, remove}
+use Rattle.std.specs.FinSet.{contains, empty, insert, remove}
 use Rattle.graph_core.specs.Graphs.{Instruction, End, Block, Graph}
 use Rattle.graph_core.specs.Uses.{reads_of, reads_of_end, target_of, targets_of}
 use Rattle.graph_core.specs.Paths.{reads, writes}
@@ -63,24 +63,15 @@ abbrev pub before_some : (width : ℕ) → Option Block → Numbers → Numbers
 before_some width None live = live
 before_some width (Some b) live = before_block width b live
 
--- a block writes the name nowhere
+-- no instruction of a block writes the name
 abbrev pub spares : ℕ → Block → Bool
 spares x b = not (list_any (writes x) b.instructions)
-
--- from the start of instructions, or else from the end of their block on, the name is read before an instruction writes it
-abbrev pub read_within : ℕ → List Instruction → End → Bool
-read_within x [] end = end_reads x end
-read_within x (i ∷ more) end = reads x i || (not (writes x i) && read_within x more end)
-
-abbrev pub reads_first : ℕ → Block → Bool
-reads_first x b = read_within x b.instructions b.end
 
 -- whether a block, or no block, keeps a name live that is live at its end
 abbrev pub keeps_live : ℕ → Option Block → Bool
 keeps_live x None = true
 keeps_live x (Some b) = spares x b
 
--- whether a block, or no block, makes a name live
-abbrev pub makes_live : ℕ → Option Block → Bool
-makes_live x None = false
-makes_live x (Some b) = reads_first x b
+-- whether a block, or no block, makes a name live: it reads it first
+abbrev pub makes_live : (width : ℕ) → ℕ → Option Block → Bool
+makes_live width x o = contains (before_some width o empty) x

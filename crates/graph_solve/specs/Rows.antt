@@ -1,5 +1,5 @@
 -- Rows of bits as sets of numbers.
-use Rattle.std.specs.Prelude.{◌≡◌, ℕ, zero, suc, ◌+◌, Bool, true, false, List, [], ◌∷◌, length, map}
+use Rattle.std.specs.Prelude.{ℕ, suc, ◌+◌, Bool, true, false, List, [], ◌∷◌, map}
 use Rattle.std.specs.FinSet.{empty, insert}
 use Rattle.std.specs.List.{range_with_len}
 use Rattle.bit_rows.specs.Grid.{row_at}

@@ -1,5 +1,5 @@
 -- How values fall to the solution, block by block, each waiting block once for each fall.
-use Rattle.std.specs.Prelude.{◌≡◌, ◌⊎◌, ℕ, zero, suc, ◌+◌, ◌*◌, ◌-◌, ◌^◌, ◌<◌, ◌≤◌, ◌==◌, if◌then◌else◌, Bool, true, false, List, [], ◌∷◌, length, map, slice_index_or}
+use Rattle.std.specs.Prelude.{◌≡◌, ◌⊎◌, ℕ, zero, suc, ◌+◌, ◌*◌, ◌-◌, ◌^◌, ◌<◌, ◌==◌, if◌then◌else◌, Bool, true, false, List, [], ◌∷◌, length, map, slice_index_or}
 use Rattle.std.specs.List.{All, Contains}
 use Rattle.std.specs.declared.vec.Vec.{Vec}
 use Rattle.std.specs.declared.alloc.Global.{Global}
@@ -11,7 +11,7 @@ use Rattle.graph_solve.specs.declared.work.Work.{Work}
 use Rattle.graph_solve.specs.Problem.{DataFlow}
 use Rattle.graph_solve.specs.Paths.{ControlFlow}
 use Rattle.graph_solve.specs.Solution.{AreWithin, HasEdge, control_flow}
-use Rattle.graph_solve.specs.Rounds.{AreDirected, AreFalling, directed}
+use Rattle.graph_solve.specs.Rounds.{AreFalling, directed}
 use Rattle.graph_solve.specs.Rows.{set_at, sets_at, table}
 
 -- where edges lead from a block, in the order of the edges

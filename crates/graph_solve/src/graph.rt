@@ -7,8 +7,8 @@ ghost use Rattle.graph_solve.specs.GraphFlow.{AreFlow, AreTargetsWithin, edge_co
 ghost use Rattle.graph_solve.specs.Solution.{IsSolution};
 
 use crate::flow_graph::{Edge, FlowGraph};
-use crate::problem::Problem;
 use crate::plain::solve_flow_plain;
+use crate::problem::Problem;
 use crate::solved_rows::Solution;
 use crate::solving::solve_rows;
 use crate::steps::Steps;

@@ -1,6 +1,9 @@
 //! The names that are read later.
 
-ghost use Rattle.std.specs.Prelude.{◌≡◌, ◌≤◌, ◌^◌, IfOk, OnOk, length, option_map};
+ghost use Rattle.std.specs.Prelude.{◌≡◌, ◌≤◌, ◌^◌, IfOk, OnOk, length, map, option_map};
+ghost use Rattle.std.specs.FinSet.{empty};
+ghost use Rattle.graph_core.specs.Paths as paths;
+ghost use Rattle.graph_solve.specs.Live as later;
 ghost use Rattle.graph_core.specs.Graphs.{block_view, graph_view, instruction_view};
 ghost use Rattle.graph_core.specs.Uses.{numbers};
 ghost use Rattle.graph_solve.specs.GraphFlow.{AreTargetsWithin};
@@ -60,10 +63,47 @@ fn live_at_start(
     Ok(live)
 }
 
+/// Whether no instruction of a block writes the name.
+fn spares(block: &Block, name: u32) -> bool
+    ensures { result ≡ later.spares name (block_view block.now) }
+{
+    for instruction in &block.instructions {
+        if writes(instruction, name) {
+            return false;
+        }
+    }
+    true
+}
+
+/// Whether an instruction writes the name.
+fn writes(instruction: &Instr, name: u32) -> bool
+    ensures { result ≡ paths.writes name (instruction_view instruction.now) }
+{
+    match instruction.target() {
+        Some(target) => target.0 == name,
+        None => false,
+    }
+}
+
+/// For each block the names that it reads before it writes them.
+fn read_first(alloc: Global, graph: &Graph) -> Result<Vec<Facts>, AllocError>
+    ensures { IfOk result (λ all. all.items ≡ map (λ b. before_block graph.now.name_count b empty) (map block_view graph.now.blocks.items)) }
+{
+    let none = Facts::new(alloc);
+    let mut all = Vec::new(alloc);
+    for block in &graph.blocks {
+        all.push(live_at_start(alloc, block, graph.name_count, &none)?)?;
+    }
+    Ok(all)
+}
+
 /// Live names as a problem: they flow against execution, from none at the function's ends.
 #[derive(Drop)]
-struct LiveNames<'a> {
-    graph: &'a Graph,
+pub(crate) struct LiveNames<'a> {
+    pub graph: &'a Graph,
+    /// For each block the names that it reads first.
+    pub read: &'a Vec<Facts>,
+    ghost are_read: { read.now.items ≡ map (λ b. before_block graph.now.name_count b empty) (map block_view graph.now.blocks.items) },
 }
 
 impl<'a> Problem for LiveNames<'a> {
@@ -86,11 +126,17 @@ impl<'a> Problem for LiveNames<'a> {
     }
 
     fn kept(&self, block: u32, fact: u32) -> bool {
-        true
+        match self.graph.blocks.get(block as usize) {
+            Some(block) => spares(block, fact),
+            None => true,
+        }
     }
 
     fn written(&self, block: u32, fact: u32) -> bool {
-        false
+        match self.read.get(block as usize) {
+            Some(read) => read.has(fact),
+            None => false,
+        }
     }
 
     fn edge(&self, alloc: Global) -> Result<Facts, AllocError> {
@@ -122,6 +168,8 @@ pub fn live(alloc: Global, graph: &Graph) -> Result<Solution, AllocError>
     requires within { AreTargetsWithin (graph_view graph.now) }
     ensures { IfOk result (λ solution. AreLive (graph_view graph.now) solution.starts.items solution.ends.items) }
 {
-    let solution = solve(alloc, graph, &LiveNames { graph })?;
+    let read = read_first(alloc, graph)?;
+    let names = LiveNames { graph, read: &read };
+    let solution = solve(alloc, graph, &names)?;
     Ok(solution)
 }

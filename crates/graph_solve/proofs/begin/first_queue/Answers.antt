@@ -1,7 +1,4 @@
-use Rattle.std.proofs.Common.{◌≡◌, ℕ, ◌+◌, ◌<◌, List, sym, ap, ◌∙◌, subst, arith}
-use Rattle.std.specs.declared.collections.VecDeque.{VecDeque}
-use Rattle.graph_solve.specs.Work.{sum_to, weighed}
-use Rattle.graph_solve.proofs.Beginning.{IsQueue, queue_back, queue_front}
+use Rattle.graph_solve.proofs.Beginning.{queue_back, queue_front}
 use Rattle.graph_solve.proofs.begin.first_queue.Goals as goal
 use Rattle.graph_solve.proofs.begin.first_queue.Goals.{then-forward+in_ok-push_back, else-forward+in_ok-push_front}
 

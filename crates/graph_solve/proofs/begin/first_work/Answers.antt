@@ -1,4 +1,4 @@
-use Rattle.std.proofs.Common.{◌≡◌, ℕ, ◌+◌, ◌*◌, ◌<◌, true, length, map, replicate, sym, ap, ◌∙◌, subst, arith}
+use Rattle.std.proofs.Common.{◌≡◌, ◌+◌, ◌*◌, true, length, replicate, ap, ◌∙◌, subst, arith}
 use Rattle.std.proofs.lemmas.List.{length-map}
 use Rattle.graph_solve.specs.First.{first_bit}
 use Rattle.graph_solve.specs.Rounds.{directed}
@@ -36,6 +36,6 @@ returns-clause-to_come g c =
     let counts : c.len-2.result ≡ n = omega arith in
     let zeros : c.in_ok-counts.counts.items ≡ replicate n 0 = c.in_ok-counts.ensures.items_if_clones_equal (λ y e. e) ∙ ap (λ m. replicate m 0) counts in
     let weights = edges_weigh (edges_of flow graph) n (edges_from task) (within_as flow graph task c.requires)
-        (λ b lt. ap length (targets_there (edges_of flow graph) task.blocks task.targets.items b c.requires.targets (omega (arith, lt, c.requires.blocks)))) ∙ length-map graph.edges.items (directed flow.forward) in
+    (λ b lt. ap length (targets_there (edges_of flow graph) task.blocks task.targets.items b c.requires.targets (omega (arith, lt, c.requires.blocks)))) ∙ length-map graph.edges.items (directed flow.forward) in
     ap (λ cs. falls_to_come (edges_from task) task.height 0 cs + weighed (edges_from task) c.in_ok-queue.queue.items) zeros
     ∙ all_to_come (edges_from task) task.height n (length graph.edges.items) c.in_ok-queue.queue.items (c.in_ok-queue.ensures.weighed (edges_from task) ∙ ap (sum_to (edges_from task)) c.requires.blocks) weights

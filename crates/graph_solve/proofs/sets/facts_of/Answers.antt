@@ -1,4 +1,4 @@
-use Rattle.std.proofs.Common.{◌≡◌, ◌+◌, ◌<◌, length, take, sym, ap, ◌∙◌, arith}
+use Rattle.std.proofs.Common.{◌<◌, length, sym, ap, ◌∙◌, arith}
 use Rattle.std.specs.FinSet.{insert}
 use Rattle.std.proofs.lemmas.List.{take_all}
 use Rattle.bit_rows.specs.Grid.{row_at}

@@ -1,5 +1,5 @@
-use Rattle.std.proofs.Common.{◌≡◌, ◌+◌, ◌++◌, [], ◌∷◌, sym, ap, ◌∙◌}
-use Rattle.graph_solve.specs.Rows.{set_at, sets_at}
+use Rattle.std.proofs.Common.{◌+◌, ◌++◌, [], ◌∷◌, sym, ap, ◌∙◌}
+use Rattle.graph_solve.specs.Rows.{set_at}
 use Rattle.graph_solve.proofs.Reading.{sets_more}
 use Rattle.graph_solve.proofs.sets.sets_of.Goals as goal
 

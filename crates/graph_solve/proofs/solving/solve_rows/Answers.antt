@@ -1,5 +1,4 @@
-use Rattle.std.proofs.Common.{◌≡◌, ℕ, ◌+◌, ◌<◌, cond, length, sym, ap, ◌∙◌, subst, arith}
-use Rattle.bit_rows.specs.Grid.{row_at}
+use Rattle.std.proofs.Common.{◌≡◌, cond, length, sym, ◌∙◌, subst, arith}
 use Rattle.graph_solve.specs.Solution.{IsSolution, control_flow}
 use Rattle.graph_solve.specs.Rows.{sets_at}
 use Rattle.graph_solve.specs.Work.{edges_of}

@@ -1,6 +1,5 @@
-use Rattle.std.proofs.Common.{◌≡◌, ◌+◌, true, length, sym, ap, ◌∙◌, subst, arith}
+use Rattle.std.proofs.Common.{◌≡◌, true, length, sym, ap, ◌∙◌, arith}
 use Rattle.std.proofs.Math.ListN.{set}
-use Rattle.std.proofs.lemmas.List.{length-set}
 use Rattle.bit_rows.specs.Grid.{row_at, with_bit}
 use Rattle.graph_solve.proofs.Filling.{filled, filled_first, filled_row, filled_put, filled_left, filled_all, filled_width}
 use Rattle.graph_solve.proofs.tables.put_row.Goals as goal

@@ -1,4 +1,4 @@
-use Rattle.std.proofs.Common.{◌≡◌, length, map, sym, ap, ◌∙◌, subst, arith}
+use Rattle.std.proofs.Common.{length, map, sym, ap, ◌∙◌, subst, arith}
 use Rattle.graph_solve.specs.Rounds.{directed}
 use Rattle.graph_solve.specs.Rows.{table}
 use Rattle.graph_solve.specs.Solution.{AreWithin}

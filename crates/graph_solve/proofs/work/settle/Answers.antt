@@ -1,10 +1,9 @@
-use Rattle.std.proofs.Common.{◌≡◌, ℕ, Vec, Global, map, get_or, ◌+◌, ◌<◌, [], ◌∷◌, false, length, sym, ap, ◌∙◌, subst, arith}
+use Rattle.std.proofs.Common.{◌≡◌, ℕ, Vec, Global, map, get_or, ◌+◌, [], ◌∷◌, false, length, sym, ap, ◌∙◌, subst, arith}
 use Rattle.std.specs.Prelude.{slice_set}
-use Rattle.std.proofs.lemmas.List.FromFn.{length-map-range_with_len}
 use Rattle.bit_rows.specs.Grid.{row_at, passed}
 use Rattle.graph_solve.specs.Solution.{control_flow}
 use Rattle.graph_solve.specs.Rows.{set_at, table}
-use Rattle.graph_solve.specs.Work.{IsState, edges_of, targets_from}
+use Rattle.graph_solve.specs.Work.{IsState, edges_of}
 use Rattle.graph_solve.proofs.Bitsets.{table_rows}
 use Rattle.graph_solve.proofs.Tasks.{within_as}
 use Rattle.graph_solve.proofs.Visiting.{block_in, block_width, kept_width, written_width, visited, made_now, targets_there}

@@ -1,4 +1,4 @@
-use Rattle.std.proofs.Common.{ℕ, ◌+◌, ◌≤◌, []}
+use Rattle.std.proofs.Common.{◌+◌, ◌≤◌, []}
 use Rattle.graph_solve.specs.Work.{IsWork, edges_from, to_come}
 use Rattle.graph_solve.proofs.work.settle.Given as goal
 
