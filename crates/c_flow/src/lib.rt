@@ -14,8 +14,6 @@ mod places_before;
 mod start;
 mod step_table;
 mod tables;
-#[cfg(test)]
-mod tests;
 mod visibility;
 mod visible_variables;
 

@@ -13,7 +13,5 @@ mod operators;
 mod source;
 mod specifiers;
 mod statement;
-#[cfg(test)]
-mod tests;
 
 pub use source::parse;

@@ -19,6 +19,3 @@ mod word;
 pub use laws::{a_text_has_one_reading, each_token_is_the_longest};
 pub use text::tokens;
 pub use token::{Constant, Header, Keyword, Kind, Punctuator, Token};
-
-#[cfg(test)]
-mod tests;

@@ -3,6 +3,7 @@ use Rattle.std.specs.Prelude.{◌≡◌, ℕ, ◌+◌, ◌-◌, ◌==◌, String
 use Rattle.std.specs.Option.{option_map, option_map_or}
 use Rattle.std.specs.Str.{bytes_eq}
 use Rattle.std.specs.HashMap.{HashMap, get_by_text}
+use Rattle.debug_records.specs.declared.code.TheConstants.Code.{REDECLARED}
 use Rattle.c_tree.specs.declared.extent.Extent.{Extent}
 use Rattle.c_tree.specs.declared.types.Base.{Base}
 use Rattle.c_tree.specs.declared.types.Base.TheVariants as base
@@ -25,7 +26,6 @@ use Rattle.c_type_bounds.specs.Weights.{definition_weight}
 use Rattle.c_type_expressions.specs.declared.names.Meaning.{Meaning}
 use Rattle.c_type_expressions.specs.declared.names.Meaning.TheVariants.{Variable, Function}
 use Rattle.c_type_expressions.specs.Names.{SignatureTree, meaning_of}
-use Rattle.c_type_declarations.specs.Codes.{E21}
 use Rattle.c_type_declarations.specs.Progress.{ProgressTree, Met, means, next_met, reached_by, breaks, declares, opened, closed}
 use Rattle.c_type_declarations.specs.Objects.{size_met}
 use Rattle.c_type_declarations.specs.Declarations.{with_automatic}
@@ -118,12 +118,12 @@ agrees_with k f g m p = false
 
 abbrev pub known_as : ℕ → FunctionTree → SignatureTree → Option Meaning → ProgressTree → ProgressTree
 known_as k f g None p = with_function f.name.name g p
-known_as k f g (Some m) p = if agrees_with k f g m p then p else breaks E21 f.extent p
+known_as k f g (Some m) p = if agrees_with k f g m p then p else breaks REDECLARED f.extent p
 
 -- a function's name: no definition has one of the library's (E21), and declarations agree (E21)
 abbrev pub name_met : ℕ → FunctionTree → SignatureTree → ProgressTree → ProgressTree
 name_met k f g p =
-    if is_some f.body && is_library_name f.name.name then breaks E21 f.extent p else known_as k f g (meaning_of p.names f.name.name) p
+    if is_some f.body && is_library_name f.name.name then breaks REDECLARED f.extent p else known_as k f g (meaning_of p.names f.name.name) p
 
 -- the function that a block makes, whose variables are those from the first on
 abbrev pub function_made : FunctionTree → SignatureTree → BlockTree → ℕ → TypedStatementTrees → ProgressTree → Met (List TypedFunctionTree)

@@ -2,6 +2,7 @@
 use Rattle.std.specs.Prelude.{ℕ, List, [], ◌∷◌, ◌++◌, length, Bool, true, false, ◌&&◌, ◌||◌, Option, Some, None, slice_get, codes, if◌then◌else◌}
 use Rattle.std.specs.Str.{bytes_eq}
 use Rattle.debug_records.specs.declared.source.Spot.{Spot}
+use Rattle.debug_records.specs.declared.code.TheConstants.Code.{REDECLARED}
 use Rattle.c_tree.specs.declared.extent.Extent.{Extent}
 use Rattle.c_tree.specs.declared.declaration.Header.{Header}
 use Rattle.c_tree.specs.declared.declaration.Header.TheVariants as header
@@ -14,7 +15,6 @@ use Rattle.c_type_rules.specs.Types.{same_scalar, same_value}
 use Rattle.c_type_expressions.specs.declared.names.Meaning.{Meaning}
 use Rattle.c_type_expressions.specs.declared.names.Meaning.TheVariants.{Function, EndOfFile}
 use Rattle.c_type_expressions.specs.Names.{SignatureTree, meaning_of}
-use Rattle.c_type_declarations.specs.Codes.{E21}
 use Rattle.c_type_declarations.specs.Progress.{ProgressTree, breaks, with_name}
 use Rattle.c_type.specs.declared.header.Standing.{Standing}
 use Rattle.c_type.specs.declared.header.Standing.TheVariants.{Known, New, Taken}
@@ -69,7 +69,7 @@ stands g functions (Some m) = Taken
 abbrev pub placed : Standing → Extent → List ℕ → SignatureTree → ProgressTree → ProgressTree
 placed Known extent name g p = p
 placed New extent name g p = with_function name g p
-placed Taken extent name g p = breaks E21 extent p
+placed Taken extent name g p = breaks REDECLARED extent p
 
 abbrev pub library_met : Extent → List ℕ → Callee → ProgressTree → ProgressTree
 library_met extent name c p = placed (stands (library c) p.names.signatures (meaning_of p.names name)) extent name (library c) p
@@ -78,7 +78,7 @@ library_met extent name c p = placed (stands (library c) p.names.signatures (mea
 abbrev pub end_beside : Extent → Option Meaning → ProgressTree → ProgressTree
 end_beside extent None p = with_name (codes "EOF") EndOfFile p
 end_beside extent (Some EndOfFile) p = p
-end_beside extent (Some m) p = breaks E21 extent p
+end_beside extent (Some m) p = breaks REDECLARED extent p
 
 abbrev pub end_met : Extent → ProgressTree → ProgressTree
 end_met extent p = end_beside extent (meaning_of p.names (codes "EOF")) p

@@ -4,7 +4,7 @@ use Rattle.std.specs.Option.{option_map, option_map_or}
 use Rattle.std.specs.Str.{bytes_eq}
 use Rattle.debug_records.specs.declared.source.Spot.{Spot}
 use Rattle.debug_records.specs.declared.code.Code.{Code}
-use Rattle.debug_records.specs.declared.code.Letter.TheVariants.{E}
+use Rattle.debug_records.specs.declared.code.TheConstants.Code.{NO_MAIN, UNDECLARED}
 use Rattle.c_tree.specs.declared.types.IntegerType.TheVariants.{Int}
 use Rattle.c_tree.specs.declared.object_type.ValueType.{ValueType}
 use Rattle.c_tree.specs.declared.object_type.ValueType.TheVariants.{Integer}
@@ -16,7 +16,6 @@ use Rattle.c_type_bounds.specs.Counts.{capped}
 use Rattle.c_type_bounds.specs.Weights.{items_weight}
 use Rattle.c_type_bounds.specs.Bounds.{behind_functions, program_breach}
 use Rattle.c_type_expressions.specs.declared.findings.Fault.{Fault}
-use Rattle.c_type_expressions.specs.Codes.{E20}
 use Rattle.c_type_declarations.specs.Progress.{ProgressTree, means}
 use Rattle.c_type.specs.Faults.{first_fault}
 use Rattle.c_type.specs.Functions.{defined, number_of, result_type}
@@ -38,13 +37,9 @@ fault_refusal fault = option_map (λ f. (f.code, f.first.line)) fault
 -- the second: the first call of a function that is never defined
 abbrev pub undefined_refusal : List Spot → Option Refusal
 undefined_refusal [] = None
-undefined_refusal (spot ∷ more) = Some (E20, spot.line)
+undefined_refusal (spot ∷ more) = Some (UNDECLARED, spot.line)
 
--- the third: there is a definition of `int main(void)`
-abbrev pub E29 : Code
-E29 = record { letter = E; number = 29 }
-
--- its name
+-- the third: there is a definition of `int main(void)`, by this name
 abbrev pub main : List ℕ
 main = codes "main"
 
@@ -88,30 +83,33 @@ first_misdeclared [] = None
 first_misdeclared (i ∷ rest) = or_else (misdeclared i) (first_misdeclared rest)
 
 abbrev pub no_definition : Option ℕ → Refusal
-no_definition (Some line) = (E29, line)
-no_definition None = (E29, 1)
+no_definition (Some line) = (NO_MAIN, line)
+no_definition None = (NO_MAIN, 1)
 
 abbrev pub main_refusal : List ItemTree → Option FunctionTree → Option Refusal
-main_refusal items (Some f) = option_map (λ line. (E29, line)) (main_line f)
+main_refusal items (Some f) = option_map (λ line. (NO_MAIN, line)) (main_line f)
 main_refusal items None = Some (no_definition (first_misdeclared items))
 
 -- the number of `main` among the functions
 abbrev pub main_number : List ItemTree → ℕ
 main_number items = option_map_or (λ k. k) (number_of main (defined items)) 0
 
--- the fourth step: the limits of each function, in text order; the fifth: those of the program, on line 1
+-- a program of such functions, objects and literals
 abbrev pub program_with : List TypedFunctionTree → ℕ → ProgressTree → List AutomaticTree → ℕ → ProgramTree
 program_with fs main p vs weight =
     record { functions = fs; main = main; statics = p.statics; automatics = vs; literals = p.found.literals; array_literals = p.array_literals; weight = weight }
 
+-- the program of a source, whose names and types are in order
 abbrev pub program_of : List ItemTree → List TypedFunctionTree → ProgressTree → List AutomaticTree → ProgramTree
 program_of items fs p vs = program_with fs (main_number items) p vs (capped (items_weight items))
 
-abbrev pub fifth : ProgramTree → Result ProgramTree Refusal
-fifth program = option_map_or (λ code. Err (code, 1)) (program_breach program) (Ok program)
+-- the fifth step: the limits of the program, on line 1
+abbrev pub within_program_limits : ProgramTree → Result ProgramTree Refusal
+within_program_limits program = option_map_or (λ code. Err (code, 1)) (program_breach program) (Ok program)
 
-abbrev pub fourth : List ItemTree → List TypedFunctionTree → ProgressTree → Result ProgramTree Refusal
-fourth items fs p = elim (behind_functions 0 fs p.automatics) [ Ok vs ↦ fifth (program_of items fs p vs) | Err r ↦ Err r ]
+-- the fourth step: the limits of each function, in text order, and then those of the program
+abbrev pub within_function_limits : List ItemTree → List TypedFunctionTree → ProgressTree → Result ProgramTree Refusal
+within_function_limits items fs p = elim (behind_functions 0 fs p.automatics) [ Ok vs ↦ within_program_limits (program_of items fs p vs) | Err r ↦ Err r ]
 
 -- the first three steps
 abbrev pub names_refusal : List ItemTree → ProgressTree → Option Refusal
@@ -123,9 +121,10 @@ abbrev pub unless_refused : Option Refusal → Result ProgramTree Refusal → Re
 unless_refused (Some r) next = Err r
 unless_refused None next = next
 
-abbrev pub steps : List ItemTree → List TypedFunctionTree → ProgressTree → Result ProgramTree Refusal
-steps items fs p = unless_refused (names_refusal items p) (fourth items fs p)
+-- the program of what is found in a source, by all five steps
+abbrev pub accepted : List ItemTree → List TypedFunctionTree → ProgressTree → Result ProgramTree Refusal
+accepted items fs p = unless_refused (names_refusal items p) (within_function_limits items fs p)
 
 -- the program of a source, or why it is refused
 abbrev pub checked : List ItemTree → Result ProgramTree Refusal
-checked items = elim (source_met items) [ means fs p ↦ steps items fs p ]
+checked items = elim (source_met items) [ means fs p ↦ accepted items fs p ]

@@ -18,10 +18,8 @@ use c_tree::{
     Scalar, TypedFunction, ValueType,
 };
 use c_type_bounds::definition_weight;
-use c_type_declarations::automatic::{add_automatic, next_automatic};
-use c_type_declarations::initial::numbered;
-use c_type_declarations::{Progress, size};
-use c_type_expressions::{Meaning, Signature};
+use c_type_declarations::{Progress, add_automatic, next_automatic, size};
+use c_type_expressions::{Meaning, Signature, numbered};
 use c_type_rules::loaded;
 use c_type_statements::{Setting, statements};
 use debug_records::Code;

@@ -7,10 +7,8 @@ ghost use Rattle.c_type_declarations.specs.Progress.{progress_view};
 ghost use Rattle.c_type_expressions.specs.Names.{meaning_of, signature_view};
 
 use c_tree::{Callee, Extent, Header, IntegerType, Scalar, ValueType};
-use c_type_declarations::Progress;
-use c_type_declarations::initial::numbered;
-use c_type_declarations::scope::declare;
-use c_type_expressions::{Meaning, Signature};
+use c_type_declarations::{Progress, declare};
+use c_type_expressions::{Meaning, Signature, numbered};
 use c_type_rules::{same_scalar, same_value};
 use debug_records::{Code, Spot};
 use std::alloc::{AllocError, Global};
@@ -99,7 +97,7 @@ pub fn add_function(
 }
 
 /// What becomes of a name that the library declares.
-#[derive(Clone, Copy, PartialEq, Eq)]
+#[derive(Clone, Copy)]
 enum Standing {
     /// It is the library's already.
     Known,

@@ -10,10 +10,8 @@ ghost use Rattle.c_type_declarations.specs.Progress.{means, progress_view};
 use crate::function::function;
 use crate::header::include;
 use c_tree::{Item, TypedFunction};
-use c_type_declarations::initial::numbered;
-use c_type_declarations::scope::empty_scope;
-use c_type_declarations::{Progress, static_declaration};
-use c_type_expressions::{Findings, Names};
+use c_type_declarations::{Progress, empty_scope, static_declaration};
+use c_type_expressions::{Findings, Names, numbered};
 use indexmap::IndexMap;
 use std::alloc::{AllocError, Global};
 

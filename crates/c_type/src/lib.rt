@@ -7,7 +7,5 @@ mod header;
 mod item;
 mod main_function;
 mod source;
-#[cfg(test)]
-mod tests;
 
 pub use source::check;

@@ -2,9 +2,10 @@
 
 ghost use Rattle.std.specs.Prelude.{◌≡◌, map};
 ghost use Rattle.std.specs.Option.{option_map};
+ghost use Rattle.debug_records.specs.declared.code.TheConstants.Code.{NO_MAIN};
 ghost use Rattle.c_tree.specs.Declarations.{declarator_view};
 ghost use Rattle.c_tree.specs.Trees.{function_view, item_view};
-ghost use Rattle.c_type.specs.Programs.{E29, is_main, main_definition, main_line, main_refusal, misdeclared, object_line};
+ghost use Rattle.c_type.specs.Programs.{is_main, main_definition, main_line, main_refusal, misdeclared, object_line};
 
 use crate::function::result_type;
 use c_tree::{Declarator, Function, IntegerType, Item, ValueType};
@@ -76,7 +77,7 @@ fn misdeclared(item: &Item) -> Option<u32>
 
 /// The line on which there is no `int main(void)`: that of a `main` of another type, or the first. None where there is one.
 pub fn no_main(items: &[Item]) -> Option<u32>
-    ensures { option_map (λ line. (E29, line)) result ≡ main_refusal (map item_view items.now) (main_definition (map item_view items.now)) }
+    ensures { option_map (λ line. (NO_MAIN, line)) result ≡ main_refusal (map item_view items.now) (main_definition (map item_view items.now)) }
 {
     if let Some(f) = definition(items) {
         return misdeclared_line(f);

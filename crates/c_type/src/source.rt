@@ -5,7 +5,7 @@ ghost use Rattle.c_tree.specs.Programs.{automatic_view, function_view, program_v
 ghost use Rattle.c_tree.specs.Trees.{ItemTree, tree_view};
 ghost use Rattle.c_type.specs.Functions.{IsNumbering, defined};
 ghost use Rattle.debug_records.specs.Refusals.{Answers};
-ghost use Rattle.c_type.specs.Programs.{checked, fifth, main_number, names_refusal, program_with};
+ghost use Rattle.c_type.specs.Programs.{checked, within_program_limits, main_number, names_refusal, program_with};
 ghost use Rattle.c_type_declarations.specs.Progress.{progress_view};
 
 use crate::fault::first_fault;
@@ -60,7 +60,7 @@ fn program(functions: Vec<TypedFunction>, main: u32, progress: Progress, weight:
 
 /// A program, unless it passes one of the limits of programs.
 fn within_limits(alloc: Global, program: Program) -> Result<Program, SourceErr>
-    ensures { Answers program_view result (fifth (program_view program)) }
+    ensures { Answers program_view result (within_program_limits (program_view program)) }
 {
     match program_breach(alloc, &program)? {
         Some(code) => Err(SourceErr::Refused(code, 1)),

@@ -2,6 +2,7 @@
 use Rattle.std.specs.Prelude.{ℕ, nat_lt, List, [], ◌∷◌, ◌++◌, length, Bool, Option, Some, None, if◌then◌else◌}
 use Rattle.std.specs.Option.{option_map_or}
 use Rattle.debug_records.specs.declared.source.Spot.{Spot}
+use Rattle.debug_records.specs.declared.code.TheConstants.Code.{INITIALIZER}
 use Rattle.c_tree.specs.declared.extent.Extent.{Extent}
 use Rattle.c_tree.specs.declared.object_type.Scalar.{Scalar}
 use Rattle.c_tree.specs.declared.object_type.ObjectType.{ObjectType}
@@ -14,14 +15,13 @@ use Rattle.c_tree.specs.TypedStatements.{InitialTree, Zero}
 use Rattle.c_type_rules.specs.Types.{loaded}
 use Rattle.c_type_values.specs.Values.{ValueTree, converted}
 use Rattle.c_type_expressions.specs.Expressions.{is_zero}
-use Rattle.c_type_declarations.specs.Codes.{E27}
 use Rattle.c_type_declarations.specs.Progress.{ProgressTree, Met, means, next_met, reached_by, value_met, breaks}
 use Rattle.c_type_declarations.specs.Objects.{literal_for, only_in, count}
 
 -- a value, or E27
 abbrev pub or_misfit : Option ValueTree → Extent → ProgressTree → Met (Option ValueTree)
 or_misfit (Some v) extent p = means (Some v) p
-or_misfit None extent p = means None (breaks E27 extent p)
+or_misfit None extent p = means None (breaks INITIALIZER extent p)
 
 -- a value as if assigned to an object of a scalar type (E27)
 abbrev pub fitted : Scalar → Extent → Bool → Option ValueTree → ProgressTree → Met (Option ValueTree)
@@ -42,12 +42,12 @@ looked_at (first i more) p = looked_at more (looked_at_one i p)
 
 -- an expression where a list has to stand (E27)
 abbrev pub misfit_met : Extent → ExpressionTree → ProgressTree → ProgressTree
-misfit_met extent e p = reached_by (value_met e p) (λ v. breaks E27 extent)
+misfit_met extent e p = reached_by (value_met e p) (λ v. breaks INITIALIZER extent)
 
 -- an initializer of a scalar: an expression, perhaps in braces of its own (E27)
 abbrev pub braces_met : Scalar → Extent → Option ExpressionTree → InitializerTrees → ProgressTree → Met (Option ValueTree)
 braces_met s extent (Some e) all p = fitting s extent e p
-braces_met s extent None all p = means None (looked_at all (breaks E27 extent p))
+braces_met s extent None all p = means None (looked_at all (breaks INITIALIZER extent p))
 
 abbrev pub scalar_met : Scalar → Extent → InitializerTree → ProgressTree → Met (Option ValueTree)
 scalar_met s extent (Value e) p = fitting s extent e p
@@ -65,7 +65,7 @@ elements_met s extent (first i more) p = next_met (scalar_met s extent i p) (λ 
 
 -- there are no more initializers than elements (E27)
 abbrev pub within_count : ℕ → ℕ → Extent → ProgressTree → ProgressTree
-within_count given size extent p = if nat_lt size given then breaks E27 extent p else p
+within_count given size extent p = if nat_lt size given then breaks INITIALIZER extent p else p
 
 -- a literal that initialises an automatic array: all its bytes, but perhaps for the final zero, have room (E27)
 abbrev pub with_array_literal : Spot → List ℕ → ProgressTree → ProgressTree

@@ -1,4 +1,3 @@
-pub mod Codes
 pub mod Scopes
 pub mod Progress
 pub mod Objects

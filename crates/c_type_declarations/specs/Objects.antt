@@ -1,16 +1,17 @@
 -- The types of objects that declarators declare (6.7.6): a scalar, or an array of scalars.
 use Rattle.std.specs.Prelude.{ℕ, ◌+◌, ◌^◌, ◌==◌, nat_lt, max, List, length, Bool, ◌&&◌, Option, Some, None, if◌then◌else◌}
 use Rattle.debug_records.specs.declared.source.Spot.{Spot}
+use Rattle.debug_records.specs.declared.code.TheConstants.Code.{UNEXPECTED_KEYWORD}
 use Rattle.c_tree.specs.declared.extent.Extent.{Extent}
 use Rattle.c_tree.specs.declared.types.IntegerType.TheVariants.{Char}
 use Rattle.c_tree.specs.declared.object_type.Scalar.{Scalar}
 use Rattle.c_tree.specs.declared.object_type.ObjectType.{ObjectType}
 use Rattle.c_tree.specs.declared.object_type.ObjectType.TheVariants as object
-use Rattle.c_tree.specs.Expressions.{ExpressionTree, Literal, Parenthesized}
+use Rattle.c_tree.specs.Cores.{CoreTree, Literally, core_of}
+use Rattle.c_tree.specs.Expressions.{ExpressionTree}
 use Rattle.c_tree.specs.Declarations.{BracketsTree, Absent, Empty, Sized, InitializerTree, Value, Braces, InitializerTrees, none, first, DeclaratorTree}
 use Rattle.c_type_rules.specs.Types.{same_integer}
 use Rattle.c_type_values.specs.Values.{ValueTree}
-use Rattle.c_type_expressions.specs.Codes.{E11}
 use Rattle.c_type_expressions.specs.Judgements.{count_of}
 use Rattle.c_type_declarations.specs.Progress.{ProgressTree, Met, means, next_met, value_met, breaks}
 
@@ -19,10 +20,12 @@ abbrev pub is_char : Scalar → Bool
 is_char s = s.stars == 0 && same_integer s.base Char
 
 -- a string literal, perhaps in parentheses: where it begins, and its bytes
+abbrev pub literal_of_core : CoreTree → Option (Spot × List ℕ)
+literal_of_core (Literally extent bytes) = Some (extent.first, bytes)
+literal_of_core _ = None
+
 abbrev pub literal_in : ExpressionTree → Option (Spot × List ℕ)
-literal_in (Literal extent bytes) = Some (extent.first, bytes)
-literal_in (Parenthesized extent e) = literal_in e
-literal_in _ = None
+literal_in e = literal_of_core (core_of e)
 
 -- the expression that alone stands in braces, if they hold no more
 abbrev pub only_in : InitializerTrees → Option ExpressionTree
@@ -60,12 +63,12 @@ implied_count element None = 1
 
 -- how many elements an array has: one or more, and below 2 ^ 32 (E11, of the declarator); 1 stands for what is at fault
 abbrev pub counted : ℕ → Extent → ProgressTree → Met ℕ
-counted n extent p = if nat_lt n (2 ^ 32) then means n p else means 1 (breaks E11 extent p)
+counted n extent p = if nat_lt n (2 ^ 32) then means n p else means 1 (breaks UNEXPECTED_KEYWORD extent p)
 
 -- the size in brackets has to be a positive integer constant expression (E11)
 abbrev pub count_or : Option ℕ → Extent → ProgressTree → Met ℕ
 count_or (Some n) extent p = counted n extent p
-count_or None extent p = means 1 (breaks E11 extent p)
+count_or None extent p = means 1 (breaks UNEXPECTED_KEYWORD extent p)
 
 abbrev pub sized_by : Extent → Option ValueTree → ProgressTree → Met ℕ
 sized_by extent (Some v) p = count_or (count_of v.of v.constant) extent p

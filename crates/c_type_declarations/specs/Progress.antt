@@ -1,6 +1,7 @@
 -- How far the check of a source has come.
 use Rattle.std.specs.Prelude.{ℕ, List, map, Option, Some, None}
 use Rattle.debug_records.specs.declared.code.Code.{Code}
+use Rattle.debug_records.specs.declared.code.TheConstants.Code.{REDECLARED}
 use Rattle.c_tree.specs.declared.extent.Extent.{Extent}
 use Rattle.c_tree.specs.Expressions.{ExpressionTree}
 use Rattle.c_tree.specs.Programs.{StaticTree, static_view, AutomaticTree, automatic_view, LiteralTree, literal_view}
@@ -11,7 +12,6 @@ use Rattle.c_type_expressions.specs.Findings.{FoundTree, findings_view, Checked,
 use Rattle.c_type_expressions.specs.Judgements.{valued}
 use Rattle.c_type_expressions.specs.Expressions.{typed}
 use Rattle.c_type_declarations.specs.declared.progress.Progress as declared-progress
-use Rattle.c_type_declarations.specs.Codes.{E21}
 use Rattle.c_type_declarations.specs.Scopes.{declared, declared_here, entered, left}
 
 -- what is declared, what was found, the objects so far by position, and the literals that initialise automatic arrays
@@ -60,7 +60,7 @@ abbrev pub with_name : List ℕ → Meaning → ProgressTree → ProgressTree
 with_name name m p = record p { names = declared name m p.names }
 
 abbrev pub declares : Extent → List ℕ → Meaning → ProgressTree → ProgressTree
-declares extent name m p = with_name name m (breaks_if (declared_here p.names name) E21 extent p)
+declares extent name m p = with_name name m (breaks_if (declared_here p.names name) REDECLARED extent p)
 
 -- the beginning and the end of a scope
 abbrev pub opened : ProgressTree → ProgressTree

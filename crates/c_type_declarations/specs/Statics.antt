@@ -1,6 +1,7 @@
 -- What objects of static storage hold at first (6.7.9p4 and p10): constants, in the bytes of the machine, the lowest first.
 use Rattle.std.specs.Prelude.{ℕ, zero, suc, ◌/◌, ◌%◌, ◌^◌, List, [], ◌∷◌, ◌++◌, length, take, Option, Some, None}
 use Rattle.std.specs.Option.{option_map_or}
+use Rattle.debug_records.specs.declared.code.TheConstants.Code.{INITIALIZER}
 use Rattle.c_tree.specs.declared.extent.Extent.{Extent}
 use Rattle.c_tree.specs.declared.object_type.Scalar.{Scalar}
 use Rattle.c_tree.specs.declared.object_type.ObjectType.{ObjectType}
@@ -11,7 +12,6 @@ use Rattle.c_type_rules.specs.declared.constancy.Constancy.{Constancy}
 use Rattle.c_type_rules.specs.declared.constancy.Constancy.TheVariants.{Varies, Known, Address}
 use Rattle.c_type_rules.specs.Integers.{residue, scalar_size}
 use Rattle.c_type_values.specs.Values.{ValueTree}
-use Rattle.c_type_declarations.specs.Codes.{E27}
 use Rattle.c_type_declarations.specs.Progress.{ProgressTree, Met, means, next_met, breaks}
 use Rattle.c_type_declarations.specs.Objects.{literal_for, count}
 use Rattle.c_type_declarations.specs.Initials.{misfit_met, scalar_met, within_count}
@@ -44,7 +44,7 @@ with_constant s k c = record c { bytes = c.bytes ++ low_bytes (scalar_size s) 0 
 abbrev pub constant_met : Extent → Constancy → ProgressTree → ProgressTree
 constant_met extent (Known z) p = p
 constant_met extent (Address object offset) p = p
-constant_met extent k p = breaks E27 extent p
+constant_met extent k p = breaks INITIALIZER extent p
 
 -- bytes with a scalar's value behind them, which has to be a constant; nothing more is asked of one at fault
 abbrev pub filled : Scalar → Extent → Option ValueTree → Contents → ProgressTree → Met Contents

@@ -8,14 +8,15 @@ ghost use Rattle.c_tree.specs.TypedStatements.{declared_view};
 ghost use Rattle.c_type_declarations.specs.Declarations.{automatic_met, automatic_of_type, automatics_met, declaration_met, is_array, with_automatic};
 ghost use Rattle.c_type_declarations.specs.Progress.{means, progress_view};
 
-use crate::initial::{initial, numbered};
+use crate::initial::initial;
 use crate::object::object_type;
 use crate::progress::Progress;
 use c_tree::{
     AutomaticVariable, Declaration, Declarator, Declared, Identifier, IntegerType, Object,
     ObjectType, Scalar,
 };
-use c_type_expressions::Meaning;
+use c_type_expressions::{Meaning, numbered};
+use c_type_values::given;
 use std::alloc::{AllocError, Global};
 
 /// Whether a type is an array's.
@@ -63,23 +64,23 @@ fn declared_as(
 ) -> Result<Declared, AllocError>
     ensures { IfOk result (λ d. means (declared_view d) (progress_view progress.new) ≡ automatic_of_type (declarator_view declarator.now) of (progress_view progress.old)) }
 {
-    let variable = next_automatic(progress)?;
+    let variable = given!(next_automatic(progress));
     let identifier = &declarator.identifier;
     let object = Object::Automatic(variable);
-    progress.declare(
+    given!(progress.declare(
         alloc,
         declarator.extent,
         &identifier.name,
         Meaning::Variable { object, of },
-    )?;
-    add_automatic(alloc, progress, identifier, of)?;
-    let initial = initial(
+    ));
+    given!(add_automatic(alloc, progress, identifier, of));
+    let initial = given!(initial(
         alloc,
         progress,
         of,
         declarator.extent,
         &declarator.initializer,
-    )?;
+    ));
     Ok(Declared {
         variable,
         spot: identifier.spot,
@@ -100,7 +101,7 @@ fn automatic(
         base,
         stars: declarator.stars,
     };
-    let of = object_type(alloc, progress, scalar, declarator)?;
+    let of = given!(object_type(alloc, progress, scalar, declarator));
     declared_as(alloc, progress, declarator, of)
 }
 

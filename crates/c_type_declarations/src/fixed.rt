@@ -10,17 +10,16 @@ ghost use Rattle.c_type_declarations.specs.Progress.{means, progress_view};
 ghost use Rattle.c_type_declarations.specs.Statics.{constant_met, contents_met, contents_view, filled, fills_met, list_contents, literal_bytes, low_bytes, nothing, put_met, with_constant};
 ghost use Rattle.c_type_values.specs.Values.{value_view};
 
-use crate::initial::{misfit, numbered, scalar, within_count};
+use crate::initial::{misfit, scalar, within_count};
 use crate::object::{Written, literal_for, object_type};
 use crate::progress::Progress;
 use c_tree::{
     Declaration, Declarator, Extent, Identifier, Initializer, IntegerType, Object, ObjectType,
     Relocation, Scalar, StaticVariable,
 };
-use c_type_expressions::Meaning;
-use c_type_rules::integer::residue;
-use c_type_rules::{Constancy, scalar_size};
-use c_type_values::Value;
+use c_type_expressions::{Meaning, numbered};
+use c_type_rules::{Constancy, residue, scalar_size};
+use c_type_values::{Value, given};
 use debug_records::Code;
 use std::alloc::{AllocError, Global};
 
@@ -110,7 +109,7 @@ fn fill(
         Some(value) => {
             let constant = value.constant;
             drop(value);
-            want_constant(progress, extent, constant)?;
+            given!(want_constant(progress, extent, constant));
             put_constant(contents, scalar, constant)
         }
     }
@@ -184,14 +183,14 @@ fn put(
 {
     match of {
         ObjectType::Scalar(of) => {
-            let value = scalar(alloc, progress, of, extent, initializer)?;
+            let value = given!(scalar(alloc, progress, of, extent, initializer));
             let mut contents = nothing(alloc);
-            fill(progress, &mut contents, of, extent, value)?;
+            given!(fill(progress, &mut contents, of, extent, value));
             Ok(contents)
         }
         ObjectType::Array { element, count } => match literal_for(element, initializer) {
             Some(literal) => {
-                within_count(progress, literal.bytes.len(), count, extent)?;
+                given!(within_count(progress, literal.bytes.len(), count, extent));
                 literal_contents(alloc, literal, count)
             }
             None => list(alloc, progress, element, count, extent, initializer),
@@ -252,20 +251,21 @@ fn declared_as(
 ) -> Result<(), AllocError>
     ensures { OnOk result (progress_view progress.new ≡ static_of_type (declarator_view declarator.now) of (progress_view progress.old)) }
 {
-    let object = Object::Static(next_static(progress)?);
-    progress.declare(
+    let number = given!(next_static(progress));
+    let object = Object::Static(number);
+    given!(progress.declare(
         alloc,
         declarator.extent,
         &declarator.identifier.name,
         Meaning::Variable { object, of },
-    )?;
-    let contents = held_at_first(
+    ));
+    let contents = given!(held_at_first(
         alloc,
         progress,
         of,
         declarator.extent,
         &declarator.initializer,
-    )?;
+    ));
     add_static(alloc, progress, &declarator.identifier, of, contents)
 }
 
@@ -282,7 +282,7 @@ fn fixed(
         base,
         stars: declarator.stars,
     };
-    let of = object_type(alloc, progress, scalar, declarator)?;
+    let of = given!(object_type(alloc, progress, scalar, declarator));
     declared_as(alloc, progress, declarator, of)
 }
 
@@ -295,7 +295,7 @@ pub fn static_declaration(
     ensures { OnOk result (progress_view progress.new ≡ statics_met declaration.now.integer_type (map declarator_view declaration.now.declarators.items) (progress_view progress.old)) }
 {
     for declarator in &declaration.declarators {
-        fixed(alloc, progress, declaration.integer_type, declarator)?;
+        given!(fixed(alloc, progress, declaration.integer_type, declarator));
     }
     Ok(())
 }

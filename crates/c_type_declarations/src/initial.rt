@@ -9,26 +9,16 @@ ghost use Rattle.c_tree.specs.TypedExpressions.{rvalue_view};
 ghost use Rattle.c_tree.specs.TypedStatements.{initial_view};
 ghost use Rattle.c_type_declarations.specs.Initials.{array_literal_met, elements_met, fitted, fitting, initial_met, list_met, looked_at, looked_at_one, misfit_met, scalar_met, tree_of, with_array_literal, within_count, written_met};
 ghost use Rattle.c_type_declarations.specs.Progress.{means, progress_view, reached_by, value_met};
-ghost use Rattle.c_type_values.specs.Values.{value_view};
+ghost use Rattle.c_type_values.specs.Values.{node_view, value_view};
 
 use crate::object::{Written, literal_for, only_expression};
 use crate::progress::Progress;
 use c_tree::{Expression, Extent, Initial, Initializer, ObjectType, Rvalue, Scalar, StringLiteral};
-use c_type_expressions::operand::is_zero;
+use c_type_expressions::{is_zero, numbered};
 use c_type_rules::loaded;
-use c_type_values::{Value, converted};
+use c_type_values::{Value, converted, given, node};
 use debug_records::Code;
 use std::alloc::{AllocError, Global};
-
-/// A count as a number of 32 bits. More than those take more memory than there is.
-pub fn numbered(count: usize) -> Result<u32, AllocError>
-    ensures { IfOk result (λ n. n ≡ count) }
-{
-    if count > 4294967295 {
-        return Err(AllocError);
-    }
-    Ok(count as u32)
-}
 
 /// A value as if assigned to an object of a scalar type.
 fn fitted(
@@ -44,9 +34,9 @@ fn fitted(
     let Some(value) = value else {
         return Ok(None);
     };
-    let made = converted(alloc, value, loaded(scalar), is_zero)?;
+    let made = given!(converted(alloc, value, loaded(scalar), is_zero));
     if made.is_none() {
-        progress.fault(Code::INITIALIZER, extent)?;
+        given!(progress.fault(Code::INITIALIZER, extent));
     }
     Ok(made)
 }
@@ -61,7 +51,7 @@ fn fitting(
 ) -> Result<Option<Value>, AllocError>
     ensures { IfOk result (λ v. means (option_map value_view v) (progress_view progress.new) ≡ fitting scalar extent (expression_view e.now) (progress_view progress.old)) }
 {
-    let value = progress.value(alloc, e)?;
+    let value = given!(progress.value(alloc, e));
     fitted(alloc, progress, scalar, extent, is_zero(e), value)
 }
 
@@ -87,7 +77,7 @@ pub fn look_at_expression(
 ) -> Result<(), AllocError>
     ensures { OnOk result (progress_view progress.new ≡ reached_by (value_met (expression_view e.now) (progress_view progress.old)) (λ v q. q)) }
 {
-    let value = progress.value(alloc, e)?;
+    let value = given!(progress.value(alloc, e));
     drop(value);
     Ok(())
 }
@@ -101,7 +91,7 @@ fn look_at(
     ensures { OnOk result (progress_view progress.new ≡ looked_at (chain (map initializer_view initializers.now)) (progress_view progress.old)) }
 {
     for one in initializers {
-        look_at_one(alloc, progress, one)?;
+        given!(look_at_one(alloc, progress, one));
     }
     Ok(())
 }
@@ -115,7 +105,7 @@ pub fn misfit(
 ) -> Result<(), AllocError>
     ensures { OnOk result (progress_view progress.new ≡ misfit_met extent (expression_view e.now) (progress_view progress.old)) }
 {
-    let value = progress.value(alloc, e)?;
+    let value = given!(progress.value(alloc, e));
     drop(value);
     progress.fault(Code::INITIALIZER, extent)
 }
@@ -135,8 +125,8 @@ pub fn scalar(
         Initializer::List(all) => match only_expression(all) {
             Some(e) => fitting(alloc, progress, of, extent, e),
             None => {
-                progress.fault(Code::INITIALIZER, extent)?;
-                look_at(alloc, progress, all)?;
+                given!(progress.fault(Code::INITIALIZER, extent));
+                given!(look_at(alloc, progress, all));
                 Ok(None)
             }
         },
@@ -144,12 +134,15 @@ pub fn scalar(
 }
 
 /// What a value computes. Of one at fault nothing.
-fn tree_of(value: Option<Value>) -> Rvalue
-    ensures { rvalue_view result ≡ tree_of (option_map value_view value) }
+pub fn tree_of(alloc: Global, value: Option<Value>) -> Result<Box<Rvalue>, AllocError>
+    ensures { IfOk result (λ r. node_view r ≡ tree_of (option_map value_view value)) }
 {
     match value {
-        Some(value) => value.tree,
-        None => Rvalue::Null,
+        Some(value) => Ok(value.tree),
+        None => {
+            let nothing = given!(node(alloc, Rvalue::Null));
+            Ok(nothing)
+        }
     }
 }
 
@@ -167,7 +160,8 @@ fn elements(
     let mut values = Vec::new(alloc);
     for one in initializers {
         let value = scalar(alloc, progress, of, extent, one)?;
-        values.push(tree_of(value))?;
+        let tree = tree_of(alloc, value)?;
+        values.push(Box::into_inner(tree))?;
     }
     Ok(values)
 }
@@ -182,7 +176,7 @@ pub fn within_count(
     ensures { OnOk result (progress_view progress.new ≡ within_count given size extent (progress_view progress.old)) }
 {
     if given > size as usize {
-        progress.fault(Code::INITIALIZER, extent)?;
+        given!(progress.fault(Code::INITIALIZER, extent));
     }
     Ok(())
 }
@@ -214,9 +208,9 @@ fn array_literal(
 ) -> Result<Initial, AllocError>
     ensures { IfOk result (λ i. means (initial_view i) (progress_view progress.new) ≡ array_literal_met size extent (literal.entry.spot, literal.entry.bytes.now) (progress_view progress.old)) }
 {
-    let number = numbered(progress.array_literals.len())?;
-    within_count(progress, literal.bytes.len(), size, extent)?;
-    with_array_literal(alloc, progress, literal)?;
+    let number = given!(numbered(progress.array_literals.len()));
+    given!(within_count(progress, literal.bytes.len(), size, extent));
+    given!(with_array_literal(alloc, progress, literal));
     Ok(Initial::Literal(number))
 }
 
@@ -257,8 +251,9 @@ fn written(
 {
     match of {
         ObjectType::Scalar(of) => {
-            let value = scalar(alloc, progress, of, extent, initializer)?;
-            Ok(Initial::Scalar(tree_of(value)))
+            let value = given!(scalar(alloc, progress, of, extent, initializer));
+            let tree = given!(tree_of(alloc, value));
+            Ok(Initial::Scalar(Box::into_inner(tree)))
         }
         ObjectType::Array { element, count } => match literal_for(element, initializer) {
             Some(literal) => array_literal(alloc, progress, count, extent, literal),

@@ -11,11 +11,11 @@ ghost use Rattle.c_type_values.specs.Values.{value_view};
 
 use crate::progress::Progress;
 use c_tree::{
-    Brackets, Declarator, Expression, Extent, Initializer, IntegerType, ObjectType, Scalar,
+    Brackets, Core, Declarator, Expression, Extent, Initializer, IntegerType, ObjectType, Scalar,
 };
-use c_type_expressions::judgement::count_of;
+use c_type_expressions::count_of;
 use c_type_rules::same_integer;
-use c_type_values::Value;
+use c_type_values::{Value, given};
 use debug_records::{Code, Spot};
 use std::alloc::{AllocError, Global};
 
@@ -39,38 +39,12 @@ pub fn is_char(of: Scalar) -> bool
 pub fn literal_in(e: &Expression) -> Option<Written<'_>>
     ensures { option_map (λ w. (w.spot, w.bytes.now)) result ≡ literal_in (expression_view e.now) }
 {
-    match e {
-        Expression::Literal { extent, bytes } => Some(Written {
+    match e.core() {
+        Core::Literal { extent, bytes } => Some(Written {
             spot: extent.first,
             bytes,
         }),
-        Expression::Parenthesized { inner, .. } => literal_in(inner),
-        Expression::Postfix { operand, suffixes } => {
-            if suffixes.is_empty() {
-                return literal_in(operand);
-            }
-            None
-        }
-        Expression::Binary { first, operations } => {
-            if operations.is_empty() {
-                return literal_in(first);
-            }
-            None
-        }
-        Expression::Comma { first, rest } => {
-            if rest.is_empty() {
-                return literal_in(first);
-            }
-            None
-        }
-        Expression::Name(_)
-        | Expression::Constant { .. }
-        | Expression::Prefix { .. }
-        | Expression::Cast { .. }
-        | Expression::SizeofExpression { .. }
-        | Expression::SizeofType { .. }
-        | Expression::Conditional { .. }
-        | Expression::Assignment { .. } => None,
+        Core::Name(_) | Core::Constant { .. } | Core::Compound => None,
     }
 }
 
@@ -135,7 +109,7 @@ fn counted(progress: &mut Progress, count: u64, extent: Extent) -> Result<u32, A
     if count < 4294967296 {
         return Ok(count as u32);
     }
-    progress.fault(Code::UNEXPECTED_KEYWORD, extent)?;
+    given!(progress.fault(Code::UNEXPECTED_KEYWORD, extent));
     Ok(1)
 }
 
@@ -153,7 +127,7 @@ fn sized_by(
     match count_of(value.of, value.constant) {
         Some(count) => counted(progress, count, extent),
         None => {
-            progress.fault(Code::UNEXPECTED_KEYWORD, extent)?;
+            given!(progress.fault(Code::UNEXPECTED_KEYWORD, extent));
             Ok(1)
         }
     }
@@ -168,7 +142,7 @@ pub fn size(
 ) -> Result<u32, AllocError>
     ensures { IfOk result (λ n. means n (progress_view progress.new) ≡ size_met extent (expression_view e.now) (progress_view progress.old)) }
 {
-    let value = progress.value(alloc, e)?;
+    let value = given!(progress.value(alloc, e));
     sized_by(progress, extent, value)
 }
 
@@ -186,14 +160,14 @@ pub fn object_type(
         Brackets::Absent => Ok(ObjectType::Scalar(scalar)),
         Brackets::Empty => {
             let implied = implied_count(scalar, &declarator.initializer);
-            let count = counted(progress, implied as u64, extent)?;
+            let count = given!(counted(progress, implied as u64, extent));
             Ok(ObjectType::Array {
                 element: scalar,
                 count,
             })
         }
         Brackets::Sized(e) => {
-            let count = size(alloc, progress, extent, e)?;
+            let count = given!(size(alloc, progress, extent, e));
             Ok(ObjectType::Array {
                 element: scalar,
                 count,

@@ -10,7 +10,7 @@ ghost use Rattle.c_type_values.specs.Values.{value_view};
 use crate::scope::{declare, declared_here, enter, leave};
 use c_tree::{AutomaticVariable, Expression, Extent, StaticVariable, StringLiteral};
 use c_type_expressions::{Findings, Meaning, Names, value};
-use c_type_values::Value;
+use c_type_values::{Value, given};
 use debug_records::Code;
 use std::alloc::{AllocError, Global};
 
@@ -54,7 +54,7 @@ impl Progress {
         ensures { OnOk result (progress_view self.new ≡ declares extent name.now meaning (progress_view self.old)) }
     {
         if declared_here(&self.names, name).is_some() {
-            self.fault(Code::REDECLARED, extent)?;
+            given!(self.fault(Code::REDECLARED, extent));
         }
         declare(alloc, &mut self.names, name, meaning)
     }

@@ -5,6 +5,7 @@ ghost use Rattle.c_type_declarations.specs.Scopes.{declared, declared_here, empt
 ghost use Rattle.c_type_expressions.specs.Names.{names_view, scope_view};
 
 use c_type_expressions::{Meaning, Names, Scope};
+use c_type_values::given;
 use indexmap::IndexMap;
 use std::alloc::{AllocError, Global};
 

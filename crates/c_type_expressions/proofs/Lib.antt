@@ -1,4 +1,3 @@
 pub mod Arguments
 pub mod Chains
 pub mod SuffixChains
-pub mod Zeros

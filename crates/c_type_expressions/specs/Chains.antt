@@ -2,6 +2,7 @@
 use Rattle.std.specs.Prelude.{ℕ, List, [], ◌∷◌, Bool, false, Option, Some, None}
 use Rattle.std.specs.Option.{option_map}
 use Rattle.debug_records.specs.declared.source.Spot.{Spot}
+use Rattle.debug_records.specs.declared.code.TheConstants.Code.{OPERAND_TYPES}
 use Rattle.c_tree.specs.declared.typed_expression.Direction.TheVariants.{Up, Down}
 use Rattle.c_tree.specs.declared.typed_expression.Given.TheVariants.{Old}
 use Rattle.c_tree.specs.declared.operator.BinaryOperator.{BinaryOperator}
@@ -11,7 +12,6 @@ use Rattle.c_tree.specs.Ends.{last_of}
 use Rattle.c_type_values.specs.Values.{MeantTree, IsValue, as_value}
 use Rattle.c_type_values.specs.Operations.{operation_of, combined, sequenced}
 use Rattle.c_type_values.specs.Pointers.{element_of}
-use Rattle.c_type_expressions.specs.Codes.{E22}
 use Rattle.c_type_expressions.specs.Names.{Names, SignatureTree}
 use Rattle.c_type_expressions.specs.Findings.{FoundTree, gives, next, with_one, with_two, judged}
 use Rattle.c_type_expressions.specs.Judgements.{Meant, valued, stepping, uncallable, noted, called}
@@ -30,7 +30,7 @@ abbrev pub suffix_met : Names → Option SignatureTree → Spot → SuffixTree �
 suffix_met names (Some g) first (Calls arguments last) m s = function_called names g (chain arguments) first last s
 suffix_met names None first (Calls arguments last) m s = next (typed_all names (chain arguments) [] 0 s) (λ q. uncallable first last (option_map as_value m))
 suffix_met names g first (Indexes i last) m s =
-    next (valued (typed names i s)) (λ b. with_two (option_map as_value m) b (λ v w. judged (element_of v w) E22 first last))
+    next (valued (typed names i s)) (λ b. with_two (option_map as_value m) b (λ v w. judged (element_of v w) OPERAND_TYPES first last))
 suffix_met names g first (Increments last) m s = with_one m (stepping Up Old first last) s
 suffix_met names g first (Decrements last) m s = with_one m (stepping Down Old first last) s
 
@@ -47,7 +47,7 @@ direct_callee names e _ = None
 -- an operator with its right operand; the flag says that the operand before it is a constant token 0
 abbrev pub operation_met : Names → Spot → Bool → BinaryOperator × ExpressionTree → Option MeantTree → FoundTree → Meant
 operation_met names first zero o m s =
-    next (valued (typed names o.1 s)) (λ y. with_two (option_map as_value m) y (λ v w. judged (option_map IsValue (combined (operation_of o.0) v w zero (is_zero o.1))) E22 first (last_of o.1)))
+    next (valued (typed names o.1 s)) (λ y. with_two (option_map as_value m) y (λ v w. judged (option_map IsValue (combined (operation_of o.0) v w zero (is_zero o.1))) OPERAND_TYPES first (last_of o.1)))
 
 -- operators behind an operand, one behind the other
 abbrev pub operations_met : Names → Spot → Bool → List (BinaryOperator × ExpressionTree) → Option MeantTree → FoundTree → Meant

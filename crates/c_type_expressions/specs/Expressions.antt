@@ -2,10 +2,12 @@
 use Rattle.std.specs.Prelude.{ℕ, ◌+◌, ◌==◌, nat_le, pos, List, [], length, Bool, false, Option, Some, None, slice_get}
 use Rattle.std.specs.Option.{option_map}
 use Rattle.debug_records.specs.declared.source.Spot.{Spot}
+use Rattle.debug_records.specs.declared.code.TheConstants.Code.{OPERAND_TYPES}
 use Rattle.c_tree.specs.declared.object_type.Scalar.{Scalar}
 use Rattle.c_tree.specs.declared.typed_expression.Direction.TheVariants.{Up, Down}
 use Rattle.c_tree.specs.declared.typed_expression.Given.TheVariants.{Old}
 use Rattle.c_tree.specs.Expressions.{ExpressionTree, Name, Constant, Literal, Parenthesized, Index, Call, PostIncrement, PostDecrement, Prefix, Cast, SizeofExpression, SizeofType, SizeofArray, Binary, Conditional, Assignment, Comma, ExpressionTrees}
+use Rattle.c_tree.specs.Cores.{CoreTree, Named, Constantly, core_of}
 use Rattle.c_tree.specs.Expressions as tree
 use Rattle.c_tree.specs.TypedExpressions as typed-tree
 use Rattle.c_tree.specs.Ends.{first_of, last_of}
@@ -15,27 +17,32 @@ use Rattle.c_type_values.specs.Pointers.{element_of}
 use Rattle.c_type_values.specs.Operations.{operation_of, combined, conditional, sequenced}
 use Rattle.c_type_expressions.specs.declared.names.Meaning.{Meaning}
 use Rattle.c_type_expressions.specs.declared.names.Meaning.TheVariants.{Function}
-use Rattle.c_type_expressions.specs.Codes.{E22}
 use Rattle.c_type_expressions.specs.Names.{Names, SignatureTree, meaning_of}
 use Rattle.c_type_expressions.specs.Findings.{FoundTree, Checked, gives, next, with_one, with_two, with_three, judged, restored}
 use Rattle.c_type_expressions.specs.Judgements.{Meant, valued, number_of, named, literal_met, stepping, prefixed, cast, size_value, measured, sized, arithmetic_of, assignment_by, Passed, passed_to, before, uncallable, noted, called}
 
--- a constant token of value 0, perhaps in parentheses
+-- a constant token of value 0
+abbrev pub is_zero_core : CoreTree → Bool
+is_zero_core (Constantly spot value type) = value == 0
+is_zero_core _ = false
+
+-- the same, perhaps in parentheses
 abbrev pub is_zero : ExpressionTree → Bool
-is_zero (Constant spot value type) = value == 0
-is_zero (Parenthesized extent e) = is_zero e
-is_zero _ = false
+is_zero e = is_zero_core (core_of e)
 
 -- the number of a function, where a name means one
 abbrev pub function_meant : Option Meaning → Option ℕ
 function_meant (Some (Function k)) = Some k
 function_meant _ = None
 
+-- the number of the function that is named
+abbrev pub number_of_core : Names → CoreTree → Option ℕ
+number_of_core names (Named n) = function_meant (meaning_of names n.name)
+number_of_core names _ = None
+
 -- the number of the function that an expression names, perhaps in parentheses
 abbrev pub function_number : Names → ExpressionTree → Option ℕ
-function_number names (Name n) = function_meant (meaning_of names n.name)
-function_number names (Parenthesized extent e) = function_number names e
-function_number names _ = None
+function_number names e = number_of_core names (core_of e)
 
 -- the function of a number
 abbrev pub function_at : Names → Option ℕ → Option SignatureTree
@@ -58,7 +65,7 @@ module _ (names : Names) where
     typed (Constant spot value type) s = gives (Some (number_of type (pos value))) s
     typed (Literal extent bytes) s = literal_met extent.first bytes s
     typed (Parenthesized extent e) s = typed e s
-    typed (Index e i last) s = next (valued (typed e s)) (λ a t. next (valued (typed i t)) (λ b. with_two a b (λ v w. judged (element_of v w) E22 (first_of e) last)))
+    typed (Index e i last) s = next (valued (typed e s)) (λ a t. next (valued (typed i t)) (λ b. with_two a b (λ v w. judged (element_of v w) OPERAND_TYPES (first_of e) last)))
     typed (Call e all last) s = call_of (function_named names e) (valued (typed e s)) (typed_all all) (first_of e) last s
     typed (PostIncrement e last) s = next (typed e s) (λ a. with_one a (stepping Up Old (first_of e) last))
     typed (PostDecrement e last) s = next (typed e s) (λ a. with_one a (stepping Down Old (first_of e) last))
@@ -69,9 +76,9 @@ module _ (names : Names) where
     typed (SizeofArray extent type stars e) s =
         next (valued (typed e s)) (λ a. with_one a (sized (scalar_size (record { base = type; stars = stars })) extent.first extent.last))
     typed (Binary o a b) s =
-        next (valued (typed a s)) (λ x t. next (valued (typed b t)) (λ y. with_two x y (λ v w. judged (option_map IsValue (combined (operation_of o) v w (is_zero a) (is_zero b))) E22 (first_of a) (last_of b))))
+        next (valued (typed a s)) (λ x t. next (valued (typed b t)) (λ y. with_two x y (λ v w. judged (option_map IsValue (combined (operation_of o) v w (is_zero a) (is_zero b))) OPERAND_TYPES (first_of a) (last_of b))))
     typed (Conditional c a b) s =
-        next (valued (typed c s)) (λ x t. next (valued (typed a t)) (λ y u. next (valued (typed b u)) (λ z. with_three x y z (λ v w r. judged (option_map IsValue (conditional v w r (is_zero a) (is_zero b))) E22 (first_of c) (last_of b)))))
+        next (valued (typed c s)) (λ x t. next (valued (typed a t)) (λ y u. next (valued (typed b u)) (λ z. with_three x y z (λ v w r. judged (option_map IsValue (conditional v w r (is_zero a) (is_zero b))) OPERAND_TYPES (first_of c) (last_of b)))))
     typed (Assignment o a b) s =
         next (typed a s) (λ x t. next (valued (typed b t)) (λ y. with_two x y (assignment_by (arithmetic_of o) (is_zero b) (first_of a) (last_of b))))
     typed (Comma a b) s = next (valued (typed a s)) (λ x t. next (valued (typed b t)) (λ y. with_two x y (λ v w. gives (Some (IsValue (sequenced v w))))))

@@ -2,6 +2,7 @@
 use Rattle.std.specs.Prelude.{ℕ, suc, ◌+◌, ◌*◌, ◌%◌, ◌^◌, ◌==◌, ℤ, pos, negsuc, List, [], ◌∷◌, length, Bool, true, false, ◌&&◌, Option, Some, None, if◌then◌else◌}
 use Rattle.std.specs.Option.{option_map}
 use Rattle.debug_records.specs.declared.source.Spot.{Spot}
+use Rattle.debug_records.specs.declared.code.TheConstants.Code.{ARGUMENTS, NOT_AN_LVALUE, OPERAND_TYPES, UNDECLARED, UNEXPECTED_KEYWORD}
 use Rattle.c_tree.specs.declared.types.IntegerType.{IntegerType}
 use Rattle.c_tree.specs.declared.types.IntegerType.TheVariants.{Char, Int, UnsignedInt}
 use Rattle.c_tree.specs.declared.types.Base.{Base}
@@ -37,7 +38,6 @@ use Rattle.c_type_values.specs.Values.{ValueTree, MeantTree, IsObject, IsValue, 
 use Rattle.c_type_values.specs.Pointers.{address, dereferenced}
 use Rattle.c_type_values.specs.Operations.{is_scalar, signed_value, negated, discarded}
 use Rattle.c_type_values.specs.Writing.{is_modifiable, is_updatable, stepped, assigned, updated}
-use Rattle.c_type_expressions.specs.Codes.{E11, E20, E22, E23, E24}
 use Rattle.c_type_expressions.specs.declared.names.Meaning.{Meaning}
 use Rattle.c_type_expressions.specs.declared.names.Meaning.TheVariants.{Variable, Function, EndOfFile}
 use Rattle.c_type_expressions.specs.Names.{SignatureTree}
@@ -65,8 +65,8 @@ address_of (object.Literal k) = Address (object.Literal k) 0
 abbrev pub named : Option Meaning → Spot → FoundTree → Meant
 named (Some (Variable object of)) spot s = gives (Some (IsObject of (Named object of) (address_of object))) s
 named (Some EndOfFile) spot s = gives (Some (number_of Int (negsuc 0))) s
-named (Some (Function k)) spot s = gives None (faulted E11 spot spot.at s)
-named None spot s = gives None (faulted E20 spot spot.at s)
+named (Some (Function k)) spot s = gives None (faulted UNEXPECTED_KEYWORD spot spot.at s)
+named None spot s = gives None (faulted UNDECLARED spot spot.at s)
 
 -- a string literal: an object of its own, an array of `char` with a zero behind its bytes
 abbrev pub literal_type : List ℕ → ObjectType
@@ -78,29 +78,29 @@ literal_met first bytes s =
 
 -- E23, but where the flag says that what is written can be
 abbrev pub writing : Bool → Spot → ℕ → FoundTree → FoundTree
-writing fine first last s = if fine then s else faulted E23 first last s
+writing fine first last s = if fine then s else faulted NOT_AN_LVALUE first last s
 
 -- `++` and `--`: on a scalar (E22) that can be written (E23)
 abbrev pub stepping : Direction → Given → Spot → ℕ → MeantTree → FoundTree → Meant
 stepping d g first last m s =
-    if is_scalar (meant_type m) then gives (Some (IsValue (stepped d g m))) (writing (is_modifiable m) first last s) else gives None (faulted E22 first last s)
+    if is_scalar (meant_type m) then gives (Some (IsValue (stepped d g m))) (writing (is_modifiable m) first last s) else gives None (faulted OPERAND_TYPES first last s)
 
 -- the operators before an operand
 abbrev pub prefixed : PrefixOperator → Spot → ℕ → MeantTree → FoundTree → Meant
-prefixed prefix.AddressOf first last m = judged (option_map IsValue (address m)) E23 first last
-prefixed prefix.Indirection first last m = judged (dereferenced (as_value m)) E22 first last
-prefixed prefix.Plus first last m = judged (option_map IsValue (signed_value Plus (as_value m))) E22 first last
-prefixed prefix.Minus first last m = judged (option_map IsValue (signed_value Minus (as_value m))) E22 first last
-prefixed prefix.Complement first last m = judged (option_map IsValue (signed_value Complement (as_value m))) E22 first last
-prefixed prefix.Not first last m = judged (option_map IsValue (negated (as_value m))) E22 first last
+prefixed prefix.AddressOf first last m = judged (option_map IsValue (address m)) NOT_AN_LVALUE first last
+prefixed prefix.Indirection first last m = judged (dereferenced (as_value m)) OPERAND_TYPES first last
+prefixed prefix.Plus first last m = judged (option_map IsValue (signed_value Plus (as_value m))) OPERAND_TYPES first last
+prefixed prefix.Minus first last m = judged (option_map IsValue (signed_value Minus (as_value m))) OPERAND_TYPES first last
+prefixed prefix.Complement first last m = judged (option_map IsValue (signed_value Complement (as_value m))) OPERAND_TYPES first last
+prefixed prefix.Not first last m = judged (option_map IsValue (negated (as_value m))) OPERAND_TYPES first last
 prefixed prefix.Increment first last m = stepping Up New first last m
 prefixed prefix.Decrement first last m = stepping Down New first last m
 
 -- a cast to an integer type: of an integer (E11 for a pointer, E22 for no value)
 abbrev pub cast_from : ValueType → IntegerType → Spot → ℕ → ValueTree → FoundTree → Meant
 cast_from (Integer u) t first last v s = gives (Some (IsValue (record { of = Integer t; tree = Convert t v.tree; constant = converted_constant t v.constant }))) s
-cast_from (Pointer of) t first last v s = gives None (faulted E11 first last s)
-cast_from Void t first last v s = gives None (faulted E22 first last s)
+cast_from (Pointer of) t first last v s = gives None (faulted UNEXPECTED_KEYWORD first last s)
+cast_from Void t first last v s = gives None (faulted OPERAND_TYPES first last s)
 
 abbrev pub cast_to : Base → Spot → ℕ → ValueTree → FoundTree → Meant
 cast_to base.Void first last v s = gives (Some (IsValue (discarded v))) s
@@ -108,7 +108,7 @@ cast_to (base.Integer t) first last v s = cast_from v.of t first last v s
 
 -- a cast: never to a pointer (E11)
 abbrev pub cast : TypeName → Spot → ℕ → Option ValueTree → FoundTree → Meant
-cast to first last v s = if to.stars == 0 then with_one v (cast_to to.base first last) s else gives None (faulted E11 first last s)
+cast to first last v s = if to.stars == 0 then with_one v (cast_to to.base first last) s else gives None (faulted UNEXPECTED_KEYWORD first last s)
 
 -- a size, an unsigned int
 abbrev pub size_value : ℕ → MeantTree
@@ -121,7 +121,7 @@ size_of (IsValue v) = if is_scalar v.of then Some (value_size v.of) else None
 
 -- `sizeof` of an expression (E22 for no value)
 abbrev pub measured : Spot → ℕ → MeantTree → FoundTree → Meant
-measured first last m = judged (option_map size_value (size_of m)) E22 first last
+measured first last m = judged (option_map size_value (size_of m)) OPERAND_TYPES first last
 
 -- how many elements an array has: a positive integer constant expression
 abbrev pub count_of : ValueType → Constancy → Option ℕ
@@ -130,7 +130,7 @@ count_of _ _ = None
 
 -- the size of an array type in `sizeof`, of so many bytes an element (E11)
 abbrev pub sized : ℕ → Spot → ℕ → ValueTree → FoundTree → Meant
-sized element first last v = judged (option_map (λ n. size_value (element * n)) (count_of v.of v.constant)) E11 first last
+sized element first last v = judged (option_map (λ n. size_value (element * n)) (count_of v.of v.constant)) UNEXPECTED_KEYWORD first last
 
 -- `=`: a value as if assigned to the left side's type (E22), which can be written (E23)
 abbrev pub assignable : ValueType → ValueTree → Bool → Option ValueTree
@@ -139,12 +139,12 @@ assignable to v zero = converted v to zero
 
 abbrev pub assigning : Option ValueTree → Spot → ℕ → MeantTree → FoundTree → Meant
 assigning (Some v) first last m s = gives (Some (IsValue (assigned m (Some v)))) (writing (is_modifiable m) first last s)
-assigning None first last m s = gives (Some (IsValue (assigned m None))) (writing (is_modifiable m) first last (faulted E22 first last s))
+assigning None first last m s = gives (Some (IsValue (assigned m None))) (writing (is_modifiable m) first last (faulted OPERAND_TYPES first last s))
 
 -- `+=` and the like: types that the operator takes (E22), on what can be written (E23)
 abbrev pub updating : declared-arithmetic.Arithmetic → Spot → ℕ → MeantTree → ValueTree → FoundTree → Meant
 updating o first last m v s =
-    gives (Some (IsValue (updated o m v))) (writing (is_modifiable m) first last (if is_updatable o (meant_type m) v.of then s else faulted E22 first last s))
+    gives (Some (IsValue (updated o m v))) (writing (is_modifiable m) first last (if is_updatable o (meant_type m) v.of then s else faulted OPERAND_TYPES first last s))
 
 -- the arithmetic of an operator that assigns; none of `=`
 abbrev pub arithmetic_of : AssignmentOperator → Option declared-arithmetic.Arithmetic
@@ -198,7 +198,7 @@ before one q = gives (record { trees = typed-tree.first one.0 q.trees; fit = one
 
 -- a call of what has a type but is no function (E22)
 abbrev pub uncallable : Spot → ℕ → Option ValueTree → FoundTree → Meant
-uncallable first last (Some v) s = gives None (faulted E22 first last s)
+uncallable first last (Some v) s = gives None (faulted OPERAND_TYPES first last s)
 uncallable first last None s = gives None s
 
 -- a call of a function: a call of one that is never defined is noted for later
@@ -213,4 +213,4 @@ call_tree None all = Null
 -- a call's value is of the result's type; the arguments must fit (E24)
 abbrev pub called : SignatureTree → Spot → ℕ → Passed → FoundTree → Meant
 called g first last q s =
-    gives (Some (IsValue (record { of = g.result; tree = call_tree g.callee q.trees; constant = Varies }))) (if q.fit then s else faulted E24 first last s)
+    gives (Some (IsValue (record { of = g.result; tree = call_tree g.callee q.trees; constant = Varies }))) (if q.fit then s else faulted ARGUMENTS first last s)

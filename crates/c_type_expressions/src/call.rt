@@ -2,8 +2,8 @@
 
 ghost use Rattle.std.specs.Prelude.{◌≡◌, IfOk, OnOk, map, slice_get};
 ghost use Rattle.std.specs.Option.{option_map};
-ghost use Rattle.c_tree.specs.TypedExpressions.{arguments_view, rvalue_view};
-ghost use Rattle.c_type_values.specs.Values.{meant_view, value_view};
+ghost use Rattle.c_tree.specs.TypedExpressions.{arguments_view};
+ghost use Rattle.c_type_values.specs.Values.{meant_view, node_view, value_view};
 ghost use Rattle.c_type_expressions.specs.Findings.{findings_view, gives};
 ghost use Rattle.c_type_expressions.specs.Judgements.{argument_chain, call_tree, called, noted, passed_to, uncallable};
 ghost use Rattle.c_type_expressions.specs.Names.{signature_view};
@@ -12,7 +12,7 @@ use crate::findings::Findings;
 use crate::names::Signature;
 use c_tree::{Arguments, Callee, Rvalue, Scalar};
 use c_type_rules::{Constancy, loaded};
-use c_type_values::{Meant, Value, converted};
+use c_type_values::{Meant, Value, converted, given, node};
 use debug_records::{Code, Spot};
 use std::alloc::{AllocError, Global};
 
@@ -29,31 +29,34 @@ pub fn passed_to(
     parameter: Option<Scalar>,
     value: Option<Value>,
     is_zero: bool,
-) -> Result<(Rvalue, bool), AllocError>
-    ensures { IfOk result (λ p. (rvalue_view p.0, p.1) ≡ passed_to parameter (option_map value_view value) is_zero) }
+) -> Result<(Box<Rvalue>, bool), AllocError>
+    ensures { IfOk result (λ p. (node_view p.0, p.1) ≡ passed_to parameter (option_map value_view value) is_zero) }
 {
     let Some(parameter) = parameter else {
-        return Ok((Rvalue::Null, false));
+        let nothing = given!(node(alloc, Rvalue::Null));
+        return Ok((nothing, false));
     };
     let Some(value) = value else {
-        return Ok((Rvalue::Null, true));
+        let nothing = given!(node(alloc, Rvalue::Null));
+        return Ok((nothing, true));
     };
-    let made = converted(alloc, value, loaded(parameter), is_zero)?;
-    match made {
+    match given!(converted(alloc, value, loaded(parameter), is_zero)) {
         Some(value) => Ok((value.tree, true)),
-        None => Ok((Rvalue::Null, false)),
+        None => {
+            let nothing = given!(node(alloc, Rvalue::Null));
+            Ok((nothing, false))
+        }
     }
 }
 
 /// The arguments of a call, in a list of the tree's own.
-pub fn argument_list(alloc: Global, mut values: Vec<Rvalue>) -> Result<Arguments, AllocError>
-    ensures { IfOk result (λ all. arguments_view all ≡ argument_chain (map rvalue_view values.items)) }
+pub fn argument_list(alloc: Global, mut values: Vec<Box<Rvalue>>) -> Result<Arguments, AllocError>
+    ensures { IfOk result (λ all. arguments_view all ≡ argument_chain (map node_view values.items)) }
 {
     let mut all = Arguments::End;
     while let Some(value) = values.pop() {
-        let first = Box::new(alloc, value)?;
-        let rest = Box::new(alloc, all)?;
-        all = Arguments::More(first, rest);
+        let rest = node(alloc, all)?;
+        all = Arguments::More(value, rest);
     }
     Ok(all)
 }
@@ -68,7 +71,7 @@ pub fn uncallable(
     ensures { IfOk result (λ m. gives (option_map meant_view m) (findings_view found.new) ≡ uncallable first last (option_map value_view operand) (findings_view found.old)) }
 {
     if operand.is_some() {
-        found.fault(Code::OPERAND_TYPES, first, last)?;
+        given!(found.fault(Code::OPERAND_TYPES, first, last));
     }
     Ok(None)
 }
@@ -78,7 +81,7 @@ pub fn noted(found: &mut Findings, callee: Option<Callee>, first: Spot) -> Resul
     ensures { OnOk result (findings_view found.new ≡ noted callee first (findings_view found.old)) }
 {
     if callee.is_none() {
-        found.call_undefined(first)?;
+        given!(found.call_undefined(first));
     }
     Ok(())
 }
@@ -88,15 +91,19 @@ fn call_tree(
     alloc: Global,
     callee: Option<Callee>,
     arguments: Arguments,
-) -> Result<Rvalue, AllocError>
-    ensures { IfOk result (λ r. rvalue_view r ≡ call_tree callee (arguments_view arguments)) }
+) -> Result<Box<Rvalue>, AllocError>
+    ensures { IfOk result (λ r. node_view r ≡ call_tree callee (arguments_view arguments)) }
 {
     match callee {
-        None => Ok(Rvalue::Null),
-        Some(callee) => Ok(Rvalue::Call {
-            callee,
-            arguments: Box::new(alloc, arguments)?,
-        }),
+        None => {
+            let nothing = given!(node(alloc, Rvalue::Null));
+            Ok(nothing)
+        }
+        Some(callee) => {
+            let arguments = given!(node(alloc, arguments));
+            let tree = given!(node(alloc, Rvalue::Call { callee, arguments }));
+            Ok(tree)
+        }
     }
 }
 
@@ -113,9 +120,9 @@ pub fn called(
     ensures { IfOk result (λ m. gives (option_map meant_view m) (findings_view found.new) ≡ called (signature_view function.now) first last (record { trees = arguments_view arguments; fit = fit }) (findings_view found.old)) }
 {
     if !fit {
-        found.fault(Code::ARGUMENTS, first, last)?;
+        given!(found.fault(Code::ARGUMENTS, first, last));
     }
-    let tree = call_tree(alloc, function.callee, arguments)?;
+    let tree = given!(call_tree(alloc, function.callee, arguments));
     Ok(Some(Meant::Value(Value {
         of: function.result,
         tree,

@@ -37,13 +37,21 @@ pub fn expression(
 {
     match e {
         Expression::Name(identifier) => {
-            named(found, names.meaning(&identifier.name), identifier.spot)
+            named(
+                alloc,
+                found,
+                names.meaning(&identifier.name),
+                identifier.spot,
+            )
         }
         Expression::Constant {
             value,
             integer_type,
             ..
-        } => Ok(Some(number_of(*integer_type, i64::from(*value)))),
+        } => {
+            let number = number_of(alloc, *integer_type, i64::from(*value))?;
+            Ok(Some(number))
+        }
         Expression::Literal { extent, bytes } => literal_met(alloc, found, extent.first, bytes),
         Expression::Parenthesized { inner, .. } => expression(alloc, names, found, inner),
         Expression::Postfix { operand, suffixes } => {
@@ -84,7 +92,7 @@ pub fn expression(
             let literals = found.literals.len();
             let meant = expression(alloc, names, found, operand)?;
             found.forget(undefined, literals);
-            measured(found, meant, *spot, operand.last())
+            measured(alloc, found, meant, *spot, operand.last())
         }
         Expression::SizeofType {
             extent,
@@ -97,10 +105,14 @@ pub fn expression(
                 stars: *stars,
             };
             match size {
-                None => Ok(Some(size_value(u128::from(scalar_size(element))))),
+                None => {
+                    let size = size_value(alloc, u128::from(scalar_size(element)))?;
+                    Ok(Some(size))
+                }
                 Some(size) => {
                     let count = value(alloc, names, found, size)?;
                     sized(
+                        alloc,
                         found,
                         count,
                         scalar_size(element),

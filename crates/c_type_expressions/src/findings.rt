@@ -8,7 +8,7 @@ use debug_records::{Code, Spot};
 use std::alloc::{AllocError, Global};
 
 /// A rule that a construct breaks.
-#[derive(Clone, Copy, PartialEq, Eq)]
+#[derive(Clone, Copy)]
 pub struct Fault {
     /// The offset of the construct's last token.
     pub last: u32,

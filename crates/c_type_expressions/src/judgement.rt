@@ -2,10 +2,10 @@
 
 ghost use Rattle.std.specs.Prelude.{◌≡◌, IfOk, OnOk, Some, length, map};
 ghost use Rattle.std.specs.Option.{option_map};
+ghost use Rattle.debug_records.specs.declared.code.TheConstants.Code.{OPERAND_TYPES};
 ghost use Rattle.c_type_values.specs.Values.{IsValue, as_value, meant_view, value_view};
 ghost use Rattle.c_type_values.specs.Operations.{combined, conditional, operation_of, sequenced, signed_value};
 ghost use Rattle.c_type_values.specs.Pointers.{element_of};
-ghost use Rattle.c_type_expressions.specs.Codes.{E11, E22};
 ghost use Rattle.c_type_expressions.specs.Findings.{FoundTree, findings_view, gives, judged, with_one, with_three, with_two};
 ghost use Rattle.c_type_expressions.specs.Judgements.{address_of, arithmetic_of, assignable, assigning, assignment_by, cast, cast_from, cast_to, count_of, literal_met, measured, named, number_of, prefixed, size_of, size_value, sized, stepping, updating, writing};
 
@@ -18,8 +18,8 @@ use c_tree::{
 use c_type_rules::{Constancy, converted_constant, object_size, value_size};
 use c_type_values::{
     Meant, Value, address, as_value, assigned, combined, conditional, converted, dereferenced,
-    discarded, element_of, is_modifiable, is_scalar, is_updatable, meant_type, negated, sequenced,
-    signed_value, stepped, updated,
+    discarded, element_of, given, is_modifiable, is_scalar, is_updatable, meant_type, negated,
+    node, sequenced, signed_value, stepped, updated,
 };
 use debug_records::{Code, Spot};
 use std::alloc::{AllocError, Global};
@@ -31,7 +31,7 @@ pub fn valued(alloc: Global, meant: Option<Meant>) -> Result<Option<Value>, Allo
     match meant {
         None => Ok(None),
         Some(meant) => {
-            let value = as_value(alloc, meant)?;
+            let value = given!(as_value(alloc, meant));
             Ok(Some(value))
         }
     }
@@ -48,7 +48,7 @@ fn judged(
     ensures { IfOk result (λ m. gives (option_map meant_view m) (findings_view found.new) ≡ judged (option_map meant_view meant) code first last (findings_view found.old)) }
 {
     if meant.is_none() {
-        found.fault(code, first, last)?;
+        given!(found.fault(code, first, last));
     }
     Ok(meant)
 }
@@ -66,24 +66,28 @@ fn judged_value(
     match value {
         Some(value) => Ok(Some(Meant::Value(value))),
         None => {
-            found.fault(code, first, last)?;
+            given!(found.fault(code, first, last));
             Ok(None)
         }
     }
 }
 
 /// A number of an integer type.
-pub fn number_of(of: IntegerType, number: i64) -> Meant
-    ensures { meant_view result ≡ number_of of number }
+pub fn number_of(alloc: Global, of: IntegerType, number: i64) -> Result<Meant, AllocError>
+    ensures { IfOk result (λ m. meant_view m ≡ number_of of number) }
 {
-    Meant::Value(Value {
-        of: ValueType::Integer(of),
-        tree: Rvalue::Constant {
+    let tree = given!(node(
+        alloc,
+        Rvalue::Constant {
             value: number,
-            integer_type: of,
-        },
+            integer_type: of
+        }
+    ));
+    Ok(Meant::Value(Value {
+        of: ValueType::Integer(of),
+        tree,
         constant: Constancy::Known(number),
-    })
+    }))
 }
 
 /// The address of an object, where it is a constant.
@@ -98,6 +102,7 @@ fn address_of(object: Object) -> Constancy
 
 /// A name: a variable, or the constant `EOF`. A function's name is left out of the language but in a call.
 pub fn named(
+    alloc: Global,
     found: &mut Findings,
     meaning: Option<Meaning>,
     spot: Spot,
@@ -105,25 +110,31 @@ pub fn named(
     ensures { IfOk result (λ m. gives (option_map meant_view m) (findings_view found.new) ≡ named meaning spot (findings_view found.old)) }
 {
     match meaning {
-        Some(Meaning::Variable { object, of }) => Ok(Some(Meant::Object {
-            of,
-            tree: Lvalue::Named { object, of },
-            constant: address_of(object),
-        })),
-        Some(Meaning::EndOfFile) => Ok(Some(number_of(IntegerType::Int, -1))),
+        Some(Meaning::Variable { object, of }) => {
+            let tree = given!(node(alloc, Lvalue::Named { object, of }));
+            Ok(Some(Meant::Object {
+                of,
+                tree,
+                constant: address_of(object),
+            }))
+        }
+        Some(Meaning::EndOfFile) => {
+            let number = given!(number_of(alloc, IntegerType::Int, -1));
+            Ok(Some(number))
+        }
         Some(Meaning::Function(_)) => {
-            found.fault(Code::UNEXPECTED_KEYWORD, spot, spot.at)?;
+            given!(found.fault(Code::UNEXPECTED_KEYWORD, spot, spot.at));
             Ok(None)
         }
         None => {
-            found.fault(Code::UNDECLARED, spot, spot.at)?;
+            given!(found.fault(Code::UNDECLARED, spot, spot.at));
             Ok(None)
         }
     }
 }
 
 /// A count as a number of 32 bits. More than those take more memory than there is.
-fn counted(count: usize) -> Result<u32, AllocError>
+pub fn numbered(count: usize) -> Result<u32, AllocError>
     ensures { IfOk result (λ n. n ≡ count) }
 {
     if count > 4294967295 {
@@ -141,10 +152,10 @@ pub fn literal_met(
 ) -> Result<Option<Meant>, AllocError>
     ensures { IfOk result (λ m. gives (option_map meant_view m) (findings_view found.new) ≡ literal_met first bytes.now (findings_view found.old)) }
 {
-    let number = counted(found.literals.len())?;
-    let length = counted(bytes.len())?;
-    let count = counted(length as usize + 1)?;
-    found.literal(alloc, first, bytes)?;
+    let number = given!(numbered(found.literals.len()));
+    let length = given!(numbered(bytes.len()));
+    let count = given!(numbered(length as usize + 1));
+    given!(found.literal(alloc, first, bytes));
     let of = ObjectType::Array {
         element: Scalar {
             base: IntegerType::Char,
@@ -153,9 +164,10 @@ pub fn literal_met(
         count,
     };
     let object = Object::Literal(number);
+    let tree = given!(node(alloc, Lvalue::Named { object, of }));
     Ok(Some(Meant::Object {
         of,
-        tree: Lvalue::Named { object, of },
+        tree,
         constant: Constancy::Address(object, 0),
     }))
 }
@@ -165,7 +177,7 @@ fn writing(found: &mut Findings, is_fine: bool, first: Spot, last: u32) -> Resul
     ensures { OnOk result (findings_view found.new ≡ writing is_fine first last (findings_view found.old)) }
 {
     if !is_fine {
-        found.fault(Code::NOT_AN_LVALUE, first, last)?;
+        given!(found.fault(Code::NOT_AN_LVALUE, first, last));
     }
     Ok(())
 }
@@ -186,11 +198,11 @@ pub fn stepping(
         return Ok(None);
     };
     if !is_scalar(meant_type(&meant)) {
-        found.fault(Code::OPERAND_TYPES, first, last)?;
+        given!(found.fault(Code::OPERAND_TYPES, first, last));
         return Ok(None);
     }
-    writing(found, is_modifiable(&meant), first, last)?;
-    let value = stepped(alloc, direction, given, meant)?;
+    given!(writing(found, is_modifiable(&meant), first, last));
+    let value = given!(stepped(alloc, direction, given, meant));
     Ok(Some(Meant::Value(value)))
 }
 
@@ -203,10 +215,10 @@ fn signing(
     first: Spot,
     last: u32,
 ) -> Result<Option<Meant>, AllocError>
-    ensures { IfOk result (λ m. gives (option_map meant_view m) (findings_view found.new) ≡ judged (option_map IsValue (signed_value sign (as_value (meant_view meant)))) E22 first last (findings_view found.old)) }
+    ensures { IfOk result (λ m. gives (option_map meant_view m) (findings_view found.new) ≡ judged (option_map IsValue (signed_value sign (as_value (meant_view meant)))) OPERAND_TYPES first last (findings_view found.old)) }
 {
-    let value = as_value(alloc, meant)?;
-    let made = signed_value(alloc, sign, value)?;
+    let value = given!(as_value(alloc, meant));
+    let made = given!(signed_value(alloc, sign, value));
     judged_value(found, made, Code::OPERAND_TYPES, first, last)
 }
 
@@ -226,20 +238,20 @@ pub fn prefixed(
     };
     match operator {
         PrefixOperator::AddressOf => {
-            let made = address(alloc, operand)?;
+            let made = given!(address(alloc, operand));
             judged_value(found, made, Code::NOT_AN_LVALUE, first, last)
         }
         PrefixOperator::Indirection => {
-            let value = as_value(alloc, operand)?;
-            let made = dereferenced(alloc, value)?;
+            let value = given!(as_value(alloc, operand));
+            let made = given!(dereferenced(alloc, value));
             judged(found, made, Code::OPERAND_TYPES, first, last)
         }
         PrefixOperator::Plus => signing(alloc, found, Sign::Plus, operand, first, last),
         PrefixOperator::Minus => signing(alloc, found, Sign::Minus, operand, first, last),
         PrefixOperator::Complement => signing(alloc, found, Sign::Complement, operand, first, last),
         PrefixOperator::Not => {
-            let value = as_value(alloc, operand)?;
-            let made = negated(alloc, value)?;
+            let value = given!(as_value(alloc, operand));
+            let made = given!(negated(alloc, value));
             judged_value(found, made, Code::OPERAND_TYPES, first, last)
         }
         PrefixOperator::Increment => stepping(
@@ -275,20 +287,26 @@ fn cast_from(
     ensures { IfOk result (λ m. gives (option_map meant_view m) (findings_view found.new) ≡ cast_from (value_view value).of to first last (value_view value) (findings_view found.old)) }
 {
     match value.of {
-        ValueType::Integer(_) => Ok(Some(Meant::Value(Value {
-            of: ValueType::Integer(to),
-            tree: Rvalue::Convert {
-                to,
-                operand: Box::new(alloc, value.tree)?,
-            },
-            constant: converted_constant(to, value.constant),
-        }))),
+        ValueType::Integer(_) => {
+            let tree = given!(node(
+                alloc,
+                Rvalue::Convert {
+                    to,
+                    operand: value.tree
+                }
+            ));
+            Ok(Some(Meant::Value(Value {
+                of: ValueType::Integer(to),
+                tree,
+                constant: converted_constant(to, value.constant),
+            })))
+        }
         ValueType::Pointer(_) => {
-            found.fault(Code::UNEXPECTED_KEYWORD, first, last)?;
+            given!(found.fault(Code::UNEXPECTED_KEYWORD, first, last));
             Ok(None)
         }
         ValueType::Void => {
-            found.fault(Code::OPERAND_TYPES, first, last)?;
+            given!(found.fault(Code::OPERAND_TYPES, first, last));
             Ok(None)
         }
     }
@@ -306,7 +324,7 @@ pub fn cast(
     ensures { IfOk result (λ m. gives (option_map meant_view m) (findings_view found.new) ≡ cast to first last (option_map value_view value) (findings_view found.old)) }
 {
     if to.stars != 0 {
-        found.fault(Code::UNEXPECTED_KEYWORD, first, last)?;
+        given!(found.fault(Code::UNEXPECTED_KEYWORD, first, last));
         return Ok(None);
     }
     let Some(value) = value else {
@@ -314,7 +332,7 @@ pub fn cast(
     };
     match to.base {
         Base::Void => {
-            let made = discarded(alloc, value)?;
+            let made = given!(discarded(alloc, value));
             Ok(Some(Meant::Value(made)))
         }
         Base::Integer(integer_type) => cast_from(alloc, found, integer_type, value, first, last),
@@ -322,10 +340,10 @@ pub fn cast(
 }
 
 /// A size, an `unsigned int`.
-pub fn size_value(size: u128) -> Meant
-    ensures { meant_view result ≡ size_value size }
+pub fn size_value(alloc: Global, size: u128) -> Result<Meant, AllocError>
+    ensures { IfOk result (λ m. meant_view m ≡ size_value size) }
 {
-    number_of(IntegerType::UnsignedInt, (size % 4294967296) as i64)
+    number_of(alloc, IntegerType::UnsignedInt, (size % 4294967296) as i64)
 }
 
 /// How many bytes `sizeof` gives of what an expression means; none of no value.
@@ -346,6 +364,7 @@ fn size_of(meant: &Meant) -> Option<u64>
 
 /// `sizeof` of an expression.
 pub fn measured(
+    alloc: Global,
     found: &mut Findings,
     meant: Option<Meant>,
     first: Spot,
@@ -357,9 +376,12 @@ pub fn measured(
         return Ok(None);
     };
     match size_of(&operand) {
-        Some(size) => Ok(Some(size_value(u128::from(size)))),
+        Some(size) => {
+            let number = given!(size_value(alloc, u128::from(size)));
+            Ok(Some(number))
+        }
         None => {
-            found.fault(Code::OPERAND_TYPES, first, last)?;
+            given!(found.fault(Code::OPERAND_TYPES, first, last));
             Ok(None)
         }
     }
@@ -379,6 +401,7 @@ pub fn count_of(of: ValueType, constant: Constancy) -> Option<u64>
 
 /// The size of an array type, of so many bytes an element.
 pub fn sized(
+    alloc: Global,
     found: &mut Findings,
     value: Option<Value>,
     element: u32,
@@ -391,9 +414,13 @@ pub fn sized(
         return Ok(None);
     };
     match count_of(value.of, value.constant) {
-        Some(count) => Ok(Some(size_value(u128::from(element) * u128::from(count)))),
+        Some(count) => {
+            let size = u128::from(element) * u128::from(count);
+            let number = given!(size_value(alloc, size));
+            Ok(Some(number))
+        }
         None => {
-            found.fault(Code::UNEXPECTED_KEYWORD, first, last)?;
+            given!(found.fault(Code::UNEXPECTED_KEYWORD, first, last));
             Ok(None)
         }
     }
@@ -408,11 +435,11 @@ pub fn indexed(
     first: Spot,
     last: u32,
 ) -> Result<Option<Meant>, AllocError>
-    ensures { IfOk result (λ m. gives (option_map meant_view m) (findings_view found.new) ≡ with_two (option_map value_view left) (option_map value_view right) (λ v w. judged (element_of v w) E22 first last) (findings_view found.old)) }
+    ensures { IfOk result (λ m. gives (option_map meant_view m) (findings_view found.new) ≡ with_two (option_map value_view left) (option_map value_view right) (λ v w. judged (element_of v w) OPERAND_TYPES first last) (findings_view found.old)) }
 {
     match (left, right) {
         (Some(left), Some(right)) => {
-            let made = element_of(alloc, left, right)?;
+            let made = given!(element_of(alloc, left, right));
             judged(found, made, Code::OPERAND_TYPES, first, last)
         }
         _ => Ok(None),
@@ -431,11 +458,11 @@ pub fn operated(
     first: Spot,
     last: u32,
 ) -> Result<Option<Meant>, AllocError>
-    ensures { IfOk result (λ m. gives (option_map meant_view m) (findings_view found.new) ≡ with_two (option_map value_view left) (option_map value_view right) (λ v w. judged (option_map IsValue (combined (operation_of operator) v w left_zero right_zero)) E22 first last) (findings_view found.old)) }
+    ensures { IfOk result (λ m. gives (option_map meant_view m) (findings_view found.new) ≡ with_two (option_map value_view left) (option_map value_view right) (λ v w. judged (option_map IsValue (combined (operation_of operator) v w left_zero right_zero)) OPERAND_TYPES first last) (findings_view found.old)) }
 {
     match (left, right) {
         (Some(left), Some(right)) => {
-            let made = combined(alloc, operator, left, right, left_zero, right_zero)?;
+            let made = given!(combined(alloc, operator, left, right, left_zero, right_zero));
             judged_value(found, made, Code::OPERAND_TYPES, first, last)
         }
         _ => Ok(None),
@@ -452,7 +479,7 @@ pub fn followed(
 {
     match (left, right) {
         (Some(left), Some(right)) => {
-            let made = sequenced(alloc, left, right)?;
+            let made = given!(sequenced(alloc, left, right));
             Ok(Some(Meant::Value(made)))
         }
         _ => Ok(None),
@@ -471,11 +498,13 @@ pub fn chosen(
     first: Spot,
     last: u32,
 ) -> Result<Option<Meant>, AllocError>
-    ensures { IfOk result (λ m. gives (option_map meant_view m) (findings_view found.new) ≡ with_three (option_map value_view condition) (option_map value_view then) (option_map value_view otherwise) (λ v w r. judged (option_map IsValue (conditional v w r then_zero other_zero)) E22 first last) (findings_view found.old)) }
+    ensures { IfOk result (λ m. gives (option_map meant_view m) (findings_view found.new) ≡ with_three (option_map value_view condition) (option_map value_view then) (option_map value_view otherwise) (λ v w r. judged (option_map IsValue (conditional v w r then_zero other_zero)) OPERAND_TYPES first last) (findings_view found.old)) }
 {
     match (condition, then, otherwise) {
         (Some(condition), Some(then), Some(otherwise)) => {
-            let made = conditional(alloc, condition, then, otherwise, then_zero, other_zero)?;
+            let made = given!(conditional(
+                alloc, condition, then, otherwise, then_zero, other_zero
+            ));
             judged_value(found, made, Code::OPERAND_TYPES, first, last)
         }
         _ => Ok(None),
@@ -509,10 +538,10 @@ fn assigning(
     ensures { IfOk result (λ m. gives (option_map meant_view m) (findings_view found.new) ≡ assigning (option_map value_view value) first last (meant_view meant) (findings_view found.old)) }
 {
     if value.is_none() {
-        found.fault(Code::OPERAND_TYPES, first, last)?;
+        given!(found.fault(Code::OPERAND_TYPES, first, last));
     }
-    writing(found, is_modifiable(&meant), first, last)?;
-    let made = assigned(alloc, meant, value)?;
+    given!(writing(found, is_modifiable(&meant), first, last));
+    let made = given!(assigned(alloc, meant, value));
     Ok(Some(Meant::Value(made)))
 }
 
@@ -529,10 +558,10 @@ fn updating(
     ensures { IfOk result (λ m. gives (option_map meant_view m) (findings_view found.new) ≡ updating operator first last (meant_view meant) (value_view value) (findings_view found.old)) }
 {
     if !is_updatable(operator, meant_type(&meant), value.of) {
-        found.fault(Code::OPERAND_TYPES, first, last)?;
+        given!(found.fault(Code::OPERAND_TYPES, first, last));
     }
-    writing(found, is_modifiable(&meant), first, last)?;
-    let made = updated(alloc, operator, meant, value)?;
+    given!(writing(found, is_modifiable(&meant), first, last));
+    let made = given!(updated(alloc, operator, meant, value));
     Ok(Some(Meant::Value(made)))
 }
 
@@ -573,7 +602,7 @@ pub fn assignment(
     };
     match arithmetic_of(operator) {
         None => {
-            let given = assignable(alloc, meant_type(&target), value, is_zero)?;
+            let given = given!(assignable(alloc, meant_type(&target), value, is_zero));
             assigning(alloc, found, target, given, first, last)
         }
         Some(arithmetic) => updating(alloc, found, arithmetic, target, value, first, last),

@@ -7,7 +7,7 @@ use c_tree::{Callee, Object, ObjectType, Scalar, ValueType};
 use indexmap::IndexMap;
 
 /// What a name means.
-#[derive(Clone, Copy, PartialEq, Eq)]
+#[derive(Clone, Copy)]
 pub enum Meaning {
     Variable { object: Object, of: ObjectType },
     /// A function, by its number among the signatures.

@@ -8,41 +8,15 @@ ghost use Rattle.c_type_expressions.specs.Expressions.{function_meant, function_
 ghost use Rattle.c_type_expressions.specs.Names.{names_view, signature_view};
 
 use crate::names::{Meaning, Names, Signature};
-use c_tree::{Expression, Suffix};
+use c_tree::{Core, Expression, Suffix};
 
 /// Whether an expression is a constant token of value 0, perhaps in parentheses.
 pub fn is_zero(e: &Expression) -> bool
     ensures { result ≡ is_zero (expression_view e.now) }
 {
-    match e {
-        Expression::Constant { value, .. } => *value == 0,
-        Expression::Parenthesized { inner, .. } => is_zero(inner),
-        Expression::Postfix { operand, suffixes } => {
-            if suffixes.is_empty() {
-                return is_zero(operand);
-            }
-            false
-        }
-        Expression::Binary { first, operations } => {
-            if operations.is_empty() {
-                return is_zero(first);
-            }
-            false
-        }
-        Expression::Comma { first, rest } => {
-            if rest.is_empty() {
-                return is_zero(first);
-            }
-            false
-        }
-        Expression::Name(_)
-        | Expression::Literal { .. }
-        | Expression::Prefix { .. }
-        | Expression::Cast { .. }
-        | Expression::SizeofExpression { .. }
-        | Expression::SizeofType { .. }
-        | Expression::Conditional { .. }
-        | Expression::Assignment { .. } => false,
+    match e.core() {
+        Core::Constant { value, .. } => value == 0,
+        Core::Name(_) | Core::Literal { .. } | Core::Compound => false,
     }
 }
 
@@ -60,35 +34,9 @@ fn function_meant(meaning: Option<Meaning>) -> Option<u32>
 pub fn function_number(names: &Names, e: &Expression) -> Option<u32>
     ensures { result ≡ function_number (names_view names.now) (expression_view e.now) }
 {
-    match e {
-        Expression::Name(identifier) => function_meant(names.meaning(&identifier.name)),
-        Expression::Parenthesized { inner, .. } => function_number(names, inner),
-        Expression::Postfix { operand, suffixes } => {
-            if suffixes.is_empty() {
-                return function_number(names, operand);
-            }
-            None
-        }
-        Expression::Binary { first, operations } => {
-            if operations.is_empty() {
-                return function_number(names, first);
-            }
-            None
-        }
-        Expression::Comma { first, rest } => {
-            if rest.is_empty() {
-                return function_number(names, first);
-            }
-            None
-        }
-        Expression::Constant { .. }
-        | Expression::Literal { .. }
-        | Expression::Prefix { .. }
-        | Expression::Cast { .. }
-        | Expression::SizeofExpression { .. }
-        | Expression::SizeofType { .. }
-        | Expression::Conditional { .. }
-        | Expression::Assignment { .. } => None,
+    match e.core() {
+        Core::Name(identifier) => function_meant(names.meaning(&identifier.name)),
+        Core::Constant { .. } | Core::Literal { .. } | Core::Compound => None,
     }
 }
 

@@ -2,6 +2,7 @@
 use Rattle.std.proofs.Common.{◌≡◌, ℕ, false, List, [], ◌∷◌, ◌++◌, map, Option, Some, None, Box, Vec, Global, refl, ap, sym, ◌∙◌, append_assoc}
 use Rattle.std.specs.Option.{option_map}
 use Rattle.debug_records.specs.declared.source.Spot.{Spot}
+use Rattle.debug_records.specs.declared.code.TheConstants.Code.{MISPLACED_JUMP}
 use Rattle.c_tree.specs.declared.extent.Extent.{Extent}
 use Rattle.c_tree.specs.declared.types.IntegerType.{IntegerType}
 use Rattle.c_tree.specs.declared.statement.Statement as declared-statement
@@ -12,11 +13,10 @@ use Rattle.c_tree.specs.Expressions.{ExpressionTree}
 use Rattle.c_tree.specs.Declarations.{DeclarationTree}
 use Rattle.c_tree.specs.TypedExpressions.{RvalueTree}
 use Rattle.c_tree.specs.Statements.{StartTree, StatementTree, StatementTrees, BranchTree, LabelTree, Compound, Declare, Empty, Run, If, IfElse, While, DoWhile, For, Switch, Case, Default, Break, Continue, Return, branch_view, statement_view, behind_labels}
-use Rattle.c_tree.specs.TypedStatements.{DeclaredTree, TypedStatementTree, TypedStatementTrees}
+use Rattle.c_tree.specs.TypedStatements.{TypedStatementTree, TypedStatementTrees}
 use Rattle.c_tree.specs.TypedStatements as typed-tree
 use Rattle.c_type_declarations.specs.Progress.{ProgressTree, Met, means, next_met, opened, closed}
 use Rattle.c_type_declarations.specs.Declarations.{declaration_met}
-use Rattle.c_type_statements.specs.Codes.{E26}
 use Rattle.c_type_statements.specs.declared.setting.Setting.{Setting}
 use Rattle.c_type_statements.specs.StatementEnds.{last_of_statement}
 use Rattle.c_type_statements.specs.Settings.{in_loop, unless, run_met, condition_met, return_met}
@@ -32,16 +32,14 @@ pub block_arm : (g : Setting) (opening : Spot) (all : StatementTrees) (closing :
 unfolding next_met
 block_arm g opening all closing ts p q h = rw (bare_unlabeled, sym h) refl
 
-pub declare_arm : (g : Setting) (d : DeclarationTree) (all : List DeclaredTree) (p q : ProgressTree) → means all q ≡ declaration_met d p → means (typed-tree.Declaration all) q ≡ statement_met g (Declare d) p
-unfolding next_met
-declare_arm g d all p q h = rw (bare_unlabeled, sym h) refl
+pub declare_arm : (g : Setting) (d : DeclarationTree) (p : ProgressTree) → next_met (declaration_met d p) (λ all. means (typed-tree.Declaration all)) ≡ statement_met g (Declare d) p
+declare_arm g d p = sym (bare_unlabeled no_labels (next_met (declaration_met d p) (λ all. means (typed-tree.Declaration all))))
 
 pub empty_arm : (g : Setting) (spot : Spot) (p : ProgressTree) → means (typed-tree.Empty spot) p ≡ statement_met g (Empty spot) p
 empty_arm g spot p = sym (bare_unlabeled no_labels (means (typed-tree.Empty spot) p))
 
-pub run_arm : (g : Setting) (e : ExpressionTree) (last : ℕ) (r : RvalueTree) (p q : ProgressTree) → means r q ≡ run_met e p → means (typed-tree.Run (first_of e) r) q ≡ statement_met g (Run e last) p
-unfolding next_met
-run_arm g e last r p q h = rw (bare_unlabeled, sym h) refl
+pub run_arm : (g : Setting) (e : ExpressionTree) (last : ℕ) (p : ProgressTree) → next_met (run_met e p) (λ r. means (typed-tree.Run (first_of e) r)) ≡ statement_met g (Run e last) p
+run_arm g e last p = sym (bare_unlabeled no_labels (next_met (run_met e p) (λ r. means (typed-tree.Run (first_of e) r))))
 
 pub while_arm : (g : Setting) (spot : Spot) (c : ExpressionTree) (s : StatementTree) (r : RvalueTree) (t : TypedStatementTree) (p q u : ProgressTree)
     → means r q ≡ condition_met (to_end spot s) c p → means t u ≡ statement_met (in_loop g) s q → means (typed-tree.While (first_of c) r t) u ≡ statement_met g (While spot c s) p
@@ -63,16 +61,15 @@ pub switch_arm : (g : Setting) (spot : Spot) (e : ExpressionTree) (opening : Spo
     → switch_met g spot e all closing p ≡ statement_met g (Switch spot e opening all closing) p
 switch_arm g spot e opening all closing p = sym (bare_unlabeled no_labels (switch_met g spot e all closing p))
 
-pub break_arm : (g : Setting) (extent : Extent) (p q : ProgressTree) → q ≡ unless g.may_break E26 extent p → means (typed-tree.Break extent.first) q ≡ statement_met g (Break extent) p
-break_arm g extent p q h = ap (means (typed-tree.Break extent.first)) h ∙ sym (bare_unlabeled no_labels (means (typed-tree.Break extent.first) (unless g.may_break E26 extent p)))
+pub break_arm : (g : Setting) (extent : Extent) (p : ProgressTree) → means (typed-tree.Break extent.first) (unless g.may_break MISPLACED_JUMP extent p) ≡ statement_met g (Break extent) p
+break_arm g extent p = sym (bare_unlabeled no_labels (means (typed-tree.Break extent.first) (unless g.may_break MISPLACED_JUMP extent p)))
 
-pub continue_arm : (g : Setting) (extent : Extent) (p q : ProgressTree) → q ≡ unless g.may_continue E26 extent p → means (typed-tree.Continue extent.first) q ≡ statement_met g (Continue extent) p
-continue_arm g extent p q h = ap (means (typed-tree.Continue extent.first)) h ∙ sym (bare_unlabeled no_labels (means (typed-tree.Continue extent.first) (unless g.may_continue E26 extent p)))
+pub continue_arm : (g : Setting) (extent : Extent) (p : ProgressTree) → means (typed-tree.Continue extent.first) (unless g.may_continue MISPLACED_JUMP extent p) ≡ statement_met g (Continue extent) p
+continue_arm g extent p = sym (bare_unlabeled no_labels (means (typed-tree.Continue extent.first) (unless g.may_continue MISPLACED_JUMP extent p)))
 
-pub return_arm : (g : Setting) (extent : Extent) (e : Option ExpressionTree) (r : Option RvalueTree) (p q : ProgressTree)
-    → means r q ≡ return_met g.result extent e p → means (typed-tree.Return extent.first r) q ≡ statement_met g (Return extent e) p
-unfolding next_met
-return_arm g extent e r p q h = rw (bare_unlabeled, sym h) refl
+pub return_arm : (g : Setting) (extent : Extent) (e : Option ExpressionTree) (p : ProgressTree)
+    → next_met (return_met g.result extent e p) (λ r. means (typed-tree.Return extent.first r)) ≡ statement_met g (Return extent e) p
+return_arm g extent e p = sym (bare_unlabeled no_labels (next_met (return_met g.result extent e p) (λ r. means (typed-tree.Return extent.first r))))
 
 -- an `if` as the tree has it
 pub if_arm : (g : Setting) (s : declared-statement.Statement) (b : Box Branch Global) (bs : Vec Branch Global) (o : Option (Box declared-statement.Statement Global)) (last : ℕ) (first : Branch) (others : List Branch) (p : ProgressTree)

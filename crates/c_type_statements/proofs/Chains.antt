@@ -1,11 +1,11 @@
 -- Statements as the tree has them in lists mean what they mean nested.
 use Rattle.std.proofs.Common.{◌≡◌, ℕ, List, [], ◌∷◌, ◌++◌, Option, Some, None, refl, ap, sym, ◌∙◌}
+use Rattle.debug_records.specs.declared.code.TheConstants.Code.{MISPLACED_JUMP}
 use Rattle.c_tree.specs.declared.types.IntegerType.{IntegerType}
 use Rattle.c_tree.specs.Statements.{StatementTree, BranchTree, LabelTree, CaseLabel, DefaultLabel, if_tree, else_tree, behind_labels}
 use Rattle.c_tree.specs.Ends.{first_of}
 use Rattle.c_tree.specs.TypedStatements.{TypedStatementTree, If, IfElse}
 use Rattle.c_type_declarations.specs.Progress.{ProgressTree, Met, means, next_met, breaks}
-use Rattle.c_type_statements.specs.Codes.{E26}
 use Rattle.c_type_statements.specs.declared.setting.Setting.{Setting}
 use Rattle.c_type_statements.specs.StatementEnds.{last_of_statement}
 use Rattle.c_type_statements.specs.Settings.{condition_met}
@@ -21,7 +21,7 @@ misplaced_labels g [] s p = refl
 misplaced_labels g (CaseLabel extent e ∷ ls) s p =
     ap bare (preceded_none (met Outside g (behind_labels ls s) (misplaced_one (CaseLabel extent e) p))) ∙ misplaced_labels g ls s (misplaced_one (CaseLabel extent e) p)
 misplaced_labels g (DefaultLabel extent ∷ ls) s p =
-    ap bare (preceded_none (met Outside g (behind_labels ls s) (breaks E26 extent p))) ∙ misplaced_labels g ls s (breaks E26 extent p)
+    ap bare (preceded_none (met Outside g (behind_labels ls s) (breaks MISPLACED_JUMP extent p))) ∙ misplaced_labels g ls s (breaks MISPLACED_JUMP extent p)
 
 -- labels directly in the block of a `switch`
 abbrev item_behind : Setting → Option IntegerType → StatementTree → Parts → ProgressTree → Met Labeled

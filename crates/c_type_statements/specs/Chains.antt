@@ -3,7 +3,8 @@ use Rattle.std.specs.Prelude.{ℕ, List, [], ◌∷◌, Option, Some, None}
 use Rattle.debug_records.specs.declared.source.Spot.{Spot}
 use Rattle.c_tree.specs.declared.types.IntegerType.{IntegerType}
 use Rattle.c_tree.specs.Ends.{first_of}
-use Rattle.c_tree.specs.TypedExpressions.{RvalueTree, rvalue_view}
+use Rattle.c_tree.specs.TypedExpressions.{RvalueTree}
+use Rattle.c_type_values.specs.Values.{node_view}
 use Rattle.c_tree.specs.Statements.{StatementTree, BranchTree, LabelTree}
 use Rattle.c_tree.specs.TypedStatements.{TypedStatementTree, If, IfElse, statement_view}
 use Rattle.c_type_declarations.specs.Progress.{ProgressTree, Met, means, next_met}
@@ -20,7 +21,7 @@ pub record BuiltTree : Type 0 where
   pub body : TypedStatementTree
 
 abbrev pub built_view : declared-built.Built → BuiltTree
-built_view b = record { spot = b.spot; condition = rvalue_view b.condition; body = statement_view b.then }
+built_view b = record { spot = b.spot; condition = node_view b.condition; body = statement_view b.then.value }
 
 -- a branch of an `if` that ends at a token
 abbrev pub branch_met : Setting → ℕ → BranchTree → ProgressTree → Met BuiltTree

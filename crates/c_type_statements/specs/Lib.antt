@@ -1,4 +1,3 @@
-pub mod Codes
 pub mod StatementEnds
 pub mod Settings
 pub mod Switches

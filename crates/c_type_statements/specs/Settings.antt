@@ -2,6 +2,7 @@
 use Rattle.std.specs.Prelude.{Bool, true, false, Option, Some, None, if◌then◌else◌}
 use Rattle.c_tree.specs.declared.extent.Extent.{Extent}
 use Rattle.debug_records.specs.declared.code.Code.{Code}
+use Rattle.debug_records.specs.declared.code.TheConstants.Code.{OPERAND_TYPES, RETURN_MISMATCH}
 use Rattle.c_tree.specs.declared.object_type.ValueType.{ValueType}
 use Rattle.c_tree.specs.declared.object_type.ValueType.TheVariants.{Void}
 use Rattle.c_tree.specs.Ends.{first_of}
@@ -13,12 +14,10 @@ use Rattle.c_tree.specs.TypedStatements.{TypedStartTree, StepTree}
 use Rattle.c_tree.specs.TypedStatements as typed-tree
 use Rattle.c_type_values.specs.Values.{ValueTree, converted}
 use Rattle.c_type_values.specs.Operations.{is_scalar}
-use Rattle.c_type_expressions.specs.Codes.{E22}
 use Rattle.c_type_expressions.specs.Expressions.{is_zero}
 use Rattle.c_type_declarations.specs.Progress.{ProgressTree, Met, means, next_met, value_met, breaks}
 use Rattle.c_type_declarations.specs.Initials.{tree_of}
 use Rattle.c_type_declarations.specs.Declarations.{declaration_met}
-use Rattle.c_type_statements.specs.Codes.{E25}
 use Rattle.c_type_statements.specs.declared.setting.Setting.{Setting}
 
 -- within the body of a loop
@@ -39,7 +38,7 @@ run_met e p = next_met (value_met e p) (λ v. means (tree_of v))
 
 -- a condition: its value has to be a scalar's (E22, of the whole statement)
 abbrev pub tested : Extent → Option ValueTree → ProgressTree → Met RvalueTree
-tested extent (Some v) p = means v.tree (unless (is_scalar v.of) E22 extent p)
+tested extent (Some v) p = means v.tree (unless (is_scalar v.of) OPERAND_TYPES extent p)
 tested extent None p = means (tree_of None) p
 
 abbrev pub condition_met : Extent → ExpressionTree → ProgressTree → Met RvalueTree
@@ -68,7 +67,7 @@ returnable of v zero = converted v of zero
 
 abbrev pub given : Option ValueTree → Extent → ProgressTree → Met (Option RvalueTree)
 given (Some v) extent p = means (Some v.tree) p
-given None extent p = means None (breaks E25 extent p)
+given None extent p = means None (breaks RETURN_MISMATCH extent p)
 
 -- a value that is at fault breaks no other rule, but that a function without a result returns none
 abbrev pub is_void : ValueType → Bool
@@ -77,9 +76,9 @@ is_void _ = false
 
 abbrev pub returns : ValueType → Extent → Bool → Option ValueTree → ProgressTree → Met (Option RvalueTree)
 returns of extent zero (Some v) p = given (returnable of v zero) extent p
-returns of extent zero None p = means None (if is_void of then breaks E25 extent p else p)
+returns of extent zero None p = means None (if is_void of then breaks RETURN_MISMATCH extent p else p)
 
 -- what a `return` gives: a value where its function has a result, else none (E25)
 abbrev pub return_met : ValueType → Extent → Option ExpressionTree → ProgressTree → Met (Option RvalueTree)
 return_met of extent (Some e) p = next_met (value_met e p) (returns of extent (is_zero e))
-return_met of extent None p = means None (unless (is_void of) E25 extent p)
+return_met of extent None p = means None (unless (is_void of) RETURN_MISMATCH extent p)

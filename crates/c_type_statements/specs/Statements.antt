@@ -2,6 +2,7 @@
 use Rattle.std.specs.Prelude.{[], ◌∷◌, ◌++◌, Option}
 use Rattle.std.specs.Option.{option_map_or}
 use Rattle.debug_records.specs.declared.source.Spot.{Spot}
+use Rattle.debug_records.specs.declared.code.TheConstants.Code.{MISPLACED_JUMP}
 use Rattle.c_tree.specs.declared.extent.Extent.{Extent}
 use Rattle.c_tree.specs.declared.types.IntegerType.{IntegerType}
 use Rattle.c_tree.specs.Ends.{first_of}
@@ -11,7 +12,6 @@ use Rattle.c_tree.specs.TypedStatements.{TypedStatementTree, TypedStatementTrees
 use Rattle.c_tree.specs.TypedStatements as typed-tree
 use Rattle.c_type_declarations.specs.Progress.{ProgressTree, Met, means, next_met, opened, closed}
 use Rattle.c_type_declarations.specs.Declarations.{declaration_met}
-use Rattle.c_type_statements.specs.Codes.{E26}
 use Rattle.c_type_statements.specs.declared.setting.Setting.{Setting}
 use Rattle.c_type_statements.specs.StatementEnds.{last_of_statement}
 use Rattle.c_type_statements.specs.Settings.{in_loop, in_switch, unless, run_met, condition_met, condition_if_any, start_met, step_met, return_met}
@@ -50,8 +50,8 @@ abbrev mutual
       unlabeled (labels_at place) (next_met (chosen_met (record { first = spot; last = closing.at }) e p) (λ ch q. next_met (in_scope (items_met (in_switch g) ch.kind all no_labels) q) (λ ts. means (typed-tree.Switch (first_of e) ch.tree ts))))
   met place g (Case extent e s) p = next_met (label_at place (CaseLabel extent e) p) (λ l q. next_met (met (behind_label place l.labels) g s q) (preceded l.parts))
   met place g (Default extent s) p = next_met (label_at place (DefaultLabel extent) p) (λ l q. next_met (met (behind_label place l.labels) g s q) (preceded l.parts))
-  met place g (Break extent) p = unlabeled (labels_at place) (means (typed-tree.Break extent.first) (unless g.may_break E26 extent p))
-  met place g (Continue extent) p = unlabeled (labels_at place) (means (typed-tree.Continue extent.first) (unless g.may_continue E26 extent p))
+  met place g (Break extent) p = unlabeled (labels_at place) (means (typed-tree.Break extent.first) (unless g.may_break MISPLACED_JUMP extent p))
+  met place g (Continue extent) p = unlabeled (labels_at place) (means (typed-tree.Continue extent.first) (unless g.may_continue MISPLACED_JUMP extent p))
   met place g (Return extent e) p = unlabeled (labels_at place) (next_met (return_met g.result extent e p) (λ r. means (typed-tree.Return extent.first r)))
 
   -- statements one behind the other

@@ -1,23 +1,22 @@
 -- Labels in the block of a `switch` (6.8.1 and 6.8.4.2).
 use Rattle.std.specs.Prelude.{ℤ, List, [], ◌∷◌, ◌++◌, map, Bool, true, false, ◌||◌, not, Option, Some, None}
+use Rattle.debug_records.specs.declared.code.TheConstants.Code.{MISPLACED_JUMP, OPERAND_TYPES, REPEATED_LABEL}
 use Rattle.c_tree.specs.declared.extent.Extent.{Extent}
 use Rattle.c_tree.specs.declared.types.IntegerType.{IntegerType}
 use Rattle.c_tree.specs.declared.object_type.ValueType.{ValueType}
 use Rattle.c_tree.specs.declared.object_type.ValueType.TheVariants.{Integer}
 use Rattle.c_tree.specs.Expressions.{ExpressionTree}
 use Rattle.c_tree.specs.Statements.{LabelTree, CaseLabel, DefaultLabel}
-use Rattle.c_tree.specs.TypedExpressions.{RvalueTree, rvalue_view}
+use Rattle.c_tree.specs.TypedExpressions.{RvalueTree}
 use Rattle.c_tree.specs.TypedStatements.{TypedStatementTree, TypedStatementTrees, statement_view}
 use Rattle.c_tree.specs.TypedStatements as typed-tree
 use Rattle.c_type_rules.specs.declared.constancy.Constancy.{Constancy}
 use Rattle.c_type_rules.specs.declared.constancy.Constancy.TheVariants.{Known}
 use Rattle.c_type_rules.specs.Integers.{promoted, wrapped}
 use Rattle.c_type_rules.specs.Constants.{same}
-use Rattle.c_type_values.specs.Values.{ValueTree, to_integer}
-use Rattle.c_type_expressions.specs.Codes.{E22}
+use Rattle.c_type_values.specs.Values.{ValueTree, node_view, to_integer}
 use Rattle.c_type_declarations.specs.Progress.{ProgressTree, Met, means, next_met, reached_by, value_met, breaks}
 use Rattle.c_type_declarations.specs.Initials.{tree_of}
-use Rattle.c_type_statements.specs.Codes.{E26, E28}
 use Rattle.c_type_statements.specs.Settings.{unless}
 use Rattle.c_type_statements.specs.declared.switch.Chosen as declared-chosen
 use Rattle.c_type_statements.specs.declared.switch.Labels as declared-labels
@@ -30,11 +29,11 @@ pub record Chosen : Type 0 where
   pub kind : Option IntegerType
 
 abbrev pub chosen_view : declared-chosen.Chosen → Chosen
-chosen_view c = record { tree = rvalue_view c.tree; kind = c.kind }
+chosen_view c = record { tree = node_view c.tree; kind = c.kind }
 
 abbrev pub chosen_by : ValueType → Extent → ValueTree → ProgressTree → Met Chosen
 chosen_by (Integer t) extent v p = means (record { tree = (to_integer (promoted t) v).tree; kind = Some (promoted t) }) p
-chosen_by of extent v p = means (record { tree = v.tree; kind = None }) (breaks E22 extent p)
+chosen_by of extent v p = means (record { tree = v.tree; kind = None }) (breaks OPERAND_TYPES extent p)
 
 abbrev pub chosen : Extent → Option ValueTree → ProgressTree → Met Chosen
 chosen extent (Some v) p = chosen_by v.of extent v p
@@ -76,7 +75,7 @@ pub data PartTree : Type 0 where
 abbrev pub part_view : declared-part.Part → PartTree
 part_view (part.Case z) = Case z
 part_view part.Default = Default
-part_view (part.Statement s) = Statement (statement_view s)
+part_view (part.Statement s) = Statement (statement_view s.value)
 
 -- parts before statements
 abbrev pub put : PartTree → TypedStatementTrees → TypedStatementTrees
@@ -99,8 +98,8 @@ so_far ps ls = record { parts = map part_view ps; labels = labels_view ls }
 -- `case` with a value that no label of its `switch` has yet (E28), which has to be an integer constant (E26); a label at fault is none
 abbrev pub case_numbered : Option ℤ → Extent → Labels → ProgressTree → Met Parts
 case_numbered (Some z) extent ls p =
-    means (record { parts = Case z ∷ []; labels = record ls { values = ls.values ++ z ∷ [] } }) (unless (not (is_among z ls.values)) E28 extent p)
-case_numbered None extent ls p = means (record { parts = []; labels = ls }) (breaks E26 extent p)
+    means (record { parts = Case z ∷ []; labels = record ls { values = ls.values ++ z ∷ [] } }) (unless (not (is_among z ls.values)) REPEATED_LABEL extent p)
+case_numbered None extent ls p = means (record { parts = []; labels = ls }) (breaks MISPLACED_JUMP extent p)
 
 abbrev pub case_by : Option IntegerType → Extent → Labels → Option ValueTree → ProgressTree → Met Parts
 case_by kind extent ls (Some v) p = case_numbered (case_value kind v.of v.constant) extent ls p
@@ -112,7 +111,7 @@ case_met kind extent e ls p = next_met (value_met e p) (case_by kind extent ls)
 -- `default`, once in its `switch` (E28)
 abbrev pub default_met : Extent → Labels → ProgressTree → Met Parts
 default_met extent ls p =
-    means (record { parts = Default ∷ []; labels = record ls { has_default = true } }) (unless (not ls.has_default) E28 extent p)
+    means (record { parts = Default ∷ []; labels = record ls { has_default = true } }) (unless (not ls.has_default) REPEATED_LABEL extent p)
 
 -- a label directly in the block of a `switch`
 abbrev pub label_met : Option IntegerType → LabelTree → Labels → ProgressTree → Met Parts
@@ -121,8 +120,8 @@ label_met kind (DefaultLabel extent) ls p = default_met extent ls p
 
 -- a label anywhere else (E26)
 abbrev pub misplaced_one : LabelTree → ProgressTree → ProgressTree
-misplaced_one (CaseLabel extent e) p = reached_by (value_met e (breaks E26 extent p)) (λ v q. q)
-misplaced_one (DefaultLabel extent) p = breaks E26 extent p
+misplaced_one (CaseLabel extent e) p = reached_by (value_met e (breaks MISPLACED_JUMP extent p)) (λ v q. q)
+misplaced_one (DefaultLabel extent) p = breaks MISPLACED_JUMP extent p
 
 -- where a statement stands: directly in the block of a `switch` of a type, behind such labels, or anywhere else
 pub data Place : Type 0 where

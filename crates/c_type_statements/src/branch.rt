@@ -6,6 +6,7 @@ ghost use Rattle.c_tree.specs.TypedStatements.{statement_view};
 ghost use Rattle.c_type_statements.specs.Chains.{built_view, nested, with_else};
 
 use c_tree::{Rvalue, TypedStatement};
+use c_type_values::{given, node};
 use debug_records::Spot;
 use std::alloc::{AllocError, Global};
 
@@ -13,33 +14,41 @@ use std::alloc::{AllocError, Global};
 #[derive(Drop)]
 pub struct Built {
     pub spot: Spot,
-    pub condition: Rvalue,
-    pub then: TypedStatement,
+    pub condition: Box<Rvalue>,
+    pub then: Box<TypedStatement>,
 }
 
 /// An `if` without `else`, or with it.
 fn with_else(
     alloc: Global,
     built: Built,
-    otherwise: Option<TypedStatement>,
-) -> Result<TypedStatement, AllocError>
-    ensures { IfOk result (λ t. statement_view t ≡ with_else (built_view built) (option_map statement_view otherwise)) }
+    otherwise: Option<Box<TypedStatement>>,
+) -> Result<Box<TypedStatement>, AllocError>
+    ensures { IfOk result (λ t. statement_view t.value ≡ with_else (built_view built) (option_map (λ t. statement_view t.value) otherwise)) }
 {
-    let then = Box::new(alloc, built.then)?;
     match otherwise {
-        None => Ok(TypedStatement::If {
-            spot: built.spot,
-            condition: built.condition,
-            then,
-        }),
+        None => {
+            let made = given!(node(
+                alloc,
+                TypedStatement::If {
+                    spot: built.spot,
+                    condition: Box::into_inner(built.condition),
+                    then: built.then,
+                }
+            ));
+            Ok(made)
+        }
         Some(otherwise) => {
-            let otherwise = Box::new(alloc, otherwise)?;
-            Ok(TypedStatement::IfElse {
-                spot: built.spot,
-                condition: built.condition,
-                then,
-                otherwise,
-            })
+            let made = given!(node(
+                alloc,
+                TypedStatement::IfElse {
+                    spot: built.spot,
+                    condition: Box::into_inner(built.condition),
+                    then: built.then,
+                    otherwise,
+                }
+            ));
+            Ok(made)
         }
     }
 }
@@ -50,13 +59,13 @@ pub fn nested(
     alloc: Global,
     first: Built,
     mut others: Vec<Built>,
-    otherwise: Option<TypedStatement>,
-) -> Result<TypedStatement, AllocError>
-    ensures { IfOk result (λ t. statement_view t ≡ nested (built_view first) (map built_view others.items) (option_map statement_view otherwise)) }
+    otherwise: Option<Box<TypedStatement>>,
+) -> Result<Box<TypedStatement>, AllocError>
+    ensures { IfOk result (λ t. statement_view t.value ≡ nested (built_view first) (map built_view others.items) (option_map (λ t. statement_view t.value) otherwise)) }
 {
     let mut inner = otherwise;
     while let Some(built) = others.pop() {
-        let made = with_else(alloc, built, inner)?;
+        let made = given!(with_else(alloc, built, inner));
         inner = Some(made);
     }
     with_else(alloc, first, inner)

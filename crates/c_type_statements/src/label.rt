@@ -10,8 +10,8 @@ ghost use Rattle.c_type_statements.specs.Switches.{behind, label_met, labels_vie
 use crate::part::Part;
 use crate::switch::{Labels, case, default};
 use c_tree::{IntegerType, Label};
-use c_type_declarations::Progress;
-use c_type_declarations::initial::look_at_expression;
+use c_type_declarations::{Progress, look_at_expression};
+use c_type_values::given;
 use debug_records::Code;
 use std::alloc::{AllocError, Global};
 
@@ -21,7 +21,7 @@ fn misplaced_one(alloc: Global, progress: &mut Progress, label: &Label) -> Resul
 {
     match label {
         Label::Case { extent, value } => {
-            progress.fault(Code::MISPLACED_JUMP, *extent)?;
+            given!(progress.fault(Code::MISPLACED_JUMP, *extent));
             look_at_expression(alloc, progress, value)
         }
         Label::Default(extent) => progress.fault(Code::MISPLACED_JUMP, *extent),
@@ -33,7 +33,7 @@ pub fn misplaced(alloc: Global, progress: &mut Progress, labels: &[Label]) -> Re
     ensures { OnOk result (progress_view progress.new ≡ misplaced (map label_view labels.now) (progress_view progress.old)) }
 {
     for label in labels {
-        misplaced_one(alloc, progress, label)?;
+        given!(misplaced_one(alloc, progress, label));
     }
     Ok(())
 }

@@ -2,12 +2,14 @@
 #![tactic(auto)]
 
 mod branch;
-pub mod ends;
+mod ends;
 mod label;
-pub mod part;
-pub mod setting;
-pub mod statement;
-pub mod switch;
+mod made;
+mod part;
+mod setting;
+mod simple;
+mod statement;
+mod switch;
 
 pub use setting::Setting;
 pub use statement::statements;

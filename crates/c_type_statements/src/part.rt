@@ -5,6 +5,7 @@ ghost use Rattle.c_tree.specs.TypedStatements.{none, statements_view};
 ghost use Rattle.c_type_statements.specs.Switches.{part_view, put, put_all};
 
 use c_tree::{TypedStatement, TypedStatements};
+use c_type_values::{given, node};
 use std::alloc::{AllocError, Global};
 
 /// What stands in a block: a statement, or in the block of a `switch` a label.
@@ -13,21 +14,18 @@ pub enum Part {
     /// `case`, with its value in the type that the `switch` tests.
     Case(i64),
     Default,
-    Statement(TypedStatement),
+    Statement(Box<TypedStatement>),
 }
 
 /// One part before statements.
 fn put(alloc: Global, part: Part, rest: TypedStatements) -> Result<TypedStatements, AllocError>
     ensures { IfOk result (λ all. statements_view all ≡ put (part_view part) (statements_view rest)) }
 {
-    let rest = Box::new(alloc, rest)?;
+    let rest = given!(node(alloc, rest));
     match part {
         Part::Case(value) => Ok(TypedStatements::Case(value, rest)),
         Part::Default => Ok(TypedStatements::Default(rest)),
-        Part::Statement(statement) => {
-            let first = Box::new(alloc, statement)?;
-            Ok(TypedStatements::More(first, rest))
-        }
+        Part::Statement(statement) => Ok(TypedStatements::More(statement, rest)),
     }
 }
 
@@ -38,7 +36,7 @@ pub fn arranged(alloc: Global, mut parts: Vec<Part>) -> Result<TypedStatements, 
 {
     let mut all = TypedStatements::End;
     while let Some(part) = parts.pop() {
-        all = put(alloc, part, all)?;
+        all = given!(put(alloc, part, all));
     }
     Ok(all)
 }

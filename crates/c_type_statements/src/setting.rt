@@ -5,21 +5,20 @@ ghost use Rattle.std.specs.Prelude.{◌≡◌, IfOk, OnOk};
 ghost use Rattle.std.specs.Option.{option_map};
 ghost use Rattle.c_tree.specs.Expressions.{expression_view};
 ghost use Rattle.c_tree.specs.Statements as tree;
-ghost use Rattle.c_tree.specs.TypedExpressions.{rvalue_view};
 ghost use Rattle.c_tree.specs.TypedStatements.{start_view, step_view};
 ghost use Rattle.c_type_declarations.specs.Progress.{means, progress_view};
 ghost use Rattle.c_type_statements.specs.Settings.{condition_if_any, condition_met, given, in_loop, in_switch, is_void, return_met, returnable, returns, run_met, start_met, step_met, tested, unless};
-ghost use Rattle.c_type_values.specs.Values.{value_view};
+ghost use Rattle.c_type_values.specs.Values.{node_view, value_view};
 
 use c_tree::{Expression, Extent, ForStart, Rvalue, TypedStart, TypedStep, ValueType};
-use c_type_declarations::{Progress, declaration};
-use c_type_expressions::operand::is_zero;
-use c_type_values::{Value, converted, is_scalar};
+use c_type_declarations::{Progress, declaration, tree_of};
+use c_type_expressions::is_zero;
+use c_type_values::{Value, converted, given, is_scalar, node};
 use debug_records::Code;
 use std::alloc::{AllocError, Global};
 
 /// What a statement stands in.
-#[derive(Clone, Copy, PartialEq, Eq)]
+#[derive(Clone, Copy)]
 pub struct Setting {
     /// What its function gives.
     pub result: ValueType,
@@ -69,27 +68,32 @@ pub fn unless(
 }
 
 /// What an expression computes that is a statement or a part of a `for`.
-pub fn run(alloc: Global, progress: &mut Progress, e: &Expression) -> Result<Rvalue, AllocError>
-    ensures { IfOk result (λ r. means (rvalue_view r) (progress_view progress.new) ≡ run_met (expression_view e.now) (progress_view progress.old)) }
+pub fn run(
+    alloc: Global,
+    progress: &mut Progress,
+    e: &Expression,
+) -> Result<Box<Rvalue>, AllocError>
+    ensures { IfOk result (λ r. means (node_view r) (progress_view progress.new) ≡ run_met (expression_view e.now) (progress_view progress.old)) }
 {
-    match progress.value(alloc, e)? {
-        Some(value) => Ok(value.tree),
-        None => Ok(Rvalue::Null),
-    }
+    let value = given!(progress.value(alloc, e));
+    let tree = given!(tree_of(alloc, value));
+    Ok(tree)
 }
 
 /// A value that is tested: a scalar's.
 fn tested(
+    alloc: Global,
     progress: &mut Progress,
     extent: Extent,
     value: Option<Value>,
-) -> Result<Rvalue, AllocError>
-    ensures { IfOk result (λ r. means (rvalue_view r) (progress_view progress.new) ≡ tested extent (option_map value_view value) (progress_view progress.old)) }
+) -> Result<Box<Rvalue>, AllocError>
+    ensures { IfOk result (λ r. means (node_view r) (progress_view progress.new) ≡ tested extent (option_map value_view value) (progress_view progress.old)) }
 {
     let Some(value) = value else {
-        return Ok(Rvalue::Null);
+        let nothing = given!(tree_of(alloc, None));
+        return Ok(nothing);
     };
-    unless(progress, is_scalar(value.of), Code::OPERAND_TYPES, extent)?;
+    given!(unless(progress, is_scalar(value.of), Code::OPERAND_TYPES, extent));
     Ok(value.tree)
 }
 
@@ -99,11 +103,11 @@ pub fn condition(
     progress: &mut Progress,
     extent: Extent,
     e: &Expression,
-) -> Result<Rvalue, AllocError>
-    ensures { IfOk result (λ r. means (rvalue_view r) (progress_view progress.new) ≡ condition_met extent (expression_view e.now) (progress_view progress.old)) }
+) -> Result<Box<Rvalue>, AllocError>
+    ensures { IfOk result (λ r. means (node_view r) (progress_view progress.new) ≡ condition_met extent (expression_view e.now) (progress_view progress.old)) }
 {
-    let value = progress.value(alloc, e)?;
-    tested(progress, extent, value)
+    let value = given!(progress.value(alloc, e));
+    tested(alloc, progress, extent, value)
 }
 
 /// The condition of a `for`, if it has one.
@@ -112,13 +116,13 @@ pub fn condition_if_any(
     progress: &mut Progress,
     extent: Extent,
     e: &Option<Expression>,
-) -> Result<Option<Rvalue>, AllocError>
-    ensures { IfOk result (λ r. means (option_map rvalue_view r) (progress_view progress.new) ≡ condition_if_any extent (option_map expression_view e.now) (progress_view progress.old)) }
+) -> Result<Option<Box<Rvalue>>, AllocError>
+    ensures { IfOk result (λ r. means (option_map node_view r) (progress_view progress.new) ≡ condition_if_any extent (option_map expression_view e.now) (progress_view progress.old)) }
 {
     match e {
         None => Ok(None),
         Some(e) => {
-            let tree = condition(alloc, progress, extent, e)?;
+            let tree = given!(condition(alloc, progress, extent, e));
             Ok(Some(tree))
         }
     }
@@ -129,21 +133,25 @@ pub fn start(
     alloc: Global,
     progress: &mut Progress,
     start: &ForStart,
-) -> Result<TypedStart, AllocError>
-    ensures { IfOk result (λ s. means (start_view s) (progress_view progress.new) ≡ start_met (tree.start_view start.now) (progress_view progress.old)) }
+) -> Result<Box<TypedStart>, AllocError>
+    ensures { IfOk result (λ s. means (start_view s.value) (progress_view progress.new) ≡ start_met (tree.start_view start.now) (progress_view progress.old)) }
 {
     match start {
-        ForStart::Nothing => Ok(TypedStart::Nothing),
+        ForStart::Nothing => {
+            let made = given!(node(alloc, TypedStart::Nothing));
+            Ok(made)
+        }
         ForStart::Expression(e) => {
-            let value = run(alloc, progress, e)?;
-            Ok(TypedStart::Expression {
-                spot: e.first(),
-                value,
-            })
+            let tree = given!(run(alloc, progress, e));
+            let spot = e.first();
+            let value = Box::into_inner(tree);
+            let made = given!(node(alloc, TypedStart::Expression { spot, value }));
+            Ok(made)
         }
         ForStart::Declaration(d) => {
-            let all = declaration(alloc, progress, d)?;
-            Ok(TypedStart::Declaration(all))
+            let all = given!(declaration(alloc, progress, d));
+            let made = given!(node(alloc, TypedStart::Declaration(all)));
+            Ok(made)
         }
     }
 }
@@ -153,17 +161,17 @@ pub fn step(
     alloc: Global,
     progress: &mut Progress,
     e: &Option<Expression>,
-) -> Result<Option<TypedStep>, AllocError>
-    ensures { IfOk result (λ s. means (option_map step_view s) (progress_view progress.new) ≡ step_met (option_map expression_view e.now) (progress_view progress.old)) }
+) -> Result<Option<Box<TypedStep>>, AllocError>
+    ensures { IfOk result (λ s. means (option_map (λ x. step_view x.value) s) (progress_view progress.new) ≡ step_met (option_map expression_view e.now) (progress_view progress.old)) }
 {
     match e {
         None => Ok(None),
         Some(e) => {
-            let value = run(alloc, progress, e)?;
-            Ok(Some(TypedStep {
-                spot: e.first(),
-                value,
-            }))
+            let tree = given!(run(alloc, progress, e));
+            let spot = e.first();
+            let value = Box::into_inner(tree);
+            let made = given!(node(alloc, TypedStep { spot, value }));
+            Ok(Some(made))
         }
     }
 }
@@ -194,17 +202,17 @@ fn returnable(
 }
 
 /// What a function gives that returns a value.
-fn given(
+fn given_back(
     progress: &mut Progress,
     value: Option<Value>,
     extent: Extent,
-) -> Result<Option<Rvalue>, AllocError>
-    ensures { IfOk result (λ r. means (option_map rvalue_view r) (progress_view progress.new) ≡ given (option_map value_view value) extent (progress_view progress.old)) }
+) -> Result<Option<Box<Rvalue>>, AllocError>
+    ensures { IfOk result (λ r. means (option_map node_view r) (progress_view progress.new) ≡ given (option_map value_view value) extent (progress_view progress.old)) }
 {
     match value {
         Some(value) => Ok(Some(value.tree)),
         None => {
-            progress.fault(Code::RETURN_MISMATCH, extent)?;
+            given!(progress.fault(Code::RETURN_MISMATCH, extent));
             Ok(None)
         }
     }
@@ -218,17 +226,17 @@ fn returns(
     extent: Extent,
     is_zero: bool,
     value: Option<Value>,
-) -> Result<Option<Rvalue>, AllocError>
-    ensures { IfOk result (λ r. means (option_map rvalue_view r) (progress_view progress.new) ≡ returns of extent is_zero (option_map value_view value) (progress_view progress.old)) }
+) -> Result<Option<Box<Rvalue>>, AllocError>
+    ensures { IfOk result (λ r. means (option_map node_view r) (progress_view progress.new) ≡ returns of extent is_zero (option_map value_view value) (progress_view progress.old)) }
 {
     match value {
         Some(value) => {
-            let value = returnable(alloc, of, value, is_zero)?;
-            given(progress, value, extent)
+            let value = given!(returnable(alloc, of, value, is_zero));
+            given_back(progress, value, extent)
         }
         None => {
             if is_void(of) {
-                progress.fault(Code::RETURN_MISMATCH, extent)?;
+                given!(progress.fault(Code::RETURN_MISMATCH, extent));
             }
             Ok(None)
         }
@@ -242,16 +250,16 @@ pub fn return_value(
     of: ValueType,
     extent: Extent,
     e: &Option<Expression>,
-) -> Result<Option<Rvalue>, AllocError>
-    ensures { IfOk result (λ r. means (option_map rvalue_view r) (progress_view progress.new) ≡ return_met of extent (option_map expression_view e.now) (progress_view progress.old)) }
+) -> Result<Option<Box<Rvalue>>, AllocError>
+    ensures { IfOk result (λ r. means (option_map node_view r) (progress_view progress.new) ≡ return_met of extent (option_map expression_view e.now) (progress_view progress.old)) }
 {
     match e {
         Some(e) => {
-            let value = progress.value(alloc, e)?;
+            let value = given!(progress.value(alloc, e));
             returns(alloc, progress, of, extent, is_zero(e), value)
         }
         None => {
-            unless(progress, is_void(of), Code::RETURN_MISMATCH, extent)?;
+            given!(unless(progress, is_void(of), Code::RETURN_MISMATCH, extent));
             Ok(None)
         }
     }

@@ -14,17 +14,17 @@ ghost use Rattle.c_type_statements.specs.Switches.{Inside, added, labels_view, n
 use crate::branch::{Built, nested};
 use crate::ends::last_of_statement;
 use crate::label::{all_labels, misplaced};
+use crate::made::{block_of, do_while_of, empty, for_of, switch_of, while_of};
 use crate::part::{Part, arranged};
-use crate::setting::{
-    Setting, condition, condition_if_any, return_value, run, start, step, unless,
-};
+use crate::setting::{Setting, condition, condition_if_any, start, step};
+use crate::simple::{broken, continued, declared, executed, returned};
 use crate::switch::{Labels, chosen_value, no_labels};
 use c_tree::{
     Block, Branch, Expression, Extent, ForStart, IntegerType, Statement, TypedStatement,
     TypedStatements,
 };
-use c_type_declarations::{Progress, declaration};
-use debug_records::{Code, Spot};
+use c_type_declarations::Progress;
+use debug_records::Spot;
 use std::alloc::{AllocError, Global};
 
 /// What a statement means.
@@ -34,24 +34,17 @@ pub fn statement(
     progress: &mut Progress,
     setting: Setting,
     s: &Statement,
-) -> Result<TypedStatement, AllocError>
-    ensures { IfOk result (λ t. means (typed_tree.statement_view t) (progress_view progress.new) ≡ statement_met setting (statement_view s.now) (progress_view progress.old)) }
+) -> Result<Box<TypedStatement>, AllocError>
+    ensures { IfOk result (λ t. means (typed_tree.statement_view t.value) (progress_view progress.new) ≡ statement_met setting (statement_view s.now) (progress_view progress.old)) }
 {
     match s {
         Statement::Block(block) => {
-            let body = block_in_scope(alloc, progress, setting, &block.statements)?;
-            Ok(TypedStatement::Block(Box::new(alloc, body)?))
+            let all = block_in_scope(alloc, progress, setting, &block.statements)?;
+            block_of(alloc, all)
         }
-        Statement::Declaration(d) => {
-            let all = declaration(alloc, progress, d)?;
-            Ok(TypedStatement::Declaration(all))
-        }
-        Statement::Empty(spot) => Ok(TypedStatement::Empty(*spot)),
-        Statement::Expression { value, .. } => {
-            let spot = value.first();
-            let value = run(alloc, progress, value)?;
-            Ok(TypedStatement::Expression { spot, value })
-        }
+        Statement::Declaration(d) => declared(alloc, progress, d),
+        Statement::Empty(spot) => empty(alloc, *spot),
+        Statement::Expression { value, .. } => executed(alloc, progress, value),
         Statement::If {
             first,
             others,
@@ -74,11 +67,7 @@ pub fn statement(
             };
             let tree = condition(alloc, progress, extent, e)?;
             let body = statement(alloc, progress, setting.in_loop(), body)?;
-            Ok(TypedStatement::While {
-                spot: e.first(),
-                condition: tree,
-                body: Box::new(alloc, body)?,
-            })
+            while_of(alloc, e.first(), tree, body)
         }
         Statement::DoWhile {
             extent,
@@ -87,11 +76,7 @@ pub fn statement(
         } => {
             let body = statement(alloc, progress, setting.in_loop(), body)?;
             let tree = condition(alloc, progress, *extent, e)?;
-            Ok(TypedStatement::DoWhile {
-                body: Box::new(alloc, body)?,
-                spot: e.first(),
-                condition: tree,
-            })
+            do_while_of(alloc, body, e.first(), tree)
         }
         Statement::For {
             spot,
@@ -117,26 +102,9 @@ pub fn statement(
             misplaced(alloc, progress, labels)?;
             statement(alloc, progress, setting, s)
         }
-        Statement::Break(extent) => {
-            unless(progress, setting.may_break, Code::MISPLACED_JUMP, *extent)?;
-            Ok(TypedStatement::Break(extent.first))
-        }
-        Statement::Continue(extent) => {
-            unless(
-                progress,
-                setting.may_continue,
-                Code::MISPLACED_JUMP,
-                *extent,
-            )?;
-            Ok(TypedStatement::Continue(extent.first))
-        }
-        Statement::Return { extent, value } => {
-            let value = return_value(alloc, progress, setting.result, *extent, value)?;
-            Ok(TypedStatement::Return {
-                spot: extent.first,
-                value,
-            })
-        }
+        Statement::Break(extent) => broken(alloc, progress, setting, *extent),
+        Statement::Continue(extent) => continued(alloc, progress, setting, *extent),
+        Statement::Return { extent, value } => returned(alloc, progress, setting, *extent, value),
     }
 }
 
@@ -224,8 +192,8 @@ fn last_else(
     progress: &mut Progress,
     setting: Setting,
     otherwise: &Option<Box<Statement>>,
-) -> Result<Option<TypedStatement>, AllocError>
-    ensures { IfOk result (λ t. means (option_map typed_tree.statement_view t) (progress_view progress.new) ≡ else_met setting (option_map (λ s. statement_view s.value) otherwise.now) (progress_view progress.old)) }
+) -> Result<Option<Box<TypedStatement>>, AllocError>
+    ensures { IfOk result (λ t. means (option_map (λ s. typed_tree.statement_view s.value) t) (progress_view progress.new) ≡ else_met setting (option_map (λ s. statement_view s.value) otherwise.now) (progress_view progress.old)) }
 {
     match otherwise {
         None => Ok(None),
@@ -247,8 +215,8 @@ fn for_loop(
     test: &Option<Expression>,
     last: &Option<Expression>,
     body: &Statement,
-) -> Result<TypedStatement, AllocError>
-    ensures { IfOk result (λ t. means (typed_tree.statement_view t) (progress_view progress.new) ≡ for_met setting spot (start_view first.now) (option_map expression_view test.now) (option_map expression_view last.now) (statement_view body.now) (progress_view progress.old)) }
+) -> Result<Box<TypedStatement>, AllocError>
+    ensures { IfOk result (λ t. means (typed_tree.statement_view t.value) (progress_view progress.new) ≡ for_met setting spot (start_view first.now) (option_map expression_view test.now) (option_map expression_view last.now) (statement_view body.now) (progress_view progress.old)) }
 {
     let extent = Extent {
         first: spot,
@@ -258,13 +226,9 @@ fn for_loop(
     let condition = condition_if_any(alloc, progress, extent, test)?;
     let step = step(alloc, progress, last)?;
     let body = statement(alloc, progress, setting.in_loop(), body)?;
-    Ok(TypedStatement::For {
-        start,
-        spot: head_of(spot, test),
-        condition,
-        step,
-        body: Box::new(alloc, body)?,
-    })
+    let head = head_of(spot, test);
+    let made = for_of(alloc, start, head, condition, step, body)?;
+    Ok(made)
 }
 
 /// Where the place of a `for` stands: at its condition, or without one at its own first token.
@@ -286,8 +250,8 @@ fn switch(
     spot: Spot,
     block: &Block,
     value: &Expression,
-) -> Result<TypedStatement, AllocError>
-    ensures { IfOk result (λ t. means (typed_tree.statement_view t) (progress_view progress.new) ≡ switch_met setting spot (expression_view value.now) (chain (map statement_view block.now.statements.items)) block.now.closing (progress_view progress.old)) }
+) -> Result<Box<TypedStatement>, AllocError>
+    ensures { IfOk result (λ t. means (typed_tree.statement_view t.value) (progress_view progress.new) ≡ switch_met setting spot (expression_view value.now) (chain (map statement_view block.now.statements.items)) block.now.closing (progress_view progress.old)) }
 {
     let extent = Extent {
         first: spot,
@@ -303,11 +267,8 @@ fn switch(
         &block.statements,
     )?;
     progress.close();
-    Ok(TypedStatement::Switch {
-        spot: value.first(),
-        value: chosen.tree,
-        body: Box::new(alloc, body)?,
-    })
+    let made = switch_of(alloc, value.first(), chosen.tree, body)?;
+    Ok(made)
 }
 
 /// The statements of the block of a `switch`.

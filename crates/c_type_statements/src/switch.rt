@@ -12,16 +12,16 @@ ghost use Rattle.c_type_values.specs.Values.{value_view};
 use crate::part::Part;
 use crate::setting::unless;
 use c_tree::{Expression, Extent, IntegerType, Rvalue, ValueType};
-use c_type_declarations::Progress;
+use c_type_declarations::{Progress, tree_of};
 use c_type_rules::{Constancy, promoted, wrapped};
-use c_type_values::{Value, to_integer};
+use c_type_values::{Value, given, to_integer};
 use debug_records::Code;
 use std::alloc::{AllocError, Global};
 
 /// What a `switch` tests.
 #[derive(Drop)]
 pub struct Chosen {
-    pub tree: Rvalue,
+    pub tree: Box<Rvalue>,
     /// The promoted type of its value. None where that is at fault.
     pub kind: Option<IntegerType>,
 }
@@ -54,22 +54,20 @@ fn chosen_from(
     ensures { IfOk result (λ c. means (chosen_view c) (progress_view progress.new) ≡ chosen extent (option_map value_view value) (progress_view progress.old)) }
 {
     let Some(value) = value else {
-        return Ok(Chosen {
-            tree: Rvalue::Null,
-            kind: None,
-        });
+        let tree = given!(tree_of(alloc, None));
+        return Ok(Chosen { tree, kind: None });
     };
     match value.of {
         ValueType::Integer(of) => {
             let kind = promoted(of);
-            let value = to_integer(alloc, value, kind)?;
+            let value = given!(to_integer(alloc, value, kind));
             Ok(Chosen {
                 tree: value.tree,
                 kind: Some(kind),
             })
         }
         ValueType::Void | ValueType::Pointer(_) => {
-            progress.fault(Code::OPERAND_TYPES, extent)?;
+            given!(progress.fault(Code::OPERAND_TYPES, extent));
             Ok(Chosen {
                 tree: value.tree,
                 kind: None,
@@ -87,7 +85,7 @@ pub fn chosen_value(
 ) -> Result<Chosen, AllocError>
     ensures { IfOk result (λ c. means (chosen_view c) (progress_view progress.new) ≡ chosen_met extent (expression_view e.now) (progress_view progress.old)) }
 {
-    let value = progress.value(alloc, e)?;
+    let value = given!(progress.value(alloc, e));
     chosen_from(alloc, progress, extent, value)
 }
 
@@ -162,7 +160,8 @@ pub fn case(
 ) -> Result<(), AllocError>
     ensures { OnOk result (means (so_far parts.new.items labels.new) (progress_view progress.new) ≡ next_met (case_met kind extent (expression_view e.now) (labels_view labels.old) (progress_view progress.old)) (behind (map part_view parts.old.items))) }
 {
-    match progress.value(alloc, e)? {
+    let value = progress.value(alloc, e)?;
+    match value {
         None => Ok(()),
         Some(value) => {
             let number = case_value(kind, value.of, value.constant);

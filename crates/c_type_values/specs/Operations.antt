@@ -1,5 +1,5 @@
 -- Operators on values (6.5). None is what the language does not allow.
-use Rattle.std.specs.Prelude.{ℕ, Bool, true, false, ◌&&◌, Option, Some, None, if◌then◌else◌}
+use Rattle.std.specs.Prelude.{Bool, true, false, ◌&&◌, Option, Some, None, if◌then◌else◌}
 use Rattle.c_tree.specs.declared.types.IntegerType.{IntegerType}
 use Rattle.c_tree.specs.declared.types.IntegerType.TheVariants.{Int}
 use Rattle.c_tree.specs.declared.operator.BinaryOperator.{BinaryOperator}

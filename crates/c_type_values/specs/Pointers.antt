@@ -1,11 +1,10 @@
 -- Addresses and what stands at them (6.5.2.1 and 6.5.3.2).
-use Rattle.std.specs.Prelude.{ℕ, ◌*◌, pos, negsuc, nat_le, Bool, true, false, Option, Some, None, if◌then◌else◌}
-use Rattle.c_tree.specs.declared.object_type.ObjectType.{ObjectType}
+use Rattle.std.specs.Prelude.{ℕ, ◌*◌, pos, nat_le, Option, Some, None, if◌then◌else◌}
 use Rattle.c_tree.specs.declared.object_type.ObjectType.TheVariants.{Array}
 use Rattle.c_tree.specs.declared.object_type.Object.TheVariants.{Static}
 use Rattle.c_tree.specs.declared.object_type.ValueType.{ValueType}
-use Rattle.c_tree.specs.declared.object_type.ValueType.TheVariants.{Void, Integer, Pointer}
-use Rattle.c_tree.specs.TypedExpressions.{RvalueTree, LvalueTree, Decay, Named, AddressOf, Target, Element, ElementFrom}
+use Rattle.c_tree.specs.declared.object_type.ValueType.TheVariants.{Integer, Pointer}
+use Rattle.c_tree.specs.TypedExpressions.{RvalueTree, Decay, Named, AddressOf, Target, Element, ElementFrom}
 use Rattle.c_type_rules.specs.declared.constancy.Constancy.{Constancy}
 use Rattle.c_type_rules.specs.declared.constancy.Constancy.TheVariants.{Varies, Known, Address}
 use Rattle.c_type_rules.specs.Integers.{promoted, scalar_size}

@@ -1,11 +1,12 @@
 -- What expressions mean: objects, or values with their types.
-use Rattle.std.specs.Prelude.{ℕ, pos, Bool, true, false, Option, Some, None, if◌then◌else◌}
+use Rattle.std.specs.Prelude.{pos, Bool, false, Option, Some, None, Box, if◌then◌else◌}
+use Rattle.std.specs.Global.{Global}
 use Rattle.c_tree.specs.declared.types.IntegerType.{IntegerType}
-use Rattle.c_tree.specs.declared.object_type.Scalar.{Scalar}
 use Rattle.c_tree.specs.declared.object_type.ObjectType.{ObjectType}
 use Rattle.c_tree.specs.declared.object_type.ObjectType.TheVariants as object
 use Rattle.c_tree.specs.declared.object_type.ValueType.{ValueType}
-use Rattle.c_tree.specs.declared.object_type.ValueType.TheVariants.{Void, Integer, Pointer}
+use Rattle.c_tree.specs.declared.object_type.ValueType.TheVariants.{Integer, Pointer}
+use Rattle.c_tree.specs.declared.typed_expression.Rvalue.{Rvalue}
 use Rattle.c_tree.specs.TypedExpressions.{RvalueTree, LvalueTree, Load, Decay, Convert, Null, rvalue_view, lvalue_view}
 use Rattle.c_type_rules.specs.declared.constancy.Constancy.{Constancy}
 use Rattle.c_type_rules.specs.declared.constancy.Constancy.TheVariants.{Varies, Known}
@@ -21,8 +22,12 @@ pub record ValueTree : Type 0 where
   pub tree : RvalueTree
   pub constant : Constancy
 
+-- a node on the heap
+abbrev pub node_view : Box Rvalue Global → RvalueTree
+node_view b = rvalue_view b.value
+
 abbrev pub value_view : Value → ValueTree
-value_view v = record { of = v.of; tree = rvalue_view v.tree; constant = v.constant }
+value_view v = record { of = v.of; tree = node_view v.tree; constant = v.constant }
 
 -- an object of a type, with its address where that is a constant; or a value
 pub data MeantTree : Type 0 where
@@ -30,7 +35,7 @@ pub data MeantTree : Type 0 where
   IsValue : ValueTree → MeantTree
 
 abbrev pub meant_view : declared-meant.Meant → MeantTree
-meant_view (meant.Object of tree constant) = IsObject of (lvalue_view tree) constant
+meant_view (meant.Object of tree constant) = IsObject of (lvalue_view tree.value) constant
 meant_view (meant.Value v) = IsValue (value_view v)
 
 -- the value of an expression: what an object of a scalar type holds, and a pointer to the first element of an array (6.3.2.1)

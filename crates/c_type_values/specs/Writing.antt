@@ -1,10 +1,10 @@
 -- Assignments, `++` and `--` (6.5.2.4, 6.5.3.1 and 6.5.16).
-use Rattle.std.specs.Prelude.{ℕ, Bool, true, false, ◌==◌, Option, Some, None, if◌then◌else◌}
+use Rattle.std.specs.Prelude.{Bool, true, false, ◌==◌, Option, Some, if◌then◌else◌}
 use Rattle.c_tree.specs.declared.types.IntegerType.{IntegerType}
 use Rattle.c_tree.specs.declared.object_type.Scalar.{Scalar}
 use Rattle.c_tree.specs.declared.object_type.ObjectType.TheVariants as object
 use Rattle.c_tree.specs.declared.object_type.ValueType.{ValueType}
-use Rattle.c_tree.specs.declared.object_type.ValueType.TheVariants.{Void, Integer, Pointer}
+use Rattle.c_tree.specs.declared.object_type.ValueType.TheVariants.{Integer, Pointer}
 use Rattle.c_tree.specs.declared.typed_expression.Arithmetic.{Arithmetic}
 use Rattle.c_tree.specs.declared.typed_expression.Arithmetic.TheVariants.{Add, Subtract}
 use Rattle.c_tree.specs.declared.typed_expression.Direction.{Direction}
@@ -14,7 +14,7 @@ use Rattle.c_tree.specs.TypedExpressions.{RvalueTree, LvalueTree, Assign, Update
 use Rattle.c_type_rules.specs.declared.constancy.Constancy.TheVariants.{Varies}
 use Rattle.c_type_rules.specs.Integers.{common, promoted}
 use Rattle.c_type_rules.specs.Types.{loaded, pointed_to}
-use Rattle.c_type_values.specs.Values.{ValueTree, MeantTree, IsObject, IsValue, as_value, to_integer}
+use Rattle.c_type_values.specs.Values.{ValueTree, MeantTree, IsObject, as_value, to_integer}
 use Rattle.c_type_values.specs.Operations.{is_shift}
 
 -- what can be written: an object of a scalar type

@@ -4,6 +4,8 @@ ghost use Rattle.std.specs.Prelude.{◌≡◌, IfOk};
 ghost use Rattle.std.specs.Option.{option_map};
 ghost use Rattle.c_type_values.specs.Values.{converted, is_of, null, to_integer, value_view};
 
+use crate::given;
+use crate::nodes::node;
 use crate::value::Value;
 use c_tree::{IntegerType, Rvalue, ValueType};
 use c_type_rules::{Constancy, converted_constant, same_integer, same_value};
@@ -27,25 +29,30 @@ pub fn to_integer(alloc: Global, value: Value, to: IntegerType) -> Result<Value,
     if is_of(value.of, to) {
         return Ok(value);
     }
+    let tree = given!(node(
+        alloc,
+        Rvalue::Convert {
+            to,
+            operand: value.tree,
+        }
+    ));
     Ok(Value {
         of: ValueType::Integer(to),
-        tree: Rvalue::Convert {
-            to,
-            operand: Box::new(alloc, value.tree)?,
-        },
+        tree,
         constant: converted_constant(to, value.constant),
     })
 }
 
 /// The null pointer of a type.
-pub fn null(of: ValueType) -> Value
-    ensures { value_view result ≡ null of }
+pub fn null(alloc: Global, of: ValueType) -> Result<Value, AllocError>
+    ensures { IfOk result (λ v. value_view v ≡ null of) }
 {
-    Value {
+    let tree = given!(node(alloc, Rvalue::Null));
+    Ok(Value {
         of,
-        tree: Rvalue::Null,
+        tree,
         constant: Constancy::Known(0),
-    }
+    })
 }
 
 /// A value as if assigned to an object that holds values of a type: an integer is converted to any integer type, a pointer only to its own, and a constant token 0 to the null pointer. None where the language does not allow it (6.5.16.1).
@@ -59,12 +66,13 @@ pub fn converted(
 {
     match (to, value.of) {
         (ValueType::Integer(integer_type), ValueType::Integer(_)) => {
-            let made = to_integer(alloc, value, integer_type)?;
+            let made = given!(to_integer(alloc, value, integer_type));
             Ok(Some(made))
         }
         (ValueType::Pointer(_), ValueType::Integer(_)) => {
             if is_zero {
-                Ok(Some(null(to)))
+                let nothing = given!(null(alloc, to));
+                Ok(Some(nothing))
             } else {
                 Ok(None)
             }

@@ -1,15 +1,17 @@
 //! Values with their types, and what conversions and operators make of them.
 #![tactic(auto)]
 
-pub mod conversion;
-pub mod operation;
-pub mod pointer;
-pub mod value;
-pub mod writing;
+mod conversion;
+mod nodes;
+mod operation;
+mod pointer;
+mod value;
+mod writing;
 
 pub use conversion::{converted, null, to_integer};
+pub use nodes::node;
 pub use operation::{
-    combined, conditional, discarded, is_scalar, negated, sequenced, signed_value,
+    Operation, combined, conditional, discarded, is_scalar, negated, sequenced, signed_value,
 };
 pub use pointer::{address, dereferenced, element_of};
 pub use value::{Meant, Value, as_value, meant_type};

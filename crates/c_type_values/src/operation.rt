@@ -3,9 +3,11 @@
 ghost use Rattle.std.specs.Prelude.{◌≡◌, IfOk};
 ghost use Rattle.std.specs.Option.{option_map};
 ghost use Rattle.c_type_values.specs.Values.{value_view};
-ghost use Rattle.c_type_values.specs.Operations.{arithmetic_value, both, calculated_value, chosen, chosen_integer, combined, compared_value, conditional, difference, discarded, either, integers_compared, is_equality, is_scalar, is_shift, moved, moved_from, negated, operation_of, pointers_compared, sequenced, signed_value};
+ghost use Rattle.c_type_values.specs.Operations.{arithmetic_value, both, calculated_value, chosen, chosen_as, chosen_integer, combined, compared_value, conditional, difference, discarded, either, integers_compared, is_equality, is_scalar, is_shift, moved, moved_from, negated, operation_of, pointers_compared, sequenced, signed_value};
 
 use crate::conversion::{null, to_integer};
+use crate::given;
+use crate::nodes::node;
 use crate::value::Value;
 use c_tree::{
     Arithmetic, BinaryOperator, Comparison, Direction, IntegerType, ObjectType, Rvalue, Sign,
@@ -19,7 +21,7 @@ use c_type_rules::{
 use std::alloc::{AllocError, Global};
 
 /// What an operator between two operands does.
-#[derive(Clone, Copy, PartialEq, Eq)]
+#[derive(Clone, Copy)]
 pub enum Operation {
     Calculates(Arithmetic),
     Compares(Comparison),
@@ -81,14 +83,18 @@ pub fn signed_value(alloc: Global, sign: Sign, value: Value) -> Result<Option<Va
     match value.of {
         ValueType::Integer(own) => {
             let integer_type = promoted(own);
-            let operand = to_integer(alloc, value, integer_type)?;
-            Ok(Some(Value {
-                of: ValueType::Integer(integer_type),
-                tree: Rvalue::Signed {
+            let operand = given!(to_integer(alloc, value, integer_type));
+            let tree = given!(node(
+                alloc,
+                Rvalue::Signed {
                     sign,
                     integer_type,
-                    operand: Box::new(alloc, operand.tree)?,
-                },
+                    operand: operand.tree,
+                }
+            ));
+            Ok(Some(Value {
+                of: ValueType::Integer(integer_type),
+                tree,
                 constant: sign_constant(sign, integer_type, operand.constant),
             }))
         }
@@ -103,9 +109,10 @@ pub fn negated(alloc: Global, value: Value) -> Result<Option<Value>, AllocError>
     if !is_scalar(value.of) {
         return Ok(None);
     }
+    let tree = given!(node(alloc, Rvalue::Not(value.tree)));
     Ok(Some(Value {
         of: ValueType::Integer(IntegerType::Int),
-        tree: Rvalue::Not(Box::new(alloc, value.tree)?),
+        tree,
         constant: not_constant(value.constant),
     }))
 }
@@ -114,9 +121,10 @@ pub fn negated(alloc: Global, value: Value) -> Result<Option<Value>, AllocError>
 pub fn discarded(alloc: Global, value: Value) -> Result<Value, AllocError>
     ensures { IfOk result (λ v. value_view v ≡ discarded (value_view value)) }
 {
+    let tree = given!(node(alloc, Rvalue::Discard(value.tree)));
     Ok(Value {
         of: ValueType::Void,
-        tree: Rvalue::Discard(Box::new(alloc, value.tree)?),
+        tree,
         constant: Constancy::Varies,
     })
 }
@@ -143,16 +151,20 @@ fn arithmetic_value(
     } else {
         integer_type
     };
-    let left = to_integer(alloc, left, integer_type)?;
-    let right = to_integer(alloc, right, other_type)?;
-    Ok(Value {
-        of: ValueType::Integer(integer_type),
-        tree: Rvalue::Arithmetic {
+    let left = given!(to_integer(alloc, left, integer_type));
+    let right = given!(to_integer(alloc, right, other_type));
+    let tree = given!(node(
+        alloc,
+        Rvalue::Arithmetic {
             operator,
             integer_type,
-            left: Box::new(alloc, left.tree)?,
-            right: Box::new(alloc, right.tree)?,
-        },
+            left: left.tree,
+            right: right.tree,
+        }
+    ));
+    Ok(Value {
+        of: ValueType::Integer(integer_type),
+        tree,
         constant: arithmetic_constant(operator, integer_type, left.constant, right.constant),
     })
 }
@@ -168,15 +180,19 @@ fn moved(
 ) -> Result<Value, AllocError>
     ensures { IfOk result (λ v. value_view v ≡ moved direction element by_type (value_view pointer) (value_view by)) }
 {
-    let by = to_integer(alloc, by, promoted(by_type))?;
-    Ok(Value {
-        of: ValueType::Pointer(element),
-        tree: Rvalue::Move {
+    let by = given!(to_integer(alloc, by, promoted(by_type)));
+    let tree = given!(node(
+        alloc,
+        Rvalue::Move {
             direction,
             element,
-            pointer: Box::new(alloc, pointer.tree)?,
-            by: Box::new(alloc, by.tree)?,
-        },
+            pointer: pointer.tree,
+            by: by.tree,
+        }
+    ));
+    Ok(Value {
+        of: ValueType::Pointer(element),
+        tree,
         constant: Constancy::Varies,
     })
 }
@@ -191,14 +207,18 @@ fn moved_from(
 ) -> Result<Value, AllocError>
     ensures { IfOk result (λ v. value_view v ≡ moved_from element by_type (value_view by) (value_view pointer)) }
 {
-    let by = to_integer(alloc, by, promoted(by_type))?;
+    let by = given!(to_integer(alloc, by, promoted(by_type)));
+    let tree = given!(node(
+        alloc,
+        Rvalue::MoveFrom {
+            by: by.tree,
+            element,
+            pointer: pointer.tree,
+        }
+    ));
     Ok(Value {
         of: ValueType::Pointer(element),
-        tree: Rvalue::MoveFrom {
-            by: Box::new(alloc, by.tree)?,
-            element,
-            pointer: Box::new(alloc, pointer.tree)?,
-        },
+        tree,
         constant: Constancy::Varies,
     })
 }
@@ -212,13 +232,17 @@ fn difference(
 ) -> Result<Value, AllocError>
     ensures { IfOk result (λ v. value_view v ≡ difference element (value_view left) (value_view right)) }
 {
+    let tree = given!(node(
+        alloc,
+        Rvalue::Difference {
+            element,
+            left: left.tree,
+            right: right.tree,
+        }
+    ));
     Ok(Value {
         of: ValueType::Integer(IntegerType::Int),
-        tree: Rvalue::Difference {
-            element,
-            left: Box::new(alloc, left.tree)?,
-            right: Box::new(alloc, right.tree)?,
-        },
+        tree,
         constant: Constancy::Varies,
     })
 }
@@ -234,23 +258,25 @@ fn calculated_value(
 {
     match (left.of, right.of) {
         (ValueType::Integer(left_type), ValueType::Integer(right_type)) => {
-            let made = arithmetic_value(alloc, operator, left, right, left_type, right_type)?;
+            let made = given!(arithmetic_value(
+                alloc, operator, left, right, left_type, right_type
+            ));
             Ok(Some(made))
         }
         (ValueType::Pointer(element), ValueType::Integer(by_type)) => match operator {
             Arithmetic::Add => {
-                let made = moved(alloc, Direction::Up, element, left, right, by_type)?;
+                let made = given!(moved(alloc, Direction::Up, element, left, right, by_type));
                 Ok(Some(made))
             }
             Arithmetic::Subtract => {
-                let made = moved(alloc, Direction::Down, element, left, right, by_type)?;
+                let made = given!(moved(alloc, Direction::Down, element, left, right, by_type));
                 Ok(Some(made))
             }
             _ => Ok(None),
         },
         (ValueType::Integer(by_type), ValueType::Pointer(element)) => match operator {
             Arithmetic::Add => {
-                let made = moved_from(alloc, element, left, by_type, right)?;
+                let made = given!(moved_from(alloc, element, left, by_type, right));
                 Ok(Some(made))
             }
             _ => Ok(None),
@@ -258,7 +284,7 @@ fn calculated_value(
         (ValueType::Pointer(element), ValueType::Pointer(other)) => match operator {
             Arithmetic::Subtract => {
                 if same_object(element, other) {
-                    let made = difference(alloc, element, left, right)?;
+                    let made = given!(difference(alloc, element, left, right));
                     Ok(Some(made))
                 } else {
                     Ok(None)
@@ -279,13 +305,17 @@ fn pointers_compared(
 ) -> Result<Value, AllocError>
     ensures { IfOk result (λ v. value_view v ≡ pointers_compared operator (value_view left) (value_view right)) }
 {
+    let tree = given!(node(
+        alloc,
+        Rvalue::ComparePointers {
+            operator,
+            left: left.tree,
+            right: right.tree,
+        }
+    ));
     Ok(Value {
         of: ValueType::Integer(IntegerType::Int),
-        tree: Rvalue::ComparePointers {
-            operator,
-            left: Box::new(alloc, left.tree)?,
-            right: Box::new(alloc, right.tree)?,
-        },
+        tree,
         constant: Constancy::Varies,
     })
 }
@@ -300,16 +330,20 @@ fn integers_compared(
 ) -> Result<Value, AllocError>
     ensures { IfOk result (λ v. value_view v ≡ integers_compared operator integer_type (value_view left) (value_view right)) }
 {
-    let left = to_integer(alloc, left, integer_type)?;
-    let right = to_integer(alloc, right, integer_type)?;
-    Ok(Value {
-        of: ValueType::Integer(IntegerType::Int),
-        tree: Rvalue::Compare {
+    let left = given!(to_integer(alloc, left, integer_type));
+    let right = given!(to_integer(alloc, right, integer_type));
+    let tree = given!(node(
+        alloc,
+        Rvalue::Compare {
             operator,
             integer_type,
-            left: Box::new(alloc, left.tree)?,
-            right: Box::new(alloc, right.tree)?,
-        },
+            left: left.tree,
+            right: right.tree,
+        }
+    ));
+    Ok(Value {
+        of: ValueType::Integer(IntegerType::Int),
+        tree,
         constant: comparison_constant(operator, left.constant, right.constant),
     })
 }
@@ -327,18 +361,18 @@ fn compared_value(
 {
     match (left.of, right.of) {
         (ValueType::Integer(left_type), ValueType::Integer(right_type)) => {
-            let made = integers_compared(
+            let made = given!(integers_compared(
                 alloc,
                 operator,
                 left,
                 right,
                 common(left_type, right_type),
-            )?;
+            ));
             Ok(Some(made))
         }
         (ValueType::Pointer(element), ValueType::Pointer(other)) => {
             if same_object(element, other) {
-                let made = pointers_compared(alloc, operator, left, right)?;
+                let made = given!(pointers_compared(alloc, operator, left, right));
                 Ok(Some(made))
             } else {
                 Ok(None)
@@ -346,8 +380,8 @@ fn compared_value(
         }
         (ValueType::Pointer(_), ValueType::Integer(_)) => {
             if is_equality(operator) && right_zero {
-                let nothing = null(left.of);
-                let made = pointers_compared(alloc, operator, left, nothing)?;
+                let nothing = given!(null(alloc, left.of));
+                let made = given!(pointers_compared(alloc, operator, left, nothing));
                 Ok(Some(made))
             } else {
                 Ok(None)
@@ -355,8 +389,8 @@ fn compared_value(
         }
         (ValueType::Integer(_), ValueType::Pointer(_)) => {
             if is_equality(operator) && left_zero {
-                let nothing = null(right.of);
-                let made = pointers_compared(alloc, operator, nothing, right)?;
+                let nothing = given!(null(alloc, right.of));
+                let made = given!(pointers_compared(alloc, operator, nothing, right));
                 Ok(Some(made))
             } else {
                 Ok(None)
@@ -373,9 +407,10 @@ fn both(alloc: Global, left: Value, right: Value) -> Result<Option<Value>, Alloc
     if !is_scalar(left.of) || !is_scalar(right.of) {
         return Ok(None);
     }
+    let tree = given!(node(alloc, Rvalue::And(left.tree, right.tree)));
     Ok(Some(Value {
         of: ValueType::Integer(IntegerType::Int),
-        tree: Rvalue::And(Box::new(alloc, left.tree)?, Box::new(alloc, right.tree)?),
+        tree,
         constant: and_constant(left.constant, right.constant),
     }))
 }
@@ -387,9 +422,10 @@ fn either(alloc: Global, left: Value, right: Value) -> Result<Option<Value>, All
     if !is_scalar(left.of) || !is_scalar(right.of) {
         return Ok(None);
     }
+    let tree = given!(node(alloc, Rvalue::Or(left.tree, right.tree)));
     Ok(Some(Value {
         of: ValueType::Integer(IntegerType::Int),
-        tree: Rvalue::Or(Box::new(alloc, left.tree)?, Box::new(alloc, right.tree)?),
+        tree,
         constant: or_constant(left.constant, right.constant),
     }))
 }
@@ -419,9 +455,10 @@ pub fn combined(
 pub fn sequenced(alloc: Global, left: Value, right: Value) -> Result<Value, AllocError>
     ensures { IfOk result (λ v. value_view v ≡ sequenced (value_view left) (value_view right)) }
 {
+    let tree = given!(node(alloc, Rvalue::Comma(left.tree, right.tree)));
     Ok(Value {
         of: right.of,
-        tree: Rvalue::Comma(Box::new(alloc, left.tree)?, Box::new(alloc, right.tree)?),
+        tree,
         constant: Constancy::Varies,
     })
 }
@@ -437,15 +474,15 @@ fn chosen(
 ) -> Result<Value, AllocError>
     ensures { IfOk result (λ v. value_view v ≡ chosen of (value_view condition) (value_view then) (value_view otherwise) constant) }
 {
-    Ok(Value {
-        of,
-        tree: Rvalue::Conditional {
-            condition: Box::new(alloc, condition.tree)?,
-            then: Box::new(alloc, then.tree)?,
-            otherwise: Box::new(alloc, otherwise.tree)?,
-        },
-        constant,
-    })
+    let tree = given!(node(
+        alloc,
+        Rvalue::Conditional {
+            condition: condition.tree,
+            then: then.tree,
+            otherwise: otherwise.tree,
+        }
+    ));
+    Ok(Value { of, tree, constant })
 }
 
 /// `a?b:c` on two integers, in their common type.
@@ -458,8 +495,8 @@ fn chosen_integer(
 ) -> Result<Value, AllocError>
     ensures { IfOk result (λ v. value_view v ≡ chosen_integer integer_type (value_view condition) (value_view then) (value_view otherwise)) }
 {
-    let then = to_integer(alloc, then, integer_type)?;
-    let otherwise = to_integer(alloc, otherwise, integer_type)?;
+    let then = given!(to_integer(alloc, then, integer_type));
+    let otherwise = given!(to_integer(alloc, otherwise, integer_type));
     let constant = conditional_constant(condition.constant, then.constant, otherwise.constant);
     chosen(
         alloc,
@@ -469,6 +506,52 @@ fn chosen_integer(
         otherwise,
         constant,
     )
+}
+
+/// `a?b:c` by its arms: two integers, of one type, or a pointer and a constant token 0; none of others.
+fn chosen_as(
+    alloc: Global,
+    condition: Value,
+    then: Value,
+    otherwise: Value,
+    then_zero: bool,
+    other_zero: bool,
+) -> Result<Option<Value>, AllocError>
+    ensures { IfOk result (λ v. option_map value_view v ≡ chosen_as then.of otherwise.of (value_view condition) (value_view then) (value_view otherwise) then_zero other_zero) }
+{
+    let varies = Constancy::Varies;
+    match (then.of, otherwise.of) {
+        (ValueType::Integer(left), ValueType::Integer(right)) => {
+            let of = common(left, right);
+            let made = given!(chosen_integer(alloc, of, condition, then, otherwise));
+            Ok(Some(made))
+        }
+        (ValueType::Pointer(_), ValueType::Integer(_)) => {
+            if !other_zero {
+                return Ok(None);
+            }
+            let of = then.of;
+            let nothing = given!(null(alloc, of));
+            let made = given!(chosen(alloc, of, condition, then, nothing, varies));
+            Ok(Some(made))
+        }
+        (ValueType::Integer(_), ValueType::Pointer(_)) => {
+            if !then_zero {
+                return Ok(None);
+            }
+            let of = otherwise.of;
+            let nothing = given!(null(alloc, of));
+            let made = given!(chosen(alloc, of, condition, nothing, otherwise, varies));
+            Ok(Some(made))
+        }
+        (of, other) => {
+            if !same_value(of, other) {
+                return Ok(None);
+            }
+            let made = given!(chosen(alloc, of, condition, then, otherwise, varies));
+            Ok(Some(made))
+        }
+    }
 }
 
 /// `a?b:c`: the condition is a scalar, and the arms are two integers, of one type, or a pointer and a constant token 0; none of others.
@@ -485,36 +568,5 @@ pub fn conditional(
     if !is_scalar(condition.of) {
         return Ok(None);
     }
-    match (then.of, otherwise.of) {
-        (ValueType::Integer(left), ValueType::Integer(right)) => {
-            let made = chosen_integer(alloc, common(left, right), condition, then, otherwise)?;
-            Ok(Some(made))
-        }
-        (ValueType::Pointer(_), ValueType::Integer(_)) => {
-            if other_zero {
-                let of = then.of;
-                let made = chosen(alloc, of, condition, then, null(of), Constancy::Varies)?;
-                Ok(Some(made))
-            } else {
-                Ok(None)
-            }
-        }
-        (ValueType::Integer(_), ValueType::Pointer(_)) => {
-            if then_zero {
-                let of = otherwise.of;
-                let made = chosen(alloc, of, condition, null(of), otherwise, Constancy::Varies)?;
-                Ok(Some(made))
-            } else {
-                Ok(None)
-            }
-        }
-        (of, other) => {
-            if same_value(of, other) {
-                let made = chosen(alloc, of, condition, then, otherwise, Constancy::Varies)?;
-                Ok(Some(made))
-            } else {
-                Ok(None)
-            }
-        }
-    }
+    chosen_as(alloc, condition, then, otherwise, then_zero, other_zero)
 }

@@ -7,6 +7,8 @@ ghost use Rattle.c_type_values.specs.Pointers.{address, dereferenced, element_ad
 ghost use Rattle.c_tree.specs.TypedExpressions.{rvalue_view};
 
 use crate::conversion::to_integer;
+use crate::given;
+use crate::nodes::node;
 use crate::value::{Meant, Value};
 use c_tree::{Lvalue, Object, ObjectType, Rvalue, ValueType};
 use c_type_rules::{Constancy, promoted, scalar_size};
@@ -18,11 +20,14 @@ pub fn address(alloc: Global, meant: Meant) -> Result<Option<Value>, AllocError>
 {
     match meant {
         Meant::Value(_) => Ok(None),
-        Meant::Object { of, tree, constant } => Ok(Some(Value {
-            of: ValueType::Pointer(of),
-            tree: Rvalue::AddressOf(Box::new(alloc, tree)?),
-            constant,
-        })),
+        Meant::Object { of, tree, constant } => {
+            let tree = given!(node(alloc, Rvalue::AddressOf(tree)));
+            Ok(Some(Value {
+                of: ValueType::Pointer(of),
+                tree,
+                constant,
+            }))
+        }
     }
 }
 
@@ -31,14 +36,20 @@ pub fn dereferenced(alloc: Global, value: Value) -> Result<Option<Meant>, AllocE
     ensures { IfOk result (λ m. option_map meant_view m ≡ dereferenced (value_view value)) }
 {
     match value.of {
-        ValueType::Pointer(of) => Ok(Some(Meant::Object {
-            of,
-            tree: Lvalue::Target {
+        ValueType::Pointer(of) => {
+            let tree = given!(node(
+                alloc,
+                Lvalue::Target {
+                    of,
+                    pointer: value.tree,
+                }
+            ));
+            Ok(Some(Meant::Object {
                 of,
-                pointer: Box::new(alloc, value.tree)?,
-            },
-            constant: Constancy::Varies,
-        })),
+                tree,
+                constant: Constancy::Varies,
+            }))
+        }
         _ => Ok(None),
     }
 }
@@ -81,27 +92,31 @@ pub fn element_of(alloc: Global, left: Value, right: Value) -> Result<Option<Mea
 {
     match (left.of, right.of) {
         (ValueType::Pointer(of), ValueType::Integer(integer_type)) => {
-            let index = to_integer(alloc, right, promoted(integer_type))?;
+            let index = given!(to_integer(alloc, right, promoted(integer_type)));
             let constant = element_address(&left.tree, index.constant);
-            Ok(Some(Meant::Object {
-                of,
-                tree: Lvalue::Element {
+            let tree = given!(node(
+                alloc,
+                Lvalue::Element {
                     of,
-                    pointer: Box::new(alloc, left.tree)?,
-                    index: Box::new(alloc, index.tree)?,
-                },
-                constant,
-            }))
+                    pointer: left.tree,
+                    index: index.tree,
+                }
+            ));
+            Ok(Some(Meant::Object { of, tree, constant }))
         }
         (ValueType::Integer(integer_type), ValueType::Pointer(of)) => {
-            let index = to_integer(alloc, left, promoted(integer_type))?;
+            let index = given!(to_integer(alloc, left, promoted(integer_type)));
+            let tree = given!(node(
+                alloc,
+                Lvalue::ElementFrom {
+                    of,
+                    index: index.tree,
+                    pointer: right.tree,
+                }
+            ));
             Ok(Some(Meant::Object {
                 of,
-                tree: Lvalue::ElementFrom {
-                    of,
-                    index: Box::new(alloc, index.tree)?,
-                    pointer: Box::new(alloc, right.tree)?,
-                },
+                tree,
                 constant: Constancy::Varies,
             }))
         }

@@ -3,6 +3,8 @@
 ghost use Rattle.std.specs.Prelude.{◌≡◌, IfOk};
 ghost use Rattle.c_type_values.specs.Values.{as_value, meant_type, meant_view, value_view};
 
+use crate::given;
+use crate::nodes::node;
 use c_tree::{Lvalue, ObjectType, Rvalue, ValueType};
 use c_type_rules::{Constancy, loaded};
 use std::alloc::{AllocError, Global};
@@ -11,7 +13,7 @@ use std::alloc::{AllocError, Global};
 #[derive(Drop)]
 pub struct Value {
     pub of: ValueType,
-    pub tree: Rvalue,
+    pub tree: Box<Rvalue>,
     /// Whether it is a constant expression.
     pub constant: Constancy,
 }
@@ -22,7 +24,7 @@ pub enum Meant {
     /// An object of a type. The address of one of static storage is a constant.
     Object {
         of: ObjectType,
-        tree: Lvalue,
+        tree: Box<Lvalue>,
         constant: Constancy,
     },
     Value(Value),
@@ -35,19 +37,28 @@ pub fn as_value(alloc: Global, meant: Meant) -> Result<Value, AllocError>
     match meant {
         Meant::Value(value) => Ok(value),
         Meant::Object { of, tree, constant } => match of {
-            ObjectType::Scalar(scalar) => Ok(Value {
-                of: loaded(scalar),
-                tree: Rvalue::Load {
-                    scalar,
-                    from: Box::new(alloc, tree)?,
-                },
-                constant: Constancy::Varies,
-            }),
-            ObjectType::Array { element, .. } => Ok(Value {
-                of: ValueType::Pointer(ObjectType::Scalar(element)),
-                tree: Rvalue::Decay(Box::new(alloc, tree)?),
-                constant,
-            }),
+            ObjectType::Scalar(scalar) => {
+                let tree = given!(node(
+                    alloc,
+                    Rvalue::Load {
+                        scalar,
+                        from: tree,
+                    }
+                ));
+                Ok(Value {
+                    of: loaded(scalar),
+                    tree,
+                    constant: Constancy::Varies,
+                })
+            }
+            ObjectType::Array { element, .. } => {
+                let tree = given!(node(alloc, Rvalue::Decay(tree)));
+                Ok(Value {
+                    of: ValueType::Pointer(ObjectType::Scalar(element)),
+                    tree,
+                    constant,
+                })
+            }
         },
     }
 }

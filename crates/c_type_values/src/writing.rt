@@ -2,11 +2,13 @@
 
 ghost use Rattle.std.specs.Prelude.{◌≡◌, IfOk};
 ghost use Rattle.std.specs.Option.{option_map};
-ghost use Rattle.c_type_values.specs.Values.{meant_view, value_view};
+ghost use Rattle.c_type_values.specs.Values.{meant_view, node_view, value_view};
 ghost use Rattle.c_type_values.specs.Writing.{assigned, direction_of, integer_updated, is_modifiable, is_updatable, pointer_updated, settled, step_tree, stepped, update_tree, update_type, updated};
-ghost use Rattle.c_tree.specs.TypedExpressions.{lvalue_view, rvalue_view};
+ghost use Rattle.c_tree.specs.TypedExpressions.{lvalue_view};
 
 use crate::conversion::to_integer;
+use crate::given;
+use crate::nodes::node;
 use crate::operation::is_shift;
 use crate::value::{Meant, Value, as_value};
 use c_tree::{
@@ -42,26 +44,33 @@ fn step_tree(
     direction: Direction,
     given: Given,
     scalar: Scalar,
-    target: Lvalue,
-) -> Result<Rvalue, AllocError>
-    ensures { IfOk result (λ r. rvalue_view r ≡ step_tree direction given scalar (lvalue_view target)) }
+    target: Box<Lvalue>,
+) -> Result<Box<Rvalue>, AllocError>
+    ensures { IfOk result (λ r. node_view r ≡ step_tree direction given scalar (lvalue_view target.value)) }
 {
-    let target = Box::new(alloc, target)?;
     if scalar.stars == 0 {
-        Ok(Rvalue::Step {
-            direction,
-            given,
-            target_type: scalar.base,
-            integer_type: promoted(scalar.base),
-            target,
-        })
+        let tree = given!(node(
+            alloc,
+            Rvalue::Step {
+                direction,
+                given,
+                target_type: scalar.base,
+                integer_type: promoted(scalar.base),
+                target,
+            }
+        ));
+        Ok(tree)
     } else {
-        Ok(Rvalue::StepPointer {
-            direction,
-            given,
-            element: ObjectType::Scalar(pointed_to(scalar)),
-            target,
-        })
+        let tree = given!(node(
+            alloc,
+            Rvalue::StepPointer {
+                direction,
+                given,
+                element: ObjectType::Scalar(pointed_to(scalar)),
+                target,
+            }
+        ));
+        Ok(tree)
     }
 }
 
@@ -80,7 +89,7 @@ pub fn stepped(
             tree,
             ..
         } => {
-            let tree = step_tree(alloc, direction, given, scalar, tree)?;
+            let tree = given!(step_tree(alloc, direction, given, scalar, tree));
             Ok(Value {
                 of: loaded(scalar),
                 tree,
@@ -88,7 +97,7 @@ pub fn stepped(
             })
         }
         other => {
-            let value = as_value(alloc, other)?;
+            let value = given!(as_value(alloc, other));
             Ok(settled(value))
         }
     }
@@ -106,17 +115,23 @@ pub fn assigned(alloc: Global, meant: Meant, value: Option<Value>) -> Result<Val
                 ..
             },
             Some(value),
-        ) => Ok(Value {
-            of: loaded(scalar),
-            tree: Rvalue::Assign {
-                scalar,
-                target: Box::new(alloc, tree)?,
-                value: Box::new(alloc, value.tree)?,
-            },
-            constant: Constancy::Varies,
-        }),
+        ) => {
+            let tree = given!(node(
+                alloc,
+                Rvalue::Assign {
+                    scalar,
+                    target: tree,
+                    value: value.tree,
+                }
+            ));
+            Ok(Value {
+                of: loaded(scalar),
+                tree,
+                constant: Constancy::Varies,
+            })
+        }
         (other, _) => {
-            let value = as_value(alloc, other)?;
+            let value = given!(as_value(alloc, other));
             Ok(settled(value))
         }
     }
@@ -152,11 +167,11 @@ fn integer_updated(
     alloc: Global,
     operator: Arithmetic,
     target_type: IntegerType,
-    target: Lvalue,
+    target: Box<Lvalue>,
     value: Value,
     value_type: IntegerType,
-) -> Result<Rvalue, AllocError>
-    ensures { IfOk result (λ r. rvalue_view r ≡ integer_updated operator target_type value_type (lvalue_view target) (value_view value)) }
+) -> Result<Box<Rvalue>, AllocError>
+    ensures { IfOk result (λ r. node_view r ≡ integer_updated operator target_type value_type (lvalue_view target.value) (value_view value)) }
 {
     let integer_type = update_type(operator, target_type, value_type);
     let right_type = if is_shift(operator) {
@@ -164,14 +179,18 @@ fn integer_updated(
     } else {
         integer_type
     };
-    let right = to_integer(alloc, value, right_type)?;
-    Ok(Rvalue::Update {
-        operator,
-        target_type,
-        integer_type,
-        target: Box::new(alloc, target)?,
-        value: Box::new(alloc, right.tree)?,
-    })
+    let right = given!(to_integer(alloc, value, right_type));
+    let tree = given!(node(
+        alloc,
+        Rvalue::Update {
+            operator,
+            target_type,
+            integer_type,
+            target,
+            value: right.tree,
+        }
+    ));
+    Ok(tree)
 }
 
 /// Which way a pointer goes: down for `-=`.
@@ -189,19 +208,23 @@ fn pointer_updated(
     alloc: Global,
     operator: Arithmetic,
     element: Scalar,
-    target: Lvalue,
+    target: Box<Lvalue>,
     value: Value,
     value_type: IntegerType,
-) -> Result<Rvalue, AllocError>
-    ensures { IfOk result (λ r. rvalue_view r ≡ pointer_updated operator element value_type (lvalue_view target) (value_view value)) }
+) -> Result<Box<Rvalue>, AllocError>
+    ensures { IfOk result (λ r. node_view r ≡ pointer_updated operator element value_type (lvalue_view target.value) (value_view value)) }
 {
-    let by = to_integer(alloc, value, promoted(value_type))?;
-    Ok(Rvalue::UpdatePointer {
-        direction: direction_of(operator),
-        element: ObjectType::Scalar(element),
-        target: Box::new(alloc, target)?,
-        by: Box::new(alloc, by.tree)?,
-    })
+    let by = given!(to_integer(alloc, value, promoted(value_type)));
+    let tree = given!(node(
+        alloc,
+        Rvalue::UpdatePointer {
+            direction: direction_of(operator),
+            element: ObjectType::Scalar(element),
+            target,
+            by: by.tree,
+        }
+    ));
+    Ok(tree)
 }
 
 /// What an operator that assigns does to an object of a scalar type.
@@ -209,11 +232,11 @@ fn update_tree(
     alloc: Global,
     operator: Arithmetic,
     scalar: Scalar,
-    target: Lvalue,
+    target: Box<Lvalue>,
     value: Value,
     value_type: IntegerType,
-) -> Result<Rvalue, AllocError>
-    ensures { IfOk result (λ r. rvalue_view r ≡ update_tree operator scalar value_type (lvalue_view target) (value_view value)) }
+) -> Result<Box<Rvalue>, AllocError>
+    ensures { IfOk result (λ r. node_view r ≡ update_tree operator scalar value_type (lvalue_view target.value) (value_view value)) }
 {
     if scalar.stars == 0 {
         integer_updated(alloc, operator, scalar.base, target, value, value_type)
@@ -247,7 +270,7 @@ pub fn updated(
             },
             ValueType::Integer(value_type),
         ) => {
-            let tree = update_tree(alloc, operator, scalar, tree, value, value_type)?;
+            let tree = given!(update_tree(alloc, operator, scalar, tree, value, value_type));
             Ok(Value {
                 of: loaded(scalar),
                 tree,
@@ -255,7 +278,7 @@ pub fn updated(
             })
         }
         (other, _) => {
-            let value = as_value(alloc, other)?;
+            let value = given!(as_value(alloc, other));
             Ok(settled(value))
         }
     }

@@ -72,11 +72,8 @@ fn a_program_runs_from_its_bytes_to_its_transcript(rt: HostRuntime) -> Result<()
     let mut shelf = shelf(rt.alloc(), PROGRAM, SCRIPT, [].as_slice())?;
     let mut sink = MemSink::new(rt.alloc(), [].as_slice())?;
     let words = job(rt.alloc())?;
-    assert_eq!(rt;
-        run(rt.alloc(), &words, &mut shelf, &mut sink),
-        Status::Done
-    );
-    assert_eq!(rt; sink.bytes(), TRANSCRIPT);
+    assert!(rt; run(rt.alloc(), &words, &mut shelf, &mut sink) == Status::Done);
+    assert!(rt; sink.bytes() == TRANSCRIPT);
     Ok(())
 }
 
@@ -85,11 +82,8 @@ fn an_empty_script_saves_the_image_and_says_nothing(rt: HostRuntime) -> Result<(
     let mut shelf = shelf(rt.alloc(), PROGRAM, b"".as_slice(), [].as_slice())?;
     let mut sink = MemSink::new(rt.alloc(), [].as_slice())?;
     let words = job(rt.alloc())?;
-    assert_eq!(rt;
-        run(rt.alloc(), &words, &mut shelf, &mut sink),
-        Status::Done
-    );
-    assert_eq!(rt; sink.bytes(), b"".as_slice());
+    assert!(rt; run(rt.alloc(), &words, &mut shelf, &mut sink) == Status::Done);
+    assert!(rt; sink.bytes() == b"".as_slice());
     assert!(rt; shelf.held("image").is_some());
     Ok(())
 }
@@ -101,16 +95,10 @@ fn a_sink_that_fails_at_its_second_line_has_taken_the_first(rt: HostRuntime) -> 
     let mut shelf = shelf(rt.alloc(), PROGRAM, SCRIPT, [].as_slice())?;
     let mut sink = MemSink::new(rt.alloc(), [2].as_slice())?;
     let words = job(rt.alloc())?;
-    assert_eq!(rt; run(rt.alloc(), &words, &mut whole, &mut all), Status::Done);
-    assert_eq!(rt;
-        run(rt.alloc(), &words, &mut shelf, &mut sink),
-        Status::WriteFault
-    );
-    assert_eq!(rt; sink.bytes(), b"at 2 line 2 main depth 1\n".as_slice());
-    assert_eq!(rt;
-        shelf.held("image").ok_or("no image")?,
-        whole.held("image").ok_or("no image")?
-    );
+    assert!(rt; run(rt.alloc(), &words, &mut whole, &mut all) == Status::Done);
+    assert!(rt; run(rt.alloc(), &words, &mut shelf, &mut sink) == Status::WriteFault);
+    assert!(rt; sink.bytes() == b"at 2 line 2 main depth 1\n".as_slice());
+    assert!(rt; shelf.held("image").ok_or("no image")? == whole.held("image").ok_or("no image")?);
     Ok(())
 }
 
@@ -119,11 +107,8 @@ fn a_load_that_fails_ends_the_session(rt: HostRuntime) -> Result<(), Fail> {
     let mut shelf = shelf(rt.alloc(), PROGRAM, SCRIPT, [2].as_slice())?;
     let mut sink = MemSink::new(rt.alloc(), [].as_slice())?;
     let words = job(rt.alloc())?;
-    assert_eq!(rt;
-        run(rt.alloc(), &words, &mut shelf, &mut sink),
-        Status::ReadFault
-    );
-    assert_eq!(rt; sink.bytes(), b"".as_slice());
+    assert!(rt; run(rt.alloc(), &words, &mut shelf, &mut sink) == Status::ReadFault);
+    assert!(rt; sink.bytes() == b"".as_slice());
     Ok(())
 }
 
@@ -132,11 +117,8 @@ fn a_save_that_fails_leaves_no_image_and_says_nothing(rt: HostRuntime) -> Result
     let mut shelf = shelf(rt.alloc(), PROGRAM, SCRIPT, [4].as_slice())?;
     let mut sink = MemSink::new(rt.alloc(), [].as_slice())?;
     let words = job(rt.alloc())?;
-    assert_eq!(rt;
-        run(rt.alloc(), &words, &mut shelf, &mut sink),
-        Status::WriteFault
-    );
-    assert_eq!(rt; sink.bytes(), b"".as_slice());
+    assert!(rt; run(rt.alloc(), &words, &mut shelf, &mut sink) == Status::WriteFault);
+    assert!(rt; sink.bytes() == b"".as_slice());
     assert!(rt; shelf.held("image").is_none());
     Ok(())
 }
@@ -147,12 +129,9 @@ fn an_unknown_command_refuses_the_script(rt: HostRuntime) -> Result<(), Fail> {
     let mut sink = MemSink::new(rt.alloc(), [].as_slice())?;
     let words = job(rt.alloc())?;
     let status = run(rt.alloc(), &words, &mut shelf, &mut sink);
-    assert_eq!(rt; status, Status::ScriptRefused(Code::UNKNOWN_COMMAND, 1));
-    assert_eq!(rt; status.number(), 4);
-    assert_eq!(rt;
-        fault_text(rt.alloc(), &status)?.as_str(),
-        "cdbg: script refused S01 line 1"
-    );
+    assert!(rt; status == Status::ScriptRefused(Code::UNKNOWN_COMMAND, 1));
+    assert!(rt; status.number() == 4);
+    assert!(rt; fault_text(rt.alloc(), &status)?.as_str() == "cdbg: script refused S01 line 1");
     assert!(rt; shelf.held("image").is_none());
     Ok(())
 }
@@ -163,12 +142,9 @@ fn the_empty_source_is_refused(rt: HostRuntime) -> Result<(), Fail> {
     let mut sink = MemSink::new(rt.alloc(), [].as_slice())?;
     let words = job(rt.alloc())?;
     let status = run(rt.alloc(), &words, &mut shelf, &mut sink);
-    assert_eq!(rt; status, Status::SourceRefused(Code::NO_MAIN, 1));
-    assert_eq!(rt; status.number(), 3);
-    assert_eq!(rt;
-        fault_text(rt.alloc(), &status)?.as_str(),
-        "cdbg: source refused E29 line 1"
-    );
+    assert!(rt; status == Status::SourceRefused(Code::NO_MAIN, 1));
+    assert!(rt; status.number() == 3);
+    assert!(rt; fault_text(rt.alloc(), &status)?.as_str() == "cdbg: source refused E29 line 1");
     Ok(())
 }
 
@@ -183,7 +159,7 @@ fn a_source_is_refused_before_its_script(rt: HostRuntime) -> Result<(), Fail> {
     let mut sink = MemSink::new(rt.alloc(), [].as_slice())?;
     let words = job(rt.alloc())?;
     let status = run(rt.alloc(), &words, &mut shelf, &mut sink);
-    assert_eq!(rt; status, Status::SourceRefused(Code::UNEXPECTED_TOKEN, 1));
+    assert!(rt; status == Status::SourceRefused(Code::UNEXPECTED_TOKEN, 1));
     Ok(())
 }
 
@@ -205,20 +181,17 @@ fn the_image_has_the_size_of_its_parts(rt: HostRuntime) -> Result<(), Fail> {
     let mut shelf = shelf(rt.alloc(), PROGRAM, b"".as_slice(), [].as_slice())?;
     let mut sink = MemSink::new(rt.alloc(), [].as_slice())?;
     let words = job(rt.alloc())?;
-    assert_eq!(rt;
-        run(rt.alloc(), &words, &mut shelf, &mut sink),
-        Status::Done
-    );
+    assert!(rt; run(rt.alloc(), &words, &mut shelf, &mut sink) == Status::Done);
     let image = shelf.held("image").ok_or("no image")?;
     let words_of_code = number_at(&rt, image, 16) as usize;
-    assert_eq!(rt; image.len(), 321 + 8 * words_of_code);
-    assert_eq!(rt; number_at(&rt, image, 24), 1, "functions");
-    assert_eq!(rt; number_at(&rt, image, 28), 5, "places");
-    assert_eq!(rt; number_at(&rt, image, 32), 1, "variables");
-    assert_eq!(rt; number_at(&rt, image, 40), 4, "flow pairs");
-    assert_eq!(rt; number_at(&rt, image, 44), 2, "assigned pairs");
-    assert_eq!(rt; number_at(&rt, image, 48), 3, "visible rows");
-    assert_eq!(rt; number_at(&rt, image, 56), 5, "bytes of names");
+    assert!(rt; image.len() == 321 + 8 * words_of_code);
+    assert!(rt; number_at(&rt, image, 24) == 1, "functions");
+    assert!(rt; number_at(&rt, image, 28) == 5, "places");
+    assert!(rt; number_at(&rt, image, 32) == 1, "variables");
+    assert!(rt; number_at(&rt, image, 40) == 4, "flow pairs");
+    assert!(rt; number_at(&rt, image, 44) == 2, "assigned pairs");
+    assert!(rt; number_at(&rt, image, 48) == 3, "visible rows");
+    assert!(rt; number_at(&rt, image, 56) == 5, "bytes of names");
     Ok(())
 }
 
@@ -252,13 +225,13 @@ fn other_words_are_no_job(rt: HostRuntime) -> Result<(), Fail> {
         "cdbg compile --passes none --homes slots p.c image",
     ];
     for text in texts {
-        assert_eq!(rt; status_of_words(rt.alloc(), text)?, Status::Usage);
+        assert!(rt; status_of_words(rt.alloc(), text)? == Status::Usage);
     }
     let status = status_of_words(rt.alloc(), "cdbg help")?;
-    assert_eq!(rt; status.number(), 2);
-    assert_eq!(rt; fault_text(rt.alloc(), &status)?.as_str(), "cdbg: usage");
+    assert!(rt; status.number() == 2);
+    assert!(rt; fault_text(rt.alloc(), &status)?.as_str() == "cdbg: usage");
     let served = "cdbg debug --passes=none p.c s --limit=0001000000000 i image --homes=slots";
-    assert_eq!(rt; status_of_words(rt.alloc(), served)?, Status::ReadFault);
+    assert!(rt; status_of_words(rt.alloc(), served)? == Status::ReadFault);
     Ok(())
 }
 
@@ -278,22 +251,16 @@ fn options_stand_in_any_order_and_the_limit_is_kept(rt: HostRuntime) -> Result<(
         "--passes=none",
     ];
     let reordered = words(rt.alloc(), texts.as_slice())?;
-    assert_eq!(rt;
-        run(rt.alloc(), &reordered, &mut shelf, &mut sink),
-        Status::Done
-    );
-    assert_eq!(rt; sink.bytes(), TRANSCRIPT);
+    assert!(rt; run(rt.alloc(), &reordered, &mut shelf, &mut sink) == Status::Done);
+    assert!(rt; sink.bytes() == TRANSCRIPT);
 
     shelf.place(rt.alloc(), "script", b"step\n".as_slice())?;
     let mut stopped = MemSink::new(rt.alloc(), [].as_slice())?;
     let mut no_instruction = job(rt.alloc())?;
     no_instruction.push(String::from_str(rt.alloc(), "--limit")?)?;
     no_instruction.push(String::from_str(rt.alloc(), "0")?)?;
-    assert_eq!(rt;
-        run(rt.alloc(), &no_instruction, &mut shelf, &mut stopped),
-        Status::Done
-    );
-    assert_eq!(rt; stopped.bytes(), b"limit 0\n".as_slice());
+    assert!(rt; run(rt.alloc(), &no_instruction, &mut shelf, &mut stopped) == Status::Done);
+    assert!(rt; stopped.bytes() == b"limit 0\n".as_slice());
     Ok(())
 }
 
@@ -314,12 +281,9 @@ fn a_script_or_an_input_may_be_too_long(rt: HostRuntime) -> Result<(), Fail> {
     let words = job(rt.alloc())?;
     // The third load would fail: that of the input does not come.
     let status = run(rt.alloc(), &words, &mut shelf, &mut sink);
-    assert_eq!(rt; status.number(), 9);
-    assert_eq!(rt;
-        fault_text(rt.alloc(), &status)?.as_str(),
-        "cdbg: too long script"
-    );
-    assert_eq!(rt; sink.bytes(), b"".as_slice());
+    assert!(rt; status.number() == 9);
+    assert!(rt; fault_text(rt.alloc(), &status)?.as_str() == "cdbg: too long script");
+    assert!(rt; sink.bytes() == b"".as_slice());
     assert!(rt; shelf.held("image").is_none());
 
     let mut larger = MemShelf::new(rt.alloc(), [].as_slice())?;
@@ -327,10 +291,7 @@ fn a_script_or_an_input_may_be_too_long(rt: HostRuntime) -> Result<(), Fail> {
     larger.place(rt.alloc(), "script", b"jump 3\n".as_slice())?;
     larger.place(rt.alloc(), "input", &spaces(rt.alloc(), 16777217)?)?;
     let status = run(rt.alloc(), &words, &mut larger, &mut sink);
-    assert_eq!(rt;
-        fault_text(rt.alloc(), &status)?.as_str(),
-        "cdbg: too long input"
-    );
+    assert!(rt; fault_text(rt.alloc(), &status)?.as_str() == "cdbg: too long input");
     Ok(())
 }
 
@@ -341,13 +302,10 @@ fn an_ending_is_said_again_and_no_stop_is_shown_there(rt: HostRuntime) -> Result
     let mut shelf = shelf(rt.alloc(), source, script, [].as_slice())?;
     let mut sink = MemSink::new(rt.alloc(), [].as_slice())?;
     let words = job(rt.alloc())?;
-    assert_eq!(rt;
-        run(rt.alloc(), &words, &mut shelf, &mut sink),
-        Status::Done
-    );
+    assert!(rt; run(rt.alloc(), &words, &mut shelf, &mut sink) == Status::Done);
     let expected =
         b"no stop\nat 2 line 2 main depth 1\nno y here\nexit 7\nexit 7\nno stop\n".as_slice();
-    assert_eq!(rt; sink.bytes(), expected);
+    assert!(rt; sink.bytes() == expected);
     Ok(())
 }
 
@@ -395,7 +353,7 @@ fn a_source_is_refused_for_the_first_rule_that_it_breaks(rt: HostRuntime) -> Res
         let mut shelf = shelf(rt.alloc(), source, SCRIPT, [].as_slice())?;
         let mut sink = MemSink::new(rt.alloc(), [].as_slice())?;
         let status = run(rt.alloc(), &words, &mut shelf, &mut sink);
-        assert_eq!(rt; status, Status::SourceRefused(code, line));
+        assert!(rt; status == Status::SourceRefused(code, line));
     }
     Ok(())
 }
@@ -428,7 +386,7 @@ fn parentheses_nest_63_deep_in_a_return(rt: HostRuntime) -> Result<(), Fail> {
         let mut shelf = shelf(rt.alloc(), &source, SCRIPT, [].as_slice())?;
         let mut sink = MemSink::new(rt.alloc(), [].as_slice())?;
         let status = run(rt.alloc(), &words, &mut shelf, &mut sink);
-        assert_eq!(rt; status, Status::SourceRefused(code, 1));
+        assert!(rt; status == Status::SourceRefused(code, 1));
     }
     Ok(())
 }

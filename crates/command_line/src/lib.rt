@@ -6,8 +6,6 @@ mod job;
 mod laws;
 mod matching;
 mod reading;
-#[cfg(test)]
-mod tests;
 mod values;
 
 pub use job::{Attach, Compile, Debug, Job, Passes, Sweep};

@@ -1,13 +1,3 @@
-pub mod Keeping
-pub mod Inversions
-pub mod WorkedBuilt
-pub mod WorkedReduced
-pub mod WorkedPass
-pub mod LogLonger
 pub mod Lists
 pub mod Once
 pub mod Valid
-pub mod WorkedMotion
-pub mod WorkedRemoval
-pub mod WorkedCopy
-pub mod WorkedRefusals

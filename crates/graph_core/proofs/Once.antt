@@ -1,11 +1,14 @@
 -- No place has two markers exactly where each place has at most one among all.
-use Rattle.std.proofs.Common.{◌≡◌, ℕ, ◌+◌, ◌≤◌, List, [], ◌∷◌, ◌++◌, length, refl, sym, ap, ◌∙◌, zero-add, arith}
-use Rattle.std.specs.Prelude.{◌≢◌}
+use Rattle.std.proofs.Common.{◌≡◌, ℕ, ◌+◌, ◌-◌, ◌^◌, ◌≤◌, ◌==◌, min, Bool, true, false, if◌then◌else◌, List, [], ◌∷◌, ◌++◌, length, refl, sym, ap, ◌∙◌, subst, zero-add, arith}
+use Rattle.std.specs.Prelude.{◌≢◌, IsTrue, nat_lt}
 use Rattle.std.specs.List.{AllByRecursion}
 use Rattle.std.proofs.lemmas.Bool.Decides.{nat_tests}
-use Rattle.graph_core.specs.declared.validity.Counted.TheVariants.{Markers}
+use Rattle.std.proofs.lemmas.Bool.{eqb-true}
+use Rattle.debug_records.specs.declared.change.Place.{Place}
+use Rattle.graph_core.specs.declared.validity.Counted.TheVariants.{Markers, MarkersOf}
 use Rattle.graph_core.specs.Graphs.{Instruction, Marker, Block, Graph}
-use Rattle.graph_core.specs.Counts.{AreMarkedOnce, AreMarkedOnceIn, AreMarkedOnceInBlocks, any, count_in_graphs, markers_in_graphs, marks, only}
+use Rattle.graph_core.specs.Paths.{Among, front, behind}
+use Rattle.graph_core.specs.Counts.{AreMarkedOnce, AreMarkedOnceIn, AreMarkedOnceInBlocks, any, count_in_blocks, count_in_graphs, markers_in_graphs, marks, only}
 use Rattle.graph_core.specs.Validity.{AreAllDifferent, markers_in, markers_of, markers_of_blocks, total}
 
 total_append : {A : Type 0} (f : A → ℕ) (xs ys : List A) → total f (xs ++ ys) ≡ total f xs + total f ys
@@ -39,6 +42,35 @@ only_itself p = grind (arith, nat_tests)
 
 only_another : (p q : ℕ) → p ≢ q → only q p ≡ 0
 only_another p q h = grind (arith, nat_tests)
+
+-- a number is counted where it occurs, and only there
+counted_some : (p : ℕ) (all : List ℕ) → Among p all → 1 ≤ total (only p) all
+counted_some p [] a = elim a [ ]
+counted_some p (_ ∷ all) front = omega (arith, only_itself p)
+counted_some p (q ∷ all) (behind a) = omega (arith, counted_some p all a)
+
+first_or_later : (p q : ℕ) (all : List ℕ) (b : Bool) → (q == p) ≡ b → 1 ≤ total (only p) (q ∷ all) → (1 ≤ total (only p) all → Among p all) → Among p (q ∷ all)
+first_or_later p q all true e some later = subst (λ k. Among k (q ∷ all)) (eqb-true q p e) front
+first_or_later p q all false e some later =
+    let none : only p q ≡ 0 = ap (λ (b : Bool). if b then 1 else 0) e in behind (later (omega (arith, some, none)))
+
+some_counts : (p : ℕ) (all : List ℕ) → 1 ≤ total (only p) all → Among p all
+some_counts p [] some = absurd (omega (arith, some))
+some_counts p (q ∷ all) some = first_or_later p q all (q == p) refl some (some_counts p all)
+
+-- the markers of a place are counted where blocks have one, and only there
+pub marker_counted : (p : Place) (all : List Block) → Among p.0 (markers_of_blocks all) → 1 ≤ count_in_blocks (MarkersOf p) all
+marker_counted p all a = omega (arith, marks_in_blocks (only p.0) all, counted_some p.0 (markers_of_blocks all) a)
+
+pub counted_marker : (p : Place) (all : List Block) → 1 ≤ count_in_blocks (MarkersOf p) all → Among p.0 (markers_of_blocks all)
+counted_marker p all some = some_counts p.0 (markers_of_blocks all) (omega (arith, marks_in_blocks (only p.0) all, some))
+
+-- a count that is cut off tells whether there are some
+pub some_counted : (n m : ℕ) → n ≡ min m (2 ^ 64 - 1) → IsTrue (nat_lt 0 n) → 1 ≤ m
+some_counted n m same t = grind (arith, nat_tests)
+
+pub some_told : (n m : ℕ) → n ≡ min m (2 ^ 64 - 1) → 1 ≤ m → IsTrue (nat_lt 0 n)
+some_told n m same some = grind (arith, nat_tests)
 
 all_map : {A : Type 0} {P Q : A → Type 0} (all : List A) → ((x : A) → P x → Q x) → AllByRecursion P all → AllByRecursion Q all
 all_map [] f h = tt

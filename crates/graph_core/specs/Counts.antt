@@ -6,6 +6,7 @@ use Rattle.graph_core.specs.declared.validity.Counted.{Counted}
 use Rattle.graph_core.specs.declared.validity.Counted.TheVariants.{Instructions, Arguments, Markers, MarkersOf}
 use Rattle.graph_core.specs.Graphs.{Instruction, Block, Graph, UnitForm}
 use Rattle.graph_core.specs.Uses.{marker_of}
+use Rattle.graph_core.specs.Bounds.{most_functions, most_instructions, most_blocks, most_markers, most_arguments, most_static_bytes}
 use Rattle.graph_core.specs.Memory.{static_bytes}
 use Rattle.graph_core.specs.Validity.{arguments_in, arguments_of, counts, instructions_of, markers_of, taken_by, total}
 
@@ -13,6 +14,7 @@ use Rattle.graph_core.specs.Validity.{arguments_in, arguments_of, counts, instru
 abbrev pub marks : (ℕ → ℕ) → Instruction → ℕ
 marks count i = option_map_or count (marker_of i) 0
 
+-- 1 for each number
 abbrev pub any : ℕ → ℕ
 any p = 1
 
@@ -27,9 +29,11 @@ share Arguments i = arguments_in i
 share Markers i = marks any i
 share (MarkersOf q) i = marks (only q.0) i
 
+-- how much of what is counted blocks have
 abbrev pub count_in_blocks : Counted → List Block → ℕ
 count_in_blocks counted blocks = total (λ (b : Block). total (share counted) b.instructions) blocks
 
+-- how much of what is counted graphs have
 abbrev pub count_in_graphs : Counted → List Graph → ℕ
 count_in_graphs counted graphs = total (λ (g : Graph). count_in_blocks counted g.blocks) graphs
 
@@ -46,17 +50,19 @@ IsOnce graphs (Some q) = markers_in_graphs q graphs ≤ 1
 abbrev pub AreMarkedOnceIn : List Graph → List Instruction → Type 0
 AreMarkedOnceIn graphs all = AllByRecursion (λ i. IsOnce graphs (marker_of i)) all
 
+-- the same for each block
 abbrev pub AreMarkedOnceInBlocks : List Graph → List Block → Type 0
 AreMarkedOnceInBlocks graphs all = AllByRecursion (λ (b : Block). AreMarkedOnceIn graphs b.instructions) all
 
+-- No place that some graphs begin has two markers in all of them.
 abbrev pub AreMarkedOnce : List Graph → List Graph → Type 0
 AreMarkedOnce graphs all = AllByRecursion (λ (g : Graph). AreMarkedOnceInBlocks graphs g.blocks) all
 
 -- The counts of a unit are within their bounds.
 pub record KeepsCounts (u : UnitForm) : Type 0 where
-  pub functions : length u.graphs ≤ 256
-  pub instructions : total instructions_of u.graphs ≤ 8000
-  pub blocks : total (λ (g : Graph). length g.blocks) u.graphs ≤ 12000
-  pub markers : length (markers_of u.graphs) ≤ 4000
-  pub arguments : total arguments_of u.graphs ≤ 4000
-  pub statics : total (λ o. taken_by (static_bytes o)) u.statics + total (λ (b : List ℕ). taken_by (length b)) u.array_bytes ≤ 1048576
+  pub functions : length u.graphs ≤ most_functions
+  pub instructions : total instructions_of u.graphs ≤ most_instructions
+  pub blocks : total (λ (g : Graph). length g.blocks) u.graphs ≤ most_blocks
+  pub markers : length (markers_of u.graphs) ≤ most_markers
+  pub arguments : total arguments_of u.graphs ≤ most_arguments
+  pub statics : total (λ o. taken_by (static_bytes o)) u.statics + total (λ (b : List ℕ). taken_by (length b)) u.array_bytes ≤ most_static_bytes

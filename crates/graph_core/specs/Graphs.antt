@@ -4,7 +4,6 @@ use Rattle.debug_records.specs.declared.change.PassName.{PassName}
 use Rattle.debug_records.specs.declared.change.Kind as declared-kind
 use Rattle.debug_records.specs.declared.change.Change as declared-change
 use Rattle.debug_records.specs.declared.change.Place as declared-place
-use Rattle.debug_records.specs.declared.change.Var as declared-var
 use Rattle.debug_records.specs.Change.{changes}
 use Rattle.places.specs.declared.flow.FlowStep.{FlowStep}
 use Rattle.places.specs.declared.flow.Assignment.{Assignment}
@@ -29,6 +28,7 @@ use Rattle.graph_core.specs.declared.block.Block as declared-block
 use Rattle.graph_core.specs.declared.graph.Binding as declared-binding
 use Rattle.graph_core.specs.declared.graph.Binding.TheVariants as binding
 use Rattle.graph_core.specs.declared.graph.MemoryObject.{MemoryObject}
+use Rattle.graph_core.specs.declared.graph.Scalar as declared-scalar
 use Rattle.graph_core.specs.declared.graph.Graph as declared-graph
 use Rattle.graph_core.specs.declared.unit.Relocation.{Relocation}
 use Rattle.graph_core.specs.declared.unit.StaticObject as declared-static
@@ -53,12 +53,13 @@ pub data NoteValue : Type 0 where
   Is : Recipe → NoteValue
   Gone : (change : ℕ) → NoteValue
 
--- Where a load reads and a store writes: at the beginning of an automatic or a static object, or where a value points.
+-- Where a load reads and a store writes: in an automatic object, so many bytes behind its beginning, at the beginning of a static object, or where a value points.
 pub data Location : Type 0 where
-  Automatic : (object : ℕ) → Location
+  Automatic : (object offset : ℕ) → Location
   Static : (object : ℕ) → Location
   At : Operand → Location
 
+-- What an instruction does: it begins a place, notes a value, writes a name, writes memory, or calls.
 pub data Instruction : Type 0 where
   Marker : (place : ℕ) → Instruction
   Note : (x : ℕ) → NoteValue → Instruction
@@ -90,16 +91,23 @@ pub data Binding : Type 0 where
   ToScalar : ℕ → Binding
   ToObject : ℕ → Binding
 
--- The graph of a function. Its first names are its scalars, each a variable; behind them come the temporaries, last those that code motion made.
+-- A scalar variable: its number; that of its type, which equal types alone share; and the place of its declarator, or of the function's entry where it is a parameter.
+pub record Scalar : Type 0 where
+  pub variable : ℕ
+  pub of : ℕ
+  pub place : ℕ
+
+-- The graph of a function. Its first names are its scalars; behind them come the temporaries, last those that code motion made.
 pub record Graph : Type 0 where
   pub entry : ℕ
   pub parameters : List Binding
-  pub scalars : List ℕ
+  pub scalars : List Scalar
   pub objects : List MemoryObject
-  pub names : ℕ
-  pub moved_from : ℕ
+  pub name_count : ℕ
+  pub first_moved : ℕ
   pub blocks : List Block
 
+-- An object of static storage: what its elements are, how many it has, its first bytes, and the elements that hold addresses.
 pub record StaticObject : Type 0 where
   pub element : Element
   pub count : ℕ
@@ -113,6 +121,8 @@ pub record Logged : Type 0 where
   pub place : ℕ
   pub variable : ℕ
 
+-- A unit: a graph for each function, the number of main, what is in static storage, the bytes that initialise arrays, the flow of the program from place to place with what the places
+-- assign, and the changes that passes made.
 pub record UnitForm : Type 0 where
   pub graphs : List Graph
   pub main : ℕ
@@ -122,25 +132,30 @@ pub record UnitForm : Type 0 where
   pub assignments : List Assignment
   pub log : List Logged
 
+-- the operand that the code has
 abbrev pub operand_view : declared-operand.Operand → Operand
 operand_view (operand.Name n) = Name n.0
 operand_view (operand.Constant word) = Constant word
-operand_view (operand.Address object offset) = StaticAddress object offset
+operand_view (operand.StaticAddress object offset) = StaticAddress object offset
 
+-- the recipe that the code has
 abbrev pub recipe_view : declared-recipe.Recipe → Recipe
 recipe_view (recipe.Operand o) = Of (operand_view o)
 recipe_view (recipe.Truncated' t at r) = Truncated t (recipe_view r)
 recipe_view (recipe.Operated' o at left by right) = Operated o (recipe_view left) (recipe_view right)
 
+-- what a note of the code says
 abbrev pub note_view : declared-note.NoteValue → NoteValue
 note_view (note.Is r) = Is (recipe_view r)
 note_view (note.Gone change) = Gone change
 
+-- the location that the code has
 abbrev pub location_view : declared-location.Location → Location
-location_view (location.Automatic object) = Automatic object
+location_view (location.Automatic object offset) = Automatic object offset
 location_view (location.Static object) = Static object
 location_view (location.At o) = At (operand_view o)
 
+-- the instruction that the code has
 abbrev pub instruction_view : declared-instr.Instr → Instruction
 instruction_view (instr.Marker p) = Marker p.0
 instruction_view (instr.Note x v) = Note x.0 (note_view v)
@@ -155,39 +170,51 @@ instruction_view (instr.Zero object words) = Zero object words
 instruction_view (instr.CopyWords object bytes words) = CopyWords object bytes words
 instruction_view (instr.Call x f all) = Call (option_map (λ (n : declared-name.Name). n.0) x) f (map operand_view all.items)
 
+-- the end of a block that the code has
 abbrev pub end_view : declared-end.End → End
 end_view (end.Jump l) = Jump l.0
 end_view (end.Branch c a b l m) = Branch c (operand_view a) (operand_view b) l.0 m.0
 end_view (end.Return a) = Return (option_map operand_view a)
 
+-- the block that the code has
 abbrev pub block_view : declared-block.Block → Block
 block_view b =
     record { place = option_map (λ (p : declared-place.Place). p.0) b.place; instructions = map instruction_view b.instructions.items; end = end_view b.end }
 
+-- the binding that the code has
 abbrev pub binding_view : declared-binding.Binding → Binding
 binding_view (binding.Scalar n) = ToScalar n.0
 binding_view (binding.Object object) = ToObject object
 
+-- the scalar that the code has
+abbrev pub scalar_view : declared-scalar.Scalar → Scalar
+scalar_view s = record { variable = s.var.0; of = s.of; place = s.place.0 }
+
+-- the graph that the code has
 abbrev pub graph_view : declared-graph.Graph → Graph
 graph_view g = record {
   entry = g.entry.0;
   parameters = map binding_view g.parameters.items;
-  scalars = map (λ (x : declared-var.Var). x.0) g.scalars.items;
+  scalars = map scalar_view g.scalars.items;
   objects = g.objects.items;
-  names = g.names;
-  moved_from = g.moved_from;
+  name_count = g.name_count;
+  first_moved = g.first_moved;
   blocks = map block_view g.blocks.items;
 }
 
+-- the static object that the code has
 abbrev pub static_view : declared-static.StaticObject → StaticObject
 static_view o = record { element = o.element; count = o.count; bytes = o.bytes.items; relocations = o.relocations.items }
 
+-- the bytes that the code has
 abbrev pub bytes_view : declared-bytes.Bytes → List ℕ
 bytes_view b = b.bytes.items
 
+-- the change that the code has
 abbrev pub logged : declared-change.Change → Logged
 logged c = record { pass = c.pass; kind = c.kind; place = c.place.0; variable = c.var.0 }
 
+-- The unit that the code has.
 abbrev pub unit_view : declared-unit.Unit → UnitForm
 unit_view u = record {
   graphs = map graph_view u.graphs.items;

@@ -4,11 +4,10 @@ pub mod Values
 pub mod Memory
 pub mod Runs
 pub mod Paths
+pub mod Bounds
 pub mod Validity
 pub mod Counts
 pub mod WellMarked
-pub mod Homes
-pub mod Keeps
-pub mod Earned
-pub mod Worked
-pub mod WorkedChanges
+pub mod Points
+pub mod Computations
+pub mod Histories

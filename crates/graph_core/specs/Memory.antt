@@ -38,12 +38,17 @@ is_live memory n = option_map_or (λ o. o.live) (slice_get memory n) false
 abbrev pub address_of : Memory → ℕ → Value
 address_of memory n = option_map_or (λ o. Pointer n (bytes_of o) 0) (slice_get memory n) Odd
 
+-- the address of so many bytes behind the beginning of an object
+abbrev pub address_in : Memory → (object offset : ℕ) → Value
+address_in memory n offset = option_map_or (λ o. pointer_at n (bytes_of o) offset) (slice_get memory n) Odd
+
 -- Which of an object's values an access by an element reaches at an offset in bytes: the object lives, its elements are as wide, and one stands there.
 abbrev pub index_in : Element → (offset : ℕ) → Object → Option ℕ
 index_in e offset o =
     if o.live && size_of e == size_of o.element && offset % size_of e == 0 && nat_lt (offset / size_of e) (length o.values)
     then Some (offset / size_of e) else None
 
+-- what an access by an element reads of an object at an offset in bytes, if it reaches a value
 abbrev pub value_in : Element → (offset : ℕ) → Object → Option Value
 value_in e offset o = option_map (as_element e) (option_and_then (λ i. slice_get o.values i) (index_in e offset o))
 
@@ -53,12 +58,15 @@ read memory e (Number w) = None
 read memory e (Pointer n size offset) = option_and_then (value_in e offset) (slice_get memory n)
 read memory e Odd = None
 
+-- one value of an object is another, as its elements keep it
 abbrev pub with_value : (index : ℕ) → Value → Object → Object
 with_value index v o = record o { values = slice_set o.values index (as_element o.element v) }
 
+-- one value of the object with this number is another
 abbrev pub written_in : Memory → ℕ → Value → Object → ℕ → Memory
 written_in memory n v o index = slice_set memory n (with_value index v o)
 
+-- the memory behind a write to an object at an offset in bytes, if it reaches a value
 abbrev pub write_in : Memory → ℕ → Element → (offset : ℕ) → Value → Object → Option Memory
 write_in memory n e offset v o = option_map (written_in memory n v o) (index_in e offset o)
 
@@ -88,6 +96,7 @@ filled words values o =
     if o.live && nat_le words (words_of (bytes_of o))
     then Some (record o { values = take (length o.values) values ++ drop (length values) o.values }) else None
 
+-- the object with this number is another
 abbrev pub with_object : Memory → ℕ → Object → Memory
 with_object memory n o = slice_set memory n o
 
@@ -111,6 +120,7 @@ new_object depth m = record { owner = Automatic m.var.0 depth; element = m.eleme
 abbrev pub ended : Object → Object
 ended o = record o { live = false }
 
+-- the memory in which all objects from a number on have ended
 abbrev pub ended_from : ℕ → Memory → Memory
 ended_from n memory = take n memory ++ map ended (drop n memory)
 
@@ -129,6 +139,7 @@ abbrev pub first_value : List StaticObject → StaticObject → (index : ℕ) �
 first_value statics o index =
     option_map_or (as_element o.element) (address_at statics o.relocations (index * size_of o.element)) (element_in o.bytes o.element index)
 
+-- the elements of a static object as a run begins, from an index on
 abbrev pub first_values : List StaticObject → StaticObject → (index count : ℕ) → List Value
 first_values statics o index zero = []
 first_values statics o index (suc count) = first_value statics o index ∷ first_values statics o (index + 1) count

@@ -37,6 +37,7 @@ abbrev pub place_by : Instruction → Option ℕ → Option ℕ
 place_by (Marker p) before = Some p
 place_by _ before = before
 
+-- the place in force behind a history, if a marker was passed
 abbrev pub place_of : History → Option ℕ
 place_of [] = None
 place_of (i ∷ h) = place_by i.instruction (place_of h)
@@ -49,10 +50,12 @@ writes x i = option_map_or (λ y. y == x) (target_of i) false
 abbrev pub reads : ℕ → Instruction → Bool
 reads x i = list_any (λ y. y == x) (reads_of i)
 
+-- an instruction begins a place
 abbrev pub is_marker : Instruction → Bool
 is_marker (Marker p) = true
 is_marker _ = false
 
+-- an instruction is a call
 abbrev pub is_call : Instruction → Bool
 is_call (Call x f all) = true
 is_call _ = false
@@ -98,6 +101,7 @@ abbrev pub owed_by : (assigns : ℕ → Bool) → ℕ → Instruction → Bool �
 owed_by assigns x (Marker p) before = assigns p
 owed_by assigns x i before = if notes x i then false else writes x i || before
 
+-- a note of a scalar is owed behind a history
 abbrev pub owed : (assigns : ℕ → Bool) → ℕ → History → Bool
 owed assigns x [] = false
 owed assigns x (i ∷ h) = owed_by assigns x i.instruction (owed assigns x h)
@@ -107,6 +111,7 @@ abbrev pub note_by : ℕ → Instruction → Option NoteValue → Option NoteVal
 note_by x (Note y v) before = if y == x then Some v else before
 note_by x _ before = before
 
+-- the last note of a scalar, if one was passed
 abbrev pub last_note : ℕ → History → Option NoteValue
 last_note x [] = None
 last_note x (i ∷ h) = note_by x i.instruction (last_note x h)

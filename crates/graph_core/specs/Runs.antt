@@ -9,8 +9,9 @@ use Rattle.graph_core.specs.declared.value.Shadow.TheVariants as shadow
 use Rattle.graph_core.specs.declared.instruction.Callee.{Callee}
 use Rattle.graph_core.specs.declared.instruction.Callee.TheVariants as callee
 use Rattle.graph_core.specs.Graphs.{Operand, Name, Constant, StaticAddress, Recipe, Of, Truncated, Operated, NoteValue, Is, Gone, Location, Automatic, Static, At, Instruction, Marker, Note, Move, Operate, Truncate, Same, Address, Load, Store, Zero, CopyWords, Call, End, Jump, Branch, Return, Block, Binding, ToScalar, ToObject, Graph, StaticObject, UnitForm}
+use Rattle.graph_core.specs.Bounds.{most_activations}
 use Rattle.graph_core.specs.Values.{pointer_at, operate, truncate, same, holds, is_odd}
-use Rattle.graph_core.specs.Memory.{Memory, is_live, address_of, static_bytes, read, write, zeroed, copied, new_object, ended_from, first_memory}
+use Rattle.graph_core.specs.Memory.{Memory, is_live, address_of, address_in, static_bytes, read, write, zeroed, copied, new_object, ended_from, first_memory}
 
 -- An activation of a function: its function, its graph, the place that it has come to, the values of its names, the shadows of its scalars, the number of its first
 -- object, what is left of its block, and the name that a call's value goes to while it waits.
@@ -38,7 +39,7 @@ pub record Frame : Type 0 where
   pub place : ℕ
   pub shadows : List Shadow
 
--- What can be seen of a run: a byte that is put out, the end of the program with its status, a call that finds 1,024 activations alive, or a stop: a place that is no
+-- What can be seen of a run: a byte that is put out, the end of the program with its status, a call that finds as many activations alive as may be, or a stop: a place that is no
 -- entry begins, with the live activations from the innermost on, and all objects.
 pub data Event : Type 0 where
   Put : (byte : ℕ) → Event
@@ -75,7 +76,7 @@ recipe_value statics names (Operated o r s) = operate o (recipe_value statics na
 
 -- where a location points
 abbrev pub pointed : List StaticObject → Memory → Activation → Location → Value
-pointed statics memory here (Automatic object) = address_of memory (here.first_object + object)
+pointed statics memory here (Automatic object offset) = address_in memory (here.first_object + object) offset
 pointed statics memory here (Static object) = static_address statics object 0
 pointed statics memory here (At a) = value statics here.names a
 
@@ -84,6 +85,7 @@ abbrev pub numbers_from : ℕ → (count : ℕ) → List ℕ
 numbers_from least zero = []
 numbers_from least (suc count) = least ∷ numbers_from (least + 1) count
 
+-- an activation as a stop shows it
 abbrev pub frame : Activation → Frame
 frame a = record { function = a.function; place = a.place; shadows = map a.shadows (numbers_from 0 (length a.graph.scalars)) }
 
@@ -91,6 +93,7 @@ frame a = record { function = a.function; place = a.place; shadows = map a.shado
 abbrev pub take_value : ℕ → Value → Activation → Activation
 take_value x v a = record a { names = put a.names x v }
 
+-- the name that a call's value goes to, if there is one, takes it
 abbrev pub take_wanted : Option ℕ → Value → Activation → Activation
 take_wanted None v a = a
 take_wanted (Some x) v a = take_value x v a
@@ -124,6 +127,7 @@ noted statics c x (Is r) =
 abbrev pub marked : Configuration → Stepped
 marked c = if c.here.place == c.here.graph.entry then Goes c else Shows (Stop (frame c.here ∷ map frame c.waiting) c.memory) c
 
+-- an activation comes to a place
 abbrev pub at_place : ℕ → Configuration → Configuration
 at_place p c = record c { here = record c.here { place = p } }
 
@@ -132,9 +136,11 @@ abbrev pub entered : Configuration → Option Block → Stepped
 entered c None = Wild
 entered c (Some b) = Goes (record c { here = record c.here { rest = b.instructions; end = b.end } })
 
+-- control goes to the block with this number
 abbrev pub go_to : Configuration → ℕ → Stepped
 go_to c l = entered c (slice_get c.here.graph.blocks l)
 
+-- control goes to one of two blocks by a test, if its outcome is known
 abbrev pub branched : Configuration → Option Bool → (if_true if_false : ℕ) → Stepped
 branched c None l m = Wild
 branched c (Some b) l m = if b then go_to c l else go_to c m
@@ -150,6 +156,7 @@ abbrev pub returned : Memory → List ℕ → Value → List Activation → Step
 returned memory input v [] = exited v
 returned memory input v (a ∷ waiting) = Goes (record { memory = memory; input = input; here = take_wanted a.wants v a; waiting = waiting })
 
+-- An activation is left with a value.
 abbrev pub leave : Configuration → Value → Stepped
 leave c v = returned (ended_from c.here.first_object c.memory) c.input v c.waiting
 
@@ -171,9 +178,11 @@ bind_names (b ∷ more) [] names = names
 bind_names (ToScalar x ∷ more) (v ∷ vs) names = bind_names more vs (put names x v)
 bind_names (ToObject object ∷ more) (v ∷ vs) names = bind_names more vs names
 
+-- the first element of an object takes a value
 abbrev pub set_first : ℕ → Value → Memory → Memory
 set_first n v memory = option_map_or (λ o. option_map_or (λ m. m) (write memory o.element (address_of memory n) v) memory) (slice_get memory n) memory
 
+-- the memory in which arguments are bound to objects
 abbrev pub bind_objects : ℕ → List Binding → List Value → Memory → Memory
 bind_objects first [] vs memory = memory
 bind_objects first (b ∷ more) [] memory = memory
@@ -184,6 +193,7 @@ bind_objects first (ToObject object ∷ more) (v ∷ vs) memory = bind_objects f
 abbrev pub with_objects : (depth : ℕ) → Graph → Memory → Memory
 with_objects depth g memory = memory ++ map (new_object depth) g.objects
 
+-- the activation of a function as it begins
 abbrev pub new_activation : (function : ℕ) → Graph → Block → (first : ℕ) → List Value → Activation
 new_activation function g b first vs = record {
   function = function;
@@ -229,12 +239,13 @@ module _ (u : UnitForm) where
   enter memory input function vs waiting =
       option_and_then (λ g. option_map (begun memory input function vs waiting g) (slice_get g.blocks 0)) (slice_get u.graphs function)
 
-  -- A function is called. There may be 1,024 activations at most.
+  -- A function is called, where fewer activations live than may.
   abbrev pub call_function : Configuration → Option ℕ → (function : ℕ) → List Value → Stepped
   call_function c x function vs =
-      if length c.waiting + 1 == 1024 then Ends TooDeep
+      if length c.waiting + 1 == most_activations then Ends TooDeep
       else goes_if (enter c.memory c.input function vs (record c.here { wants = x } ∷ c.waiting))
 
+  -- What a call does.
   abbrev pub call : Configuration → Option ℕ → Callee → List Value → Stepped
   call c x (callee.Function f) vs = call_function c x f vs
   call c x callee.Getchar vs = got c x c.input
@@ -265,6 +276,7 @@ module _ (u : UnitForm) where
   execute_end (Return None) c = leave c Odd
   execute_end (Return (Some a)) c = leave c (value u.statics c.here.names a)
 
+  -- a step where these instructions are left of the block
   abbrev pub step_from : List Instruction → Configuration → Stepped
   step_from [] c = execute_end c.here.end c
   step_from (i ∷ rest) c = execute i (record c { here = record c.here { rest = rest } })
@@ -278,6 +290,7 @@ module _ (u : UnitForm) where
   run zero c = []
   run (suc n) c = after (step c) (run n)
 
+  -- the run from a configuration, if there is one
   abbrev pub run_some : (steps : ℕ) → Option Configuration → List Event
   run_some n None = []
   run_some n (Some c) = run n c

@@ -13,15 +13,18 @@ names_of (Name x) = x ∷ []
 names_of (Constant word) = []
 names_of (StaticAddress object offset) = []
 
+-- the names that operands read, in order
 abbrev pub names_of_all : List Operand → List ℕ
 names_of_all [] = []
 names_of_all (a ∷ more) = names_of a ++ names_of_all more
 
+-- the names that a location reads
 abbrev pub names_of_location : Location → List ℕ
-names_of_location (Automatic object) = []
+names_of_location (Automatic object offset) = []
 names_of_location (Static object) = []
 names_of_location (At a) = names_of a
 
+-- the names that an operand reads, if there is one
 abbrev pub names_of_some : Option Operand → List ℕ
 names_of_some None = []
 names_of_some (Some a) = names_of a

@@ -1,11 +1,12 @@
 -- Well marked units: markers follow the flow of the program, and notes say what becomes of each scalar.
-use Rattle.std.specs.Prelude.{◌≡◌, ◌≢◌, ℕ, ◌<◌, ◌≤◌, ◌⊎◌, true, false, Option, Some, List, [], ◌∷◌, length, slice_get}
+use Rattle.std.specs.Prelude.{◌≡◌, ◌≢◌, ℕ, ◌<◌, ◌≤◌, ◌⊎◌, true, false, Option, Some, option_map, List, [], ◌∷◌, length, slice_get}
 use Rattle.places.specs.Flow.{can_go, assigns}
 use Rattle.debug_records.specs.declared.change.Kind.TheVariants.{Removed}
-use Rattle.graph_core.specs.Graphs.{Operand, Name, Of, NoteValue, Is, Instruction, Marker, Note, Zero, CopyWords, End, Return, Block, Graph, Logged, UnitForm}
+use Rattle.graph_core.specs.Graphs.{Operand, Name, Of, Scalar, NoteValue, Is, Instruction, Marker, Note, Zero, CopyWords, End, Return, Block, Graph, Logged, UnitForm}
 use Rattle.graph_core.specs.Uses.{reads_of, reads_of_end, targets_of}
 use Rattle.graph_core.specs.Paths.{History, Among, Path, place_of, writes, is_call, called, is_bound, written, unnoted, owed}
 use Rattle.graph_core.specs.Validity.{IsValid, place_behind}
+use Rattle.graph_core.specs.Bounds.{most_words}
 
 -- An instruction stands in a place, whether a path reaches it or not: here among these instructions, of which the first stands where this place is in force.
 pub data StandsIn (p : ℕ) (i : Instruction) : (in_force : Option ℕ) → List Instruction → Type 0 where
@@ -28,12 +29,12 @@ pub data ComesToMarker (g : Graph) : List Instruction → End → Type 0 where
 
 -- the variable of a scalar
 abbrev pub IsVariable : Graph → (x variable : ℕ) → Type 0
-IsVariable g x variable = slice_get g.scalars x ≡ Some variable
+IsVariable g x variable = option_map (λ (s : Scalar). s.variable) (slice_get g.scalars x) ≡ Some variable
 
 -- a temporary that code motion did not make
 pub record IsLocal (g : Graph) (t : ℕ) : Type 0 where
   pub temporary : length g.scalars ≤ t
-  pub not_moved : t < g.moved_from
+  pub not_moved : t < g.first_moved
 
 -- the log has a change that removed an assignment of a variable in a place
 pub record WasRemoved (log : List Logged) (place variable : ℕ) : Type 0 where
@@ -54,6 +55,7 @@ module _ (u : UnitForm) (g : Graph) where
   IsRightNote p x variable v =
       ((v ≡ Is (Of (Name x))) × WrittenIn g p x) ⊎ ((v ≢ Is (Of (Name x))) × (WrittenIn g p x → ⊥) × WasRemoved u.log p variable)
 
+  -- A graph is well marked.
   pub record IsWellMarked : Type 0 where
     -- The graph begins with the marker of its entry, and no edge leads back there.
     pub begins : (b : Block) → slice_get g.blocks 0 ≡ Some b → (rest : List Instruction) × (b.instructions ≡ Marker g.entry ∷ rest)
@@ -66,8 +68,8 @@ module _ (u : UnitForm) (g : Graph) where
     pub entry_calls : (i : Instruction) → InPlace g g.entry i → is_call i ≡ false
     pub leaves : (h : History) (n : ℕ) (a : Option Operand) → Path g h n [] (Return a) → place_of h ≢ Some g.entry
     -- Words that are set or copied are few, and precede each call of their place.
-    pub zeroes : (p object words : ℕ) → InPlace g p (Zero object words) → words ≤ 1023
-    pub copies : (p object bytes words : ℕ) → InPlace g p (CopyWords object bytes words) → words ≤ 1023
+    pub zeroes : (p object words : ℕ) → InPlace g p (Zero object words) → words ≤ most_words
+    pub copies : (p object bytes words : ℕ) → InPlace g p (CopyWords object bytes words) → words ≤ most_words
     pub zeroes_first : (h : History) (n : ℕ) (object words : ℕ) (rest : List Instruction) (e : End) → Path g h n (Zero object words ∷ rest) e → called h ≡ false
     pub copies_first : (h : History) (n : ℕ) (object bytes words : ℕ) (rest : List Instruction) (e : End) → Path g h n (CopyWords object bytes words ∷ rest) e → called h ≡ false
     -- A scalar is written and noted only in places that assign its variable.
@@ -75,8 +77,8 @@ module _ (u : UnitForm) (g : Graph) where
     pub noted_where : (p x variable : ℕ) (v : NoteValue) → IsVariable g x variable → InPlace g p (Note x v) → assigns u.assignments p variable ≡ true
     -- From the marker of a place that assigns a variable, and from each write of its scalar, each path to the next marker notes the scalar.
     pub noted : (h : History) (n : ℕ) (p x variable : ℕ) (rest : List Instruction) (e : End) → IsVariable g x variable → Path g h n (Marker p ∷ rest) e → owed (λ q. assigns u.assignments q variable) x h ≡ false
-    -- Each note is right, and one that is of the scalar itself stands behind a write of it.
-    pub right : (p x variable : ℕ) (v : NoteValue) → IsVariable g x variable → InPlace g p (Note x v) → IsRightNote p x variable v
+    -- Each note that a path comes to is right, and one that is of the scalar itself stands behind a write of it.
+    pub right : (h : History) (n : ℕ) (p x variable : ℕ) (v : NoteValue) (rest : List Instruction) (e : End) → IsVariable g x variable → Path g h n (Note x v ∷ rest) e → place_of h ≡ Some p → IsRightNote p x variable v
     pub behind_write : (h : History) (n : ℕ) (x : ℕ) (rest : List Instruction) (e : End) → Path g h n (Note x (Is (Of (Name x))) ∷ rest) e → written g x h ≡ true
     -- No call stands between a write of a scalar and its note.
     pub calls : (h : History) (n : ℕ) (i : Instruction) (x variable : ℕ) (rest : List Instruction) (e : End) → IsVariable g x variable → Path g h n (i ∷ rest) e → is_call i ≡ true → unnoted x h ≡ false

@@ -181,8 +181,8 @@ impl Graph {
             parameters: Vec::from_slice(alloc, &self.parameters)?,
             scalars: Vec::from_slice(alloc, &self.scalars)?,
             objects: Vec::from_slice(alloc, &self.objects)?,
-            names: self.names,
-            moved_from: self.moved_from,
+            name_count: self.name_count,
+            first_moved: self.first_moved,
             blocks,
         })
     }

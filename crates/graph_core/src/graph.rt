@@ -21,6 +21,16 @@ pub struct MemoryObject {
     pub count: u32,
 }
 
+/// A scalar variable of a function.
+#[derive(Clone, Copy, PartialEq, Eq)]
+pub struct Scalar {
+    pub var: Var,
+    /// The number of its type: equal for two scalars exactly where their C types are equal, so that `int` and `long` differ.
+    pub of: u32,
+    /// The place of its declarator, or the function's entry where it is a parameter.
+    pub place: Place,
+}
+
 /// The graph of a function: its basic blocks, and what they name.
 #[derive(Drop)]
 pub struct Graph {
@@ -29,12 +39,12 @@ pub struct Graph {
     /// What the call binds each argument to, before any instruction.
     pub parameters: Vec<Binding>,
     /// The scalar variables by position. They are the names 0, 1, ..
-    pub scalars: Vec<Var>,
+    pub scalars: Vec<Scalar>,
     /// The automatic variables in memory by position. Each activation has an object for each.
     pub objects: Vec<MemoryObject>,
     /// How many names there are: the scalars, and behind them the temporaries.
-    pub names: u32,
+    pub name_count: u32,
     /// From this name on the temporaries are those that code motion made.
-    pub moved_from: u32,
+    pub first_moved: u32,
     pub blocks: Vec<Block>,
 }

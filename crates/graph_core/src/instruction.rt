@@ -46,8 +46,8 @@ impl Element {
 /// Where a load reads and a store writes.
 #[derive(Clone, Copy, PartialEq, Eq)]
 pub enum Location {
-    /// The beginning of an automatic object of the graph, by its number.
-    Automatic(u32),
+    /// In an automatic object of the graph, by its number, so many bytes behind its beginning.
+    Automatic { object: u32, offset: u32 },
     /// The beginning of a static object, by its number.
     Static(u32),
     /// Where a value points.

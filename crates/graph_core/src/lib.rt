@@ -2,25 +2,25 @@
 #![tactic(auto)]
 
 mod block;
+mod bounds;
 mod duplicate;
 mod graph;
-mod home;
 mod instruction;
-mod laws;
 mod name;
 mod recipe;
-#[cfg(test)]
-mod tests;
 mod unit;
 mod uses;
 mod validity;
 mod value;
 
 pub use block::{Block, Comparison, End};
-pub use graph::{Binding, Graph, MemoryObject};
-pub use home::Home;
+pub use bounds::{
+    MAX_ACTIVATIONS, MAX_ARGUMENTS, MAX_BLOCKS, MAX_FUNCTION_BYTES, MAX_FUNCTION_INSTRUCTIONS,
+    MAX_FUNCTIONS, MAX_INSTRUCTIONS, MAX_MARKERS, MAX_NAMES, MAX_PARAMETERS, MAX_RECIPE_DEPTH,
+    MAX_STATIC_BYTES,
+};
+pub use graph::{Binding, Graph, MemoryObject, Scalar};
 pub use instruction::{Callee, Element, Instr, Location};
-pub use laws::{changes_are_borne_out, definitions_are_met, keeping_composes, logs_may_grow};
 pub use name::{Label, Name, Operand};
 pub use recipe::{NoteValue, Recipe};
 pub use unit::{Bytes, Relocation, StaticObject, Unit};

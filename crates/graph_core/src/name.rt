@@ -16,7 +16,7 @@ pub enum Operand {
     /// A word.
     Constant(u32),
     /// The address of a static object, by its number, so many bytes on.
-    Address { object: u32, offset: u32 },
+    StaticAddress { object: u32, offset: u32 },
 }
 
 /// The word 0: what fills the places of a small vector that no operand takes.

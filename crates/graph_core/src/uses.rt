@@ -22,7 +22,7 @@ fn push_operand(operand: Operand, names: &mut Vec<Name>) -> Result<(), AllocErro
             names.push(name)?;
             Ok(())
         }
-        Operand::Constant(_) | Operand::Address { .. } => Ok(()),
+        Operand::Constant(_) | Operand::StaticAddress { .. } => Ok(()),
     }
 }
 
@@ -32,7 +32,7 @@ fn push_location(location: Location, names: &mut Vec<Name>) -> Result<(), AllocE
 {
     match location {
         Location::At(operand) => push_operand(operand, names),
-        Location::Automatic(_) | Location::Static(_) => Ok(()),
+        Location::Automatic { .. } | Location::Static(_) => Ok(()),
     }
 }
 

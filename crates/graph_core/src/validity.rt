@@ -1,16 +1,21 @@
 //! Whether a unit is valid: its numbers name what it has, its counts stay within bounds, each instruction has a place, and the place that a block keeps is
-//! right along each edge into it.
+//! one of its graph and right along each edge into it.
 
 ghost use Rattle.std.specs.Prelude.{◌≡◌, ◌≤◌, ◌<◌, ◌↔◌, ◌^◌, ◌-◌, IsTrue, MatchOption, None, Some, length, map, min, option_map, slice_get};
 ghost use Rattle.std.specs.List.{AllByRecursion};
 ghost use Rattle.debug_records.specs.declared.change.Place as declared-place;
 ghost use Rattle.graph_core.specs.Graphs.{binding_view, block_view, bytes_view, end_view, graph_view, instruction_view, location_view, note_view, operand_view, recipe_view, static_view, unit_view};
 ghost use Rattle.graph_core.specs.Uses.{marker_of, targets_of};
+ghost use Rattle.graph_core.specs.Paths.{Among};
 ghost use Rattle.graph_core.specs.Memory.{static_bytes};
 ghost use Rattle.graph_core.specs.Counts.{AreMarkedOnce, AreMarkedOnceInBlocks, AreMarkedOnceIn, IsOnce, KeepsCounts, count_in_blocks, count_in_graphs, share};
-ghost use Rattle.graph_core.specs.Validity.{AreEdges, AreOperandsOf, AreOperandsOfEnd, AreRelocations, HasParameters, IsBinding, IsBlock, IsCall, IsGraph, IsInstruction, IsKept, IsLocation, IsNoteValue, IsObject, IsOperand, IsStatic, IsTarget, IsValid, IsWanted, arguments_in, counts, depth_of, HasPlace, KeepsPlace, place_behind, taken_by, taken_by_object, total};
+ghost use Rattle.graph_core.specs.Validity.{AreEdges, AreOperandsOf, AreOperandsOfEnd, AreRelocations, HasParameters, IsBinding, IsBlock, IsCall, IsGraph, IsInObject, IsInstruction, IsKept, IsLocation, IsNoteValue, IsObject, IsOperand, IsOwnPlace, IsStatic, IsTarget, IsValid, IsWanted, arguments_in, counts, depth_of, HasPlace, KeepsPlace, markers_of_blocks, place_behind, taken_by, taken_by_object, total};
 
 use crate::block::{Block, End};
+use crate::bounds::{
+    MAX_ARGUMENTS, MAX_BLOCKS, MAX_FUNCTION_BYTES, MAX_FUNCTION_INSTRUCTIONS, MAX_FUNCTIONS,
+    MAX_INSTRUCTIONS, MAX_MARKERS, MAX_NAMES, MAX_PARAMETERS, MAX_RECIPE_DEPTH, MAX_STATIC_BYTES,
+};
 use crate::graph::{Binding, Graph, MemoryObject};
 use crate::instruction::{Callee, Instr, Location};
 use crate::name::{Label, Name, Operand};
@@ -236,6 +241,16 @@ fn is_object(graph: &Graph, object: u32) -> bool
     (object as usize) < graph.objects.len()
 }
 
+/// Whether a graph has an automatic object of this number, and an offset is within it or directly behind it.
+fn is_in_object(graph: &Graph, object: u32, offset: u32) -> bool
+    ensures { IsTrue result ↔ IsInObject (slice_get (graph_view graph.now).objects object) offset }
+{
+    match graph.objects.get(object as usize) {
+        None => false,
+        Some(found) => u64::from(offset) <= found.element.bytes_of(found.count),
+    }
+}
+
 /// Whether a graph has a scalar of this name.
 fn is_scalar(graph: &Graph, name: Name) -> bool
     ensures { IsTrue result ↔ (name.0 < length (graph_view graph.now).scalars) }
@@ -247,7 +262,7 @@ fn is_scalar(graph: &Graph, name: Name) -> bool
 fn is_target(graph: &Graph, name: Name) -> bool
     ensures { IsTrue result ↔ IsTarget (graph_view graph.now) name.0 }
 {
-    name.0 < graph.names
+    name.0 < graph.name_count
 }
 
 /// Whether an operand names what its graph and its unit have.
@@ -257,7 +272,7 @@ fn is_operand(unit: &Unit, graph: &Graph, operand: Operand) -> bool
     match operand {
         Operand::Name(name) => is_target(graph, name),
         Operand::Constant(_) => true,
-        Operand::Address { object, .. } => is_static(unit, object),
+        Operand::StaticAddress { object, .. } => is_static(unit, object),
     }
 }
 
@@ -291,7 +306,8 @@ fn is_note_value(unit: &Unit, graph: &Graph, value: &NoteValue) -> bool
     ensures { IsTrue result ↔ IsNoteValue (unit_view unit.now) (graph_view graph.now) (note_view value.now) }
 {
     match value {
-        NoteValue::Is(recipe) => is_within(recipe, 4) && are_operands_of(unit, graph, recipe),
+        NoteValue::Is(recipe) => is_within(recipe, MAX_RECIPE_DEPTH)
+            && are_operands_of(unit, graph, recipe),
         NoteValue::Gone(change) => {
             1 <= *change && (*change as usize) <= unit.log.changes().len()
         }
@@ -302,7 +318,7 @@ fn is_location(unit: &Unit, graph: &Graph, location: Location) -> bool
     ensures { IsTrue result ↔ IsLocation (unit_view unit.now).statics (graph_view graph.now) (location_view location) }
 {
     match location {
-        Location::Automatic(object) => is_object(graph, object),
+        Location::Automatic { object, offset } => is_in_object(graph, object, offset),
         Location::Static(object) => is_static(unit, object),
         Location::At(operand) => is_operand(unit, graph, operand),
     }
@@ -440,6 +456,23 @@ fn has_place(instructions: &[Instr], kept: Option<Place>) -> bool
     }
 }
 
+/// Whether a graph has the marker of a place.
+fn has_marker(graph: &Graph, place: Place) -> bool
+    ensures { IsTrue result ↔ Among place.0 (markers_of_blocks (graph_view graph.now).blocks) }
+{
+    0 < count_in_blocks(Counted::MarkersOf(place), &graph.blocks)
+}
+
+/// Whether a place that a block keeps, if it keeps one, is the entry of its graph or has its marker there.
+fn is_own_place(graph: &Graph, kept: Option<Place>) -> bool
+    ensures { IsTrue result ↔ IsOwnPlace (graph_view graph.now) (option_map (λ (p : declared-place.Place). p.0) kept) }
+{
+    match kept {
+        None => true,
+        Some(place) => place.0 == graph.entry.0 || has_marker(graph, place),
+    }
+}
+
 /// The place in force behind instructions.
 fn place_behind(instructions: &[Instr], before: Option<Place>) -> Option<Place>
     ensures { option_map (λ (p : declared-place.Place). p.0) result ≡ place_behind (map instruction_view instructions.now) (option_map (λ (p : declared-place.Place). p.0) before) }
@@ -482,6 +515,7 @@ fn is_block(unit: &Unit, graph: &Graph, block: &Block) -> bool
     ensures { IsTrue result ↔ IsBlock (unit_view unit.now) (graph_view graph.now) (block_view block.now) }
 {
     has_place(&block.instructions, block.place)
+        && is_own_place(graph, block.place)
         && are_instructions(unit, graph, &block.instructions)
         && are_operands_of_end(unit, graph, block.end)
         && are_edges(
@@ -529,16 +563,19 @@ fn are_bindings(graph: &Graph, bindings: &[Binding]) -> bool
 fn is_graph(unit: &Unit, graph: &Graph) -> bool
     ensures { IsTrue result ↔ IsGraph (unit_view unit.now) (graph_view graph.now) }
 {
-    if 6000 < count_in_blocks(Counted::Instructions, &graph.blocks) {
+    if MAX_FUNCTION_INSTRUCTIONS < count_in_blocks(Counted::Instructions, &graph.blocks) {
         return false;
     }
-    if 4096 < taken_by_objects(&graph.objects) {
+    if MAX_FUNCTION_BYTES < taken_by_objects(&graph.objects) {
         return false;
     }
-    if 3000 < graph.names || graph.names < graph.moved_from {
+    if MAX_NAMES < graph.name_count || graph.name_count < graph.first_moved {
         return false;
     }
-    if (graph.moved_from as usize) < graph.scalars.len() || 8 < graph.parameters.len() {
+    if (graph.first_moved as usize) < graph.scalars.len() {
+        return false;
+    }
+    if MAX_PARAMETERS < graph.parameters.len() {
         return false;
     }
     if !is_kept(graph, Some(graph.entry), Label(0)) {
@@ -641,19 +678,20 @@ impl Unit {
     fn keeps_counts(&self) -> bool
         ensures { IsTrue result ↔ KeepsCounts (unit_view self.now) }
     {
-        if 256 < self.graphs.len() || 12000 < count_blocks(&self.graphs) {
+        if MAX_FUNCTIONS < self.graphs.len() || MAX_BLOCKS < count_blocks(&self.graphs) {
             return false;
         }
-        if 8000 < count_in_graphs(Counted::Instructions, &self.graphs) {
+        if MAX_INSTRUCTIONS < count_in_graphs(Counted::Instructions, &self.graphs) {
             return false;
         }
-        if 4000 < count_in_graphs(Counted::Markers, &self.graphs) {
+        if MAX_MARKERS < count_in_graphs(Counted::Markers, &self.graphs) {
             return false;
         }
-        if 4000 < count_in_graphs(Counted::Arguments, &self.graphs) {
+        if MAX_ARGUMENTS < count_in_graphs(Counted::Arguments, &self.graphs) {
             return false;
         }
-        taken_by_statics(&self.statics).saturating_add(taken_by_bytes(&self.array_bytes)) <= 1048576
+        taken_by_statics(&self.statics).saturating_add(taken_by_bytes(&self.array_bytes))
+            <= MAX_STATIC_BYTES
     }
 
     /// Whether the unit is valid. It takes no memory; where no other rule is broken, the time grows with the square of how much the unit has.

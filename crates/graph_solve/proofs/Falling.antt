@@ -21,7 +21,7 @@ falls_less height (f ∷ fs) zero count e lt = let q : f ≡ count = cc in omega
 falls_less height (f ∷ fs) (suc block) count e lt = omega (arith, falls_less height fs block count e lt)
 
 module _ (flow : DataFlow) where
-  below_meet : (y t e : Numbers) → flow.IsValue y → flow.IsValue t → flow.IsValue e → flow.meet y e ≡ y → flow.meet (flow.meet y t) e ≡ flow.meet y t
+  pub below_meet : (y t e : Numbers) → flow.IsValue y → flow.IsValue t → flow.IsValue e → flow.meet y e ≡ y → flow.meet (flow.meet y t) e ≡ flow.meet y t
   below_meet y t e vy vt ve h =
       ap (λ w. flow.meet w e) (flow.commutes y t vy vt) ∙ flow.associates t y e vt vy ve ∙ ap (flow.meet t) h ∙ flow.commutes t y vt vy
 
@@ -97,7 +97,7 @@ module _ (flow : DataFlow) where
     some_goes from to leads (both {x} {y} s t) =
         subst (SomeMeet flow.meet (Comes flow control to)) (sym (flow.distributes from x y (some_value from s) (some_value from t))) (both (some_goes from to leads s) (some_goes from to leads t))
 
-    still_falling : (edge : Edge) (values : List Numbers) (counts : List ℕ) (new_values : List Numbers) (new_counts : List ℕ) → Leads control flow.forward edge.from edge.to → AreFalling flow control values counts → HasFallen flow edge values counts new_values new_counts → AreFalling flow control new_values new_counts
+    pub still_falling : (edge : Edge) (values : List Numbers) (counts : List ℕ) (new_values : List Numbers) (new_counts : List ℕ) → Leads control flow.forward edge.from edge.to → AreFalling flow control values counts → HasFallen flow edge values counts new_values new_counts → AreFalling flow control new_values new_counts
     still_falling edge values counts new_values new_counts leads state fall =
         let counted = state.counted in
         let low = flow.meet fall.to_value (flow.transfer edge.from fall.from_value) in

@@ -1,4 +1,4 @@
-pub mod Sets
+pub mod Trees
 pub mod Lists
 pub mod Falling
 pub mod Relaxing
@@ -11,3 +11,14 @@ pub mod Valid
 pub mod Carrying
 pub mod Living
 pub mod Within
+pub mod Bitsets
+pub mod Weighing
+pub mod Working
+pub mod Tasks
+pub mod Following
+pub mod Visiting
+pub mod Filling
+pub mod Targets
+pub mod Beginning
+pub mod Reading
+pub mod Waiting

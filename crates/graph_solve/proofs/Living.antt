@@ -27,20 +27,20 @@ module _ (g : Graph) (x : ℕ) where
   comes_with path = along (live_flow g) (graph_flow g) path
 
   -- what is read first in instructions or behind them
-  in_instructions : (all : List Instruction) (end : End) (behind : Bool) → (behind ≡ true → IsReadFirst g x [] end) → read_in g.names x all behind ≡ true → IsReadFirst g x all end
+  in_instructions : (all : List Instruction) (end : End) (behind : Bool) → (behind ≡ true → IsReadFirst g x [] end) → read_in g.name_count x all behind ≡ true → IsReadFirst g x all end
   in_instructions [] end behind then e = then e
-  in_instructions (i ∷ more) end behind then e = elim (or_cases (reads x i && nat_lt x g.names) (not (writes x i) && read_in g.names x more behind) e) [
+  in_instructions (i ∷ more) end behind then e = elim (or_cases (reads x i && nat_lt x g.name_count) (not (writes x i) && read_in g.name_count x more behind) e) [
     | inl l ↦ read (and_parts _ _ l).0
-    | inr r ↦ let both = and_parts (not (writes x i)) (read_in g.names x more behind) r in passed (not-true (writes x i) both.0) (in_instructions more end behind then both.1)
+    | inr r ↦ let both = and_parts (not (writes x i)) (read_in g.name_count x more behind) r in passed (not-true (writes x i) both.0) (in_instructions more end behind then both.1)
   ]
 
-  in_block : (b : Block) (live : Numbers) → (contains live x ≡ true → IsReadFirst g x [] b.end) → contains (before_some g.names (Some b) live) x ≡ true → IsReadFirst g x b.instructions b.end
-  in_block b live then e = in_instructions b.instructions b.end ((end_reads x b.end && nat_lt x g.names) || contains live x)
-      (λ f. elim (or_cases (end_reads x b.end && nat_lt x g.names) (contains live x) f) [ inl l ↦ read_at_end (and_parts _ _ l).0 | inr r ↦ then r ])
-      (sym (block_in g.names x b live) ∙ e)
+  in_block : (b : Block) (live : Numbers) → (contains live x ≡ true → IsReadFirst g x [] b.end) → contains (before_some g.name_count (Some b) live) x ≡ true → IsReadFirst g x b.instructions b.end
+  in_block b live then e = in_instructions b.instructions b.end ((end_reads x b.end && nat_lt x g.name_count) || contains live x)
+      (λ f. elim (or_cases (end_reads x b.end && nat_lt x g.name_count) (contains live x) f) [ inl l ↦ read_at_end (and_parts _ _ l).0 | inr r ↦ then r ])
+      (sym (block_in g.name_count x b live) ∙ e)
 
   -- from the start of a block on, where the value at its end is right
-  at_start : (n : ℕ) (o : Option Block) (live : Numbers) → slice_get g.blocks n ≡ o → (contains live x ≡ true → IsLiveAtEnd g x n) → contains (before_some g.names o live) x ≡ true → IsLiveAtStart g x n
+  at_start : (n : ℕ) (o : Option Block) (live : Numbers) → slice_get g.blocks n ≡ o → (contains live x ≡ true → IsLiveAtEnd g x n) → contains (before_some g.name_count o live) x ≡ true → IsLiveAtStart g x n
   at_start n None live is right e = let other = right e in absurd (none-some other.0 (sym is ∙ other.1))
   at_start n (Some b) live is right e = (b, is, in_block b live (λ f. onward_from (right f)) e)
     where
@@ -56,29 +56,29 @@ module _ (g : Graph) (x : ℕ) where
   along_reads (next {from} {to} path leads) e =
       (leads.0, leads.1, (from, leads.2, at_start from (slice_get g.blocks from) (comes_with path) refl (along_reads path) e))
 
-  module _ (small : x < g.names) where
-    small_test : nat_lt x g.names ≡ true
-    small_test = lt-ltb x g.names small
+  module _ (small : x < g.name_count) where
+    small_test : nat_lt x g.name_count ≡ true
+    small_test = lt-ltb x g.name_count small
 
     abbrev Found : (n : ℕ) → List Instruction → End → Type 0
-    Found n all end = (path : Here n) × (read_in g.names x all ((end_reads x end && nat_lt x g.names) || contains (comes_with path) x) ≡ true)
+    Found n all end = (path : Here n) × (read_in g.name_count x all ((end_reads x end && nat_lt x g.name_count) || contains (comes_with path) x) ≡ true)
 
     abbrev Leaving : (n : ℕ) → Type 0
-    Leaving n = (path : Here n) × (contains (before_some g.names (slice_get g.blocks n) (comes_with path)) x ≡ true)
+    Leaving n = (path : Here n) × (contains (before_some g.name_count (slice_get g.blocks n) (comes_with path)) x ≡ true)
 
     leaving : (n : ℕ) (b : Block) → slice_get g.blocks n ≡ Some b → Found n b.instructions b.end → Leaving n
-    leaving n b at found = (found.0, ap (λ o. contains (before_some g.names o (comes_with found.0)) x) at ∙ block_in g.names x b (comes_with found.0) ∙ found.1)
+    leaving n b at found = (found.0, ap (λ o. contains (before_some g.name_count o (comes_with found.0)) x) at ∙ block_in g.name_count x b (comes_with found.0) ∙ found.1)
 
     found_on : {all : List Instruction} {end : End} → IsReadFirst g x all end → (n : ℕ) (b : Block) → slice_get g.blocks n ≡ Some b → b.end ≡ end → Found n all end
-    found_on (read {i} {left} {end} e) n b at same = (anywhere n, or_left (reads x i && nat_lt x g.names) _ (and_from (reads x i) _ e small_test))
-    found_on (read_at_end {end} e) n b at same = (anywhere n, or_left (end_reads x end && nat_lt x g.names) _ (and_from (end_reads x end) _ e small_test))
+    found_on (read {i} {left} {end} e) n b at same = (anywhere n, or_left (reads x i && nat_lt x g.name_count) _ (and_from (reads x i) _ e small_test))
+    found_on (read_at_end {end} e) n b at same = (anywhere n, or_left (end_reads x end && nat_lt x g.name_count) _ (and_from (end_reads x end) _ e small_test))
     found_on (passed {i} {left} {end} e rest) n b at same =
         let more = found_on rest n b at same in
-        (more.0, or_right (reads x i && nat_lt x g.names) _ (and_from (not (writes x i)) _ (not_from_false (writes x i) e) more.1))
+        (more.0, or_right (reads x i && nat_lt x g.name_count) _ (and_from (not (writes x i)) _ (not_from_false (writes x i) e) more.1))
     found_on (onward {end} to c target at_to rest) n b at same =
         let more = leaving to c at_to (found_on rest to c at_to refl) in
         let leads : (b : Block) × (slice_get g.blocks n ≡ Some b) × Contains (targets_of b.end) to = (b, at, subst (λ e. Contains (targets_of e) to) (sym same) target) in
-        (next more.0 leads, or_right (end_reads x end && nat_lt x g.names) _ more.1)
+        (next more.0 leads, or_right (end_reads x end && nat_lt x g.name_count) _ more.1)
 
     starts_found : (n : ℕ) → IsLiveAtStart g x n → Leaving n
     starts_found n live = leaving n live.0 live.1 (found_on live.2 n live.0 live.1 refl)
@@ -89,10 +89,10 @@ module _ (g : Graph) (x : ℕ) where
         let leads : (b : Block) × (slice_get g.blocks n ≡ Some b) × Contains (targets_of b.end) live.2.0 = (live.0, live.1, live.2.1) in
         (next more.0 leads, more.1)
 
-  below_names : (live : Numbers) → IsBelow g.names live → contains live x ≡ true → x < g.names
-  below_names live below e = elim (cases_lt x g.names) [ inl l ↦ l | inr ge ↦ absurd (true≢false (sym e ∙ below x ge)) ]
+  below_names : (live : Numbers) → IsBelow g.name_count live → contains live x ≡ true → x < g.name_count
+  below_names live below e = elim (cases_lt x g.name_count) [ inl l ↦ l | inr ge ↦ absurd (true≢false (sym e ∙ below x ge)) ]
 
-  ends_live : (n : ℕ) (live : Numbers) → IsMeetOf union (Comes (live_flow g) (graph_flow g) n) live → (contains live x ≡ true) ↔ ((x < g.names) × IsLiveAtEnd g x n)
+  ends_live : (n : ℕ) (live : Numbers) → IsMeetOf union (Comes (live_flow g) (graph_flow g) n) live → (contains live x ≡ true) ↔ ((x < g.name_count) × IsLiveAtEnd g x n)
   ends_live n live met =
       let laws = in_some (Comes (live_flow g) (graph_flow g) n) live x met in (
         (λ e.
@@ -103,17 +103,17 @@ module _ (g : Graph) (x : ℕ) where
         (λ h. let found = ends_found h.0 n h.1 in laws.1 (comes_with found.0, (found.0, refl), found.1)),
       )
 
-  starts_live : (n : ℕ) (live : Numbers) → IsMeetOf union (Leaves (live_flow g) (graph_flow g) n) live → (contains live x ≡ true) ↔ ((x < g.names) × IsLiveAtStart g x n)
+  starts_live : (n : ℕ) (live : Numbers) → IsMeetOf union (Leaves (live_flow g) (graph_flow g) n) live → (contains live x ≡ true) ↔ ((x < g.name_count) × IsLiveAtStart g x n)
   starts_live n live met =
       let laws = in_some (Leaves (live_flow g) (graph_flow g) n) live x met in (
         (λ e.
             let some = laws.0 e in
             let path = some.1.0 in
-            let there : contains (before_some g.names (slice_get g.blocks n) (comes_with path)) x ≡ true = ap (λ s. contains s x) (sym some.1.1) ∙ some.2 in (
-              below_names (before_some g.names (slice_get g.blocks n) (comes_with path)) ((live_flow g).transfer_value n (comes_with path) (along_value (live_flow g) (graph_flow g) path)) there,
+            let there : contains (before_some g.name_count (slice_get g.blocks n) (comes_with path)) x ≡ true = ap (λ s. contains s x) (sym some.1.1) ∙ some.2 in (
+              below_names (before_some g.name_count (slice_get g.blocks n) (comes_with path)) ((live_flow g).transfer_value n (comes_with path) (along_value (live_flow g) (graph_flow g) path)) there,
               at_start n (slice_get g.blocks n) (comes_with path) refl (along_reads path) there,
             )),
-        (λ h. let found = starts_found h.0 n h.1 in laws.1 (before_some g.names (slice_get g.blocks n) (comes_with found.0), (found.0, refl), found.1)),
+        (λ h. let found = starts_found h.0 n h.1 in laws.1 (before_some g.name_count (slice_get g.blocks n) (comes_with found.0), (found.0, refl), found.1)),
       )
 
 pub are_live : (g : Graph) (starts ends : List Numbers) → IsSolution (live_flow g) (graph_flow g) (length g.blocks) starts ends → AreLive g starts ends

@@ -1,6 +1,6 @@
 -- Where execution goes in the graph of a function.
 use Rattle.std.specs.Prelude.{◌≡◌, ℕ, ◌<◌, ◌&&◌, Bool, true, false, nat_lt, List, [], ◌∷◌, length, Some, slice_get}
-use Rattle.std.specs.List.{All, Contains}
+use Rattle.std.specs.List.{All, Contains, sum_by}
 use Rattle.graph_core.specs.Graphs.{Block, End, Jump, Branch, Return, Graph}
 use Rattle.graph_core.specs.Uses.{targets_of}
 use Rattle.graph_solve.specs.declared.flow_graph.Edge.{Edge}
@@ -33,6 +33,10 @@ leads_within blocks (to ∷ more) = nat_lt to blocks && leads_within blocks more
 abbrev pub lead_within : (blocks : ℕ) → List Block → Bool
 lead_within blocks [] = true
 lead_within blocks (b ∷ more) = leads_within blocks (targets_of b.end) && lead_within blocks more
+
+-- how many edges there are, one for each block that an end names
+abbrev pub edge_count : Graph → ℕ
+edge_count g = sum_by (λ (b : Block). length (targets_of b.end)) g.blocks
 
 -- the edge from one block to another
 abbrev pub edge_from : (from to : ℕ) → Edge

@@ -9,3 +9,7 @@ pub mod SetProblems
 pub mod GraphFlow
 pub mod Live
 pub mod LiveLaws
+pub mod First
+pub mod Rows
+pub mod Work
+pub mod Solved

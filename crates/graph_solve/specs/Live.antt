@@ -1,5 +1,5 @@
 -- Names that are read later, before they are written (Hennessy 1982).
-use Rattle.std.specs.Prelude.{◌≡◌, ℕ, ◌<◌, ◌==◌, ◌↔◌, Bool, true, false, if◌then◌else◌, nat_lt, Option, Some, None, List, [], ◌∷◌, length, slice_get}
+use Rattle.std.specs.Prelude.{◌≡◌, ℕ, ◌<◌, ◌==◌, ◌↔◌, Bool, true, false, if◌then◌else◌, nat_lt, ◌||◌, ◌&&◌, not, Option, Some, None, List, [], ◌∷◌, length, slice_get}
 use Rattle.std.specs.List.{Contains, list_any}
 use Rattle.std.specs.FinSet.{contains, insert, remove}
 use Rattle.graph_core.specs.Graphs.{Instruction, End, Block, Graph}
@@ -34,8 +34,8 @@ IsLiveAtEnd g x n = (b : Block) × (slice_get g.blocks n ≡ Some b) × ((to : �
 pub record AreLive (g : Graph) (starts ends : List Numbers) : Type 0 where
   pub starts_each : length starts ≡ length g.blocks
   pub ends_each : length ends ≡ length g.blocks
-  pub at_starts : (n x : ℕ) (live : Numbers) → slice_get starts n ≡ Some live → (contains live x ≡ true) ↔ ((x < g.names) × IsLiveAtStart g x n)
-  pub at_ends : (n x : ℕ) (live : Numbers) → slice_get ends n ≡ Some live → (contains live x ≡ true) ↔ ((x < g.names) × IsLiveAtEnd g x n)
+  pub at_starts : (n x : ℕ) (live : Numbers) → slice_get starts n ≡ Some live → (contains live x ≡ true) ↔ ((x < g.name_count) × IsLiveAtStart g x n)
+  pub at_ends : (n x : ℕ) (live : Numbers) → slice_get ends n ≡ Some live → (contains live x ≡ true) ↔ ((x < g.name_count) × IsLiveAtEnd g x n)
 
 -- with these names, as far as they lie below the width
 abbrev pub with_names : (width : ℕ) → List ℕ → Numbers → Numbers
@@ -62,3 +62,25 @@ before_block width b live = before_all width b.instructions (with_names width (r
 abbrev pub before_some : (width : ℕ) → Option Block → Numbers → Numbers
 before_some width None live = live
 before_some width (Some b) live = before_block width b live
+
+-- a block writes the name nowhere
+abbrev pub spares : ℕ → Block → Bool
+spares x b = not (list_any (writes x) b.instructions)
+
+-- from the start of instructions, or else from the end of their block on, the name is read before an instruction writes it
+abbrev pub read_within : ℕ → List Instruction → End → Bool
+read_within x [] end = end_reads x end
+read_within x (i ∷ more) end = reads x i || (not (writes x i) && read_within x more end)
+
+abbrev pub reads_first : ℕ → Block → Bool
+reads_first x b = read_within x b.instructions b.end
+
+-- whether a block, or no block, keeps a name live that is live at its end
+abbrev pub keeps_live : ℕ → Option Block → Bool
+keeps_live x None = true
+keeps_live x (Some b) = spares x b
+
+-- whether a block, or no block, makes a name live
+abbrev pub makes_live : ℕ → Option Block → Bool
+makes_live x None = false
+makes_live x (Some b) = reads_first x b

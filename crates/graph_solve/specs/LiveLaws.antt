@@ -1,18 +1,18 @@
 -- Live names as a problem, with its laws.
 use Rattle.std.specs.Prelude.{◌≡◌, ℕ, ◌==◌, ◌||◌, ◌&&◌, Bool, true, false, not, nat_lt, cond, Option, Some, None, List, [], ◌∷◌, slice_get, refl}
 use Rattle.std.proofs.Common.{inl, inr, sym, ap, ◌∙◌}
-use Rattle.std.proofs.lemmas.Bool.{and_right, eq-eqb, le-ltb, ne_eqb, or_from}
+use Rattle.std.proofs.lemmas.Bool.{and_right, eq-eqb, le-ltb, lt-ltb, ne_eqb, or_from}
 use Rattle.std.proofs.lemmas.Bool.Decides.{eqb_tells}
 use Rattle.std.specs.Cmp.{nat_cmp_total, unsigned_tied}
 use Rattle.std.specs.List.{list_any}
 use Rattle.std.specs.Option.{option_map_or}
 use Rattle.std.specs.FinSet.{contains, empty, insert, union, contains-insert, contains-remove, contains-union}
-use Rattle.graph_core.specs.Graphs.{Instruction, Block, Graph}
+use Rattle.graph_core.specs.Graphs.{Instruction, End, Block, Graph}
 use Rattle.graph_core.specs.Uses.{reads_of, reads_of_end, target_of}
 use Rattle.graph_core.specs.Paths.{reads, writes}
 use Rattle.graph_solve.specs.Numbers.{Numbers, IsBelow}
 use Rattle.graph_solve.specs.Problem.{DataFlow}
-use Rattle.graph_solve.specs.Live.{end_reads, with_names, without, before_all, before_block, before_some}
+use Rattle.graph_solve.specs.Live.{end_reads, with_names, without, before_all, before_block, before_some, spares, read_within, reads_first, keeps_live, makes_live}
 use Rattle.graph_solve.specs.SetLaws.{equal, below_empty}
 use Rattle.graph_solve.specs.SetProblems.{some_path}
 
@@ -118,6 +118,50 @@ pub some_below : (width : ℕ) (o : Option Block) (live : Numbers) → IsBelow w
 some_below width None live below = below
 some_below width (Some b) live below = λ x ge. block_in width x b live ∙ ap (read_in_block width x b) (below x ge) ∙ block_beyond width x (le-ltb x width ge) b
 
+or_true : (a : Bool) → (a || true) ≡ true
+or_true true = refl
+or_true false = refl
+
+and_false : (a : Bool) → (a && false) ≡ false
+and_false true = refl
+and_false false = refl
+
+or_false : (a : Bool) → (a || false) ≡ a
+or_false true = refl
+or_false false = refl
+
+module _ (width x : ℕ) (small : nat_lt x width ≡ true) where
+  all_moves : (all : List Instruction) (end : End) (b : Bool) → read_in width x all ((end_reads x end && nat_lt x width) || b) ≡ ((b && not (list_any (writes x) all)) || read_within x all end)
+  all_moves [] end b = ap (λ w. (end_reads x end && w) || b) small ∙ swapped (end_reads x end) b
+    where
+      swapped : (e b : Bool) → ((e && true) || b) ≡ ((b && true) || e)
+      swapped true true = refl
+      swapped true false = refl
+      swapped false true = refl
+      swapped false false = refl
+  all_moves (i ∷ more) end b =
+      ap (λ w. (reads x i && w) || (not (writes x i) && read_in width x more ((end_reads x end && nat_lt x width) || b))) small
+      ∙ ap (λ c. (reads x i && true) || (not (writes x i) && c)) (all_moves more end b) ∙ ap (λ c. c || (not (writes x i) && ((b && not (list_any (writes x) more)) || read_within x more end))) (and_true (reads x i))
+      ∙ moved_not (reads x i) (writes x i) b (list_any (writes x) more) (read_within x more end)
+    where
+      and_true : (a : Bool) → (a && true) ≡ a
+      and_true true = refl
+      and_true false = refl
+
+      moved_not : (g w b l r : Bool) → (g || (not w && ((b && not l) || r))) ≡ ((b && not (w || l)) || (g || (not w && r)))
+      moved_not true w b l r = sym (or_true (b && not (w || l)))
+      moved_not false true b l r = sym (or_false (b && false) ∙ and_false b)
+      moved_not false false b l r = refl
+
+  pub live_moves : (o : Option Block) (live : Numbers) → contains (before_some width o live) x ≡ ((contains live x && keeps_live x o) || makes_live x o)
+  live_moves None live = sym (or_false (contains live x && true) ∙ kept (contains live x))
+    where
+      kept : (a : Bool) → (a && true) ≡ a
+      kept true = refl
+      kept false = refl
+  live_moves (Some b) live = block_in width x b live ∙ all_moves b.instructions b.end (contains live x)
+
 -- Live names flow against execution, from none at the ends. A name is live where it is on some path.
 abbrev pub live_flow : Graph → DataFlow
-live_flow g = some_path false g.names empty (λ n live. before_some g.names (slice_get g.blocks n) live) (below_empty g.names) (λ n live below. some_below g.names (slice_get g.blocks n) live below) (λ n s t. some_union g.names (slice_get g.blocks n) s t)
+live_flow g = some_path false g.name_count empty (λ n live. before_some g.name_count (slice_get g.blocks n) live) (below_empty g.name_count) (λ n live below. some_below g.name_count (slice_get g.blocks n) live below) (λ n s t. some_union g.name_count (slice_get g.blocks n) s t)
+    (λ n x. keeps_live x (slice_get g.blocks n)) (λ n x. makes_live x (slice_get g.blocks n)) (λ n live _ x small. live_moves g.name_count x (lt-ltb x g.name_count small) (slice_get g.blocks n) live)

@@ -1,6 +1,8 @@
 -- Problems of data flow, with their laws.
-use Rattle.std.specs.Prelude.{◌≡◌, ◌≢◌, ℕ, suc, ◌≤◌, Bool}
-use Rattle.graph_solve.specs.Numbers.{Numbers}
+use Rattle.std.specs.Prelude.{◌≡◌, ◌≢◌, ℕ, suc, ◌<◌, ◌≤◌, ◌↔◌, ◌||◌, ◌&&◌, Bool}
+use Rattle.std.specs.FinSet.{contains}
+use Rattle.bit_rows.specs.Grid.{met_bit}
+use Rattle.graph_solve.specs.Numbers.{Numbers, IsBelow}
 
 -- A chain of so many falls ends at a value: it begins at any value, and each next value lies strictly below the one before.
 pub data Falls (IsValue : Numbers → Type 0) (meet : Numbers → Numbers → Numbers) : ℕ → Numbers → Type 0 where
@@ -23,6 +25,17 @@ pub record DataFlow : Type 1 where
   pub meet : Numbers → Numbers → Numbers
   -- what a block makes of a value
   pub transfer : ℕ → Numbers → Numbers
+  -- all facts lie below it
+  pub width : ℕ
+  -- whether the meet is union, or else intersection
+  pub unites : Bool
+  -- whether a block keeps a fact that it is given
+  pub kept : (block fact : ℕ) → Bool
+  -- whether a block makes a fact of its own
+  pub written : (block fact : ℕ) → Bool
+  pub values : (x : Numbers) → IsValue x ↔ IsBelow width x
+  pub meets : (x y : Numbers) → IsValue x → IsValue y → (fact : ℕ) → contains (meet x y) fact ≡ met_bit unites (contains x fact) (contains y fact)
+  pub moves : (block : ℕ) (x : Numbers) → IsValue x → (fact : ℕ) → fact < width → contains (transfer block x) fact ≡ ((contains x fact && kept block fact) || written block fact)
   pub edge_value : IsValue edge
   pub top_value : IsValue top
   pub meet_value : (x y : Numbers) → IsValue x → IsValue y → IsValue (meet x y)

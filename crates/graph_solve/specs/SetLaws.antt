@@ -12,10 +12,10 @@ use Rattle.graph_solve.specs.Problem.{Falls, begins, falls}
 pub equal : (s t : Numbers) → ((q : ℕ) → contains s q ≡ contains t q) → s ≡ t
 equal = same_set nat_cmp_total nat_cmp-IsAntisymmetric
 
-in_union : (s t : Numbers) (q : ℕ) → contains (union s t) q ≡ (contains s q || contains t q)
+pub in_union : (s t : Numbers) (q : ℕ) → contains (union s t) q ≡ (contains s q || contains t q)
 in_union = contains-union nat_cmp_total
 
-in_both : (s t : Numbers) (q : ℕ) → contains (intersection s t) q ≡ (contains s q && contains t q)
+pub in_both : (s t : Numbers) (q : ℕ) → contains (intersection s t) q ≡ (contains s q && contains t q)
 in_both = contains-intersection nat_cmp_total
 
 or_comm : (a b : Bool) → (a || b) ≡ (b || a)

@@ -9,7 +9,7 @@ use crate::flow_graph::{Edge, FlowGraph};
 use std::alloc::{AllocError, Global};
 
 /// The edge as paths lead along it: as it is, or turned.
-fn directed_edge(edge: Edge, forward: bool) -> Edge
+pub(crate) fn directed_edge(edge: Edge, forward: bool) -> Edge
     ensures { result ≡ directed forward edge }
 {
     if forward {

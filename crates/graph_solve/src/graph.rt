@@ -1,16 +1,21 @@
 //! Problems over the graph of a function.
 
-ghost use Rattle.std.specs.Prelude.{◌≡◌, ◌≤◌, ◌^◌, ◌++◌, ◌↔◌, true, IfOk, OnOk, length, map};
+ghost use Rattle.std.specs.Prelude.{◌≡◌, ◌+◌, ◌*◌, ◌<◌, ◌≤◌, ◌^◌, ◌++◌, ◌↔◌, true, IfOk, OnOk, length, map};
 ghost use Rattle.graph_core.specs.Graphs.{block_view, end_view, graph_view};
 ghost use Rattle.graph_core.specs.Uses.{targets_of};
-ghost use Rattle.graph_solve.specs.GraphFlow.{AreFlow, AreTargetsWithin, edge_from, graph_flow, is_return, lead_within, leads_within};
+ghost use Rattle.graph_solve.specs.GraphFlow.{AreFlow, AreTargetsWithin, edge_count, edge_from, graph_flow, is_return, lead_within, leads_within};
 ghost use Rattle.graph_solve.specs.Solution.{IsSolution};
 
 use crate::flow_graph::{Edge, FlowGraph};
 use crate::problem::Problem;
-use crate::solving::{Solution, solve_flow};
+use crate::plain::solve_flow_plain;
+use crate::solved_rows::Solution;
+use crate::solving::solve_rows;
+use crate::steps::Steps;
 use graph_core::{Block, End, Graph};
 use std::alloc::{AllocError, Global};
+use std::marker::Brand;
+use std::sync::ledger::{Blank, Ledger};
 
 /// Whether the function ends there.
 fn returns(end: &End) -> bool
@@ -36,7 +41,8 @@ fn push_edges(alloc: Global, from: u32, end: &End, edges: &mut Vec<Edge>) -> Res
 /// The blocks of a graph, and the edges between them.
 fn flow_graph(alloc: Global, graph: &Graph) -> Result<FlowGraph, AllocError>
     requires { length graph.now.blocks.items ≤ 2 ^ 32 }
-    ensures { IfOk result (λ flow. AreFlow (graph_view graph.now) (length graph.now.blocks.items) flow.ends.items flow.edges.items) }
+    ensures are { IfOk result (λ flow. AreFlow (graph_view graph.now) (length graph.now.blocks.items) flow.ends.items flow.edges.items) }
+    ensures count { IfOk result (λ flow. length flow.edges.items ≡ edge_count (graph_view graph.now)) }
 {
     let mut ends = Vec::new(alloc);
     let mut edges = Vec::new(alloc);
@@ -82,13 +88,65 @@ pub fn targets_are_within(graph: &Graph) -> bool
     within
 }
 
+/// At the start and at the end of each block of a function the meet over all paths of the problem's direction that lead there. A step is counted
+/// for each meet of two values.
+pub fn solve_counted<P: Problem, L: Ledger>(
+    alloc: Global,
+    graph: &Graph,
+    problem: &P,
+    steps: &mut Steps<L>,
+) -> Result<Solution, AllocError>
+    requires few { length graph.now.blocks.items ≤ 2 ^ 32 }
+    requires within { AreTargetsWithin (graph_view graph.now) }
+    ensures solution { IfOk result (λ solution. IsSolution (P.flow problem.now) (graph_flow (graph_view graph.now)) (length graph.now.blocks.items) solution.starts.items solution.ends.items) }
+    ensures steps { OnOk result (steps.new ≤ steps.old + edge_count (graph_view graph.now) * ((P.flow problem.now).height + 1)) }
+{
+    let flow = flow_graph(alloc, graph)?;
+    let solved = solve_rows(alloc, &flow, problem, steps)?;
+    let solution = solved.solution(alloc)?;
+    Ok(solution)
+}
+
+/// The same on a ledger of its own.
+fn solve_on<P: Problem, L: Ledger>(
+    alloc: Global,
+    graph: &Graph,
+    problem: &P,
+    blank: Blank,
+) -> Result<Solution, AllocError>
+    requires few { length graph.now.blocks.items ≤ 2 ^ 32 }
+    requires within { AreTargetsWithin (graph_view graph.now) }
+    requires name { blank.name ≡ L.name }
+    requires parts { blank.parts ≡ L.parts }
+    requires some { 0 < blank.parts }
+    ensures { IfOk result (λ solution. IsSolution (P.flow problem.now) (graph_flow (graph_view graph.now)) (length graph.now.blocks.items) solution.starts.items solution.ends.items) }
+{
+    let mut steps = Steps::<L>::new(blank);
+    let solution = solve_counted(alloc, graph, problem, &mut steps)?;
+    Ok(solution)
+}
+
 /// At the start and at the end of each block of a function the meet over all paths of the problem's direction that lead there.
 pub fn solve<P: Problem>(alloc: Global, graph: &Graph, problem: &P) -> Result<Solution, AllocError>
     requires few { length graph.now.blocks.items ≤ 2 ^ 32 }
     requires within { AreTargetsWithin (graph_view graph.now) }
     ensures { IfOk result (λ solution. IsSolution (P.flow problem.now) (graph_flow (graph_view graph.now)) (length graph.now.blocks.items) solution.starts.items solution.ends.items) }
 {
+    let solution = solve_on::<P, Brand>(alloc, graph, problem, Blank::new(1))?;
+    Ok(solution)
+}
+
+/// The same by ordered sets, round by round until nothing changes: for tests.
+pub fn solve_plain<P: Problem>(
+    alloc: Global,
+    graph: &Graph,
+    problem: &P,
+) -> Result<Solution, AllocError>
+    requires few { length graph.now.blocks.items ≤ 2 ^ 32 }
+    requires within { AreTargetsWithin (graph_view graph.now) }
+    ensures { IfOk result (λ solution. IsSolution (P.flow problem.now) (graph_flow (graph_view graph.now)) (length graph.now.blocks.items) solution.starts.items solution.ends.items) }
+{
     let flow = flow_graph(alloc, graph)?;
-    let solution = solve_flow(alloc, &flow, problem)?;
+    let solution = solve_flow_plain(alloc, &flow, problem)?;
     Ok(solution)
 }

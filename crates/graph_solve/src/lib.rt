@@ -1,20 +1,30 @@
 //! Facts at the blocks of a graph, solved as the meet over all paths.
 #![tactic(auto)]
 
+mod begin;
 mod directed;
 mod facts;
+mod first;
 mod flow_graph;
 mod graph;
 mod live_names;
+mod plain;
 mod problem;
 mod rounds;
+mod sets;
+mod solved_rows;
 mod solving;
-#[cfg(test)]
-mod tests;
+mod steps;
+mod tables;
+mod task;
+mod work;
 
 pub use facts::Facts;
 pub use flow_graph::{Edge, FlowGraph};
-pub use graph::{solve, targets_are_within};
+pub use graph::{solve, solve_counted, solve_plain, targets_are_within};
 pub use live_names::live;
 pub use problem::Problem;
-pub use solving::{Solution, solve_flow};
+pub use steps::Steps;
+pub use plain::solve_flow_plain;
+pub use solved_rows::{Solution, SolvedRows};
+pub use solving::solve_rows;

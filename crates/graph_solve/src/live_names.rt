@@ -10,7 +10,7 @@ ghost use Rattle.graph_solve.specs.LiveLaws.{live_flow};
 use crate::facts::Facts;
 use crate::graph::solve;
 use crate::problem::Problem;
-use crate::solving::Solution;
+use crate::solved_rows::Solution;
 use graph_core::{Block, Graph, Instr, Name};
 use std::alloc::{AllocError, Global};
 
@@ -74,7 +74,23 @@ impl<'a> Problem for LiveNames<'a> {
     }
 
     fn height(&self) -> u32 {
-        self.graph.names
+        self.graph.name_count
+    }
+
+    fn width(&self) -> u32 {
+        self.graph.name_count
+    }
+
+    fn unites(&self) -> bool {
+        true
+    }
+
+    fn kept(&self, block: u32, fact: u32) -> bool {
+        true
+    }
+
+    fn written(&self, block: u32, fact: u32) -> bool {
+        false
     }
 
     fn edge(&self, alloc: Global) -> Result<Facts, AllocError> {
@@ -91,7 +107,7 @@ impl<'a> Problem for LiveNames<'a> {
 
     fn transfer(&self, alloc: Global, block: u32, value: &Facts) -> Result<Facts, AllocError> {
         match self.graph.blocks.get(block as usize) {
-            Some(block) => live_at_start(alloc, block, self.graph.names, value),
+            Some(block) => live_at_start(alloc, block, self.graph.name_count, value),
             None => value.duplicate(),
         }
     }

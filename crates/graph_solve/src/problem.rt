@@ -1,6 +1,6 @@
 //! Problems of data flow.
 
-ghost use Rattle.std.specs.Prelude.{◌≡◌, IfOk};
+ghost use Rattle.std.specs.Prelude.{◌≡◌, ◌<◌, IfOk};
 ghost use Rattle.graph_solve.specs.Problem.{DataFlow};
 
 use crate::facts::Facts;
@@ -18,6 +18,24 @@ pub trait Problem {
     /// How often a value can fall at most.
     fn height(&self) -> u32
         ensures { result ≡ (flow self.now).height };
+
+    /// A number below which all facts lie.
+    fn width(&self) -> u32
+        ensures { result ≡ (flow self.now).width };
+
+    /// Whether the meet is union, or else intersection.
+    fn unites(&self) -> bool
+        ensures { result ≡ (flow self.now).unites };
+
+    /// Whether a block keeps a fact that it is given.
+    fn kept(&self, block: u32, fact: u32) -> bool
+        requires { fact < (flow self.now).width }
+        ensures { result ≡ (flow self.now).kept block fact };
+
+    /// Whether a block makes a fact of its own.
+    fn written(&self, block: u32, fact: u32) -> bool
+        requires { fact < (flow self.now).width }
+        ensures { result ≡ (flow self.now).written block fact };
 
     /// The value at the entry, or at the function's ends where the problem is not forward.
     fn edge(&self, alloc: Global) -> Result<Facts, AllocError>

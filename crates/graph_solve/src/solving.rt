@@ -1,104 +1,43 @@
-//! The solution of a problem over a graph.
+//! The solution of a problem over a graph, by rows of bits.
 
-ghost use Rattle.std.specs.Prelude.{◌≡◌, ◌≤◌, ◌^◌, IfOk, length};
-ghost use Rattle.graph_solve.specs.Solution.{AreMet, AreMetBehind, AreWithin, IsSolution, control_flow};
-ghost use Rattle.graph_solve.specs.Rounds.{AreFirst, AreMade, AreValues};
+ghost use Rattle.std.specs.Prelude.{◌≡◌, ◌+◌, ◌*◌, ◌≤◌, ◌^◌, IfOk, OnOk, length};
+ghost use Rattle.graph_solve.specs.Solution.{AreWithin, IsSolution, control_flow};
+ghost use Rattle.graph_solve.specs.Solved.{ends_of, starts_of};
 
-use crate::directed::{begins, directed_edges};
-use crate::facts::Facts;
+use crate::begin::first_work;
 use crate::flow_graph::FlowGraph;
 use crate::problem::Problem;
-use crate::rounds::round;
+use crate::solved_rows::SolvedRows;
+use crate::steps::Steps;
+use crate::task::task_of;
+use crate::work::settle;
 use std::alloc::{AllocError, Global};
+use std::sync::ledger::Ledger;
 
-/// For each block the facts at its start and at its end.
-#[derive(Drop)]
-pub struct Solution {
-    pub starts: Vec<Facts>,
-    pub ends: Vec<Facts>,
-}
-
-/// The edge's value where paths begin, and the top elsewhere.
-fn first_values<P: Problem>(
+/// At the start and at the end of each block the meet over all paths of the problem's direction that lead there, as rows of bits. A step is counted for each meet of two rows.
+pub fn solve_rows<P: Problem, L: Ledger>(
     alloc: Global,
     graph: &FlowGraph,
     problem: &P,
-    forward: bool,
-) -> Result<Vec<Facts>, AllocError>
-    requires { forward ≡ (P.flow problem.now).forward }
-    ensures { IfOk result (λ values. AreFirst (P.flow problem.now) (control_flow graph.now) (length graph.now.ends.items) values.items) }
-{
-    let mut values = Vec::new(alloc);
-    for block in 0..graph.ends.len() {
-        if begins(graph, forward, block) {
-            values.push(problem.edge(alloc)?)?;
-        } else {
-            values.push(problem.top(alloc)?)?;
-        }
-    }
-    Ok(values)
-}
-
-/// At each block the meet of what comes to it along all paths.
-fn values_met<P: Problem>(
-    alloc: Global,
-    graph: &FlowGraph,
-    problem: &P,
-    forward: bool,
-) -> Result<Vec<Facts>, AllocError>
-    requires direction { forward ≡ (P.flow problem.now).forward }
-    requires within { AreWithin (length graph.now.ends.items) graph.now.edges.items }
-    ensures each { IfOk result (λ values. length values.items ≡ length graph.now.ends.items) }
-    ensures met { IfOk result (λ values. AreMet (P.flow problem.now) (control_flow graph.now) values.items) }
-    ensures values { IfOk result (λ values. AreValues (P.flow problem.now) values.items) }
-{
-    let edges = directed_edges(alloc, graph, forward)?;
-    let height = problem.height();
-    let mut values = first_values(alloc, graph, problem, forward)?;
-    let mut counts = vec![in alloc; 0; graph.ends.len()]?;
-    while round(alloc, problem, height, &edges, &mut values, &mut counts)? {}
-    Ok(values)
-}
-
-/// What the blocks make of the values that come to them.
-fn values_made<P: Problem>(
-    alloc: Global,
-    problem: &P,
-    values: &[Facts],
-) -> Result<Vec<Facts>, AllocError>
-    requires few { length values.now ≤ 2 ^ 32 }
-    requires values { AreValues (P.flow problem.now) values.now }
-    ensures { IfOk result (λ made. AreMade (P.flow problem.now) values.now (length values.now) made.items) }
-{
-    let mut made = Vec::new(alloc);
-    for (block, value) in values.iter().enumerate() {
-        made.push(problem.transfer(alloc, block as u32, value)?)?;
-    }
-    Ok(made)
-}
-
-/// At the start and at the end of each block the meet over all paths of the problem's direction that lead there.
-pub fn solve_flow<P: Problem>(
-    alloc: Global,
-    graph: &FlowGraph,
-    problem: &P,
-) -> Result<Solution, AllocError>
+    steps: &mut Steps<L>,
+) -> Result<SolvedRows, AllocError>
     requires few { length graph.now.ends.items ≤ 2 ^ 32 }
     requires within { AreWithin (length graph.now.ends.items) graph.now.edges.items }
-    ensures { IfOk result (λ solution. IsSolution (P.flow problem.now) (control_flow graph.now) (length graph.now.ends.items) solution.starts.items solution.ends.items) }
+    ensures solution { IfOk result (λ solved. IsSolution (P.flow problem.now) (control_flow graph.now) (length graph.now.ends.items) (starts_of solved) (ends_of solved)) }
+    ensures steps { OnOk result (steps.new ≤ steps.old + length graph.now.edges.items * ((P.flow problem.now).height + 1)) }
 {
-    let forward = problem.forward();
-    let met = values_met(alloc, graph, problem, forward)?;
-    let made = values_made(alloc, problem, &met)?;
-    if forward {
-        Ok(Solution {
-            starts: met,
-            ends: made,
-        })
-    } else {
-        Ok(Solution {
-            starts: made,
-            ends: met,
-        })
+    let blocks = graph.ends.len();
+    if blocks >= 0x8000_0000 {
+        return Err(AllocError);
     }
+    let blocks = blocks as u32;
+    let task = task_of(alloc, graph, problem, blocks)?;
+    let mut work = first_work(alloc, graph, problem, &task)?;
+    settle(problem, graph, &task, &mut work, steps)?;
+    Ok(SolvedRows {
+        rows: work.values,
+        blocks,
+        width: problem.width(),
+        forward: problem.forward(),
+    })
 }

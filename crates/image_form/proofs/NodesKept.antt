@@ -9,8 +9,10 @@ use Rattle.std.proofs.lemmas.List.{length-map}
 use Rattle.std.proofs.lemmas.Option.{slice_get_within, slice_get-get_or, slice_get-map, same_Some}
 use Rattle.image_form.specs.declared.recipes.Node.{Node}
 use Rattle.image_form.specs.declared.recipes.Node.TheVariants as node
-use Rattle.image_form.specs.declared.recipes.NodeOperation.{NodeOperation}
-use Rattle.image_form.specs.declared.recipes.NodeOperation.TheVariants.{Add, Sub, Mul, Div, Divu, Rem, Remu, Sll, Srl, Sra, And, Or, Xor, Slt, Sltu, TruncateU8, TruncateI16, TruncateU16, TruncateI8}
+use Rattle.word_base.specs.declared.operation.Operation.{Operation}
+use Rattle.word_base.specs.declared.operation.Operation.TheVariants.{Add, Sub, Mul, Div, Divu, Rem, Remu, Sll, Srl, Sra, And, Or, Xor, Slt, Sltu}
+use Rattle.word_base.specs.declared.operation.Truncation.{Truncation}
+use Rattle.word_base.specs.declared.operation.Truncation.TheVariants.{Unsigned8, Signed16, Unsigned16, Signed8}
 use Rattle.image_form.specs.declared.variables.ElementType.TheVariants.{U8}
 use Rattle.image_form.specs.declared.variables.Storage.{Storage}
 use Rattle.image_form.specs.declared.variables.Storage.TheVariants.{Static, Frame, Register, Slot}
@@ -18,8 +20,8 @@ use Rattle.image_form.specs.declared.variables.Variable.{Variable}
 use Rattle.image_form.specs.Decoding.{sections_of, node_of}
 use Rattle.image_form.specs.Form.{Form}
 use Rattle.image_form.specs.Lists.{AreDistinct}
-use Rattle.image_form.specs.Numbers.{storage_number, variable_numbers, operation_number, node_numbers}
-use Rattle.image_form.specs.RulesOfNodes.{is_truncation, operands, IsHome, IsHomeNumber, NamesHome, IsTidy, HasDepth, NodeRules}
+use Rattle.image_form.specs.Numbers.{storage_number, variable_numbers, operation_number, truncation_number, node_numbers}
+use Rattle.image_form.specs.RulesOfNodes.{operands, IsHome, IsHomeNumber, NamesHome, HasDepth, NodeRules}
 use Rattle.image_form.specs.Sections.{cell}
 use Rattle.image_form.specs.TestsOfNodes.{is_shallow, is_operand, has_home, is_home_number, is_left, is_right, is_same, is_new_node, node_tests}
 use Rattle.image_form.specs.TestsOfTables.{within}
@@ -30,16 +32,16 @@ use Rattle.image_form.proofs.RecordsBack.{node_back, some_and, all_of}
 use Rattle.image_form.proofs.TableLaws.{each_at, each_from}
 
 -- An operation's number, against those of leaves and truncations.
-record OperationNumber (o : NodeOperation) : Type 0 where
+record OperationNumber (o : Operation) : Type 0 where
   some : (operation_number o == 0) ≡ false
   no_variable : (operation_number o == 1) ≡ false
   no_home : (operation_number o == 2) ≡ false
   no_leaf : nat_lt (operation_number o) 3 ≡ false
-  binary : within 3 17 (operation_number o) ≡ not (is_truncation o)
-  below : nat_lt (operation_number o) 18 ≡ not (is_truncation o)
+  binary : within 3 17 (operation_number o) ≡ true
+  below : nat_lt (operation_number o) 18 ≡ true
   known : nat_le (operation_number o) 21 ≡ true
 
-operation_number_is : (o : NodeOperation) → OperationNumber o
+operation_number_is : (o : Operation) → OperationNumber o
 operation_number_is Add = record { some = refl; no_variable = refl; no_home = refl; no_leaf = refl; binary = refl; below = refl; known = refl }
 operation_number_is Sub = record { some = refl; no_variable = refl; no_home = refl; no_leaf = refl; binary = refl; below = refl; known = refl }
 operation_number_is Mul = record { some = refl; no_variable = refl; no_home = refl; no_leaf = refl; binary = refl; below = refl; known = refl }
@@ -55,10 +57,22 @@ operation_number_is Or = record { some = refl; no_variable = refl; no_home = ref
 operation_number_is Xor = record { some = refl; no_variable = refl; no_home = refl; no_leaf = refl; binary = refl; below = refl; known = refl }
 operation_number_is Slt = record { some = refl; no_variable = refl; no_home = refl; no_leaf = refl; binary = refl; below = refl; known = refl }
 operation_number_is Sltu = record { some = refl; no_variable = refl; no_home = refl; no_leaf = refl; binary = refl; below = refl; known = refl }
-operation_number_is TruncateU8 = record { some = refl; no_variable = refl; no_home = refl; no_leaf = refl; binary = refl; below = refl; known = refl }
-operation_number_is TruncateI16 = record { some = refl; no_variable = refl; no_home = refl; no_leaf = refl; binary = refl; below = refl; known = refl }
-operation_number_is TruncateU16 = record { some = refl; no_variable = refl; no_home = refl; no_leaf = refl; binary = refl; below = refl; known = refl }
-operation_number_is TruncateI8 = record { some = refl; no_variable = refl; no_home = refl; no_leaf = refl; binary = refl; below = refl; known = refl }
+
+-- A truncation's number, against those of leaves and operations.
+record TruncationNumber (t : Truncation) : Type 0 where
+  some : (truncation_number t == 0) ≡ false
+  no_variable : (truncation_number t == 1) ≡ false
+  no_home : (truncation_number t == 2) ≡ false
+  no_leaf : nat_lt (truncation_number t) 3 ≡ false
+  unary : within 3 17 (truncation_number t) ≡ false
+  above : nat_lt (truncation_number t) 18 ≡ false
+  known : nat_le (truncation_number t) 21 ≡ true
+
+truncation_number_is : (t : Truncation) → TruncationNumber t
+truncation_number_is Unsigned8 = record { some = refl; no_variable = refl; no_home = refl; no_leaf = refl; unary = refl; above = refl; known = refl }
+truncation_number_is Signed16 = record { some = refl; no_variable = refl; no_home = refl; no_leaf = refl; unary = refl; above = refl; known = refl }
+truncation_number_is Unsigned16 = record { some = refl; no_variable = refl; no_home = refl; no_leaf = refl; unary = refl; above = refl; known = refl }
+truncation_number_is Signed8 = record { some = refl; no_variable = refl; no_home = refl; no_leaf = refl; unary = refl; above = refl; known = refl }
 
 home_sound : (s : Storage) → within 2 3 (storage_number s) ≡ true → IsHome s
 home_sound (Static a) kept = absurd cc
@@ -129,19 +143,15 @@ module _ (f : Form) where
       go (node.Constant value) low kept below = tt
       go (node.Variable variable) low kept below = tt
       go (node.Home home) low kept below = tt
-      go (node.Operation o left right) low kept below = elim (cases_Bool (is_truncation o)) [
-        | inl truncation ↦
-            let its = operation_number_is o in
-            let l = rw truncation at low in
-            let k = rw (its.no_leaf, its.below, truncation) at kept in
-            rw truncation (below left (omega (arith, l.0, there)) (and_parts _ _ k).0, tt)
-        | inr binary ↦
-            let its = operation_number_is o in
-            let l = rw binary at low in
-            let k = rw (its.no_leaf, its.below, binary) at kept in
-            let parts = and_parts (is_shallow (map node_numbers f.nodes) depth left) (is_shallow (map node_numbers f.nodes) depth right) k in
-            rw binary (below left (omega (arith, l.0, there)) parts.0, (below right (omega (arith, l.1.0, there)) parts.1, tt))
-      ]
+      go (node.Truncated t operand) low kept below =
+          let its = truncation_number_is t in
+          let k = rw (its.no_leaf, its.above) at kept in
+          (below operand (omega (arith, low.0, there)) (and_parts (is_shallow (map node_numbers f.nodes) depth operand) true k).0, tt)
+      go (node.Operated o left right) low kept below =
+          let its = operation_number_is o in
+          let k = rw (its.no_leaf, its.below) at kept in
+          let parts = and_parts (is_shallow (map node_numbers f.nodes) depth left) (is_shallow (map node_numbers f.nodes) depth right) k in
+          (below left (omega (arith, low.0, there)) parts.0, (below right (omega (arith, low.1.0, there)) parts.1, tt))
 
   shallow_complete : (depth i : ℕ) → HasDepth f.nodes depth i → is_shallow (map node_numbers f.nodes) depth i ≡ true
   shallow_complete zero i has = absurd has
@@ -156,22 +166,17 @@ module _ (f : Form) where
       go (node.Constant value) deep below = refl
       go (node.Variable variable) deep below = refl
       go (node.Home home) deep below = refl
-      go (node.Operation o left right) deep below = elim (cases_Bool (is_truncation o)) [
-        | inl truncation ↦
-            let its = operation_number_is o in
-            let d = rw truncation at deep in
-            rw (its.no_leaf, its.below, truncation, below left d.0) refl
-        | inr binary ↦
-            let its = operation_number_is o in
-            let d = rw binary at deep in
-            rw (its.no_leaf, its.below, binary, below left d.0, below right d.1.0) refl
-      ]
+      go (node.Truncated t operand) deep below = let its = truncation_number_is t in rw (its.no_leaf, its.above, below operand deep.0) refl
+      go (node.Operated o left right) deep below = let its = operation_number_is o in rw (its.no_leaf, its.below, below left deep.0, below right deep.1.0) refl
 
-  -- What a row says of its node: the homes that it names, its operands, and that what is no operand is 0.
+  operand_sound : (i m : ℕ) → (nat_lt m i && is_shallow (map node_numbers f.nodes) 3 m) ≡ true → (m < i) × (is_shallow (map node_numbers f.nodes) 3 m ≡ true)
+  operand_sound i m k = let parts = and_parts (nat_lt m i) (is_shallow (map node_numbers f.nodes) 3 m) k in (grind (arith, nat_tests, parts.0), parts.1)
+
+  -- What a row says of its node: the homes that it names, and its operands.
   own_sound : (i : ℕ) (n : Node) → get_or (map node_numbers f.nodes) i [] ≡ node_numbers n → is_left (sections_of f) i ≡ true → is_right (sections_of f) i ≡ true
-      → NamesHome f n × IsTidy n × AllByRecursion (λ k. (k < i) × (is_shallow (map node_numbers f.nodes) 3 k ≡ true)) (operands n)
+      → NamesHome f n × AllByRecursion (λ k. (k < i) × (is_shallow (map node_numbers f.nodes) 3 k ≡ true)) (operands n)
   unfolding is_left is_right has_home is_operand
-  own_sound i (node.Constant value) row left right = (tt, tt, tt)
+  own_sound i (node.Constant value) row left right = (tt, tt)
   own_sound i (node.Variable variable) row left right =
       let k = rw (row, length-map f.variables variable_numbers) at left in
       let parts = and_parts (nat_lt variable (length f.variables)) (within 2 3 (cell (map variable_numbers f.variables) variable 4)) k in
@@ -179,23 +184,17 @@ module _ (f : Form) where
       let at = slice_get-get_or f.variables variable no_variable_there there in
       let v = get_or f.variables variable no_variable_there in
       let its = rw (row_is variable_numbers f.variables variable v at) at parts.1 in
-      (rw at (home_sound v.storage its), tt, tt)
-  own_sound i (node.Home home) row left right = (number_sound home (rw row at left), tt, tt)
-  own_sound i (node.Operation o l r) row left right =
+      (rw at (home_sound v.storage its), tt)
+  own_sound i (node.Home home) row left right = (number_sound home (rw row at left), tt)
+  own_sound i (node.Truncated t operand) row left right =
+      let its = truncation_number_is t in
+      let k = rw (row, its.some, its.no_variable, its.no_home) at left in
+      (tt, (operand_sound i operand k, tt))
+  own_sound i (node.Operated o l r) row left right =
       let its = operation_number_is o in
       let k = rw (row, its.some, its.no_variable, its.no_home) at left in
-      let first = operand_sound l k in
-      elim (cases_Bool (is_truncation o)) [
-        | inl truncation ↦
-            let t = rw (row, its.binary, truncation) at right in
-            (tt, (λ _. eqb-true r 0 t), rw truncation (first, tt))
-        | inr binary ↦
-            let t = rw (row, its.binary, binary) at right in
-            (tt, (λ is. absurd (true≢false (sym is ∙ binary))), rw binary (first, (operand_sound r t, tt)))
-      ]
-    where
-      operand_sound : (m : ℕ) → (nat_lt m i && is_shallow (map node_numbers f.nodes) 3 m) ≡ true → (m < i) × (is_shallow (map node_numbers f.nodes) 3 m ≡ true)
-      operand_sound m k = let parts = and_parts (nat_lt m i) (is_shallow (map node_numbers f.nodes) 3 m) k in (grind (arith, nat_tests, parts.0), parts.1)
+      let t = rw (row, its.binary) at right in
+      (tt, (operand_sound i l k, (operand_sound i r t, tt)))
 
   new_sound : (i : ℕ) → is_new_node (sections_of f) i ≡ true → position_from (λ q. is_same q (get_or (map node_numbers f.nodes) i [])) 0 (map node_numbers f.nodes) ≡ Some i
   unfolding is_new_node
@@ -218,26 +217,28 @@ module _ (f : Form) where
       let own = λ (i : ℕ) (n : Node) (at : slice_get f.nodes i ≡ Some n).
       let k = kept i (slice_get_within f.nodes i n at) in
       own_sound i n (row_is node_numbers f.nodes i n at) k.1.0 (and_parts (is_right (sections_of f) i) (is_new_node (sections_of f) i) k.1.1.0).0 in
-      let earlier : Earlier = λ i n at. all_of (λ k both. both.0) (operands n) (own i n at).2 in
+      let earlier : Earlier = λ i n at. all_of (λ k both. both.0) (operands n) (own i n at).1 in
       let new = λ (i : ℕ) (n : Node) (at : slice_get f.nodes i ≡ Some n).
       new_sound i (and_parts (is_right (sections_of f) i) (is_new_node (sections_of f) i) (kept i (slice_get_within f.nodes i n at)).1.1.0).1 in
       record {
         homes = each_from (NamesHome f) f.nodes (λ i n at. (own i n at).0);
-        tidy = each_from IsTidy f.nodes (λ i n at. (own i n at).1);
         earlier = earlier;
         shallow = at_each f.nodes (HasDepth f.nodes 4) (λ i n at.
             let there = slice_get_within f.nodes i n at in
-            rw at (all_of (λ k both. shallow_sound earlier 3 k (omega (arith, both.0, there)) both.1) (operands n) (own i n at).2));
+            rw at (all_of (λ k both. shallow_sound earlier 3 k (omega (arith, both.0, there)) both.1) (operands n) (own i n at).1));
         differ = λ i j x y at_x at_y same.
             let rows : get_or (map node_numbers f.nodes) i [] ≡ get_or (map node_numbers f.nodes) j [] = row_is node_numbers f.nodes i x at_x ∙ ap node_numbers same ∙ sym (row_is node_numbers f.nodes j y at_y) in
             same_Some i j (sym (new i x at_x) ∙ ap (λ (r : List ℕ). position_from (λ q. is_same q r) 0 (map node_numbers f.nodes)) rows ∙ new j y at_y);
       }
 
-  own_complete : (i : ℕ) (n : Node) → get_or (map node_numbers f.nodes) i [] ≡ node_numbers n → NamesHome f n → IsTidy n → AllByRecursion (λ k. (k < i) × (is_shallow (map node_numbers f.nodes) 3 k ≡ true)) (operands n)
+  operand_complete : (i m : ℕ) → (m < i) × (is_shallow (map node_numbers f.nodes) 3 m ≡ true) → (nat_lt m i && is_shallow (map node_numbers f.nodes) 3 m) ≡ true
+  operand_complete i m both = let lt = both.0 in and_from (nat_lt m i) (is_shallow (map node_numbers f.nodes) 3 m) (grind (arith, nat_tests, lt)) both.1
+
+  own_complete : (i : ℕ) (n : Node) → get_or (map node_numbers f.nodes) i [] ≡ node_numbers n → NamesHome f n → AllByRecursion (λ k. (k < i) × (is_shallow (map node_numbers f.nodes) 3 k ≡ true)) (operands n)
       → (nat_le (cell (map node_numbers f.nodes) i 0) 21 ≡ true) × (is_left (sections_of f) i ≡ true) × (is_right (sections_of f) i ≡ true)
   unfolding is_left is_right has_home is_operand
-  own_complete i (node.Constant value) row home tidy deep = rw row (refl, refl, refl)
-  own_complete i (node.Variable variable) row home tidy deep =
+  own_complete i (node.Constant value) row home deep = rw row (refl, refl, refl)
+  own_complete i (node.Variable variable) row home deep =
       let v = some_and (slice_get f.variables variable) _ home in
       let there = slice_get_within f.variables variable v.0 v.1 in
       rw (row, length-map f.variables variable_numbers, row_is variable_numbers f.variables variable v.0 v.1) (
@@ -245,26 +246,19 @@ module _ (f : Form) where
         and_from (nat_lt variable (length f.variables)) (within 2 3 (storage_number v.0.storage)) (grind (arith, nat_tests, there)) (home_complete v.0.storage v.2),
         refl,
       )
-  own_complete i (node.Home home) row is tidy deep = rw row (refl, number_complete home is, refl)
-  own_complete i (node.Operation o l r) row home tidy deep =
+  own_complete i (node.Home home) row is deep = rw row (refl, number_complete home is, refl)
+  own_complete i (node.Truncated t operand) row home deep =
+      let its = truncation_number_is t in
+      rw (row, its.some, its.no_variable, its.no_home, its.unary) (its.known, operand_complete i operand deep.0, refl)
+  own_complete i (node.Operated o l r) row home deep =
       let its = operation_number_is o in
-      elim (cases_Bool (is_truncation o)) [
-        | inl truncation ↦
-            let d = rw truncation at deep in
-            rw (row, its.some, its.no_variable, its.no_home, its.binary, truncation) (its.known, operand_complete l d.0, eq-eqb r 0 (tidy truncation))
-        | inr binary ↦
-            let d = rw binary at deep in
-            rw (row, its.some, its.no_variable, its.no_home, its.binary, binary) (its.known, operand_complete l d.0, operand_complete r d.1.0)
-      ]
-    where
-      operand_complete : (m : ℕ) → (m < i) × (is_shallow (map node_numbers f.nodes) 3 m ≡ true) → (nat_lt m i && is_shallow (map node_numbers f.nodes) 3 m) ≡ true
-      operand_complete m both = let lt = both.0 in and_from (nat_lt m i) (is_shallow (map node_numbers f.nodes) 3 m) (grind (arith, nat_tests, lt)) both.1
+      rw (row, its.some, its.no_variable, its.no_home, its.binary) (its.known, operand_complete i l deep.0, operand_complete i r deep.1.0)
 
   one_complete : (i : ℕ) (n : Node) → slice_get f.nodes i ≡ Some n → NodeRules f → AllTrue (node_tests (sections_of f) i)
   one_complete i n at rules =
       let has : AllByRecursion (HasDepth f.nodes 3) (operands n) = rw at at (rules.shallow i (slice_get_within f.nodes i n at)) in
       let deep = both_of (λ k. k < i) (λ k. is_shallow (map node_numbers f.nodes) 3 k ≡ true) (operands n) (rules.earlier i n at) (all_of (λ k d. shallow_complete 3 k d) (operands n) has) in
-      let own = own_complete i n (row_is node_numbers f.nodes i n at) (each_at (NamesHome f) f.nodes i n rules.homes at) (each_at IsTidy f.nodes i n rules.tidy at) deep in
+      let own = own_complete i n (row_is node_numbers f.nodes i n at) (each_at (NamesHome f) f.nodes i n rules.homes at) deep in
       (own.0, (own.1, (and_from _ _ own.2 (new_complete rules.differ i n at), tt)))
 
   pub nodes_complete : NodeRules f → NodesKept

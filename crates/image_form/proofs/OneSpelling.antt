@@ -6,7 +6,7 @@ use Rattle.std.proofs.lemmas.List.{take_at, drop_at, length-append}
 use Rattle.debug_records.specs.declared.mode.Mode.{Mode}
 use Rattle.debug_records.specs.declared.mode.Mode.TheVariants.{Slots, Registers}
 use Rattle.image_form.specs.declared.recipes.Node.{Node}
-use Rattle.image_form.specs.declared.recipes.Node.TheVariants.{Constant, Variable, Home, Operation}
+use Rattle.image_form.specs.declared.recipes.Node.TheVariants.{Constant, Variable, Home, Truncated, Operated}
 use Rattle.image_form.specs.declared.verdicts.Verdict.{Verdict}
 use Rattle.image_form.specs.declared.verdicts.Verdict.TheVariants as verdict
 use Rattle.image_form.specs.declared.verdicts.VisibleRow.{VisibleRow}
@@ -37,7 +37,8 @@ pub node_sized : (n : Node) → length (node_numbers n) ≡ 3
 node_sized (Constant value) = refl
 node_sized (Variable variable) = refl
 node_sized (Home home) = refl
-node_sized (Operation operation left right) = refl
+node_sized (Truncated truncation operand) = refl
+node_sized (Operated operation left right) = refl
 
 map_back : {A : Type 0} (numbers : A → List ℕ) (of_numbers : List ℕ → A) (xs : List A) → AllByRecursion (λ x. of_numbers (numbers x) ≡ x) xs → map of_numbers (map numbers xs) ≡ xs
 map_back numbers of_numbers [] back = refl

@@ -8,11 +8,13 @@ use Rattle.debug_records.specs.declared.mode.Mode.{Mode}
 use Rattle.debug_records.specs.declared.mode.Mode.TheVariants.{Slots, Registers}
 use Rattle.image_form.specs.declared.recipes.Node.{Node}
 use Rattle.image_form.specs.declared.recipes.Node.TheVariants as node
-use Rattle.image_form.specs.declared.recipes.NodeOperation.{NodeOperation}
-use Rattle.image_form.specs.declared.recipes.NodeOperation.TheVariants.{Add, Sub, Mul, Div, Divu, Rem, Remu, Sll, Srl, Sra, And, Or, Xor, Slt, Sltu, TruncateU8, TruncateI16, TruncateU16, TruncateI8}
+use Rattle.word_base.specs.declared.operation.Operation.{Operation}
+use Rattle.word_base.specs.declared.operation.Operation.TheVariants.{Add, Sub, Mul, Div, Divu, Rem, Remu, Sll, Srl, Sra, And, Or, Xor, Slt, Sltu}
+use Rattle.word_base.specs.declared.operation.Truncation.{Truncation}
+use Rattle.word_base.specs.declared.operation.Truncation.TheVariants.{Unsigned8, Signed16, Unsigned16, Signed8}
 use Rattle.image_form.specs.declared.tables.Change.{Change}
-use Rattle.image_form.specs.declared.tables.Kind.{Kind}
-use Rattle.image_form.specs.declared.tables.Kind.TheVariants.{Removed, Moved, Reused, Replaced}
+use Rattle.debug_records.specs.declared.change.Kind.{Kind}
+use Rattle.debug_records.specs.declared.change.Kind.TheVariants.{Removed, Moved, Reused, Replaced}
 use Rattle.image_form.specs.declared.variables.ElementType.{ElementType}
 use Rattle.image_form.specs.declared.variables.ElementType.TheVariants.{U8, I8, U16, I16, U32, I32, Pointer}
 use Rattle.image_form.specs.declared.variables.Storage.{Storage}
@@ -21,9 +23,9 @@ use Rattle.image_form.specs.declared.variables.Variable.{Variable}
 use Rattle.image_form.specs.declared.verdicts.Verdict.{Verdict}
 use Rattle.image_form.specs.declared.verdicts.Verdict.TheVariants.{Home, Recovered, Noncurrent, Nonresident}
 use Rattle.image_form.specs.declared.verdicts.VisibleRow.{VisibleRow}
-use Rattle.image_form.specs.Decoding.{mode_of, owner_of, element_of, storage_of, variable_of, kind_of, change_of, writer_of, row_of, operation_of, node_of}
+use Rattle.image_form.specs.Decoding.{mode_of, owner_of, element_of, storage_of, variable_of, kind_of, change_of, writer_of, row_of, node_of}
 use Rattle.image_form.specs.Form.{Form, numbered}
-use Rattle.image_form.specs.Numbers.{mode_number, no_function, element_number, storage_number, storage_value, variable_numbers, kind_number, change_numbers, verdict_numbers, row_numbers, operation_number, node_numbers}
+use Rattle.image_form.specs.Numbers.{mode_number, no_function, element_number, storage_number, storage_value, variable_numbers, kind_number, change_numbers, verdict_numbers, row_numbers, operation_number, truncation_number, node_numbers}
 use Rattle.image_form.specs.RulesOfFunctions.{code_start}
 use Rattle.image_form.specs.RulesOfRows.{IsWriter, IsEvidence, IsVerdict}
 use Rattle.image_form.specs.RulesOfVariables.{IsVariable, IsKept}
@@ -65,29 +67,8 @@ kind_back Replaced = refl
 pub change_back : (c : Change) → change_of (change_numbers c) ≡ c
 change_back c = ap (λ (k : Kind). let r : Change = record c { kind = k } in r) (kind_back c.kind)
 
-operation_back : (o : NodeOperation) → operation_of (operation_number o) ≡ o
-operation_back Add = refl
-operation_back Sub = refl
-operation_back Mul = refl
-operation_back Div = refl
-operation_back Divu = refl
-operation_back Rem = refl
-operation_back Remu = refl
-operation_back Sll = refl
-operation_back Srl = refl
-operation_back Sra = refl
-operation_back And = refl
-operation_back Or = refl
-operation_back Xor = refl
-operation_back Slt = refl
-operation_back Sltu = refl
-operation_back TruncateU8 = refl
-operation_back TruncateI16 = refl
-operation_back TruncateU16 = refl
-operation_back TruncateI8 = refl
-
--- An operation's number is none of a leaf's.
-operation_node : (o : NodeOperation) (left right : ℕ) → node_of (operation_number o ∷ left ∷ right ∷ []) ≡ node.Operation (operation_of (operation_number o)) left right
+-- An operation's number is none of a leaf's, nor of a truncation's.
+operation_node : (o : Operation) (left right : ℕ) → node_of (operation_number o ∷ left ∷ right ∷ []) ≡ node.Operated o left right
 operation_node Add left right = refl
 operation_node Sub left right = refl
 operation_node Mul left right = refl
@@ -103,16 +84,19 @@ operation_node Or left right = refl
 operation_node Xor left right = refl
 operation_node Slt left right = refl
 operation_node Sltu left right = refl
-operation_node TruncateU8 left right = refl
-operation_node TruncateI16 left right = refl
-operation_node TruncateU16 left right = refl
-operation_node TruncateI8 left right = refl
+
+truncation_node : (t : Truncation) (operand : ℕ) → node_of (truncation_number t ∷ operand ∷ 0 ∷ []) ≡ node.Truncated t operand
+truncation_node Unsigned8 operand = refl
+truncation_node Signed16 operand = refl
+truncation_node Unsigned16 operand = refl
+truncation_node Signed8 operand = refl
 
 pub node_back : (n : Node) → node_of (node_numbers n) ≡ n
 node_back (node.Constant value) = refl
 node_back (node.Variable variable) = refl
 node_back (node.Home home) = refl
-node_back (node.Operation operation left right) = operation_node operation left right ∙ ap (λ (o : NodeOperation). node.Operation o left right) (operation_back operation)
+node_back (node.Truncated truncation operand) = truncation_node truncation operand
+node_back (node.Operated operation left right) = operation_node operation left right
 
 -- What holds of an option's value holds of the value that is there.
 pub some_and : {A : Type 0} (o : Option A) (P : A → Type 0) → IsSomeAnd o P → (x : A) × (o ≡ Some x) × P x

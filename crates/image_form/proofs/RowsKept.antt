@@ -7,8 +7,8 @@ use Rattle.std.proofs.lemmas.Bool.Decides.{nat_tests}
 use Rattle.std.proofs.lemmas.List.{length-map}
 use Rattle.std.proofs.lemmas.Option.{slice_get_within, slice_get-get_or}
 use Rattle.image_form.specs.declared.tables.Change.{Change}
-use Rattle.image_form.specs.declared.tables.Kind.{Kind}
-use Rattle.image_form.specs.declared.tables.Kind.TheVariants.{Removed, Moved, Reused, Replaced}
+use Rattle.debug_records.specs.declared.change.Kind.{Kind}
+use Rattle.debug_records.specs.declared.change.Kind.TheVariants.{Removed, Moved, Reused, Replaced}
 use Rattle.image_form.specs.declared.tables.Place.{Place}
 use Rattle.image_form.specs.declared.variables.ElementType.TheVariants.{U8}
 use Rattle.image_form.specs.declared.variables.Storage.TheVariants.{Static}

@@ -1,11 +1,11 @@
 -- Rows that keep their tests are what their records' numbers say.
-use Rattle.std.proofs.Common.{◌≡◌, ◌≢◌, ℕ, zero, suc, ◌+◌, ◌*◌, ◌<◌, ◌≤◌, Bool, true, false, List, [], ◌∷◌, length, get_or, drop, Some, refl, sym, ◌∙◌, arith, subst, inl, inr}
-use Rattle.std.specs.Prelude.{map, slice_get, unwrap_or, ◌==◌, if◌then◌else◌}
+use Rattle.std.proofs.Common.{◌≡◌, ◌≢◌, ℕ, zero, suc, ◌+◌, ◌-◌, ◌*◌, ◌<◌, ◌≤◌, Bool, true, false, List, [], ◌∷◌, length, get_or, drop, Some, refl, sym, ◌∙◌, arith, subst, inl, inr}
+use Rattle.std.specs.Prelude.{map, slice_get, unwrap_or, ◌==◌, nat_lt, if◌then◌else◌}
 use Rattle.std.proofs.lemmas.Bool.{eq-eqb, true≢false, eqb-true, leb-true, and_parts, cases_Bool}
 use Rattle.std.proofs.lemmas.Bool.Decides.{nat_tests}
 use Rattle.std.proofs.lemmas.Option.{slice_get_within, get_or_from_slice_get, same_Some}
-use Rattle.image_form.specs.Decoding.{mode_of, owner_of, element_of, storage_of, variable_of, kind_of, change_of, writer_of, row_of, operation_of, node_of}
-use Rattle.image_form.specs.Numbers.{mode_number, no_function, element_number, storage_number, storage_value, variable_numbers, kind_number, change_numbers, row_numbers, operation_number, node_numbers}
+use Rattle.image_form.specs.Decoding.{mode_of, owner_of, element_of, storage_of, variable_of, kind_of, change_of, writer_of, row_of, operation_of, truncation_of, node_of}
+use Rattle.image_form.specs.Numbers.{mode_number, no_function, element_number, storage_number, storage_value, variable_numbers, kind_number, change_numbers, row_numbers, operation_number, truncation_number, node_numbers}
 use Rattle.image_form.specs.Sections.{number_at, numbers_at, rows_at, cell, Sections}
 use Rattle.image_form.specs.TestsOfChanges.{change_tests, row_tests, is_change, is_node_or_start, is_writer}
 use Rattle.image_form.specs.TestsOfNodes.{node_tests, is_right, is_operand, is_new_node}
@@ -84,7 +84,7 @@ kind_told (suc (suc zero)) le = refl
 kind_told (suc (suc (suc zero))) le = refl
 kind_told (suc (suc (suc (suc n)))) le = absurd (omega (arith, le))
 
-operation_told : (n : ℕ) → n ≤ 18 → operation_number (operation_of (n + 3)) ≡ n + 3
+operation_told : (n : ℕ) → n ≤ 14 → operation_number (operation_of (n + 3)) ≡ n + 3
 operation_told zero le = refl
 operation_told (suc zero) le = refl
 operation_told (suc (suc zero)) le = refl
@@ -100,11 +100,14 @@ operation_told (suc (suc (suc (suc (suc (suc (suc (suc (suc (suc (suc zero))))))
 operation_told (suc (suc (suc (suc (suc (suc (suc (suc (suc (suc (suc (suc zero)))))))))))) le = refl
 operation_told (suc (suc (suc (suc (suc (suc (suc (suc (suc (suc (suc (suc (suc zero))))))))))))) le = refl
 operation_told (suc (suc (suc (suc (suc (suc (suc (suc (suc (suc (suc (suc (suc (suc zero)))))))))))))) le = refl
-operation_told (suc (suc (suc (suc (suc (suc (suc (suc (suc (suc (suc (suc (suc (suc (suc zero))))))))))))))) le = refl
-operation_told (suc (suc (suc (suc (suc (suc (suc (suc (suc (suc (suc (suc (suc (suc (suc (suc zero)))))))))))))))) le = refl
-operation_told (suc (suc (suc (suc (suc (suc (suc (suc (suc (suc (suc (suc (suc (suc (suc (suc (suc zero))))))))))))))))) le = refl
-operation_told (suc (suc (suc (suc (suc (suc (suc (suc (suc (suc (suc (suc (suc (suc (suc (suc (suc (suc zero)))))))))))))))))) le = refl
-operation_told (suc (suc (suc (suc (suc (suc (suc (suc (suc (suc (suc (suc (suc (suc (suc (suc (suc (suc (suc n))))))))))))))))))) le = absurd (omega (arith, le))
+operation_told (suc (suc (suc (suc (suc (suc (suc (suc (suc (suc (suc (suc (suc (suc (suc n))))))))))))))) le = absurd (omega (arith, le))
+
+truncation_told : (n : ℕ) → n ≤ 3 → truncation_number (truncation_of (n + 18)) ≡ n + 18
+truncation_told zero le = refl
+truncation_told (suc zero) le = refl
+truncation_told (suc (suc zero)) le = refl
+truncation_told (suc (suc (suc zero))) le = refl
+truncation_told (suc (suc (suc (suc n)))) le = absurd (omega (arith, le))
 
 -- ---- the rows of each section whose numbers have rules of their own
 
@@ -183,10 +186,20 @@ module _ (s : Sections) where
       go zero is le = let e2 = eqb-true (number_at b 8) 0 (rw (row, is) at right) in rw (is, e2) refl
       go (suc zero) is le = let e2 = eqb-true (number_at b 8) 0 (rw (row, is) at right) in rw (is, e2) refl
       go (suc (suc zero)) is le = let e2 = eqb-true (number_at b 8) 0 (rw (row, is) at right) in rw (is, e2) refl
-      go (suc (suc (suc m))) is le =
-          let sums : m + 3 ≡ suc (suc (suc m)) = omega arith in
-          let its : operation_number (operation_of (suc (suc (suc m)))) ≡ suc (suc (suc m)) = subst (λ k. operation_number (operation_of k) ≡ k) sums (operation_told m (omega (arith, le))) in
-          rw (is, its) refl
+      go (suc (suc (suc m))) is le = elim (cases_Bool (nat_lt (suc (suc (suc m))) 18)) [
+        | inl operation ↦
+            let sums : m + 3 ≡ suc (suc (suc m)) = omega arith in
+            let few : m ≤ 14 = grind (arith, nat_tests, operation) in
+            let its : operation_number (operation_of (suc (suc (suc m)))) ≡ suc (suc (suc m)) = subst (λ k. operation_number (operation_of k) ≡ k) sums (operation_told m few) in
+            rw (is, operation, its) refl
+        | inr truncation ↦
+            let many : 15 ≤ m = grind (arith, nat_tests, truncation) in
+            let sums : (m - 15) + 18 ≡ suc (suc (suc m)) = omega (arith, many) in
+            let its : truncation_number (truncation_of (suc (suc (suc m)))) ≡ suc (suc (suc m)) = subst (λ k. truncation_number (truncation_of k) ≡ k) sums (truncation_told (m - 15) (omega (arith, le, many))) in
+            let unary : within 3 17 (suc (suc (suc m))) ≡ false = grind (arith, nat_tests, many) in
+            let e2 = eqb-true (number_at b 8) 0 (rw (row, is, unary) at right) in
+            rw (is, truncation, its, e2) refl
+      ]
 
   pub nodes_told : ShapedRows 3 s.nodes → ((i : ℕ) → i < length s.nodes → AllTrue (node_tests s i)) → map node_numbers (map node_of s.nodes) ≡ s.nodes
   nodes_told shape kept = rows_told node_numbers node_of s.nodes (λ i row at.

@@ -1,17 +1,19 @@
 -- What rows of numbers say, and the numbers that say an image.
-use Rattle.std.specs.Prelude.{ℕ, ◌-◌, ◌==◌, if◌then◌else◌, List, [], ◌∷◌, Option, Some, None, map, slice_index, slice_index_or}
+use Rattle.std.specs.Prelude.{ℕ, ◌-◌, ◌==◌, nat_lt, if◌then◌else◌, List, [], ◌∷◌, Option, Some, None, map, slice_index, slice_index_or}
 use Rattle.debug_records.specs.declared.mode.Mode.{Mode}
 use Rattle.debug_records.specs.declared.mode.Mode.TheVariants.{Slots, Registers}
 use Rattle.image_form.specs.declared.recipes.Node.{Node}
 use Rattle.image_form.specs.declared.recipes.Node.TheVariants as node
-use Rattle.image_form.specs.declared.recipes.NodeOperation.{NodeOperation}
-use Rattle.image_form.specs.declared.recipes.NodeOperation.TheVariants.{Add, Sub, Mul, Div, Divu, Rem, Remu, Sll, Srl, Sra, And, Or, Xor, Slt, Sltu, TruncateU8, TruncateI16, TruncateU16, TruncateI8}
+use Rattle.word_base.specs.declared.operation.Operation.{Operation}
+use Rattle.word_base.specs.declared.operation.Operation.TheVariants.{Add, Sub, Mul, Div, Divu, Rem, Remu, Sll, Srl, Sra, And, Or, Xor, Slt, Sltu}
+use Rattle.word_base.specs.declared.operation.Truncation.{Truncation}
+use Rattle.word_base.specs.declared.operation.Truncation.TheVariants.{Unsigned8, Signed16, Unsigned16, Signed8}
 use Rattle.image_form.specs.declared.tables.AssignedPair.{AssignedPair}
 use Rattle.image_form.specs.declared.tables.Change.{Change}
 use Rattle.image_form.specs.declared.tables.FlowPair.{FlowPair}
 use Rattle.image_form.specs.declared.tables.Function.{Function}
-use Rattle.image_form.specs.declared.tables.Kind.{Kind}
-use Rattle.image_form.specs.declared.tables.Kind.TheVariants.{Removed, Moved, Reused, Replaced}
+use Rattle.debug_records.specs.declared.change.Kind.{Kind}
+use Rattle.debug_records.specs.declared.change.Kind.TheVariants.{Removed, Moved, Reused, Replaced}
 use Rattle.image_form.specs.declared.tables.Place.{Place}
 use Rattle.image_form.specs.declared.variables.ElementType.{ElementType}
 use Rattle.image_form.specs.declared.variables.ElementType.TheVariants.{U8, I8, U16, I16, U32, I32, Pointer}
@@ -110,16 +112,19 @@ row_of ns = record {
   verdict = verdict_of (slice_index ns 2) (slice_index ns 3) (slice_index ns 4) (slice_index ns 5);
 }
 
--- The operation of a number, from 3 on.
-abbrev pub operation_of : ℕ → NodeOperation
+-- The operation of a number, from 3 on; the greatest one stands for all above it.
+abbrev pub operation_of : ℕ → Operation
 operation_of n =
-    slice_index_or
-    (
-    Add ∷ Sub ∷ Mul ∷ Div ∷ Divu ∷ Rem ∷ Remu ∷ Sll ∷ Srl ∷ Sra ∷ And ∷ Or ∷ Xor ∷ Slt ∷ Sltu
-    ∷ TruncateU8 ∷ TruncateI16 ∷ TruncateU16 ∷ []
-    )
-    (n - 3)
-    TruncateI8
+    slice_index_or (Add ∷ Sub ∷ Mul ∷ Div ∷ Divu ∷ Rem ∷ Remu ∷ Sll ∷ Srl ∷ Sra ∷ And ∷ Or ∷ Xor ∷ Slt ∷ []) (n - 3) Sltu
+
+-- The truncation of a number, from 18 on; the greatest one stands for all above it.
+abbrev pub truncation_of : ℕ → Truncation
+truncation_of n = slice_index_or (Unsigned8 ∷ Signed16 ∷ Unsigned16 ∷ []) (n - 18) Signed8
+
+-- The node that is computed from others, of its number and their numbers; a truncation has one.
+abbrev pub computed_of : ℕ → ℕ → ℕ → Node
+computed_of n first second =
+    if nat_lt n 18 then node.Operated (operation_of n) first second else node.Truncated (truncation_of n) first
 
 -- The node of three numbers.
 abbrev pub node_of : List ℕ → Node
@@ -127,7 +132,7 @@ node_of ns =
     slice_index_or
     (node.Constant (slice_index ns 1) ∷ node.Variable (slice_index ns 1) ∷ node.Home (slice_index ns 1) ∷ [])
     (slice_index ns 0)
-    (node.Operation (operation_of (slice_index ns 0)) (slice_index ns 1) (slice_index ns 2))
+    (computed_of (slice_index ns 0) (slice_index ns 1) (slice_index ns 2))
 
 -- The only number of a row.
 abbrev pub word_of : List ℕ → ℕ

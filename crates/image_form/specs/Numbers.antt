@@ -4,14 +4,16 @@ use Rattle.debug_records.specs.declared.mode.Mode.{Mode}
 use Rattle.debug_records.specs.declared.mode.Mode.TheVariants.{Slots, Registers}
 use Rattle.image_form.specs.declared.recipes.Node.{Node}
 use Rattle.image_form.specs.declared.recipes.Node.TheVariants as node
-use Rattle.image_form.specs.declared.recipes.NodeOperation.{NodeOperation}
-use Rattle.image_form.specs.declared.recipes.NodeOperation.TheVariants.{Add, Sub, Mul, Div, Divu, Rem, Remu, Sll, Srl, Sra, And, Or, Xor, Slt, Sltu, TruncateU8, TruncateI16, TruncateU16, TruncateI8}
+use Rattle.word_base.specs.declared.operation.Operation.{Operation}
+use Rattle.word_base.specs.declared.operation.Operation.TheVariants.{Add, Sub, Mul, Div, Divu, Rem, Remu, Sll, Srl, Sra, And, Or, Xor, Slt, Sltu}
+use Rattle.word_base.specs.declared.operation.Truncation.{Truncation}
+use Rattle.word_base.specs.declared.operation.Truncation.TheVariants.{Unsigned8, Signed16, Unsigned16, Signed8}
 use Rattle.image_form.specs.declared.tables.AssignedPair.{AssignedPair}
 use Rattle.image_form.specs.declared.tables.Change.{Change}
 use Rattle.image_form.specs.declared.tables.FlowPair.{FlowPair}
 use Rattle.image_form.specs.declared.tables.Function.{Function}
-use Rattle.image_form.specs.declared.tables.Kind.{Kind}
-use Rattle.image_form.specs.declared.tables.Kind.TheVariants.{Removed, Moved, Reused, Replaced}
+use Rattle.debug_records.specs.declared.change.Kind.{Kind}
+use Rattle.debug_records.specs.declared.change.Kind.TheVariants.{Removed, Moved, Reused, Replaced}
 use Rattle.image_form.specs.declared.tables.Place.{Place}
 use Rattle.image_form.specs.declared.variables.ElementType.{ElementType}
 use Rattle.image_form.specs.declared.variables.ElementType.TheVariants.{U8, I8, U16, I16, U32, I32, Pointer}
@@ -100,7 +102,7 @@ abbrev pub row_numbers : VisibleRow → List ℕ
 row_numbers r = r.place ∷ r.variable ∷ verdict_numbers r.verdict
 
 -- The number of an operation.
-abbrev pub operation_number : NodeOperation → ℕ
+abbrev pub operation_number : Operation → ℕ
 operation_number Add = 3
 operation_number Sub = 4
 operation_number Mul = 5
@@ -116,14 +118,18 @@ operation_number Or = 14
 operation_number Xor = 15
 operation_number Slt = 16
 operation_number Sltu = 17
-operation_number TruncateU8 = 18
-operation_number TruncateI16 = 19
-operation_number TruncateU16 = 20
-operation_number TruncateI8 = 21
+
+-- The number of a truncation.
+abbrev pub truncation_number : Truncation → ℕ
+truncation_number Unsigned8 = 18
+truncation_number Signed16 = 19
+truncation_number Unsigned16 = 20
+truncation_number Signed8 = 21
 
 -- The numbers of a node.
 abbrev pub node_numbers : Node → List ℕ
 node_numbers (node.Constant value) = 0 ∷ value ∷ 0 ∷ []
 node_numbers (node.Variable variable) = 1 ∷ variable ∷ 0 ∷ []
 node_numbers (node.Home home) = 2 ∷ home ∷ 0 ∷ []
-node_numbers (node.Operation operation left right) = operation_number operation ∷ left ∷ right ∷ []
+node_numbers (node.Truncated truncation operand) = truncation_number truncation ∷ operand ∷ 0 ∷ []
+node_numbers (node.Operated operation left right) = operation_number operation ∷ left ∷ right ∷ []

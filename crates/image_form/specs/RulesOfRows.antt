@@ -1,8 +1,8 @@
 -- The rules of visible rows.
 use Rattle.std.specs.Prelude.{◌≡◌, ◌≢◌, ℕ, ◌<◌, Option, Some, None, slice_get, IsSomeAnd, length, ⊤}
 use Rattle.std.specs.List.{AllByRecursion}
-use Rattle.image_form.specs.declared.tables.Kind.{Kind}
-use Rattle.image_form.specs.declared.tables.Kind.TheVariants.{Removed}
+use Rattle.debug_records.specs.declared.change.Kind.{Kind}
+use Rattle.debug_records.specs.declared.change.Kind.TheVariants.{Removed}
 use Rattle.image_form.specs.declared.verdicts.Verdict.{Verdict}
 use Rattle.image_form.specs.declared.verdicts.Verdict.TheVariants.{Home, Recovered, Noncurrent, Nonresident}
 use Rattle.image_form.specs.Form.{Form, numbered}

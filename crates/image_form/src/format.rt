@@ -11,6 +11,7 @@ use debug_records::Mode;
 /// Functions, variables, code words and nodes are numbered from 0, places and changes from 1.
 #[derive(Drop)]
 pub struct Image {
+    /// Where the compiler put scalars.
     pub mode: Mode,
     /// The machine words, from address `0x00010000` on.
     pub code: Vec<u32>,

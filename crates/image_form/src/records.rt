@@ -1,18 +1,20 @@
 //! Records as numbers of 32 bits, little endian, and back.
 
 ghost use Rattle.std.specs.Prelude.{◌≡◌, ℕ, ◌++◌, List, [], IfOk, OnOk, map, slice_index_or};
-ghost use Rattle.image_form.specs.Decoding.{assigned_of, change_of, element_of, flow_of, function_of, kind_of, node_of, operation_of, owner_of, place_of, row_of, storage_of, variable_of, verdict_of, word_numbers, word_of, writer_of};
+ghost use Rattle.image_form.specs.Decoding.{assigned_of, change_of, element_of, flow_of, function_of, kind_of, computed_of, node_of, operation_of, owner_of, place_of, row_of, storage_of, truncation_of, variable_of, verdict_of, word_numbers, word_of, writer_of};
 ghost use Rattle.image_form.specs.Layouts.{rows_in};
-ghost use Rattle.image_form.specs.Numbers.{assigned_numbers, change_numbers, element_number, flow_numbers, function_numbers, kind_number, node_numbers, operation_number, place_numbers, row_numbers, storage_number, storage_value, variable_numbers};
+ghost use Rattle.image_form.specs.Numbers.{assigned_numbers, change_numbers, element_number, flow_numbers, function_numbers, kind_number, node_numbers, operation_number, place_numbers, row_numbers, storage_number, storage_value, truncation_number, variable_numbers};
 ghost use Rattle.image_form.specs.Spelling.{section, spelled};
 
-use crate::recipes::{Node, NodeOperation};
+use crate::recipes::Node;
 use crate::table::Table;
-use crate::tables::{AssignedPair, Change, FlowPair, Function, Kind, Place};
+use crate::tables::{AssignedPair, Change, FlowPair, Function, Place};
 use crate::variables::{ElementType, Storage, Variable};
 use crate::verdicts::{Verdict, VisibleRow};
 use byteorder::{ByteOrder, LittleEndian};
+use debug_records::Kind;
 use std::alloc::{AllocError, Global};
+use word_base::{Operation, Truncation};
 
 /// A record of a table, which is spelled as numbers.
 pub trait Record: Drop {
@@ -281,7 +283,11 @@ impl Record for Node {
             Node::Constant(value) => put_numbers(out, &[0, value, 0]),
             Node::Variable(variable) => put_numbers(out, &[1, variable, 0]),
             Node::Home(home) => put_numbers(out, &[2, home, 0]),
-            Node::Operation {
+            Node::Truncated {
+                truncation,
+                operand,
+            } => put_numbers(out, &[truncation_number(truncation), operand, 0]),
+            Node::Operated {
                 operation,
                 left,
                 right,
@@ -290,17 +296,31 @@ impl Record for Node {
     }
 
     fn take(table: &Table<'_>, row: usize) -> Node {
-        let operation = table.number(row, 0);
-        let left = table.number(row, 1);
-        match operation {
-            0 => Node::Constant(left),
-            1 => Node::Variable(left),
-            2 => Node::Home(left),
-            _ => Node::Operation {
-                operation: operation_of(operation),
-                left,
-                right: table.number(row, 2),
-            },
+        let number = table.number(row, 0);
+        let first = table.number(row, 1);
+        match number {
+            0 => Node::Constant(first),
+            1 => Node::Variable(first),
+            2 => Node::Home(first),
+            _ => computed_of(number, first, table.number(row, 2)),
+        }
+    }
+}
+
+/// The node that is computed from others; a truncation has one.
+fn computed_of(number: u32, first: u32, second: u32) -> Node
+    ensures { result ≡ computed_of number first second }
+{
+    if number < 18 {
+        Node::Operated {
+            operation: operation_of(number),
+            left: first,
+            right: second,
+        }
+    } else {
+        Node::Truncated {
+            truncation: truncation_of(number),
+            operand: first,
         }
     }
 }
@@ -358,29 +378,36 @@ fn kind_number(kind: Kind) -> u32
     }
 }
 
-fn operation_number(operation: NodeOperation) -> u32
+fn operation_number(operation: Operation) -> u32
     ensures { result ≡ operation_number operation }
 {
     match operation {
-        NodeOperation::Add => 3,
-        NodeOperation::Sub => 4,
-        NodeOperation::Mul => 5,
-        NodeOperation::Div => 6,
-        NodeOperation::Divu => 7,
-        NodeOperation::Rem => 8,
-        NodeOperation::Remu => 9,
-        NodeOperation::Sll => 10,
-        NodeOperation::Srl => 11,
-        NodeOperation::Sra => 12,
-        NodeOperation::And => 13,
-        NodeOperation::Or => 14,
-        NodeOperation::Xor => 15,
-        NodeOperation::Slt => 16,
-        NodeOperation::Sltu => 17,
-        NodeOperation::TruncateU8 => 18,
-        NodeOperation::TruncateI16 => 19,
-        NodeOperation::TruncateU16 => 20,
-        NodeOperation::TruncateI8 => 21,
+        Operation::Add => 3,
+        Operation::Sub => 4,
+        Operation::Mul => 5,
+        Operation::Div => 6,
+        Operation::Divu => 7,
+        Operation::Rem => 8,
+        Operation::Remu => 9,
+        Operation::Sll => 10,
+        Operation::Srl => 11,
+        Operation::Sra => 12,
+        Operation::And => 13,
+        Operation::Or => 14,
+        Operation::Xor => 15,
+        Operation::Slt => 16,
+        Operation::Sltu => 17,
+    }
+}
+
+fn truncation_number(truncation: Truncation) -> u32
+    ensures { result ≡ truncation_number truncation }
+{
+    match truncation {
+        Truncation::Unsigned8 => 18,
+        Truncation::Signed16 => 19,
+        Truncation::Unsigned16 => 20,
+        Truncation::Signed8 => 21,
     }
 }
 
@@ -462,28 +489,35 @@ fn verdict_of(number: u32, change: u32, first: u32, second: u32) -> Verdict
     }
 }
 
-fn operation_of(number: u32) -> NodeOperation
+fn operation_of(number: u32) -> Operation
     ensures { result ≡ operation_of number }
 {
     match number {
-        0..=3 => NodeOperation::Add,
-        4 => NodeOperation::Sub,
-        5 => NodeOperation::Mul,
-        6 => NodeOperation::Div,
-        7 => NodeOperation::Divu,
-        8 => NodeOperation::Rem,
-        9 => NodeOperation::Remu,
-        10 => NodeOperation::Sll,
-        11 => NodeOperation::Srl,
-        12 => NodeOperation::Sra,
-        13 => NodeOperation::And,
-        14 => NodeOperation::Or,
-        15 => NodeOperation::Xor,
-        16 => NodeOperation::Slt,
-        17 => NodeOperation::Sltu,
-        18 => NodeOperation::TruncateU8,
-        19 => NodeOperation::TruncateI16,
-        20 => NodeOperation::TruncateU16,
-        _ => NodeOperation::TruncateI8,
+        0..=3 => Operation::Add,
+        4 => Operation::Sub,
+        5 => Operation::Mul,
+        6 => Operation::Div,
+        7 => Operation::Divu,
+        8 => Operation::Rem,
+        9 => Operation::Remu,
+        10 => Operation::Sll,
+        11 => Operation::Srl,
+        12 => Operation::Sra,
+        13 => Operation::And,
+        14 => Operation::Or,
+        15 => Operation::Xor,
+        16 => Operation::Slt,
+        _ => Operation::Sltu,
+    }
+}
+
+fn truncation_of(number: u32) -> Truncation
+    ensures { result ≡ truncation_of number }
+{
+    match number {
+        0..=18 => Truncation::Unsigned8,
+        19 => Truncation::Signed16,
+        20 => Truncation::Unsigned16,
+        _ => Truncation::Signed8,
     }
 }

@@ -1,5 +1,7 @@
 //! Functions, places, changes and the pairs of the flow and assignment tables.
 
+use debug_records::Kind;
+
 /// A function of the program.
 #[derive(Clone, Copy, PartialEq, Eq)]
 pub struct Function {
@@ -26,15 +28,6 @@ pub struct Place {
     pub function: u32,
     /// The address of its first word.
     pub address: u32,
-}
-
-/// What a compiler pass did to an assignment or a read.
-#[derive(Clone, Copy, PartialEq, Eq)]
-pub enum Kind {
-    Removed,
-    Moved,
-    Reused,
-    Replaced,
 }
 
 /// A change that a compiler pass made.

@@ -7,8 +7,6 @@ mod ending;
 mod output;
 mod shown;
 mod status;
-#[cfg(test)]
-mod tests;
 mod values;
 
 pub use changes::{change_line, change_text, noncurrent_line, nonresident_line, recovered_line};

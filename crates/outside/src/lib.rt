@@ -18,6 +18,3 @@ pub use quiet_sink::QuietSink;
 pub use shelf::{Shelf, ShelfErr};
 pub use sink::{PutErr, Sink};
 pub use stdout_sink::StdoutSink;
-
-#[cfg(test)]
-mod tests;

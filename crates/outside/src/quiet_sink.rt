@@ -5,7 +5,7 @@ use crate::sink::{PutErr, Sink};
 use std::alloc::Global;
 
 /// A sink that takes every piece and keeps none. It never fails, and does not tell what it took.
-#[derive(Clone, Copy, Debug, Default, PartialEq, Eq)]
+#[derive(Clone, Copy, Default, PartialEq, Eq)]
 pub struct QuietSink;
 
 impl Sink for QuietSink {

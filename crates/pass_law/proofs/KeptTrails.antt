@@ -9,11 +9,11 @@ use Rattle.std.proofs.lemmas.Option.{slice_get-map, slice_get-get_or}
 use Rattle.debug_records.specs.declared.change.PassName.{PassName}
 use Rattle.graph_core.specs.declared.unit.Unit as unit
 use Rattle.graph_core.specs.Graphs.{UnitForm, unit_view}
-use Rattle.graph_core.specs.Keeps.{Keeps}
+use Rattle.pass_law.specs.Keeps.{Keeps}
 use Rattle.graph_core.specs.WellMarked.{AreWellMarked}
-use Rattle.graph_core.proofs.Inversions.{some_same}
-use Rattle.graph_core.proofs.Keeping.{keeps_through}
-use Rattle.pass_law.specs.Steps.{Steps}
+use Rattle.pass_law.proofs.Inversions.{some_same}
+use Rattle.pass_law.proofs.Keeping.{keeps_through}
+use Rattle.pass_law.specs.Relations.{PassRelation}
 use Rattle.pass_law.specs.Trails.{IsFirst, IsNoPass, IsTrail, ends, goes_on}
 use Rattle.pass_law.proofs.FirstPasses.{first_is_some}
 
@@ -22,7 +22,7 @@ pub record IsReady (u : UnitForm) (passes : ℕ) : Type 0 where
   pub marked : AreWellMarked u
   pub changes : length u.log ≤ 100000 * passes
 
-module _ {P : Type 0} (named : P → PassName) (steps : P → Steps) (passes : List P) where
+module _ {P : Type 0} (named : P → PassName) (steps : P → PassRelation) (passes : List P) where
   -- the first unit is kept by all behind it
   kept_by_all : (u : UnitForm) (names : List PassName) (units : List UnitForm) → IsTrail named steps passes names (u ∷ units) → All (Keeps u) units
   kept_by_all u [] [] ends = All-nil (Keeps u)

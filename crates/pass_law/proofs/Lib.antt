@@ -1,3 +1,15 @@
+pub mod Keeping
+pub mod LogLonger
 pub mod FirstPasses
 pub mod KeptTrails
 pub mod NamesSame
+pub mod Inversions
+pub mod WorkedBuilt
+pub mod WorkedReduced
+pub mod WorkedPass
+pub mod WorkedNot
+pub mod WorkedRemoval
+pub mod WorkedMotion
+pub mod WorkedCopy
+pub mod WorkedOthers
+pub mod WorkedRefusals

@@ -1,3 +1,6 @@
-pub mod Steps
+pub mod Keeps
+pub mod Earned
+pub mod Relations
 pub mod Trails
-pub mod Examples
+pub mod Worked
+pub mod WorkedChanges

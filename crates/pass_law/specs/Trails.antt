@@ -5,7 +5,7 @@ use Rattle.debug_records.specs.declared.change.PassName.{PassName}
 use Rattle.graph_core.specs.Graphs.{UnitForm}
 use Rattle.pass_law.specs.declared.list.RunErr.{RunErr}
 use Rattle.pass_law.specs.declared.list.RunErr.TheVariants.{Unknown, NoMemory}
-use Rattle.pass_law.specs.Steps.{Steps}
+use Rattle.pass_law.specs.Relations.{PassRelation}
 
 -- A pass is the first of a name.
 pub data IsFirst {P : Type 0} (named : P → PassName) (name : PassName) (p : P) : List P → Type 0 where
@@ -17,7 +17,7 @@ abbrev pub IsNoPass : {P : Type 0} → (P → PassName) → List P → PassName 
 IsNoPass named passes name = All (λ p. named p ≢ name) passes
 
 -- The units of a trail: for each name, in order, a step of the first pass of that name leads from one unit to the next.
-pub data IsTrail {P : Type 0} (named : P → PassName) (steps : P → Steps) (passes : List P) : List PassName → List UnitForm → Type 0 where
+pub data IsTrail {P : Type 0} (named : P → PassName) (steps : P → PassRelation) (passes : List P) : List PassName → List UnitForm → Type 0 where
   ends : {u : UnitForm} → IsTrail named steps passes [] (u ∷ [])
   goes_on : {name : PassName} {names : List PassName} {u v : UnitForm} {units : List UnitForm} (p : P) → IsFirst named name p passes → (steps p).leads u v → IsTrail named steps passes names (v ∷ units) → IsTrail named steps passes (name ∷ names) (u ∷ v ∷ units)
 

@@ -2,7 +2,7 @@
 
 ghost use Rattle.std.specs.Prelude.{◌≡◌, ◌≤◌, ◌<◌, ◌^◌, ◌++◌, [], ◌∷◌, AllPairs, IfErr, IfOk, IfSome, IsSomeAnd, MatchOption, OnOk, Some, length, map, slice_get};
 ghost use Rattle.graph_core.specs.Graphs.{unit_view};
-ghost use Rattle.graph_core.specs.Keeps.{Keeps};
+ghost use Rattle.pass_law.specs.Keeps.{Keeps};
 ghost use Rattle.graph_core.specs.WellMarked.{AreWellMarked};
 ghost use Rattle.pass_law.specs.Trails.{IsFirst, IsNoPass, IsReason, IsTrail};
 

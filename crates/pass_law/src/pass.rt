@@ -4,7 +4,7 @@ ghost use Rattle.std.specs.Prelude.{◌≡◌, ◌<◌, ◌^◌, IfOk, length};
 ghost use Rattle.debug_records.specs.declared.change.PassName.{PassName};
 ghost use Rattle.graph_core.specs.Graphs.{unit_view};
 ghost use Rattle.graph_core.specs.WellMarked.{AreWellMarked};
-ghost use Rattle.pass_law.specs.Steps.{Steps};
+ghost use Rattle.pass_law.specs.Relations.{PassRelation};
 
 use debug_records::PassName;
 use graph_core::Unit;
@@ -16,7 +16,7 @@ pub trait Pass: Drop {
     ghost named: { Self → PassName };
 
     /// Its steps: what it may make of a unit.
-    ghost steps: { Self → Steps };
+    ghost steps: { Self → PassRelation };
 
     /// The name of the pass.
     fn name(&self) -> PassName

@@ -15,6 +15,3 @@ pub use instruction::{
     StoreOperation,
 };
 pub use law::{decoding_undoes_encoding, encoding_undoes_decoding};
-
-#[cfg(test)]
-mod tests;

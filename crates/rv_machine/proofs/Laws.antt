@@ -11,7 +11,7 @@ use Rattle.rv_machine.specs.declared.event.Event.{Event}
 use Rattle.rv_machine.specs.declared.event.Event.TheVariants.{Out, Exited, Depth, Fault}
 use Rattle.rv_machine.specs.State.{State, reg, with_reg, word}
 use Rattle.rv_machine.specs.Memory.{with_half}
-use Rattle.rv_machine.specs.Table.{Effect, Place, InCode, InBytes, InStack, goes, stays, next, jumps, taken, aligned_place, store_size, loaded, stored, stored_in, stored_at, stored_where, on_load, on_store, on_input, on_call, acted, fetched, effect, effect_of_word, effect_of_instruction}
+use Rattle.rv_machine.specs.Table.{Effect, Location, InCode, InBytes, InStack, goes, stays, next, jumps, taken, aligned_location, store_size, loaded, stored, stored_in, stored_at, stored_where, on_load, on_store, on_input, on_call, acted, fetched, effect, effect_of_word, effect_of_instruction}
 use Rattle.rv_machine.specs.Laws.{IsEnding, Kept}
 use Rattle.rv_machine.proofs.Memory.{length_with_word}
 
@@ -131,18 +131,18 @@ kept_written s to r v input = record { code = refl; registers = length_with_reg 
 kept_same : (s : State) → Kept s s
 kept_same s = record { code = refl; registers = refl; bytes = refl; stack = refl; zero = refl }
 
-kept_at : (s : State) (op : StoreOperation) (v : ℕ) (p : Place) → Kept s (on_store s (stored_at s op v p)).after
+kept_at : (s : State) (op : StoreOperation) (v : ℕ) (p : Location) → Kept s (on_store s (stored_at s op v p)).after
 kept_at s op v (InCode i) = kept_same s
 kept_at s op v (InBytes i) = record { code = refl; registers = refl; bytes = length_stored_in op s.bytes i v; stack = refl; zero = refl }
 kept_at s op v (InStack i) = record { code = refl; registers = refl; bytes = refl; stack = length_stored_in op s.stack i v; zero = refl }
 
-kept_where : (s : State) (op : StoreOperation) (v : ℕ) (o : Option Place) → Kept s (on_store s (stored_where s op v o)).after
+kept_where : (s : State) (op : StoreOperation) (v : ℕ) (o : Option Location) → Kept s (on_store s (stored_where s op v o)).after
 kept_where s op v None = kept_same s
 kept_where s op v (Some p) = kept_at s op v p
 
 kept_stored : (s : State) (op : StoreOperation) (a v : ℕ) → Kept s (on_store s (stored s op a v)).after
 unfolding stored
-kept_stored s op a v = kept_where s op v (aligned_place s (store_size op) a)
+kept_stored s op a v = kept_where s op v (aligned_location s (store_size op) a)
 
 kept_input : (s : State) (xs : List ℕ) → Kept s (on_input s xs).after
 kept_input s [] = kept_written s (next s) 10 4294967295 s.input

@@ -18,7 +18,7 @@ use Rattle.rv_code.specs.Decoding.{decoded}
 use Rattle.std.specs.Int.{cast_signed, w32}
 use Rattle.rv_machine.specs.declared.event.Event.{Event}
 use Rattle.rv_machine.specs.declared.event.Event.TheVariants.{Went, Out, Exited, Depth, Fault}
-use Rattle.rv_machine.specs.State.{State, reg, with_reg, word}
+use Rattle.rv_machine.specs.State.{State, reg, with_reg, word, code_start, bytes_start, bytes_end, bytes_size, stack_start, stack_end, stack_size}
 use Rattle.rv_machine.specs.Memory.{byte_in, half_in, word_in, with_byte, with_half, with_word, bytes_of_words}
 
 -- What comes of an instruction: what it shows, and the state after it.
@@ -91,25 +91,25 @@ taken Bgeu a b = not (nat_lt a b)
 -- ---- Memory
 
 -- A region of memory and an offset of a byte in it.
-pub data Place : Type 0 where
-  InCode : (offset : ℕ) → Place
-  InBytes : (offset : ℕ) → Place
-  InStack : (offset : ℕ) → Place
+pub data Location : Type 0 where
+  InCode : (offset : ℕ) → Location
+  InBytes : (offset : ℕ) → Location
+  InStack : (offset : ℕ) → Location
 
--- The place of an address, if one of the regions has it: the code has four bytes a word, the other two have the sizes that their lists have.
-unfoldable pub place_of : State → ℕ → Option Place
-place_of s a =
-    if nat_lt a 65536 then None
-    else if nat_lt a (65536 + 4 * length s.code) then Some (InCode (a - 65536))
-    else if nat_lt a 4194304 then None
-    else if nat_lt a 5242880 then Some (InBytes (a - 4194304))
-    else if nat_lt a 16777216 then None
-    else if nat_lt a 33554432 then Some (InStack (a - 16777216))
+-- The location of an address, if one of the regions has it: the code has four bytes a word, the other two have the sizes that their lists have.
+unfoldable pub location_of : State → ℕ → Option Location
+location_of s a =
+    if nat_lt a code_start then None
+    else if nat_lt a (code_start + 4 * length s.code) then Some (InCode (a - code_start))
+    else if nat_lt a bytes_start then None
+    else if nat_lt a bytes_end then Some (InBytes (a - bytes_start))
+    else if nat_lt a stack_start then None
+    else if nat_lt a stack_end then Some (InStack (a - stack_start))
     else None
 
--- The place of an address that is a multiple of the size of what lies there.
-abbrev pub aligned_place : State → ℕ → ℕ → Option Place
-aligned_place s size a = if a % size == 0 then place_of s a else None
+-- The location of an address that is a multiple of the size of what lies there.
+abbrev pub aligned_location : State → ℕ → ℕ → Option Location
+aligned_location s size a = if a % size == 0 then location_of s a else None
 
 -- The number of bytes that a load or a store moves.
 abbrev pub load_size : LoadOperation → ℕ
@@ -124,12 +124,20 @@ store_size Sb = 1
 store_size Sh = 2
 store_size Sw = 4
 
--- A byte or a halfword taken as a signed number, as a word: its sign is copied upwards.
-abbrev pub signed_byte : ℕ → ℕ
-signed_byte n = if nat_lt n 128 then n else n + 4294967040
+-- The words whose upper 24 bits, or upper 16 bits, are 1 and the others 0.
+abbrev pub upper_24_bits : ℕ
+upper_24_bits = 4294967040
 
+abbrev pub upper_16_bits : ℕ
+upper_16_bits = 4294901760
+
+-- A byte taken as a signed number, as a word: its sign is copied upwards.
+abbrev pub signed_byte : ℕ → ℕ
+signed_byte n = if nat_lt n 128 then n else n + upper_24_bits
+
+-- A halfword taken so.
 abbrev pub signed_half : ℕ → ℕ
-signed_half n = if nat_lt n 32768 then n else n + 4294901760
+signed_half n = if nat_lt n 32768 then n else n + upper_16_bits
 
 -- What a load gets from bytes, at an offset.
 unfoldable pub loaded_from : LoadOperation → List ℕ → ℕ → ℕ
@@ -145,30 +153,30 @@ stored_in Sb xs i v = with_byte xs i v
 stored_in Sh xs i v = with_half xs i v
 stored_in Sw xs i v = with_word xs i v
 
--- What a load gets at a place.
-abbrev pub loaded_at : State → LoadOperation → Place → ℕ
+-- What a load gets at a location.
+abbrev pub loaded_at : State → LoadOperation → Location → ℕ
 loaded_at s op (InCode i) = loaded_from op (bytes_of_words s.code) i
 loaded_at s op (InBytes i) = loaded_from op s.bytes i
 loaded_at s op (InStack i) = loaded_from op s.stack i
 
--- The state after a store at a place. The code is not written.
-abbrev pub stored_at : State → StoreOperation → ℕ → Place → Option State
+-- The state after a store at a location. The code is not written.
+abbrev pub stored_at : State → StoreOperation → ℕ → Location → Option State
 stored_at s op v (InCode i) = None
 stored_at s op v (InBytes i) = Some (record s { bytes = stored_in op s.bytes i v })
 stored_at s op v (InStack i) = Some (record s { stack = stored_in op s.stack i v })
 
--- What is done at a place, if there is one.
-abbrev pub stored_where : State → StoreOperation → ℕ → Option Place → Option State
+-- The state after a store at a location, if there is one.
+abbrev pub stored_where : State → StoreOperation → ℕ → Option Location → Option State
 stored_where s op v None = None
 stored_where s op v (Some p) = stored_at s op v p
 
 -- What a load gets at an address, if it may read there.
 unfoldable pub loaded : State → LoadOperation → ℕ → Option ℕ
-loaded s op a = option_map (loaded_at s op) (aligned_place s (load_size op) a)
+loaded s op a = option_map (loaded_at s op) (aligned_location s (load_size op) a)
 
 -- The state after a store at an address, if it may write there; the pc is not moved.
 unfoldable pub stored : State → StoreOperation → ℕ → ℕ → Option State
-stored s op a v = stored_where s op v (aligned_place s (store_size op) a)
+stored s op a v = stored_where s op v (aligned_location s (store_size op) a)
 
 -- ---- The rows of the table
 
@@ -182,19 +190,30 @@ abbrev pub on_store : State → Option State → Effect
 on_store s None = stays s (Fault s.pc)
 on_store s (Some t) = record { event = Went; after = record t { pc = next s } }
 
--- Call 1: the next byte of input goes to a0 (register 10), or -1 where there is none.
-abbrev pub on_input : State → List ℕ → Effect
-on_input s [] = goes s (next s) 10 4294967295
-on_input s (b ∷ rest) = record { event = Went; after = record s { pc = next s; registers = with_reg s.registers 10 b; input = rest } }
+-- The registers of a call of the environment: a0 has its argument and takes its result, a7 has its number.
+abbrev pub a0 : ℕ
+a0 = 10
 
--- A call of the environment, by the number in a7 (register 17).
+abbrev pub a7 : ℕ
+a7 = 17
+
+-- The word of -1, which says that there is no input left.
+abbrev pub no_input : ℕ
+no_input = 4294967295
+
+-- Call 1: the next byte of input goes to a0, or -1 where there is none.
+abbrev pub on_input : State → List ℕ → Effect
+on_input s [] = goes s (next s) a0 no_input
+on_input s (b ∷ rest) = record { event = Went; after = record s { pc = next s; registers = with_reg s.registers a0 b; input = rest } }
+
+-- A call of the environment, by the number in a7.
 -- 1 reads a byte; 2 puts out the low 8 bits of a0, which become a0; 3 says that calls nest too deep; 10 exits with a0. Another number faults.
 unfoldable pub on_call : State → Effect
 on_call s =
-    if reg s 17 == 1 then on_input s s.input
-    else if reg s 17 == 2 then (record { event = Out (reg s 10 % 256); after = record s { pc = next s; registers = with_reg s.registers 10 (reg s 10 % 256) } })
-    else if reg s 17 == 3 then stays s Depth
-    else if reg s 17 == 10 then stays s (Exited (cast_signed w32 (reg s 10)))
+    if reg s a7 == 1 then on_input s s.input
+    else if reg s a7 == 2 then (record { event = Out (reg s a0 % 256); after = record s { pc = next s; registers = with_reg s.registers a0 (reg s a0 % 256) } })
+    else if reg s a7 == 3 then stays s Depth
+    else if reg s a7 == 10 then stays s (Exited (cast_signed w32 (reg s a0)))
     else stays s (Fault s.pc)
 
 -- What an instruction does. An offset or a distance is a word, so a sum with it is taken modulo 2^32.
@@ -216,7 +235,7 @@ acted s Ebreak = stays s (Fault s.pc)
 
 -- The word that the pc names: it is a multiple of 4 and lies in the code.
 unfoldable pub fetched : State → Option ℕ
-fetched s = if s.pc % 4 == 0 then (if nat_lt s.pc 65536 then None else slice_get s.code ((s.pc - 65536) / 4)) else None
+fetched s = if s.pc % 4 == 0 then (if nat_lt s.pc code_start then None else slice_get s.code ((s.pc - code_start) / 4)) else None
 
 -- What a decoded word does; it faults where the word spells no instruction.
 abbrev pub effect_of_instruction : State → Option Instruction → Effect
@@ -242,9 +261,9 @@ zeros n = replicate n 0
 unfoldable pub started : List ℕ → List ℕ → List ℕ → State
 started code initial input = record {
   code = code;
-  pc = 65536;
+  pc = code_start;
   registers = replicate 32 0;
-  bytes = initial ++ zeros (1048576 - length initial);
-  stack = zeros 16777216;
+  bytes = initial ++ zeros (bytes_size - length initial);
+  stack = zeros stack_size;
   input = input;
 }

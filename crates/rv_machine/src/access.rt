@@ -9,20 +9,28 @@ use rv_code::{LoadOperation, StoreOperation};
 /// The address of the first word of the code.
 pub const CODE_START: u32 = 0x00010000;
 
-/// The region of bytes: the address of its first byte, and of the byte after its last one.
+/// The address of the first byte of the region of bytes.
 pub const BYTES_START: u32 = 0x00400000;
 
+/// The address behind its last byte.
 pub const BYTES_END: u32 = 0x00500000;
 
-/// The stack: the address of its first byte, and of the byte after its last one.
+/// The address of the first byte of the stack.
 pub const STACK_START: u32 = 0x01000000;
 
+/// The address behind its last byte.
 pub const STACK_END: u32 = 0x02000000;
 
-/// The number of bytes in the region of bytes, and in the stack.
+/// How many bytes the region of bytes has.
 pub const BYTES_SIZE: usize = 0x00100000;
 
+/// How many bytes the stack has.
 pub const STACK_SIZE: usize = 0x01000000;
+
+/// The words whose upper 24 bits, or upper 16 bits, are 1 and the others 0.
+const UPPER_24_BITS: u32 = 0xffffff00;
+
+const UPPER_16_BITS: u32 = 0xffff0000;
 
 /// How many bytes a load reads.
 pub fn size_of_load(operation: LoadOperation) -> u32
@@ -175,7 +183,7 @@ fn sign_extended_byte(byte: u8) -> u32
     if byte < 128 {
         u32::from(byte)
     } else {
-        u32::from(byte) + 4294967040
+        u32::from(byte) + UPPER_24_BITS
     }
 }
 
@@ -185,6 +193,6 @@ fn sign_extended_half(half: u16) -> u32
     if half < 32768 {
         u32::from(half)
     } else {
-        u32::from(half) + 4294901760
+        u32::from(half) + UPPER_16_BITS
     }
 }

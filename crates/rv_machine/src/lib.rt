@@ -6,9 +6,7 @@ mod arithmetic;
 mod event;
 mod law;
 mod machine;
+
 pub use event::Event;
 pub use law::{effects_keep, endings_repeat};
 pub use machine::Machine;
-
-#[cfg(test)]
-mod tests;

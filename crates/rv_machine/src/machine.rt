@@ -17,6 +17,12 @@ use rv_code::{Instruction, LoadOperation, StoreOperation, decode};
 use std::alloc::{AllocError, Global};
 use std::marker::Model;
 
+/// The register of the argument and the result of a call of the environment.
+const A0: u8 = 10;
+
+/// The register of its number.
+const A7: u8 = 17;
+
 /// A machine between two instructions. Contracts see it as its `State`.
 #[derive(Drop)]
 pub struct Machine {
@@ -122,7 +128,7 @@ impl Machine {
     }
 
     /// The byte at an address, and 0 where no region has the address.
-    #[tactic(auto, unfolding(crate::specs::Reading::byte_at, crate::specs::Table::place_of))]
+    #[tactic(auto, unfolding(crate::specs::Reading::byte_at, crate::specs::Table::location_of))]
     pub fn byte(&self, address: u32) -> u8
         ensures { result ≡ byte_at self.now address }
     {
@@ -273,7 +279,7 @@ impl Machine {
     }
 
     // What a load gets at an address, if it may read there.
-    #[tactic(auto, unfolding(crate::specs::Table::loaded, crate::specs::Table::place_of))]
+    #[tactic(auto, unfolding(crate::specs::Table::loaded, crate::specs::Table::location_of))]
     fn load_at(&self, operation: LoadOperation, address: u32) -> Option<u32>
         ensures { result ≡ loaded self.now operation address }
     {
@@ -296,7 +302,7 @@ impl Machine {
     }
 
     // Stores a value at an address and goes on, if it may write there.
-    #[tactic(auto, unfolding(crate::specs::Table::stored, crate::specs::Table::place_of))]
+    #[tactic(auto, unfolding(crate::specs::Table::stored, crate::specs::Table::location_of))]
     fn store_at(&mut self, operation: StoreOperation, address: u32, value: u32) -> Event
         ensures { record { event = result; after = self.new } ≡ on_store self.old (stored self.old operation address value) }
     {
@@ -322,11 +328,11 @@ impl Machine {
         ensures { record { event = result; after = self.new } ≡ on_call self.old }
     {
         let next = self.pc.wrapping_add(4);
-        let first = self.register(10);
-        match self.register(17) {
+        let first = self.register(A0);
+        match self.register(A7) {
             1 => self.read_input(),
             2 => {
-                self.go(next, 10, first % 256);
+                self.go(next, A0, first % 256);
                 Event::Out((first % 256) as u8)
             }
             3 => Event::Depth,
@@ -344,9 +350,9 @@ impl Machine {
         if self.input_read < self.input.len() {
             let byte = self.input[self.input_read];
             self.input_read += 1;
-            self.go(next, 10, u32::from(byte))
+            self.go(next, A0, u32::from(byte))
         } else {
-            self.go(next, 10, u32::MAX)
+            self.go(next, A0, u32::MAX)
         }
     }
 }

@@ -5,8 +5,6 @@ mod command;
 mod lines;
 mod reading;
 mod refusal;
-#[cfg(test)]
-mod tests;
 mod words;
 
 pub use command::{Command, Target};

@@ -1,7 +1,6 @@
 -- Where nothing stands in the way, the job is done, or memory was wanting.
 use Rattle.std.proofs.Common.{◌≡◌, ℕ, ◌<◌, ◌≤◌, ◌⊎◌, inl, inr, ⊎_elim, refl, arith, List, length}
-use Rattle.std.specs.Prelude.{Option, Some, None, String, string_bytes}
-use Rattle.std.specs.Global.{Global}
+use Rattle.std.specs.Prelude.{Option, Some, None, true, string_bytes}
 use Rattle.outside.specs.Counts.{RoseOrStands}
 use Rattle.debug_records.specs.declared.code.Code.{Code}
 use Rattle.line_form.specs.declared.status.Status.{Status}
@@ -12,6 +11,7 @@ use Rattle.session.specs.Served.{ServedJob, ForDebug, ForAttach, script_of}
 use Rattle.session.specs.Limits.{Held, Holds, AreWithin, FirstIsLoaded, ImageIsTooLong, InputIsTooLong, IsBeyond, IsTooLong, IsWithin, ScriptIsTooLong, image_limit, input_limit}
 use Rattle.session.specs.Front.{IsRefusedSource, IsSource}
 use Rattle.session.proofs.Refusals.{source_apart}
+use Rattle.session.specs.Ending.{IsCaused, World}
 use Rattle.session.specs.Causes.{AreNoImage, ImageIsRefused, IsImageText, IsScriptText, IsUnderstood, SourceIsRefused, ScriptIsRefused, AreAccepted}
 
 -- a text is not of two kinds that exclude one another
@@ -44,24 +44,15 @@ image_understood held (ForAttach given) code offset u r = contrary IsImageText (
 script_read : (held : Held) (job : ServedJob) (code : Code) (line : ℕ) → Holds (held (script_of job)) IsScriptText → ScriptIsRefused held job code line → ⊥
 script_read held job code line s r = contrary IsScriptText (λ t. IsRefused t code line) (λ t p q. readings_one.apart t p.0 code line p.1 q) (held (script_of job)) s r.cause
 
--- what the session says of a status
-pub record IsCaused (status : Status) (held : Held) (job : ServedJob) (l l' s s' k k' : ℕ) : Type 0 where
-  pub usage : status ≡ Usage → ⊥
-  pub read : status ≡ ReadFault → RoseOrStands l l'
-  pub too_long : (name : String Global) → status ≡ TooLong name → IsTooLong held job (string_bytes name)
-  pub image : (code : Code) (offset : ℕ) → status ≡ ImageRefused code offset → ImageIsRefused held job code offset
-  pub source : (code : Code) (line : ℕ) → status ≡ SourceRefused code line → SourceIsRefused held job code line
-  pub script : (code : Code) (line : ℕ) → status ≡ ScriptRefused code line → ScriptIsRefused held job code line
-  pub write : status ≡ WriteFault → RoseOrStands s s' ⊎ RoseOrStands k k'
-
-pub complete : (status : Status) (held : Held) (job : ServedJob) (l l' s s' k k' : ℕ) → IsCaused status held job l l' s s' k k'
-    → AreWithin held job → AreAccepted held job → ¬ RoseOrStands l l' → ¬ RoseOrStands s s' → ¬ RoseOrStands k k' → (status ≡ Done) ⊎ (status ≡ NoMemory)
-complete Done held job l l' s s' k k' c w a nl ns nk = inl refl
-complete Usage held job l l' s s' k k' c w a nl ns nk = absurd (c.usage refl)
-complete (SourceRefused code line) held job l l' s s' k k' c w a nl ns nk = absurd (source_understood held job code line a.before (c.source code line refl))
-complete (ScriptRefused code line) held job l l' s s' k k' c w a nl ns nk = absurd (script_read held job code line a.script (c.script code line refl))
-complete ReadFault held job l l' s s' k k' c w a nl ns nk = absurd (nl (c.read refl))
-complete WriteFault held job l l' s s' k k' c w a nl ns nk = absurd (⊎_elim ns nk (c.write refl))
-complete NoMemory held job l l' s s' k k' c w a nl ns nk = inr refl
-complete (ImageRefused code offset) held job l l' s s' k k' c w a nl ns nk = absurd (image_understood held job code offset a.before (c.image code offset refl))
-complete (TooLong name) held job l l' s s' k k' c w a nl ns nk = absurd (none_too_long held job (string_bytes name) w (c.too_long name refl))
+-- where the texts are within their limits and accepted, and no load, save or put failed
+pub complete : (job : ServedJob) (old : World) (status : Status) (new : World) → IsCaused job old status new → old.shelf_tells ≡ true
+    → AreWithin old.held job → AreAccepted old.held job → ¬ RoseOrStands old.loads new.loads → ¬ RoseOrStands old.saves new.saves → ¬ RoseOrStands old.puts new.puts → (status ≡ Done) ⊎ (status ≡ NoMemory)
+complete job old Done new c told w a nl ns nk = inl refl
+complete job old Usage new c told w a nl ns nk = absurd (c.usage refl)
+complete job old (SourceRefused code line) new c told w a nl ns nk = absurd (source_understood old.held job code line a.before (c.source code line refl told))
+complete job old (ScriptRefused code line) new c told w a nl ns nk = absurd (script_read old.held job code line a.script (c.script code line refl told))
+complete job old ReadFault new c told w a nl ns nk = absurd (nl (c.read refl))
+complete job old WriteFault new c told w a nl ns nk = absurd (⊎_elim ns nk (c.write refl))
+complete job old NoMemory new c told w a nl ns nk = inr refl
+complete job old (ImageRefused code offset) new c told w a nl ns nk = absurd (image_understood old.held job code offset a.before (c.image code offset refl told))
+complete job old (TooLong name) new c told w a nl ns nk = absurd (none_too_long old.held job (string_bytes name) w (c.too_long name refl told))

@@ -5,3 +5,4 @@ pub mod Causes
 pub mod Outcome
 pub mod Stages
 pub mod Prepared
+pub mod Ending

@@ -9,7 +9,8 @@ use Rattle.stop_engine.specs.EngineState.{RunState}
 use Rattle.stop_engine.specs.Shown.{is_row_of, lines_of_rows, locals_lines, or_no_locals, row_line, row_of}
 use Rattle.stop_engine.specs.Stopping.{IsStopOf}
 use Rattle.stop_engine.specs.Transcript.{at_stop}
-use Rattle.stop_engine.specs.Visible.{rows_at, visible_at, visible_line, visible_of, visible_of_row}
+use Rattle.stop_view.specs.Rows.{rows_at}
+use Rattle.stop_engine.specs.Visible.{visible_at, visible_line, visible_of, visible_of_row}
 use Rattle.stop_engine.proofs.Answering.{at_stop-said}
 
 -- the lines of the variables that are visible at a place

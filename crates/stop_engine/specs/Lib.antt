@@ -1,5 +1,3 @@
-pub mod Run
-pub mod Reading
 pub mod Transcript
 pub mod Breaks
 pub mod MarkTable
@@ -10,12 +8,7 @@ pub mod Halting
 pub mod Standing
 pub mod StopTable
 pub mod EngineState
-pub mod Samples
 pub mod Frames
-pub mod Words
-pub mod Recipes
-pub mod Pointers
-pub mod Values
 pub mod Rows
 pub mod Shown
 pub mod Tables
@@ -23,3 +16,4 @@ pub mod Sight
 pub mod Visible
 pub mod Activations
 pub mod AtStop
+pub mod VariableLists

@@ -9,8 +9,9 @@ use Rattle.image_form.specs.declared.verdicts.VisibleRow.{VisibleRow}
 use Rattle.line_form.specs.Lines.{no_locals_line}
 use Rattle.rv_machine.specs.State.{State}
 use Rattle.stop_engine.specs.Frames.{frame_lines}
-use Rattle.stop_engine.specs.Reading.{frames}
-use Rattle.stop_engine.specs.Rows.{held_text, row_sight}
+use Rattle.stop_view.specs.Reading.{frames}
+use Rattle.stop_engine.specs.Rows.{row_sight}
+use Rattle.stop_view.specs.Values.{held_text}
 use Rattle.stop_engine.specs.Sight.{Sight, NoName, Value, sight_line}
 
 -- the row of a place for a variable of a name

@@ -6,6 +6,7 @@ use Rattle.places.specs.Flow.{AreInOrder}
 use Rattle.stop_engine.specs.declared.tables.NameStarts.{NameStarts}
 use Rattle.stop_engine.specs.declared.tables.Tables.{Tables}
 use Rattle.stop_engine.specs.Rows.{IsFlowOf}
+use Rattle.stop_engine.specs.VariableLists.{AreListsOf}
 
 -- where names of these lengths start that lie one after the other, the first of them there
 abbrev pub starts_from : (first : ℕ) → (lengths : List ℕ) → List ℕ
@@ -23,3 +24,4 @@ pub record AreTablesOf (m : Form) (t : Tables) : Type 0 where
   pub flow : IsFlowOf m t.flow
   pub order : AreInOrder t.flow.steps.items
   pub names : AreStartsOf m t.names
+  pub variables : AreListsOf m t.variables

@@ -9,8 +9,8 @@ use Rattle.rv_machine.specs.State.{State}
 use Rattle.rv_machine.specs.Run.{MachineEvent, Byte, Arrival, Exit, TooDeep, Faulted}
 use Rattle.line_form.specs.Lines.{line, out_lines, stop_line, exit_line, depth_line, fault_line, limit_line, no_stop_line, break_line, no_place_line, no_function_line}
 use Rattle.script_form.specs.Script.{Order, Break, Step, Continue, Print, Locals, Where, Quit, Mark, OnLine, InFunction}
-use Rattle.stop_engine.specs.Run.{image_run}
-use Rattle.stop_engine.specs.Reading.{place_at, depth}
+use Rattle.stop_view.specs.Run.{image_run}
+use Rattle.stop_view.specs.Reading.{place_at, depth}
 use Rattle.stop_engine.specs.Breaks.{break_places}
 use Rattle.stop_engine.specs.Shown.{name_sight, locals_lines, where_lines}
 use Rattle.stop_engine.specs.Sight.{Sight, NoStop, sight_line}

@@ -1,10 +1,10 @@
 -- The variables that are visible at a place.
-use Rattle.std.specs.Prelude.{ℕ, ◌==◌, List, map}
-use Rattle.std.specs.List.{filter}
+use Rattle.std.specs.Prelude.{ℕ, List, map}
 use Rattle.image_form.specs.Form.{Form}
 use Rattle.image_form.specs.Names.{variable_name}
 use Rattle.image_form.specs.declared.verdicts.VisibleRow.{VisibleRow}
 use Rattle.rv_machine.specs.State.{State}
+use Rattle.stop_view.specs.Rows.{rows_at}
 use Rattle.stop_engine.specs.declared.locals.Local.{Local}
 use Rattle.stop_engine.specs.Rows.{row_sight}
 use Rattle.stop_engine.specs.Sight.{Sight, sight_line, sight_of}
@@ -13,10 +13,6 @@ use Rattle.stop_engine.specs.Sight.{Sight, sight_line, sight_of}
 pub record Visible : Type 0 where
   pub name : List ℕ
   pub sight : Sight
-
--- the rows of a place, in their order
-abbrev pub rows_at : (place : ℕ) → List VisibleRow → List VisibleRow
-rows_at place rows = filter (λ (r : VisibleRow). r.place == place) rows
 
 -- the variable of a row
 abbrev pub visible_of_row : Form → State → VisibleRow → Visible

@@ -1,9 +1,11 @@
 //! The places that `break` marks.
 
-ghost use Rattle.std.specs.Prelude.{◌≡◌, ◌<◌, IfOk, bytes_eq, length, map};
+ghost use Rattle.std.specs.Prelude.{◌≡◌, ◌<◌, ◌≤◌, ℕ, IfOk, bytes_eq, length, map, slice_index_or};
 ghost use Rattle.image_form.specs.Form.{form};
 ghost use Rattle.image_form.specs.Names.{function_name};
 ghost use Rattle.image_form.specs.Lists.{EachToNext};
+ghost use Rattle.image_form.specs.declared.tables.FlowPair.{FlowPair};
+ghost use Rattle.image_form.specs.declared.tables.Place.{Place as SourcePlace};
 ghost use Rattle.image_form.specs.Rules.{IsImage};
 ghost use Rattle.image_form.specs.RulesOfChanges.{IsPairBefore};
 ghost use Rattle.script_form.specs.Script.{mark};
@@ -26,16 +28,31 @@ fn is_stop_on(table: &StopTable, line: u32, place: &image_form::Place) -> bool
     place.line == line && table.stop_at(place.address).is_some()
 }
 
-/// The stops on a line of the source.
+/// The index of the first place that is on no earlier line.
+fn first_on(places: &[image_form::Place], line: u32) -> usize
+    requires { EachToNext (λ p q. p.line ≤ q.line) places.now }
+    ensures before { (k : ℕ) (d : SourcePlace) → k < result → k < length places.now → (slice_index_or places.now k d).line < line }
+    ensures behind { (k : ℕ) (d : SourcePlace) → result ≤ k → k < length places.now → line ≤ (slice_index_or places.now k d).line }
+{
+    places.partition_point(|place| place.line < line)
+}
+
+/// The stops on a line of the source: its places lie side by side, since lines do not fall from place to place.
 fn stops_on(alloc: Global, table: &StopTable, line: u32) -> Result<Vec<Place>, AllocError>
     requires { IsImage table.now }
     ensures { IfOk result (λ places. map (λ p. p.0) places.items ≡ stops_on table.now line 1 table.now.places) }
 {
+    let places = table.image().places.as_slice();
     let mut on_line = Vec::new(alloc);
-    for (index, place) in table.image().places.iter().enumerate() {
-        if is_stop_on(table, line, place) {
+    let mut index = first_on(places, line);
+    while index < places.len() {
+        if places[index].line != line {
+            return Ok(on_line);
+        }
+        if is_stop_on(table, line, &places[index]) {
             on_line.push(Place(index as u32 + 1))?;
         }
+        index += 1;
     }
     Ok(on_line)
 }
@@ -64,17 +81,29 @@ fn function_called(image: &Image, tables: &Tables, name: &[u8]) -> Option<Functi
     None
 }
 
+/// The index of the first pair that leads from no earlier place.
+fn first_from(flow: &[FlowPair], place: u32) -> usize
+    requires { EachToNext (λ a b. IsPairBefore a.from a.to b.from b.to) flow.now }
+    ensures before { (k : ℕ) (d : FlowPair) → k < result → k < length flow.now → (slice_index_or flow.now k d).from < place }
+    ensures behind { (k : ℕ) (d : FlowPair) → result ≤ k → k < length flow.now → place ≤ (slice_index_or flow.now k d).from }
+{
+    flow.partition_point(|pair| pair.from < place)
+}
+
 /// The least place that follows a place, if one does: the pairs ascend, so it stands in the first of them.
 fn least_follower(flow: &[FlowPair], place: u32) -> Option<u32>
     requires { EachToNext (λ a b. IsPairBefore a.from a.to b.from b.to) flow.now }
     ensures { result ≡ least (followers place flow.now) }
 {
-    for pair in flow {
-        if pair.from == place {
-            return Some(pair.to);
-        }
+    let index = first_from(flow, place);
+    if index >= flow.len() {
+        return None;
     }
-    None
+    if flow[index].from == place {
+        Some(flow[index].to)
+    } else {
+        None
+    }
 }
 
 /// The least place that follows the entry of the first function of a name.

@@ -5,7 +5,7 @@ ghost use Rattle.rv_machine.specs.Run.{MachineEvent, arrival, run};
 ghost use Rattle.stop_engine.specs.Halting.{from_halt, from_here, halt_at, halted_at};
 ghost use Rattle.stop_engine.specs.Marking.{aim_of};
 ghost use Rattle.stop_engine.specs.Passing.{IsAimed, PassesBy};
-ghost use Rattle.stop_engine.specs.Run.{stop_addresses};
+ghost use Rattle.stop_view.specs.Run.{stop_addresses};
 
 use crate::halt::Halt;
 use crate::reading::depth;

@@ -14,6 +14,7 @@ ghost use Rattle.stop_engine.specs.Marking.{aim_of};
 ghost use Rattle.stop_engine.specs.Shown.{locals_lines, where_lines};
 ghost use Rattle.stop_engine.specs.Sight.{sight_line, sight_of};
 ghost use Rattle.stop_engine.specs.Stopping.{IsAtNoStop};
+ghost use Rattle.stop_engine.specs.Tables.{AreTablesOf};
 ghost use Rattle.stop_engine.specs.Transcript.{at_stop, marked_line, ran, run_lines, sight};
 ghost use Rattle.stop_engine.specs.Visible.{visible_of};
 
@@ -145,8 +146,13 @@ impl<'a> Engine<'a> {
         }
         match command {
             Command::Break(target) => self.set_marks(alloc, target),
-            Command::Step => run_lines(alloc, &mut self.run, &Stops::Any),
-            Command::Continue => run_lines(alloc, &mut self.run, &Stops::At(&self.marks)),
+            Command::Step => run_lines(alloc, &mut self.run, &self.tables, &Stops::Any),
+            Command::Continue => run_lines(
+                alloc,
+                &mut self.run,
+                &self.tables,
+                &Stops::At(&self.marks),
+            ),
             Command::Print(name) => self.print(alloc, name),
             Command::Locals => self.locals_lines(alloc),
             Command::Where => self.where_lines(alloc),
@@ -214,7 +220,13 @@ fn no_stop(alloc: Global) -> Result<Vec<Vec<u8>>, AllocError>
 }
 
 /// Runs to the next of these stops or to the ending. The lines are the output on the way, and where the run then stands.
-fn run_lines(alloc: Global, run: &mut Run, stops: &Stops) -> Result<Vec<Vec<u8>>, AllocError>
+fn run_lines(
+    alloc: Global,
+    run: &mut Run,
+    tables: &Tables,
+    stops: &Stops,
+) -> Result<Vec<Vec<u8>>, AllocError>
+    requires { AreTablesOf run.old.form tables.now }
     ensures ran { OnOk result (HasRun (aim_of stops.now) run.old run.new) }
     ensures lines { IfOk result (λ lines. map (λ line. line.items) lines.items
         ≡ run_lines run.old.form run.old.limit (ran run.old.form (aim_of stops.now) run.old.position run.old.events)) }
@@ -222,7 +234,7 @@ fn run_lines(alloc: Global, run: &mut Run, stops: &Stops) -> Result<Vec<Vec<u8>>
 {
     let halt = run.run_to(stops)?;
     let mut lines = out_lines(alloc, run.taken())?;
-    let line = halt_line(alloc, run.table().image(), run.limit(), halt)?;
+    let line = halt_line(alloc, run.table().image(), tables, run.limit(), halt)?;
     lines.push(line)?;
     Ok(lines)
 }

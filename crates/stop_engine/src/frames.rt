@@ -5,8 +5,8 @@ ghost use Rattle.image_form.specs.Form.{form};
 ghost use Rattle.image_form.specs.Rules.{IsImage};
 ghost use Rattle.image_form.specs.RulesOfFunctions.{IsPlaceNumber};
 ghost use Rattle.rv_machine.specs.State.{word};
-ghost use Rattle.stop_engine.specs.Frames.{calling_place, place_before, return_address};
-ghost use Rattle.stop_engine.specs.Reading.{frame_of, frames, greatest_depth, is_stack_address, owner_of};
+ghost use Rattle.stop_view.specs.Callers.{calling_place, place_before, return_address};
+ghost use Rattle.stop_view.specs.Reading.{frame_of, frames, greatest_depth, is_stack_address, owner_of};
 
 use crate::reading::{CODE_START, STACK_END, STACK_START, stack_pointer, word_in};
 use image_form::Image;
@@ -66,7 +66,7 @@ pub fn frame_of(image: &Image, place: u32) -> u32
 }
 
 /// How many activations may be live.
-#[tactic(auto, unfolding(crate::specs::Reading::greatest_depth))]
+#[tactic(auto, unfolding(stop_view::specs::Reading::greatest_depth))]
 pub fn greatest_depth() -> u32
     ensures { result ≡ greatest_depth }
 {

@@ -19,9 +19,8 @@ mod shown;
 mod stop_table;
 mod stops;
 mod tables;
-#[cfg(test)]
-mod tests;
 mod values;
+mod variable_lists;
 mod views;
 mod visible;
 

@@ -4,9 +4,10 @@ ghost use Rattle.std.specs.Prelude.{◌≡◌, IfOk};
 ghost use Rattle.image_form.specs.Form.{form};
 ghost use Rattle.image_form.specs.Rules.{IsImage};
 ghost use Rattle.stop_engine.specs.Halting.{IsHaltOf, halt_line};
+ghost use Rattle.stop_engine.specs.Tables.{AreTablesOf};
 
 use crate::halt::Halt;
-use crate::names::function_name;
+use crate::tables::Tables;
 use image_form::Image;
 use line_form::{depth_line, exit_line, fault_line, limit_line, stop_line};
 use std::alloc::{AllocError, Global};
@@ -15,17 +16,19 @@ use std::alloc::{AllocError, Global};
 pub fn halt_line(
     alloc: Global,
     image: &Image,
+    tables: &Tables,
     limit: u64,
     halt: Halt,
 ) -> Result<Vec<u8>, AllocError>
     requires image { IsImage (form image.now) }
+    requires tables { AreTablesOf (form image.now) tables.now }
     requires place { IsHaltOf (form image.now) halt }
     ensures { IfOk result (λ text. text.items ≡ halt_line (form image.now) limit halt) }
 {
     match halt {
         Halt::At { place, depth } => {
             let at = image.places[place as usize - 1];
-            let function = function_name(image, at.function as usize);
+            let function = tables.names.function(image, at.function as usize);
             Ok(stop_line(alloc, place, at.line, function, depth)?)
         }
         Halt::Exited(status) => Ok(exit_line(alloc, status)?),

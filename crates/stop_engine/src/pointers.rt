@@ -4,39 +4,22 @@ ghost use Rattle.std.specs.Prelude.{◌≡◌, ◌≤◌, ◌+◌, ◌<◌, IfOk
 ghost use Rattle.image_form.specs.Form.{form};
 ghost use Rattle.image_form.specs.Rules.{IsImage};
 ghost use Rattle.image_form.specs.RulesOfFunctions.{IsPlaceNumber};
-ghost use Rattle.stop_engine.specs.Pointers.{IsTargetOf, distance, function_of, is_of, is_within, literals, local_offset, local_start, local_target, object_size, offset_within, stack_target, static_offset, static_start, static_target, static_target_of, pointed_at, pointer_text, target_text};
+ghost use Rattle.stop_engine.specs.Tables.{AreTablesOf};
+ghost use Rattle.stop_engine.specs.VariableLists.{AreListsOf};
+ghost use Rattle.stop_view.specs.Pointers.{IsTargetOf, distance, function_of, is_of, is_within, literals, local_offset, local_start, local_target, object_size, offset_within, stack_target, static_offset, static_start, static_target, static_target_of, pointed_at, pointer_text, target_text};
 ghost use Rattle.rv_machine.specs.State.{reg};
-ghost use Rattle.stop_engine.specs.Reading.{depth, greatest_depth};
-ghost use Rattle.stop_engine.specs.Words.{element_size};
+ghost use Rattle.stop_view.specs.Reading.{depth, greatest_depth};
+ghost use Rattle.stop_view.specs.Words.{element_size};
 
 use crate::frames::{calling_place, frame_of, greatest_depth};
-use crate::names::variable_name;
 use crate::reading::{depth, stack_pointer};
+use crate::tables::Tables;
+use crate::variable_lists::VariableLists;
 use image_form::{ElementType, Image, Storage, Variable};
 use line_form::{frame_pointer, literal_pointer, null_text, static_pointer, unknown_pointer};
 use rv_machine::Machine;
 use std::alloc::{AllocError, Global};
-
-/// What an address is taken for.
-#[derive(Clone, Copy, PartialEq, Eq)]
-pub enum Target {
-    /// So many bytes behind the start of a static variable, by its number.
-    Static {
-        variable: u32,
-        offset: u32,
-    },
-    /// So many bytes behind the start of a string literal; the first has number 1.
-    Literal {
-        number: u32,
-        offset: u32,
-    },
-    /// So many bytes behind the start of a variable of the activation at a depth.
-    Local {
-        variable: u32,
-        depth: u32,
-        offset: u32,
-    },
-}
+use stop_view::Target;
 
 /// How many bytes an element has.
 pub fn element_size(element: ElementType) -> u32
@@ -181,18 +164,22 @@ fn static_target(variables: &[Variable], address: u32) -> Option<Target>
 
 /// The first object of a function's frame in which, or directly behind which, an address lies.
 fn local_target(
-    variables: &[Variable],
+    image: &Image,
+    lists: &VariableLists,
     address: u32,
     function: u32,
     frame: u32,
     depth: u32,
 ) -> Option<Target>
-    requires { length variables.now < 4294967295 }
-    ensures found { result ≡ local_target address function frame depth 0 variables.now }
-    ensures number { IfSome result (IsTargetOf (length variables.now)) }
+    requires lists { AreListsOf (form image.now) lists.now }
+    requires few { length image.now.variables.items < 4294967295 }
+    requires function { function < length image.now.functions.items }
+    ensures found { result ≡ local_target address function frame depth 0 image.now.variables.items }
+    ensures number { IfSome result (IsTargetOf (length image.now.variables.items)) }
 {
-    for (index, variable) in variables.iter().enumerate() {
-        match local_offset(variable, function, frame, address) {
+    let mut index = lists.first[function as usize] as usize;
+    while index < image.variables.len() {
+        match local_offset(&image.variables[index], function, frame, address) {
             Some(offset) => {
                 return Some(Target::Local {
                     variable: index as u32,
@@ -202,21 +189,31 @@ fn local_target(
             }
             None => {}
         }
+        index = lists.next[index] as usize;
     }
     None
 }
 
 /// The number of a place's function.
 fn function_of(image: &Image, place: u32) -> u32
-    requires { IsPlaceNumber (form image.now) place }
-    ensures { result ≡ function_of (form image.now) place }
+    requires image { IsImage (form image.now) }
+    requires place { IsPlaceNumber (form image.now) place }
+    ensures number { result ≡ function_of (form image.now) place }
+    ensures within { result < length image.now.functions.items }
 {
     image.places[place as usize - 1].function
 }
 
 /// The first object of an activation with this place, or of one that called it, in which, or directly behind which, an address lies.
-fn stack_target(image: &Image, machine: &Machine, address: u32, place: u32) -> Option<Target>
+fn stack_target(
+    image: &Image,
+    machine: &Machine,
+    lists: &VariableLists,
+    address: u32,
+    place: u32,
+) -> Option<Target>
     requires image { IsImage (form image.now) }
+    requires lists { AreListsOf (form image.now) lists.now }
     requires place { IsPlaceNumber (form image.now) place }
     ensures found { result ≡ stack_target greatest_depth (form image.now) machine.now address place (reg machine.now 2) (depth machine.now) }
     ensures number { IfSome result (IsTargetOf (length image.now.variables.items)) }
@@ -228,7 +225,7 @@ fn stack_target(image: &Image, machine: &Machine, address: u32, place: u32) -> O
     while left > 0 {
         left -= 1;
         let function = function_of(image, at);
-        match local_target(&image.variables, address, function, frame, deep) {
+        match local_target(image, lists, address, function, frame, deep) {
             Some(found) => return Some(found),
             None => {}
         }
@@ -244,27 +241,40 @@ fn stack_target(image: &Image, machine: &Machine, address: u32, place: u32) -> O
 }
 
 /// The object that an address is taken for where the session stands at a place.
-fn pointed_at(image: &Image, machine: &Machine, place: u32, address: u32) -> Option<Target>
+fn pointed_at(
+    image: &Image,
+    machine: &Machine,
+    lists: &VariableLists,
+    place: u32,
+    address: u32,
+) -> Option<Target>
     requires image { IsImage (form image.now) }
+    requires lists { AreListsOf (form image.now) lists.now }
     requires place { IsPlaceNumber (form image.now) place }
     ensures found { result ≡ pointed_at (form image.now) machine.now place address }
     ensures number { IfSome result (IsTargetOf (length image.now.variables.items)) }
 {
-    match static_target(&image.variables, address) {
+    match static_target(&image.variables[..lists.statics], address) {
         Some(found) => Some(found),
-        None => stack_target(image, machine, address, place),
+        None => stack_target(image, machine, lists, address, place),
     }
 }
 
 /// The text of a pointer to an object.
-fn target_text(alloc: Global, image: &Image, target: Target) -> Result<Vec<u8>, AllocError>
+fn target_text(
+    alloc: Global,
+    image: &Image,
+    tables: &Tables,
+    target: Target,
+) -> Result<Vec<u8>, AllocError>
     requires image { IsImage (form image.now) }
+    requires tables { AreTablesOf (form image.now) tables.now }
     requires target { IsTargetOf (length image.now.variables.items) target }
     ensures { IfOk result (λ text. text.items ≡ target_text (form image.now) target) }
 {
     match target {
         Target::Static { variable, offset } => {
-            let name = variable_name(image, variable as usize);
+            let name = tables.names.variable(image, variable as usize);
             Ok(static_pointer(alloc, name, offset)?)
         }
         Target::Literal { number, offset } => Ok(literal_pointer(alloc, number, offset)?),
@@ -273,30 +283,32 @@ fn target_text(alloc: Global, image: &Image, target: Target) -> Result<Vec<u8>, 
             depth,
             offset,
         } => {
-            let name = variable_name(image, variable as usize);
+            let name = tables.names.variable(image, variable as usize);
             Ok(frame_pointer(alloc, name, depth, offset)?)
         }
     }
 }
 
 /// The text of a pointer where the session stands at a place. `AllocError` where memory for it was refused.
-#[tactic(auto, unfolding(crate::specs::Pointers::pointer_text))]
+#[tactic(auto, unfolding(stop_view::specs::Pointers::pointer_text))]
 pub fn pointer_text(
     alloc: Global,
     image: &Image,
     machine: &Machine,
+    tables: &Tables,
     place: u32,
     address: u32,
 ) -> Result<Vec<u8>, AllocError>
     requires image { IsImage (form image.now) }
+    requires tables { AreTablesOf (form image.now) tables.now }
     requires place { IsPlaceNumber (form image.now) place }
     ensures { IfOk result (λ text. text.items ≡ pointer_text (form image.now) machine.now place address) }
 {
     if address == 0 {
         return Ok(null_text(alloc)?);
     }
-    match pointed_at(image, machine, place, address) {
-        Some(found) => Ok(target_text(alloc, image, found)?),
+    match pointed_at(image, machine, &tables.variables, place, address) {
+        Some(found) => Ok(target_text(alloc, image, tables, found)?),
         None => Ok(unknown_pointer(alloc, address)?),
     }
 }

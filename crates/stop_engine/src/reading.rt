@@ -3,7 +3,7 @@
 ghost use Rattle.std.specs.Prelude.{◌≡◌, ◌<◌, ◌^◌, slice_index};
 ghost use Rattle.rv_machine.specs.Memory.{word_in};
 ghost use Rattle.rv_machine.specs.State.{reg};
-ghost use Rattle.stop_engine.specs.Reading.{depth, slot_word};
+ghost use Rattle.stop_view.specs.Reading.{depth, slot_word};
 
 use rv_machine::Machine;
 

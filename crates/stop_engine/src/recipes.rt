@@ -2,41 +2,13 @@
 
 ghost use Rattle.std.specs.Prelude.{◌≡◌, slice_index};
 ghost use Rattle.image_form.specs.Form.{form};
-ghost use Rattle.stop_engine.specs.Recipes.{node_operated, numbered_home, recipe_value, variable_word};
-ghost use Rattle.stop_engine.specs.Words.{home_word};
+ghost use Rattle.stop_view.specs.Recipes.{numbered_home, recipe_value, variable_word};
+ghost use Rattle.stop_view.specs.Words.{home_word};
 
 use crate::reading::slot_word;
-use image_form::{Image, Node, NodeOperation, Storage};
-use word_base::{Operation, Truncation, operate, truncate};
+use image_form::{Image, Node, Storage};
 use rv_machine::Machine;
-
-/// What an operation of a node computes of its operands; a truncation has one.
-#[tactic(auto, unfolding(crate::specs::Recipes::node_operated))]
-fn node_operate(operation: NodeOperation, left: u32, right: u32) -> u32
-    ensures { result ≡ node_operated operation left right }
-{
-    match operation {
-        NodeOperation::Add => operate(Operation::Add, left, right),
-        NodeOperation::Sub => operate(Operation::Sub, left, right),
-        NodeOperation::Mul => operate(Operation::Mul, left, right),
-        NodeOperation::Div => operate(Operation::Div, left, right),
-        NodeOperation::Divu => operate(Operation::Divu, left, right),
-        NodeOperation::Rem => operate(Operation::Rem, left, right),
-        NodeOperation::Remu => operate(Operation::Remu, left, right),
-        NodeOperation::Sll => operate(Operation::Sll, left, right),
-        NodeOperation::Srl => operate(Operation::Srl, left, right),
-        NodeOperation::Sra => operate(Operation::Sra, left, right),
-        NodeOperation::And => operate(Operation::And, left, right),
-        NodeOperation::Or => operate(Operation::Or, left, right),
-        NodeOperation::Xor => operate(Operation::Xor, left, right),
-        NodeOperation::Slt => operate(Operation::Slt, left, right),
-        NodeOperation::Sltu => operate(Operation::Sltu, left, right),
-        NodeOperation::TruncateU8 => truncate(Truncation::Unsigned8, left),
-        NodeOperation::TruncateI16 => truncate(Truncation::Signed16, left),
-        NodeOperation::TruncateU16 => truncate(Truncation::Unsigned16, left),
-        NodeOperation::TruncateI8 => truncate(Truncation::Signed8, left),
-    }
-}
+use word_base::{operate, truncate};
 
 /// The value of a register, by its number.
 fn register(machine: &Machine, number: u32) -> u32
@@ -94,7 +66,16 @@ pub fn recipe_value(image: &Image, machine: &Machine, levels: usize, root: u32) 
         Some(Node::Variable(variable)) => variable_word(image, machine, *variable),
         Some(Node::Home(home)) => numbered_home(machine, *home),
         Some(
-            Node::Operation {
+            Node::Truncated {
+                truncation,
+                operand,
+            },
+        ) => truncate(
+            *truncation,
+            recipe_value(image, machine, levels - 1, *operand),
+        ),
+        Some(
+            Node::Operated {
                 operation,
                 left,
                 right,
@@ -102,7 +83,7 @@ pub fn recipe_value(image: &Image, machine: &Machine, levels: usize, root: u32) 
         ) => {
             let first = recipe_value(image, machine, levels - 1, *left);
             let second = recipe_value(image, machine, levels - 1, *right);
-            node_operate(*operation, first, second)
+            operate(*operation, first, second)
         }
     }
 }

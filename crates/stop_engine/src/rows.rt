@@ -9,28 +9,29 @@ ghost use Rattle.places.specs.Flow.{AreInOrder};
 ghost use Rattle.places.specs.Path.{places};
 ghost use Rattle.places.specs.Route.{route_of};
 ghost use Rattle.stop_engine.specs.Tables.{AreTablesOf};
-ghost use Rattle.stop_engine.specs.Rows.{IsChangeNumber, IsFlowOf, IsRow, assignment_of, change_words, held_text, kind_of, recipe_levels, recovered_text, row_path, row_quest, row_sight, step_of, verdict_sight, via_of};
+ghost use Rattle.stop_engine.specs.Rows.{IsChangeNumber, IsFlowOf, IsRow, change_words, row_sight, verdict_sight};
+ghost use Rattle.stop_view.specs.Evidence.{assignment_of, row_path, row_quest, step_of, via_of};
+ghost use Rattle.stop_view.specs.Values.{held_text, recipe_levels, recovered_text};
 ghost use Rattle.stop_engine.specs.Sight.{sight_of};
-ghost use Rattle.stop_engine.specs.Sight as sight;
 
 use crate::frames::owner_of;
 use crate::recipes::recipe_value;
 use crate::shown::Shown;
 use crate::tables::Tables;
 use crate::values::{variable_text, word_text};
-use debug_records::{Kind, Place, Var};
+use debug_records::{Place, Var};
 use image_form::{AssignedPair, FlowPair, Image, Verdict, VisibleRow};
 use line_form::change_text;
-use places::{Assignment, FlowTable, Path, Step, route};
+use places::{Assignment, FlowStep, FlowTable, Path, route};
 use rv_machine::Machine;
 use std::alloc::{AllocError, Global};
 
 /// The steps of an image.
-fn flow_steps(alloc: Global, flow: &[FlowPair]) -> Result<Vec<Step>, AllocError>
+fn flow_steps(alloc: Global, flow: &[FlowPair]) -> Result<Vec<FlowStep>, AllocError>
     ensures { IfOk result (λ steps. steps.items ≡ map step_of flow.now) }
 {
     flow.iter()
-        .map(|pair| Step {
+        .map(|pair| FlowStep {
             from: Place(pair.from),
             to: Place(pair.to),
         })
@@ -61,18 +62,6 @@ pub fn flow_table(alloc: Global, image: &Image) -> Result<FlowTable, AllocError>
     Ok(FlowTable { steps, assignments })
 }
 
-/// What a change did.
-fn kind_of(kind: image_form::Kind) -> Kind
-    ensures { result ≡ kind_of kind }
-{
-    match kind {
-        image_form::Kind::Removed => Kind::Removed,
-        image_form::Kind::Moved => Kind::Moved,
-        image_form::Kind::Reused => Kind::Reused,
-        image_form::Kind::Replaced => Kind::Replaced,
-    }
-}
-
 /// The text of a change, by its number.
 fn change_words(
     alloc: Global,
@@ -89,7 +78,7 @@ fn change_words(
     let index = number as usize - 1;
     let change = image.changes[index];
     let pass = tables.names.pass(image, index);
-    Ok(change_text(alloc, number, pass, kind_of(change.kind), change.place)?)
+    Ok(change_text(alloc, number, pass, change.kind, change.place)?)
 }
 
 /// The place by which a path goes: that of the change, or that of the code word that wrote.
@@ -112,6 +101,19 @@ pub struct Evidence {
     pub change: u32,
     pub start: u32,
     pub writer: Option<u32>,
+}
+
+/// What is said of the variable of a row.
+fn evidence_of(row: VisibleRow, change: u32, start: u32, writer: Option<u32>) -> Evidence
+    ensures { result ≡ (record { variable = row.variable; place = row.place; change = change; start = start; writer = writer }) }
+{
+    Evidence {
+        variable: row.variable,
+        place: row.place,
+        change,
+        start,
+        writer,
+    }
 }
 
 /// The path that shows why a variable is not shown, if there is one.
@@ -141,7 +143,7 @@ fn evidence_path(
 }
 
 /// How many levels a recipe has at most.
-#[tactic(auto, unfolding(crate::specs::Rows::recipe_levels))]
+#[tactic(auto, unfolding(stop_view::specs::Values::recipe_levels))]
 fn recipe_levels() -> usize
     ensures { result ≡ recipe_levels }
 {
@@ -153,18 +155,20 @@ fn recovered_text(
     alloc: Global,
     image: &Image,
     machine: &Machine,
+    tables: &Tables,
     place: u32,
     variable: u32,
     node: u32,
 ) -> Result<Vec<u8>, AllocError>
     requires image { IsImage (form image.now) }
+    requires tables { AreTablesOf (form image.now) tables.now }
     requires place { IsPlaceNumber (form image.now) place }
     requires variable { variable < length image.now.variables.items }
     ensures { IfOk result (λ text. text.items ≡ recovered_text (form image.now) machine.now place variable node) }
 {
     let element = image.variables[variable as usize].element;
     let word = recipe_value(image, machine, recipe_levels(), node);
-    Ok(word_text(alloc, image, machine, place, element, word)?)
+    Ok(word_text(alloc, image, machine, tables, place, element, word)?)
 }
 
 /// The text of the value that a variable's home holds.
@@ -172,16 +176,18 @@ pub fn held_text(
     alloc: Global,
     image: &Image,
     machine: &Machine,
+    tables: &Tables,
     place: u32,
     variable: usize,
 ) -> Result<Vec<u8>, AllocError>
     requires image { IsImage (form image.now) }
+    requires tables { AreTablesOf (form image.now) tables.now }
     requires place { IsPlaceNumber (form image.now) place }
     requires variable { variable < length image.now.variables.items }
     ensures { IfOk result (λ text. text.items ≡ held_text (form image.now) machine.now place variable) }
 {
     let kept = image.variables[variable];
-    Ok(variable_text(alloc, image, machine, place, kept)?)
+    Ok(variable_text(alloc, image, machine, tables, place, kept)?)
 }
 
 /// The value of a variable, computed anew.
@@ -201,45 +207,35 @@ fn anew(
     requires change { IsChangeNumber (form image.now) change }
     ensures { IfOk result (λ shown. sight_of shown ≡ verdict_sight (form image.now) machine.now row.place row.variable (Recovered change node)) }
 {
-    let value = recovered_text(alloc, image, machine, row.place, row.variable, node)?;
+    let value = recovered_text(alloc, image, machine, tables, row.place, row.variable, node)?;
     let change = change_words(alloc, image, tables, change)?;
     Ok(Shown::Recovered { value, change })
 }
 
-/// A variable that is not current.
-fn stale(
-    alloc: Global,
-    image: &Image,
-    tables: &Tables,
-    evidence: Evidence,
-) -> Result<Shown, AllocError>
-    requires image { IsImage (form image.now) }
-    requires tables { AreTablesOf (form image.now) tables.now }
-    requires change { IsChangeNumber (form image.now) evidence.change }
-    ensures { IfOk result (λ shown. sight_of shown ≡ sight.Noncurrent (change_words (form image.now) evidence.change)
-        (row_path (form image.now) evidence.variable evidence.change evidence.start evidence.writer evidence.place)) }
-{
-    let path = evidence_path(alloc, image, tables, evidence)?;
-    let change = change_words(alloc, image, tables, evidence.change)?;
-    Ok(Shown::Noncurrent { change, path })
+/// The change for which a variable is not shown, as a text, and the path that shows it, if there is one.
+#[derive(Drop)]
+pub struct Witness {
+    pub change: Vec<u8>,
+    pub path: Option<Path>,
 }
 
-/// A variable that is not resident.
-fn gone(
+/// Why a variable is not shown.
+fn tell(
     alloc: Global,
     image: &Image,
     tables: &Tables,
     evidence: Evidence,
-) -> Result<Shown, AllocError>
+) -> Result<Witness, AllocError>
     requires image { IsImage (form image.now) }
     requires tables { AreTablesOf (form image.now) tables.now }
     requires change { IsChangeNumber (form image.now) evidence.change }
-    ensures { IfOk result (λ shown. sight_of shown ≡ sight.Nonresident (change_words (form image.now) evidence.change)
-        (row_path (form image.now) evidence.variable evidence.change evidence.start evidence.writer evidence.place)) }
+    ensures change { IfOk result (λ w. w.change.items ≡ change_words (form image.now) evidence.change) }
+    ensures path { IfOk result (λ w. unwrap_or (option_map (λ p. places p) w.path) []
+        ≡ row_path (form image.now) evidence.variable evidence.change evidence.start evidence.writer evidence.place) }
 {
     let path = evidence_path(alloc, image, tables, evidence)?;
     let change = change_words(alloc, image, tables, evidence.change)?;
-    Ok(Shown::Nonresident { change, path })
+    Ok(Witness { change, path })
 }
 
 /// What is shown of the variable of a row. `AllocError` where memory for it was refused.
@@ -257,7 +253,14 @@ pub fn row_shown(
 {
     match row.verdict {
         Verdict::Home => {
-            let value = held_text(alloc, image, machine, row.place, row.variable as usize)?;
+            let value = held_text(
+                alloc,
+                image,
+                machine,
+                tables,
+                row.place,
+                row.variable as usize,
+            )?;
             Ok(Shown::Value(value))
         }
         Verdict::Recovered { change, node } => {
@@ -268,28 +271,18 @@ pub fn row_shown(
             start,
             writer,
         } => {
-            let evidence = Evidence {
-                variable: row.variable,
-                place: row.place,
-                change,
-                start,
-                writer,
-            };
-            Ok(stale(alloc, image, tables, evidence)?)
+            let evidence = evidence_of(row, change, start, writer);
+            let Witness { change, path } = tell(alloc, image, tables, evidence)?;
+            Ok(Shown::Noncurrent { change, path })
         }
         Verdict::Nonresident {
             change,
             start,
             writer,
         } => {
-            let evidence = Evidence {
-                variable: row.variable,
-                place: row.place,
-                change,
-                start,
-                writer,
-            };
-            Ok(gone(alloc, image, tables, evidence)?)
+            let evidence = evidence_of(row, change, start, writer);
+            let Witness { change, path } = tell(alloc, image, tables, evidence)?;
+            Ok(Shown::Nonresident { change, path })
         }
     }
 }

@@ -5,8 +5,8 @@ ghost use Rattle.image_form.specs.Form.{form};
 ghost use Rattle.image_form.specs.Rules.{IsImage};
 ghost use Rattle.image_form.specs.RulesOfPlaces.{word_address};
 ghost use Rattle.rv_machine.specs.Run.{is_stop};
-ghost use Rattle.stop_engine.specs.Reading.{place_at};
-ghost use Rattle.stop_engine.specs.Run.{stop_addresses};
+ghost use Rattle.stop_view.specs.Reading.{place_at};
+ghost use Rattle.stop_view.specs.Run.{stop_addresses};
 ghost use Rattle.stop_engine.specs.StopTable.{entry_at, is_entry_address};
 
 use crate::reading::CODE_START;

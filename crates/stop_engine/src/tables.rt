@@ -6,8 +6,9 @@ ghost use Rattle.image_form.specs.Names.{function_name, pass_name, variable_name
 ghost use Rattle.image_form.specs.Rules.{IsImage};
 ghost use Rattle.stop_engine.specs.Tables.{AreStartsOf, AreTablesOf, starts_from};
 
-use crate::names::{function_bytes, piece, variable_bytes};
+use crate::names::{function_bytes, name_at, variable_bytes};
 use crate::rows::flow_table;
+use crate::variable_lists::{VariableLists, variable_lists};
 use image_form::{Change, Function, Image, Variable};
 use places::FlowTable;
 use std::alloc::{AllocError, Global};
@@ -25,6 +26,7 @@ pub struct NameStarts {
 pub struct Tables {
     pub flow: FlowTable,
     pub names: NameStarts,
+    pub variables: VariableLists,
 }
 
 /// The tables of an image. `AllocError` where memory for them was refused.
@@ -34,7 +36,12 @@ pub fn tables_of(alloc: Global, image: &Image) -> Result<Tables, AllocError>
 {
     let flow = flow_table(alloc, image)?;
     let names = name_starts(alloc, image)?;
-    Ok(Tables { flow, names })
+    let variables = variable_lists(alloc, image)?;
+    Ok(Tables {
+        flow,
+        names,
+        variables,
+    })
 }
 
 /// Where names of these lengths start that lie one after the other, the first of them there.
@@ -107,11 +114,7 @@ impl NameStarts {
         ensures { result.now ≡ function_name (form image.now) number }
     {
         let start = self.functions[number];
-        piece(
-            &image.names,
-            start,
-            image.functions[number].name_length as usize,
-        )
+        name_at(image, start, image.functions[number].name_length)
     }
 
     /// The name of a variable, by its number; a literal's is empty.
@@ -122,11 +125,7 @@ impl NameStarts {
         ensures { result.now ≡ variable_name (form image.now) number }
     {
         let start = self.variables[number];
-        piece(
-            &image.names,
-            start,
-            image.variables[number].name_length as usize,
-        )
+        name_at(image, start, image.variables[number].name_length)
     }
 
     /// The name of the pass that made a change, by the change's number from 0.
@@ -137,10 +136,6 @@ impl NameStarts {
         ensures { result.now ≡ pass_name (form image.now) number }
     {
         let start = self.passes[number];
-        piece(
-            &image.names,
-            start,
-            image.changes[number].pass_length as usize,
-        )
+        name_at(image, start, image.changes[number].pass_length)
     }
 }

@@ -4,12 +4,14 @@ ghost use Rattle.std.specs.Prelude.{◌≡◌, ◌<◌, ◌^◌, IfOk, map};
 ghost use Rattle.image_form.specs.Form.{form};
 ghost use Rattle.image_form.specs.Rules.{IsImage};
 ghost use Rattle.image_form.specs.RulesOfFunctions.{IsPlaceNumber};
-ghost use Rattle.stop_engine.specs.Values.{element_texts, memory_text, most_elements, variable_text, word_text};
-ghost use Rattle.stop_engine.specs.Words.{element_word, memory_half, memory_word};
+ghost use Rattle.stop_engine.specs.Tables.{AreTablesOf};
+ghost use Rattle.stop_view.specs.Values.{element_texts, memory_text, most_elements, variable_text, word_text};
+ghost use Rattle.stop_view.specs.Words.{element_word, memory_half, memory_word};
 
 use crate::pointers::{element_size, pointer_text};
 use crate::reading::stack_pointer;
 use crate::recipes::home_word;
+use crate::tables::Tables;
 use image_form::{ElementType, Image, Storage, Variable};
 use line_form::array_text;
 use rv_machine::Machine;
@@ -26,7 +28,7 @@ fn memory_half(machine: &Machine, address: u32) -> u32
 }
 
 /// The number of four bytes of memory.
-#[tactic(auto, unfolding(crate::specs::Words::memory_word))]
+#[tactic(auto, unfolding(stop_view::specs::Words::memory_word))]
 fn memory_word(machine: &Machine, address: u32) -> u32
     ensures { result ≡ memory_word machine.now address }
 {
@@ -52,11 +54,13 @@ pub fn word_text(
     alloc: Global,
     image: &Image,
     machine: &Machine,
+    tables: &Tables,
     place: u32,
     element: ElementType,
     word: u32,
 ) -> Result<Vec<u8>, AllocError>
     requires image { IsImage (form image.now) }
+    requires tables { AreTablesOf (form image.now) tables.now }
     requires place { IsPlaceNumber (form image.now) place }
     ensures { IfOk result (λ text. text.items ≡ word_text (form image.now) machine.now place element word) }
 {
@@ -82,12 +86,12 @@ pub fn word_text(
             let value = word.cast_signed();
             Ok(format!(in alloc; "{value}")?.into_bytes())
         }
-        ElementType::Pointer => Ok(pointer_text(alloc, image, machine, place, word)?),
+        ElementType::Pointer => Ok(pointer_text(alloc, image, machine, tables, place, word)?),
     }
 }
 
 /// How many elements of an array are shown at most.
-#[tactic(auto, unfolding(crate::specs::Values::most_elements))]
+#[tactic(auto, unfolding(stop_view::specs::Values::most_elements))]
 fn most_elements() -> u32
     ensures { result ≡ most_elements }
 {
@@ -99,12 +103,14 @@ fn element_texts(
     alloc: Global,
     image: &Image,
     machine: &Machine,
+    tables: &Tables,
     place: u32,
     element: ElementType,
     count: u32,
     address: u32,
 ) -> Result<Vec<Vec<u8>>, AllocError>
     requires image { IsImage (form image.now) }
+    requires tables { AreTablesOf (form image.now) tables.now }
     requires place { IsPlaceNumber (form image.now) place }
     ensures { IfOk result (λ texts. map (λ t. t.items) texts.items ≡ element_texts (form image.now) machine.now place element count address) }
 {
@@ -114,7 +120,7 @@ fn element_texts(
     while left > 0 {
         left -= 1;
         let word = element_word(machine, element, at);
-        texts.push(word_text(alloc, image, machine, place, element, word)?)?;
+        texts.push(word_text(alloc, image, machine, tables, place, element, word)?)?;
         at = at.wrapping_add(element_size(element));
     }
     Ok(texts)
@@ -125,21 +131,25 @@ fn memory_text(
     alloc: Global,
     image: &Image,
     machine: &Machine,
+    tables: &Tables,
     place: u32,
     variable: Variable,
     address: u32,
 ) -> Result<Vec<u8>, AllocError>
     requires image { IsImage (form image.now) }
+    requires tables { AreTablesOf (form image.now) tables.now }
     requires place { IsPlaceNumber (form image.now) place }
     ensures { IfOk result (λ text. text.items ≡ memory_text (form image.now) machine.now place variable address) }
 {
     let element = variable.element;
     if variable.count == 0 {
         let word = element_word(machine, element, address);
-        return Ok(word_text(alloc, image, machine, place, element, word)?);
+        return Ok(word_text(alloc, image, machine, tables, place, element, word)?);
     }
     let count = variable.count.min(most_elements());
-    let texts = element_texts(alloc, image, machine, place, element, count, address)?;
+    let texts = element_texts(
+        alloc, image, machine, tables, place, element, count, address,
+    )?;
     Ok(array_text(alloc, &texts, most_elements() < variable.count)?)
 }
 
@@ -148,24 +158,26 @@ pub fn variable_text(
     alloc: Global,
     image: &Image,
     machine: &Machine,
+    tables: &Tables,
     place: u32,
     variable: Variable,
 ) -> Result<Vec<u8>, AllocError>
     requires image { IsImage (form image.now) }
+    requires tables { AreTablesOf (form image.now) tables.now }
     requires place { IsPlaceNumber (form image.now) place }
     ensures { IfOk result (λ text. text.items ≡ variable_text (form image.now) machine.now place variable) }
 {
     match variable.storage {
         Storage::Static(address) => Ok(memory_text(
-            alloc, image, machine, place, variable, address,
+            alloc, image, machine, tables, place, variable, address,
         )?),
         Storage::Frame(offset) => {
             let address = stack_pointer(machine).wrapping_add(offset);
-            Ok(memory_text(alloc, image, machine, place, variable, address)?)
+            Ok(memory_text(alloc, image, machine, tables, place, variable, address)?)
         }
         Storage::Register(_) | Storage::Slot(_) => {
             let word = home_word(machine, variable.storage);
-            Ok(word_text(alloc, image, machine, place, variable.element, word)?)
+            Ok(word_text(alloc, image, machine, tables, place, variable.element, word)?)
         }
     }
 }

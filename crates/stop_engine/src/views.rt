@@ -66,7 +66,7 @@ pub fn name_shown(
     }
     match static_of(image, tables, position_of_place(image, place), name) {
         Some(variable) => {
-            let value = held_text(alloc, image, machine, place, variable)?;
+            let value = held_text(alloc, image, machine, tables, place, variable)?;
             Ok(Shown::Value(value))
         }
         None => Ok(Shown::NoName),

@@ -6,7 +6,7 @@ ghost use Rattle.image_form.specs.Rules.{IsImage};
 ghost use Rattle.stop_engine.specs.Rows.{IsRow};
 ghost use Rattle.stop_engine.specs.Shown.{row_of};
 ghost use Rattle.stop_engine.specs.Tables.{AreTablesOf};
-ghost use Rattle.stop_engine.specs.Visible.{rows_at};
+ghost use Rattle.stop_view.specs.Rows.{rows_at};
 
 use crate::tables::Tables;
 use image_form::{Image, VisibleRow};

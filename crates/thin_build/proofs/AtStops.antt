@@ -12,9 +12,9 @@ use Rattle.image_form.specs.declared.verdicts.VisibleRow.{VisibleRow}
 use Rattle.rv_machine.specs.State.{State, reg, word}
 use Rattle.rv_machine.specs.Memory.{word_in}
 use Rattle.line_form.specs.Decimal.{signed_decimal}
-use Rattle.stop_engine.specs.Reading.{place_at, depth, slot_word, is_stack_address, owner_of, frames_from, frames, frame_of, greatest_depth, int_of_word}
-use Rattle.stop_engine.specs.Rows.{held_text}
-use Rattle.stop_engine.specs.Values.{variable_text}
+use Rattle.stop_view.specs.Reading.{place_at, depth, slot_word, is_stack_address, owner_of, frames_from, frames, frame_of, greatest_depth, int_of_word}
+use Rattle.stop_view.specs.Values.{held_text}
+use Rattle.stop_view.specs.Values.{variable_text}
 use Rattle.thin_form.specs.Tree.{ActionTree, Declares, Assigns, Puts, StatementTree, ProgramTree}
 use Rattle.thin_form.specs.Places.{VariableOf, variables_of, PlaceVariable, each_at, visible_from, visible, declared_after}
 use Rattle.thin_form.specs.Meaning.{Stop}

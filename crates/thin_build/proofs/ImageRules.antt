@@ -147,7 +147,6 @@ function_rules p h =
 pub node_rules : (p : ProgramTree) → NodeRules (image_of p)
 node_rules p = record {
   homes = tt;
-  tidy = tt;
   earlier = λ i n e. absurd (none-some n e);
   shallow = λ i low. absurd (omega arith);
   differ = λ i j x y e f same. absurd (none-some x e);

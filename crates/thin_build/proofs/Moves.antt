@@ -13,7 +13,7 @@ use Rattle.rv_code.specs.declared.instruction.RegisterOperation.TheVariants.{Add
 use Rattle.rv_machine.specs.declared.event.Event.TheVariants.{Went}
 use Rattle.rv_machine.specs.State.{State, reg, word}
 use Rattle.rv_machine.specs.Memory.{word_in}
-use Rattle.rv_machine.specs.Table.{Effect, effect, acted, goes, next, loaded, on_load, place_of, operated, operated_immediate, loaded_from}
+use Rattle.rv_machine.specs.Table.{Effect, effect, acted, goes, next, loaded, on_load, location_of, operated, operated_immediate, loaded_from}
 use Rattle.rv_machine.specs.Run.{is_stop}
 use Rattle.thin_build.specs.declared.placed.Placed.{Placed}
 use Rattle.thin_build.specs.Code.{word_of, upper, lower, constant_code, far_code, load_code}
@@ -132,7 +132,7 @@ module _ (L : LaidCode) where
 
   -- a word of the stack, by its address
   pub loaded_stack : (s : State) (a : ℕ) → length s.code ≤ 262144 → a % 4 ≡ 0 → 16777216 ≤ a → a < 33554432 → loaded s Lw a ≡ Some (word_in s.stack (a - 16777216))
-  unfolding loaded place_of loaded_from
+  unfolding loaded location_of loaded_from
   loaded_stack s a short aligned low high =
       let a1 : nat_lt a 65536 ≡ false = le-ltb a 65536 (omega arith) in
       let a2 : nat_lt a (65536 + 4 * length s.code) ≡ false = le-ltb a (65536 + 4 * length s.code) (omega arith) in

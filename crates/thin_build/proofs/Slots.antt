@@ -11,7 +11,7 @@ use Rattle.rv_code.specs.declared.instruction.RegisterOperation.TheVariants.{Add
 use Rattle.rv_machine.specs.declared.event.Event.TheVariants.{Went}
 use Rattle.rv_machine.specs.State.{State, reg, word}
 use Rattle.rv_machine.specs.Memory.{word_in, with_word}
-use Rattle.rv_machine.specs.Table.{Effect, effect, acted, next, loaded, stored, on_store, place_of, stored_in}
+use Rattle.rv_machine.specs.Table.{Effect, effect, acted, next, loaded, stored, on_store, location_of, stored_in}
 use Rattle.rv_machine.specs.Run.{is_stop}
 use Rattle.thin_build.specs.Code.{word_of, upper, lower, sp, t0, t1, far_code, load_code, store_code}
 use Rattle.thin_build.proofs.Steps.{Quiet, Arrives, quiet_arrives, one_arrives}
@@ -20,7 +20,7 @@ use Rattle.thin_build.proofs.Moves.{Plain, Moves, moves_then, lui_runs, step_nex
 
 -- a word of the stack is stored, by its address
 pub stored_stack : (s : State) (a v : ℕ) → length s.code ≤ 262144 → a % 4 ≡ 0 → 16777216 ≤ a → a < 33554432 → stored s Sw a v ≡ Some (record s { stack = with_word s.stack (a - 16777216) v })
-unfolding stored place_of stored_in
+unfolding stored location_of stored_in
 stored_stack s a v short aligned low high =
     let a1 : nat_lt a 65536 ≡ false = le-ltb a 65536 (omega arith) in
     let a2 : nat_lt a (65536 + 4 * length s.code) ≡ false = le-ltb a (65536 + 4 * length s.code) (omega arith) in

@@ -6,8 +6,8 @@ use Rattle.std.proofs.lemmas.Option.{none-some, same_Some}
 use Rattle.rv_code.specs.declared.instruction.Instruction.{Instruction}
 use Rattle.image_form.specs.declared.tables.Function.{Function}
 use Rattle.image_form.specs.declared.tables.Place.{Place}
-use Rattle.stop_engine.specs.Run.{is_entry, stops_from, stop_addresses}
-use Rattle.stop_engine.specs.Reading.{place_from, place_at}
+use Rattle.stop_view.specs.Run.{is_entry, stops_from, stop_addresses}
+use Rattle.stop_view.specs.Reading.{place_from, place_at}
 use Rattle.thin_form.specs.declared.tree.Spot.{Spot}
 use Rattle.thin_form.specs.Tree.{SumTree, StatementTree, ProgramTree}
 use Rattle.thin_form.specs.Places.{declared_after}

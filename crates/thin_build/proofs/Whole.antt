@@ -19,8 +19,8 @@ use Rattle.rv_machine.specs.State.{State, reg}
 use Rattle.rv_machine.specs.Run as machine
 use Rattle.rv_machine.specs.Run.{MachineEvent, run, is_stop, Arrival}
 use Rattle.rv_machine.specs.Table.{started}
-use Rattle.stop_engine.specs.Run.{image_run, stop_addresses}
-use Rattle.stop_engine.specs.Reading.{place_at}
+use Rattle.stop_view.specs.Run.{image_run, stop_addresses}
+use Rattle.stop_view.specs.Reading.{place_at}
 use Rattle.thin_form.specs.Tree.{SumTree, ActionTree, Declares, Assigns, Puts, StatementTree, ProgramTree}
 use Rattle.thin_form.specs.Places.{declared_after, declared_by, variables_of}
 use Rattle.thin_form.specs.Program.{SumFits, ActionFits, BodyFits, weight, IsProgram}

@@ -15,9 +15,9 @@ use Rattle.rv_machine.specs.State.{State}
 use Rattle.rv_machine.specs.Run as machine
 use Rattle.rv_machine.specs.Run.{MachineEvent}
 use Rattle.line_form.specs.Decimal.{signed_decimal}
-use Rattle.stop_engine.specs.Run.{image_run}
-use Rattle.stop_engine.specs.Reading.{place_at, depth, frames}
-use Rattle.stop_engine.specs.Rows.{held_text}
+use Rattle.stop_view.specs.Run.{image_run}
+use Rattle.stop_view.specs.Reading.{place_at, depth, frames}
+use Rattle.stop_view.specs.Values.{held_text}
 use Rattle.event_runs.specs.Agreement.{Agree}
 use Rattle.thin_form.specs.declared.tree.Spot.{Spot}
 use Rattle.thin_form.specs.Tree.{ProgramTree}

@@ -9,25 +9,35 @@ ghost use Rattle.thin_form.specs.Tree.{sum_view, action_view};
 ghost use Rattle.thin_form.specs.Program.{TermFits, SumFits, ActionFits};
 ghost use Rattle.thin_build.specs.Code.{upper, lower, slot, constant_code, far_code, load_code, store_code, term_code, added_code, sum_code, put_code, lowered_code, raised_code, return_code, action_code, stub_code, begin_code};
 
-use rv_code::{BranchOperation, ImmediateOperation, Instruction, LoadOperation, RegisterOperation, StoreOperation};
+use rv_code::{
+    BranchOperation, ImmediateOperation, Instruction, LoadOperation, RegisterOperation,
+    StoreOperation,
+};
 use std::alloc::{AllocError, Global};
 use thin_form::{Action, Sum, Term};
 
-/// The registers by their names in the RISC-V calling convention.
+/// The register of the return address.
 pub const RA: u8 = 1;
 
+/// The register of the address at which the innermost activation's frame starts.
 pub const SP: u8 = 2;
 
+/// The register that counts how many activations may still begin.
 pub const TP: u8 = 4;
 
+/// A register for what is computed on the way.
 pub const T0: u8 = 5;
 
+/// Another one.
 pub const T1: u8 = 6;
 
+/// A third one.
 pub const T2: u8 = 7;
 
+/// The register of the argument and the result of a call.
 pub const A0: u8 = 10;
 
+/// The register of the number of a call of the environment.
 pub const A7: u8 = 17;
 
 /// `rd = source + immediate`; the immediate is a word, sign-extended from 12 bits.

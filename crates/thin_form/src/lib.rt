@@ -18,6 +18,3 @@ pub use laws::a_text_has_at_most_one_program;
 pub use reading::read;
 pub use refusal::ThinErr;
 pub use tree::{Action, Program, Spot, Statement, Sum, Term};
-
-#[cfg(test)]
-mod tests;

@@ -2,6 +2,7 @@
 use Rattle.std.proofs.Common.{◌≡◌, ℕ, zero, suc, ◌*◌, ◌<◌, ◌≤◌, ◌^◌, Some, List, [], ◌∷◌, subst, arith}
 use Rattle.std.specs.Prelude.{slice_get}
 use Rattle.std.specs.List.{AllByRecursion}
+use Rattle.graph_core.specs.Bounds.{most_bytes_of_function}
 use Rattle.graph_core.specs.declared.graph.MemoryObject.{MemoryObject}
 use Rattle.graph_core.specs.Graphs.{Graph, StaticObject, UnitForm}
 use Rattle.graph_core.specs.Memory.{static_bytes}
@@ -17,7 +18,7 @@ all_at P [] i x h e = cc
 all_at P (y ∷ xs) zero x h e = let same : y ≡ x = cc in subst P same h.0
 all_at P (y ∷ xs) (suc i) x h e = all_at P xs i x h.1 e
 
-objects_small : (all : List MemoryObject) → total taken_by_object all ≤ 4096 → AreSmall all
+objects_small : (all : List MemoryObject) → total taken_by_object all ≤ most_bytes_of_function → AreSmall all
 objects_small [] le = tt
 objects_small (o ∷ all) le =
     let least = taken_least (o.count * size_of o.element) in

@@ -22,12 +22,15 @@ use Rattle.unit_run.specs.declared.configuration.Configuration as declared-confi
 use Rattle.unit_run.specs.declared.configuration.Stepped as declared-stepped
 use Rattle.unit_run.specs.declared.configuration.Stepped.TheVariants as stepped
 
+-- the object that the code has
 abbrev pub object_view : declared-object.Object → Object
 object_view o = record { owner = o.owner; element = o.element; values = o.values.items; live = o.live }
 
+-- the live activation that the code has, as a stop shows it
 abbrev pub frame_view : declared-frame.Frame → Frame
 frame_view f = record { function = f.function; place = f.place.0; shadows = f.shadows.items }
 
+-- the event that the code has
 abbrev pub event_view : declared-event.Event → Event
 event_view (event.Put byte) = Put byte
 event_view (event.Exited status) = Exited status
@@ -42,6 +45,7 @@ named values x = slice_index_or values x Odd
 abbrev pub shadowed : List Shadow → ℕ → Shadow
 shadowed shadows x = slice_index_or shadows x Gone
 
+-- the activation that the code has
 abbrev pub activation_view : declared-activation.Activation → Activation
 activation_view a = record {
   function = a.function;
@@ -55,6 +59,7 @@ activation_view a = record {
   wants = option_map (λ (n : declared-name.Name). n.0) a.wants;
 }
 
+-- the configuration that the code has
 abbrev pub configuration_view : declared-configuration.Configuration → Configuration
 configuration_view c = record {
   memory = map object_view c.memory.items;

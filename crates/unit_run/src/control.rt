@@ -18,10 +18,11 @@ use crate::memory::{address_of, element_of, end_from, is_live, new_object, write
 use crate::object::Object;
 use crate::operations::{is_true, operate, truth};
 use graph_core::{
-    Binding, Block, Callee, Comparison, End, Graph, Label, MemoryObject, Name, Unit, Value,
+    Binding, Block, Callee, Comparison, End, Graph, Label, MAX_ACTIVATIONS, MemoryObject, Name,
+    Unit, Value,
 };
-use word_base::Operation;
 use std::alloc::{AllocError, Global};
+use word_base::Operation;
 
 /// Whether a word and a value are one, where that is known.
 fn same_as_word(word: u32, right: Value) -> Value
@@ -339,7 +340,7 @@ impl<'a> Configuration<'a> {
         requires { IsValid (unit_view unit.now) }
         ensures { IfOk result (λ s. stepped_view s (configuration_view self.new) ≡ call_function (unit_view unit.now) (configuration_view self.old) (option_map (λ (n : declared-name.Name). n.0) target) function arguments.now) }
     {
-        if self.waiting.len() + 1 == 1024 {
+        if self.waiting.len() + 1 == MAX_ACTIVATIONS {
             return Ok(Stepped::Ends(Event::TooDeep));
         }
         let depth = self.waiting.len() + 2;

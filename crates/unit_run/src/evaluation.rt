@@ -10,7 +10,7 @@ ghost use Rattle.unit_run.specs.Views.{activation_view, frame_view, named, objec
 
 use crate::activation::Activation;
 use crate::event::Frame;
-use crate::memory::address_of;
+use crate::memory::{address_in, address_of};
 use crate::object::Object;
 use crate::operations::{operate, truncate};
 use crate::static_storage::static_address;
@@ -69,7 +69,7 @@ pub fn value(unit: &Unit, names: &[Value], operand: Operand) -> Value
     match operand {
         Operand::Name(name) => named(names, name),
         Operand::Constant(word) => Value::Number(word),
-        Operand::Address { object, offset } => static_address(unit, object, offset),
+        Operand::StaticAddress { object, offset } => static_address(unit, object, offset),
     }
 }
 
@@ -126,7 +126,9 @@ impl<'a> Activation<'a> {
         ensures { result ≡ pointed (unit_view unit.now).statics (map object_view memory.now) (activation_view self.now) (location_view location) }
     {
         match location {
-            Location::Automatic(object) => self.object_address(memory, object),
+            Location::Automatic { object, offset } => {
+                address_in(memory, self.object(object), offset)
+            }
             Location::Static(object) => static_address(unit, object, 0),
             Location::At(operand) => value(unit, &self.names, operand),
         }

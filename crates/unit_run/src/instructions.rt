@@ -17,8 +17,8 @@ use crate::evaluation::{value, values};
 use crate::memory::{copy, read, write, zero};
 use crate::operations::{is_odd, operate, truncate};
 use graph_core::{Callee, Element, Instr, Location, Name, Operand, Unit, Value};
-use word_base::{Operation, Truncation};
 use std::alloc::{AllocError, Global};
+use word_base::{Operation, Truncation};
 
 /// The step goes on, if memory could become another.
 fn goes_if(done: bool) -> Stepped

@@ -12,8 +12,6 @@ mod object;
 mod operations;
 mod runs;
 mod static_storage;
-#[cfg(test)]
-mod tests;
 
 pub use event::{Event, Frame};
 pub use object::Object;

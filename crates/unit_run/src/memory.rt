@@ -3,11 +3,11 @@
 ghost use Rattle.std.specs.Prelude.{◌≡◌, ◌<◌, ◌≤◌, ◌^◌, ◌*◌, ◌+◌, ◌++◌, IfOk, MatchOption, None, OnOk, Some, false, length, map, option_and_then, option_map, ◌&&◌, ◌/◌, nat_le, slice_get, true, drop, take, replicate};
 ghost use Rattle.graph_core.specs.declared.value.Value.TheVariants.{Odd, Number};
 ghost use Rattle.graph_core.specs.Values.{size_of};
-ghost use Rattle.graph_core.specs.Memory.{Object as spec_object, address_of, bytes_of, copied, elements_from, element_in, ended_from, filled, index_in, is_live, new_object, read, spelled, value_in, with_value, words_of, write, zeroed};
+ghost use Rattle.graph_core.specs.Memory.{Object as spec_object, address_in, address_of, bytes_of, copied, elements_from, element_in, ended_from, filled, index_in, is_live, new_object, read, spelled, value_in, with_value, words_of, write, zeroed};
 ghost use Rattle.unit_run.specs.Views.{IsClosed, IsOpen, object_view, some_if, with_value_at};
 
 use crate::object::Object;
-use crate::operations::as_element;
+use crate::operations::{as_element, pointer_at};
 use graph_core::{Element, MemoryObject, Owner, Value};
 use std::alloc::{AllocError, Global};
 
@@ -164,6 +164,16 @@ pub fn address_of(memory: &[Object], object: usize) -> Value
             size: found.bytes(),
             offset: 0,
         },
+    }
+}
+
+/// The address of so many bytes behind the beginning of an object.
+pub fn address_in(memory: &[Object], object: usize, offset: u32) -> Value
+    ensures { result ≡ address_in (map object_view memory.now) object offset }
+{
+    match object_at(memory, object) {
+        None => Value::Odd,
+        Some(found) => pointer_at(object, found.bytes(), offset),
     }
 }
 

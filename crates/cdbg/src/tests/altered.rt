@@ -104,9 +104,9 @@ fn an_altered_image_is_refused_where_it_was_altered(rt: HostRuntime) -> Result<(
             alteration.at.in_image(words),
             alteration.byte,
         );
-        assert_eq!(rt;
-            status_of(rt.alloc(), &altered)?,
-            Status::ImageRefused(alteration.code, alteration.offset.in_image(words))
+        assert!(rt;
+            status_of(rt.alloc(), &altered)?
+                == Status::ImageRefused(alteration.code, alteration.offset.in_image(words))
         );
     }
     Ok(())
@@ -117,10 +117,7 @@ fn a_length_that_is_not_the_image_s_is_refused(rt: HostRuntime) -> Result<(), Fa
     let mut image = image_of_program(rt.alloc())?;
     assert!(rt; image.len() > 8);
     image[8] = image[8].wrapping_add(1);
-    assert_eq!(rt;
-        status_of(rt.alloc(), &image)?,
-        Status::ImageRefused(Code::LENGTH, 8)
-    );
+    assert!(rt; status_of(rt.alloc(), &image)? == Status::ImageRefused(Code::LENGTH, 8));
     Ok(())
 }
 
@@ -133,7 +130,7 @@ fn an_image_that_is_cut_off_is_refused(rt: HostRuntime) -> Result<(), Fail> {
         } else {
             Status::ImageRefused(Code::LENGTH, 8)
         };
-        assert_eq!(rt; status_of(rt.alloc(), &image[..length])?, refused);
+        assert!(rt; status_of(rt.alloc(), &image[..length])? == refused);
     }
     Ok(())
 }
@@ -151,10 +148,7 @@ fn places_out_of_order_are_refused(rt: HostRuntime) -> Result<(), Fail> {
         assert!(rt; at < image.len() && other < image.len());
         image.swap(at, other);
     }
-    assert_eq!(rt;
-        status_of(rt.alloc(), &image)?,
-        Status::ImageRefused(Code::PLACES, third)
-    );
+    assert!(rt; status_of(rt.alloc(), &image)? == Status::ImageRefused(Code::PLACES, third));
     Ok(())
 }
 
@@ -177,7 +171,7 @@ fn printed(
         "cdbg", "attach", "--limit", limit, "image", "script", "input",
     ];
     let words = super::words(alloc, texts.as_slice())?;
-    assert_eq!(rt; run(alloc, &words, &mut shelf, &mut sink), Status::Done);
+    assert!(rt; run(alloc, &words, &mut shelf, &mut sink) == Status::Done);
     Ok(sink.bytes().to_vec(alloc)?)
 }
 
@@ -185,13 +179,10 @@ fn printed(
 fn hostile_code_ends_in_a_fault_or_at_the_limit(rt: HostRuntime) -> Result<(), Fail> {
     // A word that is no instruction.
     let faults = printed(&rt, rt.alloc(), 0, "100", b"step\nstep\n".as_slice())?;
-    assert_eq!(rt;
-        faults.as_slice(),
-        b"fault 0x00010000\nfault 0x00010000\n".as_slice()
-    );
+    assert!(rt; faults.as_slice() == b"fault 0x00010000\nfault 0x00010000\n".as_slice());
     // A jump to itself.
     let spins = printed(&rt, rt.alloc(), 0x6f, "50", b"step\n".as_slice())?;
-    assert_eq!(rt; spins.as_slice(), b"limit 50\n".as_slice());
+    assert!(rt; spins.as_slice() == b"limit 50\n".as_slice());
     Ok(())
 }
 
@@ -200,9 +191,6 @@ fn hostile_code_ends_in_a_fault_or_at_the_limit(rt: HostRuntime) -> Result<(), F
 fn an_image_may_be_absent(rt: HostRuntime) -> Result<(), Fail> {
     let mut shelf = MemShelf::new(rt.alloc(), [].as_slice())?;
     let mut sink = MemSink::new(rt.alloc(), [].as_slice())?;
-    assert_eq!(rt;
-        attach(rt.alloc(), &mut shelf, &mut sink)?,
-        Status::ReadFault
-    );
+    assert!(rt; attach(rt.alloc(), &mut shelf, &mut sink)? == Status::ReadFault);
     Ok(())
 }

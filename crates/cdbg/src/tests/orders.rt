@@ -48,7 +48,7 @@ fn tokens_come_before_the_grammar_and_that_before_types(rt: HostRuntime) -> Resu
         let mut shelf = shelf(rt.alloc(), source, SCRIPT, [].as_slice())?;
         let mut sink = MemSink::new(rt.alloc(), [].as_slice())?;
         let status = run(rt.alloc(), &words, &mut shelf, &mut sink);
-        assert_eq!(rt; status, Status::SourceRefused(code, line));
+        assert!(rt; status == Status::SourceRefused(code, line));
     }
     Ok(())
 }
@@ -153,7 +153,7 @@ fn limits_are_looked_at_in_their_order(rt: HostRuntime) -> Result<(), Fail> {
         let mut shelf = shelf(rt.alloc(), &source, SCRIPT, [].as_slice())?;
         let mut sink = MemSink::new(rt.alloc(), [].as_slice())?;
         let status = run(rt.alloc(), &words, &mut shelf, &mut sink);
-        assert_eq!(rt; status, Status::SourceRefused(code, line));
+        assert!(rt; status == Status::SourceRefused(code, line));
     }
     Ok(())
 }
@@ -183,7 +183,7 @@ fn visible_pairs_are_the_last_limit(rt: HostRuntime) -> Result<(), Fail> {
         let mut shelf = shelf(rt.alloc(), &source, SCRIPT, [].as_slice())?;
         let mut sink = MemSink::new(rt.alloc(), [].as_slice())?;
         let status = run(rt.alloc(), &words, &mut shelf, &mut sink);
-        assert_eq!(rt; status, Status::SourceRefused(code, 1));
+        assert!(rt; status == Status::SourceRefused(code, 1));
     }
     Ok(())
 }
@@ -196,6 +196,6 @@ fn a_text_that_is_too_long_is_refused_for_that(rt: HostRuntime) -> Result<(), Fa
     let mut shelf = shelf(rt.alloc(), &source, SCRIPT, [].as_slice())?;
     let mut sink = MemSink::new(rt.alloc(), [].as_slice())?;
     let status = run(rt.alloc(), &words, &mut shelf, &mut sink);
-    assert_eq!(rt; status, Status::SourceRefused(Code::TEXT_SIZE, 1));
+    assert!(rt; status == Status::SourceRefused(Code::TEXT_SIZE, 1));
     Ok(())
 }

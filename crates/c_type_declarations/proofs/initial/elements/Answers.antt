@@ -10,7 +10,7 @@ use Rattle.c_type_declarations.proofs.initial.elements.Goals as goal
 
 pub loop-one-preserved : goal.loop-one-preserved
 loop-one-preserved c =
-    rw (c.in_ok-push.ensures.items, map-append rvalue_view c.loop-one.values.items (c.tree_of.result ∷ []), c.tree_of.ensures)
+    rw (c.in_ok-push.ensures.items, map-append rvalue_view c.loop-one.values.items (c.into_inner.result ∷ []), c.into_inner.ensures, c.in_ok-tree.ensures)
     (sym (elements_step c.args.of c.args.extent (initializer_view c.one-item.result) (chain (map initializer_view (drop (c.loop-one.one-index + 1) c.args.initializers.now))) (map rvalue_view c.loop-one.values.items) (option_map value_view c.in_ok-value.value) (progress_view c.loop-one.progress) (progress_view c.scalar.new.progress) c.in_ok-value.ensures)
     ∙ (rw (chain_item c.args.initializers.now c.loop-one.one-index c.one-item.result c.loop-one-test.true c.one-item.is) at c.loop-one.invariant))
 

@@ -4,11 +4,10 @@ use Rattle.std.specs.Option.{option_map}
 use Rattle.std.proofs.lemmas.List.{length-map}
 use Rattle.c_tree.specs.Expressions.{expression_view, suffix_view}
 use Rattle.c_tree.specs.Programs.{literal_view}
-use Rattle.c_tree.specs.TypedExpressions.{rvalue_view}
 use Rattle.c_type_expressions.specs.Expressions.{is_zero}
 use Rattle.c_type_expressions.specs.Judgements.{passed_to}
 use Rattle.c_tree.proofs.Views.{binary_view, comma_view, postfix_view, sizeof_expression_view}
-use Rattle.c_type_values.specs.Values.{meant_view, value_view}
+use Rattle.c_type_values.specs.Values.{meant_view, node_view, value_view}
 use Rattle.c_type_expressions.specs.Chains.{operation_view}
 use Rattle.c_type_expressions.specs.Findings.{findings_view}
 use Rattle.c_type_expressions.specs.Names.{names_view, signature_view}
@@ -66,7 +65,7 @@ pub passed-loop-at-preserved : goal.passed-loop-at-preserved
 passed-loop-at-preserved t c =
     let parameter : c.parameter_at-parameter.result ≡ slice_get c.args.parameters.now c.loop-at.at = c.parameter_at-parameter.ensures in
     let zero : c.is_zero.result ≡ is_zero (expression_view c.index-arguments-at.result) = search rules in
-    let one : (rvalue_view c.in_ok-tree.tree, c.in_ok-tree.fits) ≡ passed_to c.parameter_at-parameter.result (option_map value_view c.in_ok-given.given) c.is_zero.result = c.in_ok-tree.ensures in
+    let one : (node_view c.in_ok-tree.tree, c.in_ok-tree.fits) ≡ passed_to c.parameter_at-parameter.result (option_map value_view c.in_ok-given.given) c.is_zero.result = c.in_ok-tree.ensures in
     rw (c.in_ok-push.ensures.items)
     (passed_step (names_view c.args.names.now) c.args.parameters.now c.loop-at.at c.args.arguments.now c.index-arguments-at.result c.loop-at.trees.items c.in_ok-tree.tree c.loop-at.fit c.in_ok-tree.fits (findings_view c.loop-at.found) (findings_view c.value.new.found) (option_map value_view c.in_ok-given.given) c.index-arguments-at.is (omega arith) (search rules) (rw (← parameter, ← zero) one)
     ∙ c.loop-at.invariant)

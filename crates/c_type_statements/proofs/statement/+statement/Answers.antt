@@ -3,14 +3,15 @@ use Rattle.std.specs.Option.{option_map}
 use Rattle.std.proofs.lemmas.List.{map-append, map_push}
 use Rattle.std.proofs.lemmas.Result.{IfOk-weaker, on_ok_weaker}
 use Rattle.c_tree.specs.declared.statement.Statement.{Statement}
+use Rattle.c_tree.specs.declared.typed_statement.TypedStatement.{TypedStatement}
 use Rattle.c_tree.specs.Expressions.{expression_view}
 use Rattle.c_tree.specs.Declarations.{declaration_view}
 use Rattle.c_tree.specs.Statements.{branch_view, chain, label_view, start_view, statement_view}
-use Rattle.c_tree.specs.TypedExpressions.{rvalue_view}
 use Rattle.c_tree.specs.TypedStatements.{TypedStatementTree, TypedStatementTrees, declared_view, statements_view}
 use Rattle.c_tree.specs.TypedStatements as typed-tree
 use Rattle.c_type_declarations.specs.Progress.{means, progress_view}
 use Rattle.c_type_declarations.proofs.Loops.{drop_item}
+use Rattle.c_type_values.specs.Values.{node_view}
 use Rattle.c_type_statements.specs.Chains.{built_view}
 use Rattle.c_type_statements.specs.Switches.{labels_view, part_view}
 use Rattle.c_type_statements.specs.declared.part.Part.TheVariants as part
@@ -24,7 +25,7 @@ pub branch-returns : goal.branch-returns
 branch-returns t c =
     let b = c.args.branch.now in
     rw (branch_out b, c.first.ensures)
-    (branch_parts c.args.setting c.args.last (record { spot = b.spot; condition = expression_view b.condition; then = statement_view b.then }) (rvalue_view c.in_ok-tree.tree) (typed-tree.statement_view c.in_ok-then.then) (progress_view c.args.progress.now) (progress_view c.condition.new.progress) (progress_view c.statement.new.progress) c.in_ok-tree.ensures c.in_ok-then.ensures)
+    (branch_parts c.args.setting c.args.last (record { spot = b.spot; condition = expression_view b.condition; then = statement_view b.then }) (node_view c.in_ok-tree.tree) (typed-tree.statement_view c.in_ok-then.then.value) (progress_view c.args.progress.now) (progress_view c.condition.new.progress) (progress_view c.statement.new.progress) c.in_ok-tree.ensures c.in_ok-then.ensures)
 
 pub branches-loop-one-preserved : goal.branches-loop-one-preserved
 branches-loop-one-preserved t c =
@@ -51,7 +52,7 @@ item-returns-in_ok-all_labels-in-Labeled t c =
 pub item-returns-in_ok-push-in_default : goal.item-returns-in_ok-push-in_default
 item-returns-in_ok-push-in_default t c =
     rw (c.in_ok-push-in_default.ensures.items, map-append part_view c.args.parts.now.items (part.Statement c.in_ok-made-in_default.made ∷ []))
-    (item_unlabeled c.args.setting c.args.kind (statement_view c.args.s.now) (labels_view c.args.labels.now) (map part_view c.args.parts.now.items) (typed-tree.statement_view c.in_ok-made-in_default.made) (progress_view c.args.progress.now) (progress_view c.statement.new.progress) (without_labels c.args.s.now c.in_default.not-Labeled) c.in_ok-made-in_default.ensures)
+    (item_unlabeled c.args.setting c.args.kind (statement_view c.args.s.now) (labels_view c.args.labels.now) (map part_view c.args.parts.now.items) (typed-tree.statement_view c.in_ok-made-in_default.made.value) (progress_view c.args.progress.now) (progress_view c.statement.new.progress) (without_labels c.args.s.now c.in_default.not-Labeled) c.in_ok-made-in_default.ensures)
 
 pub items-loop-one-preserved : goal.items-loop-one-preserved
 items-loop-one-preserved t c =
@@ -71,7 +72,7 @@ statements-loop-one-preserved t c =
     let xs = c.args.all.now in
     let i = c.loop-one.one-index in
     rw (c.in_ok-push.ensures.items, map-append part_view c.loop-one.parts.items (part.Statement c.in_ok-made.made ∷ []))
-    (sym (statements_step c.args.setting (statement_view c.one-item.result) (chain (map statement_view (drop (i + 1) xs))) (map part_view c.loop-one.parts.items) (typed-tree.statement_view c.in_ok-made.made) (progress_view c.loop-one.progress) (progress_view c.statement.new.progress) c.in_ok-made.ensures)
+    (sym (statements_step c.args.setting (statement_view c.one-item.result) (chain (map statement_view (drop (i + 1) xs))) (map part_view c.loop-one.parts.items) (typed-tree.statement_view c.in_ok-made.made.value) (progress_view c.loop-one.progress) (progress_view c.statement.new.progress) c.in_ok-made.ensures)
     ∙ (rw (chain_item xs i c.one-item.result c.loop-one-test.true c.one-item.is) at c.loop-one.invariant))
 
 pub statements-returns : goal.statements-returns
@@ -80,24 +81,28 @@ statements-returns t c =
     (λ r h. ap (λ (ts : TypedStatementTrees). means ts (progress_view c.loop-one.progress)) h ∙ sym (statements_end c.args.setting c.args.all.now c.loop-one.one-index (map part_view c.loop-one.parts.items) (progress_view c.loop-one.progress) c.loop-one-test.false) ∙ c.loop-one.invariant)
     c.arranged.ensures
 
-pub statement-returns-in_ok-new-in-Block : goal.statement-returns-in_ok-new-in-Block
-statement-returns-in_ok-new-in-Block t c =
+pub statement-returns-in_ok-all-in-Block : goal.statement-returns-in_ok-all-in-Block
+statement-returns-in_ok-all-in-Block t c =
     let b = c.in-Block.block in
-    rw (c.in-Block.is, compound_view b, c.in_ok-new-in-Block.ensures.ok)
-    (block_arm c.args.setting b.opening (chain (map statement_view b.statements.items)) b.closing (statements_view c.in_ok-body-in-Block.body) (progress_view c.args.progress.now) (progress_view c.block_in_scope.new.progress) (rw c.deref.ensures.value at c.in_ok-body-in-Block.ensures))
+    rw (c.in-Block.is, compound_view b)
+    (IfOk-weaker c.block_of.result _ _
+    (λ r h. rw h (block_arm c.args.setting b.opening (chain (map statement_view b.statements.items)) b.closing (statements_view c.in_ok-all-in-Block.all) (progress_view c.args.progress.now) (progress_view c.block_in_scope.new.progress) (rw c.deref.ensures.value at c.in_ok-all-in-Block.ensures)))
+    c.block_of.ensures)
 
-pub statement-returns-in_ok-all-in-Declaration : goal.statement-returns-in_ok-all-in-Declaration
-statement-returns-in_ok-all-in-Declaration t c =
+pub statement-returns-in-Declaration : goal.statement-returns-in-Declaration
+statement-returns-in-Declaration t c =
     rw (c.in-Declaration.is, declare_view c.in-Declaration.d)
-    (declare_arm c.args.setting (declaration_view c.in-Declaration.d) (map declared_view c.in_ok-all-in-Declaration.all.items) (progress_view c.args.progress.now) (progress_view c.declaration.new.progress) c.in_ok-all-in-Declaration.ensures)
+    (IfOk-weaker c.declared.result _ _ (λ r h. h ∙ declare_arm c.args.setting (declaration_view c.in-Declaration.d) (progress_view c.args.progress.now)) c.declared.ensures)
 
 pub statement-returns-in-Empty : goal.statement-returns-in-Empty
-statement-returns-in-Empty t c = rw (c.in-Empty.is, empty_view c.in-Empty.spot) (empty_arm c.args.setting c.in-Empty.spot (progress_view c.args.progress.now))
+statement-returns-in-Empty t c =
+    rw (c.in-Empty.is, empty_view c.in-Empty.spot)
+    (IfOk-weaker c.empty.result _ _ (λ r h. rw h (empty_arm c.args.setting c.in-Empty.spot (progress_view c.args.progress.now))) c.empty.ensures)
 
-pub statement-returns-in_ok-value-in-Expression : goal.statement-returns-in_ok-value-in-Expression
-statement-returns-in_ok-value-in-Expression t c =
-    rw (c.in-Expression.is, run_view c.in-Expression.value c.in-Expression.last, c.first-spot.ensures)
-    (run_arm c.args.setting (expression_view c.in-Expression.value) c.in-Expression.last (rvalue_view c.in_ok-value-in-Expression.value) (progress_view c.args.progress.now) (progress_view c.run.new.progress) c.in_ok-value-in-Expression.ensures)
+pub statement-returns-in-Expression : goal.statement-returns-in-Expression
+statement-returns-in-Expression t c =
+    rw (c.in-Expression.is, run_view c.in-Expression.value c.in-Expression.last)
+    (IfOk-weaker c.executed.result _ _ (λ r h. h ∙ run_arm c.args.setting (expression_view c.in-Expression.value) c.in-Expression.last (progress_view c.args.progress.now)) c.executed.ensures)
 
 pub statement-returns-in_ok-other-in-If : goal.statement-returns-in_ok-other-in-If
 statement-returns-in_ok-other-in-If t c =
@@ -109,29 +114,35 @@ statement-returns-in_ok-other-in-If t c =
     let others = c.deref-in-If-2.result.now in
     IfOk-weaker c.nested.result _ _
     (λ r h. ap (λ (x : TypedStatementTree). means x v) h
-    ∙ chain_parts g last (branch_view first) (map branch_view others) (option_map (λ (x : Box Statement Global). statement_view x.value) c.in-If.otherwise) (built_view c.in_ok-chosen-in-If.chosen) (map built_view c.in_ok-built-in-If.built.items) (option_map typed-tree.statement_view c.in_ok-other-in-If.other) p (progress_view c.branch-alloc.new.progress) (progress_view c.branches.new.progress) v c.in_ok-chosen-in-If.ensures c.in_ok-built-in-If.ensures c.in_ok-other-in-If.ensures
+    ∙ chain_parts g last (branch_view first) (map branch_view others) (option_map (λ (x : Box Statement Global). statement_view x.value) c.in-If.otherwise) (built_view c.in_ok-chosen-in-If.chosen) (map built_view c.in_ok-built-in-If.built.items) (option_map (λ (x : Box TypedStatement Global). typed-tree.statement_view x.value) c.in_ok-other-in-If.other) p (progress_view c.branch-alloc.new.progress) (progress_view c.branches.new.progress) v c.in_ok-chosen-in-If.ensures c.in_ok-built-in-If.ensures c.in_ok-other-in-If.ensures
     ∙ if_arm g c.args.s.now c.in-If.first c.in-If.others c.in-If.otherwise last first others p c.in-If.is c.last_of_statement-last.ensures c.deref-in-If.ensures c.deref-in-If-2.ensures.value)
     c.nested.ensures
 
-pub statement-returns-in_ok-new-in-While : goal.statement-returns-in_ok-new-in-While
-statement-returns-in_ok-new-in-While t c =
+pub statement-returns-in_ok-body-in-While : goal.statement-returns-in_ok-body-in-While
+statement-returns-in_ok-body-in-While t c =
     let s = c.in-While.body in
-    rw (c.in-While.is, while_view c.in-While.spot c.in-While.e s, c.in_ok-new-in-While.ensures.ok, c.first.ensures)
-    (while_arm c.args.setting c.in-While.spot (expression_view c.in-While.e) (statement_view s.value) (rvalue_view c.in_ok-tree-in-While.tree) (typed-tree.statement_view c.in_ok-body-in-While.body) (progress_view c.args.progress.now) (progress_view c.condition.new.progress) (progress_view c.statement.new.progress)
-    (rw (c.last_of_statement.ensures, c.deref-in-While.ensures) at c.in_ok-tree-in-While.ensures) (rw (c.in_loop.ensures, c.deref-in-While-2.ensures) at c.in_ok-body-in-While.ensures))
+    rw (c.in-While.is, while_view c.in-While.spot c.in-While.e s)
+    (IfOk-weaker c.while_of.result _ _
+    (λ r h. rw (rw c.first.ensures at h)
+    (while_arm c.args.setting c.in-While.spot (expression_view c.in-While.e) (statement_view s.value) (node_view c.in_ok-tree-in-While.tree) (typed-tree.statement_view c.in_ok-body-in-While.body.value) (progress_view c.args.progress.now) (progress_view c.condition.new.progress) (progress_view c.statement.new.progress)
+    (rw (c.last_of_statement.ensures, c.deref-in-While.ensures) at c.in_ok-tree-in-While.ensures) (rw (c.in_loop.ensures, c.deref-in-While-2.ensures) at c.in_ok-body-in-While.ensures)))
+    c.while_of.ensures)
 
-pub statement-returns-in_ok-new-in-DoWhile : goal.statement-returns-in_ok-new-in-DoWhile
-statement-returns-in_ok-new-in-DoWhile t c =
+pub statement-returns-in_ok-tree-in-DoWhile : goal.statement-returns-in_ok-tree-in-DoWhile
+statement-returns-in_ok-tree-in-DoWhile t c =
     let s = c.in-DoWhile.body in
-    rw (c.in-DoWhile.is, do_view c.in-DoWhile.extent s c.in-DoWhile.e, c.in_ok-new-in-DoWhile.ensures.ok, c.first-in-DoWhile.ensures)
-    (do_arm c.args.setting c.in-DoWhile.extent (statement_view s.value) (expression_view c.in-DoWhile.e) (typed-tree.statement_view c.in_ok-body-in-DoWhile.body) (rvalue_view c.in_ok-tree-in-DoWhile.tree) (progress_view c.args.progress.now) (progress_view c.statement-in-DoWhile.new.progress) (progress_view c.condition-in-DoWhile.new.progress)
-    (rw (c.in_loop-in-DoWhile.ensures, c.deref-in-DoWhile.ensures) at c.in_ok-body-in-DoWhile.ensures) c.in_ok-tree-in-DoWhile.ensures)
+    rw (c.in-DoWhile.is, do_view c.in-DoWhile.extent s c.in-DoWhile.e)
+    (IfOk-weaker c.do_while_of.result _ _
+    (λ r h. rw (rw c.first-in-DoWhile.ensures at h)
+    (do_arm c.args.setting c.in-DoWhile.extent (statement_view s.value) (expression_view c.in-DoWhile.e) (typed-tree.statement_view c.in_ok-body-in-DoWhile.body.value) (node_view c.in_ok-tree-in-DoWhile.tree) (progress_view c.args.progress.now) (progress_view c.statement-in-DoWhile.new.progress) (progress_view c.condition-in-DoWhile.new.progress)
+    (rw (c.in_loop-in-DoWhile.ensures, c.deref-in-DoWhile.ensures) at c.in_ok-body-in-DoWhile.ensures) c.in_ok-tree-in-DoWhile.ensures))
+    c.do_while_of.ensures)
 
 pub statement-returns-in_ok-made-in-For : goal.statement-returns-in_ok-made-in-For
 statement-returns-in_ok-made-in-For t c =
     let f = c.in-For in
     rw (f.is, for_view f.spot f.start f.condition f.step f.body, c.close.ensures)
-    (for_arm c.args.setting f.spot (start_view f.start) (option_map expression_view f.condition) (option_map expression_view f.step) (statement_view f.body.value) (typed-tree.statement_view c.in_ok-made-in-For.made) (progress_view c.args.progress.now) (progress_view c.for_loop.new.progress)
+    (for_arm c.args.setting f.spot (start_view f.start) (option_map expression_view f.condition) (option_map expression_view f.step) (statement_view f.body.value) (typed-tree.statement_view c.in_ok-made-in-For.made.value) (progress_view c.args.progress.now) (progress_view c.for_loop.new.progress)
     (rw (c.deref-in-For.ensures, c.in_ok-open-in-For.ensures) at c.in_ok-made-in-For.ensures))
 
 pub statement-returns-in-Switch : goal.statement-returns-in-Switch
@@ -146,15 +157,17 @@ statement-returns-in_ok-misplaced-in-Labeled t c =
     let s = c.in-Labeled.s in
     rw (c.in-Labeled.is, labeled_view ls s, misplaced_labels c.args.setting (map label_view ls.items) (statement_view s.value) (progress_view c.args.progress.now), ← c.deref-in-Labeled.ensures.value, ← c.in_ok-misplaced-in-Labeled.ensures, ← c.deref-in-Labeled-2.ensures) c.statement-in-Labeled.ensures
 
-pub statement-returns-in_ok-unless-in-Break : goal.statement-returns-in_ok-unless-in-Break
-statement-returns-in_ok-unless-in-Break t c =
-    rw (c.in-Break.is, break_view c.in-Break.extent) (break_arm c.args.setting c.in-Break.extent (progress_view c.args.progress.now) (progress_view c.unless.new.progress) c.in_ok-unless-in-Break.ensures)
+pub statement-returns-in-Break : goal.statement-returns-in-Break
+statement-returns-in-Break t c =
+    rw (c.in-Break.is, break_view c.in-Break.extent)
+    (IfOk-weaker c.broken.result _ _ (λ r h. h ∙ break_arm c.args.setting c.in-Break.extent (progress_view c.args.progress.now)) c.broken.ensures)
 
-pub statement-returns-in_ok-unless-in-Continue : goal.statement-returns-in_ok-unless-in-Continue
-statement-returns-in_ok-unless-in-Continue t c =
-    rw (c.in-Continue.is, continue_view c.in-Continue.extent) (continue_arm c.args.setting c.in-Continue.extent (progress_view c.args.progress.now) (progress_view c.unless-in-Continue.new.progress) c.in_ok-unless-in-Continue.ensures)
+pub statement-returns-in-Continue : goal.statement-returns-in-Continue
+statement-returns-in-Continue t c =
+    rw (c.in-Continue.is, continue_view c.in-Continue.extent)
+    (IfOk-weaker c.continued.result _ _ (λ r h. h ∙ continue_arm c.args.setting c.in-Continue.extent (progress_view c.args.progress.now)) c.continued.ensures)
 
-pub statement-returns-in_ok-value-in-Return : goal.statement-returns-in_ok-value-in-Return
-statement-returns-in_ok-value-in-Return t c =
+pub statement-returns-in-Return : goal.statement-returns-in-Return
+statement-returns-in-Return t c =
     rw (c.in-Return.is, return_view c.in-Return.extent c.in-Return.value)
-    (return_arm c.args.setting c.in-Return.extent (option_map expression_view c.in-Return.value) (option_map rvalue_view c.in_ok-value-in-Return.value) (progress_view c.args.progress.now) (progress_view c.return_value.new.progress) c.in_ok-value-in-Return.ensures)
+    (IfOk-weaker c.returned.result _ _ (λ r h. h ∙ return_arm c.args.setting c.in-Return.extent (option_map expression_view c.in-Return.value) (progress_view c.args.progress.now)) c.returned.ensures)

@@ -7,17 +7,25 @@ use Rattle.command_line.specs.Job.{attach_given}
 use Rattle.session.proofs.Sessions.{attached, played_same}
 use Rattle.session.proofs.attaching.attach.Goals as goal
 
-pub returns-clause-part : goal.returns-clause-part
-returns-clause-part g c = λ cut told told_sink.
-    let limit : c.from-limit.result ≡ (attach_given c.args.job.now).limit = search rules in
-    let prints = attached c.in-Ok-read_image.image c.in-Ok-read_script.commands c.deref.result.now c.deref-2.result.now c.in-Ok.texts.input.items (g.S.Shelf.held c.args.shelf.now) (attach_given c.args.job.now)
-    c.in-Ok-read_image.ensures c.in-Ok-read_script.ensures
-    (c.in-Ok.ensures.image told ∙ ap Some (sym c.deref.ensures.value))
-    (c.in-Ok.ensures.script told ∙ ap Some (sym c.deref-2.ensures.value))
-    (c.in-Ok.ensures.input told) in
-    let same = played_same (form c.in-Ok-read_image.image) c.deref-3.result.now c.in-Ok-read_script.commands.items c.in-Ok.texts.input.items c.deref-4.result.now c.from-limit.result (attach_given c.args.job.now).limit c.deref-3.ensures.value c.deref-4.ensures.value limit in
-    inr (record {
-      printed = transcript_bytes (form c.in-Ok-read_image.image) (orders c.in-Ok-read_script.commands.items) c.in-Ok.texts.input.items (attach_given c.args.job.now).limit;
-      prints = prints;
-      part = subst (λ p. TakesPart p (g.K.Sink.taken c.args.sink.now) (g.K.Sink.taken c.play.new.sink)) same (c.in-Err-play.ensures.part told_sink);
-    })
+pub returns : goal.returns
+returns g c = record {
+  caused = search rules;
+  stays = search rules;
+  image = search rules;
+  transcript = record {
+    part = λ cut told told_sink.
+        let limit : c.from-limit.result ≡ (attach_given c.args.job.now).limit = search rules in
+        let prints = attached c.in-Ok-read_image.image c.in-Ok-read_script.commands c.deref.result.now c.deref-2.result.now c.in-Ok.texts.input.items (g.S.Shelf.held c.args.shelf.now) (attach_given c.args.job.now)
+        c.in-Ok-read_image.ensures c.in-Ok-read_script.ensures
+        (c.in-Ok.ensures.image told ∙ ap Some (sym c.deref.ensures.value))
+        (c.in-Ok.ensures.script told ∙ ap Some (sym c.deref-2.ensures.value))
+        (c.in-Ok.ensures.input told) in
+        let same = played_same (form c.in-Ok-read_image.image) c.deref-3.result.now c.in-Ok-read_script.commands.items c.in-Ok.texts.input.items c.deref-4.result.now c.from-limit.result (attach_given c.args.job.now).limit c.deref-3.ensures.value c.deref-4.ensures.value limit in
+        inr (record {
+          printed = transcript_bytes (form c.in-Ok-read_image.image) (orders c.in-Ok-read_script.commands.items) c.in-Ok.texts.input.items (attach_given c.args.job.now).limit;
+          prints = prints;
+          part = subst (λ p. TakesPart p (g.K.Sink.taken c.args.sink.now) (g.K.Sink.taken c.play.new.sink)) same (c.in-Err-play.ensures.part told_sink);
+        });
+    done = search rules;
+  };
+}

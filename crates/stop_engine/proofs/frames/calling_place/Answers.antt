@@ -2,7 +2,7 @@ use Rattle.std.proofs.Common.{◌+◌, sym, subst, ◌∙◌}
 use Rattle.image_form.specs.Form.{form}
 use Rattle.image_form.specs.RulesOfFunctions.{IsPlaceNumber}
 use Rattle.rv_machine.specs.State.{word}
-use Rattle.stop_engine.proofs.Callers.{owner_number}
+use Rattle.stop_view.proofs.Callers.{owner_number}
 use Rattle.stop_engine.proofs.frames.calling_place.Goals as goal
 
 pub returns-clause-number : goal.returns-clause-number

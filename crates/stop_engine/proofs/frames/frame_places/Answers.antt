@@ -2,8 +2,8 @@ use Rattle.std.proofs.Common.{◌≡◌, suc, ◌+◌, ◌-◌, ◌++◌, sym, s
 use Rattle.image_form.specs.Form.{form}
 use Rattle.image_form.specs.RulesOfFunctions.{IsPlaceNumber}
 use Rattle.rv_machine.specs.State.{word}
-use Rattle.stop_engine.specs.Reading.{frames, frames_from}
-use Rattle.stop_engine.proofs.Callers.{all_more, frames_last, frames_more}
+use Rattle.stop_view.specs.Reading.{frames, frames_from}
+use Rattle.stop_view.proofs.Callers.{all_more, frames_last, frames_more}
 use Rattle.stop_engine.proofs.frames.frame_places.Goals as goal
 
 pub returns-then-caller-eq0-clause-places : goal.returns-then-caller-eq0-clause-places

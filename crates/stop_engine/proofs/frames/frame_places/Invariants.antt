@@ -1,7 +1,7 @@
 use Rattle.std.proofs.Common.{◌≡◌, ◌++◌, All}
 use Rattle.image_form.specs.Form.{form}
 use Rattle.image_form.specs.RulesOfFunctions.{IsPlaceNumber}
-use Rattle.stop_engine.specs.Reading.{frames, frames_from}
+use Rattle.stop_view.specs.Reading.{frames, frames_from}
 use Rattle.stop_engine.proofs.frames.frame_places.Given as goal
 
 abbrev pub invariant-loop-left : goal.invariant-loop-left

@@ -2,8 +2,8 @@ use Rattle.std.proofs.Common.{◌≡◌}
 use Rattle.image_form.specs.Form.{form}
 use Rattle.image_form.specs.RulesOfFunctions.{IsPlaceNumber}
 use Rattle.rv_machine.specs.State.{reg}
-use Rattle.stop_engine.specs.Pointers.{stack_target}
-use Rattle.stop_engine.specs.Reading.{depth, greatest_depth}
+use Rattle.stop_view.specs.Pointers.{stack_target}
+use Rattle.stop_view.specs.Reading.{depth, greatest_depth}
 use Rattle.stop_engine.proofs.pointers.stack_target.Given as goal
 
 abbrev pub invariant-loop-left : goal.invariant-loop-left

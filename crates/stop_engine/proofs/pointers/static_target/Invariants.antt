@@ -1,5 +1,5 @@
 use Rattle.std.proofs.Common.{◌≡◌, ◌≤◌, drop}
-use Rattle.stop_engine.specs.Pointers.{static_target}
+use Rattle.stop_view.specs.Pointers.{static_target}
 use Rattle.stop_engine.proofs.pointers.static_target.Given as goal
 
 abbrev pub invariant-loop-index : goal.invariant-loop-index

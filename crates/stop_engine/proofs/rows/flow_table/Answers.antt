@@ -1,7 +1,7 @@
 use Rattle.std.proofs.Common.{sym, subst, ap, ◌∙◌, map}
 use Rattle.places.specs.Flow.{AreInOrder}
-use Rattle.stop_engine.specs.Rows.{assignment_of, step_of}
-use Rattle.stop_engine.proofs.FlowOrder.{steps_in_order}
+use Rattle.stop_view.specs.Evidence.{assignment_of, step_of}
+use Rattle.stop_view.proofs.FlowOrder.{steps_in_order}
 use Rattle.stop_engine.proofs.rows.flow_table.Goals as goal
 
 pub returns-clause-flow : goal.returns-clause-flow

@@ -2,8 +2,8 @@ use Rattle.std.proofs.Common.{◌≡◌, ℕ, suc, ◌-◌, ◌++◌, map, subst
 use Rattle.std.specs.Prelude.{Vec}
 use Rattle.std.specs.Global.{Global}
 use Rattle.image_form.specs.Form.{form}
-use Rattle.stop_engine.specs.Values.{element_texts}
-use Rattle.stop_engine.proofs.Elements.{elements_more}
+use Rattle.stop_view.specs.Values.{element_texts}
+use Rattle.stop_view.proofs.Elements.{elements_more}
 use Rattle.stop_engine.proofs.values.element_texts.Goals as goal
 
 pub loop-left-preserved : goal.loop-left-preserved

@@ -2,7 +2,7 @@ use Rattle.std.proofs.Common.{◌≡◌, ℕ, ◌++◌, map}
 use Rattle.std.specs.Prelude.{Vec}
 use Rattle.std.specs.Global.{Global}
 use Rattle.image_form.specs.Form.{form}
-use Rattle.stop_engine.specs.Values.{element_texts}
+use Rattle.stop_view.specs.Values.{element_texts}
 use Rattle.stop_engine.proofs.values.element_texts.Given as goal
 
 abbrev pub invariant-loop-left : goal.invariant-loop-left

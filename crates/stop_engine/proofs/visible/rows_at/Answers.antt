@@ -4,8 +4,8 @@ use Rattle.std.proofs.lemmas.List.Sorted.{IsNonDecreasingBy-drop, IsPartitionPoi
 use Rattle.image_form.specs.Form.{form}
 use Rattle.image_form.specs.declared.verdicts.VisibleRow.{VisibleRow}
 use Rattle.stop_engine.specs.Rows.{IsRow}
-use Rattle.stop_engine.specs.Visible.{rows_at}
-use Rattle.stop_engine.proofs.RowsByPlace.{all_of_place, each_of_place, places_ascend, side_by_side, tail_is_drop}
+use Rattle.stop_view.specs.Rows.{rows_at}
+use Rattle.stop_view.proofs.RowsByPlace.{all_of_place, each_of_place, places_ascend, side_by_side, tail_is_drop}
 use Rattle.stop_engine.proofs.ValidRows.{rows_valid}
 use Rattle.stop_engine.proofs.visible.rows_at.Goals as goal
 

@@ -8,33 +8,34 @@ use Rattle.graph_core.specs.declared.unit.Bytes as declared-bytes
 use Rattle.graph_core.specs.declared.validity.Counted.TheVariants.{Instructions, Arguments, Markers}
 use Rattle.graph_core.specs.Graphs.{Graph, bytes_view, graph_view, static_view, unit_view}
 use Rattle.graph_core.specs.Memory.{static_bytes}
+use Rattle.graph_core.specs.Bounds.{most_functions, most_instructions, most_blocks, most_markers, most_arguments, most_static_bytes}
 use Rattle.graph_core.specs.Counts.{KeepsCounts, count_in_graphs}
 use Rattle.graph_core.specs.Validity.{markers_of, taken_by, total}
 use Rattle.graph_core.proofs.Once.{markers_counted}
 use Rattle.graph_core.proofs.unit.Unit.keeps_counts.Goals as goal
 
-pub returns-then-count_in_graphs-gt8000 : goal.returns-then-count_in_graphs-gt8000
-returns-then-count_in_graphs-gt8000 c =
+pub returns-then-count_in_graphs-gt-MAX_INSTRUCTIONS : goal.returns-then-count_in_graphs-gt-MAX_INSTRUCTIONS
+returns-then-count_in_graphs-gt-MAX_INSTRUCTIONS c =
     let u = unit_view c.args.self.now in
     let same : c.count_in_graphs.result ≡ min (count_in_graphs Instructions u.graphs) (2 ^ 64 - 1) =
     c.count_in_graphs.ensures ∙ ap (λ (all : List declared-graph.Graph). min (count_in_graphs Instructions (map graph_view all)) (2 ^ 64 - 1)) c.deref-2.ensures.value in
-    let over : KeepsCounts u → ⊥ = λ (k : KeepsCounts u). (let few : count_in_graphs Instructions u.graphs ≤ 8000 = k.instructions in omega (arith, few, same)) in
+    let over : KeepsCounts u → ⊥ = λ (k : KeepsCounts u). (let few : count_in_graphs Instructions u.graphs ≤ most_instructions = k.instructions in omega (arith, few, same)) in
     (λ (t : false ≡ true). cc, λ (k : KeepsCounts u). absurd (over k))
 
-pub returns-then-count_in_graphs-gt4000 : goal.returns-then-count_in_graphs-gt4000
-returns-then-count_in_graphs-gt4000 c =
+pub returns-then-count_in_graphs-gt-MAX_MARKERS : goal.returns-then-count_in_graphs-gt-MAX_MARKERS
+returns-then-count_in_graphs-gt-MAX_MARKERS c =
     let u = unit_view c.args.self.now in
     let same : c.count_in_graphs-2.result ≡ min (count_in_graphs Markers u.graphs) (2 ^ 64 - 1) =
     c.count_in_graphs-2.ensures ∙ ap (λ (all : List declared-graph.Graph). min (count_in_graphs Markers (map graph_view all)) (2 ^ 64 - 1)) c.deref-3.ensures.value in
-    let over : KeepsCounts u → ⊥ = λ (k : KeepsCounts u). (let few : length (markers_of u.graphs) ≤ 4000 = k.markers in omega (arith, few, same, markers_counted u.graphs)) in
+    let over : KeepsCounts u → ⊥ = λ (k : KeepsCounts u). (let few : length (markers_of u.graphs) ≤ most_markers = k.markers in omega (arith, few, same, markers_counted u.graphs)) in
     (λ (t : false ≡ true). cc, λ (k : KeepsCounts u). absurd (over k))
 
-pub returns-then-count_in_graphs-gt4000-2 : goal.returns-then-count_in_graphs-gt4000-2
-returns-then-count_in_graphs-gt4000-2 c =
+pub returns-then-count_in_graphs-gt-MAX_ARGUMENTS : goal.returns-then-count_in_graphs-gt-MAX_ARGUMENTS
+returns-then-count_in_graphs-gt-MAX_ARGUMENTS c =
     let u = unit_view c.args.self.now in
     let same : c.count_in_graphs-3.result ≡ min (count_in_graphs Arguments u.graphs) (2 ^ 64 - 1) =
     c.count_in_graphs-3.ensures ∙ ap (λ (all : List declared-graph.Graph). min (count_in_graphs Arguments (map graph_view all)) (2 ^ 64 - 1)) c.deref-4.ensures.value in
-    let over : KeepsCounts u → ⊥ = λ (k : KeepsCounts u). (let few : count_in_graphs Arguments u.graphs ≤ 4000 = k.arguments in omega (arith, few, same)) in
+    let over : KeepsCounts u → ⊥ = λ (k : KeepsCounts u). (let few : count_in_graphs Arguments u.graphs ≤ most_arguments = k.arguments in omega (arith, few, same)) in
     (λ (t : false ≡ true). cc, λ (k : KeepsCounts u). absurd (over k))
 
 pub returns : goal.returns
@@ -53,13 +54,13 @@ returns c =
     c.taken_by_statics.ensures ∙ ap (λ (all : List declared-static.StaticObject). min (total (λ o. taken_by (static_bytes o)) (map static_view all)) (2 ^ 64 - 1)) c.deref-5.ensures.value in
     let bytes : c.taken_by_bytes.result ≡ min (total (λ b. taken_by (length b)) u.array_bytes) (2 ^ 64 - 1) =
     c.taken_by_bytes.ensures ∙ ap (λ (all : List declared-bytes.Bytes). min (total (λ b. taken_by (length b)) (map bytes_view all)) (2 ^ 64 - 1)) c.deref-6.ensures.value in
-    let few : length u.graphs ≤ 256 = grind (arith, length-map) in
-    let some_instructions : count_in_graphs Instructions u.graphs ≤ 8000 = omega (arith, one) in
-    let some_markers : length (markers_of u.graphs) ≤ 4000 = omega (arith, two, markers_counted u.graphs) in
-    let some_arguments : count_in_graphs Arguments u.graphs ≤ 4000 = omega (arith, three) in
-    let some_blocks : total (λ (g : Graph). length g.blocks) u.graphs ≤ 12000 = omega (arith, blocks) in (
+    let few : length u.graphs ≤ most_functions = grind (arith, length-map) in
+    let some_instructions : count_in_graphs Instructions u.graphs ≤ most_instructions = omega (arith, one) in
+    let some_markers : length (markers_of u.graphs) ≤ most_markers = omega (arith, two, markers_counted u.graphs) in
+    let some_arguments : count_in_graphs Arguments u.graphs ≤ most_arguments = omega (arith, three) in
+    let some_blocks : total (λ (g : Graph). length g.blocks) u.graphs ≤ most_blocks = omega (arith, blocks) in (
       λ t.
-          let le : c.saturating_add.result ≤ 1048576 = leb-true c.saturating_add.result 1048576 t in
+          let le : c.saturating_add.result ≤ most_static_bytes = leb-true c.saturating_add.result most_static_bytes t in
           record {
             functions = few;
             instructions = some_instructions;
@@ -69,7 +70,7 @@ returns c =
             statics = omega (arith, le, statics, bytes, c.saturating_add.ensures);
           },
       λ (k : KeepsCounts u).
-          let sum : total (λ o. taken_by (static_bytes o)) u.statics + total (λ b. taken_by (length b)) u.array_bytes ≤ 1048576 = k.statics in
-          let le : c.saturating_add.result ≤ 1048576 = omega (arith, sum, statics, bytes, c.saturating_add.ensures) in
+          let sum : total (λ o. taken_by (static_bytes o)) u.statics + total (λ b. taken_by (length b)) u.array_bytes ≤ most_static_bytes = k.statics in
+          let le : c.saturating_add.result ≤ most_static_bytes = omega (arith, sum, statics, bytes, c.saturating_add.ensures) in
           grind (arith, nat_tests),
     )

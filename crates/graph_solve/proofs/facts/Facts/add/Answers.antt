@@ -1,6 +1,6 @@
 use Rattle.std.proofs.Common.{ap, ◌∙◌}
 use Rattle.std.specs.FinSet.{insert}
-use Rattle.graph_solve.proofs.Sets.{added}
+use Rattle.graph_solve.proofs.Trees.{added}
 use Rattle.graph_solve.proofs.facts.Facts.add.Goals as goal
 
 pub returns-clause-added : goal.returns-clause-added

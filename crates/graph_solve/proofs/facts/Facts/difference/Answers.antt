@@ -1,6 +1,6 @@
 use Rattle.std.proofs.Common.{ap, nat_cmp, ◌∙◌}
 use Rattle.std.specs.FinSet.{difference, from_list}
-use Rattle.graph_solve.proofs.Sets.{left_over, clones_equal}
+use Rattle.graph_solve.proofs.Trees.{left_over, clones_equal}
 use Rattle.graph_solve.proofs.facts.Facts.difference.Goals as goal
 
 pub returns : goal.returns

@@ -1,6 +1,6 @@
 use Rattle.std.proofs.Common.{ap, sym, ◌∙◌}
 use Rattle.std.specs.FinSet.{contains}
-use Rattle.graph_solve.proofs.Sets.{seen}
+use Rattle.graph_solve.proofs.Trees.{seen}
 use Rattle.graph_solve.proofs.facts.Facts.has.Goals as goal
 
 pub returns : goal.returns

@@ -1,6 +1,6 @@
 use Rattle.std.proofs.Common.{ap, nat_cmp, ◌∙◌}
 use Rattle.std.specs.FinSet.{intersection, from_list}
-use Rattle.graph_solve.proofs.Sets.{shared, clones_equal}
+use Rattle.graph_solve.proofs.Trees.{shared, clones_equal}
 use Rattle.graph_solve.proofs.facts.Facts.intersection.Goals as goal
 
 pub returns : goal.returns

@@ -1,5 +1,5 @@
 use Rattle.std.proofs.Common.{sym, ◌∙◌, true≢false}
-use Rattle.graph_solve.proofs.Sets.{equal, subset}
+use Rattle.graph_solve.proofs.Trees.{equal, subset}
 use Rattle.graph_solve.proofs.facts.Facts.is_same.Goals as goal
 
 pub returns-then-is_subset : goal.returns-then-is_subset

@@ -1,6 +1,6 @@
 use Rattle.std.proofs.Common.{ap, ◌∙◌}
 use Rattle.std.specs.FinSet.{remove}
-use Rattle.graph_solve.proofs.Sets.{removed}
+use Rattle.graph_solve.proofs.Trees.{removed}
 use Rattle.graph_solve.proofs.facts.Facts.remove.Goals as goal
 
 pub returns : goal.returns

@@ -1,6 +1,6 @@
 use Rattle.std.proofs.Common.{ap, nat_cmp, ◌∙◌}
 use Rattle.std.specs.FinSet.{union, from_list}
-use Rattle.graph_solve.proofs.Sets.{united, clones_equal}
+use Rattle.graph_solve.proofs.Trees.{united, clones_equal}
 use Rattle.graph_solve.proofs.facts.Facts.union.Goals as goal
 
 pub returns : goal.returns

@@ -11,16 +11,16 @@ index-start-requires c =
     let within = starts-within _ (λ (x : Variable). x.name_length) (form c.args.image.now).variables c.args.number c.args.self.now.variables.items c.requires.starts.variables c.requires.number in
     omega (arith, within)
 
-pub piece-requires : goal.piece-requires
-piece-requires c =
+pub name_at-requires : goal.name_at-requires
+name_at-requires c =
     let m = form c.args.image.now in
     let start : c.index-start.result.now ≡ sum (map (λ (f : Function). f.name_length) m.functions) + sum (map (λ (x : Variable). x.name_length) (take c.args.number m.variables)) =
     c.index-start.ensures ∙ starts-of _ (λ (x : Variable). x.name_length) m.variables c.args.number _ c.args.self.now.variables.items c.requires.starts.variables c.requires.number in
-    rw (c.deref.ensures.value, start, c.index.ensures) (variable_name-ends m c.args.number c.index.result.now c.requires.image c.requires.number)
+    rw (start, c.index.ensures) (variable_name-ends m c.args.number c.index.result.now c.requires.image c.requires.number)
 
 pub returns : goal.returns
 returns c =
     let m = form c.args.image.now in
     let start : c.index-start.result.now ≡ sum (map (λ (f : Function). f.name_length) m.functions) + sum (map (λ (x : Variable). x.name_length) (take c.args.number m.variables)) =
     c.index-start.ensures ∙ starts-of _ (λ (x : Variable). x.name_length) m.variables c.args.number _ c.args.self.now.variables.items c.requires.starts.variables c.requires.number in
-    rw (c.piece.ensures, c.deref.ensures.value, start, c.index.ensures) (variable_name-piece m c.args.number c.index.result.now c.requires.number)
+    rw (c.name_at.ensures, start, c.index.ensures) (variable_name-piece m c.args.number c.index.result.now c.requires.number)

@@ -1,0 +1,2 @@
+mod AdditionImage
+mod CallingImage

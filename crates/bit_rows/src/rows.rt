@@ -1,0 +1,111 @@
+//! Rows of bits.
+
+ghost use Rattle.std.specs.Prelude.{◌≡◌, ◌<◌, ◌↔◌, false, true, length, IfOk, replicate, slice_set};
+ghost use Rattle.bit_rows.specs.Grid.{is_set, met, passed, row_at, with_bit};
+
+use crate::words::{meet_words, pass_words};
+use std::alloc::{AllocError, Global};
+use std::marker::Model;
+
+/// Rows of bits, all of one width. A row is a set of the numbers below the width.
+#[derive(Drop)]
+pub struct Rows {
+    words: Vec<u64>,
+    /// Words of a row.
+    stride: usize,
+    width: u32,
+    rows: u32,
+}
+
+impl Model for Rows {
+    ghost use Rattle.std.specs.Prelude.{Bool, List};
+    ghost use Rattle.bit_rows.specs.Words.{AreRows, rows_in};
+
+    ghost Value = { List (List Bool) };
+
+    ghost view = { λ all. rows_in all.words.items all.stride all.width all.rows };
+
+    ghost invariant = { λ all. AreRows all.words.items all.stride all.width all.rows };
+}
+
+impl Rows {
+    /// So many rows of this width, with all bits clear.
+    pub fn new(alloc: Global, rows: u32, width: u32) -> Result<Rows, AllocError>
+        ensures { IfOk result (λ made. made ≡ replicate rows (replicate width false)) }
+    {
+        let stride = (width as usize + 63) / 64;
+        let words = vec![in alloc; 0u64; rows as usize * stride]?;
+        Ok(Rows {
+            words,
+            stride,
+            width,
+            rows,
+        })
+    }
+
+    /// Sets a bit.
+    pub fn set(&mut self, row: u32, bit: u32)
+        requires row { row < length self.old }
+        requires bit { bit < length (row_at self.old row) }
+        ensures { self.new ≡ with_bit self.old row bit true }
+    {
+        let word = row as usize * self.stride + bit as usize / 64;
+        self.words[word] |= 1u64 << (bit % 64);
+    }
+
+    /// Clears a bit.
+    pub fn clear(&mut self, row: u32, bit: u32)
+        requires row { row < length self.old }
+        requires bit { bit < length (row_at self.old row) }
+        ensures { self.new ≡ with_bit self.old row bit false }
+    {
+        let word = row as usize * self.stride + bit as usize / 64;
+        self.words[word] &= !(1u64 << (bit % 64));
+    }
+
+    /// Whether a bit is set.
+    pub fn get(&self, row: u32, bit: u32) -> bool
+        requires row { row < length self.now }
+        requires bit { bit < length (row_at self.now row) }
+        ensures { result ≡ is_set self.now row bit }
+    {
+        let word = self.words[row as usize * self.stride + bit as usize / 64];
+        (word >> (bit % 64)) & 1 == 1
+    }
+
+    /// Makes row `to` the union, without `unite` the intersection, of the two rows. Tells whether it changed.
+    pub fn meet_into(&mut self, from: u32, to: u32, unite: bool) -> bool
+        requires from { from < length self.old }
+        requires to { to < length self.old }
+        ensures met { self.new ≡ slice_set self.old to (met unite (row_at self.old from) (row_at self.old to)) }
+        ensures changed { (result ≡ false) ↔ (self.new ≡ self.old) }
+    {
+        let from = from as usize * self.stride;
+        let to = to as usize * self.stride;
+        meet_words(&mut self.words, from, to, self.stride, unite)
+    }
+
+    /// Makes row `to` what this row of `kept` keeps of row `from`, with the bits of this row of `written`.
+    pub fn pass_into(&mut self, from: u32, to: u32, kept: &Rows, written: &Rows, row: u32)
+        requires from { from < length self.old }
+        requires to { to < length self.old }
+        requires kept { row < length kept.now }
+        requires written { row < length written.now }
+        requires kept_width { length (row_at kept.now row) ≡ length (row_at self.old from) }
+        requires written_width { length (row_at written.now row) ≡ length (row_at self.old from) }
+        ensures { self.new ≡ slice_set self.old to (passed (row_at self.old from) (row_at kept.now row) (row_at written.now row)) }
+    {
+        let from = from as usize * self.stride;
+        let to = to as usize * self.stride;
+        let row = row as usize * self.stride;
+        pass_words(
+            &mut self.words,
+            from,
+            to,
+            &kept.words,
+            &written.words,
+            row,
+            self.stride,
+        );
+    }
+}

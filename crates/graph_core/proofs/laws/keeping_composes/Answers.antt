@@ -1,5 +1,0 @@
-use Rattle.graph_core.proofs.Keeping.{keeps_itself, keeps_through}
-use Rattle.graph_core.proofs.laws.keeping_composes.Goals as goal
-
-pub returns : goal.returns
-returns c = record { itself = keeps_itself; through = keeps_through }

@@ -1,0 +1,53 @@
+//! A solution in rows of bits.
+
+ghost use Rattle.std.specs.Prelude.{◌≡◌, ℕ, ◌+◌, ◌<◌, ◌^◌, length};
+ghost use Rattle.bit_rows.specs.Grid.{row_at};
+
+use crate::facts::Facts;
+use crate::sets::sets_of;
+use bit_rows::Rows;
+use std::alloc::{AllocError, Global};
+
+/// For each block the facts at its start and at its end.
+#[derive(Drop)]
+pub struct Solution {
+    pub starts: Vec<Facts>,
+    pub ends: Vec<Facts>,
+}
+
+/// Rows of bits that solve a problem: for each block what comes to it along paths, and then for each what it makes of it.
+#[derive(Drop)]
+pub struct SolvedRows {
+    pub(crate) rows: Rows,
+    pub(crate) blocks: u32,
+    pub(crate) width: u32,
+    pub(crate) forward: bool,
+    ghost each: { length rows ≡ blocks + blocks },
+    ghost few: { blocks + blocks < 2 ^ 32 },
+    ghost wide: { (row : ℕ) → row < length rows → length (row_at rows row) ≡ width },
+}
+
+impl SolvedRows {
+    ghost use Rattle.std.specs.Prelude.{IfOk};
+    ghost use Rattle.graph_solve.specs.Solved.{ends_of, starts_of};
+
+    /// The same as sets.
+    pub fn solution(&self, alloc: Global) -> Result<Solution, AllocError>
+        ensures starts { IfOk result (λ solution. solution.starts.items ≡ starts_of self.now) }
+        ensures ends { IfOk result (λ solution. solution.ends.items ≡ ends_of self.now) }
+    {
+        let met = sets_of(alloc, &self.rows, 0, self.blocks, self.width)?;
+        let made = sets_of(alloc, &self.rows, self.blocks, self.blocks, self.width)?;
+        if self.forward {
+            Ok(Solution {
+                starts: met,
+                ends: made,
+            })
+        } else {
+            Ok(Solution {
+                starts: made,
+                ends: met,
+            })
+        }
+    }
+}

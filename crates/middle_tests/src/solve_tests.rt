@@ -1,0 +1,216 @@
+//! Values worked by hand: the meet over all paths of a graph with cycles, and the live names of a loop.
+
+ghost use Rattle.std.specs.Prelude.{◌≡◌, ◌==◌, IfOk, cond, true, false};
+ghost use Rattle.std.specs.FinSet.{empty};
+ghost use Rattle.graph_solve.specs.Numbers.{IsBelow, made_of, numbers_below};
+ghost use Rattle.graph_solve.specs.SetLaws.{below_empty, below_made, made_of_both, not_below};
+ghost use Rattle.graph_solve.specs.SetProblems.{every_path};
+
+use debug_records::Place;
+use graph_core::{Block, Comparison, End, Graph, Instr, Label, Name, NoteValue, Operand, Recipe};
+use graph_solve::{Facts, Problem, live, solve, targets_are_within};
+use std::alloc::{AllocError, Global};
+use std::process::Abort;
+use std::test::Fail;
+use word_base::Operation;
+
+/// Whether each path passed block 1, and not block 2 since then: the fact 0.
+#[derive(Drop)]
+struct Passed {
+    forward: bool,
+}
+
+impl Problem for Passed {
+    ghost flow = { λ passed. every_path passed.forward 1 empty
+        (λ block given. made_of (cond (block == 1) (numbers_below 1) empty) (cond (block == 2) (numbers_below 1) empty) given)
+        (below_empty 1)
+        (λ block given below. below_made 1 (cond (block == 1) (numbers_below 1) empty) (cond (block == 2) (numbers_below 1) empty) given (elim (block == 1) as (λ b. IsBelow 1 (cond b (numbers_below 1) empty)) [ true ↦ not_below 1 | false ↦ below_empty 1 ]) below)
+        (λ block s t. made_of_both (cond (block == 1) (numbers_below 1) empty) (cond (block == 2) (numbers_below 1) empty) s t) };
+
+    fn forward(&self) -> bool {
+        self.forward
+    }
+
+    fn height(&self) -> u32 {
+        1
+    }
+
+    fn edge(&self, alloc: Global) -> Result<Facts, AllocError> {
+        Ok(Facts::new(alloc))
+    }
+
+    fn top(&self, alloc: Global) -> Result<Facts, AllocError> {
+        let mut all = Facts::new(alloc);
+        all.add(0)?;
+        Ok(all)
+    }
+
+    fn meet(&self, _alloc: Global, a: &Facts, b: &Facts) -> Result<Facts, AllocError> {
+        a.intersection(b)
+    }
+
+    fn transfer(&self, alloc: Global, block: u32, value: &Facts) -> Result<Facts, AllocError> {
+        let made = fact_if(alloc, block == 1)?;
+        let lost = fact_if(alloc, block == 2)?;
+        let kept = value.difference(&lost)?;
+        made.union(&kept)
+    }
+}
+
+/// The fact 0, or none.
+fn fact_if(alloc: Global, is: bool) -> Result<Facts, AllocError>
+    ensures { IfOk result (λ facts. facts ≡ cond is (numbers_below 1) empty) }
+{
+    let mut facts = Facts::new(alloc);
+    if is {
+        facts.add(0)?;
+    }
+    Ok(facts)
+}
+
+/// Whether the fact is in the value of the block.
+fn has(values: &[Facts], block: usize, fact: u32) -> bool {
+    match values.get(block) {
+        Some(facts) => facts.has(fact),
+        None => false,
+    }
+}
+
+fn jump(to: u32) -> End {
+    End::Jump(Label(to))
+}
+
+fn branch(left: Operand, right: Operand, then: u32, otherwise: u32) -> End {
+    End::Branch {
+        comparison: Comparison::Less,
+        left,
+        right,
+        then: Label(then),
+        otherwise: Label(otherwise),
+    }
+}
+
+fn block(instructions: Vec<Instr>, end: End) -> Block {
+    Block {
+        place: None,
+        instructions,
+        end,
+    }
+}
+
+fn graph(alloc: Global, blocks: Vec<Block>) -> Graph {
+    Graph {
+        entry: Place(1),
+        parameters: Vec::new(alloc),
+        scalars: Vec::new(alloc),
+        objects: Vec::new(alloc),
+        name_count: 4,
+        first_moved: 4,
+        blocks,
+    }
+}
+
+/// A cycle of the blocks 1 and 3, by which the way 0, 2, 4 does not go; the blocks 5 and 6 are a cycle that nothing reaches.
+fn two_cycles(alloc: Global) -> Result<Graph, AllocError> {
+    let zero = Operand::Constant(0);
+    let blocks = vec![in alloc;
+        block(Vec::new(alloc), branch(zero, zero, 1, 2)),
+        block(Vec::new(alloc), jump(3)),
+        block(Vec::new(alloc), jump(4)),
+        block(Vec::new(alloc), branch(zero, zero, 1, 4)),
+        block(Vec::new(alloc), End::Return(None)),
+        block(Vec::new(alloc), jump(6)),
+        block(Vec::new(alloc), jump(5)),
+    ]?;
+    Ok(graph(alloc, blocks))
+}
+
+/// In which blocks a fact is wanted.
+fn assert_has(rt: &impl Abort, values: &[Facts], fact: u32, wanted: &[bool], shows: &str) {
+    for (block, is_wanted) in wanted.iter().enumerate() {
+        assert!(rt;
+            has(values, block, fact) == *is_wanted,
+            "{fact} at {shows} of {block}"
+        );
+    }
+}
+
+/// Whether the problem goes forward, and in which blocks the fact is wanted at the start, and at the end.
+static EVERY_PATH: [(bool, [bool; 7], [bool; 7]); 2] = [
+    (
+        true,
+        [false, false, false, true, false, true, true],
+        [false, true, false, true, false, true, true],
+    ),
+    (
+        false,
+        [false, true, false, false, false, true, true],
+        [false, false, false, false, false, true, true],
+    ),
+];
+
+#[test]
+fn every_path_counts(rt: HostRuntime) -> Result<(), Fail> {
+    let graph = two_cycles(rt.alloc())?;
+    assert!(rt; graph.blocks.len() < 100);
+    assert!(rt; targets_are_within(&graph));
+    for (forward, starts, ends) in &EVERY_PATH {
+        let problem = Passed { forward: *forward };
+        let solution = solve(rt.alloc(), &graph, &problem)?;
+        assert_has(&rt, &solution.starts, 0, starts.as_slice(), "the start");
+        assert_has(&rt, &solution.ends, 0, ends.as_slice(), "the end");
+    }
+    Ok(())
+}
+
+/// `a = 5; while (a < b) a = a + b; return a;` with a note of the name 2, where a and b are the names 0 and 1.
+fn loop_graph(alloc: Global) -> Result<Graph, AllocError> {
+    let a = Operand::Name(Name(0));
+    let b = Operand::Name(Name(1));
+    let first = vec![in alloc;
+        Instr::Move {
+            target: Name(0),
+            from: Operand::Constant(5)
+        },
+    ]?;
+    let body = vec![in alloc;
+        Instr::Note {
+            of: Name(2),
+            value: NoteValue::Is(Recipe::of_name(Name(3)))
+        },
+        Instr::Operate {
+            target: Name(0),
+            operation: Operation::Add,
+            left: a,
+            right: b
+        },
+    ]?;
+    let blocks = vec![in alloc;
+        block(first, jump(1)),
+        block(Vec::new(alloc), branch(a, b, 2, 3)),
+        block(body, jump(1)),
+        block(Vec::new(alloc), End::Return(Some(a))),
+    ]?;
+    Ok(graph(alloc, blocks))
+}
+
+/// In which blocks each of the four names is live at the start, and at the end.
+static LIVE: [([bool; 4], [bool; 4]); 4] = [
+    ([false, true, true, true], [true, true, true, false]),
+    ([true, true, true, false], [true, true, true, false]),
+    ([false, false, false, false], [false, false, false, false]),
+    ([false, false, false, false], [false, false, false, false]),
+];
+
+#[test]
+fn names_are_live_until_they_are_read_last(rt: HostRuntime) -> Result<(), Fail> {
+    let graph = loop_graph(rt.alloc())?;
+    assert!(rt; graph.blocks.len() < 100);
+    assert!(rt; targets_are_within(&graph));
+    let solution = live(rt.alloc(), &graph)?;
+    for (name, (starts, ends)) in (0..4u32).zip(&LIVE) {
+        assert_has(&rt, &solution.starts, name, starts.as_slice(), "the start");
+        assert_has(&rt, &solution.ends, name, ends.as_slice(), "the end");
+    }
+    Ok(())
+}

@@ -1,0 +1,6 @@
+pub mod Callers
+pub mod Elements
+pub mod FlowOrder
+pub mod PlacesByAddress
+pub mod RowsByPlace
+pub mod Targets

@@ -1,0 +1,9 @@
+pub mod Callers
+pub mod Evidence
+pub mod Pointers
+pub mod Reading
+pub mod Recipes
+pub mod Rows
+pub mod Run
+pub mod Values
+pub mod Words
