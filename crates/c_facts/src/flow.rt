@@ -7,7 +7,7 @@ ghost use Rattle.c_facts.specs.Flow.{exits_of, exits_of_all, has_default, reache
 use c_tree::{TypedStatement, TypedStatements};
 
 /// Where a statement that is entered leads.
-#[derive(Clone, Copy, PartialEq, Eq)]
+#[derive(Clone, Copy)]
 pub struct Exits {
     /// To what follows it.
     pub next: bool,

@@ -13,7 +13,7 @@ use c_tree::{
 use std::alloc::{AllocError, Global};
 
 /// The place at a position assigns an object.
-#[derive(Clone, Copy, PartialEq, Eq)]
+#[derive(Clone, Copy)]
 pub struct Assigned {
     pub at: u32,
     pub object: Object,

@@ -1,7 +1,7 @@
 //! Steps from place to place, by the positions of places.
 
 /// Execution may go from the place at the one position directly to the place at the other.
-#[derive(Clone, Copy, PartialEq, Eq)]
+#[derive(Clone, Copy)]
 pub struct Edge {
     pub from: u32,
     pub to: u32,
@@ -9,7 +9,7 @@ pub struct Edge {
 
 /// Where execution goes from a statement, by the positions of places. There is none where the closing brace of the function would follow and is no place,
 /// and outside of loops by `break` and `continue`.
-#[derive(Clone, Copy, PartialEq, Eq)]
+#[derive(Clone, Copy)]
 pub struct Ways {
     /// To what follows it.
     pub next: Option<u32>,

@@ -17,7 +17,7 @@ pub struct State<'a> {
 }
 
 /// What an expression comes to.
-#[derive(Clone, Copy, PartialEq, Eq)]
+#[derive(Clone, Copy)]
 pub enum Evaluated {
     /// A value.
     Gives(Value),
@@ -28,7 +28,7 @@ pub enum Evaluated {
 }
 
 /// What a statement comes to.
-#[derive(Clone, Copy, PartialEq, Eq)]
+#[derive(Clone, Copy)]
 pub enum Outcome {
     Next,
     Broken,
@@ -38,7 +38,7 @@ pub enum Outcome {
 }
 
 /// What two operands come to.
-#[derive(Clone, Copy, PartialEq, Eq)]
+#[derive(Clone, Copy)]
 pub enum Operands {
     Pair(Value, Value),
     /// The run ends within one.
@@ -46,7 +46,7 @@ pub enum Operands {
 }
 
 /// Whether a value is true.
-#[derive(Clone, Copy, PartialEq, Eq)]
+#[derive(Clone, Copy)]
 pub enum Tested {
     Holds,
     Fails,

@@ -517,7 +517,7 @@ fn execute_return(
 }
 
 /// How a round of a loop ends.
-#[derive(Clone, Copy, PartialEq, Eq)]
+#[derive(Clone, Copy)]
 pub enum Round {
     /// The next round follows.
     Again,

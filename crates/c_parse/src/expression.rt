@@ -12,6 +12,7 @@ use crate::front::{
     behind, deeper, extent_before, is_at, last_before, refusal, spot_at, stuck, want,
 };
 use crate::mark::Mark;
+use crate::node::node;
 use crate::operators::{LEVELS, assignment_at, begins_expression, operator_at, prefix_operator};
 use crate::specifiers::{Place, begins_type, specifiers, stars, type_behind};
 use c_token::{Constant, Keyword, Kind, Punctuator, Token};
@@ -20,6 +21,16 @@ use c_tree::{
 };
 use debug_records::Spot;
 use std::alloc::{AllocError, Global};
+
+// What a call gives; its failure is the function's own.
+macro_rules! given {
+    ($call:expr) => {
+        match $call {
+            Ok(value) => value,
+            Err(fault) => return Err(fault),
+        }
+    };
+}
 
 /// Which expressions may stand at a place: each sort holds those below it.
 #[derive(Clone, Copy)]
@@ -81,7 +92,7 @@ pub fn comma(
     if rest.is_empty() {
         return Ok((first, left));
     }
-    let first = Box::new(alloc, first)?;
+    let first = node(alloc, first)?;
     Ok((Expression::Comma { first, rest }, left))
 }
 
@@ -96,15 +107,15 @@ pub fn assignment(
     ensures reads { Gives (λ x. (expression_view x.0, lexemes x.1.now)) result (assignment (nesting depth) (lexemes tokens.now)) }
     ensures shorter { IfOk result (λ x. length x.1.now < length tokens.now) }
 {
-    let (target, rest) = conditional(alloc, depth, tokens)?;
+    let (target, rest) = given!(conditional(alloc, depth, tokens));
     let Some((operator, after)) = assignment_at(rest) else {
         return Ok((target, rest));
     };
-    let (value, rest) = nested(alloc, depth, Sort::Assignment, after)?;
+    let (value, rest) = given!(nested(alloc, depth, Sort::Assignment, after));
     let assignment = Expression::Assignment {
         operator,
-        target: Box::new(alloc, target)?,
-        value: Box::new(alloc, value)?,
+        target: node(alloc, target)?,
+        value: node(alloc, value)?,
     };
     Ok((assignment, rest))
 }
@@ -120,17 +131,17 @@ pub fn conditional(
     ensures reads { Gives (λ x. (expression_view x.0, lexemes x.1.now)) result (conditional (nesting depth) (lexemes tokens.now)) }
     ensures shorter { IfOk result (λ x. length x.1.now < length tokens.now) }
 {
-    let (condition, rest) = levels(alloc, LEVELS, depth, tokens)?;
+    let (condition, rest) = given!(levels(alloc, LEVELS, depth, tokens));
     let Some(after) = behind(Mark::Question, rest) else {
         return Ok((condition, rest));
     };
-    let (then, rest) = nested(alloc, depth, Sort::Comma, after)?;
-    let rest = want(Mark::Colon, rest)?;
-    let (otherwise, rest) = nested(alloc, depth, Sort::Conditional, rest)?;
+    let (then, rest) = given!(nested(alloc, depth, Sort::Comma, after));
+    let rest = given!(want(Mark::Colon, rest));
+    let (otherwise, rest) = given!(nested(alloc, depth, Sort::Conditional, rest));
     let conditional = Expression::Conditional {
-        condition: Box::new(alloc, condition)?,
-        then: Box::new(alloc, then)?,
-        otherwise: Box::new(alloc, otherwise)?,
+        condition: node(alloc, condition)?,
+        then: node(alloc, then)?,
+        otherwise: node(alloc, otherwise)?,
     };
     Ok((conditional, rest))
 }
@@ -146,7 +157,7 @@ fn chained(
     if operations.is_empty() {
         return Ok(first);
     }
-    let first = Box::new(alloc, first)?;
+    let first = node(alloc, first)?;
     Ok(Expression::Binary { first, operations })
 }
 
@@ -182,7 +193,7 @@ fn type_name(tokens: &[Token]) -> Result<(TypeName, &[Token]), ParseErr>
     ensures reads { Gives (λ x. (x.0, lexemes x.1.now)) result (type_name (lexemes tokens.now)) }
     ensures shorter { IfOk result (λ x. length x.1.now < length tokens.now) }
 {
-    let (found, rest) = specifiers(Place::Cast, tokens)?;
+    let (found, rest) = given!(specifiers(Place::Cast, tokens));
     let base = found.base();
     if matches!(base, Base::Void) {
         return Ok((TypeName { base, stars: 0 }, rest));
@@ -201,14 +212,14 @@ fn cast(alloc: Global, depth: u32, tokens: &[Token]) -> Result<(Expression, &[To
     let Some(inside) = type_behind(tokens) else {
         return unary(alloc, depth, tokens);
     };
-    deeper(depth, true, inside)?;
-    let (type_name, rest) = type_name(inside)?;
-    let rest = want(Mark::CloseParenthesis, rest)?;
-    let (operand, rest) = nested(alloc, depth, Sort::Cast, rest)?;
+    given!(deeper(depth, true, inside));
+    let (type_name, rest) = given!(type_name(inside));
+    let rest = given!(want(Mark::CloseParenthesis, rest));
+    let (operand, rest) = given!(nested(alloc, depth, Sort::Cast, rest));
     let cast = Expression::Cast {
         spot: spot_at(tokens),
         type_name,
-        operand: Box::new(alloc, operand)?,
+        operand: node(alloc, operand)?,
     };
     Ok((cast, rest))
 }
@@ -268,11 +279,11 @@ fn prefix(
     ensures reads { Gives (λ x. (expression_view x.0, lexemes x.1.now)) result (prefix (nesting depth) spot operator (lexemes tokens.now)) }
     ensures shorter { IfOk result (λ x. length x.1.now < length tokens.now) }
 {
-    let (operand, rest) = nested(alloc, depth, operand_of(operator), tokens)?;
+    let (operand, rest) = given!(nested(alloc, depth, operand_of(operator), tokens));
     let prefix = Expression::Prefix {
         spot,
         operator,
-        operand: Box::new(alloc, operand)?,
+        operand: node(alloc, operand)?,
     };
     Ok((prefix, rest))
 }
@@ -289,8 +300,8 @@ fn sizeof_expression(
     ensures reads { Gives (λ x. (expression_view x.0, lexemes x.1.now)) result (sizeof_expression (nesting depth) spot (lexemes tokens.now)) }
     ensures shorter { IfOk result (λ x. length x.1.now < length tokens.now) }
 {
-    let (operand, rest) = nested(alloc, depth, Sort::Unary, tokens)?;
-    let operand = Box::new(alloc, operand)?;
+    let (operand, rest) = given!(nested(alloc, depth, Sort::Unary, tokens));
+    let operand = node(alloc, operand)?;
     Ok((Expression::SizeofExpression { spot, operand }, rest))
 }
 
@@ -308,12 +319,12 @@ fn sizeof_type<'t>(
     ensures reads { Gives (λ x. (expression_view x.0, lexemes x.1.now)) result (sizeof_type (nesting depth) (lexemes word.now) (lexemes parenthesis.now) (lexemes inside.now)) }
     ensures shorter { IfOk result (λ x. length x.1.now < length inside.now) }
 {
-    let depth = deeper(depth, true, parenthesis)?;
-    let depth = deeper(depth, begins_type(inside), inside)?;
-    let (found, rest) = specifiers(Place::Object, inside)?;
+    let depth = given!(deeper(depth, true, parenthesis));
+    let depth = given!(deeper(depth, begins_type(inside), inside));
+    let (found, rest) = given!(specifiers(Place::Object, inside));
     let (stars, rest) = stars(rest);
-    let (size, rest) = size(alloc, depth, rest)?;
-    let rest = want(Mark::CloseParenthesis, rest)?;
+    let (size, rest) = given!(size(alloc, depth, rest));
+    let rest = given!(want(Mark::CloseParenthesis, rest));
     let sizeof = Expression::SizeofType {
         extent: extent_before(word, rest),
         integer_type: found.integer_type(),
@@ -337,9 +348,9 @@ fn size(
     let Some(inside) = behind(Mark::OpenBracket, tokens) else {
         return Ok((None, tokens));
     };
-    let (size, rest) = nested(alloc, depth, Sort::Assignment, inside)?;
-    let rest = want(Mark::CloseBracket, rest)?;
-    Ok((Some(Box::new(alloc, size)?), rest))
+    let (size, rest) = given!(nested(alloc, depth, Sort::Assignment, inside));
+    let rest = given!(want(Mark::CloseBracket, rest));
+    Ok((Some(node(alloc, size)?), rest))
 }
 
 /// How a suffix begins.
@@ -407,7 +418,7 @@ fn postfix(alloc: Global, depth: u32, tokens: &[Token]) -> Result<(Expression, &
     if suffixes.is_empty() {
         return Ok((operand, rest));
     }
-    let operand = Box::new(alloc, operand)?;
+    let operand = node(alloc, operand)?;
     Ok((Expression::Postfix { operand, suffixes }, rest))
 }
 
@@ -428,14 +439,14 @@ fn suffix<'t>(
 {
     match start {
         SuffixStart::Index => {
-            let (index, rest) = nested(alloc, depth, Sort::Comma, tokens)?;
-            let rest = want(Mark::CloseBracket, rest)?;
+            let (index, rest) = given!(nested(alloc, depth, Sort::Comma, tokens));
+            let rest = given!(want(Mark::CloseBracket, rest));
             let last = last_before(whole, rest);
             Ok((Suffix::Index { index, last }, rest))
         }
         SuffixStart::Call => {
-            let (arguments, rest) = arguments(alloc, depth, tokens)?;
-            let rest = want(Mark::CloseParenthesis, rest)?;
+            let (arguments, rest) = given!(arguments(alloc, depth, tokens));
+            let rest = given!(want(Mark::CloseParenthesis, rest));
             let last = last_before(whole, rest);
             Ok((Suffix::Call { arguments, last }, rest))
         }
@@ -539,15 +550,15 @@ fn primary(alloc: Global, depth: u32, tokens: &[Token]) -> Result<(Expression, &
             Ok((constant, rest))
         }
         Kind::Literal(part) => {
-            let (bytes, rest) = literals(alloc, part, rest)?;
+            let (bytes, rest) = given!(literals(alloc, part, rest));
             let extent = extent_before(tokens, rest);
             Ok((Expression::Literal { extent, bytes }, rest))
         }
         Kind::Punctuator(Punctuator::OpenParenthesis) => {
-            let (inner, rest) = nested(alloc, depth, Sort::Comma, rest)?;
-            let rest = want(Mark::CloseParenthesis, rest)?;
+            let (inner, rest) = given!(nested(alloc, depth, Sort::Comma, rest));
+            let rest = given!(want(Mark::CloseParenthesis, rest));
             let extent = extent_before(tokens, rest);
-            let inner = Box::new(alloc, inner)?;
+            let inner = node(alloc, inner)?;
             Ok((Expression::Parenthesized { extent, inner }, rest))
         }
         _ => Err(ParseErr::Stuck(stuck(tokens))),

@@ -8,6 +8,7 @@ mod file;
 mod front;
 mod initializer;
 mod mark;
+mod node;
 mod operators;
 mod source;
 mod specifiers;

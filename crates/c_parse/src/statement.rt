@@ -17,12 +17,23 @@ use crate::front::{
     behind, deeper, extent_before, is_at, last_before, refusal, spot_at, stuck, want,
 };
 use crate::mark::Mark;
+use crate::node::node;
 use crate::operators::begins_expression;
 use crate::specifiers::begins_type;
 use c_token::{Keyword, Kind, Punctuator, Token};
 use c_tree::{Block, Branch, Expression, ForStart, Label, Statement};
 use debug_records::Spot;
 use std::alloc::Global;
+
+// What a call gives; its failure is the function's own.
+macro_rules! given {
+    ($call:expr) => {
+        match $call {
+            Ok(value) => value,
+            Err(fault) => return Err(fault),
+        }
+    };
+}
 
 /// The token begins a statement and no expression.
 fn is_statement_word(kind: &Kind) -> bool
@@ -70,9 +81,9 @@ fn condition(
     ensures reads { Gives (λ x. (expression_view x.0, lexemes x.1.now)) result (condition (nesting depth) (lexemes tokens.now)) }
     ensures shorter { IfOk result (λ x. length x.1.now < length tokens.now) }
 {
-    let rest = want(Mark::OpenParenthesis, tokens)?;
-    let (condition, rest) = nested(alloc, depth, Sort::Comma, rest)?;
-    let rest = want(Mark::CloseParenthesis, rest)?;
+    let rest = given!(want(Mark::OpenParenthesis, tokens));
+    let (condition, rest) = given!(nested(alloc, depth, Sort::Comma, rest));
+    let rest = given!(want(Mark::CloseParenthesis, rest));
     Ok((condition, rest))
 }
 
@@ -90,7 +101,7 @@ fn optional(
     if is_at(end, tokens) {
         return Ok((None, tokens));
     }
-    let (value, rest) = comma(alloc, depth, tokens)?;
+    let (value, rest) = given!(comma(alloc, depth, tokens));
     Ok((Some(value), rest))
 }
 
@@ -101,11 +112,11 @@ fn for_start(alloc: Global, depth: u32, tokens: &[Token]) -> Result<(ForStart, &
     ensures shorter { IfOk result (λ x. length x.1.now < length tokens.now) }
 {
     if begins_type(tokens) {
-        let (start, rest) = declaration(alloc, depth, tokens)?;
+        let (start, rest) = given!(declaration(alloc, depth, tokens));
         return Ok((ForStart::Declaration(start), rest));
     }
-    let (start, rest) = optional(alloc, depth, Mark::Semicolon, tokens)?;
-    let rest = want(Mark::Semicolon, rest)?;
+    let (start, rest) = given!(optional(alloc, depth, Mark::Semicolon, tokens));
+    let rest = given!(want(Mark::Semicolon, rest));
     match start {
         None => Ok((ForStart::Nothing, rest)),
         Some(value) => Ok((ForStart::Expression(value), rest)),
@@ -130,10 +141,10 @@ fn for_header(
     ensures reads { Gives (λ x. (header_view x.0, lexemes x.1.now)) result (for_header depth (lexemes tokens.now)) }
     ensures shorter { IfOk result (λ x. length x.1.now < length tokens.now) }
 {
-    let (start, rest) = for_start(alloc, depth, tokens)?;
-    let (condition, rest) = optional(alloc, depth, Mark::Semicolon, rest)?;
-    let rest = want(Mark::Semicolon, rest)?;
-    let (step, rest) = optional(alloc, depth, Mark::CloseParenthesis, rest)?;
+    let (start, rest) = given!(for_start(alloc, depth, tokens));
+    let (condition, rest) = given!(optional(alloc, depth, Mark::Semicolon, rest));
+    let rest = given!(want(Mark::Semicolon, rest));
+    let (step, rest) = given!(optional(alloc, depth, Mark::CloseParenthesis, rest));
     let header = ForHeader {
         start,
         condition,
@@ -160,8 +171,8 @@ fn expression_statement(
     ensures reads { Gives (λ x. (statement_view x.0, lexemes x.1.now)) result (expression_statement (nesting depth) (lexemes tokens.now)) }
     ensures shorter { IfOk result (λ x. length x.1.now < length tokens.now) }
 {
-    let (value, rest) = comma(alloc, depth, tokens)?;
-    let rest = want(Mark::Semicolon, rest)?;
+    let (value, rest) = given!(comma(alloc, depth, tokens));
+    let rest = given!(want(Mark::Semicolon, rest));
     let last = last_before(tokens, rest);
     Ok((Statement::Expression { value, last }, rest))
 }
@@ -178,8 +189,8 @@ fn return_statement<'t>(
     ensures reads { Gives (λ x. (statement_view x.0, lexemes x.1.now)) result (return_statement (nesting depth) (lexemes tokens.now) (lexemes rest.now)) }
     ensures shorter { IfOk result (λ x. length x.1.now < length rest.now) }
 {
-    let (value, rest) = optional(alloc, depth, Mark::Semicolon, rest)?;
-    let rest = want(Mark::Semicolon, rest)?;
+    let (value, rest) = given!(optional(alloc, depth, Mark::Semicolon, rest));
+    let rest = given!(want(Mark::Semicolon, rest));
     let extent = extent_before(tokens, rest);
     Ok((Statement::Return { extent, value }, rest))
 }
@@ -198,8 +209,8 @@ fn label(alloc: Global, depth: u32, tokens: &[Token]) -> Result<Option<(Label, &
             },
             rest @ ..,
         ] => {
-            let (value, behind_value) = conditional(alloc, depth, rest)?;
-            let rest = want(Mark::Colon, behind_value)?;
+            let (value, behind_value) = given!(conditional(alloc, depth, rest));
+            let rest = given!(want(Mark::Colon, behind_value));
             let extent = extent_before(tokens, rest);
             Ok(Some((Label::Case { extent, value }, rest)))
         }
@@ -210,7 +221,7 @@ fn label(alloc: Global, depth: u32, tokens: &[Token]) -> Result<Option<(Label, &
             },
             rest @ ..,
         ] => {
-            let rest = want(Mark::Colon, rest)?;
+            let rest = given!(want(Mark::Colon, rest));
             Ok(Some((Label::Default(extent_before(tokens, rest)), rest)))
         }
         _ => Ok(None),
@@ -248,7 +259,7 @@ fn nested_statement(
         return Err(ParseErr::Stuck(refusal(declares || begins_statement(tokens), tokens)));
     }
     if declares {
-        let (declaration, rest) = declaration(alloc, depth - 1, tokens)?;
+        let (declaration, rest) = given!(declaration(alloc, depth - 1, tokens));
         return Ok((Statement::Declaration(declaration), rest));
     }
     statement(alloc, depth - 1, tokens)
@@ -261,12 +272,12 @@ fn statement(alloc: Global, depth: u32, tokens: &[Token]) -> Result<(Statement, 
     ensures reads { Gives (λ x. (statement_view x.0, lexemes x.1.now)) result (statement_in depth (statements depth) (lexemes tokens.now)) }
     ensures shorter { IfOk result (λ x. length x.1.now < length tokens.now) }
 {
-    let (labels, rest) = labels(alloc, depth, tokens)?;
-    let (statement, rest) = unlabeled(alloc, depth, rest)?;
+    let (labels, rest) = given!(labels(alloc, depth, tokens));
+    let (statement, rest) = given!(unlabeled(alloc, depth, rest));
     if labels.is_empty() {
         return Ok((statement, rest));
     }
-    let statement = Box::new(alloc, statement)?;
+    let statement = node(alloc, statement)?;
     Ok((Statement::Labeled { labels, statement }, rest))
 }
 
@@ -283,7 +294,7 @@ fn unlabeled(alloc: Global, depth: u32, tokens: &[Token]) -> Result<(Statement, 
     match &first.kind {
         Kind::Punctuator(Punctuator::Semicolon) => Ok((Statement::Empty(first.spot), rest)),
         Kind::Punctuator(Punctuator::OpenBrace) => {
-            let (block, rest) = block(alloc, depth, true, tokens)?;
+            let (block, rest) = given!(block(alloc, depth, true, tokens));
             Ok((Statement::Block(block), rest))
         }
         Kind::Keyword(keyword) => match keyword {
@@ -293,11 +304,11 @@ fn unlabeled(alloc: Global, depth: u32, tokens: &[Token]) -> Result<(Statement, 
             Keyword::For => for_statement(alloc, depth, first.spot, rest),
             Keyword::Switch => switch_statement(alloc, depth, first.spot, rest),
             Keyword::Break => {
-                let rest = want(Mark::Semicolon, rest)?;
+                let rest = given!(want(Mark::Semicolon, rest));
                 Ok((Statement::Break(extent_before(tokens, rest)), rest))
             }
             Keyword::Continue => {
-                let rest = want(Mark::Semicolon, rest)?;
+                let rest = given!(want(Mark::Semicolon, rest));
                 Ok((Statement::Continue(extent_before(tokens, rest)), rest))
             }
             Keyword::Return => return_statement(alloc, depth, tokens, rest),
@@ -343,9 +354,9 @@ fn branch(alloc: Global, depth: u32, tokens: &[Token]) -> Result<(Branch, &[Toke
     ensures reads { Gives (λ x. (branch_view x.0, lexemes x.1.now)) result (branch (nesting depth) (statements depth) (lexemes tokens.now)) }
     ensures shorter { IfOk result (λ x. length x.1.now < length tokens.now) }
 {
-    let rest = want(Mark::If, tokens)?;
-    let (condition, rest) = condition(alloc, depth, rest)?;
-    let (then, rest) = nested_statement(alloc, depth, false, rest)?;
+    let rest = given!(want(Mark::If, tokens));
+    let (condition, rest) = given!(condition(alloc, depth, rest));
+    let (then, rest) = given!(nested_statement(alloc, depth, false, rest));
     let branch = Branch {
         spot: spot_at(tokens),
         condition,
@@ -403,12 +414,12 @@ fn while_statement(
     ensures reads { Gives (λ x. (statement_view x.0, lexemes x.1.now)) result (while_statement (nesting depth) (statements depth) spot (lexemes tokens.now)) }
     ensures shorter { IfOk result (λ x. length x.1.now < length tokens.now) }
 {
-    let (condition, rest) = condition(alloc, depth, tokens)?;
-    let (body, rest) = nested_statement(alloc, depth, false, rest)?;
+    let (condition, rest) = given!(condition(alloc, depth, tokens));
+    let (body, rest) = given!(nested_statement(alloc, depth, false, rest));
     let statement = Statement::While {
         spot,
         condition,
-        body: Box::new(alloc, body)?,
+        body: node(alloc, body)?,
     };
     Ok((statement, rest))
 }
@@ -426,13 +437,13 @@ fn do_statement<'t>(
     ensures reads { Gives (λ x. (statement_view x.0, lexemes x.1.now)) result (do_statement (nesting depth) (statements depth) (lexemes tokens.now) (lexemes rest.now)) }
     ensures shorter { IfOk result (λ x. length x.1.now < length rest.now) }
 {
-    let (body, rest) = nested_statement(alloc, depth, false, rest)?;
-    let rest = want(Mark::While, rest)?;
-    let (condition, rest) = condition(alloc, depth, rest)?;
-    let rest = want(Mark::Semicolon, rest)?;
+    let (body, rest) = given!(nested_statement(alloc, depth, false, rest));
+    let rest = given!(want(Mark::While, rest));
+    let (condition, rest) = given!(condition(alloc, depth, rest));
+    let rest = given!(want(Mark::Semicolon, rest));
     let statement = Statement::DoWhile {
         extent: extent_before(tokens, rest),
-        body: Box::new(alloc, body)?,
+        body: node(alloc, body)?,
         condition,
     };
     Ok((statement, rest))
@@ -450,17 +461,17 @@ fn for_statement(
     ensures reads { Gives (λ x. (statement_view x.0, lexemes x.1.now)) result (for_statement depth (statements depth) spot (lexemes tokens.now)) }
     ensures shorter { IfOk result (λ x. length x.1.now < length tokens.now) }
 {
-    let rest = want(Mark::OpenParenthesis, tokens)?;
-    let inside = deeper(depth, begins_header(rest), rest)?;
-    let (header, rest) = for_header(alloc, inside, rest)?;
-    let rest = want(Mark::CloseParenthesis, rest)?;
-    let (body, rest) = nested_statement(alloc, depth, false, rest)?;
+    let rest = given!(want(Mark::OpenParenthesis, tokens));
+    let inside = given!(deeper(depth, begins_header(rest), rest));
+    let (header, rest) = given!(for_header(alloc, inside, rest));
+    let rest = given!(want(Mark::CloseParenthesis, rest));
+    let (body, rest) = given!(nested_statement(alloc, depth, false, rest));
     let statement = Statement::For {
         spot,
         start: header.start,
         condition: header.condition,
         step: header.step,
-        body: Box::new(alloc, body)?,
+        body: node(alloc, body)?,
     };
     Ok((statement, rest))
 }
@@ -477,8 +488,8 @@ fn switch_statement(
     ensures reads { Gives (λ x. (statement_view x.0, lexemes x.1.now)) result (switch_statement (nesting depth) (statements depth) spot (lexemes tokens.now)) }
     ensures shorter { IfOk result (λ x. length x.1.now < length tokens.now) }
 {
-    let (value, rest) = condition(alloc, depth, tokens)?;
-    let inside = deeper(depth, is_at(Mark::OpenBrace, rest), rest)?;
-    let (body, rest) = block(alloc, inside, false, rest)?;
+    let (value, rest) = given!(condition(alloc, depth, tokens));
+    let inside = given!(deeper(depth, is_at(Mark::OpenBrace, rest), rest));
+    let (body, rest) = given!(block(alloc, inside, false, rest));
     Ok((Statement::Switch { spot, value, body }, rest))
 }

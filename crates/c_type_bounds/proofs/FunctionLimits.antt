@@ -3,10 +3,11 @@ use Rattle.std.proofs.Common.{◌≡◌, ◌<◌, ◌≤◌, arith, ℕ, List, t
 use Rattle.std.specs.Prelude.{map, nat_lt, ◌||◌}
 use Rattle.std.proofs.lemmas.Bool.{false≢true}
 use Rattle.std.proofs.lemmas.Bool.Decides.{nat_tests}
+use Rattle.debug_records.specs.declared.code.TheConstants.Code.{FUNCTION_WEIGHT, FUNCTION_OBJECTS, FUNCTION_COUNT}
 use Rattle.c_tree.specs.declared.program.AutomaticVariable.{AutomaticVariable}
 use Rattle.c_tree.specs.declared.program.TypedFunction.{TypedFunction}
 use Rattle.c_tree.specs.Programs.{AutomaticTree, TypedFunctionTree, automatic_view, function_view}
-use Rattle.c_type_bounds.specs.Bounds.{behind_function, limit, memory_room, or_breach, variables_of, with_kept}
+use Rattle.c_type_bounds.specs.Bounds.{behind_function, memory_room, or_breach, variables_of, with_kept}
 use Rattle.c_type_bounds.proofs.FunctionPlaces.{own_view}
 
 -- what the memory objects of a function take
@@ -43,23 +44,23 @@ none_of : {A : Type 0} (p q r : Bool) (a b c d : A) → p ≡ false → q ≡ fa
 none_of p q r a b c d h g k = rw (h, g, k) refl
 
 module _ (number : ℕ) (f : TypedFunctionTree) (vs : List AutomaticTree) (light : f.weight ≤ 3000) where
-  pub room_refused : 4096 < memory_room (variables_of f (with_kept f vs)) → behind_function number f vs ≡ Err (limit 5, f.spot.line)
+  pub room_refused : 4096 < memory_room (variables_of f (with_kept f vs)) → behind_function number f vs ≡ Err (FUNCTION_OBJECTS, f.spot.line)
   room_refused large =
       ap (λ breach. or_breach breach f.spot.line (with_kept f vs))
-      (second (nat_lt 3000 f.weight) (nat_lt 4096 (memory_room (variables_of f (with_kept f vs)))) (nat_lt 255 number || nat_lt 8 f.parameters) (Some (limit 3)) (Some (limit 5)) (Some (limit 7)) None (lt_false 3000 f.weight light) (lt_true 4096 (memory_room (variables_of f (with_kept f vs))) large))
+      (second (nat_lt 3000 f.weight) (nat_lt 4096 (memory_room (variables_of f (with_kept f vs)))) (nat_lt 255 number || nat_lt 8 f.parameters) (Some FUNCTION_WEIGHT) (Some FUNCTION_OBJECTS) (Some FUNCTION_COUNT) None (lt_false 3000 f.weight light) (lt_true 4096 (memory_room (variables_of f (with_kept f vs))) large))
 
-  count_refused : memory_room (variables_of f (with_kept f vs)) ≤ 4096 → (nat_lt 255 number || nat_lt 8 f.parameters) ≡ true → behind_function number f vs ≡ Err (limit 7, f.spot.line)
+  count_refused : memory_room (variables_of f (with_kept f vs)) ≤ 4096 → (nat_lt 255 number || nat_lt 8 f.parameters) ≡ true → behind_function number f vs ≡ Err (FUNCTION_COUNT, f.spot.line)
   count_refused small many =
       ap (λ breach. or_breach breach f.spot.line (with_kept f vs))
-      (third (nat_lt 3000 f.weight) (nat_lt 4096 (memory_room (variables_of f (with_kept f vs)))) (nat_lt 255 number || nat_lt 8 f.parameters) (Some (limit 3)) (Some (limit 5)) (Some (limit 7)) None (lt_false 3000 f.weight light) (lt_false 4096 (memory_room (variables_of f (with_kept f vs))) small) many)
+      (third (nat_lt 3000 f.weight) (nat_lt 4096 (memory_room (variables_of f (with_kept f vs)))) (nat_lt 255 number || nat_lt 8 f.parameters) (Some FUNCTION_WEIGHT) (Some FUNCTION_OBJECTS) (Some FUNCTION_COUNT) None (lt_false 3000 f.weight light) (lt_false 4096 (memory_room (variables_of f (with_kept f vs))) small) many)
 
-  pub number_refused : memory_room (variables_of f (with_kept f vs)) ≤ 4096 → 255 < number → behind_function number f vs ≡ Err (limit 7, f.spot.line)
+  pub number_refused : memory_room (variables_of f (with_kept f vs)) ≤ 4096 → 255 < number → behind_function number f vs ≡ Err (FUNCTION_COUNT, f.spot.line)
   number_refused small many = count_refused small (either_true (nat_lt 255 number) (nat_lt 8 f.parameters) (lt_true 255 number many))
 
-  pub parameters_refused : memory_room (variables_of f (with_kept f vs)) ≤ 4096 → 8 < f.parameters → behind_function number f vs ≡ Err (limit 7, f.spot.line)
+  pub parameters_refused : memory_room (variables_of f (with_kept f vs)) ≤ 4096 → 8 < f.parameters → behind_function number f vs ≡ Err (FUNCTION_COUNT, f.spot.line)
   parameters_refused small many = count_refused small (or_true (nat_lt 255 number) (nat_lt 8 f.parameters) (lt_true 8 f.parameters many))
 
   pub within_limits : memory_room (variables_of f (with_kept f vs)) ≤ 4096 → number ≤ 255 → f.parameters ≤ 8 → behind_function number f vs ≡ Ok (with_kept f vs)
   within_limits small few short =
       ap (λ breach. or_breach breach f.spot.line (with_kept f vs))
-      (none_of (nat_lt 3000 f.weight) (nat_lt 4096 (memory_room (variables_of f (with_kept f vs)))) (nat_lt 255 number || nat_lt 8 f.parameters) (Some (limit 3)) (Some (limit 5)) (Some (limit 7)) None (lt_false 3000 f.weight light) (lt_false 4096 (memory_room (variables_of f (with_kept f vs))) small) (neither (nat_lt 255 number) (nat_lt 8 f.parameters) (lt_false 255 number few) (lt_false 8 f.parameters short)))
+      (none_of (nat_lt 3000 f.weight) (nat_lt 4096 (memory_room (variables_of f (with_kept f vs)))) (nat_lt 255 number || nat_lt 8 f.parameters) (Some FUNCTION_WEIGHT) (Some FUNCTION_OBJECTS) (Some FUNCTION_COUNT) None (lt_false 3000 f.weight light) (lt_false 4096 (memory_room (variables_of f (with_kept f vs))) small) (neither (nat_lt 255 number) (nat_lt 8 f.parameters) (lt_false 255 number few) (lt_false 8 f.parameters short)))

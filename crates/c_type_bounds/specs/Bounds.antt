@@ -3,14 +3,11 @@ use Rattle.std.specs.Prelude.{◌≡◌, ℕ, zero, suc, ◌+◌, nat_lt, ◌||�
 use Rattle.debug_records.specs.declared.code.Code.{Code}
 use Rattle.debug_records.specs.declared.source.SourceErr.{SourceErr}
 use Rattle.debug_records.specs.Refusals.{Refuses}
-use Rattle.debug_records.specs.declared.code.Letter.TheVariants.{L}
+use Rattle.debug_records.specs.declared.code.TheConstants.Code.{FUNCTION_WEIGHT, PROGRAM_WEIGHT, FUNCTION_OBJECTS, STATIC_OBJECTS, FUNCTION_COUNT, VISIBLE_PAIRS}
 use Rattle.c_tree.specs.Programs.{AutomaticTree, StaticTree, LiteralTree, TypedFunctionTree, ProgramTree}
 use Rattle.c_type_rules.specs.Integers.{object_size, room}
 use Rattle.c_facts.specs.Memory.{kept_by_all}
 use Rattle.c_type_bounds.specs.Visible.{visible_pairs}
-
-abbrev pub limit : ℕ → Code
-limit n = record { letter = L; number = n }
 
 -- variables of which one is in memory
 abbrev pub kept : ℕ → List AutomaticTree → List AutomaticTree
@@ -54,7 +51,7 @@ literal_room = sum_by text_room
 -- the limits of a function: it weighs 3,000 at most (L03), its memory objects take 4,096 bytes at most (L05), it is one of the first 256, and has 8 parameters at most (L07)
 abbrev pub function_breach : ℕ → TypedFunctionTree → List AutomaticTree → Option Code
 function_breach number f vs =
-    if nat_lt 3000 f.weight then Some (limit 3) else (if nat_lt 4096 (memory_room (variables_of f vs)) then Some (limit 5) else (if nat_lt 255 number || nat_lt 8 f.parameters then Some (limit 7) else None))
+    if nat_lt 3000 f.weight then Some FUNCTION_WEIGHT else (if nat_lt 4096 (memory_room (variables_of f vs)) then Some FUNCTION_OBJECTS else (if nat_lt 255 number || nat_lt 8 f.parameters then Some FUNCTION_COUNT else None))
 
 -- the automatic variables with what a function keeps in memory
 abbrev pub with_kept : TypedFunctionTree → List AutomaticTree → List AutomaticTree
@@ -80,7 +77,7 @@ objects_room p = static_room p.statics + literal_room p.literals + literal_room 
 -- the limits of a program: it weighs 4,000 at most (L04), its static objects take 1 MiB at most (L06), and at its places 1,000,000 variables are visible at most (L08)
 abbrev pub program_breach : ProgramTree → Option Code
 program_breach p =
-    if nat_lt 4000 p.weight then Some (limit 4) else (if nat_lt 1048576 (objects_room p) then Some (limit 6) else (if nat_lt 1000000 (visible_pairs p) then Some (limit 8) else None))
+    if nat_lt 4000 p.weight then Some PROGRAM_WEIGHT else (if nat_lt 1048576 (objects_room p) then Some STATIC_OBJECTS else (if nat_lt 1000000 (visible_pairs p) then Some VISIBLE_PAIRS else None))
 
 -- what the check of functions answers: their variables as marked, or the refusal, but for the want of memory, which says nothing of them
 abbrev pub Marks : {U X : Type 0} → Result U SourceErr → X → Result X (Code × ℕ) → Type 0
