@@ -17,3 +17,4 @@ pub mod Visible
 pub mod Activations
 pub mod AtStop
 pub mod VariableLists
+pub mod FunctionNames

@@ -1,8 +1,7 @@
 //! The places that `break` marks.
 
-ghost use Rattle.std.specs.Prelude.{◌≡◌, ◌<◌, ◌≤◌, ℕ, IfOk, bytes_eq, length, map, slice_index_or};
+ghost use Rattle.std.specs.Prelude.{◌≡◌, ◌<◌, ◌≤◌, ℕ, IfOk, length, map, slice_index_or};
 ghost use Rattle.image_form.specs.Form.{form};
-ghost use Rattle.image_form.specs.Names.{function_name};
 ghost use Rattle.image_form.specs.Lists.{EachToNext};
 ghost use Rattle.image_form.specs.declared.tables.FlowPair.{FlowPair};
 ghost use Rattle.image_form.specs.declared.tables.Place.{Place as SourcePlace};
@@ -10,11 +9,11 @@ ghost use Rattle.image_form.specs.Rules.{IsImage};
 ghost use Rattle.image_form.specs.RulesOfChanges.{IsPairBefore};
 ghost use Rattle.script_form.specs.Script.{mark};
 ghost use Rattle.stop_engine.specs.Breaks.{break_places, first_place, followers, function_called, is_stop_on, least, one_or_none, stops_on};
-ghost use Rattle.stop_engine.specs.Tables.{AreTablesOf};
+ghost use Rattle.stop_engine.specs.FunctionNames.{AreFunctionNamesOf};
 ghost use Rattle.stop_engine.specs.Transcript.{marked_line};
 
+use crate::function_names::FunctionNames;
 use crate::stop_table::StopTable;
-use crate::tables::Tables;
 use debug_records::Place;
 use image_form::{FlowPair, Function, Image};
 use line_form::{break_line, no_function_line, no_place_line};
@@ -57,28 +56,15 @@ fn stops_on(alloc: Global, table: &StopTable, line: u32) -> Result<Vec<Place>, A
     Ok(on_line)
 }
 
-/// Whether a function has a name, by its number.
-fn is_called(image: &Image, tables: &Tables, number: usize, name: &[u8]) -> bool
-    requires image { IsImage (form image.now) }
-    requires tables { AreTablesOf (form image.now) tables.now }
-    requires number { number < length image.now.functions.items }
-    ensures { result ≡ bytes_eq (function_name (form image.now) number) name.now }
-{
-    tables.names.function(image, number) == name
-}
-
 /// The first function of a name, if there is one.
-fn function_called(image: &Image, tables: &Tables, name: &[u8]) -> Option<Function>
-    requires image { IsImage (form image.now) }
-    requires tables { AreTablesOf (form image.now) tables.now }
+fn function_called(image: &Image, functions: &FunctionNames, name: &[u8]) -> Option<Function>
+    requires { AreFunctionNamesOf (form image.now) functions.now }
     ensures { result ≡ function_called (form image.now) name.now 0 image.now.functions.items }
 {
-    for (number, function) in image.functions.iter().enumerate() {
-        if is_called(image, tables, number, name) {
-            return Some(*function);
-        }
+    match functions.first.get(name) {
+        Some(number) => image.functions.get(*number).copied(),
+        None => None,
     }
-    None
 }
 
 /// The index of the first pair that leads from no earlier place.
@@ -107,12 +93,12 @@ fn least_follower(flow: &[FlowPair], place: u32) -> Option<u32>
 }
 
 /// The least place that follows the entry of the first function of a name.
-fn first_place(image: &Image, tables: &Tables, name: &[u8]) -> Option<u32>
+fn first_place(image: &Image, functions: &FunctionNames, name: &[u8]) -> Option<u32>
     requires image { IsImage (form image.now) }
-    requires tables { AreTablesOf (form image.now) tables.now }
+    requires functions { AreFunctionNamesOf (form image.now) functions.now }
     ensures { result ≡ first_place (form image.now) name.now }
 {
-    let function = function_called(image, tables, name)?;
+    let function = function_called(image, functions, name)?;
     least_follower(&image.flow, function.entry)
 }
 
@@ -120,14 +106,14 @@ fn first_place(image: &Image, tables: &Tables, name: &[u8]) -> Option<u32>
 fn first_places(
     alloc: Global,
     image: &Image,
-    tables: &Tables,
+    functions: &FunctionNames,
     name: &[u8],
 ) -> Result<Vec<Place>, AllocError>
     requires image { IsImage (form image.now) }
-    requires tables { AreTablesOf (form image.now) tables.now }
+    requires functions { AreFunctionNamesOf (form image.now) functions.now }
     ensures { IfOk result (λ places. map (λ p. p.0) places.items ≡ one_or_none (first_place (form image.now) name.now)) }
 {
-    match first_place(image, tables, name) {
+    match first_place(image, functions, name) {
         Some(place) => Ok(vec![in alloc; Place(place)]?),
         None => Ok(Vec::new(alloc)),
     }
@@ -137,16 +123,21 @@ fn first_places(
 pub fn break_places(
     alloc: Global,
     table: &StopTable,
-    tables: &Tables,
+    functions: &FunctionNames,
     target: &Target,
 ) -> Result<Vec<Place>, AllocError>
     requires image { IsImage table.now }
-    requires tables { AreTablesOf table.now tables.now }
+    requires functions { AreFunctionNamesOf table.now functions.now }
     ensures { IfOk result (λ places. map (λ p. p.0) places.items ≡ break_places table.now (mark target.now)) }
 {
     match target {
         Target::Line(line) => Ok(stops_on(alloc, table, *line)?),
-        Target::Function(name) => Ok(first_places(alloc, table.image(), tables, name.as_bytes())?),
+        Target::Function(name) => Ok(first_places(
+            alloc,
+            table.image(),
+            functions,
+            name.as_bytes(),
+        )?),
     }
 }
 

@@ -20,6 +20,7 @@ ghost use Rattle.stop_engine.specs.Visible.{visible_of};
 
 use crate::activations::{Frame, activation_lines, activations};
 use crate::breaks::{break_places, marked_line};
+use crate::function_names::{FunctionNames, function_names};
 use crate::halt::Halt;
 use crate::lines::halt_line;
 use crate::locals::{Local, locals_lines, visible_at};
@@ -39,6 +40,7 @@ use std::marker::Model;
 pub struct Engine<'a> {
     run: Run<'a>,
     tables: Tables,
+    functions: FunctionNames<'a>,
     marks: Marks,
     has_quit: bool,
 }
@@ -46,13 +48,14 @@ pub struct Engine<'a> {
 impl<'a> Model for Engine<'a> {
     ghost use Rattle.std.specs.Prelude.{◌≡◌, ◌+◌, length};
     ghost use Rattle.stop_engine.specs.EngineState.{EngineState};
+    ghost use Rattle.stop_engine.specs.FunctionNames.{AreFunctionNamesOf};
     ghost use Rattle.stop_engine.specs.Tables.{AreTablesOf};
 
     ghost Value = { EngineState };
 
     ghost view = { λ e. record { run = e.run; marks = e.marks.places; has_quit = e.has_quit } };
 
-    ghost invariant = { λ e. AreTablesOf e.run.form e.tables × (e.marks.bound ≡ length e.run.form.places + 1) };
+    ghost invariant = { λ e. AreTablesOf e.run.form e.tables × AreFunctionNamesOf e.run.form e.functions × (e.marks.bound ≡ length e.run.form.places + 1) };
 }
 
 impl<'a> Engine<'a> {
@@ -67,9 +70,13 @@ impl<'a> Engine<'a> {
         requires { IsImage (form image.now) }
         ensures { IfOk result (λ engine. engine ≡ fresh_engine (form image.now) input.now limit) }
     {
+        let run = Run::new(alloc, image, input, limit)?;
+        let tables = tables_of(alloc, image)?;
+        let functions = function_names(alloc, image, &tables)?;
         Ok(Engine {
-            run: Run::new(alloc, image, input, limit)?,
-            tables: tables_of(alloc, image)?,
+            run,
+            tables,
+            functions,
             marks: Marks::new(alloc, image.places.len() + 1)?,
             has_quit: false,
         })
@@ -169,7 +176,7 @@ impl<'a> Engine<'a> {
         ensures lines { IfOk result (λ lines. map (λ line. line.items) lines.items ≡ marked_line (mark target.now) (break_places self.old.run.form (mark target.now)) ∷ []) }
         ensures kept { OnErr result (self.new ≡ self.old) }
     {
-        let places = break_places(alloc, self.run.table(), &self.tables, target)?;
+        let places = break_places(alloc, self.run.table(), &self.functions, target)?;
         let line = marked_line(alloc, target, &places)?;
         let lines = vec![in alloc; line]?;
         self.marks.mark_all(&places);

@@ -6,6 +6,7 @@ mod breaks;
 mod course;
 mod engine;
 mod frames;
+mod function_names;
 mod halt;
 mod lines;
 mod locals;

@@ -1,0 +1,39 @@
+//! The functions of an image by their names.
+
+ghost use Rattle.std.specs.Prelude.{◌≡◌, IfOk};
+ghost use Rattle.image_form.specs.Form.{form};
+ghost use Rattle.image_form.specs.Rules.{IsImage};
+ghost use Rattle.stop_engine.specs.FunctionNames.{AreFunctionNamesOf};
+ghost use Rattle.stop_engine.specs.Tables.{AreTablesOf};
+
+use crate::tables::Tables;
+use image_form::Image;
+use std::alloc::{AllocError, Global};
+use std::collections::BTreeMap;
+
+/// The functions of an image by their names.
+#[derive(Drop)]
+pub struct FunctionNames<'a> {
+    /// The number of the first function of each name.
+    pub first: BTreeMap<&'a [u8], usize>,
+}
+
+/// The functions of an image by their names. `AllocError` where memory for them was refused.
+pub fn function_names<'a>(
+    alloc: Global,
+    image: &'a Image,
+    tables: &Tables,
+) -> Result<FunctionNames<'a>, AllocError>
+    requires image { IsImage (form image.now) }
+    requires tables { AreTablesOf (form image.now) tables.now }
+    ensures { IfOk result (AreFunctionNamesOf (form image.now)) }
+{
+    let mut first = BTreeMap::new(alloc);
+    for number in 0..image.functions.len() {
+        let name = tables.names.function(image, number);
+        if !first.contains_key(name) {
+            first.insert(name, number)?;
+        }
+    }
+    Ok(FunctionNames { first })
+}
