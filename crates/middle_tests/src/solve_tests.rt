@@ -1,14 +1,13 @@
 //! Values worked by hand: the meet over all paths of a graph with cycles, and the live names of a loop.
 
-ghost use Rattle.std.specs.Prelude.{◌≡◌, ◌==◌, IfOk, cond, true, false};
-ghost use Rattle.std.specs.FinSet.{empty};
-ghost use Rattle.graph_solve.specs.Numbers.{IsBelow, made_of, numbers_below};
-ghost use Rattle.graph_solve.specs.SetLaws.{below_empty, below_made, made_of_both, not_below};
-ghost use Rattle.graph_solve.specs.SetProblems.{every_path};
+ghost use Rattle.std.specs.Prelude.{◌≡◌, ◌≤◌, ◌^◌, IfOk, length};
+ghost use Rattle.graph_core.specs.Graphs.{graph_view};
+ghost use Rattle.graph_solve.specs.GraphFlow.{AreTargetsWithin};
+ghost use Rattle.middle_tests.specs.Passed.{fact_if, passed_flow};
 
 use debug_records::Place;
 use graph_core::{Block, Comparison, End, Graph, Instr, Label, Name, NoteValue, Operand, Recipe};
-use graph_solve::{Facts, Problem, live, solve, targets_are_within};
+use graph_solve::{Facts, Problem, Solution, live, solve, solve_plain, targets_are_within};
 use std::alloc::{AllocError, Global};
 use std::process::Abort;
 use std::test::Fail;
@@ -21,11 +20,7 @@ struct Passed {
 }
 
 impl Problem for Passed {
-    ghost flow = { λ passed. every_path passed.forward 1 empty
-        (λ block given. made_of (cond (block == 1) (numbers_below 1) empty) (cond (block == 2) (numbers_below 1) empty) given)
-        (below_empty 1)
-        (λ block given below. below_made 1 (cond (block == 1) (numbers_below 1) empty) (cond (block == 2) (numbers_below 1) empty) given (elim (block == 1) as (λ b. IsBelow 1 (cond b (numbers_below 1) empty)) [ true ↦ not_below 1 | false ↦ below_empty 1 ]) below)
-        (λ block s t. made_of_both (cond (block == 1) (numbers_below 1) empty) (cond (block == 2) (numbers_below 1) empty) s t) };
+    ghost flow = { λ passed. passed_flow passed.forward };
 
     fn forward(&self) -> bool {
         self.forward
@@ -33,6 +28,22 @@ impl Problem for Passed {
 
     fn height(&self) -> u32 {
         1
+    }
+
+    fn width(&self) -> u32 {
+        1
+    }
+
+    fn unites(&self) -> bool {
+        false
+    }
+
+    fn kept(&self, block: u32, _fact: u32) -> bool {
+        block != 2
+    }
+
+    fn written(&self, block: u32, _fact: u32) -> bool {
+        block == 1
     }
 
     fn edge(&self, alloc: Global) -> Result<Facts, AllocError> {
@@ -59,7 +70,7 @@ impl Problem for Passed {
 
 /// The fact 0, or none.
 fn fact_if(alloc: Global, is: bool) -> Result<Facts, AllocError>
-    ensures { IfOk result (λ facts. facts ≡ cond is (numbers_below 1) empty) }
+    ensures { IfOk result (λ facts. facts ≡ fact_if is) }
 {
     let mut facts = Facts::new(alloc);
     if is {
@@ -149,6 +160,23 @@ static EVERY_PATH: [(bool, [bool; 7], [bool; 7]); 2] = [
     ),
 ];
 
+/// The solution by rows of bits, or by ordered sets.
+fn solution_of(
+    alloc: Global,
+    graph: &Graph,
+    problem: &Passed,
+    is_plain: bool,
+) -> Result<Solution, AllocError>
+    requires few { length graph.now.blocks.items ≤ 2 ^ 32 }
+    requires within { AreTargetsWithin (graph_view graph.now) }
+{
+    if is_plain {
+        solve_plain(alloc, graph, problem)
+    } else {
+        solve(alloc, graph, problem)
+    }
+}
+
 #[test]
 fn every_path_counts(rt: HostRuntime) -> Result<(), Fail> {
     let graph = two_cycles(rt.alloc())?;
@@ -156,9 +184,11 @@ fn every_path_counts(rt: HostRuntime) -> Result<(), Fail> {
     assert!(rt; targets_are_within(&graph));
     for (forward, starts, ends) in &EVERY_PATH {
         let problem = Passed { forward: *forward };
-        let solution = solve(rt.alloc(), &graph, &problem)?;
-        assert_has(&rt, &solution.starts, 0, starts.as_slice(), "the start");
-        assert_has(&rt, &solution.ends, 0, ends.as_slice(), "the end");
+        for is_plain in [false, true] {
+            let solution = solution_of(rt.alloc(), &graph, &problem, is_plain)?;
+            assert_has(&rt, &solution.starts, 0, starts.as_slice(), "the start");
+            assert_has(&rt, &solution.ends, 0, ends.as_slice(), "the end");
+        }
     }
     Ok(())
 }
