@@ -22,3 +22,4 @@ pub mod Targets
 pub mod Beginning
 pub mod Reading
 pub mod Waiting
+pub mod Unread
