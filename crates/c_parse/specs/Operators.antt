@@ -12,6 +12,7 @@ use Rattle.c_tree.specs.declared.operator.PrefixOperator.{PrefixOperator}
 use Rattle.c_tree.specs.declared.operator.PrefixOperator.TheVariants as prefix
 use Rattle.c_tree.specs.declared.operator.AssignmentOperator.{AssignmentOperator}
 use Rattle.c_tree.specs.declared.operator.AssignmentOperator.TheVariants as assignment
+use Rattle.c_tree.specs.declared.typed_expression.Arithmetic.TheVariants as arithmetic
 
 -- an operator between two operands: its level, of which the first binds tightest, and which it is
 unfoldable pub binary_operator : Punctuator → Option (ℕ × BinaryOperator)
@@ -49,16 +50,16 @@ operator_at level (t ∷ ts) =
 -- an operator that assigns
 unfoldable pub assignment_operator : Punctuator → Option AssignmentOperator
 assignment_operator punctuator.Equal = Some assignment.Assign
-assignment_operator punctuator.StarEqual = Some assignment.Multiply
-assignment_operator punctuator.SlashEqual = Some assignment.Divide
-assignment_operator punctuator.PercentEqual = Some assignment.Remainder
-assignment_operator punctuator.PlusEqual = Some assignment.Add
-assignment_operator punctuator.MinusEqual = Some assignment.Subtract
-assignment_operator punctuator.ShiftLeftEqual = Some assignment.ShiftLeft
-assignment_operator punctuator.ShiftRightEqual = Some assignment.ShiftRight
-assignment_operator punctuator.AmpersandEqual = Some assignment.BitAnd
-assignment_operator punctuator.CaretEqual = Some assignment.BitXor
-assignment_operator punctuator.BarEqual = Some assignment.BitOr
+assignment_operator punctuator.StarEqual = Some (assignment.With arithmetic.Multiply)
+assignment_operator punctuator.SlashEqual = Some (assignment.With arithmetic.Divide)
+assignment_operator punctuator.PercentEqual = Some (assignment.With arithmetic.Remainder)
+assignment_operator punctuator.PlusEqual = Some (assignment.With arithmetic.Add)
+assignment_operator punctuator.MinusEqual = Some (assignment.With arithmetic.Subtract)
+assignment_operator punctuator.ShiftLeftEqual = Some (assignment.With arithmetic.ShiftLeft)
+assignment_operator punctuator.ShiftRightEqual = Some (assignment.With arithmetic.ShiftRight)
+assignment_operator punctuator.AmpersandEqual = Some (assignment.With arithmetic.BitAnd)
+assignment_operator punctuator.CaretEqual = Some (assignment.With arithmetic.BitXor)
+assignment_operator punctuator.BarEqual = Some (assignment.With arithmetic.BitOr)
 assignment_operator p = None
 
 -- the operator that assigns at the front, and the tokens behind it

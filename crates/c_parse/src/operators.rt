@@ -6,7 +6,7 @@ ghost use Rattle.c_token.specs.Lexemes.{word_view, lexemes};
 ghost use Rattle.c_parse.specs.Operators.{binary_operator, operator_at, assignment_operator, assignment_at, prefix_operator, is_beginning, begins_expression};
 
 use c_token::{Keyword, Kind, Punctuator, Token};
-use c_tree::{AssignmentOperator, BinaryOperator, PrefixOperator};
+use c_tree::{Arithmetic, AssignmentOperator, BinaryOperator, PrefixOperator};
 
 /// How many levels of operators there are between two operands; the first binds tightest.
 pub const LEVELS: usize = 10;
@@ -70,16 +70,16 @@ fn assignment_operator(punctuator: Punctuator) -> Option<AssignmentOperator>
 {
     match punctuator {
         Punctuator::Equal => Some(AssignmentOperator::Assign),
-        Punctuator::StarEqual => Some(AssignmentOperator::Multiply),
-        Punctuator::SlashEqual => Some(AssignmentOperator::Divide),
-        Punctuator::PercentEqual => Some(AssignmentOperator::Remainder),
-        Punctuator::PlusEqual => Some(AssignmentOperator::Add),
-        Punctuator::MinusEqual => Some(AssignmentOperator::Subtract),
-        Punctuator::ShiftLeftEqual => Some(AssignmentOperator::ShiftLeft),
-        Punctuator::ShiftRightEqual => Some(AssignmentOperator::ShiftRight),
-        Punctuator::AmpersandEqual => Some(AssignmentOperator::BitAnd),
-        Punctuator::CaretEqual => Some(AssignmentOperator::BitXor),
-        Punctuator::BarEqual => Some(AssignmentOperator::BitOr),
+        Punctuator::StarEqual => Some(AssignmentOperator::With(Arithmetic::Multiply)),
+        Punctuator::SlashEqual => Some(AssignmentOperator::With(Arithmetic::Divide)),
+        Punctuator::PercentEqual => Some(AssignmentOperator::With(Arithmetic::Remainder)),
+        Punctuator::PlusEqual => Some(AssignmentOperator::With(Arithmetic::Add)),
+        Punctuator::MinusEqual => Some(AssignmentOperator::With(Arithmetic::Subtract)),
+        Punctuator::ShiftLeftEqual => Some(AssignmentOperator::With(Arithmetic::ShiftLeft)),
+        Punctuator::ShiftRightEqual => Some(AssignmentOperator::With(Arithmetic::ShiftRight)),
+        Punctuator::AmpersandEqual => Some(AssignmentOperator::With(Arithmetic::BitAnd)),
+        Punctuator::CaretEqual => Some(AssignmentOperator::With(Arithmetic::BitXor)),
+        Punctuator::BarEqual => Some(AssignmentOperator::With(Arithmetic::BitOr)),
         _ => None,
     }
 }

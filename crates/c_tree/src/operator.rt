@@ -1,5 +1,7 @@
 //! Operators.
 
+use crate::typed_expression::Arithmetic;
+
 /// An operator between two operands that associates to the left, but for the comma (ISO/IEC 9899:2011, 6.5.5 to 6.5.14).
 #[derive(Clone, Copy, PartialEq, Eq)]
 pub enum BinaryOperator {
@@ -65,26 +67,8 @@ pub enum PrefixOperator {
 /// An operator that assigns its right side to its left side (6.5.16).
 #[derive(Clone, Copy, PartialEq, Eq)]
 pub enum AssignmentOperator {
-    /// `=`
+    /// A plain assignment.
     Assign,
-    /// `*=`
-    Multiply,
-    /// `/=`
-    Divide,
-    /// `%=`
-    Remainder,
-    /// `+=`
-    Add,
-    /// `-=`
-    Subtract,
-    /// `<<=`
-    ShiftLeft,
-    /// `>>=`
-    ShiftRight,
-    /// `&=`
-    BitAnd,
-    /// `^=`
-    BitXor,
-    /// `|=`
-    BitOr,
+    /// An assignment with what an operation makes of both sides.
+    With(Arithmetic),
 }

@@ -19,7 +19,7 @@ use Rattle.c_type_expressions.specs.declared.names.Meaning.{Meaning}
 use Rattle.c_type_expressions.specs.declared.names.Meaning.TheVariants.{Function}
 use Rattle.c_type_expressions.specs.Names.{Names, SignatureTree, meaning_of}
 use Rattle.c_type_expressions.specs.Findings.{FoundTree, Checked, gives, next, with_one, with_two, with_three, judged, restored}
-use Rattle.c_type_expressions.specs.Judgements.{Meant, valued, number_of, named, literal_met, stepping, prefixed, cast, size_value, measured, sized, arithmetic_of, assignment_by, Passed, passed_to, before, uncallable, noted, called}
+use Rattle.c_type_expressions.specs.Judgements.{Meant, valued, number_of, named, literal_met, stepping, prefixed, cast, size_value, measured, sized, assignment_by, Passed, passed_to, before, uncallable, noted, called}
 
 -- a constant token of value 0
 abbrev pub is_zero_core : CoreTree → Bool
@@ -80,7 +80,7 @@ module _ (names : Names) where
     typed (Conditional c a b) s =
         next (valued (typed c s)) (λ x t. next (valued (typed a t)) (λ y u. next (valued (typed b u)) (λ z. with_three x y z (λ v w r. judged (option_map IsValue (conditional v w r (is_zero a) (is_zero b))) OPERAND_TYPES (first_of c) (last_of b)))))
     typed (Assignment o a b) s =
-        next (typed a s) (λ x t. next (valued (typed b t)) (λ y. with_two x y (assignment_by (arithmetic_of o) (is_zero b) (first_of a) (last_of b))))
+        next (typed a s) (λ x t. next (valued (typed b t)) (λ y. with_two x y (assignment_by o (is_zero b) (first_of a) (last_of b))))
     typed (Comma a b) s = next (valued (typed a s)) (λ x t. next (valued (typed b t)) (λ y. with_two x y (λ v w. gives (Some (IsValue (sequenced v w))))))
 
     -- arguments, each for its parameter, from that of a number on; there is one for each parameter

@@ -19,8 +19,7 @@ use Rattle.c_tree.specs.declared.object_type.ObjectType.{ObjectType}
 use Rattle.c_tree.specs.declared.object_type.ObjectType.TheVariants.{Array}
 use Rattle.c_tree.specs.declared.object_type.ValueType.{ValueType}
 use Rattle.c_tree.specs.declared.object_type.ValueType.TheVariants.{Void, Integer, Pointer}
-use Rattle.c_tree.specs.declared.typed_expression.Arithmetic as declared-arithmetic
-use Rattle.c_tree.specs.declared.typed_expression.Arithmetic.TheVariants as arithmetic
+use Rattle.c_tree.specs.declared.typed_expression.Arithmetic.{Arithmetic}
 use Rattle.c_tree.specs.declared.typed_expression.Sign.TheVariants.{Plus, Minus, Complement}
 use Rattle.c_tree.specs.declared.typed_expression.Direction.{Direction}
 use Rattle.c_tree.specs.declared.typed_expression.Direction.TheVariants.{Up, Down}
@@ -142,28 +141,14 @@ assigning (Some v) first last m s = gives (Some (IsValue (assigned m (Some v))))
 assigning None first last m s = gives (Some (IsValue (assigned m None))) (writing (is_modifiable m) first last (faulted OPERAND_TYPES first last s))
 
 -- `+=` and the like: types that the operator takes (E22), on what can be written (E23)
-abbrev pub updating : declared-arithmetic.Arithmetic → Spot → ℕ → MeantTree → ValueTree → FoundTree → Meant
+abbrev pub updating : Arithmetic → Spot → ℕ → MeantTree → ValueTree → FoundTree → Meant
 updating o first last m v s =
     gives (Some (IsValue (updated o m v))) (writing (is_modifiable m) first last (if is_updatable o (meant_type m) v.of then s else faulted OPERAND_TYPES first last s))
 
--- the arithmetic of an operator that assigns; none of `=`
-abbrev pub arithmetic_of : AssignmentOperator → Option declared-arithmetic.Arithmetic
-arithmetic_of assignment.Assign = None
-arithmetic_of assignment.Multiply = Some arithmetic.Multiply
-arithmetic_of assignment.Divide = Some arithmetic.Divide
-arithmetic_of assignment.Remainder = Some arithmetic.Remainder
-arithmetic_of assignment.Add = Some arithmetic.Add
-arithmetic_of assignment.Subtract = Some arithmetic.Subtract
-arithmetic_of assignment.ShiftLeft = Some arithmetic.ShiftLeft
-arithmetic_of assignment.ShiftRight = Some arithmetic.ShiftRight
-arithmetic_of assignment.BitAnd = Some arithmetic.BitAnd
-arithmetic_of assignment.BitXor = Some arithmetic.BitXor
-arithmetic_of assignment.BitOr = Some arithmetic.BitOr
-
 -- an assignment; the flag says that its right side is a constant token 0
-abbrev pub assignment_by : Option declared-arithmetic.Arithmetic → Bool → Spot → ℕ → MeantTree → ValueTree → FoundTree → Meant
-assignment_by None zero first last m v = assigning (assignable (meant_type m) v zero) first last m
-assignment_by (Some o) zero first last m v = updating o first last m v
+abbrev pub assignment_by : AssignmentOperator → Bool → Spot → ℕ → MeantTree → ValueTree → FoundTree → Meant
+assignment_by assignment.Assign zero first last m v = assigning (assignable (meant_type m) v zero) first last m
+assignment_by (assignment.With o) zero first last m v = updating o first last m v
 
 -- arguments as they are passed, and whether each fits its parameter and there is one for each
 pub record Passed : Type 0 where

@@ -7,7 +7,7 @@ ghost use Rattle.c_type_values.specs.Values.{IsValue, as_value, meant_view, valu
 ghost use Rattle.c_type_values.specs.Operations.{combined, conditional, operation_of, sequenced, signed_value};
 ghost use Rattle.c_type_values.specs.Pointers.{element_of};
 ghost use Rattle.c_type_expressions.specs.Findings.{FoundTree, findings_view, gives, judged, with_one, with_three, with_two};
-ghost use Rattle.c_type_expressions.specs.Judgements.{address_of, arithmetic_of, assignable, assigning, assignment_by, cast, cast_from, cast_to, count_of, literal_met, measured, named, number_of, prefixed, size_of, size_value, sized, stepping, updating, writing};
+ghost use Rattle.c_type_expressions.specs.Judgements.{address_of, assignable, assigning, assignment_by, cast, cast_from, cast_to, count_of, literal_met, measured, named, number_of, prefixed, size_of, size_value, sized, stepping, updating, writing};
 
 use crate::findings::Findings;
 use crate::names::Meaning;
@@ -565,25 +565,6 @@ fn updating(
     Ok(Some(Meant::Value(made)))
 }
 
-/// The arithmetic of an operator that assigns; none of `=`.
-fn arithmetic_of(operator: AssignmentOperator) -> Option<Arithmetic>
-    ensures { result ≡ arithmetic_of operator }
-{
-    match operator {
-        AssignmentOperator::Assign => None,
-        AssignmentOperator::Multiply => Some(Arithmetic::Multiply),
-        AssignmentOperator::Divide => Some(Arithmetic::Divide),
-        AssignmentOperator::Remainder => Some(Arithmetic::Remainder),
-        AssignmentOperator::Add => Some(Arithmetic::Add),
-        AssignmentOperator::Subtract => Some(Arithmetic::Subtract),
-        AssignmentOperator::ShiftLeft => Some(Arithmetic::ShiftLeft),
-        AssignmentOperator::ShiftRight => Some(Arithmetic::ShiftRight),
-        AssignmentOperator::BitAnd => Some(Arithmetic::BitAnd),
-        AssignmentOperator::BitXor => Some(Arithmetic::BitXor),
-        AssignmentOperator::BitOr => Some(Arithmetic::BitOr),
-    }
-}
-
 /// An assignment.
 pub fn assignment(
     alloc: Global,
@@ -595,16 +576,18 @@ pub fn assignment(
     first: Spot,
     last: u32,
 ) -> Result<Option<Meant>, AllocError>
-    ensures { IfOk result (λ m. gives (option_map meant_view m) (findings_view found.new) ≡ with_two (option_map meant_view target) (option_map value_view value) (assignment_by (arithmetic_of operator) is_zero first last) (findings_view found.old)) }
+    ensures { IfOk result (λ m. gives (option_map meant_view m) (findings_view found.new) ≡ with_two (option_map meant_view target) (option_map value_view value) (assignment_by operator is_zero first last) (findings_view found.old)) }
 {
     let (Some(target), Some(value)) = (target, value) else {
         return Ok(None);
     };
-    match arithmetic_of(operator) {
-        None => {
+    match operator {
+        AssignmentOperator::Assign => {
             let given = given!(assignable(alloc, meant_type(&target), value, is_zero));
             assigning(alloc, found, target, given, first, last)
         }
-        Some(arithmetic) => updating(alloc, found, arithmetic, target, value, first, last),
+        AssignmentOperator::With(arithmetic) => updating(
+            alloc, found, arithmetic, target, value, first, last,
+        ),
     }
 }
