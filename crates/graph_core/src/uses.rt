@@ -71,17 +71,7 @@ impl Instr {
     {
         match self {
             Instr::Marker(place) => Some(*place),
-            Instr::Note { .. }
-            | Instr::Move { .. }
-            | Instr::Operate { .. }
-            | Instr::Truncate { .. }
-            | Instr::Same { .. }
-            | Instr::Address { .. }
-            | Instr::Load { .. }
-            | Instr::Store { .. }
-            | Instr::Zero { .. }
-            | Instr::CopyWords { .. }
-            | Instr::Call { .. } => None,
+            _ => None,
         }
     }
 

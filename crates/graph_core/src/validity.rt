@@ -41,16 +41,7 @@ fn counts(instruction: &Instr) -> u64
 {
     match instruction {
         Instr::Marker(_) | Instr::Note { .. } => 0,
-        Instr::Move { .. }
-        | Instr::Operate { .. }
-        | Instr::Truncate { .. }
-        | Instr::Same { .. }
-        | Instr::Address { .. }
-        | Instr::Load { .. }
-        | Instr::Store { .. }
-        | Instr::Zero { .. }
-        | Instr::CopyWords { .. }
-        | Instr::Call { .. } => 1,
+        _ => 1,
     }
 }
 
@@ -60,17 +51,7 @@ fn arguments_in(instruction: &Instr) -> u64
 {
     match instruction {
         Instr::Call { arguments, .. } => arguments.len() as u64,
-        Instr::Marker(_)
-        | Instr::Note { .. }
-        | Instr::Move { .. }
-        | Instr::Operate { .. }
-        | Instr::Truncate { .. }
-        | Instr::Same { .. }
-        | Instr::Address { .. }
-        | Instr::Load { .. }
-        | Instr::Store { .. }
-        | Instr::Zero { .. }
-        | Instr::CopyWords { .. } => 0,
+        _ => 0,
     }
 }
 
@@ -96,50 +77,38 @@ fn share(counted: Counted, instruction: &Instr) -> u64
 fn count_in(counted: Counted, instructions: &[Instr]) -> u64
     ensures { result ≡ min (total (share counted) (map instruction_view instructions.now)) (2 ^ 64 - 1) }
 {
-    let mut sum = 0u64;
-    let mut left = instructions;
-    while let [first, rest @ ..] = left {
-        sum = sum.saturating_add(share(counted, first));
-        left = rest;
-    }
-    sum
+    instructions.iter().fold(
+        0,
+        |sum, instruction| sum.saturating_add(share(counted, instruction)),
+    )
 }
 
 fn count_in_blocks(counted: Counted, blocks: &[Block]) -> u64
     ensures { result ≡ min (count_in_blocks counted (map block_view blocks.now)) (2 ^ 64 - 1) }
 {
-    let mut sum = 0u64;
-    let mut left = blocks;
-    while let [first, rest @ ..] = left {
-        sum = sum.saturating_add(count_in(counted, &first.instructions));
-        left = rest;
-    }
-    sum
+    blocks.iter().fold(
+        0,
+        |sum, block| sum.saturating_add(count_in(counted, &block.instructions)),
+    )
 }
 
 fn count_in_graphs(counted: Counted, graphs: &[Graph]) -> u64
     ensures { result ≡ min (count_in_graphs counted (map graph_view graphs.now)) (2 ^ 64 - 1) }
 {
-    let mut sum = 0u64;
-    let mut left = graphs;
-    while let [first, rest @ ..] = left {
-        sum = sum.saturating_add(count_in_blocks(counted, &first.blocks));
-        left = rest;
-    }
-    sum
+    graphs.iter().fold(
+        0,
+        |sum, graph| sum.saturating_add(count_in_blocks(counted, &graph.blocks)),
+    )
 }
 
 /// How many blocks graphs have, or the greatest number where it is more.
 fn count_blocks(graphs: &[Graph]) -> u64
     ensures { result ≡ min (total (λ g. length g.blocks) (map graph_view graphs.now)) (2 ^ 64 - 1) }
 {
-    let mut sum = 0u64;
-    let mut left = graphs;
-    while let [first, rest @ ..] = left {
-        sum = sum.saturating_add(first.blocks.len() as u64);
-        left = rest;
-    }
-    sum
+    graphs.iter().fold(
+        0,
+        |sum, graph| sum.saturating_add(graph.blocks.len() as u64),
+    )
 }
 
 /// What so many bytes take, or the greatest number where it is more.
@@ -153,41 +122,30 @@ fn taken_by(bytes: u64) -> u64
 fn taken_by_objects(objects: &[MemoryObject]) -> u64
     ensures { result ≡ min (total taken_by_object objects.now) (2 ^ 64 - 1) }
 {
-    let mut sum = 0u64;
-    let mut left = objects;
-    while let [first, rest @ ..] = left {
-        let bytes = first.element.bytes_of(first.count);
-        sum = sum.saturating_add(taken_by(bytes));
-        left = rest;
-    }
-    sum
+    objects.iter().fold(
+        0,
+        |sum, object| sum.saturating_add(taken_by(object.element.bytes_of(object.count))),
+    )
 }
 
 /// What static objects take.
 fn taken_by_statics(objects: &[StaticObject]) -> u64
     ensures { result ≡ min (total (λ o. taken_by (static_bytes o)) (map static_view objects.now)) (2 ^ 64 - 1) }
 {
-    let mut sum = 0u64;
-    let mut left = objects;
-    while let [first, rest @ ..] = left {
-        let bytes = first.element.bytes_of(first.count);
-        sum = sum.saturating_add(taken_by(bytes));
-        left = rest;
-    }
-    sum
+    objects.iter().fold(
+        0,
+        |sum, object| sum.saturating_add(taken_by(object.element.bytes_of(object.count))),
+    )
 }
 
 /// What the bytes that initialise arrays take.
 fn taken_by_bytes(all: &[Bytes]) -> u64
     ensures { result ≡ min (total (λ b. taken_by (length b)) (map bytes_view all.now)) (2 ^ 64 - 1) }
 {
-    let mut sum = 0u64;
-    let mut left = all;
-    while let [first, rest @ ..] = left {
-        sum = sum.saturating_add(taken_by(first.bytes.len() as u64));
-        left = rest;
-    }
-    sum
+    all.iter().fold(
+        0,
+        |sum, one| sum.saturating_add(taken_by(one.bytes.len() as u64)),
+    )
 }
 
 /// Whether a recipe is at most so deep.
@@ -279,14 +237,9 @@ fn is_operand(unit: &Unit, graph: &Graph, operand: Operand) -> bool
 fn are_operands(unit: &Unit, graph: &Graph, operands: &[Operand]) -> bool
     ensures { IsTrue result ↔ AllByRecursion (IsOperand (unit_view unit.now).statics (graph_view graph.now)) (map operand_view operands.now) }
 {
-    let mut left = operands;
-    while let [first, rest @ ..] = left {
-        if !is_operand(unit, graph, *first) {
-            return false;
-        }
-        left = rest;
-    }
-    true
+    operands
+        .iter()
+        .all(|operand| is_operand(unit, graph, *operand))
 }
 
 /// Whether a recipe is of operands that its graph and its unit have.
@@ -395,14 +348,9 @@ fn is_instruction(unit: &Unit, graph: &Graph, instruction: &Instr) -> bool
 fn are_instructions(unit: &Unit, graph: &Graph, instructions: &[Instr]) -> bool
     ensures { IsTrue result ↔ AllByRecursion (IsInstruction (unit_view unit.now) (graph_view graph.now)) (map instruction_view instructions.now) }
 {
-    let mut left = instructions;
-    while let [first, rest @ ..] = left {
-        if !is_instruction(unit, graph, first) {
-            return false;
-        }
-        left = rest;
-    }
-    true
+    instructions
+        .iter()
+        .all(|instruction| is_instruction(unit, graph, instruction))
 }
 
 fn are_operands_of_end(unit: &Unit, graph: &Graph, end: End) -> bool
@@ -528,14 +476,7 @@ fn is_block(unit: &Unit, graph: &Graph, block: &Block) -> bool
 fn are_blocks(unit: &Unit, graph: &Graph, blocks: &[Block]) -> bool
     ensures { IsTrue result ↔ AllByRecursion (IsBlock (unit_view unit.now) (graph_view graph.now)) (map block_view blocks.now) }
 {
-    let mut left = blocks;
-    while let [first, rest @ ..] = left {
-        if !is_block(unit, graph, first) {
-            return false;
-        }
-        left = rest;
-    }
-    true
+    blocks.iter().all(|block| is_block(unit, graph, block))
 }
 
 fn is_binding(graph: &Graph, binding: Binding) -> bool
@@ -550,14 +491,7 @@ fn is_binding(graph: &Graph, binding: Binding) -> bool
 fn are_bindings(graph: &Graph, bindings: &[Binding]) -> bool
     ensures { IsTrue result ↔ AllByRecursion (IsBinding (graph_view graph.now)) (map binding_view bindings.now) }
 {
-    let mut left = bindings;
-    while let [first, rest @ ..] = left {
-        if !is_binding(graph, *first) {
-            return false;
-        }
-        left = rest;
-    }
-    true
+    bindings.iter().all(|binding| is_binding(graph, *binding))
 }
 
 fn is_graph(unit: &Unit, graph: &Graph) -> bool
@@ -587,40 +521,23 @@ fn is_graph(unit: &Unit, graph: &Graph) -> bool
 fn are_graphs(unit: &Unit, graphs: &[Graph]) -> bool
     ensures { IsTrue result ↔ AllByRecursion (IsGraph (unit_view unit.now)) (map graph_view graphs.now) }
 {
-    let mut left = graphs;
-    while let [first, rest @ ..] = left {
-        if !is_graph(unit, first) {
-            return false;
-        }
-        left = rest;
-    }
-    true
+    graphs.iter().all(|graph| is_graph(unit, graph))
 }
 
 fn are_relocations(unit: &Unit, relocations: &[Relocation]) -> bool
     ensures { IsTrue result ↔ AreRelocations (unit_view unit.now).statics relocations.now }
 {
-    let mut left = relocations;
-    while let [first, rest @ ..] = left {
-        if !is_static(unit, first.object) {
-            return false;
-        }
-        left = rest;
-    }
-    true
+    relocations
+        .iter()
+        .all(|relocation| is_static(unit, relocation.object))
 }
 
 fn have_relocations(unit: &Unit, objects: &[StaticObject]) -> bool
     ensures { IsTrue result ↔ AllByRecursion (λ o. AreRelocations (unit_view unit.now).statics o.relocations) (map static_view objects.now) }
 {
-    let mut left = objects;
-    while let [first, rest @ ..] = left {
-        if !are_relocations(unit, &first.relocations) {
-            return false;
-        }
-        left = rest;
-    }
-    true
+    objects
+        .iter()
+        .all(|object| are_relocations(unit, &object.relocations))
 }
 
 /// Whether a place, if an instruction begins one, has no other marker in graphs.
@@ -636,41 +553,25 @@ fn is_once(graphs: &[Graph], instruction: &Instr) -> bool
 fn are_marked_once_in(graphs: &[Graph], instructions: &[Instr]) -> bool
     ensures { IsTrue result ↔ AreMarkedOnceIn (map graph_view graphs.now) (map instruction_view instructions.now) }
 {
-    let mut left = instructions;
-    while let [first, rest @ ..] = left {
-        if !is_once(graphs, first) {
-            return false;
-        }
-        left = rest;
-    }
-    true
+    instructions
+        .iter()
+        .all(|instruction| is_once(graphs, instruction))
 }
 
 fn are_marked_once_in_blocks(graphs: &[Graph], blocks: &[Block]) -> bool
     ensures { IsTrue result ↔ AreMarkedOnceInBlocks (map graph_view graphs.now) (map block_view blocks.now) }
 {
-    let mut left = blocks;
-    while let [first, rest @ ..] = left {
-        if !are_marked_once_in(graphs, &first.instructions) {
-            return false;
-        }
-        left = rest;
-    }
-    true
+    blocks
+        .iter()
+        .all(|block| are_marked_once_in(graphs, &block.instructions))
 }
 
 /// Whether no place that some graphs begin has another marker in all graphs.
 fn are_marked_once(graphs: &[Graph], some: &[Graph]) -> bool
     ensures { IsTrue result ↔ AreMarkedOnce (map graph_view graphs.now) (map graph_view some.now) }
 {
-    let mut left = some;
-    while let [first, rest @ ..] = left {
-        if !are_marked_once_in_blocks(graphs, &first.blocks) {
-            return false;
-        }
-        left = rest;
-    }
-    true
+    some.iter()
+        .all(|graph| are_marked_once_in_blocks(graphs, &graph.blocks))
 }
 
 impl Unit {

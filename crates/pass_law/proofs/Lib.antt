@@ -4,6 +4,7 @@ pub mod FirstPasses
 pub mod KeptTrails
 pub mod NamesSame
 pub mod Inversions
+pub mod WorkedValid
 pub mod WorkedBuilt
 pub mod WorkedReduced
 pub mod WorkedPass

@@ -1,17 +1,17 @@
 -- The unit of a small program is well marked.
-use Rattle.std.proofs.Common.{◌≡◌, ◌≢◌, ℕ, zero, suc, inl, inr, true, false, List, [], ◌∷◌, length, Option, Some, None, refl, sym, subst, slice_get, lit≤, lit<}
+use Rattle.std.proofs.Common.{◌≡◌, ◌≢◌, ℕ, zero, suc, inl, true, false, List, [], ◌∷◌, length, Option, Some, None, refl, sym, subst, slice_get, lit≤, lit<}
 use Rattle.places.specs.Flow.{can_go, assigns}
 use Rattle.graph_core.specs.declared.instruction.Callee.TheVariants.{Putchar}
 use Rattle.graph_core.specs.declared.value.Value.{Value}
 use Rattle.graph_core.specs.Graphs.{Operand, Name, Constant, Of, NoteValue, Is, Instruction, Marker, Note, Move, Zero, CopyWords, Call, End, Jump, Return, Block, Graph}
 use Rattle.graph_core.specs.Uses.{targets_of}
-use Rattle.graph_core.specs.Paths as paths
 use Rattle.graph_core.specs.Paths.{Passed, History, Among, Way, stays, passes, goes, Path, path, place_of, writes, is_call, written, owed}
 use Rattle.graph_core.specs.Validity.{IsValid}
 use Rattle.graph_core.specs.WellMarked as marked
 use Rattle.graph_core.specs.WellMarked.{StandsIn, here, InPlace, ComesToMarker, at_marker, WrittenIn, instruction, bound, IsRightNote, IsWellMarked, AreWellMarked}
 use Rattle.pass_law.specs.Worked.{block, entry_block, return_block, assigns_two, unreached, unreached_block, assigning, built}
 use Rattle.pass_law.proofs.Inversions.{some_same, none_is_some, false_is_true, among_one, among_none, only_scalar, no_local, apart, only_block, each_block, to_block}
+use Rattle.pass_law.proofs.WorkedValid.{valid_with}
 
 abbrev passed : ℕ → ℕ → Instruction → Value → Passed
 passed n left i v = record { block = n; left = left; instruction = i; wrote = v }
@@ -189,53 +189,8 @@ well_marked = record {
   local_at_end = λ h n t e of at reads. absurd (no_local t of.temporary of.not_moved);
 }
 
-some_is_none : ◌≢◌ {A = Option ℕ} (Some 2) None
-some_is_none e = cc
-
 valid : IsValid built
-valid = record {
-  functions = lit≤ tt;
-  main = refl;
-  instructions = lit≤ tt;
-  blocks = lit≤ tt;
-  markers = lit≤ tt;
-  arguments = lit≤ tt;
-  statics = lit≤ tt;
-  relocations = tt;
-  once = ((apart 1 2 (lit< tt), (apart 1 3 (lit< tt), tt)), ((apart 2 3 (lit< tt), tt), (tt, tt)));
-  graphs = (
-    record {
-      instructions = lit≤ tt;
-      names = lit≤ tt;
-      scalars = lit≤ tt;
-      temporaries = lit≤ tt;
-      parameters = lit≤ tt;
-      bindings = tt;
-      objects = lit≤ tt;
-      begins = tt;
-      blocks = (
-        record { place = tt; own = tt; instructions = (tt, tt); operands = tt; edges = (tt, tt) },
-        (
-          record { place = tt; own = inl refl; instructions = (tt, ((lit< tt, tt), ((lit< tt, (lit< tt, lit≤ tt)), tt))); operands = tt; edges = (tt, tt) },
-          (
-            record { place = tt; own = inr (paths.behind paths.front); instructions = (tt, tt); operands = lit< tt; edges = tt },
-            (
-              record {
-                place = some_is_none;
-                own = inr (paths.behind paths.front);
-                instructions = ((lit< tt, (lit< tt, lit≤ tt)), ((tt, (lit< tt, tt), refl), tt));
-                operands = tt;
-                edges = (tt, tt);
-              },
-              tt,
-            ),
-          ),
-        ),
-      );
-    },
-    tt,
-  );
-}
+valid = valid_with (move ∷ note ∷ []) (Name 0) [] (lit≤ tt) refl refl ((lit< tt, tt), ((lit< tt, (lit< tt, lit≤ tt)), tt)) (lit< tt)
 
 pub built_is_marked : AreWellMarked built
 built_is_marked = record { valid = valid; graphs = λ f g is. marked_at f g is }

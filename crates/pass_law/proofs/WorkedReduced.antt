@@ -1,11 +1,10 @@
 -- The unit of a small program without its assignment is well marked, too.
-use Rattle.std.proofs.Common.{◌≡◌, ◌≢◌, ℕ, zero, suc, inl, inr, true, false, List, [], ◌∷◌, length, Option, Some, None, refl, sym, subst, slice_get, lit≤, lit<}
+use Rattle.std.proofs.Common.{◌≡◌, ◌≢◌, ℕ, zero, suc, inr, true, false, List, [], ◌∷◌, length, Option, Some, None, refl, sym, subst, slice_get, lit≤, lit<}
 use Rattle.places.specs.Flow.{can_go, assigns}
 use Rattle.graph_core.specs.declared.instruction.Callee.TheVariants.{Putchar}
 use Rattle.graph_core.specs.declared.value.Value.{Value}
 use Rattle.graph_core.specs.Graphs.{Operand, Name, Constant, Of, NoteValue, Is, Instruction, Marker, Note, Zero, CopyWords, Call, End, Jump, Return, Block, Graph}
 use Rattle.graph_core.specs.Uses.{targets_of}
-use Rattle.graph_core.specs.Paths as paths
 use Rattle.graph_core.specs.Paths.{Passed, History, Among, front, Way, stays, passes, goes, Path, path, place_of, writes, is_call, owed}
 use Rattle.graph_core.specs.Validity.{IsValid}
 use Rattle.graph_core.specs.WellMarked as marked
@@ -13,6 +12,7 @@ use Rattle.graph_core.specs.WellMarked.{StandsIn, here, InPlace, ComesToMarker, 
 use Rattle.debug_records.specs.declared.change.PassName.{PassName}
 use Rattle.pass_law.specs.Worked.{block, entry_block, return_block, notes_two, unreached, unreached_block, built, noting, removal, reduced}
 use Rattle.pass_law.proofs.Inversions.{some_same, none_is_some, false_is_true, among_one, among_none, only_scalar, no_local, apart, only_block, each_block, to_block}
+use Rattle.pass_law.proofs.WorkedValid.{valid_with}
 
 abbrev passed : ℕ → ℕ → Instruction → Value → Passed
 passed n left i v = record { block = n; left = left; instruction = i; wrote = v }
@@ -163,9 +163,6 @@ own_note (notes u v) is = other_note is
 unreached_comes : ComesToMarker noting unreached (Jump 2)
 unreached_comes = marked.on (marked.on (marked.goes (λ l b a is. to_block noting.blocks 2 _ refl (λ n rest e. ComesToMarker noting rest e) l b (among_one a) is at_marker)))
 
-some_is_none : ◌≢◌ {A = Option ℕ} (Some 2) None
-some_is_none e = cc
-
 module _ (pass : PassName) where
   well_marked : IsWellMarked (reduced pass) noting
   well_marked = record {
@@ -190,49 +187,7 @@ module _ (pass : PassName) where
   }
 
   valid : IsValid (reduced pass)
-  valid = record {
-    functions = lit≤ tt;
-    main = refl;
-    instructions = lit≤ tt;
-    blocks = lit≤ tt;
-    markers = lit≤ tt;
-    arguments = lit≤ tt;
-    statics = lit≤ tt;
-    relocations = tt;
-    once = ((apart 1 2 (lit< tt), (apart 1 3 (lit< tt), tt)), ((apart 2 3 (lit< tt), tt), (tt, tt)));
-    graphs = (
-      record {
-        instructions = lit≤ tt;
-        names = lit≤ tt;
-        scalars = lit≤ tt;
-        temporaries = lit≤ tt;
-        parameters = lit≤ tt;
-        bindings = tt;
-        objects = lit≤ tt;
-        begins = tt;
-        blocks = (
-          record { place = tt; own = tt; instructions = (tt, tt); operands = tt; edges = (tt, tt) },
-          (
-            record { place = tt; own = inl refl; instructions = (tt, ((lit< tt, (tt, lit≤ tt)), tt)); operands = tt; edges = (tt, tt) },
-            (
-              record { place = tt; own = inr (paths.behind paths.front); instructions = (tt, tt); operands = tt; edges = tt },
-              (
-                record {
-                  place = some_is_none;
-                  own = inr (paths.behind paths.front);
-                  instructions = ((lit< tt, (lit< tt, lit≤ tt)), ((tt, (lit< tt, tt), refl), tt));
-                  operands = tt;
-                  edges = (tt, tt);
-                },
-                tt,
-              ),
-            ),
-          ),
-        );
-      },
-      tt,
-    );
-  }
+  valid = valid_with (note ∷ []) (Constant 2) (removal pass ∷ []) (lit≤ tt) refl refl ((lit< tt, (tt, lit≤ tt)), tt) tt
 
   pub reduced_is_marked : AreWellMarked (reduced pass)
   reduced_is_marked = record { valid = valid; graphs = λ f g is. marked_at f g is }

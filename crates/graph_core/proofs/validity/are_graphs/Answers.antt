@@ -1,8 +1,9 @@
+use Rattle.std.proofs.Common.{rules, tests}
+use Rattle.std.proofs.lemmas.Iterator.{YieldsList-from_slice}
 use Rattle.graph_core.specs.Graphs.{graph_view, unit_view}
 use Rattle.graph_core.specs.Validity.{IsGraph}
-use Rattle.graph_core.proofs.Lists.{all_step}
+use Rattle.graph_core.proofs.Lists.{all_passes}
 use Rattle.graph_core.proofs.validity.are_graphs.Goals as goal
 
-pub loop-left-preserved : goal.loop-left-preserved
-loop-left-preserved c =
-    all_step (IsGraph (unit_view c.args.unit.now)) graph_view c.loop-left.left.now c.first-item.result _ _ c.in-len1-up.len_at_least c.first-item.is (c.is_graph.ensures.0 c.if-not-is_graph.false) c.loop-left.invariant
+pub returns : goal.returns
+returns c = all_passes (IsGraph (unit_view c.args.unit.now)) graph_view _ _ _ c.all.ensures.ran (YieldsList-from_slice c.args.graphs.now cc) (λ x b q k. search (rules, tests))

@@ -1,0 +1,9 @@
+use Rattle.std.proofs.Common.{rules, tests}
+use Rattle.std.proofs.lemmas.Iterator.{YieldsList-from_slice}
+use Rattle.graph_core.specs.Graphs.{block_view, graph_view, unit_view}
+use Rattle.graph_core.specs.Validity.{IsBlock}
+use Rattle.graph_core.proofs.Lists.{all_passes}
+use Rattle.graph_core.proofs.validity.are_blocks.Goals as goal
+
+pub returns : goal.returns
+returns c = all_passes (IsBlock (unit_view c.args.unit.now) (graph_view c.args.graph.now)) block_view _ _ _ c.all.ensures.ran (YieldsList-from_slice c.args.blocks.now cc) (λ x b q k. search (rules, tests))
