@@ -1,9 +1,11 @@
 -- Walks inside blocks.
-use Rattle.std.proofs.Common.{◌≡◌, ℕ, zero, suc, ◌<◌, ◌≤◌, ◌⊎◌, inl, inr, Bool, true, false, List, [], ◌∷◌, refl, sym, ap, ◌∙◌, subst, arith}
+use Rattle.std.proofs.Common.{◌≡◌, ℕ, zero, suc, ◌<◌, ◌≤◌, ◌⊎◌, inl, inr, Bool, true, false, List, [], ◌∷◌, ◌++◌, ◌+◌, ◌-◌, map, length, drop, get_or, reverse, refl, sym, ap, ◌∙◌, subst, arith}
 use Rattle.std.specs.Prelude.{◌||◌, ◌&&◌, not}
 use Rattle.std.specs.Cmp.{nat_cmp_total, unsigned_tied}
 use Rattle.std.specs.FinSet.{contains, contains-insert, contains-remove}
 use Rattle.std.proofs.lemmas.Bool.{cases_lt, eq-eqb, ne_eqb}
+use Rattle.std.proofs.lemmas.List.{length-map, length-drop, drop_more, reverse-append}
+use Rattle.graph_core.specs.Graphs.{Instruction, End}
 use Rattle.bit_rows.specs.Grid.{met_bit}
 use Rattle.graph_solve.specs.declared.inside.Effect.{Effect}
 use Rattle.graph_solve.specs.declared.inside.Effect.TheVariants.{Sets, Clears, Leaves}
@@ -11,7 +13,7 @@ use Rattle.graph_solve.specs.Numbers.{Numbers, IsBelow}
 use Rattle.graph_solve.specs.Problem.{DataFlow}
 use Rattle.graph_solve.specs.Paths.{ControlFlow, along, Comes}
 use Rattle.graph_solve.specs.Meets.{SomeMeet, one, both, IsMeetOf}
-use Rattle.graph_solve.specs.Inside.{effect_on, moved_one, moved, walked, one_behind, in_all, WalkIsTransfer, ComesInside, WalkIsMet}
+use Rattle.graph_solve.specs.Inside.{effect_on, moved_one, moved, walked, one_behind, in_all, WalkIsTransfer, ComesInside, WalkIsMet, steps_in}
 use Rattle.graph_solve.specs.GraphFlow.{graph_flow}
 use Rattle.graph_solve.specs.SetLaws.{equal}
 use Rattle.graph_solve.proofs.Falling.{along_value}
@@ -116,3 +118,40 @@ module _ (flow : DataFlow) (steps : List (ℕ → Effect)) where
 
 pub walk_met : (flow : DataFlow) → WalkIsMet flow
 walk_met flow g block steps facts met = met_inside flow steps (graph_flow g) block facts met
+
+-- one step of a walk over a block
+module _ {X : Type 0} (f : X → Instruction) (width : ℕ) (effect : (left : ℕ) → Instruction → ℕ → Effect) (at_end : End → ℕ → Effect) (items : List X) (end : End) where
+  abbrev pub rest_from : ℕ → List (ℕ → Effect)
+  rest_from k = steps_in effect at_end (map f (drop k items)) end
+
+  left_behind : (k : ℕ) → k < length items → length (map f (drop (k + 1) items)) ≡ length items - 1 - k
+  left_behind k lt = length-map (drop (k + 1) items) f ∙ length-drop (k + 1) items ∙ omega (arith, lt)
+
+  next_step : (k : ℕ) (d : X) → k < length items → rest_from k ≡ effect (length items - 1 - k) (f (get_or items k d)) ∷ rest_from (k + 1)
+  next_step k d lt = ap (λ xs. steps_in effect at_end (map f xs) end) (drop_more items k d lt) ∙ ap (λ n. effect n (f (get_or items k d)) ∷ rest_from (k + 1)) (left_behind k lt)
+
+  pub forward_step : (k : ℕ) (d : X) (facts : Numbers) → k < length items → walked width (rest_from k) facts ≡ walked width (rest_from (k + 1)) (moved width (effect (length items - 1 - k) (f (get_or items k d))) facts)
+  forward_step k d facts lt = ap (λ steps. walked width steps facts) (next_step k d lt)
+
+  walked_last : (steps : List (ℕ → Effect)) (last : ℕ → Effect) (facts : Numbers) → walked width (steps ++ last ∷ []) facts ≡ moved width last (walked width steps facts)
+  walked_last [] last facts = refl
+  walked_last (effect ∷ more) last facts = walked_last more last (moved width effect facts)
+
+  pub backward_step : (k : ℕ) (d : X) (facts : Numbers) → k < length items → walked width (reverse (rest_from k)) facts ≡ moved width (effect (length items - 1 - k) (f (get_or items k d))) (walked width (reverse (rest_from (k + 1))) facts)
+  backward_step k d facts lt =
+      let last = effect (length items - 1 - k) (f (get_or items k d)) in
+      ap (λ steps. walked width (reverse steps) facts) (next_step k d lt) ∙ ap (λ steps. walked width steps facts) (reverse-append (last ∷ []) (rest_from (k + 1))) ∙ walked_last (reverse (rest_from (k + 1))) last facts
+
+  -- the same by how many instructions stand behind
+  pub backward_more : (left at : ℕ) (d : X) (facts : Numbers) → left < length items → at ≡ length items - 1 - left → moved width (effect left (f (get_or items at d))) (walked width (reverse (rest_from (length items - left))) facts) ≡ walked width (reverse (rest_from (length items - (left + 1)))) facts
+  backward_more left at d facts lt e =
+      let k = length items - (left + 1) in
+      let behind : length items - 1 - k ≡ left = omega (arith, lt) in
+      let here : k ≡ at = omega (arith, lt, e) in
+      let next : k + 1 ≡ length items - left = omega (arith, lt) in
+      sym (
+      backward_step k d facts (omega (arith, lt))
+      ∙ ap (λ n. moved width (effect n (f (get_or items k d))) (walked width (reverse (rest_from (k + 1))) facts)) behind
+      ∙ ap (λ n. moved width (effect left (f (get_or items n d))) (walked width (reverse (rest_from (k + 1))) facts)) here
+      ∙ ap (λ n. moved width (effect left (f (get_or items at d))) (walked width (reverse (rest_from n)) facts)) next
+      )

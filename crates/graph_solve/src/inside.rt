@@ -1,11 +1,11 @@
 //! Facts inside a block, from the facts at one of its ends.
 
-ghost use Rattle.std.specs.Prelude.{◌≡◌, ℕ, OnOk};
-ghost use Rattle.graph_core.specs.Graphs.{End as GraphEnd, Instruction, end_view, instruction_view};
-ghost use Rattle.graph_solve.specs.Inside.{effect_on, moved, moved_one};
+ghost use Rattle.std.specs.Prelude.{◌≡◌, ℕ, true, false, OnOk};
+ghost use Rattle.graph_core.specs.Graphs.{End as GraphEnd, Instruction, block_view, end_view, instruction_view};
+ghost use Rattle.graph_solve.specs.Inside.{effect_on, moved, moved_one, steps_along, walked};
 
 use crate::facts::Facts;
-use graph_core::{End, Instr};
+use graph_core::{Block, End, Instr};
 use std::alloc::AllocError;
 
 /// What an instruction, or a block's end, does to a fact.
@@ -99,4 +99,66 @@ pub fn step_over_end<E: Effects>(
         move_one(effect, fact, facts)?;
     }
     Ok(())
+}
+
+/// Walks over the instructions of a block and then over its end.
+fn walk_forward<E: Effects>(
+    effects: &E,
+    number: u32,
+    block: &Block,
+    width: u32,
+    facts: &mut Facts,
+) -> Result<(), AllocError>
+    ensures { OnOk result (facts.new ≡ walked width (steps_along true (E.effect effects.now number) (E.at_end effects.now number) (block_view block.now)) facts.old) }
+{
+    let count = block.instructions.len();
+    for passed in 0..count {
+        let left = count - 1 - passed;
+        step_over(
+            effects,
+            number,
+            left,
+            &block.instructions[passed],
+            width,
+            facts,
+        )?;
+    }
+    step_over_end(effects, number, &block.end, width, facts)
+}
+
+/// Walks over the end of a block and then over its instructions, the last first.
+fn walk_backward<E: Effects>(
+    effects: &E,
+    number: u32,
+    block: &Block,
+    width: u32,
+    facts: &mut Facts,
+) -> Result<(), AllocError>
+    ensures { OnOk result (facts.new ≡ walked width (steps_along false (E.effect effects.now number) (E.at_end effects.now number) (block_view block.now)) facts.old) }
+{
+    step_over_end(effects, number, &block.end, width, facts)?;
+    let count = block.instructions.len();
+    for left in 0..count {
+        let at = count - 1 - left;
+        step_over(effects, number, left, &block.instructions[at], width, facts)?;
+    }
+    Ok(())
+}
+
+/// Walks over a whole block as paths of a direction go: from the facts at the one end of the block to those at the other.
+pub fn walk_over<E: Effects>(
+    effects: &E,
+    number: u32,
+    block: &Block,
+    forward: bool,
+    width: u32,
+    facts: &mut Facts,
+) -> Result<(), AllocError>
+    ensures { OnOk result (facts.new ≡ walked width (steps_along forward (E.effect effects.now number) (E.at_end effects.now number) (block_view block.now)) facts.old) }
+{
+    if forward {
+        walk_forward(effects, number, block, width, facts)
+    } else {
+        walk_backward(effects, number, block, width, facts)
+    }
 }

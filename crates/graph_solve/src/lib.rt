@@ -24,7 +24,7 @@ mod work;
 pub use facts::Facts;
 pub use flow_graph::{Edge, FlowGraph};
 pub use graph::{solve, solve_counted, solve_in_rows, solve_plain, targets_are_within};
-pub use inside::{Effect, Effects, step_over, step_over_end};
+pub use inside::{Effect, Effects, step_over, step_over_end, walk_over};
 pub use laws::{is_live_inside, unread_is_not_read_first, walk_is_met, walk_is_transfer};
 pub use live_names::{live, live_before, live_before_end};
 pub use plain::solve_flow_plain;
