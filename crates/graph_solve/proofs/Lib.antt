@@ -24,3 +24,4 @@ pub mod Reading
 pub mod Waiting
 pub mod Unread
 pub mod Asking
+pub mod Walking

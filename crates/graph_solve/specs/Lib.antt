@@ -8,6 +8,7 @@ pub mod SetLaws
 pub mod SetProblems
 pub mod GraphFlow
 pub mod Live
+pub mod Inside
 pub mod Unread
 pub mod LiveLaws
 pub mod First

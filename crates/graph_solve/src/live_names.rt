@@ -4,8 +4,8 @@ ghost use Rattle.std.specs.Prelude.{◌≡◌, ◌≤◌, ◌^◌, IfOk, OnOk, l
 ghost use Rattle.std.specs.FinSet.{empty};
 ghost use Rattle.graph_core.specs.Paths as paths;
 ghost use Rattle.graph_solve.specs.Live as later;
-ghost use Rattle.graph_core.specs.Graphs.{block_view, graph_view, instruction_view};
-ghost use Rattle.graph_core.specs.Uses.{numbers};
+ghost use Rattle.graph_core.specs.Graphs.{block_view, end_view, graph_view, instruction_view};
+ghost use Rattle.graph_core.specs.Uses.{numbers, reads_of_end};
 ghost use Rattle.graph_solve.specs.GraphFlow.{AreTargetsWithin};
 ghost use Rattle.graph_solve.specs.Live.{AreLive, before_block, before_one, with_names};
 ghost use Rattle.graph_solve.specs.LiveLaws.{live_flow};
@@ -14,7 +14,7 @@ use crate::facts::Facts;
 use crate::graph::solve;
 use crate::problem::Problem;
 use crate::solved_rows::Solution;
-use graph_core::{Block, Graph, Instr, Name};
+use graph_core::{Block, End, Graph, Instr, Name};
 use std::alloc::{AllocError, Global};
 
 /// Puts the names below the width into the set.
@@ -29,8 +29,9 @@ fn add_names(names: &[Name], width: u32, live: &mut Facts) -> Result<(), AllocEr
     Ok(())
 }
 
-/// From the names that are live behind an instruction to those that are live before it.
-fn step_back(
+/// From the names that are live behind an instruction to those that are live before it. So the names that are live inside a block are known from those at
+/// its end.
+pub fn live_before(
     alloc: Global,
     instruction: &Instr,
     width: u32,
@@ -44,6 +45,18 @@ fn step_back(
     add_names(&instruction.reads(alloc)?, width, live)
 }
 
+/// From the names that are live behind the end of a block to those that are live before it, behind the last instruction.
+pub fn live_before_end(
+    alloc: Global,
+    end: &End,
+    width: u32,
+    live: &mut Facts,
+) -> Result<(), AllocError>
+    ensures { OnOk result (live.new ≡ with_names width (reads_of_end (end_view end.now)) live.old) }
+{
+    add_names(&end.reads(alloc)?, width, live)
+}
+
 /// The names that are live at the start of a block, from those at its end.
 fn live_at_start(
     alloc: Global,
@@ -54,11 +67,11 @@ fn live_at_start(
     ensures { IfOk result (λ live. live ≡ before_block width (block_view block.now) behind.now) }
 {
     let mut live = behind.duplicate()?;
-    add_names(&block.end.reads(alloc)?, width, &mut live)?;
+    live_before_end(alloc, &block.end, width, &mut live)?;
     let mut left = block.instructions.len();
     while left > 0 {
         left -= 1;
-        step_back(alloc, &block.instructions[left], width, &mut live)?;
+        live_before(alloc, &block.instructions[left], width, &mut live)?;
     }
     Ok(live)
 }
