@@ -23,3 +23,4 @@ pub mod Beginning
 pub mod Reading
 pub mod Waiting
 pub mod Unread
+pub mod Asking

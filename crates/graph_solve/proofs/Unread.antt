@@ -1,15 +1,13 @@
 -- A name is unread from a point on just where no path reads it first there.
-use Rattle.std.proofs.Common.{◌≡◌, ℕ, zero, suc, ◌==◌, ◌||◌, inl, inr, Bool, true, false, true≢false, List, [], ◌∷◌, ◌++◌, refl, sym, ap, ◌∙◌, subst, arith}
+use Rattle.std.proofs.Common.{◌≡◌, ℕ, suc, ◌==◌, inl, inr, true, false, true≢false, List, [], ◌∷◌, ◌++◌, refl, sym, ◌∙◌, subst, arith}
 use Rattle.std.specs.List.{Contains, list_any}
 use Rattle.std.proofs.lemmas.Bool.{or_cases, or_parts, or_from, or_left, or_right, eqb-true, eq-eqb, true_from_ne_false}
-use Rattle.std.specs.Prelude.{slice_get}
-use Rattle.graph_core.specs.declared.value.Value.{Value}
 use Rattle.graph_core.specs.declared.value.Value.TheVariants.{Odd}
-use Rattle.graph_core.specs.Graphs.{Instruction, End, Block, Graph}
+use Rattle.graph_core.specs.Graphs.{Instruction, End, Graph}
 use Rattle.graph_core.specs.Uses.{reads_of, reads_of_end, targets_of}
-use Rattle.graph_core.specs.Paths.{Passed, History, Among, front, behind, Way, stays, passes, goes, reads, writes}
+use Rattle.graph_core.specs.Paths.{History, Among, front, behind, Way, stays, passes, goes, writes}
 use Rattle.graph_core.specs.Points.{ReadsNext, IsUnread, some_passed}
-use Rattle.graph_solve.specs.Live.{end_reads, IsReadFirst, read, read_at_end, passed, onward}
+use Rattle.graph_solve.specs.Live.{IsReadFirst, read, read_at_end, passed, onward}
 use Rattle.graph_solve.proofs.Working.{contains_cases}
 
 -- the two notions of membership

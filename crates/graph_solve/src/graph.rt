@@ -5,11 +5,12 @@ ghost use Rattle.graph_core.specs.Graphs.{block_view, end_view, graph_view};
 ghost use Rattle.graph_core.specs.Uses.{targets_of};
 ghost use Rattle.graph_solve.specs.GraphFlow.{AreFlow, AreTargetsWithin, edge_count, edge_from, graph_flow, is_return, lead_within, leads_within};
 ghost use Rattle.graph_solve.specs.Solution.{IsSolution};
+ghost use Rattle.graph_solve.specs.Solved.{ends_of, starts_of};
 
 use crate::flow_graph::{Edge, FlowGraph};
 use crate::plain::solve_flow_plain;
 use crate::problem::Problem;
-use crate::solved_rows::Solution;
+use crate::solved_rows::{Solution, SolvedRows};
 use crate::solving::solve_rows;
 use crate::steps::Steps;
 use graph_core::{Block, End, Graph};
@@ -88,6 +89,26 @@ pub fn targets_are_within(graph: &Graph) -> bool
     within
 }
 
+/// At the start and at the end of each block of a function the meet over all paths of the problem's direction that lead there, in rows of bits,
+/// in time linear in their words where no loop is deep. A step is counted for each meet of two values.
+pub fn solve_in_rows<P: Problem, L: Ledger>(
+    alloc: Global,
+    graph: &Graph,
+    problem: &P,
+    steps: &mut Steps<L>,
+) -> Result<SolvedRows, AllocError>
+    requires few { length graph.now.blocks.items ≤ 2 ^ 32 }
+    requires within { AreTargetsWithin (graph_view graph.now) }
+    ensures solution { IfOk result (λ solved. IsSolution (P.flow problem.now) (graph_flow (graph_view graph.now)) (length graph.now.blocks.items) (starts_of solved) (ends_of solved)) }
+    ensures blocks { IfOk result (λ solved. solved.blocks ≡ length graph.now.blocks.items) }
+    ensures width { IfOk result (λ solved. solved.width ≡ (P.flow problem.now).width) }
+    ensures steps { OnOk result (steps.new ≤ steps.old + edge_count (graph_view graph.now) * ((P.flow problem.now).height + 1)) }
+{
+    let flow = flow_graph(alloc, graph)?;
+    let solved = solve_rows(alloc, &flow, problem, steps)?;
+    Ok(solved)
+}
+
 /// At the start and at the end of each block of a function the meet over all paths of the problem's direction that lead there. A step is counted
 /// for each meet of two values.
 pub fn solve_counted<P: Problem, L: Ledger>(
@@ -101,8 +122,7 @@ pub fn solve_counted<P: Problem, L: Ledger>(
     ensures solution { IfOk result (λ solution. IsSolution (P.flow problem.now) (graph_flow (graph_view graph.now)) (length graph.now.blocks.items) solution.starts.items solution.ends.items) }
     ensures steps { OnOk result (steps.new ≤ steps.old + edge_count (graph_view graph.now) * ((P.flow problem.now).height + 1)) }
 {
-    let flow = flow_graph(alloc, graph)?;
-    let solved = solve_rows(alloc, &flow, problem, steps)?;
+    let solved = solve_in_rows(alloc, graph, problem, steps)?;
     let solution = solved.solution(alloc)?;
     Ok(solution)
 }

@@ -22,7 +22,7 @@ mod work;
 
 pub use facts::Facts;
 pub use flow_graph::{Edge, FlowGraph};
-pub use graph::{solve, solve_counted, solve_plain, targets_are_within};
+pub use graph::{solve, solve_counted, solve_in_rows, solve_plain, targets_are_within};
 pub use laws::unread_is_not_read_first;
 pub use live_names::live;
 pub use plain::solve_flow_plain;

@@ -28,7 +28,9 @@ pub struct SolvedRows {
 }
 
 impl SolvedRows {
-    ghost use Rattle.std.specs.Prelude.{IfOk};
+    ghost use Rattle.std.specs.FinSet.{contains};
+    ghost use Rattle.std.specs.Prelude.{IfOk, slice_get};
+    ghost use Rattle.graph_solve.specs.Numbers.{Numbers};
     ghost use Rattle.graph_solve.specs.Solved.{ends_of, starts_of};
 
     /// The same as sets.
@@ -48,6 +50,32 @@ impl SolvedRows {
                 starts: made,
                 ends: met,
             })
+        }
+    }
+
+    /// Whether a fact is at the start of a block.
+    pub fn is_at_start(&self, block: u32, fact: u32) -> bool
+        requires block { block < self.now.blocks }
+        requires fact { fact < self.now.width }
+        ensures { (facts : Numbers) → slice_get (starts_of self.now) block ≡ Some facts → result ≡ contains facts fact }
+    {
+        if self.forward {
+            self.rows.get(block, fact)
+        } else {
+            self.rows.get(self.blocks + block, fact)
+        }
+    }
+
+    /// Whether a fact is at the end of a block.
+    pub fn is_at_end(&self, block: u32, fact: u32) -> bool
+        requires block { block < self.now.blocks }
+        requires fact { fact < self.now.width }
+        ensures { (facts : Numbers) → slice_get (ends_of self.now) block ≡ Some facts → result ≡ contains facts fact }
+    {
+        if self.forward {
+            self.rows.get(self.blocks + block, fact)
+        } else {
+            self.rows.get(block, fact)
         }
     }
 }

@@ -1,30 +1,16 @@
 use Rattle.std.proofs.Common.{sym, subst, length}
-use Rattle.std.proofs.lemmas.List.{length-map}
-use Rattle.graph_core.specs.Graphs.{block_view, graph_view}
-use Rattle.graph_solve.specs.GraphFlow.{AreFlow, graph_flow}
-use Rattle.graph_solve.specs.Solution.{AreWithin, IsSolution, control_flow}
-use Rattle.graph_solve.specs.Solved.{starts_of, ends_of}
-use Rattle.graph_solve.proofs.Carrying.{flow_within, graph_solution}
+use Rattle.graph_core.specs.Graphs.{graph_view}
+use Rattle.graph_solve.specs.GraphFlow.{graph_flow}
+use Rattle.graph_solve.specs.Solution.{IsSolution}
+use Rattle.graph_solve.specs.Solved.{starts_of}
 use Rattle.graph_solve.proofs.graph.solve_counted.Goals as goal
-
-pub solve_rows-requires-clause-within : goal.solve_rows-requires-clause-within
-solve_rows-requires-clause-within g c =
-    let graph = graph_view c.args.graph.now in
-    let are : AreFlow graph (length graph.blocks) c.in_ok-flow.flow.ends.items c.in_ok-flow.flow.edges.items =
-    subst (λ n. AreFlow graph n c.in_ok-flow.flow.ends.items c.in_ok-flow.flow.edges.items) (sym (length-map c.args.graph.now.blocks.items block_view)) c.in_ok-flow.ensures.are in
-    subst (λ n. AreWithin n c.in_ok-flow.flow.edges.items) (sym are.each) (flow_within graph c.in_ok-flow.flow are c.requires.within)
 
 pub returns-clause-solution : goal.returns-clause-solution
 returns-clause-solution g c =
-    let graph = graph_view c.args.graph.now in
+    let control = graph_flow (graph_view c.args.graph.now) in
     let flow = g.P.Problem.flow c.args.problem.now in
-    let same = length-map c.args.graph.now.blocks.items block_view in
+    let n = length c.args.graph.now.blocks.items in
     let solved = c.in_ok-solved.solved in
     let solution = c.in_ok-solution.solution in
-    let are : AreFlow graph (length graph.blocks) c.in_ok-flow.flow.ends.items c.in_ok-flow.flow.edges.items =
-    subst (λ n. AreFlow graph n c.in_ok-flow.flow.ends.items c.in_ok-flow.flow.edges.items) (sym same) c.in_ok-flow.ensures.are in
-    let by_rows = subst (λ n. IsSolution flow (control_flow c.in_ok-flow.flow) n (starts_of solved) (ends_of solved)) are.each c.in_ok-solved.ensures.solution in
-    let by_sets = subst (λ ss. IsSolution flow (control_flow c.in_ok-flow.flow) (length graph.blocks) ss solution.ends.items) (sym c.in_ok-solution.ensures.starts)
-    (subst (λ es. IsSolution flow (control_flow c.in_ok-flow.flow) (length graph.blocks) (starts_of solved) es) (sym c.in_ok-solution.ensures.ends) by_rows) in
-    subst (λ n. IsSolution flow (graph_flow graph) n solution.starts.items solution.ends.items) same
-    (graph_solution graph c.in_ok-flow.flow are flow solution.starts.items solution.ends.items by_sets)
+    subst (λ ss. IsSolution flow control n ss solution.ends.items) (sym c.in_ok-solution.ensures.starts)
+    (subst (λ es. IsSolution flow control n (starts_of solved) es) (sym c.in_ok-solution.ensures.ends) c.in_ok-solved.ensures.solution)
