@@ -49,6 +49,15 @@ fn paths_go_by_flow(rt: HostRuntime) -> Result<(), Fail> {
     }
     assert!(rt; table.can_go(Place(3), Place(2)) && !table.can_go(Place(1), Place(3)));
     assert!(rt; table.assigns(Place(3), Var(7)) && !table.assigns(Place(2), Var(7)));
+    Ok(())
+}
+
+#[test]
+fn a_route_goes_by_a_place(rt: HostRuntime) -> Result<(), Fail> {
+    let table = FlowTable {
+        steps: vec![in rt.alloc(); step(1, 2)]?,
+        assignments: Vec::new(rt.alloc()),
+    };
     let Some(found) = route(rt.alloc(), &table, Var(0), Place(1), Place(1), Place(2))? else {
         return Err(Fail::from("a path from 1 to 2"));
     };

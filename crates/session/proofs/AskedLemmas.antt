@@ -9,6 +9,7 @@ use Rattle.command_line.specs.Job.{JobGiven, attach, debug, job_given}
 use Rattle.command_line.specs.declared.job.Job.{Job}
 use Rattle.command_line.proofs.GrammarLemmas.{one_job}
 use Rattle.session.specs.Served.{AreNotServed, AreServed, ServedJob, ForDebug, ForAttach, Serves, task_job}
+use Rattle.session.specs.Ending.{Ends, World}
 use Rattle.session.specs.Stages.{AskEnds}
 use Rattle.session.specs.declared.asking.Task.{Task}
 
@@ -47,3 +48,7 @@ refused_is_complete words WriteFault a h s = absurd h
 refused_is_complete words NoMemory a h s = inr refl
 refused_is_complete words (ImageRefused code offset) a h s = absurd h
 refused_is_complete words (TooLong name) a h s = absurd h
+
+-- how a job ends is how the same job ends
+pub same_ends : (a b : ServedJob) (old : World) (status : Status) (new : World) → a ≡ b → Ends a old status new → Ends b old status new
+same_ends a b old status new same ends = subst (λ j. Ends j old status new) same ends

@@ -1,10 +1,10 @@
-use Rattle.std.proofs.Common.{sym, subst}
+use Rattle.std.proofs.Common.{sym, ap}
 use Rattle.session.specs.Served.{task_job}
-use Rattle.session.specs.Ending.{Ends}
+use Rattle.session.proofs.AskedLemmas.{same_ends}
 use Rattle.session.proofs.top.serve.Goals as goal
 
 pub returns-in-Debug : goal.returns-in-Debug
-returns-in-Debug g c = subst (λ t. Ends (task_job t) _ c.debug.result _) (sym c.in-Debug.is) c.debug.ensures
+returns-in-Debug g c = same_ends _ _ _ _ _ (ap task_job (sym c.in-Debug.is)) c.debug.ensures
 
 pub returns-in-Attach : goal.returns-in-Attach
-returns-in-Attach g c = subst (λ t. Ends (task_job t) _ c.attach.result _) (sym c.in-Attach.is) c.attach.ensures
+returns-in-Attach g c = same_ends _ _ _ _ _ (ap task_job (sym c.in-Attach.is)) c.attach.ensures
