@@ -1,25 +1,24 @@
 -- A problem of data flow for tests: whether each path passed block 1, and not block 2 since then. That is the fact 0.
-use Rattle.std.proofs.Common.{nat_cmp, ◌≡◌, ℕ, zero, suc, ◌<◌, Bool, true, false, refl, sym, ap, ◌∙◌, arith}
+use Rattle.std.proofs.Common.{nat_cmp, ◌≡◌, ℕ, ◌<◌, Bool, true, false, refl, ap, ◌∙◌}
 use Rattle.std.specs.Prelude.{◌||◌, ◌&&◌, ◌==◌, not, cond}
 use Rattle.std.specs.Cmp.{nat_cmp_total}
 use Rattle.std.specs.FinSet.{empty, contains, union, difference, contains-empty, contains-union, contains-difference}
 use Rattle.graph_solve.specs.Numbers.{Numbers, IsBelow, numbers_below, made_of}
 use Rattle.graph_solve.specs.Problem.{DataFlow}
-use Rattle.graph_solve.specs.SetLaws.{below_empty, below_made, made_of_both, not_below}
+use Rattle.graph_solve.specs.SetLaws.{below_empty, below_made, made_of_both, in_below, not_below}
 use Rattle.graph_solve.specs.SetProblems.{every_path}
 
 -- the fact, or none
 abbrev pub fact_if : Bool → Numbers
 fact_if is = cond is (numbers_below 1) empty
 
-below_one : (is : Bool) → IsBelow 1 (fact_if is)
+pub below_one : (is : Bool) → IsBelow 1 (fact_if is)
 below_one true = not_below 1
 below_one false = below_empty 1
 
 -- the fact is in the set where there is one
 has_fact : (is : Bool) (fact : ℕ) → fact < 1 → contains (fact_if is) fact ≡ is
-has_fact true zero below = refl
-has_fact true (suc fact) below = absurd (omega (arith, below))
+has_fact true fact below = in_below 1 fact below
 has_fact false fact below = contains-empty nat_cmp fact
 
 either : (made given lost : Bool) → (made || (given && not lost)) ≡ ((given && not lost) || made)
@@ -30,7 +29,7 @@ either false true true = refl
 either false true false = refl
 either false false lost = refl
 
-moves : (block : ℕ) (given : Numbers) (fact : ℕ) → fact < 1 → contains (made_of (fact_if (block == 1)) (fact_if (block == 2)) given) fact ≡ ((contains given fact && not (block == 2)) || (block == 1))
+pub moves : (block : ℕ) (given : Numbers) (fact : ℕ) → fact < 1 → contains (made_of (fact_if (block == 1)) (fact_if (block == 2)) given) fact ≡ ((contains given fact && not (block == 2)) || (block == 1))
 moves block given fact below =
     contains-union nat_cmp_total (fact_if (block == 1)) (difference given (fact_if (block == 2))) fact
     ∙ ap (λ b. contains (fact_if (block == 1)) fact || b) (contains-difference nat_cmp_total given (fact_if (block == 2)) fact)
