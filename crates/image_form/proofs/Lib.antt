@@ -3,6 +3,8 @@ pub mod ChangesKept
 pub mod Complete
 pub mod FirstAt
 pub mod Gathered
+pub mod InTurn
+pub mod Inside
 pub mod FunctionsKept
 pub mod Kept
 pub mod NamesKept

@@ -17,6 +17,7 @@ use Rattle.image_form.specs.Numbers.{mode_number, no_function, function_numbers,
 use Rattle.image_form.specs.Rules.{AllFit, IsImage}
 use Rattle.image_form.specs.Spelling.{size, header, body, section, spelled, spelling}
 use Rattle.image_form.specs.Unique.{SpellsOneImage}
+use Rattle.image_form.proofs.InTurn.{in_turn, lies_in_turn}
 use Rattle.image_form.proofs.ReadBack.{numbers_back, length-spelled, after_numbers, rows_back, words_back, after_section}
 use Rattle.image_form.proofs.RecordsBack.{all_of, all_always, mode_back, variable_back, change_back, row_back, node_back}
 
@@ -65,7 +66,7 @@ module _ (f : Form) (image : IsImage f) where
   few_functions = omega (arith, image.sizes.whole)
 
   pub sections_back : sections_at (spelling f) ≡ sections_of f
-  unfolding sections_at
+  unfolding in_turn
   sections_back =
       let count = λ (i : ℕ). ap (λ (l : List ℕ). get_or l i 0) header_back in
       let names = f.names in
@@ -92,7 +93,7 @@ module _ (f : Form) (image : IsImage f) where
       let c12 : number_at (spelling f) 52 ≡ length f.nodes = count 12 in
       let after_owners : drop (4 * length f.code) owners ≡ variables = ap (λ (n : ℕ). drop (4 * n) owners) (sym image.owners.one_each) ∙ after_numbers f.owners variables in
       let owners_back : rows_at 1 (length f.code) owners ≡ map word_numbers f.owners = ap (λ (n : ℕ). rows_at 1 n owners) (sym image.owners.one_each) ∙ words_back f.owners variables image.fits.owners in
-      rw (
+      lies_in_turn (spelling f) ∙ rw (
         c2,
         c3,
         c4,

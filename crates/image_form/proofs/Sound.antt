@@ -14,9 +14,11 @@ use Rattle.image_form.specs.Breaches.{Fault, ◌>>=◌, Check, first_breach, fir
 use Rattle.image_form.specs.Decoding.{verdict_of, word_of, function_of, place_of, variable_of, change_of, flow_of, assigned_of, row_of, node_of, word_numbers, decoded, sections_of}
 use Rattle.image_form.specs.Form.{Form, form}
 use Rattle.image_form.specs.Numbers.{mode_number, no_function, function_numbers, place_numbers, variable_numbers, change_numbers, flow_numbers, assigned_numbers, row_numbers, node_numbers}
-use Rattle.image_form.specs.Reading.{size_told, header_checks, breach_of_program, breach_of_tables, read_of, names_start}
+use Rattle.image_form.specs.Order.{start}
+use Rattle.image_form.specs.declared.section.Section.TheVariants.{Names}
+use Rattle.image_form.specs.Reading.{size_told, header_checks, breach_of_program, breach_of_tables, read_of}
 use Rattle.image_form.specs.Rules.{AllFit, SizeRules, FitRules, IsImage}
-use Rattle.image_form.specs.Sections.{number_at, numbers_at, rows_at, Sections, sections_at}
+use Rattle.image_form.specs.Sections.{number_at, numbers_at, rows_at, Sections, count_of, sections_at}
 use Rattle.image_form.specs.Spelling.{size, header, body, spelled, spelling}
 use Rattle.image_form.specs.TestsOfChanges.{change_tests, flow_tests, assigned_tests, row_tests}
 use Rattle.image_form.specs.TestsOfCode.{function_tests, place_tests, owner_tests}
@@ -30,6 +32,7 @@ use Rattle.image_form.proofs.NodesKept.{nodes_sound}
 use Rattle.image_form.proofs.PlacesKept.{places_sound, owners_sound}
 use Rattle.image_form.proofs.RowsKept.{TellsWriter, TellsWriters, rows_sound}
 use Rattle.image_form.proofs.VariablesKept.{TellsFunctions, variables_sound}
+use Rattle.image_form.proofs.InTurn.{in_turn, lies_in_turn}
 use Rattle.image_form.proofs.Kept.{AllTrue, rows_kept, none_in}
 use Rattle.image_form.proofs.ReadBack.{section-words}
 use Rattle.image_form.proofs.RowLaws.{length-rows_at}
@@ -91,7 +94,7 @@ tables_parts s e =
       assigned = kept_of _ _ _ (assigned_tests s) (length s.assigned) b.0;
       rows = kept_of _ _ _ (row_tests s) (length s.rows) c.0;
       nodes = kept_of _ _ _ (node_tests s) (length s.nodes) d.0;
-      names = no_misfit (names_start s) (first_misfit (name_tests s) s.names) d.1;
+      names = no_misfit (start (count_of s) Names) (first_misfit (name_tests s) s.names) d.1;
     }
 
 kept_each : (checks : List Check) → first_breach checks ≡ Ok tt → AllByRecursion (λ c. c.kept ≡ true) checks
@@ -121,8 +124,8 @@ record IsKept (bytes : List ℕ) : Type 0 where
   are : AreBytes bytes
   long : 64 ≤ length bytes
   header_kept : AllByRecursion (λ c. c.kept ≡ true) (header_checks bytes)
-  program : ProgramKept (sections_at bytes)
-  tables : TablesKept (sections_at bytes)
+  program : ProgramKept (in_turn bytes)
+  tables : TablesKept (in_turn bytes)
 
 module _ (bytes : List ℕ) (kept : IsKept bytes) where
   size_is : size_told bytes ≡ length bytes
@@ -135,10 +138,10 @@ module _ (bytes : List ℕ) (kept : IsKept bytes) where
   mode_small = leb-true _ _ kept.header_kept.1.1.1.0
 
   -- What the rows say is told by the rows.
-  told : sections_of (decoded (sections_at bytes)) ≡ sections_at bytes
-  unfolding decoded sections_at
+  told : sections_of (decoded (in_turn bytes)) ≡ in_turn bytes
+  unfolding decoded in_turn
   told =
-      let s = sections_at bytes in
+      let s = in_turn bytes in
       let rest1 = drop 64 bytes in
       let rest2 = drop (4 * number_at bytes 16) rest1 in
       let rest3 = drop (number_at bytes 20) rest2 in
@@ -210,8 +213,8 @@ module _ (bytes : List ℕ) (kept : IsKept bytes) where
     section-rows node_numbers f.nodes,
   ) refl
 
-  raw_is : raw_body (sections_at bytes) ≡ drop 64 bytes
-  unfolding raw_body sections_at size_told
+  raw_is : raw_body (in_turn bytes) ≡ drop 64 bytes
+  unfolding raw_body in_turn size_told
   raw_is =
       let rest1 = drop 64 bytes in
       let rest2 = drop (4 * number_at bytes 16) rest1 in
@@ -270,8 +273,8 @@ module _ (bytes : List ℕ) (kept : IsKept bytes) where
         take-append-drop (4 * number_at bytes 16) rest1,
       ) refl
 
-  body_is : body (decoded (sections_at bytes)) ≡ drop 64 bytes
-  body_is = body-rows (decoded (sections_at bytes)) ∙ ap raw_body told ∙ raw_is
+  body_is : body (decoded (in_turn bytes)) ≡ drop 64 bytes
+  body_is = body-rows (decoded (in_turn bytes)) ∙ ap raw_body told ∙ raw_is
 
   -- ---- how many records there are
 
@@ -292,8 +295,8 @@ module _ (bytes : List ℕ) (kept : IsKept bytes) where
     nodes : length f.nodes ≡ number_at bytes 52
     names : length f.names ≡ number_at bytes 56
 
-  counts : Counts (decoded (sections_at bytes))
-  unfolding decoded sections_at size_told
+  counts : Counts (decoded (in_turn bytes))
+  unfolding decoded in_turn size_told
   counts =
       let rest1 = drop 64 bytes in
       let rest2 = drop (4 * number_at bytes 16) rest1 in
@@ -333,15 +336,15 @@ module _ (bytes : List ℕ) (kept : IsKept bytes) where
         names = omega (arith, size_is, l1, l2, l3, l4, l5, l6, l7, l8, l9, l10, l11, l12);
       }
 
-  whole_size : size (decoded (sections_at bytes)) ≡ length bytes
+  whole_size : size (decoded (in_turn bytes)) ≡ length bytes
   unfolding size size_told
   whole_size = omega (arith, size_is, counts.code, counts.initial, counts.functions, counts.places, counts.owners, counts.variables, counts.changes, counts.flow, counts.assigned, counts.rows, counts.nodes, counts.names)
 
-  mode_is : mode_number (decoded (sections_at bytes)).mode ≡ number_at bytes 12
-  unfolding decoded sections_at
+  mode_is : mode_number (decoded (in_turn bytes)).mode ≡ number_at bytes 12
+  unfolding decoded in_turn
   mode_is = mode_told (number_at bytes 12) mode_small
 
-  header_is : header (decoded (sections_at bytes)) ≡ numbers_at 15 4 bytes
+  header_is : header (decoded (in_turn bytes)) ≡ numbers_at 15 4 bytes
   header_is =
       let version = eqb-true (number_at bytes 4) 1 kept.header_kept.1.0 in
       let last = eqb-true (number_at bytes 60) 0 kept.header_kept.1.1.1.1.1.1.1.1.1.0 in
@@ -350,10 +353,10 @@ module _ (bytes : List ℕ) (kept : IsKept bytes) where
   magic_is : codes "CDBG" ≡ take 4 bytes
   magic_is = (bytes_eq-Decides (codes "CDBG") (take 4 bytes)).0 kept.header_kept.0
 
-  spelled_so : bytes ≡ spelling (decoded (sections_at bytes))
+  spelled_so : bytes ≡ spelling (decoded (in_turn bytes))
   unfolding spelling
   spelled_so =
-      let f = decoded (sections_at bytes) in
+      let f = decoded (in_turn bytes) in
       let head : spelled (header f) ≡ take 60 (drop 4 bytes) = ap spelled header_is ∙ numbers_spelled 15 4 bytes kept.are (omega (arith, kept.long)) in
       let parts : codes "CDBG" ++ (spelled (header f) ++ body f) ≡ take 4 bytes ++ (take 60 (drop 4 bytes) ++ drop 64 bytes) = (λ i. magic_is i ++ (head i ++ body_is i)) in
       let joined : take 4 bytes ++ (take 60 (drop 4 bytes) ++ drop 64 bytes) ≡ bytes =
@@ -362,7 +365,7 @@ module _ (bytes : List ℕ) (kept : IsKept bytes) where
 
   -- ---- the image
 
-  sizes : SizeRules (decoded (sections_at bytes))
+  sizes : SizeRules (decoded (in_turn bytes))
   sizes =
       let h = kept.header_kept.1.1.1 in
       let initial = and_parts (leb (number_at bytes 20) 1048576) (number_at bytes 20 % 4 == 0) h.1.1.0 in
@@ -390,8 +393,8 @@ module _ (bytes : List ℕ) (kept : IsKept bytes) where
     rows : AllByRecursion AllFit s.rows
     nodes : AllByRecursion AllFit s.nodes
 
-  raw_fits : RawFits (sections_at bytes)
-  unfolding sections_at
+  raw_fits : RawFits (in_turn bytes)
+  unfolding in_turn
   raw_fits =
       let rest1 = drop 64 bytes in
       let rest2 = drop (4 * number_at bytes 16) rest1 in
@@ -429,9 +432,9 @@ module _ (bytes : List ℕ) (kept : IsKept bytes) where
         nodes = rows_fit 3 (number_at bytes 52) rest11 a11;
       }
 
-  fits : FitRules (decoded (sections_at bytes))
+  fits : FitRules (decoded (in_turn bytes))
   fits =
-      let f = decoded (sections_at bytes) in
+      let f = decoded (in_turn bytes) in
       let raw : RawFits (sections_of f) = subst RawFits (sym told) raw_fits in
       record {
         code = words_fit_alone f.code raw.code;
@@ -447,21 +450,21 @@ module _ (bytes : List ℕ) (kept : IsKept bytes) where
         nodes = records_fit node_numbers f.nodes raw.nodes;
       }
 
-  few : length (decoded (sections_at bytes)).functions < no_function
+  few : length (decoded (in_turn bytes)).functions < no_function
   unfolding size
   few = omega (arith, sizes.whole)
 
-  tells_functions : TellsFunctions (decoded (sections_at bytes))
+  tells_functions : TellsFunctions (decoded (in_turn bytes))
   unfolding decoded
-  tells_functions = all_mapped (λ v. v.function ≢ Some no_function) variable_of (λ row. owner_apart (get_or row 1 0)) (sections_at bytes).variables
+  tells_functions = all_mapped (λ v. v.function ≢ Some no_function) variable_of (λ row. owner_apart (get_or row 1 0)) (in_turn bytes).variables
 
-  tells_writers : TellsWriters (decoded (sections_at bytes))
+  tells_writers : TellsWriters (decoded (in_turn bytes))
   unfolding decoded
-  tells_writers = all_mapped (λ r. TellsWriter r.verdict) row_of (λ row. verdict_apart (get_or row 2 0) (get_or row 3 0) (get_or row 4 0) (get_or row 5 0)) (sections_at bytes).rows
+  tells_writers = all_mapped (λ r. TellsWriter r.verdict) row_of (λ row. verdict_apart (get_or row 2 0) (get_or row 3 0) (get_or row 4 0) (get_or row 5 0)) (in_turn bytes).rows
 
-  image_is : IsImage (decoded (sections_at bytes))
+  image_is : IsImage (decoded (in_turn bytes))
   image_is =
-      let f = decoded (sections_at bytes) in
+      let f = decoded (in_turn bytes) in
       let program : ProgramKept (sections_of f) = subst ProgramKept (sym told) kept.program in
       let tables : TablesKept (sections_of f) = subst TablesKept (sym told) kept.tables in
       let functions = functions_sound f (λ i lt. program.functions i (omega (arith, lt, length-map f.functions function_numbers))) in
@@ -497,14 +500,15 @@ read_sound bytes f are e =
     let checks = bind_ok (first_breach (header_checks bytes)) _ f long.1 in
     let program = bind_ok (breach_of_program (sections_at bytes)) _ f checks.1 in
     let tables = bind_ok (breach_of_tables (sections_at bytes)) _ f program.1 in
+    let turned = sym (lies_in_turn bytes) in
     let kept : IsKept bytes = record {
       are = are;
       long = ltb-false (length bytes) 64 long.0;
       header_kept = kept_each (header_checks bytes) checks.0;
-      program = program_parts (sections_at bytes) program.0;
-      tables = tables_parts (sections_at bytes) tables.0;
+      program = program_parts (in_turn bytes) (ap breach_of_program turned ∙ program.0);
+      tables = tables_parts (in_turn bytes) (ap breach_of_tables turned ∙ tables.0);
     } in
-    subst (λ (g : Form). IsImage g × (bytes ≡ spelling g)) (same_ok (decoded (sections_at bytes)) f tables.1) (image_is bytes kept, spelled_so bytes kept)
+    subst (λ (g : Form). IsImage g × (bytes ≡ spelling g)) (ap decoded turned ∙ same_ok (decoded (sections_at bytes)) f tables.1) (image_is bytes kept, spelled_so bytes kept)
 
 -- What was found is an image.
 pub found_is : (bytes : List ℕ) (r : Result Image ImageErr) → AreBytes bytes → Gives form r (read_of bytes) → IfOk r (λ m. IsImage (form m) × (bytes ≡ spelling (form m)))

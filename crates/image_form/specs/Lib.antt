@@ -5,6 +5,7 @@ pub mod Layouts
 pub mod Lists
 pub mod Names
 pub mod Numbers
+pub mod Order
 pub mod Reading
 pub mod Rules
 pub mod RulesOfChanges

@@ -1,6 +1,9 @@
 -- The sections of an image as numbers, before they are understood: a row of numbers for each record.
-use Rattle.std.specs.Prelude.{ℕ, zero, suc, ◌+◌, ◌*◌, List, [], ◌∷◌, take, drop, slice_index, slice_index_or}
+use Rattle.std.specs.Prelude.{ℕ, zero, suc, ◌+◌, ◌*◌, ◌/◌, List, [], ◌∷◌, length, take, drop, slice_index, slice_index_or}
 use Rattle.std.specs.Int.{w32, from_le_bytes}
+use Rattle.image_form.specs.Order.{count_offset, record_size, start}
+use Rattle.image_form.specs.declared.section.Section.{Section}
+use Rattle.image_form.specs.declared.section.Section.TheVariants.{Code, Initial, Functions, Places, Owners, Variables, Changes, Flow, Assigned, Rows, Nodes, Names}
 
 -- The number whose four bytes begin at a byte.
 unfoldable pub number_at : List ℕ → ℕ → ℕ
@@ -35,33 +38,47 @@ pub record Sections : Type 0 where
   pub nodes : List (List ℕ)
   pub names : List ℕ
 
+-- How many records each section has.
+abbrev pub count_of : Sections → Section → ℕ
+count_of s Code = length s.code
+count_of s Initial = length s.initial
+count_of s Functions = length s.functions
+count_of s Places = length s.places
+count_of s Owners = length s.owners
+count_of s Variables = length s.variables
+count_of s Changes = length s.changes
+count_of s Flow = length s.flow
+count_of s Assigned = length s.assigned
+count_of s Rows = length s.rows
+count_of s Nodes = length s.nodes
+count_of s Names = length s.names
+
+-- How many records the header says that a section has.
+abbrev pub count_told : List ℕ → Section → ℕ
+count_told bytes which = number_at bytes (count_offset which)
+
+-- The bytes from the first one of a section on.
+abbrev pub bytes_from : List ℕ → Section → List ℕ
+bytes_from bytes which = drop (start (count_told bytes) which) bytes
+
+-- The rows of a
+abbrev pub rows_of : List ℕ → Section → List (List ℕ)
+rows_of bytes which = rows_at (record_size which / 4) (count_told bytes which) (bytes_from bytes which)
+
 -- The sections of bytes, by the counts of the header.
 unfoldable pub sections_at : List ℕ → Sections
-sections_at bytes =
-    let rest1 = drop 64 bytes in
-    let rest2 = drop (4 * number_at bytes 16) rest1 in
-    let rest3 = drop (number_at bytes 20) rest2 in
-    let rest4 = drop (20 * number_at bytes 24) rest3 in
-    let rest5 = drop (16 * number_at bytes 28) rest4 in
-    let rest6 = drop (4 * number_at bytes 16) rest5 in
-    let rest7 = drop (32 * number_at bytes 32) rest6 in
-    let rest8 = drop (20 * number_at bytes 36) rest7 in
-    let rest9 = drop (8 * number_at bytes 40) rest8 in
-    let rest10 = drop (8 * number_at bytes 44) rest9 in
-    let rest11 = drop (24 * number_at bytes 48) rest10 in
-    let rest12 = drop (12 * number_at bytes 52) rest11 in
-    record {
-      mode = number_at bytes 12;
-      code = rows_at 1 (number_at bytes 16) rest1;
-      initial = take (number_at bytes 20) rest2;
-      functions = rows_at 5 (number_at bytes 24) rest3;
-      places = rows_at 4 (number_at bytes 28) rest4;
-      owners = rows_at 1 (number_at bytes 16) rest5;
-      variables = rows_at 8 (number_at bytes 32) rest6;
-      changes = rows_at 5 (number_at bytes 36) rest7;
-      flow = rows_at 2 (number_at bytes 40) rest8;
-      assigned = rows_at 2 (number_at bytes 44) rest9;
-      rows = rows_at 6 (number_at bytes 48) rest10;
-      nodes = rows_at 3 (number_at bytes 52) rest11;
-      names = rest12;
-    }
+sections_at bytes = record {
+  mode = number_at bytes 12;
+  code = rows_of bytes Code;
+  initial = take (count_told bytes Initial) (bytes_from bytes Initial);
+  functions = rows_of bytes Functions;
+  places = rows_of bytes Places;
+  owners = rows_of bytes Owners;
+  variables = rows_of bytes Variables;
+  changes = rows_of bytes Changes;
+  flow = rows_of bytes Flow;
+  assigned = rows_of bytes Assigned;
+  rows = rows_of bytes Rows;
+  nodes = rows_of bytes Nodes;
+  names = bytes_from bytes Names;
+}

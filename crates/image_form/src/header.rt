@@ -1,11 +1,15 @@
 //! The header of an image.
 
-ghost use Rattle.std.specs.Prelude.{◌≡◌, ◌+◌, ◌<◌, ◌≤◌, ◌^◌, OnOk, length};
+ghost use Rattle.std.specs.Prelude.{◌≡◌, ◌≤◌, OnOk, length};
+ghost use Rattle.debug_records.specs.declared.code.TheConstants.Code.{HEADER_NUMBERS};
 ghost use Rattle.image_form.specs.Breaches.{Gives, first_breach};
+ghost use Rattle.image_form.specs.Order.{count_offset};
 ghost use Rattle.image_form.specs.Reading.{count_checks, header_checks, size_told};
-ghost use Rattle.image_form.specs.Sections.{number_at};
+ghost use Rattle.image_form.specs.Sections.{count_told};
+ghost use Rattle.image_form.specs.declared.fault.ImageErr.TheVariants.{Refused};
 
 use crate::fault::ImageErr;
+use crate::section::{Counts, Section, size};
 use crate::table::number_at;
 use debug_records::Code;
 
@@ -19,13 +23,13 @@ pub const MAGIC: &[u8; 4] = b"CDBG";
 pub const FORMAT_VERSION: u32 = 1;
 
 /// The most code words, which fill 1 MiB.
-const MOST_CODE_WORDS: u32 = 262_144;
+const MOST_CODE_WORDS: usize = 262_144;
 
 /// The most initial bytes, which fill static memory.
-const MOST_INITIAL_BYTES: u32 = 1_048_576;
+const MOST_INITIAL_BYTES: usize = 1_048_576;
 
 /// The most visible rows.
-const MOST_VISIBLE_ROWS: u32 = 1_000_000;
+const MOST_VISIBLE_ROWS: usize = 1_000_000;
 
 /// Where the version stands.
 const VERSION: usize = 4;
@@ -35,39 +39,6 @@ const LENGTH: usize = 8;
 
 /// Where the mode stands.
 pub const MODE: usize = 12;
-
-/// Where the number of code words stands.
-pub const CODE_WORDS: usize = 16;
-
-/// Where the number of initial bytes stands.
-pub const INITIAL_BYTES: usize = 20;
-
-/// Where the number of functions stands.
-pub const FUNCTIONS: usize = 24;
-
-/// Where the number of places stands.
-pub const PLACES: usize = 28;
-
-/// Where the number of variables stands.
-pub const VARIABLES: usize = 32;
-
-/// Where the number of changes stands.
-pub const CHANGES: usize = 36;
-
-/// Where the number of flow pairs stands.
-pub const FLOW_PAIRS: usize = 40;
-
-/// Where the number of assigned pairs stands.
-pub const ASSIGNED_PAIRS: usize = 44;
-
-/// Where the number of visible rows stands.
-pub const VISIBLE_ROWS: usize = 48;
-
-/// Where the number of nodes stands.
-pub const NODES: usize = 52;
-
-/// Where the number of name bytes stands.
-const NAME_BYTES: usize = 56;
 
 /// Where a zero stands.
 const ZERO: usize = 60;
@@ -84,7 +55,7 @@ pub fn check_header(bytes: &[u8]) -> Result<(), ImageErr>
     if number_at(bytes, VERSION) != FORMAT_VERSION {
         return Err(ImageErr::Refused(Code::VERSION, VERSION));
     }
-    if number_at(bytes, LENGTH) as usize != bytes.len() || size_told(bytes) != bytes.len() as u64 {
+    if number_at(bytes, LENGTH) as usize != bytes.len() || size_told(bytes) != bytes.len() {
         return Err(ImageErr::Refused(Code::LENGTH, LENGTH));
     }
     check_counts(bytes)
@@ -94,25 +65,26 @@ fn check_counts(bytes: &[u8]) -> Result<(), ImageErr>
     requires { 64 ≤ length bytes.now }
     ensures { Gives (λ _. tt) result (first_breach (count_checks bytes.now)) }
 {
+    let header = Header { bytes };
     if number_at(bytes, MODE) > 1 {
         return Err(ImageErr::Refused(Code::HEADER_NUMBERS, MODE));
     }
-    if number_at(bytes, CODE_WORDS) > MOST_CODE_WORDS {
-        return Err(ImageErr::Refused(Code::HEADER_NUMBERS, CODE_WORDS));
+    if header.count(Section::Code) > MOST_CODE_WORDS {
+        return Err(miscounted(Section::Code));
     }
-    if number_at(bytes, INITIAL_BYTES) > MOST_INITIAL_BYTES
-        || number_at(bytes, INITIAL_BYTES) % 4 != 0
+    if header.count(Section::Initial) > MOST_INITIAL_BYTES
+        || header.count(Section::Initial) % 4 != 0
     {
-        return Err(ImageErr::Refused(Code::HEADER_NUMBERS, INITIAL_BYTES));
+        return Err(miscounted(Section::Initial));
     }
-    if number_at(bytes, FUNCTIONS) == 0 {
-        return Err(ImageErr::Refused(Code::HEADER_NUMBERS, FUNCTIONS));
+    if header.count(Section::Functions) == 0 {
+        return Err(miscounted(Section::Functions));
     }
-    if number_at(bytes, PLACES) == 0 {
-        return Err(ImageErr::Refused(Code::HEADER_NUMBERS, PLACES));
+    if header.count(Section::Places) == 0 {
+        return Err(miscounted(Section::Places));
     }
-    if number_at(bytes, VISIBLE_ROWS) > MOST_VISIBLE_ROWS {
-        return Err(ImageErr::Refused(Code::HEADER_NUMBERS, VISIBLE_ROWS));
+    if header.count(Section::Rows) > MOST_VISIBLE_ROWS {
+        return Err(miscounted(Section::Rows));
     }
     if number_at(bytes, ZERO) != 0 {
         return Err(ImageErr::Refused(Code::HEADER_NUMBERS, ZERO));
@@ -120,27 +92,33 @@ fn check_counts(bytes: &[u8]) -> Result<(), ImageErr>
     Ok(())
 }
 
+/// A section may not have as many records as the header says.
+fn miscounted(section: Section) -> ImageErr
+    ensures { result ≡ Refused HEADER_NUMBERS (count_offset section) }
+{
+    ImageErr::Refused(Code::HEADER_NUMBERS, section.count_offset())
+}
+
 /// How many bytes the counts of a header ask for.
 #[tactic(auto, unfolding(crate::specs::Reading::size_told))]
-fn size_told(bytes: &[u8]) -> u64
+fn size_told(bytes: &[u8]) -> usize
     requires { 64 ≤ length bytes.now }
     ensures { result ≡ size_told bytes.now }
 {
-    let code = 4 * count_at(bytes, CODE_WORDS) + count_at(bytes, INITIAL_BYTES);
-    let places = 20 * count_at(bytes, FUNCTIONS)
-        + 16 * count_at(bytes, PLACES)
-        + 4 * count_at(bytes, CODE_WORDS);
-    let changes = 32 * count_at(bytes, VARIABLES) + 20 * count_at(bytes, CHANGES);
-    let pairs = 8 * count_at(bytes, FLOW_PAIRS) + 8 * count_at(bytes, ASSIGNED_PAIRS);
-    let rows = 24 * count_at(bytes, VISIBLE_ROWS) + 12 * count_at(bytes, NODES);
-    HEADER_SIZE as u64 + code + places + changes + pairs + rows + count_at(bytes, NAME_BYTES)
+    size(&Header { bytes })
 }
 
-/// A count of the header.
-fn count_at(bytes: &[u8], at: usize) -> u64
-    requires { at + 4 ≤ length bytes.now }
-    ensures count { result ≡ number_at bytes.now at }
-    ensures small { result < 2 ^ 32 }
-{
-    number_at(bytes, at) as u64
+/// The header of an image, which says how many records each section has.
+#[derive(Clone, Copy)]
+pub struct Header<'a> {
+    pub bytes: &'a [u8],
+    ghost long: { 64 ≤ length bytes.now },
+}
+
+impl Counts for Header<'_> {
+    ghost count = { λ header. count_told header.bytes.now };
+
+    fn count(&self, section: Section) -> usize {
+        number_at(self.bytes, section.count_offset()) as usize
+    }
 }

@@ -1,14 +1,14 @@
 //! Where the sections of an image lie in its bytes.
 
-ghost use Rattle.std.specs.Prelude.{◌≡◌, ◌+◌, ◌*◌, ◌<◌, ◌≤◌, ◌^◌, drop, length};
+ghost use Rattle.std.specs.Prelude.{◌≡◌, ◌<◌, ◌≤◌, ◌^◌, length, take};
 ghost use Rattle.image_form.specs.Layouts.{rows_in, sections_in};
+ghost use Rattle.image_form.specs.Order.{start};
 ghost use Rattle.image_form.specs.Reading.{size_told};
-ghost use Rattle.image_form.specs.Sections.{cell, number_at, rows_at, sections_at};
+ghost use Rattle.image_form.specs.Sections.{bytes_from, count_of, count_told, number_at, rows_of, sections_at};
+ghost use Rattle.image_form.specs.declared.section.Section.TheVariants.{Names};
 
-use crate::header::{
-    ASSIGNED_PAIRS, CHANGES, CODE_WORDS, FLOW_PAIRS, FUNCTIONS, HEADER_SIZE, INITIAL_BYTES, MODE,
-    NODES, PLACES, VARIABLES, VISIBLE_ROWS,
-};
+use crate::header::{Header, MODE};
+use crate::section::{Counts, Section, start};
 use crate::table::{Table, number_at};
 
 /// The sections of an image as they lie in its bytes.
@@ -29,38 +29,65 @@ pub struct Layout<'a> {
     pub names: &'a [u8],
 }
 
+impl Counts for Layout<'_> {
+    ghost count = { λ layout. count_of (sections_in layout) };
+
+    fn count(&self, section: Section) -> usize {
+        match section {
+            Section::Code => self.code.len(),
+            Section::Initial => self.initial.len(),
+            Section::Functions => self.functions.len(),
+            Section::Places => self.places.len(),
+            Section::Owners => self.owners.len(),
+            Section::Variables => self.variables.len(),
+            Section::Changes => self.changes.len(),
+            Section::Flow => self.flow.len(),
+            Section::Assigned => self.assigned.len(),
+            Section::Rows => self.rows.len(),
+            Section::Nodes => self.nodes.len(),
+            Section::Names => self.names.len(),
+        }
+    }
+}
+
 /// The sections of bytes whose header tells their length.
-#[tactic(auto, unfolding(crate::specs::Sections::sections_at, crate::specs::Reading::size_told))]
+#[tactic(auto, unfolding(crate::specs::Sections::sections_at))]
 pub fn layout_of(bytes: &[u8]) -> Layout<'_>
     requires { size_told bytes.now ≡ length bytes.now }
     ensures sections { sections_in result ≡ sections_at bytes.now }
-    ensures small { length result.initial.now < 2 ^ 32 }
+    ensures small { start (count_of (sections_in result)) Names < 2 ^ 63 }
 {
-    let (_, rest) = bytes.split_at(HEADER_SIZE);
-    let (code, rest) = Table::split(rest, 1, number_at(bytes, CODE_WORDS) as usize);
-    let (initial, rest) = rest.split_at(number_at(bytes, INITIAL_BYTES) as usize);
-    let (functions, rest) = Table::split(rest, 5, number_at(bytes, FUNCTIONS) as usize);
-    let (places, rest) = Table::split(rest, 4, number_at(bytes, PLACES) as usize);
-    let (owners, rest) = Table::split(rest, 1, number_at(bytes, CODE_WORDS) as usize);
-    let (variables, rest) = Table::split(rest, 8, number_at(bytes, VARIABLES) as usize);
-    let (changes, rest) = Table::split(rest, 5, number_at(bytes, CHANGES) as usize);
-    let (flow, rest) = Table::split(rest, 2, number_at(bytes, FLOW_PAIRS) as usize);
-    let (assigned, rest) = Table::split(rest, 2, number_at(bytes, ASSIGNED_PAIRS) as usize);
-    let (rows, rest) = Table::split(rest, 6, number_at(bytes, VISIBLE_ROWS) as usize);
-    let (nodes, names) = Table::split(rest, 3, number_at(bytes, NODES) as usize);
+    let initial = Header { bytes }.count(Section::Initial);
     Layout {
         mode: number_at(bytes, MODE),
-        code,
-        initial,
-        functions,
-        places,
-        owners,
-        variables,
-        changes,
-        flow,
-        assigned,
-        rows,
-        nodes,
-        names,
+        code: rows_of(bytes, Section::Code),
+        initial: &bytes_from(bytes, Section::Initial)[..initial],
+        functions: rows_of(bytes, Section::Functions),
+        places: rows_of(bytes, Section::Places),
+        owners: rows_of(bytes, Section::Owners),
+        variables: rows_of(bytes, Section::Variables),
+        changes: rows_of(bytes, Section::Changes),
+        flow: rows_of(bytes, Section::Flow),
+        assigned: rows_of(bytes, Section::Assigned),
+        rows: rows_of(bytes, Section::Rows),
+        nodes: rows_of(bytes, Section::Nodes),
+        names: bytes_from(bytes, Section::Names),
     }
+}
+
+/// The bytes from the first one of a section on.
+fn bytes_from(bytes: &[u8], section: Section) -> &[u8]
+    requires { size_told bytes.now ≡ length bytes.now }
+    ensures { result.now ≡ bytes_from bytes.now section }
+{
+    &bytes[start(&Header { bytes }, section)..]
+}
+
+/// The rows of a section.
+fn rows_of(bytes: &[u8], section: Section) -> Table<'_>
+    requires { size_told bytes.now ≡ length bytes.now }
+    ensures { rows_in result ≡ rows_of bytes.now section }
+{
+    let count = Header { bytes }.count(section);
+    Table::new(bytes_from(bytes, section), section.record_size() / 4, count)
 }

@@ -13,7 +13,7 @@ mod reading;
 mod recipes;
 mod records;
 mod rule;
-mod starts;
+mod section;
 mod table;
 mod tables;
 mod variable_rules;

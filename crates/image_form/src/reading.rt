@@ -5,10 +5,12 @@ ghost use Rattle.image_form.specs.Breaches.{Gives, breach_in, first_breach};
 ghost use Rattle.image_form.specs.Decoding.{decoded, mode_of};
 ghost use Rattle.image_form.specs.Form.{Form, form};
 ghost use Rattle.image_form.specs.Layouts.{sections_in};
+ghost use Rattle.image_form.specs.Order.{record_size, start};
 ghost use Rattle.image_form.specs.Reading.{breach_of_program, breach_of_tables, count_checks, header_checks, read_of, size_told};
 ghost use Rattle.image_form.specs.Rules.{IsImage};
-ghost use Rattle.image_form.specs.Sections.{number_at};
+ghost use Rattle.image_form.specs.Sections.{count_of, number_at};
 ghost use Rattle.image_form.specs.Spelling.{spelling};
+ghost use Rattle.image_form.specs.declared.section.Section.TheVariants.{Names};
 
 use crate::change_rules::{AssignedRule, ChangeRule, FlowRule, VisibleRule};
 use crate::code_rules::{FunctionRule, OwnerRule, PlaceRule, first_places};
@@ -20,10 +22,7 @@ use crate::name_rules::first_misfit;
 use crate::node_rules::{NodeRule, first_nodes};
 use crate::records::take_records;
 use crate::rule::first_fault;
-use crate::starts::{
-    assigned_start, changes_start, flow_start, functions_start, names_start, nodes_start,
-    owners_start, places_start, rows_start, variables_start,
-};
+use crate::section::{Section, start};
 use crate::variable_rules::VariableRule;
 use debug_records::{Code, Mode};
 use std::alloc::{AllocError, Global};
@@ -59,109 +58,75 @@ fn read_exactly(alloc: Global, bytes: &[u8]) -> Result<Image, ImageErr>
     Ok(image_of(alloc, &layout)?)
 }
 
-/// The breach at a row and one of its numbers, in a section of rows of so many bytes.
+/// The breach at a row of a section and one of its numbers.
 fn breach(
     code: Code,
-    start: usize,
-    size: usize,
+    layout: &Layout<'_>,
+    section: Section,
     broken: Option<(usize, usize)>,
 ) -> Result<(), ImageErr>
-    requires start { start < 2 ^ 50 }
-    requires size { size < 64 }
+    requires start { start (count_of (sections_in layout.now)) section < 2 ^ 63 }
     requires broken { IfSome broken (λ b. (b.0 < 2 ^ 32) × (b.1 < 8)) }
-    ensures { Gives (λ _. tt) result (breach_in code start size broken) }
+    ensures { Gives (λ _. tt) result (breach_in code (start (count_of (sections_in layout.now)) section) (record_size section) broken) }
 {
     match broken {
-        Some((row, field)) => Err(ImageErr::Refused(code, start + size * row + 4 * field)),
+        Some((row, field)) => {
+            let at = start(layout, section) + section.record_size() * row + 4 * field;
+            Err(ImageErr::Refused(code, at))
+        }
         None => Ok(()),
     }
 }
 
 #[tactic(auto, unfolding(crate::specs::Reading::breach_of_program))]
 fn check_program(alloc: Global, layout: &Layout<'_>) -> Result<(), ImageErr>
-    requires { length layout.now.initial.now < 2 ^ 32 }
+    requires { start (count_of (sections_in layout.now)) Names < 2 ^ 63 }
     ensures { Gives (λ _. tt) result (breach_of_program (sections_in layout.now)) }
 {
-    let start = functions_start(layout);
-    let count = layout.functions.len();
-    breach(
-        Code::FUNCTIONS,
-        start,
-        20,
-        first_fault(&FunctionRule { layout }, count),
-    )?;
-    let start = places_start(layout);
-    let count = layout.places.len();
+    let broken = first_fault(&FunctionRule { layout }, layout.functions.len());
+    breach(Code::FUNCTIONS, layout, Section::Functions, broken)?;
     let firsts = first_places(alloc, layout)?;
     let rule = PlaceRule {
         layout,
         firsts: &firsts,
     };
-    breach(Code::PLACES, start, 16, first_fault(&rule, count))?;
-    let start = owners_start(layout);
-    let count = layout.owners.len();
+    let broken = first_fault(&rule, layout.places.len());
+    breach(Code::PLACES, layout, Section::Places, broken)?;
     let rule = OwnerRule {
         layout,
         firsts: &firsts,
     };
-    breach(Code::OWNERS, start, 4, first_fault(&rule, count))?;
-    let start = variables_start(layout);
-    let count = layout.variables.len();
-    breach(
-        Code::VARIABLES,
-        start,
-        32,
-        first_fault(&VariableRule { layout }, count),
-    )?;
-    let start = changes_start(layout);
-    let count = layout.changes.len();
-    breach(
-        Code::CHANGES,
-        start,
-        20,
-        first_fault(&ChangeRule { layout }, count),
-    )
+    let broken = first_fault(&rule, layout.owners.len());
+    breach(Code::OWNERS, layout, Section::Owners, broken)?;
+    let broken = first_fault(&VariableRule { layout }, layout.variables.len());
+    breach(Code::VARIABLES, layout, Section::Variables, broken)?;
+    let broken = first_fault(&ChangeRule { layout }, layout.changes.len());
+    breach(Code::CHANGES, layout, Section::Changes, broken)
 }
 
 #[tactic(auto, unfolding(crate::specs::Reading::breach_of_tables))]
 fn check_tables(alloc: Global, layout: &Layout<'_>) -> Result<(), ImageErr>
-    requires { length layout.now.initial.now < 2 ^ 32 }
+    requires { start (count_of (sections_in layout.now)) Names < 2 ^ 63 }
     ensures { Gives (λ _. tt) result (breach_of_tables (sections_in layout.now)) }
 {
-    let start = flow_start(layout);
-    let count = layout.flow.len();
-    breach(
-        Code::PAIRS_AND_ROWS,
-        start,
-        8,
-        first_fault(&FlowRule { layout }, count),
-    )?;
-    let start = assigned_start(layout);
-    let count = layout.assigned.len();
-    breach(
-        Code::PAIRS_AND_ROWS,
-        start,
-        8,
-        first_fault(&AssignedRule { layout }, count),
-    )?;
-    let start = rows_start(layout);
-    let count = layout.rows.len();
-    breach(
-        Code::PAIRS_AND_ROWS,
-        start,
-        24,
-        first_fault(&VisibleRule { layout }, count),
-    )?;
-    let start = nodes_start(layout);
-    let count = layout.nodes.len();
+    let broken = first_fault(&FlowRule { layout }, layout.flow.len());
+    breach(Code::PAIRS_AND_ROWS, layout, Section::Flow, broken)?;
+    let broken = first_fault(&AssignedRule { layout }, layout.assigned.len());
+    breach(Code::PAIRS_AND_ROWS, layout, Section::Assigned, broken)?;
+    let broken = first_fault(&VisibleRule { layout }, layout.rows.len());
+    breach(Code::PAIRS_AND_ROWS, layout, Section::Rows, broken)?;
     let firsts = first_nodes(alloc, layout)?;
     let rule = NodeRule {
         layout,
         firsts: &firsts,
     };
-    breach(Code::NODES_AND_NAMES, start, 12, first_fault(&rule, count))?;
+    let broken = first_fault(&rule, layout.nodes.len());
+    breach(Code::NODES_AND_NAMES, layout, Section::Nodes, broken)?;
     match first_misfit(layout) {
-        Some(at) => Err(ImageErr::Refused(Code::NODES_AND_NAMES, names_start(layout) + at)),
+        Some(misfit) => {
+            let at = start(layout, Section::Names) + misfit;
+            Err(ImageErr::Refused(Code::NODES_AND_NAMES, at))
+        }
         None => Ok(()),
     }
 }

@@ -1,6 +1,6 @@
 //! A section of rows of numbers, read where it lies.
 
-ghost use Rattle.std.specs.Prelude.{◌≡◌, ◌+◌, ◌*◌, ◌<◌, ◌≤◌, ◌^◌, drop, length};
+ghost use Rattle.std.specs.Prelude.{◌≡◌, ◌+◌, ◌*◌, ◌<◌, ◌≤◌, ◌^◌, length};
 ghost use Rattle.image_form.specs.Sections.{cell, number_at, rows_at};
 
 use byteorder::{ByteOrder, LittleEndian};
@@ -18,23 +18,17 @@ pub struct Table<'a> {
 impl<'a> Table<'a> {
     ghost use Rattle.image_form.specs.Layouts.{rows_in};
 
-    /// The rows at the front of the bytes, and the bytes behind them.
-    pub fn split(bytes: &'a [u8], width: usize, count: usize) -> (Table<'a>, &'a [u8])
-        requires narrow { width < 16 }
+    /// The rows at the front of the bytes.
+    pub fn new(bytes: &'a [u8], width: usize, count: usize) -> Table<'a>
         requires few { count < 2 ^ 32 }
         requires inside { 4 * width * count ≤ length bytes.now }
-        ensures rows { rows_in result.0 ≡ rows_at width count bytes.now }
-        ensures rest { result.1.now ≡ drop (4 * width * count) bytes.now }
+        ensures { rows_in result ≡ rows_at width count bytes.now }
     {
-        let (_, rest) = bytes.split_at(4 * width * count);
-        (
-            Table {
-                bytes,
-                width,
-                count,
-            },
-            rest,
-        )
+        Table {
+            bytes,
+            width,
+            count,
+        }
     }
 
     /// How many rows there are.

@@ -4,12 +4,13 @@ ghost use Rattle.std.specs.Prelude.{◌≡◌, ◌<◌, ◌^◌, ◌++◌, IfOk,
 ghost use Rattle.image_form.specs.Form.{form};
 ghost use Rattle.image_form.specs.Numbers.{mode_number};
 ghost use Rattle.image_form.specs.Rules.{IsImage};
-ghost use Rattle.image_form.specs.Spelling.{header, size, spelling};
+ghost use Rattle.image_form.specs.Spelling.{header, record_count, size, spelling};
 ghost use Rattle.image_form.specs.Unique.{SpellsOneImage};
 
 use crate::format::Image;
-use crate::header::{FORMAT_VERSION, HEADER_SIZE, MAGIC};
+use crate::header::{FORMAT_VERSION, MAGIC};
 use crate::records::{put_numbers, put_records};
+use crate::section::{Counts, Section, size};
 use debug_records::Mode;
 use std::alloc::{AllocError, Global};
 
@@ -55,17 +56,25 @@ fn mode_number(mode: Mode) -> u32
     }
 }
 
-#[tactic(auto, unfolding(crate::specs::Spelling::size))]
-fn size_of(image: &Image) -> usize
-    requires { size (form image.now) < 2 ^ 32 }
-    ensures { result ≡ size (form image.now) }
-{
-    let code = 4 * image.code.len() + image.initial.len();
-    let places = 20 * image.functions.len() + 16 * image.places.len() + 4 * image.owners.len();
-    let changes = 32 * image.variables.len() + 20 * image.changes.len();
-    let pairs = 8 * image.flow.len() + 8 * image.assigned.len();
-    let rows = 24 * image.rows.len() + 12 * image.nodes.len();
-    HEADER_SIZE + code + places + changes + pairs + rows + image.names.len()
+impl Counts for Image {
+    ghost count = { λ image. record_count (form image) };
+
+    fn count(&self, section: Section) -> usize {
+        match section {
+            Section::Code => self.code.len(),
+            Section::Initial => self.initial.len(),
+            Section::Functions => self.functions.len(),
+            Section::Places => self.places.len(),
+            Section::Owners => self.owners.len(),
+            Section::Variables => self.variables.len(),
+            Section::Changes => self.changes.len(),
+            Section::Flow => self.flow.len(),
+            Section::Assigned => self.assigned.len(),
+            Section::Rows => self.rows.len(),
+            Section::Nodes => self.nodes.len(),
+            Section::Names => self.names.len(),
+        }
+    }
 }
 
 #[tactic(auto, unfolding(crate::specs::Spelling::size))]
@@ -75,7 +84,7 @@ fn header_of(image: &Image) -> [u32; 15]
 {
     [
         FORMAT_VERSION,
-        size_of(image) as u32,
+        size(image) as u32,
         mode_number(image.mode),
         image.code.len() as u32,
         image.initial.len() as u32,
