@@ -1,0 +1,87 @@
+//! Homes for the names of a unit.
+
+ghost use Rattle.std.specs.Prelude.{◌≡◌, ◌≤◌, IfOk, length, map};
+ghost use Rattle.std.specs.List.{AllByRecursion};
+ghost use Rattle.graph_core.specs.Graphs.{graph_view, unit_view};
+ghost use Rattle.graph_core.specs.Validity.{IsValid};
+ghost use Rattle.homed_unit.specs.Homed.{AreHomesOf, HaveHomes, homed_view};
+ghost use Rattle.home_assign.specs.Homes.{AreHomesFor, MayHaveHomes, homes_listed};
+
+use crate::choosing::registers;
+use crate::interference::interference_of;
+use crate::joins::first_joined;
+use crate::sharing::log_shared;
+use debug_records::{ChangeLog, Mode, PassName};
+use graph_core::{Graph, Unit};
+use graph_homes::Home;
+use homed_unit::{FunctionHomes, HomedUnit};
+use std::alloc::{AllocError, Global};
+
+/// A slot for each name.
+#[tactic(auto, using(crate::proofs::Among::among_put))]
+fn slots(alloc: Global, graph: &Graph) -> Result<Vec<Home>, AllocError>
+    ensures { IfOk result (λ v. AreHomesFor graph.now.name_count v.items) }
+{
+    let mut homes = Vec::new(alloc);
+    for name in 0..graph.name_count {
+        homes.push(Home::Slot(name))?;
+    }
+    Ok(homes)
+}
+
+/// The homes of a graph's names.
+fn homes_of(alloc: Global, graph: &Graph, mode: Mode) -> Result<Vec<Home>, AllocError>
+    requires { MayHaveHomes (graph_view graph.now) }
+    ensures { IfOk result (λ v. AreHomesFor graph.now.name_count v.items) }
+{
+    match mode {
+        Mode::Slots => slots(alloc, graph),
+        Mode::Registers => {
+            let interference = interference_of(alloc, graph)?;
+            let joined = first_joined(alloc, graph)?;
+            registers(alloc, &interference, &joined)
+        }
+    }
+}
+
+/// The name of the pass by which registers are shared.
+fn pass_name() -> PassName {
+    match PassName::of(b"homes") {
+        Some(name) => name,
+        None => unreachable!(),
+    }
+}
+
+/// Homes for the names of graphs. The log tells of each scalar whose register other names have too.
+fn homes_of_all(
+    alloc: Global,
+    graphs: &[Graph],
+    mode: Mode,
+    log: &mut ChangeLog,
+) -> Result<Vec<FunctionHomes>, AllocError>
+    requires { AllByRecursion MayHaveHomes (map graph_view graphs.now) }
+    ensures { IfOk result (λ v. AreHomesOf (map graph_view graphs.now) (homes_listed v.items)) }
+{
+    let mut homes = Vec::new(alloc);
+    let mut left = graphs;
+    while let [graph, rest @ ..] = left {
+        let of = homes_of(alloc, graph, mode)?;
+        log_shared(alloc, graph, &of, pass_name(), log)?;
+        homes.push(FunctionHomes { homes: of })?;
+        left = rest;
+    }
+    Ok(homes)
+}
+
+/// A unit with homes for its names. Its log tells of each scalar whose register other names have too.
+#[tactic(auto, using(crate::proofs::Units::valid_may))]
+pub fn assign(alloc: Global, unit: &Unit, mode: Mode) -> Result<HomedUnit, AllocError>
+    requires { IsValid (unit_view unit.now) }
+    ensures homes { IfOk result (λ h. HaveHomes (homed_view h)) }
+    ensures graphs { IfOk result (λ h. (homed_view h).unit.graphs ≡ (unit_view unit.now).graphs) }
+    ensures mode { IfOk result (λ h. h.mode ≡ mode) }
+{
+    let mut unit = unit.duplicate(alloc)?;
+    let homes = homes_of_all(alloc, &unit.graphs, mode, &mut unit.log)?;
+    Ok(HomedUnit { unit, mode, homes })
+}

@@ -1,0 +1,10 @@
+//! Homes for the names of a unit: a slot for each, or the registers, shared where names do not interfere.
+#![tactic(auto)]
+
+mod assigning;
+mod choosing;
+mod interference;
+mod joins;
+mod sharing;
+
+pub use assigning::assign;
