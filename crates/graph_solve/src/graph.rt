@@ -97,7 +97,7 @@ pub fn solve_in_rows<P: Problem, L: Ledger>(
     problem: &P,
     steps: &mut Steps<L>,
 ) -> Result<SolvedRows, AllocError>
-    requires few { length graph.now.blocks.items ≤ 2 ^ 32 }
+    requires few { length graph.now.blocks.items < 2 ^ 31 }
     requires within { AreTargetsWithin (graph_view graph.now) }
     ensures solution { IfOk result (λ solved. IsSolution (P.flow problem.now) (graph_flow (graph_view graph.now)) (length graph.now.blocks.items) (starts_of solved) (ends_of solved)) }
     ensures blocks { IfOk result (λ solved. solved.blocks ≡ length graph.now.blocks.items) }
@@ -117,7 +117,7 @@ pub fn solve_counted<P: Problem, L: Ledger>(
     problem: &P,
     steps: &mut Steps<L>,
 ) -> Result<Solution, AllocError>
-    requires few { length graph.now.blocks.items ≤ 2 ^ 32 }
+    requires few { length graph.now.blocks.items < 2 ^ 31 }
     requires within { AreTargetsWithin (graph_view graph.now) }
     ensures solution { IfOk result (λ solution. IsSolution (P.flow problem.now) (graph_flow (graph_view graph.now)) (length graph.now.blocks.items) solution.starts.items solution.ends.items) }
     ensures steps { OnOk result (steps.new ≤ steps.old + edge_count (graph_view graph.now) * ((P.flow problem.now).height + 1)) }
@@ -134,7 +134,7 @@ fn solve_on<P: Problem, L: Ledger>(
     problem: &P,
     blank: Blank,
 ) -> Result<Solution, AllocError>
-    requires few { length graph.now.blocks.items ≤ 2 ^ 32 }
+    requires few { length graph.now.blocks.items < 2 ^ 31 }
     requires within { AreTargetsWithin (graph_view graph.now) }
     requires name { blank.name ≡ L.name }
     requires parts { blank.parts ≡ L.parts }
@@ -148,7 +148,7 @@ fn solve_on<P: Problem, L: Ledger>(
 
 /// At the start and at the end of each block of a function the meet over all paths of the problem's direction that lead there.
 pub fn solve<P: Problem>(alloc: Global, graph: &Graph, problem: &P) -> Result<Solution, AllocError>
-    requires few { length graph.now.blocks.items ≤ 2 ^ 32 }
+    requires few { length graph.now.blocks.items < 2 ^ 31 }
     requires within { AreTargetsWithin (graph_view graph.now) }
     ensures { IfOk result (λ solution. IsSolution (P.flow problem.now) (graph_flow (graph_view graph.now)) (length graph.now.blocks.items) solution.starts.items solution.ends.items) }
 {

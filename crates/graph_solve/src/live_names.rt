@@ -177,7 +177,7 @@ impl<'a> Problem for LiveNames<'a> {
 ///
 /// Notes read nothing. The call writes the parameters before the entry.
 pub fn live(alloc: Global, graph: &Graph) -> Result<Solution, AllocError>
-    requires few { length graph.now.blocks.items ≤ 2 ^ 32 }
+    requires few { length graph.now.blocks.items < 2 ^ 31 }
     requires within { AreTargetsWithin (graph_view graph.now) }
     ensures { IfOk result (λ solution. AreLive (graph_view graph.now) solution.starts.items solution.ends.items) }
 {

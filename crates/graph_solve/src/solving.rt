@@ -21,18 +21,14 @@ pub fn solve_rows<P: Problem, L: Ledger>(
     problem: &P,
     steps: &mut Steps<L>,
 ) -> Result<SolvedRows, AllocError>
-    requires few { length graph.now.ends.items ≤ 2 ^ 32 }
+    requires few { length graph.now.ends.items < 2 ^ 31 }
     requires within { AreWithin (length graph.now.ends.items) graph.now.edges.items }
     ensures solution { IfOk result (λ solved. IsSolution (P.flow problem.now) (control_flow graph.now) (length graph.now.ends.items) (starts_of solved) (ends_of solved)) }
     ensures blocks { IfOk result (λ solved. solved.blocks ≡ length graph.now.ends.items) }
     ensures width { IfOk result (λ solved. solved.width ≡ (P.flow problem.now).width) }
     ensures steps { OnOk result (steps.new ≤ steps.old + length graph.now.edges.items * ((P.flow problem.now).height + 1)) }
 {
-    let blocks = graph.ends.len();
-    if blocks >= 0x8000_0000 {
-        return Err(AllocError);
-    }
-    let blocks = blocks as u32;
+    let blocks = graph.ends.len() as u32;
     let task = task_of(alloc, graph, problem, blocks)?;
     let mut work = first_work(alloc, graph, problem, &task)?;
     settle(problem, graph, &task, &mut work, steps)?;

@@ -172,7 +172,7 @@ fn solution_of(
     problem: &Passed,
     is_plain: bool,
 ) -> Result<Solution, AllocError>
-    requires few { length graph.now.blocks.items ≤ 2 ^ 32 }
+    requires few { length graph.now.blocks.items < 2 ^ 31 }
     requires within { AreTargetsWithin (graph_view graph.now) }
 {
     if is_plain {

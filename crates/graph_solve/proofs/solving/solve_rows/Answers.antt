@@ -12,7 +12,7 @@ invariant_of-result g c =
     let state = c.in_ok-settle.ensures.state in
     record {
       each = omega (arith, state.rows, blocks);
-      few = omega (arith, c.if-blocks-ge2147483648.false);
+      few = omega (arith, c.requires.few);
       wide = λ row lt. state.widths row (omega (arith, lt, state.rows)) ∙ sym c.width.ensures;
     }
 
