@@ -1,0 +1,3 @@
+pub mod Scales
+pub mod Conversions
+pub mod Operands
