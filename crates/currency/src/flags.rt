@@ -1,0 +1,39 @@
+//! Lists that answer for any number.
+
+/// The flag of this number; false where there is none.
+pub fn flag(flags: &[bool], number: u32) -> bool {
+    match flags.get(number as usize) {
+        Some(flag) => *flag,
+        None => false,
+    }
+}
+
+/// Sets the flag of this number, if there is one.
+pub fn put_flag(flags: &mut [bool], number: u32, value: bool) {
+    if let Some(flag) = flags.get_mut(number as usize) {
+        *flag = value;
+    }
+}
+
+/// The entry of this number; 0 where there is none.
+pub fn entry(entries: &[u32], number: u32) -> u32 {
+    match entries.get(number as usize) {
+        Some(entry) => *entry,
+        None => 0,
+    }
+}
+
+/// Sets the entry of this number, if there is one.
+pub fn put_entry(entries: &mut [u32], number: u32, value: u32) {
+    if let Some(entry) = entries.get_mut(number as usize) {
+        *entry = value;
+    }
+}
+
+/// The list of this number; no entries where there is none.
+pub fn list(lists: &[Vec<u32>], number: u32) -> &[u32] {
+    match lists.get(number as usize) {
+        Some(found) => found.as_slice(),
+        None => &[],
+    }
+}
