@@ -8,7 +8,7 @@ ghost use Rattle.c_flow.specs.Flow as definition;
 ghost use Rattle.c_flow.specs.Flow.{edge, flow_of, flow_of_all, flow_of_declarators, flow_of_function, flow_of_program, flow_of_start, flow_of_step, flow_out, flow_past, flow_to_labels, round_of, ways_of_body, within_loop};
 
 use crate::edge::{Edge, Ways};
-use crate::start::{start, start_of_all, start_of_declarators};
+use crate::beginning::{start, start_of_all, start_of_declarators};
 use c_facts::{has_default, reaches_end};
 use c_tree::{
     Declared, Program, Rvalue, TypedFunction, TypedStart, TypedStatement, TypedStatements,
@@ -68,8 +68,8 @@ fn add_start(begin: &TypedStart, head: u32, found: &mut Vec<Edge>) -> Result<(),
     }
 }
 
-/// What follows the body of a `for`.
-fn round_of(step: &Option<TypedStep>, head: u32) -> u32
+/// What follows the body of a `for` whose condition or head stands at a position: its step, or else that.
+pub fn round_of(step: &Option<TypedStep>, head: u32) -> u32
     ensures { result ≡ round_of (option_map step_view step.now) head }
 {
     match step {
@@ -153,8 +153,8 @@ fn add_condition(
     add_edge(at, next, found)
 }
 
-/// Within the body of a loop.
-fn within_loop(round: u32, ways: Ways) -> Ways
+/// The ways within the body of a loop whose next round begins at a position.
+pub fn within_loop(round: u32, ways: Ways) -> Ways
     ensures { result ≡ within_loop round ways }
 {
     Ways {
@@ -256,8 +256,8 @@ fn add_statements(
     }
 }
 
-/// What follows the body of a function.
-fn ways_of_body(function: &TypedFunction) -> Ways
+/// The ways of a function's body: its closing brace follows it, if flow reaches it.
+pub fn ways_of_body(function: &TypedFunction) -> Ways
     ensures { result ≡ ways_of_body (function_view function.now) }
 {
     let next = if reaches_end(&function.body) {

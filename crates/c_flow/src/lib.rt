@@ -4,6 +4,7 @@
 mod assigned;
 mod assignment_search;
 mod assignment_table;
+mod beginning;
 mod edge;
 mod flow_edges;
 mod laws;
@@ -11,13 +12,16 @@ mod limits;
 mod numbering;
 mod order;
 mod places_before;
-mod start;
 mod step_table;
 mod tables;
 mod visibility;
 mod visible_variables;
 
 pub use assignment_search::assigns;
+pub use beginning::{start, start_of_all, start_of_declarators};
+pub use edge::Ways;
+pub use flow_edges::{round_of, ways_of_body, within_loop};
 pub use laws::flows_are_worked;
 pub use limits::fits;
+pub use numbering::{number_in, positions_of};
 pub use tables::flow;
