@@ -1,0 +1,129 @@
+//! Where the ends of blocks lead.
+
+use crate::table::{at, count, put};
+use graph_core::{Block, End, Graph};
+use std::alloc::{AllocError, Global};
+
+/// The blocks to which the end of a block leads, each once.
+#[derive(Clone, Copy)]
+pub struct Ways {
+    pub first: Option<u32>,
+    pub second: Option<u32>,
+}
+
+impl Ways {
+    /// The blocks to which an end leads.
+    fn of(end: End) -> Ways {
+        match end {
+            End::Return(_) => Ways {
+                first: None,
+                second: None,
+            },
+            End::Jump(label) => Ways {
+                first: Some(label.0),
+                second: None,
+            },
+            End::Branch {
+                then,
+                otherwise,
+                ..
+            } => Ways {
+                first: Some(then.0),
+                second: if then.0 == otherwise.0 {
+                    None
+                } else {
+                    Some(otherwise.0)
+                },
+            },
+        }
+    }
+}
+
+/// A block from which an edge leads to another.
+#[derive(Clone, Copy)]
+pub struct Source {
+    pub from: u32,
+    /// The number of the next source of the same block, counted from 1; 0 for none.
+    pub next: u32,
+}
+
+/// The edges of a graph, in both directions.
+#[derive(Drop)]
+pub struct Flow {
+    /// How many blocks there are.
+    pub blocks: u32,
+    ways: Vec<Ways>,
+    /// For each block the number of its first source, counted from 1; 0 for none.
+    heads: Vec<u32>,
+    sources: Vec<Source>,
+}
+
+impl Flow {
+    /// The blocks to which a block leads.
+    pub fn ways(&self, block: u32) -> Ways {
+        match self.ways.get(block as usize) {
+            Some(ways) => *ways,
+            None => Ways {
+                first: None,
+                second: None,
+            },
+        }
+    }
+
+    /// The number of the first source of a block, counted from 1; 0 for none.
+    pub fn first_source(&self, block: u32) -> u32 {
+        at(&self.heads, block)
+    }
+
+    /// The source of a number.
+    pub fn source(&self, number: u32) -> Option<Source> {
+        if number == 0 {
+            return None;
+        }
+        match self.sources.get((number - 1) as usize) {
+            Some(source) => Some(*source),
+            None => None,
+        }
+    }
+
+    /// How many edges there are.
+    pub fn edges(&self) -> u32 {
+        count(self.sources.len())
+    }
+
+    /// Adds an edge to the sources of a block.
+    fn add_source(&mut self, from: u32, to: Option<u32>) -> Result<(), AllocError> {
+        if let Some(block) = to {
+            let next = at(&self.heads, block);
+            self.sources.push(Source { from, next })?;
+            let number = count(self.sources.len());
+            put(&mut self.heads, block, number);
+        }
+        Ok(())
+    }
+
+    /// Adds the edges of a block.
+    fn add(&mut self, from: u32, block: &Block) -> Result<(), AllocError> {
+        let ways = Ways::of(block.end);
+        self.ways.push(ways)?;
+        self.add_source(from, ways.first)?;
+        self.add_source(from, ways.second)
+    }
+}
+
+/// The edges of a graph.
+pub fn flow_of(alloc: Global, graph: &Graph) -> Result<Flow, AllocError> {
+    let blocks = count(graph.blocks.len());
+    let mut flow = Flow {
+        blocks,
+        ways: Vec::new(alloc),
+        heads: vec![in alloc; 0; blocks as usize]?,
+        sources: Vec::new(alloc),
+    };
+    let mut number = 0u32;
+    for block in &graph.blocks {
+        flow.add(number, block)?;
+        number = number.saturating_add(1);
+    }
+    Ok(flow)
+}
