@@ -1,0 +1,95 @@
+//! Code as it grows.
+
+use emit_pieces::{Held, Piece, PlacedPiece, register};
+use rv_code::{ImmediateOperation, Instruction};
+use std::alloc::{AllocError, Global};
+
+/// Code as it grows, with what is known where it ends.
+#[derive(Drop)]
+pub(crate) struct Code {
+    pub pieces: Vec<PlacedPiece>,
+    /// What scratch registers hold, each at most one word.
+    pub held: Vec<Held>,
+    /// The constants that were brought into a register.
+    pub fetched: Vec<u32>,
+    /// The place in force, or 0.
+    owner: u32,
+    /// The place in force is a stop and has no word yet.
+    begins: bool,
+}
+
+impl Code {
+    /// No code yet, of a place or of none, which is 0.
+    pub(crate) fn new(alloc: Global, owner: u32) -> Code {
+        Code {
+            pieces: Vec::new(alloc),
+            held: Vec::new(alloc),
+            fetched: Vec::new(alloc),
+            owner,
+            begins: false,
+        }
+    }
+
+    /// Appends a piece of the place in force.
+    pub(crate) fn put_piece(&mut self, piece: Piece) -> Result<(), AllocError> {
+        let is_stop = self.begins;
+        self.begins = false;
+        self.pieces.push(PlacedPiece {
+            piece,
+            owner: self.owner,
+            is_stop,
+            writes: None,
+        })?;
+        Ok(())
+    }
+
+    /// Appends a word.
+    pub(crate) fn put(&mut self, instruction: Instruction) -> Result<(), AllocError> {
+        self.put_piece(Piece::Word(instruction))
+    }
+
+    /// Appends `operation rd, source, immediate`.
+    pub(crate) fn put_immediate(
+        &mut self,
+        operation: ImmediateOperation,
+        rd: u8,
+        source: u8,
+        immediate: u32,
+    ) -> Result<(), AllocError> {
+        self.put(Instruction::Immediate(operation, rd, source, immediate))
+    }
+
+    /// Appends `addi rd, source, immediate`.
+    pub(crate) fn put_sum(&mut self, rd: u8, source: u8, immediate: u32) -> Result<(), AllocError> {
+        self.put_immediate(ImmediateOperation::Addi, rd, source, immediate)
+    }
+
+    /// Where the place in force is a stop and has no word yet, appends one that does nothing.
+    pub(crate) fn settle(&mut self) -> Result<(), AllocError> {
+        if self.begins {
+            self.put_sum(register::ZERO, register::ZERO, 0)
+        } else {
+            Ok(())
+        }
+    }
+
+    /// A place begins.
+    pub(crate) fn begin(&mut self, place: u32, is_stop: bool) -> Result<(), AllocError> {
+        self.settle()?;
+        self.owner = place;
+        self.begins = is_stop;
+        Ok(())
+    }
+
+    /// What follows belongs to no place. The place before has a word.
+    pub(crate) fn leave_place(&mut self) {
+        self.owner = 0;
+    }
+
+    /// The last word writes the home of the target of an instruction of this number.
+    pub(crate) fn mark_writer(&mut self, number: u32) {
+        if let Some(last) = self.pieces.last_mut() {
+            last.writes = Some(number);
+        }
+    }
+}
