@@ -28,4 +28,4 @@ pub use recipes::Node;
 pub use tables::{AssignedPair, Change, FlowPair, Function, Place};
 pub use variables::{ElementType, Storage, Variable};
 pub use verdicts::{Verdict, VisibleRow};
-pub use writing::{spelling_is_unique, write};
+pub use writing::{spell, spelling_is_unique, write};

@@ -116,3 +116,14 @@ pub fn size<C: Counts>(counts: &C) -> usize
 {
     behind(counts, ORDER.len())
 }
+
+/// How many bytes the header and all sections have, however many records there are.
+pub fn whole_size<C: Counts>(counts: &C) -> u128
+    ensures { result ≡ behind (C.count counts.now) order }
+{
+    let mut at = HEADER_SIZE as u128;
+    for section in &ORDER {
+        at += section.record_size() as u128 * counts.count(*section) as u128;
+    }
+    at
+}

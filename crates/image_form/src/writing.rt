@@ -1,6 +1,6 @@
 //! The bytes of an image.
 
-ghost use Rattle.std.specs.Prelude.{◌≡◌, ◌<◌, ◌^◌, ◌++◌, IfOk, OnOk};
+ghost use Rattle.std.specs.Prelude.{◌≡◌, ◌<◌, ◌≤◌, ◌^◌, ◌++◌, IfOk, MatchOption, OnOk};
 ghost use Rattle.image_form.specs.Form.{form};
 ghost use Rattle.image_form.specs.Numbers.{mode_number};
 ghost use Rattle.image_form.specs.Rules.{IsImage};
@@ -10,7 +10,7 @@ ghost use Rattle.image_form.specs.Unique.{SpellsOneImage};
 use crate::format::Image;
 use crate::header::{FORMAT_VERSION, MAGIC};
 use crate::records::{put_numbers, put_records};
-use crate::section::{Counts, Section, size};
+use crate::section::{Counts, Section, size, whole_size};
 use debug_records::Mode;
 use std::alloc::{AllocError, Global};
 
@@ -22,6 +22,18 @@ pub fn write(alloc: Global, image: &Image) -> Result<Vec<u8>, AllocError>
     ensures { IfOk result (λ v. v.items ≡ spelling (form image.now)) }
 {
     write_all(alloc, image)
+}
+
+/// The bytes that spell the tables of an image, whether or not they keep the rules of images: so that reading them back tells. None where
+/// they would be 2^32 bytes or more, whose number the header cannot say.
+#[tactic(auto, unfolding(crate::specs::Spelling::size))]
+pub fn spell(alloc: Global, image: &Image) -> Result<Option<Vec<u8>>, AllocError>
+    ensures { IfOk result (λ bytes. MatchOption bytes (2 ^ 32 ≤ size (form image.now)) (λ v. v.items ≡ spelling (form image.now))) }
+{
+    if whole_size(image) >= 4294967296 {
+        return Ok(None);
+    }
+    Ok(Some(write_all(alloc, image)?))
 }
 
 #[tactic(auto, unfolding(crate::specs::Spelling::spelling))]
