@@ -1,0 +1,109 @@
+//! The plan of a function's code.
+
+use crate::choice::{Ground, Holding, holdings_of};
+use crate::regions::{Regions, calls_of_all, regions_of};
+use block_order::table::{at, count, put};
+use block_order::{flow_of, loops_of, order_of, search_of};
+use emit_pieces::Held;
+use emit_storage::Storage;
+use graph_core::Graph;
+use std::alloc::{AllocError, Global};
+
+/// The plan of a function's code.
+#[derive(Drop)]
+pub struct Plan {
+    /// The blocks in the order in which they stand in the code.
+    pub order: Vec<u32>,
+    /// For each block what scratch registers hold where it begins.
+    pub held: Vec<Vec<Held>>,
+}
+
+/// For each region the index of its first holding, and one more for the end; regions without one have 0 and 0.
+#[derive(Drop)]
+struct Spans {
+    first: Vec<u32>,
+    end: Vec<u32>,
+}
+
+/// Where the holdings of each region stand.
+fn spans_of(alloc: Global, regions: u32, holdings: &[Holding]) -> Result<Spans, AllocError> {
+    let mut first = vec![in alloc; 0; (regions as usize).saturating_add(1)]?;
+    let mut end = vec![in alloc; 0; (regions as usize).saturating_add(1)]?;
+    let mut index = 0u32;
+    for holding in holdings {
+        if at(&end, holding.region) == 0 {
+            put(&mut first, holding.region, index);
+        }
+        index = index.saturating_add(1);
+        put(&mut end, holding.region, index);
+    }
+    Ok(Spans { first, end })
+}
+
+/// What a region holds.
+fn held_in(
+    alloc: Global,
+    spans: &Spans,
+    region: u32,
+    holdings: &[Holding],
+) -> Result<Vec<Held>, AllocError> {
+    let mut held = Vec::new(alloc);
+    if region != 0 {
+        for index in at(&spans.first, region)..at(&spans.end, region) {
+            if let Some(holding) = holdings.get(index as usize) {
+                held.push(holding.held)?;
+            }
+        }
+    }
+    Ok(held)
+}
+
+/// What each block holds.
+fn held_of_all(
+    alloc: Global,
+    blocks: u32,
+    regions: &Regions,
+    holdings: &[Holding],
+) -> Result<Vec<Vec<Held>>, AllocError> {
+    let spans = spans_of(alloc, blocks, holdings)?;
+    let mut all = Vec::new(alloc);
+    for block in 0..blocks {
+        all.push(held_in(alloc, &spans, regions.region(block), holdings)?)?;
+    }
+    Ok(all)
+}
+
+/// A plan by which the blocks stand in order, and nothing is held.
+pub fn trivial(alloc: Global, graph: &Graph) -> Result<Plan, AllocError> {
+    let mut order = Vec::new(alloc);
+    let mut held = Vec::new(alloc);
+    for block in 0..count(graph.blocks.len()) {
+        order.push(block)?;
+        held.push(Vec::new(alloc))?;
+    }
+    Ok(Plan { order, held })
+}
+
+/// A plan by which the blocks stand as it is likely that they follow one another, and loops without calls hold the words that they fetch most often.
+pub fn plan_of(alloc: Global, storage: &Storage<'_>, graph: &Graph) -> Result<Plan, AllocError> {
+    let flow = flow_of(alloc, graph)?;
+    let search = search_of(alloc, &flow)?;
+    let loops = loops_of(alloc, &flow, &search)?;
+    let calls = calls_of_all(alloc, graph)?;
+    let regions = regions_of(alloc, &flow, &loops, &calls)?;
+    let holdings = holdings_of(
+        alloc,
+        Ground {
+            storage,
+            graph,
+            flow: &flow,
+            loops: &loops,
+            regions: &regions,
+            calls: &calls,
+        },
+    )?;
+    Ok(Plan {
+        order: order_of(alloc, graph, &flow, &search, &loops)?,
+        held: held_of_all(alloc, flow.blocks, &regions, &holdings)?,
+    })
+}
