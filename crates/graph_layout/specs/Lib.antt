@@ -1,0 +1,5 @@
+pub mod Names
+pub mod Laid
+pub mod Writes
+pub mod Layout
+pub mod Inner
