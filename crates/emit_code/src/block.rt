@@ -1,8 +1,16 @@
 //! The code of a block.
 
-use crate::code::Code;
+ghost use Rattle.std.specs.Prelude.{◌≡◌, ◌≤◌, ◌+◌, OnOk, IfOk, map};
+ghost use Rattle.graph_core.specs.Graphs.{instruction_view};
+ghost use Rattle.graph_core.specs.Validity.{total};
+ghost use Rattle.emit_pieces.specs.Words.{words_in};
+ghost use Rattle.emit_instructions.specs.Words.{most_words_of};
+
+use crate::ending::put_end;
+use emit_instructions::put_instruction;
 use emit_pieces::{Held, PlacedPiece};
 use emit_storage::Storage;
+use emit_words::Code;
 use graph_core::{Block, Instr, Label};
 use std::alloc::{AllocError, Global};
 
@@ -16,92 +24,38 @@ pub struct BlockCode {
     pub fetched: Vec<u32>,
 }
 
-impl Code {
-    /// The code of an instruction that computes a value.
-    fn computation(
-        &mut self,
-        storage: &Storage<'_>,
-        instruction: &Instr,
-    ) -> Result<(), AllocError> {
-        match *instruction {
-            Instr::Move { target, from } => self.copy(storage, target, from),
-            Instr::Operate {
-                target,
-                operation,
-                left,
-                right,
-            } => self.operate(storage, target, operation, left, right),
-            Instr::Truncate {
-                target,
-                truncation,
-                from,
-            } => self.truncate(storage, target, truncation, from),
-            Instr::Same {
-                target,
-                left,
-                right,
-            } => self.compare_same(storage, target, left, right),
-            Instr::Address { target, object } => self.take_address(storage, target, object),
-            Instr::Load {
-                target,
-                element,
-                from,
-            } => self.load(storage, target, element, from),
-            _ => Ok(()),
-        }
+/// The code of an instruction of this number. The last word of one with a target writes the target's home.
+fn put_numbered(
+    code: &mut Code,
+    storage: &Storage<'_>,
+    number: u32,
+    instruction: &Instr,
+) -> Result<(), AllocError>
+    ensures few { OnOk result (words_in code.new.pieces.items ≤ words_in code.old.pieces.items + most_words_of (instruction_view instruction.now)) }
+{
+    put_instruction(code, storage, instruction)?;
+    if let Some(_target) = instruction.target() {
+        code.mark_writer(number);
     }
+    Ok(())
+}
 
-    /// The code of an instruction.
-    fn instruction(
-        &mut self,
-        storage: &Storage<'_>,
-        instruction: &Instr,
-    ) -> Result<(), AllocError> {
-        match instruction {
-            Instr::Marker(place) => self.begin(place.0, place.0 != storage.entry.0),
-            Instr::Store { element, to, value } => self.store(storage, *element, *to, *value),
-            Instr::Zero { object, words } => self.zero(storage, *object, *words),
-            Instr::CopyWords {
-                object,
-                bytes,
-                words,
-            } => self.copy_words(storage, *object, *bytes, *words),
-            Instr::Call {
-                target,
-                callee,
-                arguments,
-            } => self.call(storage, *target, *callee, arguments.as_slice()),
-            _ => self.computation(storage, instruction),
-        }
+/// The code of instructions.
+fn put_instructions(
+    code: &mut Code,
+    storage: &Storage<'_>,
+    instructions: &[Instr],
+) -> Result<(), AllocError>
+    ensures few { OnOk result (words_in code.new.pieces.items ≤ words_in code.old.pieces.items + total most_words_of (map instruction_view instructions.now)) }
+{
+    let mut left = instructions;
+    let mut number = 0u32;
+    while let [first, rest @ ..] = left {
+        put_numbered(code, storage, number, first)?;
+        number = number.wrapping_add(1);
+        left = rest;
     }
-
-    /// The code of an instruction of this number. The last word of one with a target writes the target's home.
-    fn numbered(
-        &mut self,
-        storage: &Storage<'_>,
-        number: u32,
-        instruction: &Instr,
-    ) -> Result<(), AllocError> {
-        self.instruction(storage, instruction)?;
-        if let Some(_target) = instruction.target() {
-            self.mark_writer(number);
-        }
-        Ok(())
-    }
-
-    /// The code of instructions.
-    fn instructions(
-        &mut self,
-        storage: &Storage<'_>,
-        instructions: &[Instr],
-    ) -> Result<(), AllocError> {
-        let mut number = 0u32;
-        for instruction in instructions {
-            self.numbered(storage, number, instruction)?;
-            number = number.wrapping_add(1);
-        }
-        Ok(())
-    }
+    Ok(())
 }
 
 /// The code of a block behind which this one stands next, where these constants are held as it begins; these are loaded at its end, as far as that takes no more than nine words.
@@ -112,24 +66,19 @@ pub fn code_of_block(
     next: Label,
     known: &[Held],
     loads: &[Held],
-) -> Result<BlockCode, AllocError> {
+) -> Result<BlockCode, AllocError>
+    ensures few { IfOk result (λ made. words_in made.pieces.items ≤ total most_words_of (map instruction_view block.now.instructions.items) + 9) }
+{
     let owner = match block.place {
         Some(place) => place.0,
         None => 0,
     };
-    let mut code = Code::new(alloc, owner);
-    code.know(known)?;
-    code.instructions(storage, &block.instructions)?;
-    code.end(storage, block.end, next, loads)?;
-    let Code {
-        pieces,
-        held,
-        fetched,
-        ..
-    } = code;
+    let mut code = Code::knowing(alloc, owner, known)?;
+    put_instructions(&mut code, storage, &block.instructions)?;
+    put_end(&mut code, storage, block.end, next, loads)?;
     Ok(BlockCode {
-        pieces,
-        held,
-        fetched,
+        pieces: code.pieces,
+        held: code.held,
+        fetched: code.fetched,
     })
 }

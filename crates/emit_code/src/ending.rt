@@ -1,9 +1,13 @@
 //! The ends of blocks.
 
-use crate::code::Code;
-use crate::constant::words_of_constant;
+ghost use Rattle.std.specs.Prelude.{◌≡◌, ◌≤◌, ◌+◌, OnOk, length};
+ghost use Rattle.emit_pieces.specs.Words.{words_in};
+ghost use Rattle.emit_words.specs.Fetching.{most_words_of_source, most_words_to_bring};
+
+use crate::leaving::{put_leaving, words_of_move};
 use emit_pieces::{Held, Piece, register};
 use emit_storage::{Source, Storage};
+use emit_words::{Code, words_of_constant};
 use graph_core::{Comparison, End, Label, Operand};
 use graph_homes::Home;
 use rv_code::BranchOperation;
@@ -72,174 +76,227 @@ fn with_zero(comparison: Comparison, left: Source, right: Source) -> (Comparison
 }
 
 /// How many words fetching takes at most.
-fn words_of_fetch(storage: &Storage<'_>, source: Source) -> u32 {
+fn words_of_fetch(source: Source) -> u32
+    ensures { result ≡ most_words_of_source source }
+{
     match source {
         Source::Home(Home::Register(_)) => 0,
-        Source::Home(Home::Slot(slot)) => if storage.slot(slot) < 2048 { 1 } else { 3 },
-        Source::Word(word) => words_of_constant(word, storage.base),
+        Source::Home(Home::Slot(_)) => 3,
+        Source::Word(_) => 2,
     }
 }
 
-/// How many words an end takes at most, without what it loads.
-fn words_of_end(storage: &Storage<'_>, end: End) -> u32 {
-    match end {
-        End::Jump(_) => 1,
-        End::Branch { left, right, .. } => {
-            let left = words_of_fetch(storage, storage.source(left));
-            let right = words_of_fetch(storage, storage.source(right));
-            left.saturating_add(right).saturating_add(3)
-        }
-        End::Return(_) => MOST_WORDS,
+/// How many words bring what is read into one register at most.
+fn words_to_bring(source: Source) -> u32
+    ensures { result ≡ most_words_to_bring source }
+{
+    match source {
+        Source::Home(Home::Register(_)) => 1,
+        Source::Home(Home::Slot(_)) => 3,
+        Source::Word(_) => 2,
     }
 }
 
-/// How many words the end of a function takes.
-pub(crate) fn words_of_leaving(storage: &Storage<'_>) -> usize {
-    let moves = if storage.frame.size < 2048 { 4usize } else { 6 };
-    storage.frame.saved.len().saturating_add(moves)
+/// Loads constants into scratch registers, as far as that takes no more than so many words.
+fn load_held(code: &mut Code, base: u32, loads: &[Held], room: u32) -> Result<(), AllocError>
+    ensures few { OnOk result (words_in code.new.pieces.items ≤ words_in code.old.pieces.items + room) }
+{
+    let mut left = room;
+    for held in loads {
+        let words = words_of_constant(held.word, base);
+        if words <= left {
+            left -= words;
+            code.hold(*held, base, words)?;
+        }
+    }
+    Ok(())
 }
 
-impl Code {
-    /// Loads constants into scratch registers, as far as that takes no more than so many words.
-    fn load_held(&mut self, base: u32, loads: &[Held], room: u32) -> Result<(), AllocError> {
-        let mut left = room;
-        for held in loads {
-            let words = words_of_constant(held.word, base);
-            if words <= left {
-                left -= words;
-                self.hold(*held, base)?;
-            }
+/// Goes to a block, behind which the one that stands next follows.
+fn go(code: &mut Code, to: Label, next: Label) -> Result<(), AllocError>
+    ensures few { OnOk result (words_in code.new.pieces.items ≤ words_in code.old.pieces.items + 1) }
+{
+    if to.0 == next.0 {
+        code.settle()
+    } else {
+        code.put_piece(Piece::Jump(to))
+    }
+}
+
+/// Branches to a block.
+fn branch_to(
+    code: &mut Code,
+    operation: BranchOperation,
+    left: u8,
+    right: u8,
+    to: Label,
+) -> Result<(), AllocError>
+    ensures few { OnOk result (words_in code.new.pieces.items ≤ words_in code.old.pieces.items + 2) }
+{
+    code.put_piece(Piece::Branch {
+        operation,
+        left,
+        right,
+        to,
+    })
+}
+
+/// Goes to one block where a comparison of registers holds, and else to another.
+fn go_by_test(
+    code: &mut Code,
+    test: Test,
+    then: Label,
+    otherwise: Label,
+    next: Label,
+) -> Result<(), AllocError>
+    ensures few { OnOk result (words_in code.new.pieces.items ≤ words_in code.old.pieces.items + 3) }
+{
+    if then.0 == next.0 {
+        return branch_to(
+            code,
+            opposite(test.operation),
+            test.left,
+            test.right,
+            otherwise,
+        );
+    }
+    branch_to(code, test.operation, test.left, test.right, then)?;
+    go(code, otherwise, next)
+}
+
+/// Fetches what is compared.
+fn fetch_test(
+    code: &mut Code,
+    storage: &Storage<'_>,
+    comparison: Comparison,
+    left: Source,
+    right: Source,
+) -> Result<Test, AllocError>
+    ensures few { OnOk result (words_in code.new.pieces.items ≤ words_in code.old.pieces.items + (most_words_of_source left + most_words_of_source right)) }
+{
+    let left = code.fetch_source(storage, left, register::T1)?;
+    let right = code.fetch_source(storage, right, register::T2)?;
+    Ok(Test {
+        operation: branch_operation(comparison),
+        left,
+        right,
+    })
+}
+
+/// Loads constants and goes to a block, in at most nine words.
+fn jump(
+    code: &mut Code,
+    storage: &Storage<'_>,
+    to: Label,
+    next: Label,
+    loads: &[Held],
+) -> Result<(), AllocError>
+    ensures few { OnOk result (words_in code.new.pieces.items ≤ words_in code.old.pieces.items + 9) }
+{
+    load_held(code, storage.base, loads, MOST_WORDS - 1)?;
+    go(code, to, next)
+}
+
+/// Loads constants and goes to one block where a comparison holds, and else to another, in at most nine words.
+fn branch(
+    code: &mut Code,
+    storage: &Storage<'_>,
+    compared: (Comparison, Source, Source),
+    targets: (Label, Label),
+    next: Label,
+    loads: &[Held],
+) -> Result<(), AllocError>
+    ensures few { OnOk result (words_in code.new.pieces.items ≤ words_in code.old.pieces.items + 9) }
+{
+    let (comparison, left, right) = with_zero(compared.0, compared.1, compared.2);
+    let room = MOST_WORDS - 3 - words_of_fetch(left) - words_of_fetch(right);
+    load_held(code, storage.base, loads, room)?;
+    let test = fetch_test(code, storage, comparison, left, right)?;
+    go_by_test(code, test, targets.0, targets.1, next)
+}
+
+/// Goes on from the end of a block by a comparison, which may be known.
+fn branch_or_jump(
+    code: &mut Code,
+    storage: &Storage<'_>,
+    compared: (Comparison, Source, Source),
+    targets: (Label, Label),
+    next: Label,
+    loads: &[Held],
+) -> Result<(), AllocError>
+    ensures few { OnOk result (words_in code.new.pieces.items ≤ words_in code.old.pieces.items + 9) }
+{
+    if targets.0.0 == targets.1.0 {
+        return jump(code, storage, targets.0, next, loads);
+    }
+    match compared {
+        (comparison, Source::Word(left), Source::Word(right)) => {
+            let to = if holds(comparison, left, right) {
+                targets.0
+            } else {
+                targets.1
+            };
+            jump(code, storage, to, next, loads)
         }
-        Ok(())
+        _ => branch(code, storage, compared, targets, next, loads),
     }
+}
 
-    /// Goes to a block, behind which the one that stands next follows.
-    fn go(&mut self, to: Label, next: Label) -> Result<(), AllocError> {
-        if to.0 == next.0 {
-            self.settle()
-        } else {
-            self.put_piece(Piece::Jump(to))
-        }
+/// Leaves the function, with its result in `a0`: by its end, which is repeated here where that takes no more than so many words.
+fn leave(code: &mut Code, storage: &Storage<'_>, next: Label, room: u32) -> Result<(), AllocError>
+    requires { 1 ≤ room }
+    ensures few { OnOk result (words_in code.new.pieces.items ≤ words_in code.old.pieces.items + room) }
+{
+    let moves = words_of_move(storage.frame.size);
+    let saved = storage.frame.saved.len();
+    if next.0 == storage.end.0 || saved > 9 || saved + 3 + moves as usize > room as usize {
+        return go(code, storage.end, next);
     }
+    put_leaving(code, storage.frame, moves)
+}
 
-    /// Branches to a block.
-    fn branch_to(
-        &mut self,
-        operation: BranchOperation,
-        left: u8,
-        right: u8,
-        to: Label,
-    ) -> Result<(), AllocError> {
-        self.put_piece(Piece::Branch {
-            operation,
-            left,
-            right,
-            to,
-        })
-    }
-
-    /// Goes to one block where a comparison of registers holds, and else to another.
-    fn go_by_test(
-        &mut self,
-        test: Test,
-        then: Label,
-        otherwise: Label,
-        next: Label,
-    ) -> Result<(), AllocError> {
-        if then.0 == next.0 {
-            return self.branch_to(opposite(test.operation), test.left, test.right, otherwise);
-        }
-        self.branch_to(test.operation, test.left, test.right, then)?;
-        self.go(otherwise, next)
-    }
-
-    /// Fetches what is compared.
-    fn fetch_test(
-        &mut self,
-        storage: &Storage<'_>,
-        comparison: Comparison,
-        left: Source,
-        right: Source,
-    ) -> Result<Test, AllocError> {
-        let (comparison, left, right) = with_zero(comparison, left, right);
-        let left = self.fetch_source(storage, left, register::T1)?;
-        let right = self.fetch_source(storage, right, register::T2)?;
-        Ok(Test {
-            operation: branch_operation(comparison),
-            left,
-            right,
-        })
-    }
-
-    /// Goes to one block where a comparison holds, and else to another.
-    fn branch(
-        &mut self,
-        storage: &Storage<'_>,
-        comparison: Comparison,
-        sides: (Operand, Operand),
-        targets: (Label, Label),
-        next: Label,
-    ) -> Result<(), AllocError> {
-        let (then, otherwise) = targets;
-        if then.0 == otherwise.0 {
-            return self.go(then, next);
-        }
-        match (storage.source(sides.0), storage.source(sides.1)) {
-            (Source::Word(left), Source::Word(right)) => {
-                let to = if holds(comparison, left, right) {
-                    then
-                } else {
-                    otherwise
-                };
-                self.go(to, next)
-            }
-            (left, right) => {
-                let test = self.fetch_test(storage, comparison, left, right)?;
-                self.go_by_test(test, then, otherwise, next)
-            }
-        }
-    }
-
-    /// Returns, with a value or none: by the end of the function, which is repeated here where that takes no more than nine words in all.
-    fn leave(
-        &mut self,
-        storage: &Storage<'_>,
-        value: Option<Operand>,
-        next: Label,
-    ) -> Result<(), AllocError> {
-        let before = self.pieces.len();
-        if let Some(value) = value {
+/// Returns, with a value or none, in at most nine words.
+fn put_return(
+    code: &mut Code,
+    storage: &Storage<'_>,
+    value: Option<Operand>,
+    next: Label,
+) -> Result<(), AllocError>
+    ensures few { OnOk result (words_in code.new.pieces.items ≤ words_in code.old.pieces.items + 9) }
+{
+    match value {
+        None => leave(code, storage, next, MOST_WORDS),
+        Some(value) => {
             let source = storage.source(value);
-            self.bring(storage, register::A0, source)?;
+            let room = MOST_WORDS - words_to_bring(source);
+            code.bring(storage, register::A0, source)?;
+            leave(code, storage, next, room)
         }
-        let taken = self.pieces.len().saturating_sub(before);
-        let in_all = taken.saturating_add(words_of_leaving(storage));
-        if next.0 == storage.end.0 || in_all > MOST_WORDS as usize {
-            return self.go(storage.end, next);
-        }
-        self.put_leaving(storage.frame)
     }
+}
 
-    /// The end of a block, behind which this one stands next. These constants are loaded, as far as that takes no more than nine words.
-    pub(crate) fn end(
-        &mut self,
-        storage: &Storage<'_>,
-        end: End,
-        next: Label,
-        loads: &[Held],
-    ) -> Result<(), AllocError> {
-        let room = MOST_WORDS.saturating_sub(words_of_end(storage, end));
-        self.load_held(storage.base, loads, room)?;
-        match end {
-            End::Jump(to) => self.go(to, next),
-            End::Branch {
-                comparison,
-                left,
-                right,
-                then,
-                otherwise,
-            } => self.branch(storage, comparison, (left, right), (then, otherwise), next),
-            End::Return(value) => self.leave(storage, value, next),
+/// The end of a block, behind which this one stands next, in at most nine words. These constants are loaded, as far as that leaves room.
+pub(crate) fn put_end(
+    code: &mut Code,
+    storage: &Storage<'_>,
+    end: End,
+    next: Label,
+    loads: &[Held],
+) -> Result<(), AllocError>
+    ensures few { OnOk result (words_in code.new.pieces.items ≤ words_in code.old.pieces.items + 9) }
+{
+    match end {
+        End::Jump(to) => jump(code, storage, to, next, loads),
+        End::Branch {
+            comparison,
+            left,
+            right,
+            then,
+            otherwise,
+        } => {
+            let compared = (comparison, storage.source(left), storage.source(right));
+            branch_or_jump(code, storage, compared, (then, otherwise), next, loads)
         }
+        End::Return(value) => put_return(code, storage, value, next),
     }
 }

@@ -2,17 +2,12 @@
 #![tactic(auto)]
 
 mod block;
-mod call;
-mod code;
-mod constant;
 mod ending;
-mod filling;
 mod function;
-mod memory;
-mod operand;
-mod operation;
+mod leaving;
 
 pub use block::{BlockCode, code_of_block};
-pub use constant::words_of_constant;
+pub use emit_words::words_of_constant;
 pub use ending::opposite;
-pub use function::{begin_of_function, end_of_function, stub};
+pub use function::{begin_of_function, stub};
+pub use leaving::end_of_function;

@@ -1,12 +1,15 @@
 //! Code as it grows.
 
+ghost use Rattle.std.specs.Prelude.{◌≡◌, ◌≤◌, ◌+◌, OnOk, IfOk};
+ghost use Rattle.emit_pieces.specs.Words.{words_in, words_of_piece};
+
 use emit_pieces::{Held, Piece, PlacedPiece, register};
 use rv_code::{ImmediateOperation, Instruction};
 use std::alloc::{AllocError, Global};
 
 /// Code as it grows, with what is known where it ends.
 #[derive(Drop)]
-pub(crate) struct Code {
+pub struct Code {
     pub pieces: Vec<PlacedPiece>,
     /// What scratch registers hold, each at most one word.
     pub held: Vec<Held>,
@@ -20,7 +23,9 @@ pub(crate) struct Code {
 
 impl Code {
     /// No code yet, of a place or of none, which is 0.
-    pub(crate) fn new(alloc: Global, owner: u32) -> Code {
+    pub fn new(alloc: Global, owner: u32) -> Code
+        ensures few { words_in result.pieces.items ≡ 0 }
+    {
         Code {
             pieces: Vec::new(alloc),
             held: Vec::new(alloc),
@@ -30,8 +35,23 @@ impl Code {
         }
     }
 
+    /// No code yet, where these constants are held.
+    pub fn knowing(alloc: Global, owner: u32, known: &[Held]) -> Result<Code, AllocError>
+        ensures few { IfOk result (λ code. words_in code.pieces.items ≡ 0) }
+    {
+        Ok(Code {
+            pieces: Vec::new(alloc),
+            held: Vec::from_slice(alloc, known)?,
+            fetched: Vec::new(alloc),
+            owner,
+            begins: false,
+        })
+    }
+
     /// Appends a piece of the place in force.
-    pub(crate) fn put_piece(&mut self, piece: Piece) -> Result<(), AllocError> {
+    pub fn put_piece(&mut self, piece: Piece) -> Result<(), AllocError>
+        ensures few { OnOk result (words_in self.new.pieces.items ≤ words_in self.old.pieces.items + words_of_piece piece) }
+    {
         let is_stop = self.begins;
         self.begins = false;
         self.pieces.push(PlacedPiece {
@@ -44,28 +64,36 @@ impl Code {
     }
 
     /// Appends a word.
-    pub(crate) fn put(&mut self, instruction: Instruction) -> Result<(), AllocError> {
+    pub fn put(&mut self, instruction: Instruction) -> Result<(), AllocError>
+        ensures few { OnOk result (words_in self.new.pieces.items ≤ words_in self.old.pieces.items + 1) }
+    {
         self.put_piece(Piece::Word(instruction))
     }
 
     /// Appends `operation rd, source, immediate`.
-    pub(crate) fn put_immediate(
+    pub fn put_immediate(
         &mut self,
         operation: ImmediateOperation,
         rd: u8,
         source: u8,
         immediate: u32,
-    ) -> Result<(), AllocError> {
+    ) -> Result<(), AllocError>
+        ensures few { OnOk result (words_in self.new.pieces.items ≤ words_in self.old.pieces.items + 1) }
+    {
         self.put(Instruction::Immediate(operation, rd, source, immediate))
     }
 
     /// Appends `addi rd, source, immediate`.
-    pub(crate) fn put_sum(&mut self, rd: u8, source: u8, immediate: u32) -> Result<(), AllocError> {
+    pub fn put_sum(&mut self, rd: u8, source: u8, immediate: u32) -> Result<(), AllocError>
+        ensures few { OnOk result (words_in self.new.pieces.items ≤ words_in self.old.pieces.items + 1) }
+    {
         self.put_immediate(ImmediateOperation::Addi, rd, source, immediate)
     }
 
     /// Where the place in force is a stop and has no word yet, appends one that does nothing.
-    pub(crate) fn settle(&mut self) -> Result<(), AllocError> {
+    pub fn settle(&mut self) -> Result<(), AllocError>
+        ensures few { OnOk result (words_in self.new.pieces.items ≤ words_in self.old.pieces.items + 1) }
+    {
         if self.begins {
             self.put_sum(register::ZERO, register::ZERO, 0)
         } else {
@@ -74,7 +102,9 @@ impl Code {
     }
 
     /// A place begins.
-    pub(crate) fn begin(&mut self, place: u32, is_stop: bool) -> Result<(), AllocError> {
+    pub fn begin(&mut self, place: u32, is_stop: bool) -> Result<(), AllocError>
+        ensures few { OnOk result (words_in self.new.pieces.items ≤ words_in self.old.pieces.items + 1) }
+    {
         self.settle()?;
         self.owner = place;
         self.begins = is_stop;
@@ -82,12 +112,16 @@ impl Code {
     }
 
     /// What follows belongs to no place. The place before has a word.
-    pub(crate) fn leave_place(&mut self) {
+    pub fn leave_place(&mut self)
+        ensures few { words_in self.new.pieces.items ≡ words_in self.old.pieces.items }
+    {
         self.owner = 0;
     }
 
     /// The last word writes the home of the target of an instruction of this number.
-    pub(crate) fn mark_writer(&mut self, number: u32) {
+    pub fn mark_writer(&mut self, number: u32)
+        ensures few { words_in self.new.pieces.items ≡ words_in self.old.pieces.items }
+    {
         if let Some(last) = self.pieces.last_mut() {
             last.writes = Some(number);
         }

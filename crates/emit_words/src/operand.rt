@@ -1,17 +1,23 @@
 //! Operands and results.
 
+ghost use Rattle.std.specs.Prelude.{◌≡◌, ◌≤◌, ◌+◌, OnOk};
+ghost use Rattle.emit_pieces.specs.Words.{words_in};
+ghost use Rattle.emit_words.specs.Fetching.{most_words_of_home, most_words_of_source, most_words_to_bring};
+
 use crate::code::Code;
-use crate::constant::{high_part, is_small, low_part};
+use crate::constant::{high_part, low_part};
 use emit_pieces::register;
 use emit_storage::{Source, Storage};
-use graph_core::{Name, Operand};
+use graph_core::Operand;
 use graph_homes::Home;
 use rv_code::{Instruction, LoadOperation, RegisterOperation, StoreOperation};
 use std::alloc::AllocError;
 
 impl Code {
     /// The words that make the base of what lies far from `sp`, in `t0`: its upper part, and `sp` added to it.
-    fn put_far_base(&mut self, offset: u32) -> Result<(), AllocError> {
+    fn put_far_base(&mut self, offset: u32) -> Result<(), AllocError>
+        ensures few { OnOk result (words_in self.new.pieces.items ≤ words_in self.old.pieces.items + 2) }
+    {
         self.put(Instruction::Lui(register::T0, high_part(offset)))?;
         self.put(Instruction::Register(
             RegisterOperation::Add,
@@ -22,7 +28,9 @@ impl Code {
     }
 
     /// Loads a word of the frame, in one word or in three that stand together.
-    pub(crate) fn load_slot(&mut self, rd: u8, offset: u32) -> Result<(), AllocError> {
+    pub fn load_slot(&mut self, rd: u8, offset: u32) -> Result<(), AllocError>
+        ensures few { OnOk result (words_in self.new.pieces.items ≤ words_in self.old.pieces.items + 3) }
+    {
         if offset < 2048 {
             return self.put(Instruction::Load(LoadOperation::Lw, rd, register::SP, offset));
         }
@@ -31,7 +39,9 @@ impl Code {
     }
 
     /// Stores a word of the frame, in one word or in three that stand together.
-    pub(crate) fn store_slot(&mut self, value: u8, offset: u32) -> Result<(), AllocError> {
+    pub fn store_slot(&mut self, value: u8, offset: u32) -> Result<(), AllocError>
+        ensures few { OnOk result (words_in self.new.pieces.items ≤ words_in self.old.pieces.items + 3) }
+    {
         if offset < 2048 {
             return self.put(Instruction::Store(StoreOperation::Sw, value, register::SP, offset));
         }
@@ -40,12 +50,14 @@ impl Code {
     }
 
     /// A register that holds what a home holds, `scratch` where that is a slot.
-    pub(crate) fn fetch_home(
+    pub fn fetch_home(
         &mut self,
         storage: &Storage<'_>,
         home: Home,
         scratch: u8,
-    ) -> Result<u8, AllocError> {
+    ) -> Result<u8, AllocError>
+        ensures few { OnOk result (words_in self.new.pieces.items ≤ words_in self.old.pieces.items + most_words_of_home home) }
+    {
         match home {
             Home::Register(register) => Ok(register),
             Home::Slot(slot) => {
@@ -56,12 +68,14 @@ impl Code {
     }
 
     /// A register that holds what is read, `scratch` where it has none of its own.
-    pub(crate) fn fetch_source(
+    pub fn fetch_source(
         &mut self,
         storage: &Storage<'_>,
         source: Source,
         scratch: u8,
-    ) -> Result<u8, AllocError> {
+    ) -> Result<u8, AllocError>
+        ensures few { OnOk result (words_in self.new.pieces.items ≤ words_in self.old.pieces.items + most_words_of_source source) }
+    {
         match source {
             Source::Home(home) => self.fetch_home(storage, home, scratch),
             Source::Word(word) => self.fetch_constant(word, storage.base, scratch),
@@ -69,26 +83,25 @@ impl Code {
     }
 
     /// A register that holds an operand, `scratch` where it has none of its own.
-    pub(crate) fn fetch(
+    pub fn fetch(
         &mut self,
         storage: &Storage<'_>,
         operand: Operand,
         scratch: u8,
-    ) -> Result<u8, AllocError> {
+    ) -> Result<u8, AllocError>
+        ensures few { OnOk result (words_in self.new.pieces.items ≤ words_in self.old.pieces.items + 3) }
+    {
         self.fetch_source(storage, storage.source(operand), scratch)
     }
 
     /// Brings what is read into a register. Where it is there already, this takes no word.
-    pub(crate) fn bring(
-        &mut self,
-        storage: &Storage<'_>,
-        rd: u8,
-        source: Source,
-    ) -> Result<(), AllocError> {
+    pub fn bring(&mut self, storage: &Storage<'_>, rd: u8, source: Source) -> Result<(), AllocError>
+        ensures few { OnOk result (words_in self.new.pieces.items ≤ words_in self.old.pieces.items + most_words_to_bring source) }
+    {
         match source {
             Source::Word(word) => self.set_constant(rd, word, storage.base),
-            Source::Home(home) => {
-                let register = self.fetch_home(storage, home, rd)?;
+            Source::Home(Home::Slot(slot)) => self.load_slot(rd, storage.slot(slot)),
+            Source::Home(Home::Register(register)) => {
                 if register == rd {
                     Ok(())
                 } else {
@@ -99,12 +112,14 @@ impl Code {
     }
 
     /// Stores the result of an instruction, which is in a register, where the target's home is a slot; the last word is then that store.
-    pub(crate) fn finish(
+    pub fn finish(
         &mut self,
         storage: &Storage<'_>,
         target: Home,
         register: u8,
-    ) -> Result<(), AllocError> {
+    ) -> Result<(), AllocError>
+        ensures few { OnOk result (words_in self.new.pieces.items ≤ words_in self.old.pieces.items + 3) }
+    {
         match target {
             Home::Register(_) => Ok(()),
             Home::Slot(slot) => self.store_slot(register, storage.slot(slot)),
@@ -112,12 +127,14 @@ impl Code {
     }
 
     /// Writes a home from a register that is none; the last word is the one that writes it.
-    pub(crate) fn write(
+    pub fn write(
         &mut self,
         storage: &Storage<'_>,
         target: Home,
         register: u8,
-    ) -> Result<(), AllocError> {
+    ) -> Result<(), AllocError>
+        ensures few { OnOk result (words_in self.new.pieces.items ≤ words_in self.old.pieces.items + 3) }
+    {
         match target {
             Home::Register(home) => self.put_sum(home, register, 0),
             Home::Slot(slot) => self.store_slot(register, storage.slot(slot)),
@@ -125,12 +142,9 @@ impl Code {
     }
 
     /// The address of a byte of the frame, in a register.
-    pub(crate) fn put_address(
-        &mut self,
-        rd: u8,
-        scratch: u8,
-        offset: u32,
-    ) -> Result<(), AllocError> {
+    pub fn put_address(&mut self, rd: u8, scratch: u8, offset: u32) -> Result<(), AllocError>
+        ensures few { OnOk result (words_in self.new.pieces.items ≤ words_in self.old.pieces.items + 3) }
+    {
         if offset < 2048 {
             return self.put_sum(rd, register::SP, offset);
         }
@@ -145,14 +159,9 @@ impl Code {
 }
 
 /// The register in which the result of an instruction is made: the target's home, or `t1` on the way to a slot.
-pub(crate) fn result_register(target: Home) -> u8 {
+pub fn result_register(target: Home) -> u8 {
     match target {
         Home::Register(register) => register,
         Home::Slot(_) => register::T1,
     }
-}
-
-/// The target's home.
-pub(crate) fn target_home(storage: &Storage<'_>, target: Name) -> Home {
-    storage.home(target)
 }

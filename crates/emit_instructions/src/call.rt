@@ -1,0 +1,90 @@
+//! Calls.
+
+ghost use Rattle.std.specs.Prelude.{◌≡◌, ◌≤◌, ◌+◌, ◌*◌, OnOk, length};
+ghost use Rattle.emit_pieces.specs.Words.{words_in};
+
+use emit_pieces::{Piece, register};
+use emit_storage::Storage;
+use emit_words::Code;
+use graph_core::{Callee, Name, Operand};
+use rv_code::Instruction;
+use std::alloc::AllocError;
+
+/// The number of a register that an argument passes in, the last one for those that have none.
+fn argument_register(number: u8) -> u8 {
+    if number < 8 {
+        register::A0 + number
+    } else {
+        register::A7
+    }
+}
+
+/// An argument is passed in its register.
+fn pass(
+    code: &mut Code,
+    storage: &Storage<'_>,
+    number: u8,
+    argument: Operand,
+) -> Result<(), AllocError>
+    ensures few { OnOk result (words_in code.new.pieces.items ≤ words_in code.old.pieces.items + 3) }
+{
+    let register = argument_register(number);
+    let source = storage.source(argument);
+    code.bring(storage, register, source)?;
+    code.forget(register);
+    Ok(())
+}
+
+/// Arguments are passed in their registers.
+fn pass_all(code: &mut Code, storage: &Storage<'_>, arguments: &[Operand]) -> Result<(), AllocError>
+    ensures few { OnOk result (words_in code.new.pieces.items ≤ words_in code.old.pieces.items + 3 * length arguments.now) }
+{
+    let mut number = 0u8;
+    for argument in arguments {
+        pass(code, storage, number, *argument)?;
+        number = number.saturating_add(1);
+    }
+    Ok(())
+}
+
+/// The environment is called by a number.
+fn call_environment(code: &mut Code, number: u32) -> Result<(), AllocError>
+    ensures few { OnOk result (words_in code.new.pieces.items ≤ words_in code.old.pieces.items + 2) }
+{
+    code.put_sum(register::A7, register::ZERO, number)?;
+    code.forget(register::A7);
+    code.put(Instruction::Ecall)
+}
+
+/// What is called is called, with its arguments in their registers.
+fn call_callee(code: &mut Code, callee: Callee) -> Result<(), AllocError>
+    ensures few { OnOk result (words_in code.new.pieces.items ≤ words_in code.old.pieces.items + 2) }
+{
+    match callee {
+        Callee::Getchar => call_environment(code, 1),
+        Callee::Putchar => call_environment(code, 2),
+        Callee::Exit => call_environment(code, 10),
+        Callee::Function(function) => {
+            code.forget_all();
+            code.put_piece(Piece::Call(function))
+        }
+    }
+}
+
+/// A call, whose result a target becomes, if there is one.
+pub fn put_call(
+    code: &mut Code,
+    storage: &Storage<'_>,
+    target: Option<Name>,
+    callee: Callee,
+    arguments: &[Operand],
+) -> Result<(), AllocError>
+    ensures few { OnOk result (words_in code.new.pieces.items ≤ words_in code.old.pieces.items + (5 + 3 * length arguments.now)) }
+{
+    pass_all(code, storage, arguments)?;
+    call_callee(code, callee)?;
+    match target {
+        Some(target) => code.write(storage, storage.home(target), register::A0),
+        None => Ok(()),
+    }
+}

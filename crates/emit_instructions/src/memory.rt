@@ -1,0 +1,181 @@
+//! Loads, stores and addresses.
+
+ghost use Rattle.std.specs.Prelude.{◌≡◌, ◌≤◌, ◌+◌, OnOk};
+ghost use Rattle.emit_pieces.specs.Words.{words_in};
+
+use emit_pieces::register;
+use emit_storage::{Source, Storage};
+use emit_words::{Code, high_part, is_small, low_part, result_register};
+use graph_core::{Element, Location, Name, Operand};
+use rv_code::{Instruction, LoadOperation, RegisterOperation, StoreOperation};
+use std::alloc::AllocError;
+
+/// A register and the offset from what it holds.
+#[derive(Clone, Copy)]
+struct Reached {
+    base: u8,
+    offset: u32,
+}
+
+/// The load of an element.
+fn load_operation(element: Element) -> LoadOperation {
+    match element {
+        Element::Unsigned8 => LoadOperation::Lbu,
+        Element::Signed8 => LoadOperation::Lb,
+        Element::Unsigned16 => LoadOperation::Lhu,
+        Element::Signed16 => LoadOperation::Lh,
+        Element::Word => LoadOperation::Lw,
+    }
+}
+
+/// The store of an element.
+fn store_operation(element: Element) -> StoreOperation {
+    match element {
+        Element::Unsigned8 | Element::Signed8 => StoreOperation::Sb,
+        Element::Unsigned16 | Element::Signed16 => StoreOperation::Sh,
+        Element::Word => StoreOperation::Sw,
+    }
+}
+
+/// How an address that is known is reached: from `gp`, or from a register that holds its upper part.
+fn reach_static(code: &mut Code, storage: &Storage<'_>, address: u32) -> Result<Reached, AllocError>
+    ensures few { OnOk result (words_in code.new.pieces.items ≤ words_in code.old.pieces.items + 2) }
+{
+    let distance = address.wrapping_sub(storage.base);
+    if is_small(distance) {
+        return Ok(Reached {
+            base: register::GP,
+            offset: distance,
+        });
+    }
+    let upper = high_part(address).wrapping_mul(4096);
+    let base = code.fetch_constant(upper, storage.base, register::T2)?;
+    Ok(Reached {
+        base,
+        offset: low_part(address),
+    })
+}
+
+/// How an offset in the frame is reached: from `sp`, or from `t2`.
+fn reach_frame(code: &mut Code, offset: u32) -> Result<Reached, AllocError>
+    ensures few { OnOk result (words_in code.new.pieces.items ≤ words_in code.old.pieces.items + 2) }
+{
+    if offset < 2048 {
+        return Ok(Reached {
+            base: register::SP,
+            offset,
+        });
+    }
+    code.put(Instruction::Lui(register::T2, high_part(offset)))?;
+    code.put(Instruction::Register(
+        RegisterOperation::Add,
+        register::T2,
+        register::T2,
+        register::SP,
+    ))?;
+    Ok(Reached {
+        base: register::T2,
+        offset: low_part(offset),
+    })
+}
+
+/// How where a value points is reached.
+fn reach_pointer(
+    code: &mut Code,
+    storage: &Storage<'_>,
+    pointer: Operand,
+) -> Result<Reached, AllocError>
+    ensures few { OnOk result (words_in code.new.pieces.items ≤ words_in code.old.pieces.items + 3) }
+{
+    match storage.source(pointer) {
+        Source::Word(address) => reach_static(code, storage, address),
+        Source::Home(home) => {
+            let base = code.fetch_home(storage, home, register::T2)?;
+            Ok(Reached { base, offset: 0 })
+        }
+    }
+}
+
+/// How a location is reached.
+fn reach(code: &mut Code, storage: &Storage<'_>, location: Location) -> Result<Reached, AllocError>
+    ensures few { OnOk result (words_in code.new.pieces.items ≤ words_in code.old.pieces.items + 3) }
+{
+    match location {
+        Location::Automatic { object, offset } => {
+            reach_frame(code, storage.object(object).wrapping_add(offset))
+        }
+        Location::Static(object) => reach_static(code, storage, storage.static_object(object)),
+        Location::At(pointer) => reach_pointer(code, storage, pointer),
+    }
+}
+
+/// A target becomes the element at a location.
+pub fn put_load(
+    code: &mut Code,
+    storage: &Storage<'_>,
+    target: Name,
+    element: Element,
+    from: Location,
+) -> Result<(), AllocError>
+    ensures few { OnOk result (words_in code.new.pieces.items ≤ words_in code.old.pieces.items + 7) }
+{
+    let target = storage.home(target);
+    let reached = reach(code, storage, from)?;
+    let rd = result_register(target);
+    code.put(Instruction::Load(load_operation(element), rd, reached.base, reached.offset))?;
+    code.finish(storage, target, rd)
+}
+
+/// The element at a location becomes an operand.
+pub fn put_store(
+    code: &mut Code,
+    storage: &Storage<'_>,
+    element: Element,
+    to: Location,
+    value: Operand,
+) -> Result<(), AllocError>
+    ensures few { OnOk result (words_in code.new.pieces.items ≤ words_in code.old.pieces.items + 7) }
+{
+    let value = code.fetch(storage, value, register::T1)?;
+    let reached = reach(code, storage, to)?;
+    code.put(Instruction::Store(
+        store_operation(element),
+        value,
+        reached.base,
+        reached.offset,
+    ))
+}
+
+/// The first element of an automatic object becomes what a register holds.
+pub fn put_first(
+    code: &mut Code,
+    storage: &Storage<'_>,
+    object: u32,
+    element: Element,
+    value: u8,
+) -> Result<(), AllocError>
+    ensures few { OnOk result (words_in code.new.pieces.items ≤ words_in code.old.pieces.items + 3) }
+{
+    let reached = reach_frame(code, storage.object(object))?;
+    code.put(Instruction::Store(
+        store_operation(element),
+        value,
+        reached.base,
+        reached.offset,
+    ))
+}
+
+/// A target becomes the address of an automatic object.
+pub fn put_address_of(
+    code: &mut Code,
+    storage: &Storage<'_>,
+    target: Name,
+    object: u32,
+) -> Result<(), AllocError>
+    ensures few { OnOk result (words_in code.new.pieces.items ≤ words_in code.old.pieces.items + 6) }
+{
+    let target = storage.home(target);
+    let rd = result_register(target);
+    code.put_address(rd, register::T2, storage.object(object))?;
+    code.finish(storage, target, rd)
+}

@@ -1,0 +1,328 @@
+//! Operations on words.
+
+ghost use Rattle.std.specs.Prelude.{◌≡◌, ◌≤◌, ◌+◌, OnOk};
+ghost use Rattle.emit_pieces.specs.Words.{words_in};
+
+use emit_pieces::register;
+use emit_storage::{Source, Storage};
+use emit_words::{Code, is_small, result_register};
+use graph_core::{Name, Operand};
+use graph_homes::Home;
+use rv_code::{ImmediateOperation, Instruction, RegisterOperation};
+use std::alloc::AllocError;
+use word_base::{Operation, Truncation, operate};
+
+/// Of which number a word is the power of two, if it is one.
+fn power_of_two(word: u32) -> Option<u32> {
+    for exponent in 0..32u32 {
+        if word == 1 << exponent {
+            return Some(exponent);
+        }
+    }
+    None
+}
+
+/// Whether the two operands of an operation may change places.
+fn is_commutative(operation: Operation) -> bool {
+    match operation {
+        Operation::Add | Operation::Mul | Operation::And | Operation::Or | Operation::Xor => true,
+        _ => false,
+    }
+}
+
+/// The operation on two registers.
+fn register_operation(operation: Operation) -> RegisterOperation {
+    match operation {
+        Operation::Add => RegisterOperation::Add,
+        Operation::Sub => RegisterOperation::Sub,
+        Operation::Mul => RegisterOperation::Mul,
+        Operation::Div => RegisterOperation::Div,
+        Operation::Divu => RegisterOperation::Divu,
+        Operation::Rem => RegisterOperation::Rem,
+        Operation::Remu => RegisterOperation::Remu,
+        Operation::Sll => RegisterOperation::Sll,
+        Operation::Srl => RegisterOperation::Srl,
+        Operation::Sra => RegisterOperation::Sra,
+        Operation::And => RegisterOperation::And,
+        Operation::Or => RegisterOperation::Or,
+        Operation::Xor => RegisterOperation::Xor,
+        Operation::Slt => RegisterOperation::Slt,
+        Operation::Sltu => RegisterOperation::Sltu,
+    }
+}
+
+/// The operation on a register and a small word that is the same operation with that word on the right.
+fn same_immediate(operation: Operation) -> Option<ImmediateOperation> {
+    match operation {
+        Operation::Add => Some(ImmediateOperation::Addi),
+        Operation::And => Some(ImmediateOperation::Andi),
+        Operation::Or => Some(ImmediateOperation::Ori),
+        Operation::Xor => Some(ImmediateOperation::Xori),
+        Operation::Slt => Some(ImmediateOperation::Slti),
+        Operation::Sltu => Some(ImmediateOperation::Sltiu),
+        _ => None,
+    }
+}
+
+/// The shift by a constant that is a shift of any kind.
+fn shift_immediate(operation: Operation) -> Option<ImmediateOperation> {
+    match operation {
+        Operation::Sll => Some(ImmediateOperation::Slli),
+        Operation::Srl => Some(ImmediateOperation::Srli),
+        Operation::Sra => Some(ImmediateOperation::Srai),
+        _ => None,
+    }
+}
+
+/// The operation on a register and an immediate that does what this one does with a power of two on the right.
+fn power_immediate(operation: Operation, word: u32) -> Option<(ImmediateOperation, u32)> {
+    let exponent = power_of_two(word)?;
+    match operation {
+        Operation::Mul => Some((ImmediateOperation::Slli, exponent)),
+        Operation::Divu => Some((ImmediateOperation::Srli, exponent)),
+        Operation::Remu if exponent <= 11 => Some((ImmediateOperation::Andi, word.wrapping_sub(1))),
+        _ => None,
+    }
+}
+
+/// The operation on a register and an immediate that does what this one does with a word on the right, if there is one.
+fn immediate_form(operation: Operation, word: u32) -> Option<(ImmediateOperation, u32)> {
+    if let Some(shift) = shift_immediate(operation) {
+        return Some((shift, word % 32));
+    }
+    if let Operation::Sub = operation {
+        let negative = 0u32.wrapping_sub(word);
+        return if is_small(negative) {
+            Some((ImmediateOperation::Addi, negative))
+        } else {
+            None
+        };
+    }
+    match same_immediate(operation) {
+        Some(same) => if is_small(word) {
+            Some((same, word))
+        } else {
+            None
+        },
+        None => power_immediate(operation, word),
+    }
+}
+
+/// A target becomes a constant.
+fn write_constant(
+    code: &mut Code,
+    storage: &Storage<'_>,
+    target: Home,
+    word: u32,
+) -> Result<(), AllocError>
+    ensures few { OnOk result (words_in code.new.pieces.items ≤ words_in code.old.pieces.items + 5) }
+{
+    match target {
+        Home::Register(register) => code.set_constant(register, word, storage.base),
+        Home::Slot(_) => {
+            let register = code.fetch_constant(word, storage.base, register::T1)?;
+            code.write(storage, target, register)
+        }
+    }
+}
+
+/// A target becomes what an operation makes of what two registers hold.
+fn operate_registers(
+    code: &mut Code,
+    storage: &Storage<'_>,
+    target: Home,
+    operation: RegisterOperation,
+    left: Source,
+    right: Source,
+) -> Result<(), AllocError>
+    ensures few { OnOk result (words_in code.new.pieces.items ≤ words_in code.old.pieces.items + 10) }
+{
+    let left = code.fetch_source(storage, left, register::T1)?;
+    let right = code.fetch_source(storage, right, register::T2)?;
+    let rd = result_register(target);
+    code.put(Instruction::Register(operation, rd, left, right))?;
+    code.finish(storage, target, rd)
+}
+
+/// A target becomes what an operation makes of what a register holds and an immediate.
+fn operate_immediate(
+    code: &mut Code,
+    storage: &Storage<'_>,
+    target: Home,
+    operation: ImmediateOperation,
+    source: Source,
+    immediate: u32,
+) -> Result<(), AllocError>
+    ensures few { OnOk result (words_in code.new.pieces.items ≤ words_in code.old.pieces.items + 7) }
+{
+    let source = code.fetch_source(storage, source, register::T1)?;
+    let rd = result_register(target);
+    code.put_immediate(operation, rd, source, immediate)?;
+    code.finish(storage, target, rd)
+}
+
+/// A target becomes what an operation makes of what a register holds and a word.
+fn operate_by_word(
+    code: &mut Code,
+    storage: &Storage<'_>,
+    target: Home,
+    operation: Operation,
+    left: Source,
+    right: u32,
+) -> Result<(), AllocError>
+    ensures few { OnOk result (words_in code.new.pieces.items ≤ words_in code.old.pieces.items + 10) }
+{
+    match immediate_form(operation, right) {
+        Some((immediate, word)) => {
+            operate_immediate(code, storage, target, immediate, left, word)
+        }
+        None => operate_registers(
+            code,
+            storage,
+            target,
+            register_operation(operation),
+            left,
+            Source::Word(right),
+        ),
+    }
+}
+
+/// A target becomes what an operation makes of two operands.
+pub fn put_operation(
+    code: &mut Code,
+    storage: &Storage<'_>,
+    target: Name,
+    operation: Operation,
+    left: Operand,
+    right: Operand,
+) -> Result<(), AllocError>
+    ensures few { OnOk result (words_in code.new.pieces.items ≤ words_in code.old.pieces.items + 10) }
+{
+    let target = storage.home(target);
+    match (storage.source(left), storage.source(right)) {
+        (Source::Word(left), Source::Word(right)) => {
+            write_constant(code, storage, target, operate(operation, left, right))
+        }
+        (left, Source::Word(right)) => {
+            operate_by_word(code, storage, target, operation, left, right)
+        }
+        (Source::Word(left), right) if is_commutative(operation) => {
+            operate_by_word(code, storage, target, operation, right, left)
+        }
+        (left, right) => {
+            operate_registers(
+                code,
+                storage,
+                target,
+                register_operation(operation),
+                left,
+                right,
+            )
+        }
+    }
+}
+
+/// A target becomes the lowest bits of a register, so many less than 32 of them, by two shifts.
+fn shift_twice(
+    code: &mut Code,
+    storage: &Storage<'_>,
+    target: Home,
+    source: Source,
+    by: u32,
+    back: ImmediateOperation,
+) -> Result<(), AllocError>
+    ensures few { OnOk result (words_in code.new.pieces.items ≤ words_in code.old.pieces.items + 8) }
+{
+    let source = code.fetch_source(storage, source, register::T1)?;
+    code.put_immediate(ImmediateOperation::Slli, register::T1, source, by)?;
+    let rd = result_register(target);
+    code.put_immediate(back, rd, register::T1, by)?;
+    code.finish(storage, target, rd)
+}
+
+/// A target becomes what a truncation leaves of an operand.
+pub fn put_truncation(
+    code: &mut Code,
+    storage: &Storage<'_>,
+    target: Name,
+    truncation: Truncation,
+    from: Operand,
+) -> Result<(), AllocError>
+    ensures few { OnOk result (words_in code.new.pieces.items ≤ words_in code.old.pieces.items + 8) }
+{
+    let target = storage.home(target);
+    let from = storage.source(from);
+    match truncation {
+        Truncation::Unsigned8 => {
+            operate_immediate(code, storage, target, ImmediateOperation::Andi, from, 255)
+        }
+        Truncation::Signed8 => {
+            shift_twice(code, storage, target, from, 24, ImmediateOperation::Srai)
+        }
+        Truncation::Unsigned16 => {
+            shift_twice(code, storage, target, from, 16, ImmediateOperation::Srli)
+        }
+        Truncation::Signed16 => {
+            shift_twice(code, storage, target, from, 16, ImmediateOperation::Srai)
+        }
+    }
+}
+
+/// A target becomes 1 where what two registers hold is the same, and else 0.
+fn compare_registers(
+    code: &mut Code,
+    storage: &Storage<'_>,
+    target: Home,
+    left: Source,
+    right: Source,
+) -> Result<(), AllocError>
+    ensures few { OnOk result (words_in code.new.pieces.items ≤ words_in code.old.pieces.items + 11) }
+{
+    let left = code.fetch_source(storage, left, register::T1)?;
+    let right = code.fetch_source(storage, right, register::T2)?;
+    code.put(Instruction::Register(RegisterOperation::Xor, register::T1, left, right))?;
+    let rd = result_register(target);
+    code.put_immediate(ImmediateOperation::Sltiu, rd, register::T1, 1)?;
+    code.finish(storage, target, rd)
+}
+
+/// A target becomes 1 where what is read is the same, and else 0.
+pub fn put_comparison(
+    code: &mut Code,
+    storage: &Storage<'_>,
+    target: Name,
+    left: Operand,
+    right: Operand,
+) -> Result<(), AllocError>
+    ensures few { OnOk result (words_in code.new.pieces.items ≤ words_in code.old.pieces.items + 11) }
+{
+    let target = storage.home(target);
+    match (storage.source(left), storage.source(right)) {
+        (Source::Word(0), other) | (other, Source::Word(0)) => {
+            operate_immediate(code, storage, target, ImmediateOperation::Sltiu, other, 1)
+        }
+        (left, right) => compare_registers(code, storage, target, left, right),
+    }
+}
+
+/// A target becomes an operand.
+pub fn put_move(
+    code: &mut Code,
+    storage: &Storage<'_>,
+    target: Name,
+    from: Operand,
+) -> Result<(), AllocError>
+    ensures few { OnOk result (words_in code.new.pieces.items ≤ words_in code.old.pieces.items + 6) }
+{
+    let target = storage.home(target);
+    match (target, storage.source(from)) {
+        (_, Source::Word(word)) => write_constant(code, storage, target, word),
+        (Home::Register(rd), Source::Home(Home::Slot(slot))) => {
+            code.load_slot(rd, storage.slot(slot))
+        }
+        (_, Source::Home(home)) => {
+            let register = code.fetch_home(storage, home, register::T1)?;
+            code.write(storage, target, register)
+        }
+    }
+}

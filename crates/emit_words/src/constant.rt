@@ -1,0 +1,156 @@
+//! Constants.
+
+ghost use Rattle.std.specs.Prelude.{◌≡◌, ◌≤◌, ◌+◌, OnOk};
+ghost use Rattle.emit_pieces.specs.Words.{words_in};
+
+use crate::code::Code;
+use emit_pieces::{Held, register};
+use rv_code::Instruction;
+use std::alloc::AllocError;
+
+/// Whether a word is that of a number of 12 bits, -2048 to 2047.
+pub fn is_small(word: u32) -> bool {
+    word < 2048 || word >= 4294965248
+}
+
+/// The lowest 12 bits of a word, with their sign.
+pub fn low_part(word: u32) -> u32 {
+    let low = word % 4096;
+    if low < 2048 { low } else { low + 4294963200 }
+}
+
+/// What the upper 20 bits have to be so that the low part added to them gives a word.
+pub fn high_part(word: u32) -> u32 {
+    word.wrapping_sub(low_part(word)) / 4096
+}
+
+/// Whether a word is made best from the address that `gp` holds: it would take two words else.
+fn is_near_base(word: u32, base: u32) -> bool {
+    !is_small(word) && low_part(word) != 0 && is_small(word.wrapping_sub(base))
+}
+
+/// How many words bring a constant into a register, where `gp` holds this address.
+pub fn words_of_constant(word: u32, base: u32) -> u32
+    ensures { (1 ≤ result) × (result ≤ 2) }
+{
+    if is_small(word) || low_part(word) == 0 || is_near_base(word, base) {
+        1
+    } else {
+        2
+    }
+}
+
+impl Code {
+    /// Brings a constant into a register by the one word that it takes.
+    fn load_by_one(&mut self, register: u8, word: u32, base: u32) -> Result<(), AllocError>
+        ensures few { OnOk result (words_in self.new.pieces.items ≤ words_in self.old.pieces.items + 1) }
+    {
+        if is_small(word) {
+            return self.put_sum(register, register::ZERO, word);
+        }
+        if is_near_base(word, base) {
+            return self.put_sum(register, register::GP, word.wrapping_sub(base));
+        }
+        self.put(Instruction::Lui(register, high_part(word)))
+    }
+
+    /// Brings a constant into a register by the words that it takes, one or two.
+    fn load_by(&mut self, register: u8, word: u32, base: u32, words: u32) -> Result<(), AllocError>
+        requires { 1 ≤ words }
+        ensures few { OnOk result (words_in self.new.pieces.items ≤ words_in self.old.pieces.items + words) }
+    {
+        if words == 1 {
+            return self.load_by_one(register, word, base);
+        }
+        self.put(Instruction::Lui(register, high_part(word)))?;
+        self.put_sum(register, register, low_part(word))
+    }
+
+    /// Brings a constant into a register, in at most two words.
+    pub fn load_constant(&mut self, register: u8, word: u32, base: u32) -> Result<(), AllocError>
+        ensures few { OnOk result (words_in self.new.pieces.items ≤ words_in self.old.pieces.items + 2) }
+    {
+        let words = words_of_constant(word, base);
+        self.load_by(register, word, base, words)
+    }
+
+    /// The register that holds a constant, if one does.
+    pub fn holder(&self, word: u32) -> Option<u8> {
+        for held in &self.held {
+            if held.word == word {
+                return Some(held.register);
+            }
+        }
+        None
+    }
+
+    /// A register that holds a constant, `scratch` where no other does.
+    pub fn fetch_constant(&mut self, word: u32, base: u32, scratch: u8) -> Result<u8, AllocError>
+        ensures few { OnOk result (words_in self.new.pieces.items ≤ words_in self.old.pieces.items + 2) }
+    {
+        if word == 0 {
+            return Ok(register::ZERO);
+        }
+        if word == base {
+            return Ok(register::GP);
+        }
+        self.fetched.push(word)?;
+        if let Some(register) = self.holder(word) {
+            return Ok(register);
+        }
+        self.load_constant(scratch, word, base)?;
+        Ok(scratch)
+    }
+
+    /// Brings a constant into a register, from one that holds it, or in at most two words.
+    pub fn set_constant(&mut self, register: u8, word: u32, base: u32) -> Result<(), AllocError>
+        ensures few { OnOk result (words_in self.new.pieces.items ≤ words_in self.old.pieces.items + 2) }
+    {
+        if !is_small(word) {
+            if let Some(holder) = self.holder(word) {
+                return self.put_sum(register, holder, 0);
+            }
+        }
+        self.load_constant(register, word, base)
+    }
+
+    /// Nothing more is known of a register.
+    pub fn forget(&mut self, register: u8)
+        ensures few { words_in self.new.pieces.items ≡ words_in self.old.pieces.items }
+    {
+        for held in self.held.iter_mut() {
+            if held.register == register {
+                *held = Held {
+                    register: register::ZERO,
+                    word: 0,
+                };
+            }
+        }
+    }
+
+    /// Nothing more is known of any scratch register.
+    pub fn forget_all(&mut self)
+        ensures few { words_in self.new.pieces.items ≡ words_in self.old.pieces.items }
+    {
+        self.held.clear();
+    }
+
+    /// Brings a constant into a scratch register by the words that it takes at most. It is held from then on.
+    pub fn hold(&mut self, held: Held, base: u32, words: u32) -> Result<(), AllocError>
+        requires { 1 ≤ words }
+        ensures few { OnOk result (words_in self.new.pieces.items ≤ words_in self.old.pieces.items + words) }
+    {
+        match self.holder(held.word) {
+            Some(register) => {
+                if register == held.register {
+                    return Ok(());
+                }
+                self.put_sum(held.register, register, 0)?;
+            }
+            None => self.load_by(held.register, held.word, base, words)?,
+        }
+        self.forget(held.register);
+        self.held.push(held)?;
+        Ok(())
+    }
+}
