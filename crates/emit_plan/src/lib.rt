@@ -7,4 +7,4 @@ mod choice;
 mod planning;
 mod regions;
 
-pub use planning::{Plan, plan_of, trivial};
+pub use planning::{Plan, plan_of};

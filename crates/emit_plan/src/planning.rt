@@ -2,7 +2,7 @@
 
 use crate::choice::{Ground, Holding, holdings_of};
 use crate::regions::{Regions, calls_of_all, regions_of};
-use block_order::table::{at, count, put};
+use block_order::table::{at, put};
 use block_order::{flow_of, loops_of, order_of, search_of};
 use emit_pieces::Held;
 use emit_storage::Storage;
@@ -71,17 +71,6 @@ fn held_of_all(
         all.push(held_in(alloc, &spans, regions.region(block), holdings)?)?;
     }
     Ok(all)
-}
-
-/// A plan by which the blocks stand in order, and nothing is held.
-pub fn trivial(alloc: Global, graph: &Graph) -> Result<Plan, AllocError> {
-    let mut order = Vec::new(alloc);
-    let mut held = Vec::new(alloc);
-    for block in 0..count(graph.blocks.len()) {
-        order.push(block)?;
-        held.push(Vec::new(alloc))?;
-    }
-    Ok(Plan { order, held })
 }
 
 /// A plan by which the blocks stand as it is likely that they follow one another, and loops without calls hold the words that they fetch most often.

@@ -1,0 +1,11 @@
+//! The pieces of a function's code in their order: by its plan where the plan holds, or as its blocks stand.
+#![tactic(auto)]
+
+mod plain;
+mod plan_test;
+mod planned;
+mod sequence;
+
+pub use plain::plain_sequence_of;
+pub use planned::planned_sequence_of;
+pub use sequence::Sequence;
