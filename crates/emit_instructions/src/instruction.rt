@@ -60,6 +60,7 @@ pub fn put_instruction(
 {
     match instruction {
         Instr::Marker(place) => code.begin(place.0, place.0 != storage.entry.0),
+        Instr::Note { .. } => Ok(()),
         Instr::Store { element, to, value } => put_store(code, storage, *element, *to, *value),
         Instr::Zero { object, words } => put_zero(code, storage, *object, *words),
         Instr::CopyWords {
