@@ -1,6 +1,13 @@
 //! Static memory.
 
-use crate::frame::{taken_by, word_of};
+ghost use Rattle.std.specs.Prelude.{◌≡◌, ◌<◌, ◌+◌, ◌-◌, ◌^◌, ◌++◌, IfOk, length, map, min};
+ghost use Rattle.graph_core.specs.Graphs.{bytes_view, static_view, unit_view};
+ghost use Rattle.graph_core.specs.Memory.{static_bytes};
+ghost use Rattle.graph_core.specs.Validity.{taken_by, total};
+ghost use Rattle.homed_unit.specs.Statics.{addresses_from, static_addresses};
+ghost use Rattle.emit_storage.specs.Placed.{FitsStatics};
+
+use crate::frame::{Placed, taken_by, word_of};
 use graph_core::{Bytes, Element, Relocation, StaticObject, Unit};
 use std::alloc::{AllocError, Global};
 
@@ -18,38 +25,69 @@ pub struct Statics {
     pub end: u32,
 }
 
-/// The address behind what has so many bytes and lies at an address.
-fn behind(address: u32, bytes: u64) -> u32 {
+/// The address behind what has so many bytes and lies at an address, or the greatest word where that is more.
+fn behind(address: u32, bytes: u64) -> u32
+    ensures { result ≡ min (address + taken_by bytes) (2 ^ 32 - 1) }
+{
     word_of(u64::from(address).saturating_add(taken_by(bytes)))
 }
 
-/// The addresses of static objects from an address on, and behind them the address where they end.
-fn object_addresses(
-    alloc: Global,
-    objects: &[StaticObject],
-    from: u32,
-) -> Result<(Vec<u32>, u32), AllocError> {
-    let mut addresses = Vec::new(alloc);
-    let mut address = from;
-    for object in objects {
-        addresses.push(address)?;
-        address = behind(address, object.element.bytes_of(object.count));
+/// Where static objects lie from an address on.
+fn placed_objects(alloc: Global, objects: &[StaticObject], start: u32) -> Result<Placed, AllocError>
+    ensures offsets { IfOk result (λ p. start + total taken_by (map static_bytes (map static_view objects.now)) < 4294967295 → p.offsets.items ≡ addresses_from start (map static_bytes (map static_view objects.now))) }
+    ensures end { IfOk result (λ p. p.end ≡ min (start + total taken_by (map static_bytes (map static_view objects.now))) (2 ^ 32 - 1)) }
+{
+    let mut offsets = Vec::new(alloc);
+    let mut left = objects;
+    let mut address = start;
+    while let [first, rest @ ..] = left {
+        offsets.push(address)?;
+        address = behind(address, first.element.bytes_of(first.count));
+        left = rest;
     }
-    Ok((addresses, address))
+    Ok(Placed {
+        offsets,
+        end: address,
+    })
+}
+
+/// How many bytes there are.
+fn length_of(bytes: &Bytes) -> u64
+    ensures { result ≡ length (bytes_view bytes.now) }
+{
+    bytes.bytes.len() as u64
+}
+
+/// Where bytes that initialise automatic arrays lie from an address on.
+fn placed_arrays(alloc: Global, all: &[Bytes], start: u32) -> Result<Placed, AllocError>
+    ensures offsets { IfOk result (λ p. start + total taken_by (map (λ b. length b) (map bytes_view all.now)) < 4294967295 → p.offsets.items ≡ addresses_from start (map (λ b. length b) (map bytes_view all.now))) }
+    ensures end { IfOk result (λ p. p.end ≡ min (start + total taken_by (map (λ b. length b) (map bytes_view all.now))) (2 ^ 32 - 1)) }
+{
+    let mut offsets = Vec::new(alloc);
+    let mut left = all;
+    let mut address = start;
+    while let [first, rest @ ..] = left {
+        offsets.push(address)?;
+        address = behind(address, length_of(first));
+        left = rest;
+    }
+    Ok(Placed {
+        offsets,
+        end: address,
+    })
 }
 
 /// The addresses of what a unit has in static memory.
-pub fn static_addresses(alloc: Global, unit: &Unit) -> Result<Statics, AllocError> {
-    let (objects, mut address) = object_addresses(alloc, &unit.statics, STATICS_START)?;
-    let mut array_bytes = Vec::new(alloc);
-    for bytes in &unit.array_bytes {
-        array_bytes.push(address)?;
-        address = behind(address, bytes.bytes.len() as u64);
-    }
+#[tactic(auto, using(crate::proofs::Offsets::both_addresses), unfolding(homed_unit::specs::Statics::statics_start))]
+pub fn static_addresses(alloc: Global, unit: &Unit) -> Result<Statics, AllocError>
+    ensures addresses { IfOk result (λ s. FitsStatics (unit_view unit.now) → s.objects.items ++ s.array_bytes.items ≡ static_addresses (unit_view unit.now)) }
+{
+    let objects = placed_objects(alloc, &unit.statics, STATICS_START)?;
+    let arrays = placed_arrays(alloc, &unit.array_bytes, objects.end)?;
     Ok(Statics {
-        objects,
-        array_bytes,
-        end: address,
+        objects: objects.offsets,
+        array_bytes: arrays.offsets,
+        end: arrays.end,
     })
 }
 
