@@ -255,6 +255,24 @@ fn leave(code: &mut Code, storage: &Storage<'_>, next: Label, room: u32) -> Resu
     put_leaving(code, storage.frame, moves)
 }
 
+/// Returns a value, in at most nine words.
+fn put_return_of(
+    code: &mut Code,
+    storage: &Storage<'_>,
+    value: Source,
+    next: Label,
+) -> Result<(), AllocError>
+    ensures few { OnOk result (words_in code.new.pieces.items ≤ words_in code.old.pieces.items + 9) }
+{
+    if let Source::Word(word) = value {
+        let words = words_of_constant(word, storage.base);
+        code.set_by(register::A0, word, storage.base, words)?;
+        return leave(code, storage, next, MOST_WORDS - words);
+    }
+    code.bring(storage, register::A0, value)?;
+    leave(code, storage, next, MOST_WORDS - words_to_bring(value))
+}
+
 /// Returns, with a value or none, in at most nine words.
 fn put_return(
     code: &mut Code,
@@ -266,12 +284,7 @@ fn put_return(
 {
     match value {
         None => leave(code, storage, next, MOST_WORDS),
-        Some(value) => {
-            let source = storage.source(value);
-            let room = MOST_WORDS - words_to_bring(source);
-            code.bring(storage, register::A0, source)?;
-            leave(code, storage, next, room)
-        }
+        Some(value) => put_return_of(code, storage, storage.source(value), next),
     }
 }
 

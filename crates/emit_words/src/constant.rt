@@ -102,16 +102,31 @@ impl Code {
         Ok(scratch)
     }
 
-    /// Brings a constant into a register, from one that holds it, or in at most two words.
-    pub fn set_constant(&mut self, register: u8, word: u32, base: u32) -> Result<(), AllocError>
-        ensures few { OnOk result (words_in self.new.pieces.items ≤ words_in self.old.pieces.items + 2) }
+    /// Brings a constant into a register by the words that it takes at most: from one that holds it, or as it is made.
+    pub fn set_by(
+        &mut self,
+        register: u8,
+        word: u32,
+        base: u32,
+        words: u32,
+    ) -> Result<(), AllocError>
+        requires { 1 ≤ words }
+        ensures few { OnOk result (words_in self.new.pieces.items ≤ words_in self.old.pieces.items + words) }
     {
         if !is_small(word) {
             if let Some(holder) = self.holder(word) {
                 return self.put_sum(register, holder, 0);
             }
         }
-        self.load_constant(register, word, base)
+        self.load_by(register, word, base, words)
+    }
+
+    /// Brings a constant into a register, from one that holds it, or in at most two words.
+    pub fn set_constant(&mut self, register: u8, word: u32, base: u32) -> Result<(), AllocError>
+        ensures few { OnOk result (words_in self.new.pieces.items ≤ words_in self.old.pieces.items + 2) }
+    {
+        let words = words_of_constant(word, base);
+        self.set_by(register, word, base, words)
     }
 
     /// Nothing more is known of a register.
