@@ -1,8 +1,11 @@
 -- Offsets of things that lie one behind the other, as they are found one by one.
-use Rattle.std.proofs.Common.{◌≡◌, ℕ, ◌+◌, ◌-◌, ◌<◌, ◌≤◌, List, [], ◌∷◌, ◌++◌, length, refl, sym, ap, ◌∙◌, subst, arith, append_assoc, get_or, take, drop, min}
+use Rattle.std.proofs.Common.{◌≡◌, ℕ, ◌+◌, ◌-◌, ◌<◌, ◌≤◌, List, [], ◌∷◌, ◌++◌, length, refl, sym, ap, ◌∙◌, subst, arith, append_assoc, get_or, take, drop, map, min}
 use Rattle.std.proofs.Math.Seq.{take-length}
 use Rattle.graph_core.specs.Validity.{taken_by, total}
-use Rattle.homed_unit.specs.Statics.{addresses_from}
+use Rattle.graph_core.specs.Graphs.{StaticObject, UnitForm}
+use Rattle.graph_core.specs.Memory.{static_bytes}
+use Rattle.homed_unit.specs.Statics.{addresses_from, static_sizes}
+use Rattle.emit_storage.specs.Placed.{FitsStatics}
 
 end_next : (offset a b c next : ℕ) → next ≡ min (offset + a) 4294967295 → min (offset + (a + b)) 4294967295 ≡ min c 4294967295 → min (next + b) 4294967295 ≡ min c 4294967295
 end_next offset a b c next e was = omega (arith, e, was)
@@ -80,3 +83,28 @@ both_addresses start xs ys os ps end lt first e second =
     let left : os ≡ addresses_from start xs = first (omega (arith, lt, parts)) in
     let right : ps ≡ addresses_from end ys = second (omega (arith, lt, parts, is)) in
     ap (λ l. l ++ ps) left ∙ ap (λ l. addresses_from start xs ++ l) (right ∙ ap (λ k. addresses_from k ys) is) ∙ sym (addresses_append start xs ys)
+
+-- What each of a list takes, at most 2^64 - 1, is what it takes where all take few.
+total_few : {A : Type 0} (taken : A → ℕ) (xs : List A) → total taken xs < 4294967295 → total (λ x. min (taken x) 18446744073709551615) xs ≡ total taken xs
+total_few taken [] lt = refl
+total_few taken (x ∷ xs) lt = (let sum : taken x + total taken xs < 4294967295 = lt in
+    let rest : total (λ y. min (taken y) 18446744073709551615) xs ≡ total taken xs = total_few taken xs (omega (arith, sum)) in
+    one (taken x) (total (λ y. min (taken y) 18446744073709551615) xs) (total taken xs) rest (omega (arith, sum)))
+  where
+    one : (a b c : ℕ) → b ≡ c → a < 4294967295 → min a 18446744073709551615 + b ≡ a + c
+    one a b c e fits = omega (arith, e, fits)
+
+total_map : {A B : Type 0} (taken : B → ℕ) (view : A → B) (xs : List A) → total taken (map view xs) ≡ total (λ x. taken (view x)) xs
+total_map taken view [] = refl
+total_map taken view (x ∷ xs) = ap (λ n. taken (view x) + n) (total_map taken view xs)
+
+-- Bytes of objects and arrays, put one behind the other, are as many as static memory takes.
+pub bytes_in_all : (u : UnitForm) (count now : ℕ) → count ≡ 0 + total (λ (o : StaticObject). min (taken_by (static_bytes o)) 18446744073709551615) u.statics
+    → now ≡ count + total (λ (b : List ℕ). min (taken_by (length b)) 18446744073709551615) u.array_bytes → FitsStatics u → now ≡ total taken_by (static_sizes u)
+bytes_in_all u count now first second fits =
+    let parts = total_append (map static_bytes u.statics) (map (λ (b : List ℕ). length b) u.array_bytes) in
+    let left = total_map taken_by static_bytes u.statics in
+    let right = total_map taken_by (λ (b : List ℕ). length b) u.array_bytes in
+    let few = total_few (λ (o : StaticObject). taken_by (static_bytes o)) u.statics (omega (arith, parts, left, right, fits)) in
+    let some = total_few (λ (b : List ℕ). taken_by (length b)) u.array_bytes (omega (arith, parts, left, right, fits)) in
+    omega (arith, first, second, parts, left, right, few, some)

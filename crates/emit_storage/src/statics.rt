@@ -1,10 +1,10 @@
 //! Static memory.
 
-ghost use Rattle.std.specs.Prelude.{◌≡◌, ◌<◌, ◌+◌, ◌-◌, ◌^◌, ◌++◌, IfOk, length, map, min};
+ghost use Rattle.std.specs.Prelude.{◌≡◌, ◌<◌, ◌+◌, ◌-◌, ◌^◌, ◌++◌, IfOk, OnOk, length, map, min};
 ghost use Rattle.graph_core.specs.Graphs.{bytes_view, static_view, unit_view};
 ghost use Rattle.graph_core.specs.Memory.{static_bytes};
 ghost use Rattle.graph_core.specs.Validity.{taken_by, total};
-ghost use Rattle.homed_unit.specs.Statics.{addresses_from, static_addresses};
+ghost use Rattle.homed_unit.specs.Statics.{addresses_from, static_addresses, static_sizes};
 ghost use Rattle.emit_storage.specs.Placed.{FitsStatics};
 
 use crate::frame::{Placed, taken_by, word_of};
@@ -92,29 +92,35 @@ pub fn static_addresses(alloc: Global, unit: &Unit) -> Result<Statics, AllocErro
 }
 
 /// Appends the first of these bytes, and zeros behind them, so many in all.
-fn push_padded(initial: &mut Vec<u8>, bytes: &[u8], count: u64) -> Result<(), AllocError> {
+fn push_padded(made: &mut Vec<u8>, bytes: &[u8], count: u64) -> Result<(), AllocError>
+    ensures { OnOk result (length made.new.items ≡ length made.old.items + count) }
+{
     let mut left = bytes;
-    for _ in 0..count {
+    for _number in 0..count {
         match left {
             [first, rest @ ..] => {
-                initial.push(*first)?;
+                made.push(*first)?;
                 left = rest;
             }
-            [] => initial.push(0)?,
+            [] => made.push(0)?,
         }
     }
     Ok(())
 }
 
 /// Writes a byte, where there is one.
-fn put_byte(bytes: &mut Vec<u8>, at: usize, byte: u8) {
+fn put_byte(bytes: &mut Vec<u8>, at: usize, byte: u8)
+    ensures { length bytes.new.items ≡ length bytes.old.items }
+{
     if let Some(place) = bytes.get_mut(at) {
         *place = byte;
     }
 }
 
 /// Writes the bytes of a word, the lowest first.
-fn put_word(bytes: &mut Vec<u8>, at: usize, word: u32) {
+fn put_word(bytes: &mut Vec<u8>, at: usize, word: u32)
+    ensures { length bytes.new.items ≡ length bytes.old.items }
+{
     put_byte(bytes, at, (word % 256) as u8);
     put_byte(bytes, at.wrapping_add(1), (word / 256 % 256) as u8);
     put_byte(bytes, at.wrapping_add(2), (word / 65536 % 256) as u8);
@@ -122,31 +128,29 @@ fn put_word(bytes: &mut Vec<u8>, at: usize, word: u32) {
 }
 
 /// Writes the address that a relocation of an object with so many bytes holds, if a word begins there.
-fn relocate(
-    initial: &mut Vec<u8>,
-    from: usize,
-    size: u64,
-    relocation: &Relocation,
-    statics: &Statics,
-) {
+fn relocate(made: &mut Vec<u8>, from: usize, size: u64, relocation: &Relocation, statics: &Statics)
+    ensures { length made.new.items ≡ length made.old.items }
+{
     if relocation.at % 4 == 0 && u64::from(relocation.at) < size {
         if let Some(address) = statics.objects.get(relocation.object as usize) {
             let word = address.wrapping_add(relocation.offset);
-            put_word(initial, from.wrapping_add(relocation.at as usize), word);
+            put_word(made, from.wrapping_add(relocation.at as usize), word);
         }
     }
 }
 
 /// Writes the addresses that relocations hold. Of several at one offset the first counts, so it is written last.
 fn relocate_all(
-    initial: &mut Vec<u8>,
+    made: &mut Vec<u8>,
     from: usize,
     size: u64,
     relocations: &[Relocation],
     statics: &Statics,
-) {
+)
+    ensures { length made.new.items ≡ length made.old.items }
+{
     for relocation in relocations.iter().rev() {
-        relocate(initial, from, size, relocation, statics);
+        relocate(made, from, size, relocation, statics);
     }
 }
 
@@ -161,33 +165,62 @@ fn first_bytes(bytes: &[u8], count: u64) -> &[u8] {
 
 /// Appends the bytes of a static object. Only an object of words holds addresses.
 fn push_object(
-    initial: &mut Vec<u8>,
+    made: &mut Vec<u8>,
     object: &StaticObject,
     statics: &Statics,
-) -> Result<(), AllocError> {
-    let from = initial.len();
+) -> Result<(), AllocError>
+    ensures { OnOk result (length made.new.items ≡ length made.old.items + min (taken_by (static_bytes (static_view object.now))) (2 ^ 64 - 1)) }
+{
+    let from = made.len();
     let size = object.element.bytes_of(object.count);
-    push_padded(initial, first_bytes(&object.bytes, size), taken_by(size))?;
+    push_padded(made, first_bytes(&object.bytes, size), taken_by(size))?;
     if let Element::Word = object.element {
-        relocate_all(initial, from, size, &object.relocations, statics);
+        relocate_all(made, from, size, &object.relocations, statics);
     }
     Ok(())
 }
 
+/// Appends the bytes of static objects.
+fn push_objects(
+    made: &mut Vec<u8>,
+    objects: &[StaticObject],
+    statics: &Statics,
+) -> Result<(), AllocError>
+    ensures { OnOk result (length made.new.items ≡ length made.old.items + total (λ o. min (taken_by (static_bytes o)) (2 ^ 64 - 1)) (map static_view objects.now)) }
+{
+    let mut left = objects;
+    while let [first, rest @ ..] = left {
+        push_object(made, first, statics)?;
+        left = rest;
+    }
+    Ok(())
+}
+
+/// Appends bytes that initialise an automatic array.
+fn push_array(made: &mut Vec<u8>, bytes: &Bytes) -> Result<(), AllocError>
+    ensures { OnOk result (length made.new.items ≡ length made.old.items + min (taken_by (length (bytes_view bytes.now))) (2 ^ 64 - 1)) }
+{
+    push_padded(made, &bytes.bytes, taken_by(length_of(bytes)))
+}
+
 /// Appends the bytes that initialise automatic arrays.
-fn push_arrays(initial: &mut Vec<u8>, all: &[Bytes]) -> Result<(), AllocError> {
-    for bytes in all {
-        push_padded(initial, &bytes.bytes, taken_by(bytes.bytes.len() as u64))?;
+fn push_arrays(made: &mut Vec<u8>, all: &[Bytes]) -> Result<(), AllocError>
+    ensures { OnOk result (length made.new.items ≡ length made.old.items + total (λ b. min (taken_by (length b)) (2 ^ 64 - 1)) (map bytes_view all.now)) }
+{
+    let mut left = all;
+    while let [first, rest @ ..] = left {
+        push_array(made, first)?;
+        left = rest;
     }
     Ok(())
 }
 
 /// The bytes that stand in static memory as a run begins.
-pub fn initial_bytes(alloc: Global, unit: &Unit, statics: &Statics) -> Result<Vec<u8>, AllocError> {
+pub fn initial_bytes(alloc: Global, unit: &Unit, statics: &Statics) -> Result<Vec<u8>, AllocError>
+    ensures length { IfOk result (λ b. FitsStatics (unit_view unit.now) → length b.items ≡ total taken_by (static_sizes (unit_view unit.now))) }
+{
     let mut initial = Vec::new(alloc);
-    for object in &unit.statics {
-        push_object(&mut initial, object, statics)?;
-    }
+    push_objects(&mut initial, &unit.statics, statics)?;
     push_arrays(&mut initial, &unit.array_bytes)?;
     Ok(initial)
 }
