@@ -1,0 +1,4 @@
+pub mod Orders
+pub mod Declarations
+pub mod Objects
+pub mod Laws

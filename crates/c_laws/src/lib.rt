@@ -1,0 +1,10 @@
+//! What is true of each accepted program, and whether it is.
+#![tactic(auto)]
+
+mod declared;
+mod function;
+mod law;
+mod objects;
+mod order;
+
+pub use law::is_well_formed;
