@@ -1,0 +1,13 @@
+use Rattle.std.proofs.Common.{◌≡◌, ◌≤◌, ◌+◌, false, length, map}
+use Rattle.graph_core.specs.Graphs.{graph_view}
+use Rattle.rv_emit.specs.Words.{laid_words, most_words_of_graphs}
+use Rattle.rv_emit.proofs.laying.lay_out_all.Given as goal
+
+abbrev pub invariant-loop-left : goal.invariant-loop-left
+invariant-loop-left l = record {
+  each : length l.all.items + length l.left ≡ length l.homed.unit.graphs.items;
+  few : l.is_planned ≡ false → laid_words l.all.items + most_words_of_graphs (map graph_view l.left) ≤ most_words_of_graphs (map graph_view l.homed.unit.graphs.items);
+}
+
+abbrev pub decreases-loop-left : goal.decreases-loop-left
+decreases-loop-left l = length l.left
