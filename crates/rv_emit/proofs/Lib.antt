@@ -1,2 +1,3 @@
-pub mod Bound
 pub mod Appended
+pub mod Bound
+pub mod Fitting

@@ -4,6 +4,7 @@ ghost use Rattle.std.specs.Prelude.{◌≡◌, ◌+◌, ◌≤◌, false, IfOk, 
 ghost use Rattle.graph_core.specs.Validity.{IsValid};
 ghost use Rattle.homed_unit.specs.Homed.{HaveHomes, homed_view};
 ghost use Rattle.emit_pieces.specs.Words.{words_in};
+ghost use Rattle.rv_emit.specs.Placed.{AreFirstAddresses};
 ghost use Rattle.rv_emit.specs.Words.{laid_words};
 
 use crate::laying::{Laid, lay_out_all};
@@ -55,11 +56,7 @@ fn firsts_of(alloc: Global, stub: u32, all: &[Laid]) -> Result<Vec<u32>, AllocEr
 }
 
 /// Appends the words of all functions.
-fn push_functions(
-    all: &[Laid],
-    firsts: &[u32],
-    code: &mut Vec<OwnedWord>,
-) -> Result<(), AllocError>
+fn push_functions(all: &[Laid], firsts: &[u32], code: &mut Vec<OwnedWord>) -> Result<(), AllocError>
     ensures few { OnOk result (length code.new.items ≤ length code.old.items + laid_words all.now) }
 {
     let mut function = 0u32;
@@ -91,19 +88,11 @@ fn code_of(
     let mut words = Vec::new(alloc);
     stub.push_words(&before, 0, &firsts, &mut words)?;
     push_functions(&all, &firsts, &mut words)?;
-    Ok(Coded {
-        all,
-        firsts,
-        words,
-    })
+    Ok(Coded { all, firsts, words })
 }
 
 /// The code of a unit: by plans, as long as it is short enough, which it is without them.
-fn short_code_of(
-    alloc: Global,
-    statics: &Statics,
-    homed: &HomedUnit,
-) -> Result<Coded, AllocError>
+fn short_code_of(alloc: Global, statics: &Statics, homed: &HomedUnit) -> Result<Coded, AllocError>
     requires valid { IsValid (homed_view homed.now).unit }
     ensures each { IfOk result (λ c. length c.all.items ≡ length homed.now.unit.graphs.items) }
     ensures few { IfOk result (λ c. length c.words.items ≤ 262144) }
@@ -144,6 +133,7 @@ pub fn emit(alloc: Global, homed: &HomedUnit) -> Result<Emitted, AllocError>
     ensures few { IfOk result (λ e. length e.code.items ≤ 262144) }
     ensures owners { IfOk result (λ e. length e.owners.items ≡ length e.code.items) }
     ensures functions { IfOk result (λ e. length e.functions.items ≡ length homed.now.unit.graphs.items) }
+    ensures statics { IfOk result (λ e. AreFirstAddresses (homed_view homed.now).unit e.statics.items) }
 {
     let statics = static_addresses(alloc, &homed.unit)?;
     let coded = short_code_of(alloc, &statics, homed)?;
