@@ -15,7 +15,7 @@ use Rattle.c_type_rules.specs.Integers.{fits, scalar_size}
 use Rattle.c_type_rules.specs.Types.{loaded}
 use Rattle.c_law_types.specs.declared.kind.Kind.{Kind}
 use Rattle.c_law_types.specs.declared.kind.Kind.TheVariants.{Wrong, NullPointer, Of}
-use Rattle.c_law_types.specs.Kinds.{is_of, is_typed, is_scalar, is_promoted, is_variable}
+use Rattle.c_law_types.specs.Kinds.{is_of, is_typed, is_scalar, is_promoted}
 use Rattle.c_law_types.specs.Expressions.{kind_of}
 
 abbrev pub same_spot : Spot → Spot → Bool

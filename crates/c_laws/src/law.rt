@@ -1,7 +1,6 @@
 //! Whether a program is well formed.
 
 ghost use Rattle.std.specs.Prelude.{◌≡◌, ◌↔◌, ◌&&◌, IfOk, IsTrue, map};
-ghost use Rattle.debug_records.specs.declared.source.Spot.{Spot};
 ghost use Rattle.c_tree.specs.Programs as spec;
 ghost use Rattle.c_tree.specs.Programs.{automatic_view, literal_view, program_view, static_view};
 ghost use Rattle.c_places.specs.Places as place;

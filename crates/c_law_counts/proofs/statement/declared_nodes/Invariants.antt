@@ -1,5 +1,4 @@
 use Rattle.std.proofs.Common.{◌≡◌, ◌+◌, map, drop}
-use Rattle.c_tree.specs.TypedExpressions.{rvalue_view}
 use Rattle.c_tree.specs.TypedStatements.{declared_view}
 use Rattle.c_law_counts.specs.Nodes.{declared_nodes}
 use Rattle.c_law_counts.proofs.statement.declared_nodes.Given as goal

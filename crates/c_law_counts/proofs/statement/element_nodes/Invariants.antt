@@ -1,6 +1,5 @@
 use Rattle.std.proofs.Common.{◌≡◌, ◌+◌, map, drop}
 use Rattle.c_tree.specs.TypedExpressions.{rvalue_view}
-use Rattle.c_tree.specs.TypedStatements.{declared_view}
 use Rattle.c_law_counts.specs.Nodes.{element_nodes}
 use Rattle.c_law_counts.proofs.statement.element_nodes.Given as goal
 
