@@ -1,9 +1,13 @@
 //! The code of a block.
 
-ghost use Rattle.std.specs.Prelude.{◌≡◌, ◌≤◌, ◌+◌, OnOk, IfOk, map};
+ghost use Rattle.std.specs.Prelude.{◌≡◌, ◌≤◌, ◌+◌, ◌==◌, not, false, OnOk, IfOk, map};
 ghost use Rattle.graph_core.specs.Graphs.{instruction_view};
-ghost use Rattle.graph_core.specs.Validity.{total};
+ghost use Rattle.graph_core.specs.Validity.{markers_in, total};
+ghost use Rattle.emit_words.specs.Shown.{shown, stops_of};
 ghost use Rattle.emit_pieces.specs.Words.{words_in};
+ghost use Rattle.std.specs.List.{filter};
+ghost use Rattle.emit_instructions.specs.Stops.{shown_behind};
+ghost use Rattle.emit_code.specs.Stops.{shown_after};
 ghost use Rattle.emit_instructions.specs.Words.{most_words_of};
 
 use crate::ending::put_end;
@@ -32,6 +36,7 @@ fn put_numbered(
     instruction: &Instr,
 ) -> Result<(), AllocError>
     ensures few { OnOk result (words_in code.new.pieces.items ≤ words_in code.old.pieces.items + most_words_of (instruction_view instruction.now)) }
+    ensures stops { OnOk result (shown code.new ≡ shown_behind storage.now.entry.0 (instruction_view instruction.now) (shown code.old)) }
 {
     put_instruction(code, storage, instruction)?;
     if let Some(_target) = instruction.target() {
@@ -47,6 +52,7 @@ fn put_instructions(
     instructions: &[Instr],
 ) -> Result<(), AllocError>
     ensures few { OnOk result (words_in code.new.pieces.items ≤ words_in code.old.pieces.items + total most_words_of (map instruction_view instructions.now)) }
+    ensures stops { OnOk result (shown code.new ≡ shown_after storage.now.entry.0 (map instruction_view instructions.now) (shown code.old)) }
 {
     let mut left = instructions;
     let mut number = 0u32;
@@ -68,6 +74,7 @@ pub fn code_of_block(
     loads: &[Held],
 ) -> Result<BlockCode, AllocError>
     ensures few { IfOk result (λ made. words_in made.pieces.items ≤ total most_words_of (map instruction_view block.now.instructions.items) + 9) }
+    ensures stops { IfOk result (λ made. stops_of made.pieces.items ≡ filter (λ p. not (p == storage.now.entry.0)) (markers_in (map instruction_view block.now.instructions.items))) }
 {
     let owner = match block.place {
         Some(place) => place.0,

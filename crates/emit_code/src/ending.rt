@@ -1,6 +1,7 @@
 //! The ends of blocks.
 
-ghost use Rattle.std.specs.Prelude.{◌≡◌, ◌≤◌, ◌+◌, OnOk, length};
+ghost use Rattle.std.specs.Prelude.{◌≡◌, ◌≤◌, ◌+◌, false, OnOk, length};
+ghost use Rattle.emit_words.specs.Shown.{shown};
 ghost use Rattle.emit_pieces.specs.Words.{words_in};
 ghost use Rattle.emit_words.specs.Fetching.{most_words_of_source, most_words_to_bring};
 
@@ -100,6 +101,7 @@ fn words_to_bring(source: Source) -> u32
 /// Loads constants into scratch registers, as far as that takes no more than so many words.
 fn load_held(code: &mut Code, base: u32, loads: &[Held], room: u32) -> Result<(), AllocError>
     ensures few { OnOk result (words_in code.new.pieces.items ≤ words_in code.old.pieces.items + room) }
+    ensures stops { OnOk result (shown code.new ≡ shown code.old) }
 {
     let mut left = room;
     for held in loads {
@@ -115,6 +117,8 @@ fn load_held(code: &mut Code, base: u32, loads: &[Held], room: u32) -> Result<()
 /// Goes to a block, behind which the one that stands next follows.
 fn go(code: &mut Code, to: Label, next: Label) -> Result<(), AllocError>
     ensures few { OnOk result (words_in code.new.pieces.items ≤ words_in code.old.pieces.items + 1) }
+    ensures stops { OnOk result (shown code.new ≡ shown code.old) }
+    ensures begun { OnOk result (code.new.begins ≡ false) }
 {
     if to.0 == next.0 {
         code.settle()
@@ -132,6 +136,8 @@ fn branch_to(
     to: Label,
 ) -> Result<(), AllocError>
     ensures few { OnOk result (words_in code.new.pieces.items ≤ words_in code.old.pieces.items + 2) }
+    ensures stops { OnOk result (shown code.new ≡ shown code.old) }
+    ensures begun { OnOk result (code.new.begins ≡ false) }
 {
     code.put_piece(Piece::Branch {
         operation,
@@ -150,6 +156,8 @@ fn go_by_test(
     next: Label,
 ) -> Result<(), AllocError>
     ensures few { OnOk result (words_in code.new.pieces.items ≤ words_in code.old.pieces.items + 3) }
+    ensures stops { OnOk result (shown code.new ≡ shown code.old) }
+    ensures begun { OnOk result (code.new.begins ≡ false) }
 {
     if then.0 == next.0 {
         return branch_to(
@@ -173,6 +181,7 @@ fn fetch_test(
     right: Source,
 ) -> Result<Test, AllocError>
     ensures few { OnOk result (words_in code.new.pieces.items ≤ words_in code.old.pieces.items + (most_words_of_source left + most_words_of_source right)) }
+    ensures stops { OnOk result (shown code.new ≡ shown code.old) }
 {
     let left = code.fetch_source(storage, left, register::T1)?;
     let right = code.fetch_source(storage, right, register::T2)?;
@@ -192,6 +201,8 @@ fn jump(
     loads: &[Held],
 ) -> Result<(), AllocError>
     ensures few { OnOk result (words_in code.new.pieces.items ≤ words_in code.old.pieces.items + 9) }
+    ensures stops { OnOk result (shown code.new ≡ shown code.old) }
+    ensures begun { OnOk result (code.new.begins ≡ false) }
 {
     load_held(code, storage.base, loads, MOST_WORDS - 1)?;
     go(code, to, next)
@@ -207,6 +218,8 @@ fn branch(
     loads: &[Held],
 ) -> Result<(), AllocError>
     ensures few { OnOk result (words_in code.new.pieces.items ≤ words_in code.old.pieces.items + 9) }
+    ensures stops { OnOk result (shown code.new ≡ shown code.old) }
+    ensures begun { OnOk result (code.new.begins ≡ false) }
 {
     let (comparison, left, right) = with_zero(compared.0, compared.1, compared.2);
     let room = MOST_WORDS - 3 - words_of_fetch(left) - words_of_fetch(right);
@@ -225,6 +238,8 @@ fn branch_or_jump(
     loads: &[Held],
 ) -> Result<(), AllocError>
     ensures few { OnOk result (words_in code.new.pieces.items ≤ words_in code.old.pieces.items + 9) }
+    ensures stops { OnOk result (shown code.new ≡ shown code.old) }
+    ensures begun { OnOk result (code.new.begins ≡ false) }
 {
     if targets.0.0 == targets.1.0 {
         return jump(code, storage, targets.0, next, loads);
@@ -246,6 +261,8 @@ fn branch_or_jump(
 fn leave(code: &mut Code, storage: &Storage<'_>, next: Label, room: u32) -> Result<(), AllocError>
     requires { 1 ≤ room }
     ensures few { OnOk result (words_in code.new.pieces.items ≤ words_in code.old.pieces.items + room) }
+    ensures stops { OnOk result (shown code.new ≡ shown code.old) }
+    ensures begun { OnOk result (code.new.begins ≡ false) }
 {
     let moves = words_of_move(storage.frame.size);
     let saved = storage.frame.saved.len();
@@ -263,6 +280,8 @@ fn put_return_of(
     next: Label,
 ) -> Result<(), AllocError>
     ensures few { OnOk result (words_in code.new.pieces.items ≤ words_in code.old.pieces.items + 9) }
+    ensures stops { OnOk result (shown code.new ≡ shown code.old) }
+    ensures begun { OnOk result (code.new.begins ≡ false) }
 {
     if let Source::Word(word) = value {
         let words = words_of_constant(word, storage.base);
@@ -281,6 +300,8 @@ fn put_return(
     next: Label,
 ) -> Result<(), AllocError>
     ensures few { OnOk result (words_in code.new.pieces.items ≤ words_in code.old.pieces.items + 9) }
+    ensures stops { OnOk result (shown code.new ≡ shown code.old) }
+    ensures begun { OnOk result (code.new.begins ≡ false) }
 {
     match value {
         None => leave(code, storage, next, MOST_WORDS),
@@ -297,6 +318,8 @@ pub(crate) fn put_end(
     loads: &[Held],
 ) -> Result<(), AllocError>
     ensures few { OnOk result (words_in code.new.pieces.items ≤ words_in code.old.pieces.items + 9) }
+    ensures stops { OnOk result (shown code.new ≡ shown code.old) }
+    ensures begun { OnOk result (code.new.begins ≡ false) }
 {
     match end {
         End::Jump(to) => jump(code, storage, to, next, loads),

@@ -1,6 +1,7 @@
 //! The beginning and the end of functions, and what stands before all of them.
 
-ghost use Rattle.std.specs.Prelude.{◌≡◌, ◌≤◌, ◌+◌, ◌*◌, OnOk, IfOk, length};
+ghost use Rattle.std.specs.Prelude.{◌≡◌, ◌≤◌, ◌+◌, ◌*◌, OnOk, IfOk, length, false, []};
+ghost use Rattle.emit_words.specs.Shown.{shown, stops_of};
 ghost use Rattle.emit_pieces.specs.Words.{words_in};
 
 use crate::leaving::{move_sp, words_of_move};
@@ -32,6 +33,7 @@ fn element_of(graph: &Graph, object: u32) -> Element {
 /// Ends the run where no activation may begin, and else counts one.
 fn put_guard(code: &mut Code) -> Result<(), AllocError>
     ensures few { OnOk result (words_in code.new.pieces.items ≤ words_in code.old.pieces.items + 4) }
+    ensures stops { OnOk result (shown code.new ≡ shown code.old) }
 {
     code.put(Instruction::Branch(BranchOperation::Bne, register::TP, register::ZERO, 12))?;
     code.put_sum(register::A7, register::ZERO, 3)?;
@@ -42,6 +44,7 @@ fn put_guard(code: &mut Code) -> Result<(), AllocError>
 /// Saves registers in the frame, from offset 4 on.
 fn save(code: &mut Code, saved: &[u8]) -> Result<(), AllocError>
     ensures few { OnOk result (words_in code.new.pieces.items ≤ words_in code.old.pieces.items + (length saved.now)) }
+    ensures stops { OnOk result (shown code.new ≡ shown code.old) }
 {
     let mut offset = 4u32;
     for register in saved {
@@ -60,6 +63,7 @@ fn bind(
     binding: Binding,
 ) -> Result<(), AllocError>
     ensures few { OnOk result (words_in code.new.pieces.items ≤ words_in code.old.pieces.items + 3) }
+    ensures stops { OnOk result (shown code.new ≡ shown code.old) }
 {
     match binding {
         Binding::Scalar(name) => code.write(storage, storage.home(name), register),
@@ -72,6 +76,7 @@ fn bind(
 /// The parameters, in order.
 fn bind_all(code: &mut Code, storage: &Storage<'_>, graph: &Graph) -> Result<(), AllocError>
     ensures few { OnOk result (words_in code.new.pieces.items ≤ words_in code.old.pieces.items + (3 * length graph.now.parameters.items)) }
+    ensures stops { OnOk result (shown code.new ≡ shown code.old) }
 {
     let mut number = 0u32;
     for binding in &graph.parameters {
@@ -90,6 +95,7 @@ fn put_beginning(
     is_main: bool,
 ) -> Result<(), AllocError>
     ensures few { OnOk result (words_in code.new.pieces.items ≤ words_in code.old.pieces.items + (length storage.now.frame.now.saved.items + (10 + 3 * length graph.now.parameters.items))) }
+    ensures stops { OnOk result (shown code.new ≡ shown code.old) }
 {
     put_guard(code)?;
     let down = 0u32.wrapping_sub(storage.frame.size);
@@ -105,6 +111,7 @@ fn put_beginning(
 /// What stands before all functions.
 fn put_stub(code: &mut Code, main: u32) -> Result<(), AllocError>
     ensures few { OnOk result (words_in code.new.pieces.items ≤ words_in code.old.pieces.items + 5) }
+    ensures stops { OnOk result (shown code.new ≡ shown code.old) }
 {
     code.put(Instruction::Lui(register::SP, 8192))?;
     code.put_sum(register::TP, register::ZERO, 1024)?;
@@ -114,6 +121,7 @@ fn put_stub(code: &mut Code, main: u32) -> Result<(), AllocError>
 }
 
 /// The code with which a function begins. That of `main` sets `gp` too.
+#[tactic(auto, using(crate::proofs::Stops::no_stops))]
 pub fn begin_of_function(
     alloc: Global,
     storage: &Storage<'_>,
@@ -121,6 +129,7 @@ pub fn begin_of_function(
     is_main: bool,
 ) -> Result<Vec<PlacedPiece>, AllocError>
     ensures few { IfOk result (λ pieces. words_in pieces.items ≤ length storage.now.frame.now.saved.items + (10 + 3 * length graph.now.parameters.items)) }
+    ensures stops { IfOk result (λ pieces. stops_of pieces.items ≡ []) }
 {
     let mut code = Code::new(alloc, storage.entry.0);
     put_beginning(&mut code, storage, graph, is_main)?;
@@ -128,8 +137,10 @@ pub fn begin_of_function(
 }
 
 /// The code before all functions: it calls `main`, which has this number, and ends the run with its result.
+#[tactic(auto, using(crate::proofs::Stops::no_stops))]
 pub fn stub(alloc: Global, main: u32) -> Result<Vec<PlacedPiece>, AllocError>
     ensures few { IfOk result (λ pieces. words_in pieces.items ≤ 5) }
+    ensures stops { IfOk result (λ pieces. stops_of pieces.items ≡ []) }
 {
     let mut code = Code::new(alloc, 0);
     put_stub(&mut code, main)?;

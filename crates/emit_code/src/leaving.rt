@@ -1,6 +1,7 @@
 //! The end of functions.
 
-ghost use Rattle.std.specs.Prelude.{◌≡◌, ◌≤◌, ◌+◌, ◌⊎◌, OnOk, IfOk, length};
+ghost use Rattle.std.specs.Prelude.{◌≡◌, ◌≤◌, ◌+◌, ◌⊎◌, OnOk, IfOk, length, false, []};
+ghost use Rattle.emit_words.specs.Shown.{shown, stops_of};
 ghost use Rattle.emit_pieces.specs.Words.{words_in};
 
 use emit_pieces::{PlacedPiece, register};
@@ -20,6 +21,7 @@ pub(crate) fn words_of_move(by: u32) -> u32
 pub(crate) fn move_sp(code: &mut Code, by: u32, words: u32) -> Result<(), AllocError>
     requires { (words ≡ 1) ⊎ (words ≡ 3) }
     ensures few { OnOk result (words_in code.new.pieces.items ≤ words_in code.old.pieces.items + words) }
+    ensures stops { OnOk result (shown code.new ≡ shown code.old) }
 {
     if words == 1 {
         return code.put_sum(register::SP, register::SP, by);
@@ -36,6 +38,7 @@ pub(crate) fn move_sp(code: &mut Code, by: u32, words: u32) -> Result<(), AllocE
 /// Brings registers back from the frame.
 fn restore(code: &mut Code, saved: &[u8]) -> Result<(), AllocError>
     ensures few { OnOk result (words_in code.new.pieces.items ≤ words_in code.old.pieces.items + (length saved.now)) }
+    ensures stops { OnOk result (shown code.new ≡ shown code.old) }
 {
     let mut offset = 4u32;
     for register in saved {
@@ -49,6 +52,8 @@ fn restore(code: &mut Code, saved: &[u8]) -> Result<(), AllocError>
 pub(crate) fn put_leaving(code: &mut Code, frame: &Frame, moves: u32) -> Result<(), AllocError>
     requires { (moves ≡ 1) ⊎ (moves ≡ 3) }
     ensures few { OnOk result (words_in code.new.pieces.items ≤ words_in code.old.pieces.items + (length frame.now.saved.items + 3 + moves)) }
+    ensures stops { OnOk result (shown code.new ≡ shown code.old) }
+    ensures begun { OnOk result (code.new.begins ≡ false) }
 {
     code.put_sum(register::TP, register::TP, 1)?;
     code.leave_place();
@@ -59,8 +64,10 @@ pub(crate) fn put_leaving(code: &mut Code, frame: &Frame, moves: u32) -> Result<
 }
 
 /// The code with which a function ends.
+#[tactic(auto, using(crate::proofs::Stops::no_stops))]
 pub fn end_of_function(alloc: Global, frame: &Frame) -> Result<Vec<PlacedPiece>, AllocError>
     ensures few { IfOk result (λ pieces. words_in pieces.items ≤ length frame.now.saved.items + 6) }
+    ensures stops { IfOk result (λ pieces. stops_of pieces.items ≡ []) }
 {
     let mut code = Code::new(alloc, 0);
     put_leaving(&mut code, frame, words_of_move(frame.size))?;

@@ -1,6 +1,7 @@
 //! Calls.
 
 ghost use Rattle.std.specs.Prelude.{◌≡◌, ◌≤◌, ◌+◌, ◌*◌, OnOk, length};
+ghost use Rattle.emit_words.specs.Shown.{shown};
 ghost use Rattle.emit_pieces.specs.Words.{words_in};
 
 use emit_pieces::{Piece, register};
@@ -27,6 +28,7 @@ fn pass(
     argument: Operand,
 ) -> Result<(), AllocError>
     ensures few { OnOk result (words_in code.new.pieces.items ≤ words_in code.old.pieces.items + 3) }
+    ensures stops { OnOk result (shown code.new ≡ shown code.old) }
 {
     let register = argument_register(number);
     let source = storage.source(argument);
@@ -38,6 +40,7 @@ fn pass(
 /// Arguments are passed in their registers.
 fn pass_all(code: &mut Code, storage: &Storage<'_>, arguments: &[Operand]) -> Result<(), AllocError>
     ensures few { OnOk result (words_in code.new.pieces.items ≤ words_in code.old.pieces.items + 3 * length arguments.now) }
+    ensures stops { OnOk result (shown code.new ≡ shown code.old) }
 {
     let mut number = 0u8;
     for argument in arguments {
@@ -50,6 +53,7 @@ fn pass_all(code: &mut Code, storage: &Storage<'_>, arguments: &[Operand]) -> Re
 /// The environment is called by a number.
 fn call_environment(code: &mut Code, number: u32) -> Result<(), AllocError>
     ensures few { OnOk result (words_in code.new.pieces.items ≤ words_in code.old.pieces.items + 2) }
+    ensures stops { OnOk result (shown code.new ≡ shown code.old) }
 {
     code.put_sum(register::A7, register::ZERO, number)?;
     code.forget(register::A7);
@@ -59,6 +63,7 @@ fn call_environment(code: &mut Code, number: u32) -> Result<(), AllocError>
 /// What is called is called, with its arguments in their registers.
 fn call_callee(code: &mut Code, callee: Callee) -> Result<(), AllocError>
     ensures few { OnOk result (words_in code.new.pieces.items ≤ words_in code.old.pieces.items + 2) }
+    ensures stops { OnOk result (shown code.new ≡ shown code.old) }
 {
     match callee {
         Callee::Getchar => call_environment(code, 1),
@@ -80,6 +85,7 @@ pub fn put_call(
     arguments: &[Operand],
 ) -> Result<(), AllocError>
     ensures few { OnOk result (words_in code.new.pieces.items ≤ words_in code.old.pieces.items + (5 + 3 * length arguments.now)) }
+    ensures stops { OnOk result (shown code.new ≡ shown code.old) }
 {
     pass_all(code, storage, arguments)?;
     call_callee(code, callee)?;

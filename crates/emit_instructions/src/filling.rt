@@ -1,6 +1,7 @@
 //! Objects that are set to zero or to bytes that are known.
 
 ghost use Rattle.std.specs.Prelude.{◌≡◌, ◌≤◌, ◌+◌, OnOk};
+ghost use Rattle.emit_words.specs.Shown.{shown};
 ghost use Rattle.emit_pieces.specs.Words.{words_in};
 
 use emit_pieces::register;
@@ -15,6 +16,7 @@ const MOST_SINGLE_WORDS: u32 = 4;
 /// A store of a word at a register.
 fn put_word(code: &mut Code, value: u8, base: u8, offset: u32) -> Result<(), AllocError>
     ensures few { OnOk result (words_in code.new.pieces.items ≤ words_in code.old.pieces.items + 1) }
+    ensures stops { OnOk result (shown code.new ≡ shown code.old) }
 {
     code.put(Instruction::Store(StoreOperation::Sw, value, base, offset))
 }
@@ -22,6 +24,7 @@ fn put_word(code: &mut Code, value: u8, base: u8, offset: u32) -> Result<(), All
 /// The sum of `t1` and a number of bytes in a register.
 fn put_limit(code: &mut Code, rd: u8, bytes: u32) -> Result<(), AllocError>
     ensures few { OnOk result (words_in code.new.pieces.items ≤ words_in code.old.pieces.items + 3) }
+    ensures stops { OnOk result (shown code.new ≡ shown code.old) }
 {
     if is_small(bytes) {
         return code.put_sum(rd, register::T1, bytes);
@@ -33,6 +36,7 @@ fn put_limit(code: &mut Code, rd: u8, bytes: u32) -> Result<(), AllocError>
 /// The end of a loop over words: `t1` goes on to the next, and the loop, of which so many bytes stand before the branch, begins again unless `t1` is at the limit.
 fn put_turn(code: &mut Code, limit: u8, back: u32) -> Result<(), AllocError>
     ensures few { OnOk result (words_in code.new.pieces.items ≤ words_in code.old.pieces.items + 2) }
+    ensures stops { OnOk result (shown code.new ≡ shown code.old) }
 {
     code.put_sum(register::T1, register::T1, 4)?;
     code.put(Instruction::Branch(
@@ -46,6 +50,7 @@ fn put_turn(code: &mut Code, limit: u8, back: u32) -> Result<(), AllocError>
 /// Zeros from an offset from `sp` on, word by word.
 fn put_zeros(code: &mut Code, offset: u32, words: u32) -> Result<(), AllocError>
     ensures few { OnOk result (words_in code.new.pieces.items ≤ words_in code.old.pieces.items + words) }
+    ensures stops { OnOk result (shown code.new ≡ shown code.old) }
 {
     for word in 0..words {
         let at = offset.wrapping_add(word.wrapping_mul(4));
@@ -62,6 +67,7 @@ pub fn put_zero(
     words: u32,
 ) -> Result<(), AllocError>
     ensures few { OnOk result (words_in code.new.pieces.items ≤ words_in code.old.pieces.items + 9) }
+    ensures stops { OnOk result (shown code.new ≡ shown code.old) }
 {
     let offset = storage.object(object);
     if words == 0 || (words <= MOST_SINGLE_WORDS && offset < 2032) {
@@ -76,6 +82,7 @@ pub fn put_zero(
 /// One word from where `t2` points to where `t1` points, by way of `t0`, and `t2` goes on.
 fn put_copied_word(code: &mut Code) -> Result<(), AllocError>
     ensures few { OnOk result (words_in code.new.pieces.items ≤ words_in code.old.pieces.items + 3) }
+    ensures stops { OnOk result (shown code.new ≡ shown code.old) }
 {
     code.put(Instruction::Load(LoadOperation::Lw, register::T0, register::T2, 0))?;
     put_word(code, register::T0, register::T1, 0)?;
@@ -91,6 +98,7 @@ pub fn put_copy(
     words: u32,
 ) -> Result<(), AllocError>
     ensures few { OnOk result (words_in code.new.pieces.items ≤ words_in code.old.pieces.items + 13) }
+    ensures stops { OnOk result (shown code.new ≡ shown code.old) }
 {
     if words == 0 {
         return Ok(());

@@ -1,8 +1,10 @@
 //! The code of instructions.
 
 ghost use Rattle.std.specs.Prelude.{◌≡◌, ◌≤◌, ◌+◌, OnOk};
+ghost use Rattle.emit_words.specs.Shown.{shown};
 ghost use Rattle.emit_pieces.specs.Words.{words_in};
 ghost use Rattle.graph_core.specs.Graphs.{instruction_view};
+ghost use Rattle.emit_instructions.specs.Stops.{shown_behind};
 ghost use Rattle.emit_instructions.specs.Words.{most_words_of};
 
 use crate::call::put_call;
@@ -21,6 +23,7 @@ fn put_computation(
     instruction: &Instr,
 ) -> Result<(), AllocError>
     ensures few { OnOk result (words_in code.new.pieces.items ≤ words_in code.old.pieces.items + 11) }
+    ensures stops { OnOk result (shown code.new ≡ shown code.old) }
 {
     match *instruction {
         Instr::Move { target, from } => put_move(code, storage, target, from),
@@ -57,6 +60,7 @@ pub fn put_instruction(
     instruction: &Instr,
 ) -> Result<(), AllocError>
     ensures few { OnOk result (words_in code.new.pieces.items ≤ words_in code.old.pieces.items + most_words_of (instruction_view instruction.now)) }
+    ensures stops { OnOk result (shown code.new ≡ shown_behind storage.now.entry.0 (instruction_view instruction.now) (shown code.old)) }
 {
     match instruction {
         Instr::Marker(place) => code.begin(place.0, place.0 != storage.entry.0),

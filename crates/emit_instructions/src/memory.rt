@@ -1,6 +1,7 @@
 //! Loads, stores and addresses.
 
 ghost use Rattle.std.specs.Prelude.{◌≡◌, ◌≤◌, ◌+◌, OnOk};
+ghost use Rattle.emit_words.specs.Shown.{shown};
 ghost use Rattle.emit_pieces.specs.Words.{words_in};
 
 use emit_pieces::register;
@@ -40,6 +41,7 @@ fn store_operation(element: Element) -> StoreOperation {
 /// How an address that is known is reached: from `gp`, or from a register that holds its upper part.
 fn reach_static(code: &mut Code, storage: &Storage<'_>, address: u32) -> Result<Reached, AllocError>
     ensures few { OnOk result (words_in code.new.pieces.items ≤ words_in code.old.pieces.items + 2) }
+    ensures stops { OnOk result (shown code.new ≡ shown code.old) }
 {
     let distance = address.wrapping_sub(storage.base);
     if is_small(distance) {
@@ -59,6 +61,7 @@ fn reach_static(code: &mut Code, storage: &Storage<'_>, address: u32) -> Result<
 /// How an offset in the frame is reached: from `sp`, or from `t2`.
 fn reach_frame(code: &mut Code, offset: u32) -> Result<Reached, AllocError>
     ensures few { OnOk result (words_in code.new.pieces.items ≤ words_in code.old.pieces.items + 2) }
+    ensures stops { OnOk result (shown code.new ≡ shown code.old) }
 {
     if offset < 2048 {
         return Ok(Reached {
@@ -86,6 +89,7 @@ fn reach_pointer(
     pointer: Operand,
 ) -> Result<Reached, AllocError>
     ensures few { OnOk result (words_in code.new.pieces.items ≤ words_in code.old.pieces.items + 3) }
+    ensures stops { OnOk result (shown code.new ≡ shown code.old) }
 {
     match storage.source(pointer) {
         Source::Word(address) => reach_static(code, storage, address),
@@ -99,6 +103,7 @@ fn reach_pointer(
 /// How a location is reached.
 fn reach(code: &mut Code, storage: &Storage<'_>, location: Location) -> Result<Reached, AllocError>
     ensures few { OnOk result (words_in code.new.pieces.items ≤ words_in code.old.pieces.items + 3) }
+    ensures stops { OnOk result (shown code.new ≡ shown code.old) }
 {
     match location {
         Location::Automatic { object, offset } => {
@@ -118,6 +123,7 @@ pub fn put_load(
     from: Location,
 ) -> Result<(), AllocError>
     ensures few { OnOk result (words_in code.new.pieces.items ≤ words_in code.old.pieces.items + 7) }
+    ensures stops { OnOk result (shown code.new ≡ shown code.old) }
 {
     let target = storage.home(target);
     let reached = reach(code, storage, from)?;
@@ -135,6 +141,7 @@ pub fn put_store(
     value: Operand,
 ) -> Result<(), AllocError>
     ensures few { OnOk result (words_in code.new.pieces.items ≤ words_in code.old.pieces.items + 7) }
+    ensures stops { OnOk result (shown code.new ≡ shown code.old) }
 {
     let value = code.fetch(storage, value, register::T1)?;
     let reached = reach(code, storage, to)?;
@@ -155,6 +162,7 @@ pub fn put_first(
     value: u8,
 ) -> Result<(), AllocError>
     ensures few { OnOk result (words_in code.new.pieces.items ≤ words_in code.old.pieces.items + 3) }
+    ensures stops { OnOk result (shown code.new ≡ shown code.old) }
 {
     let reached = reach_frame(code, storage.object(object))?;
     code.put(Instruction::Store(
@@ -173,6 +181,7 @@ pub fn put_address_of(
     object: u32,
 ) -> Result<(), AllocError>
     ensures few { OnOk result (words_in code.new.pieces.items ≤ words_in code.old.pieces.items + 6) }
+    ensures stops { OnOk result (shown code.new ≡ shown code.old) }
 {
     let target = storage.home(target);
     let rd = result_register(target);

@@ -1,6 +1,7 @@
 //! Operations on words.
 
 ghost use Rattle.std.specs.Prelude.{◌≡◌, ◌≤◌, ◌+◌, OnOk};
+ghost use Rattle.emit_words.specs.Shown.{shown};
 ghost use Rattle.emit_pieces.specs.Words.{words_in};
 
 use emit_pieces::register;
@@ -116,6 +117,7 @@ fn write_constant(
     word: u32,
 ) -> Result<(), AllocError>
     ensures few { OnOk result (words_in code.new.pieces.items ≤ words_in code.old.pieces.items + 5) }
+    ensures stops { OnOk result (shown code.new ≡ shown code.old) }
 {
     match target {
         Home::Register(register) => code.set_constant(register, word, storage.base),
@@ -136,6 +138,7 @@ fn operate_registers(
     right: Source,
 ) -> Result<(), AllocError>
     ensures few { OnOk result (words_in code.new.pieces.items ≤ words_in code.old.pieces.items + 10) }
+    ensures stops { OnOk result (shown code.new ≡ shown code.old) }
 {
     let left = code.fetch_source(storage, left, register::T1)?;
     let right = code.fetch_source(storage, right, register::T2)?;
@@ -154,6 +157,7 @@ fn operate_immediate(
     immediate: u32,
 ) -> Result<(), AllocError>
     ensures few { OnOk result (words_in code.new.pieces.items ≤ words_in code.old.pieces.items + 7) }
+    ensures stops { OnOk result (shown code.new ≡ shown code.old) }
 {
     let source = code.fetch_source(storage, source, register::T1)?;
     let rd = result_register(target);
@@ -171,6 +175,7 @@ fn operate_by_word(
     right: u32,
 ) -> Result<(), AllocError>
     ensures few { OnOk result (words_in code.new.pieces.items ≤ words_in code.old.pieces.items + 10) }
+    ensures stops { OnOk result (shown code.new ≡ shown code.old) }
 {
     match immediate_form(operation, right) {
         Some((immediate, word)) => {
@@ -197,6 +202,7 @@ pub fn put_operation(
     right: Operand,
 ) -> Result<(), AllocError>
     ensures few { OnOk result (words_in code.new.pieces.items ≤ words_in code.old.pieces.items + 10) }
+    ensures stops { OnOk result (shown code.new ≡ shown code.old) }
 {
     let target = storage.home(target);
     match (storage.source(left), storage.source(right)) {
@@ -232,6 +238,7 @@ fn shift_twice(
     back: ImmediateOperation,
 ) -> Result<(), AllocError>
     ensures few { OnOk result (words_in code.new.pieces.items ≤ words_in code.old.pieces.items + 8) }
+    ensures stops { OnOk result (shown code.new ≡ shown code.old) }
 {
     let source = code.fetch_source(storage, source, register::T1)?;
     code.put_immediate(ImmediateOperation::Slli, register::T1, source, by)?;
@@ -249,6 +256,7 @@ pub fn put_truncation(
     from: Operand,
 ) -> Result<(), AllocError>
     ensures few { OnOk result (words_in code.new.pieces.items ≤ words_in code.old.pieces.items + 8) }
+    ensures stops { OnOk result (shown code.new ≡ shown code.old) }
 {
     let target = storage.home(target);
     let from = storage.source(from);
@@ -277,6 +285,7 @@ fn compare_registers(
     right: Source,
 ) -> Result<(), AllocError>
     ensures few { OnOk result (words_in code.new.pieces.items ≤ words_in code.old.pieces.items + 11) }
+    ensures stops { OnOk result (shown code.new ≡ shown code.old) }
 {
     let left = code.fetch_source(storage, left, register::T1)?;
     let right = code.fetch_source(storage, right, register::T2)?;
@@ -295,6 +304,7 @@ pub fn put_comparison(
     right: Operand,
 ) -> Result<(), AllocError>
     ensures few { OnOk result (words_in code.new.pieces.items ≤ words_in code.old.pieces.items + 11) }
+    ensures stops { OnOk result (shown code.new ≡ shown code.old) }
 {
     let target = storage.home(target);
     match (storage.source(left), storage.source(right)) {
@@ -313,6 +323,7 @@ pub fn put_move(
     from: Operand,
 ) -> Result<(), AllocError>
     ensures few { OnOk result (words_in code.new.pieces.items ≤ words_in code.old.pieces.items + 6) }
+    ensures stops { OnOk result (shown code.new ≡ shown code.old) }
 {
     let target = storage.home(target);
     match (target, storage.source(from)) {

@@ -1,6 +1,7 @@
 //! Code as it grows.
 
-ghost use Rattle.std.specs.Prelude.{◌≡◌, ◌≤◌, ◌+◌, OnOk, IfOk};
+ghost use Rattle.std.specs.Prelude.{◌≡◌, ◌≤◌, ◌+◌, ◌++◌, [], false, OnOk, IfOk};
+ghost use Rattle.emit_words.specs.Shown.{shown, stop_if};
 ghost use Rattle.emit_pieces.specs.Words.{words_in, words_of_piece};
 
 use emit_pieces::{Held, Piece, PlacedPiece, register};
@@ -25,6 +26,7 @@ impl Code {
     /// No code yet, of a place or of none, which is 0.
     pub fn new(alloc: Global, owner: u32) -> Code
         ensures few { words_in result.pieces.items ≡ 0 }
+        ensures stops { shown result ≡ [] }
     {
         Code {
             pieces: Vec::new(alloc),
@@ -38,6 +40,7 @@ impl Code {
     /// No code yet, where these constants are held.
     pub fn knowing(alloc: Global, owner: u32, known: &[Held]) -> Result<Code, AllocError>
         ensures few { IfOk result (λ code. words_in code.pieces.items ≡ 0) }
+        ensures stops { IfOk result (λ code. shown code ≡ []) }
     {
         Ok(Code {
             pieces: Vec::new(alloc),
@@ -51,6 +54,8 @@ impl Code {
     /// Appends a piece of the place in force.
     pub fn put_piece(&mut self, piece: Piece) -> Result<(), AllocError>
         ensures few { OnOk result (words_in self.new.pieces.items ≤ words_in self.old.pieces.items + words_of_piece piece) }
+        ensures stops { OnOk result (shown self.new ≡ shown self.old) }
+        ensures begun { OnOk result (self.new.begins ≡ false) }
     {
         let is_stop = self.begins;
         self.begins = false;
@@ -66,6 +71,8 @@ impl Code {
     /// Appends a word.
     pub fn put(&mut self, instruction: Instruction) -> Result<(), AllocError>
         ensures few { OnOk result (words_in self.new.pieces.items ≤ words_in self.old.pieces.items + 1) }
+        ensures stops { OnOk result (shown self.new ≡ shown self.old) }
+        ensures begun { OnOk result (self.new.begins ≡ false) }
     {
         self.put_piece(Piece::Word(instruction))
     }
@@ -79,6 +86,8 @@ impl Code {
         immediate: u32,
     ) -> Result<(), AllocError>
         ensures few { OnOk result (words_in self.new.pieces.items ≤ words_in self.old.pieces.items + 1) }
+        ensures stops { OnOk result (shown self.new ≡ shown self.old) }
+        ensures begun { OnOk result (self.new.begins ≡ false) }
     {
         self.put(Instruction::Immediate(operation, rd, source, immediate))
     }
@@ -86,6 +95,8 @@ impl Code {
     /// Appends `addi rd, source, immediate`.
     pub fn put_sum(&mut self, rd: u8, source: u8, immediate: u32) -> Result<(), AllocError>
         ensures few { OnOk result (words_in self.new.pieces.items ≤ words_in self.old.pieces.items + 1) }
+        ensures stops { OnOk result (shown self.new ≡ shown self.old) }
+        ensures begun { OnOk result (self.new.begins ≡ false) }
     {
         self.put_immediate(ImmediateOperation::Addi, rd, source, immediate)
     }
@@ -93,6 +104,8 @@ impl Code {
     /// Where the place in force is a stop and has no word yet, appends one that does nothing.
     pub fn settle(&mut self) -> Result<(), AllocError>
         ensures few { OnOk result (words_in self.new.pieces.items ≤ words_in self.old.pieces.items + 1) }
+        ensures stops { OnOk result (shown self.new ≡ shown self.old) }
+        ensures begun { OnOk result (self.new.begins ≡ false) }
     {
         if self.begins {
             self.put_sum(register::ZERO, register::ZERO, 0)
@@ -104,6 +117,7 @@ impl Code {
     /// A place begins.
     pub fn begin(&mut self, place: u32, is_stop: bool) -> Result<(), AllocError>
         ensures few { OnOk result (words_in self.new.pieces.items ≤ words_in self.old.pieces.items + 1) }
+        ensures stops { OnOk result (shown self.new ≡ shown self.old ++ stop_if is_stop place) }
     {
         self.settle()?;
         self.owner = place;
@@ -114,6 +128,8 @@ impl Code {
     /// What follows belongs to no place. The place before has a word.
     pub fn leave_place(&mut self)
         ensures few { words_in self.new.pieces.items ≡ words_in self.old.pieces.items }
+        ensures stops { self.old.begins ≡ false → shown self.new ≡ shown self.old }
+        ensures begun { self.new.begins ≡ self.old.begins }
     {
         self.owner = 0;
     }
@@ -121,6 +137,8 @@ impl Code {
     /// The last word writes the home of the target of an instruction of this number.
     pub fn mark_writer(&mut self, number: u32)
         ensures few { words_in self.new.pieces.items ≡ words_in self.old.pieces.items }
+        ensures stops { shown self.new ≡ shown self.old }
+        ensures begun { self.new.begins ≡ self.old.begins }
     {
         if let Some(last) = self.pieces.last_mut() {
             last.writes = Some(number);

@@ -1,6 +1,7 @@
 //! Constants.
 
 ghost use Rattle.std.specs.Prelude.{◌≡◌, ◌≤◌, ◌+◌, OnOk};
+ghost use Rattle.emit_words.specs.Shown.{shown};
 ghost use Rattle.emit_pieces.specs.Words.{words_in};
 
 use crate::code::Code;
@@ -44,6 +45,7 @@ impl Code {
     /// Brings a constant into a register by the one word that it takes.
     fn load_by_one(&mut self, register: u8, word: u32, base: u32) -> Result<(), AllocError>
         ensures few { OnOk result (words_in self.new.pieces.items ≤ words_in self.old.pieces.items + 1) }
+        ensures stops { OnOk result (shown self.new ≡ shown self.old) }
     {
         if is_small(word) {
             return self.put_sum(register, register::ZERO, word);
@@ -58,6 +60,7 @@ impl Code {
     fn load_by(&mut self, register: u8, word: u32, base: u32, words: u32) -> Result<(), AllocError>
         requires { 1 ≤ words }
         ensures few { OnOk result (words_in self.new.pieces.items ≤ words_in self.old.pieces.items + words) }
+        ensures stops { OnOk result (shown self.new ≡ shown self.old) }
     {
         if words == 1 {
             return self.load_by_one(register, word, base);
@@ -69,6 +72,7 @@ impl Code {
     /// Brings a constant into a register, in at most two words.
     pub fn load_constant(&mut self, register: u8, word: u32, base: u32) -> Result<(), AllocError>
         ensures few { OnOk result (words_in self.new.pieces.items ≤ words_in self.old.pieces.items + 2) }
+        ensures stops { OnOk result (shown self.new ≡ shown self.old) }
     {
         let words = words_of_constant(word, base);
         self.load_by(register, word, base, words)
@@ -87,6 +91,7 @@ impl Code {
     /// A register that holds a constant, `scratch` where no other does.
     pub fn fetch_constant(&mut self, word: u32, base: u32, scratch: u8) -> Result<u8, AllocError>
         ensures few { OnOk result (words_in self.new.pieces.items ≤ words_in self.old.pieces.items + 2) }
+        ensures stops { OnOk result (shown self.new ≡ shown self.old) }
     {
         if word == 0 {
             return Ok(register::ZERO);
@@ -112,6 +117,7 @@ impl Code {
     ) -> Result<(), AllocError>
         requires { 1 ≤ words }
         ensures few { OnOk result (words_in self.new.pieces.items ≤ words_in self.old.pieces.items + words) }
+        ensures stops { OnOk result (shown self.new ≡ shown self.old) }
     {
         if !is_small(word) {
             if let Some(holder) = self.holder(word) {
@@ -124,6 +130,7 @@ impl Code {
     /// Brings a constant into a register, from one that holds it, or in at most two words.
     pub fn set_constant(&mut self, register: u8, word: u32, base: u32) -> Result<(), AllocError>
         ensures few { OnOk result (words_in self.new.pieces.items ≤ words_in self.old.pieces.items + 2) }
+        ensures stops { OnOk result (shown self.new ≡ shown self.old) }
     {
         let words = words_of_constant(word, base);
         self.set_by(register, word, base, words)
@@ -132,6 +139,7 @@ impl Code {
     /// Nothing more is known of a register.
     pub fn forget(&mut self, register: u8)
         ensures few { words_in self.new.pieces.items ≡ words_in self.old.pieces.items }
+        ensures stops { shown self.new ≡ shown self.old }
     {
         for held in self.held.iter_mut() {
             if held.register == register {
@@ -146,6 +154,7 @@ impl Code {
     /// Nothing more is known of any scratch register.
     pub fn forget_all(&mut self)
         ensures few { words_in self.new.pieces.items ≡ words_in self.old.pieces.items }
+        ensures stops { shown self.new ≡ shown self.old }
     {
         self.held.clear();
     }
@@ -154,6 +163,7 @@ impl Code {
     pub fn hold(&mut self, held: Held, base: u32, words: u32) -> Result<(), AllocError>
         requires { 1 ≤ words }
         ensures few { OnOk result (words_in self.new.pieces.items ≤ words_in self.old.pieces.items + words) }
+        ensures stops { OnOk result (shown self.new ≡ shown self.old) }
     {
         match self.holder(held.word) {
             Some(register) => {

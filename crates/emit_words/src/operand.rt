@@ -1,6 +1,7 @@
 //! Operands and results.
 
 ghost use Rattle.std.specs.Prelude.{◌≡◌, ◌≤◌, ◌+◌, OnOk};
+ghost use Rattle.emit_words.specs.Shown.{shown};
 ghost use Rattle.emit_pieces.specs.Words.{words_in};
 ghost use Rattle.emit_words.specs.Fetching.{most_words_of_home, most_words_of_source, most_words_to_bring};
 
@@ -17,6 +18,7 @@ impl Code {
     /// The words that make the base of what lies far from `sp`, in `t0`: its upper part, and `sp` added to it.
     fn put_far_base(&mut self, offset: u32) -> Result<(), AllocError>
         ensures few { OnOk result (words_in self.new.pieces.items ≤ words_in self.old.pieces.items + 2) }
+        ensures stops { OnOk result (shown self.new ≡ shown self.old) }
     {
         self.put(Instruction::Lui(register::T0, high_part(offset)))?;
         self.put(Instruction::Register(
@@ -30,6 +32,7 @@ impl Code {
     /// Loads a word of the frame, in one word or in three that stand together.
     pub fn load_slot(&mut self, rd: u8, offset: u32) -> Result<(), AllocError>
         ensures few { OnOk result (words_in self.new.pieces.items ≤ words_in self.old.pieces.items + 3) }
+        ensures stops { OnOk result (shown self.new ≡ shown self.old) }
     {
         if offset < 2048 {
             return self.put(Instruction::Load(LoadOperation::Lw, rd, register::SP, offset));
@@ -41,6 +44,7 @@ impl Code {
     /// Stores a word of the frame, in one word or in three that stand together.
     pub fn store_slot(&mut self, value: u8, offset: u32) -> Result<(), AllocError>
         ensures few { OnOk result (words_in self.new.pieces.items ≤ words_in self.old.pieces.items + 3) }
+        ensures stops { OnOk result (shown self.new ≡ shown self.old) }
     {
         if offset < 2048 {
             return self.put(Instruction::Store(StoreOperation::Sw, value, register::SP, offset));
@@ -57,6 +61,7 @@ impl Code {
         scratch: u8,
     ) -> Result<u8, AllocError>
         ensures few { OnOk result (words_in self.new.pieces.items ≤ words_in self.old.pieces.items + most_words_of_home home) }
+        ensures stops { OnOk result (shown self.new ≡ shown self.old) }
     {
         match home {
             Home::Register(register) => Ok(register),
@@ -75,6 +80,7 @@ impl Code {
         scratch: u8,
     ) -> Result<u8, AllocError>
         ensures few { OnOk result (words_in self.new.pieces.items ≤ words_in self.old.pieces.items + most_words_of_source source) }
+        ensures stops { OnOk result (shown self.new ≡ shown self.old) }
     {
         match source {
             Source::Home(home) => self.fetch_home(storage, home, scratch),
@@ -90,6 +96,7 @@ impl Code {
         scratch: u8,
     ) -> Result<u8, AllocError>
         ensures few { OnOk result (words_in self.new.pieces.items ≤ words_in self.old.pieces.items + 3) }
+        ensures stops { OnOk result (shown self.new ≡ shown self.old) }
     {
         self.fetch_source(storage, storage.source(operand), scratch)
     }
@@ -97,6 +104,7 @@ impl Code {
     /// Brings what is read into a register. Where it is there already, this takes no word.
     pub fn bring(&mut self, storage: &Storage<'_>, rd: u8, source: Source) -> Result<(), AllocError>
         ensures few { OnOk result (words_in self.new.pieces.items ≤ words_in self.old.pieces.items + most_words_to_bring source) }
+        ensures stops { OnOk result (shown self.new ≡ shown self.old) }
     {
         match source {
             Source::Word(word) => self.set_constant(rd, word, storage.base),
@@ -119,6 +127,7 @@ impl Code {
         register: u8,
     ) -> Result<(), AllocError>
         ensures few { OnOk result (words_in self.new.pieces.items ≤ words_in self.old.pieces.items + 3) }
+        ensures stops { OnOk result (shown self.new ≡ shown self.old) }
     {
         match target {
             Home::Register(_) => Ok(()),
@@ -134,6 +143,7 @@ impl Code {
         register: u8,
     ) -> Result<(), AllocError>
         ensures few { OnOk result (words_in self.new.pieces.items ≤ words_in self.old.pieces.items + 3) }
+        ensures stops { OnOk result (shown self.new ≡ shown self.old) }
     {
         match target {
             Home::Register(home) => self.put_sum(home, register, 0),
@@ -144,6 +154,7 @@ impl Code {
     /// The address of a byte of the frame, in a register.
     pub fn put_address(&mut self, rd: u8, scratch: u8, offset: u32) -> Result<(), AllocError>
         ensures few { OnOk result (words_in self.new.pieces.items ≤ words_in self.old.pieces.items + 3) }
+        ensures stops { OnOk result (shown self.new ≡ shown self.old) }
     {
         if offset < 2048 {
             return self.put_sum(rd, register::SP, offset);

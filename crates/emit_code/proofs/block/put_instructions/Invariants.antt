@@ -1,12 +1,17 @@
-use Rattle.std.proofs.Common.{◌+◌, ◌≤◌, length, map}
+use Rattle.std.proofs.Common.{◌≡◌, ◌+◌, ◌≤◌, length, map}
 use Rattle.emit_pieces.specs.Words.{words_in}
+use Rattle.emit_words.specs.Shown.{shown}
+use Rattle.emit_code.specs.Stops.{shown_after}
 use Rattle.graph_core.specs.Graphs.{instruction_view}
 use Rattle.graph_core.specs.Validity.{total}
 use Rattle.emit_instructions.specs.Words.{most_words_of}
 use Rattle.emit_code.proofs.block.put_instructions.Given as goal
 
 abbrev pub invariant-loop-left : goal.invariant-loop-left
-invariant-loop-left l = words_in l.code.pieces.items + total most_words_of (map instruction_view l.left) ≤ words_in l.fn.code.pieces.items + total most_words_of (map instruction_view l.fn.instructions)
+invariant-loop-left l = record {
+  few : words_in l.code.pieces.items + total most_words_of (map instruction_view l.left) ≤ words_in l.fn.code.pieces.items + total most_words_of (map instruction_view l.fn.instructions);
+  stops : shown_after l.fn.storage.entry.0 (map instruction_view l.left) (shown l.code) ≡ shown_after l.fn.storage.entry.0 (map instruction_view l.fn.instructions) (shown l.fn.code);
+}
 
 abbrev pub decreases-loop-left : goal.decreases-loop-left
 decreases-loop-left l = length l.left
