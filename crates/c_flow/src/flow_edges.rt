@@ -7,8 +7,8 @@ ghost use Rattle.c_tree.specs.TypedStatements.{declared_view, start_view, statem
 ghost use Rattle.c_flow.specs.Flow as definition;
 ghost use Rattle.c_flow.specs.Flow.{edge, flow_of, flow_of_all, flow_of_declarators, flow_of_function, flow_of_program, flow_of_start, flow_of_step, flow_out, flow_past, flow_to_labels, round_of, ways_of_body, within_loop};
 
-use crate::edge::{Edge, Ways};
 use crate::beginning::{start, start_of_all, start_of_declarators};
+use crate::edge::{Edge, Ways};
 use c_facts::{has_default, reaches_end};
 use c_tree::{
     Declared, Program, Rvalue, TypedFunction, TypedStart, TypedStatement, TypedStatements,

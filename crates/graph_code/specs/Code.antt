@@ -33,8 +33,9 @@ module _ (n : Names) (place top : ℕ) where
     code (Constant z ty) t g = leaf g (unit.Constant (word_of z))
     code Null t g = leaf g zero
     code (Load s l) t g = elim (scalar_named n l) [
-        Some x ↦ leaf g (unit.Name x)
-      | None ↦ let q = place_laid n l t in code_place l t (operated n g t q.next (λ x. unit.Load x (element_of s) q.location)) ]
+      | Some x ↦ leaf g (unit.Name x)
+      | None ↦ let q = place_laid n l t in code_place l t (operated n g t q.next (λ x. unit.Load x (element_of s) q.location))
+    ]
     code (Decay l) t g = code_address l t g
     code (AddressOf l) t g = code_address l t g
     code (Convert ty e) t g =
@@ -81,10 +82,11 @@ module _ (n : Names) (place top : ℕ) where
         code c at (Either (label_of top x) (label_of top y) (closed place x))
     code (Comma a b) t g = code a t (Unused (code b (pick n t (laid n a Nothing t).top) g))
     code (Assign s l e) t g = elim (scalar_named n l) [
-        Some x ↦ code e t (To (Some x) (noted x g))
+      | Some x ↦ code e t (To (Some x) (noted x g))
       | None ↦ let q = place_laid n l t in let moved = is_location_moved (λ y. writes n y e) q.location in let from = behind_move moved q.next in
-               code_place l t (hold_location moved q.next q.location (code e from
-               (assigned_memory g q moved (element_of s) (laid n e (use_for None (use_of g)) from).value))) ]
+          code_place l t (hold_location moved q.next q.location (code e from
+          (assigned_memory g q moved (element_of s) (laid n e (use_for None (use_of g)) from).value)))
+    ]
     code (Update o ty v l e) t g = updated n (scalar_named n l) (change.Integer o ty v) (λ y. writes n y e) (place_laid n l t) t (code e) (laid n e Anywhere) (code_place l t) g
     code (UpdatePointer d of l e) t g = updated n (scalar_named n l) (change.Pointer d (object_size of)) (λ y. writes n y e) (place_laid n l t) t (code e) (laid n e Anywhere) (code_place l t) g
     code (Step d k ty v l) t g = stepped n (scalar_named n l) (change.Integer (steps_by d) ty v) k (place_laid n l t) t (code_place l t) g

@@ -100,7 +100,7 @@ module _ (n : Names) where
   distance bytes g begun q =
       if bytes == 1 then operated n g begun q.next (λ x. Operate x operation.Sub q.left q.right)
       else before (Operate (pick n begun q.next) operation.Sub q.left q.right)
-          (operated n g begun (q.next + 1) (λ x. unscaling (shift_of bytes) bytes x (pick n begun q.next)))
+      (operated n g begun (q.next + 1) (λ x. unscaling (shift_of bytes) bytes x (pick n begun q.next)))
 
   -- what is made of two values that stand
   abbrev pub finished : declared-two.Two → Goal → (begun : ℕ) → Pair → Made

@@ -95,7 +95,15 @@ pub fn renewed_scalar(
     ensures { IfOk result (λ d. made_of d ≡ renewed_scalar change name (operand_view old) (laid_view by) (goal_of goal)) }
 {
     let draft = noted(alloc, Name(name), goal)?;
-    changed(change, Name(name), Name(by.next), by.next, old, by.value, draft)
+    changed(
+        change,
+        Name(name),
+        Name(by.next),
+        by.next,
+        old,
+        by.value,
+        draft,
+    )
 }
 
 /// The new value of what is in memory, which is stored.
@@ -114,7 +122,13 @@ pub fn renewed_memory(
     let free = behind_move(takes_more(change, by.value), by.next)?;
     let own = target(&goal, Name(pick(names, place.next, free)));
     let held = held_location(moved, Name(behind), place.location);
-    let draft = stored(alloc, changed_element(change), held, Operand::Name(own), goal)?;
+    let draft = stored(
+        alloc,
+        changed_element(change),
+        held,
+        Operand::Name(own),
+        goal,
+    )?;
     let old = Operand::Name(Name(place.next));
     let between = Name(pick(names, place.next, by.next));
     changed(change, own, between, by.next, old, by.value, draft)
@@ -186,8 +200,21 @@ pub fn left_memory(
     let free = left_free(use_of(&goal), place.next)?;
     let own = Name(behind_move(takes_more(change, one), free)?);
     let draft = follow(alloc, goal, old);
-    let draft = store(changed_element(change), place.location, Operand::Name(own), draft)?;
-    let draft = changed(change, own, Name(free), free, Operand::Name(old), one, draft)?;
+    let draft = store(
+        changed_element(change),
+        place.location,
+        Operand::Name(own),
+        draft,
+    )?;
+    let draft = changed(
+        change,
+        own,
+        Name(free),
+        free,
+        Operand::Name(old),
+        one,
+        draft,
+    )?;
     let load = Computation::Load(changed_element(change), place.location);
     compute(draft, old, load)
 }

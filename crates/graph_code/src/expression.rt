@@ -81,11 +81,27 @@ fn code_place(
         }
         Lvalue::Element { of, pointer, index } => {
             let two = Two::Move(Direction::Up, object_size(*of));
-            code_two(alloc, site, pointer, index, two, begun, Goal::To(None, draft))
+            code_two(
+                alloc,
+                site,
+                pointer,
+                index,
+                two,
+                begun,
+                Goal::To(None, draft),
+            )
         }
         Lvalue::ElementFrom { of, index, pointer } => {
             let two = Two::MoveFrom(object_size(*of));
-            code_two(alloc, site, index, pointer, two, begun, Goal::To(None, draft))
+            code_two(
+                alloc,
+                site,
+                index,
+                pointer,
+                two,
+                begun,
+                Goal::To(None, draft),
+            )
         }
     }
 }
@@ -134,7 +150,13 @@ fn code_address(
         Lvalue::Named { object, .. } => code_object(alloc, site, *object, begun, goal),
         Lvalue::Target { pointer, .. } => {
             let value = given!(value_laid(site.names, pointer, Use::Anywhere, begun)).value;
-            code(alloc, site, pointer, begun, valued(alloc, used(goal), value))
+            code(
+                alloc,
+                site,
+                pointer,
+                begun,
+                valued(alloc, used(goal), value),
+            )
         }
         Lvalue::Element { of, pointer, index } => {
             let two = Two::Move(Direction::Up, object_size(*of));
@@ -185,7 +207,13 @@ fn code_converted(
     let from = integer_in(type_of(&site.names.results, operand));
     let value = given!(value_laid(site.names, operand, Use::Anywhere, begun));
     if keeps_bits(from, to) {
-        return code(alloc, site, operand, begun, valued(alloc, goal, value.value));
+        return code(
+            alloc,
+            site,
+            operand,
+            begun,
+            valued(alloc, goal, value.value),
+        );
     }
     let draft = given!(narrowed(alloc, site, to, value, begun, goal));
     code(alloc, site, operand, begun, Goal::To(None, draft))
@@ -205,7 +233,13 @@ fn code_signed(
 {
     let value = given!(value_laid(site.names, operand, Use::Anywhere, begun));
     match sign {
-        Sign::Plus => code(alloc, site, operand, begun, valued(alloc, goal, value.value)),
+        Sign::Plus => code(
+            alloc,
+            site,
+            operand,
+            begun,
+            valued(alloc, goal, value.value),
+        ),
         Sign::Minus | Sign::Complement => {
             let draft = given!(signed(alloc, site, sign, value, begun, goal));
             code(alloc, site, operand, begun, Goal::To(None, draft))
@@ -255,7 +289,13 @@ fn code_both(
     let behind = pick(site.names, at, left_laid.top);
     let way = given!(forked(alloc, site.place, site.top, goal, Name(begun)));
     let (one, other) = (way.one, way.other);
-    let second = given!(code(alloc, site, right, behind, Goal::Either(one, other, way.inner)));
+    let second = given!(code(
+        alloc,
+        site,
+        right,
+        behind,
+        Goal::Either(one, other, way.inner)
+    ));
     let label = label_of(site, &second);
     let inner = given!(closed(site.place, second));
     let goal = if is_and {
@@ -296,12 +336,7 @@ fn arm_value(is_void: bool, own: Name) -> Operand
 }
 
 /// A block that leads to another one, behind a draft that is closed in the place in force.
-fn leading_to(
-    alloc: Global,
-    site: &Site<'_>,
-    to: Label,
-    draft: Draft,
-) -> Result<Draft, AllocError>
+fn leading_to(alloc: Global, site: &Site<'_>, to: Label, draft: Draft) -> Result<Draft, AllocError>
     ensures { IfOk result (λ d. made_of d ≡ ending (unit.Jump to.0) (closed site.now.place.0 (made_of draft))) }
 {
     let inner = closed(site.place, draft)?;
@@ -339,7 +374,13 @@ fn code_conditional(
     let one = given!(code(alloc, site, chosen, at_then, goal));
     let one_label = label_of(site, &one);
     let inner = given!(closed(site.place, one));
-    code(alloc, site, condition, at, Goal::Either(one_label, other_label, inner))
+    code(
+        alloc,
+        site,
+        condition,
+        at,
+        Goal::Either(one_label, other_label, inner),
+    )
 }
 
 /// An assignment.
@@ -465,14 +506,7 @@ fn code_called(
     let passed = given!(passed_laid(alloc, site.names, arguments, begun));
     let is_void = is_void(given_by(&site.names.results, callee));
     let own = Name(pick(site.names, begun, passed.next));
-    let draft = given!(called_by(
-        alloc,
-        is_void,
-        goal,
-        own,
-        callee_for(callee),
-        passed.values
-    ));
+    let draft = given!(called_by(alloc, is_void, goal, own, callee_for(callee), passed.values));
     code_all(alloc, site, arguments, begun, draft)
 }
 
@@ -586,9 +620,7 @@ pub fn code(
             condition,
             then,
             otherwise,
-        } => {
-            code_conditional(alloc, site, condition, then, otherwise, begun, goal)
-        }
+        } => { code_conditional(alloc, site, condition, then, otherwise, begun, goal) }
         Rvalue::Comma(left, right) => {
             let behind = given!(value_laid(site.names, left, Use::Nothing, begun)).top;
             let at = pick(site.names, begun, behind);

@@ -129,7 +129,17 @@ pub fn finished(
             scaled_pair(alloc, names, goal, begun, operation, size, a, b, pair.next)
         }
         Two::MoveFrom(size) => {
-            scaled_pair(alloc, names, goal, begun, Operation::Add, size, b, a, pair.next)
+            scaled_pair(
+                alloc,
+                names,
+                goal,
+                begun,
+                Operation::Add,
+                size,
+                b,
+                a,
+                pair.next,
+            )
         }
         Two::Difference(size) => distance(alloc, site, size, pair, begun, goal),
     }

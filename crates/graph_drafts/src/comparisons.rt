@@ -62,10 +62,18 @@ pub fn compare_by(
     let first = Operand::Name(between);
     match operator {
         SourceComparison::Less => {
-            compute(draft, target, Computation::Operate(less_by(signed), left, right))
+            compute(
+                draft,
+                target,
+                Computation::Operate(less_by(signed), left, right),
+            )
         }
         SourceComparison::Greater => {
-            compute(draft, target, Computation::Operate(less_by(signed), right, left))
+            compute(
+                draft,
+                target,
+                Computation::Operate(less_by(signed), right, left),
+            )
         }
         SourceComparison::LessEqual => at_most(signed, target, between, left, right, draft),
         SourceComparison::GreaterEqual => at_most(signed, target, between, right, left, draft),
@@ -110,14 +118,22 @@ pub fn compare_pointers_by(
 fn less(signed: bool) -> Comparison
     ensures { result ≡ less signed }
 {
-    if signed { Comparison::Less } else { Comparison::LessUnsigned }
+    if signed {
+        Comparison::Less
+    } else {
+        Comparison::LessUnsigned
+    }
 }
 
 /// By which comparison of a block's end a number is not less.
 fn not_less(signed: bool) -> Comparison
     ensures { result ≡ not_less signed }
 {
-    if signed { Comparison::AtLeast } else { Comparison::AtLeastUnsigned }
+    if signed {
+        Comparison::AtLeast
+    } else {
+        Comparison::AtLeastUnsigned
+    }
 }
 
 /// A comparison that is a condition: the end of a block.

@@ -81,12 +81,7 @@ pub fn compute(draft: Draft, target: Name, computation: Computation) -> Result<D
 }
 
 /// A value that is moved to a name if it has to be, before what follows.
-pub fn move_if(
-    moved: bool,
-    target: Name,
-    from: Operand,
-    draft: Draft,
-) -> Result<Draft, AllocError>
+pub fn move_if(moved: bool, target: Name, from: Operand, draft: Draft) -> Result<Draft, AllocError>
     ensures { IfOk result (λ d. made_of d ≡ move_if moved target.0 (operand_view from) (made_of draft)) }
 {
     if moved {

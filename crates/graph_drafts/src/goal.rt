@@ -118,12 +118,7 @@ pub fn stored(
 }
 
 /// The old value of a scalar is kept where it is wanted, before what follows.
-pub fn keep_old(
-    asked: Use,
-    scalar: Name,
-    free: Name,
-    draft: Draft,
-) -> Result<Draft, AllocError>
+pub fn keep_old(asked: Use, scalar: Name, free: Name, draft: Draft) -> Result<Draft, AllocError>
     ensures { IfOk result (λ d. made_of d ≡ keep_old asked scalar.0 free.0 (made_of draft)) }
 {
     let old = Computation::Move(Operand::Name(scalar));

@@ -60,12 +60,7 @@ pub fn renew(
 }
 
 /// An index is scaled to a distance in bytes if it has to be, before what follows.
-pub fn scale(
-    size: u64,
-    index: Operand,
-    free: u32,
-    draft: Draft,
-) -> Result<Draft, AllocError>
+pub fn scale(size: u64, index: Operand, free: u32, draft: Draft) -> Result<Draft, AllocError>
     ensures { IfOk result (λ d. made_of d ≡ scale size (operand_view index) free (made_of draft)) }
 {
     if !is_scaled(size, index) {
@@ -85,7 +80,11 @@ pub fn unscaling(size: u64, distance: Name) -> Computation
     let distance = Operand::Name(distance);
     match shift_of(size) {
         Some(bits) => Computation::Operate(Operation::Sra, distance, Operand::Constant(bits)),
-        None => Computation::Operate(Operation::Div, distance, scaled(size, Operand::Constant(1), 0)),
+        None => Computation::Operate(
+            Operation::Div,
+            distance,
+            scaled(size, Operand::Constant(1), 0),
+        ),
     }
 }
 
@@ -125,7 +124,9 @@ fn compared_value(
     let between = Name(pick(names, begun, pair.next));
     let written = target(&goal, own);
     let draft = follow(alloc, goal, own);
-    compare_by(operator, signed, written, between, pair.left, pair.right, draft)
+    compare_by(
+        operator, signed, written, between, pair.left, pair.right, draft,
+    )
 }
 
 /// A comparison of two integers, as a condition or as a value.
@@ -146,10 +147,26 @@ pub fn compared(
             Ok(ending(alloc, end, inner))
         }
         Goal::To(want, draft) => {
-            compared_value(alloc, names, Goal::To(want, draft), signed, operator, begun, pair)
+            compared_value(
+                alloc,
+                names,
+                Goal::To(want, draft),
+                signed,
+                operator,
+                begun,
+                pair,
+            )
         }
         Goal::Unused(draft) => {
-            compared_value(alloc, names, Goal::Unused(draft), signed, operator, begun, pair)
+            compared_value(
+                alloc,
+                names,
+                Goal::Unused(draft),
+                signed,
+                operator,
+                begun,
+                pair,
+            )
         }
     }
 }
@@ -165,7 +182,11 @@ fn compared_pointers_value(
 ) -> Result<Draft, AllocError>
     ensures { IfOk result (λ d. made_of d ≡ compared_pointers_value (names_view names.now) (goal_of goal) operator begun (pair_view pair)) }
 {
-    let own = Name(pick(names, begun, behind_move(is_two_pointers(operator), pair.next)?));
+    let own = Name(pick(
+        names,
+        begun,
+        behind_move(is_two_pointers(operator), pair.next)?,
+    ));
     let between = Name(pick(names, begun, pair.next));
     let written = target(&goal, own);
     let draft = follow(alloc, goal, own);

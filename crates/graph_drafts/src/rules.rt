@@ -60,12 +60,24 @@ pub fn operation_for(operator: Arithmetic, of: IntegerType) -> Operation
 {
     match operator {
         Arithmetic::Multiply => Operation::Mul,
-        Arithmetic::Divide => if is_signed(of) { Operation::Div } else { Operation::Divu },
-        Arithmetic::Remainder => if is_signed(of) { Operation::Rem } else { Operation::Remu },
+        Arithmetic::Divide => if is_signed(of) {
+            Operation::Div
+        } else {
+            Operation::Divu
+        },
+        Arithmetic::Remainder => if is_signed(of) {
+            Operation::Rem
+        } else {
+            Operation::Remu
+        },
         Arithmetic::Add => Operation::Add,
         Arithmetic::Subtract => Operation::Sub,
         Arithmetic::ShiftLeft => Operation::Sll,
-        Arithmetic::ShiftRight => if is_signed(of) { Operation::Sra } else { Operation::Srl },
+        Arithmetic::ShiftRight => if is_signed(of) {
+            Operation::Sra
+        } else {
+            Operation::Srl
+        },
         Arithmetic::BitAnd => Operation::And,
         Arithmetic::BitXor => Operation::Xor,
         Arithmetic::BitOr => Operation::Or,
@@ -96,7 +108,11 @@ pub fn steps_by(direction: Direction) -> Arithmetic
 pub fn less_by(signed: bool) -> Operation
     ensures { result ≡ less_by signed }
 {
-    if signed { Operation::Slt } else { Operation::Sltu }
+    if signed {
+        Operation::Slt
+    } else {
+        Operation::Sltu
+    }
 }
 
 /// What a call of a unit calls.

@@ -7,9 +7,7 @@ use c_tree::{Declared, Initial, ObjectType, Rvalue, Scalar};
 use c_type_rules::{object_size, scalar_size};
 use graph_code::code;
 use graph_core::{Location, Name, Operand};
-use graph_drafts::{
-    Computation, Draft, Goal, clear, compute, copy, element_of, note, store,
-};
+use graph_drafts::{Computation, Draft, Goal, clear, compute, copy, element_of, note, store};
 use graph_layout::{Use, following, object_of, pick, scalar_of, value_laid};
 use std::alloc::{AllocError, Global};
 
@@ -78,8 +76,7 @@ fn store_elements(
             let value = value_laid(form.names, e, Use::Anywhere, free)?;
             let next = pick(form.names, free, value.top);
             let behind = following(index)?;
-            let later =
-                store_elements(alloc, form, at, scalar, object, behind, rest, next, draft)?;
+            let later = store_elements(alloc, form, at, scalar, object, behind, rest, next, draft)?;
             let to = element_at(object, scalar, index);
             let stored = store(element_of(scalar), to, value.value, later)?;
             code(alloc, &site_of(form, at), e, free, Goal::To(None, stored))
@@ -156,7 +153,9 @@ fn declare_kept(
         }
         ObjectType::Array { element, .. } => {
             let bytes = object_size(of);
-            declare_array(alloc, form, at, object, element, bytes, initial, free, draft)
+            declare_array(
+                alloc, form, at, object, element, bytes, initial, free, draft,
+            )
         }
     }
 }
@@ -173,9 +172,7 @@ fn declare_scalar(
 ) -> Result<Draft, AllocError> {
     let draft = note(Name(name), draft)?;
     match initial {
-        Initial::Scalar(e) => {
-            coded(alloc, form, at, e, free, Goal::To(Some(Name(name)), draft))
-        }
+        Initial::Scalar(e) => { coded(alloc, form, at, e, free, Goal::To(Some(Name(name)), draft)) }
         _ => compute(draft, Name(name), Computation::Move(Operand::Constant(0))),
     }
 }

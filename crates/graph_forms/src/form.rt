@@ -94,10 +94,7 @@ pub fn with_end(
 ) -> Result<Vec<Block>, AllocError> {
     match next {
         Some(_) => Ok(inner),
-        None => closed(
-            place_of(form, at),
-            ending(alloc, End::Return(None), inner),
-        ),
+        None => closed(place_of(form, at), ending(alloc, End::Return(None), inner)),
     }
 }
 
@@ -141,5 +138,12 @@ pub fn branching(
     let ends = with_end(alloc, form, at, other, inner)?;
     let one_label = label_for(form, one, &ends);
     let ends = with_end(alloc, form, at, one, ends)?;
-    coded(alloc, form, at, e, free, Goal::Either(one_label, other_label, ends))
+    coded(
+        alloc,
+        form,
+        at,
+        e,
+        free,
+        Goal::Either(one_label, other_label, ends),
+    )
 }

@@ -1,10 +1,8 @@
 //! Which names the code of statements uses.
 
 use crate::form::{Form, begun};
-use c_tree::{
-    Declared, Initial, Rvalue, TypedStart, TypedStatement, TypedStatements, TypedStep,
-};
-use graph_layout::{Use, value_laid, pick, scalar_of};
+use c_tree::{Declared, Initial, Rvalue, TypedStart, TypedStatement, TypedStatements, TypedStep};
+use graph_layout::{Use, pick, scalar_of, value_laid};
 use std::alloc::AllocError;
 
 // What a call gives; its failure is the function's own.
@@ -44,7 +42,12 @@ fn elements_reached(form: &Form<'_>, all: &[Rvalue], free: u32) -> Result<u32, A
 }
 
 /// The same of an initializer, of a scalar with this name, or of an object in memory.
-pub fn initial_reached(form: &Form<'_>, scalar: Option<u32>, initial: &Initial, free: u32) -> Result<u32, AllocError> {
+pub fn initial_reached(
+    form: &Form<'_>,
+    scalar: Option<u32>,
+    initial: &Initial,
+    free: u32,
+) -> Result<u32, AllocError> {
     match initial {
         Initial::Zero | Initial::Literal(_) => Ok(free),
         Initial::Scalar(e) => match scalar {
@@ -78,7 +81,11 @@ pub fn start_reached(form: &Form<'_>, start: &TypedStart, free: u32) -> Result<u
 }
 
 /// The same of the condition of a `for`.
-pub fn condition_reached(form: &Form<'_>, condition: &Option<Rvalue>, free: u32) -> Result<u32, AllocError> {
+pub fn condition_reached(
+    form: &Form<'_>,
+    condition: &Option<Rvalue>,
+    free: u32,
+) -> Result<u32, AllocError> {
     match condition {
         None => Ok(free),
         Some(e) => reached(form, e, Use::Tested, free),
@@ -95,18 +102,28 @@ fn step_reached(form: &Form<'_>, step: &Option<TypedStep>, free: u32) -> Result<
 
 /// The same of a statement, in the order in which code is made: of a `for` its first part, its condition, its body and its step.
 #[cycle(reached)]
-pub fn statement_reached(form: &Form<'_>, statement: &TypedStatement, free: u32) -> Result<u32, AllocError> {
+pub fn statement_reached(
+    form: &Form<'_>,
+    statement: &TypedStatement,
+    free: u32,
+) -> Result<u32, AllocError> {
     match statement {
         TypedStatement::Block(all) => statements_reached(form, all, free),
         TypedStatement::Declaration(all) => declared_reached(form, all, free),
-        TypedStatement::Empty(_) | TypedStatement::Break(_) | TypedStatement::Continue(_) => Ok(free),
+        TypedStatement::Empty(_) | TypedStatement::Break(_) | TypedStatement::Continue(_) => Ok(
+            free,
+        ),
         TypedStatement::Expression { value, .. } => reached(form, value, Use::Nothing, free),
         TypedStatement::If {
             condition,
             then: body,
             ..
         }
-        | TypedStatement::While { condition, body, .. } => {
+        | TypedStatement::While {
+            condition,
+            body,
+            ..
+        } => {
             let behind = given!(reached(form, condition, Use::Tested, free));
             statement_reached(form, body, behind)
         }
@@ -121,7 +138,9 @@ pub fn statement_reached(form: &Form<'_>, statement: &TypedStatement, free: u32)
             statement_reached(form, otherwise, after)
         }
         TypedStatement::DoWhile {
-            body, condition, ..
+            body,
+            condition,
+            ..
         } => {
             let behind = given!(statement_reached(form, body, free));
             reached(form, condition, Use::Tested, behind)
@@ -151,7 +170,11 @@ pub fn statement_reached(form: &Form<'_>, statement: &TypedStatement, free: u32)
 
 /// The same of the statements of a block.
 #[cycle(reached)]
-pub fn statements_reached(form: &Form<'_>, all: &TypedStatements, free: u32) -> Result<u32, AllocError> {
+pub fn statements_reached(
+    form: &Form<'_>,
+    all: &TypedStatements,
+    free: u32,
+) -> Result<u32, AllocError> {
     let mut at = free;
     let mut left = all;
     loop {

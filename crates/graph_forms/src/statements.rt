@@ -2,11 +2,9 @@
 
 use crate::declaring::add_declared;
 use crate::form::{
-    Form, Part, block_of, branching, begun, coded, going, label_for, place_of, placed_at, with_end,
+    Form, Part, begun, block_of, branching, coded, going, label_for, place_of, placed_at, with_end,
 };
-use crate::reached::{
-    condition_reached, reached, start_reached, statement_reached,
-};
+use crate::reached::{condition_reached, reached, start_reached, statement_reached};
 use c_flow::{Ways, round_of, start, start_of_all, within_loop};
 use c_tree::{Rvalue, TypedStart, TypedStatement, TypedStatements, TypedStep};
 use graph_core::{Block, Comparison, End, Operand};
@@ -142,7 +140,15 @@ fn add_step(
 ) -> Result<Part, AllocError> {
     match step {
         None => Ok(part),
-        Some(step) => add_run(alloc, form, step.spot.at, &step.value, free, Some(head), part),
+        Some(step) => add_run(
+            alloc,
+            form,
+            step.spot.at,
+            &step.value,
+            free,
+            Some(head),
+            part,
+        ),
     }
 }
 
@@ -304,7 +310,9 @@ pub fn add(
             let after = given!(statement_reached(form, body, behind));
             let later = given!(add(alloc, form, body, behind, within_loop(round, ways), part));
             let later = given!(add_step(alloc, form, step, after, at, later));
-            add_head(alloc, form, begin, free, at, condition, inside, ways.next, later)
+            add_head(
+                alloc, form, begin, free, at, condition, inside, ways.next, later,
+            )
         }
         TypedStatement::Switch { spot, value, body } => {
             let behind = given!(reached(form, value, Use::Anywhere, free));
