@@ -1,0 +1,63 @@
+//! The unit of a program.
+
+ghost use Rattle.std.specs.Prelude.{◌≡◌, ◌↔◌, [], IfOk};
+ghost use Rattle.std.specs.List.{Contains};
+ghost use Rattle.places.specs.declared.flow.Assignment.{Assignment};
+ghost use Rattle.places.specs.declared.flow.FlowStep.{FlowStep};
+ghost use Rattle.c_tree.specs.Programs.{program_view};
+ghost use Rattle.c_flow.specs.Assigns.{assignments_of_program};
+ghost use Rattle.c_flow.specs.Flow.{steps_of_program};
+ghost use Rattle.graph_core.specs.Graphs.{unit_view};
+ghost use Rattle.graph_core.specs.Validity.{IsValid};
+
+use crate::function::{Source, graph_of};
+use crate::statics::{array_bytes_of, statics_of};
+use c_flow::{fits, flow, positions_of};
+use c_places::places_of_program;
+use c_tree::Program;
+use debug_records::ChangeLog;
+use graph_core::{Graph, Unit};
+use std::alloc::{AllocError, Global};
+
+/// The graphs of a program's functions, in their order.
+fn graphs_of(alloc: Global, program: &Program) -> Result<Vec<Graph>, AllocError> {
+    let places = places_of_program(alloc, program)?;
+    let positions = positions_of(alloc, &places)?;
+    let source = Source {
+        program,
+        positions: positions.as_slice(),
+    };
+    let mut graphs = Vec::new(alloc);
+    for (number, function) in program.functions.iter().enumerate() {
+        let is_main = number == program.main as usize;
+        graphs.push(graph_of(alloc, &source, function, is_main)?)?;
+    }
+    Ok(graphs)
+}
+
+/// The unit of a program. Want of memory also answers a program whose places or variables are more than 2^32 - 1, and one whose unit would not be valid.
+pub fn build(alloc: Global, program: &Program) -> Result<Unit, AllocError>
+    ensures valid { IfOk result (λ u. IsValid (unit_view u)) }
+    ensures main { IfOk result (λ u. (unit_view u).main ≡ (program_view program.now).main) }
+    ensures unchanged { IfOk result (λ u. (unit_view u).log ≡ []) }
+    ensures steps { IfOk result (λ u. (s : FlowStep) → Contains (unit_view u).steps s ↔ Contains (steps_of_program (program_view program.now)) s) }
+    ensures assignments { IfOk result (λ u. (a : Assignment) → Contains (unit_view u).assignments a ↔ Contains (assignments_of_program (program_view program.now)) a) }
+{
+    if !fits(alloc, program)? {
+        return Err(AllocError);
+    }
+    let (_, table) = flow(alloc, program)?;
+    let unit = Unit {
+        graphs: graphs_of(alloc, program)?,
+        main: program.main,
+        statics: statics_of(alloc, program)?,
+        array_bytes: array_bytes_of(alloc, program)?,
+        flow: table,
+        log: ChangeLog::new(alloc),
+    };
+    if unit.is_valid() {
+        Ok(unit)
+    } else {
+        Err(AllocError)
+    }
+}
