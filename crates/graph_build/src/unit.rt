@@ -1,18 +1,19 @@
 //! The unit of a program.
 
-ghost use Rattle.std.specs.Prelude.{◌≡◌, ◌↔◌, [], IfOk};
+ghost use Rattle.std.specs.Prelude.{◌≡◌, ◌↔◌, [], IfOk, IfSome};
 ghost use Rattle.std.specs.List.{Contains};
 ghost use Rattle.places.specs.declared.flow.Assignment.{Assignment};
 ghost use Rattle.places.specs.declared.flow.FlowStep.{FlowStep};
 ghost use Rattle.c_tree.specs.Programs.{program_view};
 ghost use Rattle.c_flow.specs.Assigns.{assignments_of_program};
 ghost use Rattle.c_flow.specs.Flow.{steps_of_program};
+ghost use Rattle.c_flow.specs.Tables.{Fits32};
 ghost use Rattle.graph_core.specs.Graphs.{unit_view};
 ghost use Rattle.graph_core.specs.Validity.{IsValid};
 
 use crate::function::{Source, graph_of};
 use crate::statics::{array_bytes_of, statics_of};
-use c_flow::{fits, flow, positions_of};
+use c_flow::{flow, positions_of};
 use c_places::places_of_program;
 use c_tree::Program;
 use debug_records::ChangeLog;
@@ -35,17 +36,15 @@ fn graphs_of(alloc: Global, program: &Program) -> Result<Vec<Graph>, AllocError>
     Ok(graphs)
 }
 
-/// The unit of a program. Want of memory also answers a program whose places or variables are more than 2^32 - 1, and one whose unit would not be valid.
-pub fn build(alloc: Global, program: &Program) -> Result<Unit, AllocError>
-    ensures valid { IfOk result (λ u. IsValid (unit_view u)) }
-    ensures main { IfOk result (λ u. (unit_view u).main ≡ (program_view program.now).main) }
-    ensures unchanged { IfOk result (λ u. (unit_view u).log ≡ []) }
-    ensures steps { IfOk result (λ u. (s : FlowStep) → Contains (unit_view u).steps s ↔ Contains (steps_of_program (program_view program.now)) s) }
-    ensures assignments { IfOk result (λ u. (a : Assignment) → Contains (unit_view u).assignments a ↔ Contains (assignments_of_program (program_view program.now)) a) }
+/// The unit of a program; none where it would not be valid, which is known of no program. The only error is want of memory.
+pub fn build(alloc: Global, program: &Program) -> Result<Option<Unit>, AllocError>
+    requires { Fits32 (program_view program.now) }
+    ensures valid { IfOk result (λ o. IfSome o (λ u. IsValid (unit_view u))) }
+    ensures main { IfOk result (λ o. IfSome o (λ u. (unit_view u).main ≡ (program_view program.now).main)) }
+    ensures unchanged { IfOk result (λ o. IfSome o (λ u. (unit_view u).log ≡ [])) }
+    ensures steps { IfOk result (λ o. IfSome o (λ u. (s : FlowStep) → Contains (unit_view u).steps s ↔ Contains (steps_of_program (program_view program.now)) s)) }
+    ensures assignments { IfOk result (λ o. IfSome o (λ u. (a : Assignment) → Contains (unit_view u).assignments a ↔ Contains (assignments_of_program (program_view program.now)) a)) }
 {
-    if !fits(alloc, program)? {
-        return Err(AllocError);
-    }
     let (_, table) = flow(alloc, program)?;
     let unit = Unit {
         graphs: graphs_of(alloc, program)?,
@@ -56,8 +55,8 @@ pub fn build(alloc: Global, program: &Program) -> Result<Unit, AllocError>
         log: ChangeLog::new(alloc),
     };
     if unit.is_valid() {
-        Ok(unit)
+        Ok(Some(unit))
     } else {
-        Err(AllocError)
+        Ok(None)
     }
 }

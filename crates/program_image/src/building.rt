@@ -1,0 +1,61 @@
+//! The image of a program.
+
+ghost use Rattle.std.specs.Prelude.{◌≡◌, IfOk, IfSome};
+ghost use Rattle.c_tree.specs.Programs.{program_view};
+ghost use Rattle.image_form.specs.Form.{form};
+ghost use Rattle.image_form.specs.Rules.{IsImage};
+ghost use Rattle.image_form.specs.Spelling.{spelling};
+
+use crate::drafting::{draft_of, homed_of};
+use crate::made::Build;
+use c_flow::fits;
+use c_tree::Program;
+use debug_records::Mode;
+use image_form::{Image, ImageErr, read, spell};
+use std::alloc::{AllocError, Global};
+
+/// The image that bytes spell, if they spell one.
+fn image_in(alloc: Global, bytes: &[u8]) -> Result<Option<Image>, AllocError>
+    ensures image { IfOk result (λ o. IfSome o (λ m. IsImage (form m))) }
+    ensures bytes { IfOk result (λ o. IfSome o (λ m. bytes.now ≡ spelling (form m))) }
+{
+    match read(alloc, bytes) {
+        Ok(image) => Ok(Some(image)),
+        Err(ImageErr::Refused(_, _)) => Ok(None),
+        Err(ImageErr::NoMemory) => Err(AllocError),
+    }
+}
+
+/// The image of a program, with its scalars in slots or in registers, by no passes. What is given is an image: it was written and read back, and
+/// what was read is given. None where the program is not compiled so far. The only error is want of memory.
+pub fn image_of_program(
+    alloc: Global,
+    program: Program,
+    mode: Mode,
+) -> Result<Option<Build>, AllocError>
+    ensures image { IfOk result (λ o. IfSome o (λ b. IsImage (form b.image))) }
+    ensures bytes { IfOk result (λ o. IfSome o (λ b. b.bytes.items ≡ spelling (form b.image))) }
+    ensures program { IfOk result (λ o. IfSome o (λ b. program_view b.program ≡ program_view program)) }
+{
+    if !fits(alloc, &program)? {
+        return Ok(None);
+    }
+    let Some(homed) = homed_of(alloc, &program, mode)? else {
+        return Ok(None);
+    };
+    let Some(draft) = draft_of(alloc, &program, &homed)? else {
+        return Ok(None);
+    };
+    let Some(bytes) = spell(alloc, &draft)? else {
+        return Ok(None);
+    };
+    let Some(image) = image_in(alloc, &bytes)? else {
+        return Ok(None);
+    };
+    Ok(Some(Build {
+        program,
+        homed,
+        image,
+        bytes,
+    }))
+}

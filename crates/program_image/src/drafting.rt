@@ -1,0 +1,67 @@
+//! From a program to what is to be its image, step by step.
+
+ghost use Rattle.std.specs.Prelude.{IfOk, IfSome};
+ghost use Rattle.c_tree.specs.Programs.{program_view};
+ghost use Rattle.c_flow.specs.Tables.{Fits32};
+ghost use Rattle.graph_core.specs.Graphs.{unit_view};
+ghost use Rattle.graph_core.specs.Validity.{IsValid};
+ghost use Rattle.homed_unit.specs.Homed.{HaveHomes, homed_view};
+
+use c_flow::flow;
+use c_tree::Program;
+use currency::verdicts;
+use debug_records::Mode;
+use graph_build::build;
+use home_assign::assign;
+use homed_unit::HomedUnit;
+use image_form::Image;
+use image_tables::{Parts, image_of};
+use rv_emit::emit;
+use std::alloc::{AllocError, Global};
+
+/// The unit of a program, with homes for its names. None where it is not valid.
+pub fn homed_of(
+    alloc: Global,
+    program: &Program,
+    mode: Mode,
+) -> Result<Option<HomedUnit>, AllocError>
+    requires { Fits32 (program_view program.now) }
+    ensures valid { IfOk result (λ o. IfSome o (λ h. IsValid (homed_view h).unit)) }
+    ensures homes { IfOk result (λ o. IfSome o (λ h. HaveHomes (homed_view h))) }
+{
+    let Some(unit) = build(alloc, program)? else {
+        return Ok(None);
+    };
+    let homed = assign(alloc, &unit, mode)?;
+    if homed.unit.is_valid() {
+        Ok(Some(homed))
+    } else {
+        Ok(None)
+    }
+}
+
+/// What is to be the image of a program with a homed unit. None where some variable has no verdict.
+pub fn draft_of(
+    alloc: Global,
+    program: &Program,
+    homed: &HomedUnit,
+) -> Result<Option<Image>, AllocError>
+    requires fits { Fits32 (program_view program.now) }
+    requires valid { IsValid (homed_view homed.now).unit }
+    requires homes { HaveHomes (homed_view homed.now) }
+{
+    let (places, flow) = flow(alloc, program)?;
+    let Some(verdicts) = verdicts(alloc, homed, &places, &flow)? else {
+        return Ok(None);
+    };
+    let emitted = emit(alloc, homed)?;
+    let parts = Parts {
+        program,
+        places: &places,
+        flow: &flow,
+        homed,
+        verdicts: &verdicts,
+    };
+    let image = image_of(alloc, &parts, emitted)?;
+    Ok(Some(image))
+}
