@@ -1,6 +1,6 @@
 //! The names that are read later.
 
-ghost use Rattle.std.specs.Prelude.{◌≡◌, ◌≤◌, ◌^◌, IfOk, OnOk, length, map, option_map};
+ghost use Rattle.std.specs.Prelude.{◌≡◌, ◌<◌, ◌^◌, IfOk, OnOk, length, map, option_map};
 ghost use Rattle.std.specs.FinSet.{empty};
 ghost use Rattle.graph_core.specs.Paths as paths;
 ghost use Rattle.graph_solve.specs.Live as later;

@@ -1,6 +1,6 @@
 //! The solution of a problem over a graph, by rows of bits.
 
-ghost use Rattle.std.specs.Prelude.{◌≡◌, ◌+◌, ◌*◌, ◌≤◌, ◌^◌, IfOk, OnOk, length};
+ghost use Rattle.std.specs.Prelude.{◌≡◌, ◌+◌, ◌*◌, ◌<◌, ◌≤◌, ◌^◌, IfOk, OnOk, length};
 ghost use Rattle.graph_solve.specs.Solution.{AreWithin, IsSolution, control_flow};
 ghost use Rattle.graph_solve.specs.Solved.{ends_of, starts_of};
 
