@@ -1,5 +1,5 @@
 -- What the stages of a session say together.
-use Rattle.std.proofs.Common.{◌≡◌, ℕ, ◌+◌, ◌<◌, ◌≤◌, inl, inr, sym, ap, ◌∙◌, subst, arith, refl, List, [], length, take, append-nil}
+use Rattle.std.proofs.Common.{◌≡◌, ℕ, ◌+◌, ◌<◌, ◌≤◌, ◌⊎◌, inl, inr, sym, ap, ◌∙◌, subst, arith, refl, List, [], length, take, append-nil}
 use Rattle.std.specs.Prelude.{Option, Some, None, Err, Ok, String, Vec, string_bytes}
 use Rattle.std.proofs.lemmas.List.{take_all, length-take}
 use Rattle.debug_records.specs.declared.code.Code.{Code}
@@ -13,16 +13,19 @@ use Rattle.script_form.specs.Script.{orders}
 use Rattle.script_form.specs.Refusal.{IsRefused}
 use Rattle.script_form.specs.declared.command.Command.{Command}
 use Rattle.stop_engine.specs.Transcript.{transcript_bytes}
-use Rattle.session.specs.declared.preparing.Prepared.{Prepared}
-use Rattle.command_line.specs.Job.{AttachGiven, DebugGiven}
-use Rattle.session.specs.Served.{ForAttach, ForDebug, ServedJob}
+use Rattle.debug_records.specs.declared.mode.Mode.{Mode}
+use Rattle.c_source.specs.Sources.{HasProgram}
+use Rattle.c_source.proofs.Sources.{program_is_short}
+use Rattle.session.specs.declared.preparing.Made.{Made}
+use Rattle.command_line.specs.Job.{AttachGiven, CompileGiven, DebugGiven}
+use Rattle.session.specs.Served.{ForAttach, ForCompile, ForDebug, Saving, ServedJob}
 use Rattle.session.specs.Limits.{Held, Holds, AreWithin, IsBeyond, IsThere, IsWithin, image_limit, input_limit}
-use Rattle.session.specs.Front.{IsSource}
+use Rattle.session.specs.Front.{IsRefusedSource}
 use Rattle.session.specs.Causes.{AreNoImage, ImageIsRefused, IsImageText, IsScriptText, ScriptIsRefused, SourceIsRefused, AreAccepted}
 use Rattle.session.proofs.Refusals.{source_held}
-use Rattle.session.specs.Stages.{ImageEnds, LoadEnds, PrepareEnds, ScriptEnds}
-use Rattle.session.specs.Prepared.{IsPrepared}
-use Rattle.session.specs.Outcome.{HasLeft, HasSaved, IsAttached, IsDebugged, IsImageOfSource}
+use Rattle.session.specs.Stages.{ImageEnds, LoadEnds, MakeEnds, ScriptEnds}
+use Rattle.session.specs.Prepared.{IsMade}
+use Rattle.session.specs.Outcome.{HasLeft, HoldsImage, HoldsPart, IsAttached, IsDebugged, IsImageOfSource}
 
 -- a text that was loaded within its limit is what the shelf held
 pub held_is : (limit : ℕ) (held : Option (List ℕ)) (got : List ℕ) → Loads held limit got → length got ≤ limit → held ≡ Some got
@@ -55,6 +58,9 @@ debug_within held given script input first s i short small = record {
   input = held_within input_limit (held given.input) input i small;
 }
 
+pub compile_within : (held : Held) (given : CompileGiven) → IsThere (held given.source) → AreWithin held (ForCompile given)
+compile_within held given first = record { first = first; script = tt; input = tt }
+
 pub attach_within : (held : Held) (given : AttachGiven) (image script input : List ℕ) → held given.image ≡ Some image → held given.script ≡ Some script → held given.input ≡ Some input
     → length image ≤ image_limit → length script ≤ 1048576 → length input ≤ input_limit → AreWithin held (ForAttach given)
 attach_within held given image script input m s i few short small = record {
@@ -70,91 +76,91 @@ said_too_long A status name old new Long e ends = (subst (λ s. LoadEnds {A = A}
 pub holds : (P : List ℕ → Type 0) (held : Option (List ℕ)) (got : List ℕ) → held ≡ Some got → P got → Holds held P
 holds P held got e p = subst (λ h. Holds h P) (sym e) p
 
-source_short : (t : List ℕ) → IsSource t → length t ≤ 1048576
-source_short t s = s.thin.1.short
-
-pub source_accepted : (held : Option (List ℕ)) (got : List ℕ) → Loads held 1048576 got → IsSource got → Holds held IsSource
-source_accepted held got h s = holds IsSource held got (held_is 1048576 held got h (source_short got s)) s
+source_accepted : (held : Option (List ℕ)) (got : List ℕ) → Loads held 1048576 got → HasProgram got → Holds held HasProgram
+source_accepted held got h s = holds HasProgram held got (held_is 1048576 held got h (program_is_short got s)) s
 
 -- why a source was refused
-pub source_refused : (A : Type 0) (status : Status) (code : Code) (line : ℕ) (source script : List ℕ) (held : Held) (given : DebugGiven) → status ≡ SourceRefused code line → PrepareEnds {A = A} (Err status) source script
-    → Loads (held given.source) 1048576 source → SourceIsRefused held (ForDebug given) code line
-source_refused A status code line source script held given e ends loads = source_held code line (held given.source) source loads (subst (λ s. PrepareEnds {A = A} (Err s) source script) e ends)
+pub source_refused : (status : Status) (code : Code) (line : ℕ) (source : List ℕ) (mode : Mode) (held : Option (List ℕ)) → status ≡ SourceRefused code line → MakeEnds (Err status) source mode → Loads held 1048576 source
+    → Holds held (λ t. IsRefusedSource t mode code line)
+source_refused status code line source mode held e ends loads = source_held mode code line held source loads (subst (λ s. MakeEnds (Err s) source mode) e ends)
 
--- why a script was
-pub script_refused : (A : Type 0) (status : Status) (code : Code) (line : ℕ) (source script : List ℕ) (held : Held) (given : DebugGiven) → status ≡ ScriptRefused code line → PrepareEnds {A = A} (Err status) source script
+-- why a script was, behind a source
+pub script_refused : (status : Status) (code : Code) (line : ℕ) (source script : List ℕ) (made : Made) (held : Held) (given : DebugGiven) → status ≡ ScriptRefused code line → IsMade source given.mode made → ScriptEnds (Err status) script
     → Loads (held given.source) 1048576 source → held given.script ≡ Some script → ScriptIsRefused held (ForDebug given) code line
-script_refused A status code line source script held given e ends loads is_script =
-    let cause = subst (λ s. PrepareEnds {A = A} (Err s) source script) e ends in
-    record { before = source_accepted (held given.source) source loads cause.0; cause = holds (λ t. IsRefused t code line) (held given.script) script is_script cause.1 }
-
--- both are accepted where the image stands
-pub both_accepted : (source script : List ℕ) (prepared : Prepared) (held : Held) (given : DebugGiven) → IsPrepared source script prepared → Loads (held given.source) 1048576 source → held given.script ≡ Some script → AreAccepted held (ForDebug given)
-both_accepted source script prepared held given is loads is_script = record {
-  before = source_accepted (held given.source) source loads (record { understood = is.understood; thin = (is.program, is.source) });
-  script = holds IsScriptText (held given.script) script is_script (orders prepared.commands.items, is.script);
+script_refused status code line source script made held given e is ends loads is_script = record {
+  before = source_accepted (held given.source) source loads is.image.understood;
+  cause = holds (λ t. IsRefused t code line) (held given.script) script is_script (subst (λ s. ScriptEnds (Err s) script) e ends);
 }
 
--- the bytes that were prepared are an image of the source
-pub image_made : (held : Held) (given : DebugGiven) (source script bytes : List ℕ) (prepared : Prepared) → Loads (held given.source) 1048576 source → IsPrepared source script prepared → bytes ≡ prepared.bytes.items → IsImageOfSource held given bytes
-image_made held given source script bytes prepared loads is same = record {
+-- both are accepted where the image stands
+pub both_accepted : (source script : List ℕ) (made : Made) (commands : Vec Command Global) (held : Held) (given : DebugGiven) → IsMade source given.mode made → ScriptEnds (Ok commands) script
+    → Loads (held given.source) 1048576 source → held given.script ≡ Some script → AreAccepted held (ForDebug given)
+both_accepted source script made commands held given is asks loads is_script = record {
+  before = source_accepted (held given.source) source loads is.image.understood;
+  script = holds IsScriptText (held given.script) script is_script (orders commands.items, asks);
+}
+
+-- and the source alone where nothing else is asked for
+pub source_alone_accepted : (source : List ℕ) (made : Made) (held : Held) (given : CompileGiven) → IsMade source given.mode made → Loads (held given.source) 1048576 source → AreAccepted held (ForCompile given)
+source_alone_accepted source made held given is loads = record { before = source_accepted (held given.source) source loads is.image.understood; script = tt }
+
+-- the bytes that were made are an image of the source
+pub image_made : (held : Held) (saving : Saving) (source bytes : List ℕ) (made : Made) → Loads (held saving.source) 1048576 source → IsMade source saving.mode made → bytes ≡ made.bytes.items → IsImageOfSource held saving bytes
+image_made held saving source bytes made loads is same = record {
   source = source;
-  program = is.program;
-  source_held = held_is 1048576 (held given.source) source loads is.source.short;
-  source_is = is.source;
-  understood = is.understood;
-  form = form prepared.image;
-  form_is = is.image;
+  source_held = held_is 1048576 (held saving.source) source loads (program_is_short source is.image.understood);
+  understood = is.image.understood;
+  form = form made.image;
+  form_is = is.image.image;
   bytes_are = same ∙ is.bytes;
-  truthful = is.truthful;
+  truthful = is.image.truthful;
 }
 
 -- where nothing was saved, the image's name holds what it held
 pub nothing_left : (held held' : Held) (job : ServedJob) → ((n : List ℕ) → held' n ≡ held n) → HasLeft held held' job
 nothing_left held held' (ForDebug given) same = inl (same given.image)
+nothing_left held held' (ForCompile given) same = inl (same given.image)
 nothing_left held held' (ForAttach given) same = tt
 
 -- a save that gave an error left what the name held, or a part of the image
-pub part_left : (held before held' : Held) (given : DebugGiven) (name bytes : List ℕ) → IsImageOfSource held given bytes → before name ≡ held name → name ≡ given.image → IsKeptOrCut bytes (before name) (held' name) → HasLeft held held' (ForDebug given)
-part_left held before held' given name bytes made same is part = inr (record {
+pub part_left : (held before held' : Held) (saving : Saving) (name bytes : List ℕ) → IsImageOfSource held saving bytes → before name ≡ held name → name ≡ saving.image → IsKeptOrCut bytes (before name) (held' name) → (held' saving.image ≡ held saving.image) ⊎ HoldsPart held held' saving
+part_left held before held' saving name bytes made same is part = inr (record {
   bytes = bytes;
   made = made;
   part = subst (λ n. IsKeptOrCut bytes (held n) (held' n)) is (subst (λ h. IsKeptOrCut bytes h (held' name)) same part);
 })
 
 -- one that was made left the whole image
-pub whole_left : (held held' : Held) (given : DebugGiven) (name bytes : List ℕ) → IsImageOfSource held given bytes → name ≡ given.image → held' name ≡ Some bytes → HasLeft held held' (ForDebug given)
-whole_left held held' given name bytes made is saved = inr (record {
+pub whole_left : (held held' : Held) (saving : Saving) (name bytes : List ℕ) → IsImageOfSource held saving bytes → name ≡ saving.image → held' name ≡ Some bytes → (held' saving.image ≡ held saving.image) ⊎ HoldsPart held held' saving
+whole_left held held' saving name bytes made is saved = inr (record {
   bytes = bytes;
   made = made;
   part = inr (bytes, ([], sym (append-nil bytes)), ap held' (sym is) ∙ saved);
 })
 
-pub whole_saved : (held held' : Held) (given : DebugGiven) (name bytes : List ℕ) → IsImageOfSource held given bytes → name ≡ given.image → held' name ≡ Some bytes → HasSaved held held' (ForDebug given)
-whole_saved held held' given name bytes made is saved = record { bytes = bytes; made = made; saved = ap held' (sym is) ∙ saved }
+pub whole_saved : (held held' : Held) (saving : Saving) (name bytes : List ℕ) → IsImageOfSource held saving bytes → name ≡ saving.image → held' name ≡ Some bytes → HoldsImage held held' saving
+whole_saved held held' saving name bytes made is saved = record { bytes = bytes; made = made; saved = ap held' (sym is) ∙ saved }
 
 -- the session saved the image and played it
-pub debugged : (held held' : Held) (given : DebugGiven) (source script input : List ℕ) (prepared : Prepared) → Loads (held given.source) 1048576 source → held given.script ≡ Some script → held given.input ≡ Some input → IsPrepared source script prepared → held' given.image ≡ Some prepared.bytes.items
-    → IsDebugged held held' given (transcript_bytes (form prepared.image) (orders prepared.commands.items) input given.limit)
-debugged held held' given source script input prepared loads is_script is_input is saved = record {
+pub debugged : (held held' : Held) (given : DebugGiven) (source script input : List ℕ) (made : Made) (commands : Vec Command Global) → Loads (held given.source) 1048576 source → held given.script ≡ Some script → held given.input ≡ Some input
+    → IsMade source given.mode made → ScriptEnds (Ok commands) script → held' given.image ≡ Some made.bytes.items → IsDebugged held held' given (transcript_bytes (form made.image) (orders commands.items) input given.limit)
+debugged held held' given source script input made commands loads is_script is_input is asks saved = record {
   source = source;
-  program = is.program;
-  source_held = held_is 1048576 (held given.source) source loads is.source.short;
-  source_is = is.source;
-  understood = is.understood;
+  source_held = held_is 1048576 (held given.source) source loads (program_is_short source is.image.understood);
+  understood = is.image.understood;
   played = record {
-    form = form prepared.image;
-    form_is = is.image;
+    form = form made.image;
+    form_is = is.image.image;
     image_is = saved ∙ ap Some is.bytes;
     text = script;
-    orders = orders prepared.commands.items;
+    orders = orders commands.items;
     script_is = is_script;
-    orders_are = is.script;
+    orders_are = asks;
     bytes = input;
     input_is = is_input;
     printed_is = refl;
   };
-  truthful = is.truthful input;
+  truthful = is.image.truthful;
 }
 
 -- the image that was loaded

@@ -9,9 +9,11 @@ use Rattle.line_form.specs.declared.status.Status.{Status}
 use Rattle.line_form.specs.declared.status.Status.TheVariants.{Done, Usage, SourceRefused, ScriptRefused, ReadFault, WriteFault, NoMemory, ImageRefused, TooLong}
 use Rattle.script_form.specs.Script.{Order, IsScript}
 use Rattle.script_form.specs.Refusal.{IsRefused}
-use Rattle.session.specs.Served.{ServedJob, ForDebug, ForAttach, script_of}
+use Rattle.debug_records.specs.declared.code.TheConstants.Code.{UNEXPECTED_KEYWORD}
+use Rattle.c_source.specs.Sources.{HasProgram}
+use Rattle.session.specs.Served.{Saving, ServedJob, ForDebug, ForCompile, ForAttach, IfGiven, With, saving_of, script_of}
 use Rattle.session.specs.Limits.{Held, Holds}
-use Rattle.session.specs.Front.{IsRefusedSource, IsSource}
+use Rattle.session.specs.Front.{IsRefusedSource, IsStraight}
 
 -- the text is a script
 abbrev pub IsScriptText : List ℕ → Type 0
@@ -23,33 +25,38 @@ IsImageText bytes = (f : Form) × IsImage f × (bytes ≡ spelling f)
 
 -- the source of a job is refused; an `attach` has none
 abbrev pub SourceIsRefused : Held → ServedJob → Code → ℕ → Type 0
-SourceIsRefused held (ForDebug given) code line = Holds (held given.source) (λ text. IsRefusedSource text code line)
-SourceIsRefused held (ForAttach given) code line = ⊥
+SourceIsRefused held job code line = With (saving_of job) (λ (s : Saving). Holds (held s.source) (λ text. IsRefusedSource text s.mode code line))
 
 -- Bytes are refused that spell no image: this is the first rule that they break, at this byte.
 pub record AreNoImage (code : Code) (offset : ℕ) (bytes : List ℕ) : Type 0 where
   pub none : ¬ IsImageText bytes
   pub first : read_of bytes ≡ Err (code, offset)
 
--- the image of a job is refused; that of a `debug` is made by the program
+-- the image of a job is refused; that of a `debug` or a `compile` is made by the program
 abbrev pub ImageIsRefused : Held → ServedJob → Code → ℕ → Type 0
 ImageIsRefused held (ForDebug given) code offset = ⊥
+ImageIsRefused held (ForCompile given) code offset = ⊥
 ImageIsRefused held (ForAttach given) code offset = Holds (held given.image) (AreNoImage code offset)
 
--- what comes before the script is accepted: a source, or an image
+-- what comes before the script is accepted: a source of a program, or an image
 abbrev pub IsUnderstood : Held → ServedJob → Type 0
-IsUnderstood held (ForDebug given) = Holds (held given.source) IsSource
+IsUnderstood held (ForDebug given) = Holds (held given.source) HasProgram
+IsUnderstood held (ForCompile given) = Holds (held given.source) HasProgram
 IsUnderstood held (ForAttach given) = Holds (held given.image) IsImageText
 
 -- The script is refused where all before it is accepted: this is the first line that breaks a rule, and the rule.
 pub record ScriptIsRefused (held : Held) (job : ServedJob) (code : Code) (line : ℕ) : Type 0 where
   pub before : IsUnderstood held job
-  pub cause : Holds (held (script_of job)) (λ text. IsRefused text code line)
+  pub cause : With (script_of job) (λ name. Holds (held name) (λ text. IsRefused text code line))
 
 -- the source or the image, and the script, are accepted
 pub record AreAccepted (held : Held) (job : ServedJob) : Type 0 where
   pub before : IsUnderstood held job
-  pub script : Holds (held (script_of job)) IsScriptText
+  pub script : IfGiven (script_of job) (λ name. Holds (held name) IsScriptText)
+
+-- The source of the job is of a program, but left out as one that is not compiled so far; never a straight-line `main` with slots.
+abbrev pub IsLeftOut : Held → ServedJob → Status → Type 0
+IsLeftOut held job result = (result ≡ SourceRefused UNEXPECTED_KEYWORD 1) × With (saving_of job) (λ (s : Saving). Holds (held s.source) (λ text. ¬ IsStraight text s.mode))
 
 -- the session ended before anything was saved or put out
 abbrev pub IsEarly : Status → Type 0

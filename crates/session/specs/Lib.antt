@@ -4,5 +4,6 @@ pub mod Front
 pub mod Causes
 pub mod Outcome
 pub mod Stages
+pub mod Truth
 pub mod Prepared
 pub mod Ending

@@ -1,6 +1,6 @@
 -- How long the texts of a session may be.
 use Rattle.std.specs.Prelude.{◌≡◌, ◌≤◌, ◌<◌, ◌⊎◌, ℕ, List, Option, Some, None, length}
-use Rattle.session.specs.Served.{ServedJob, ForDebug, ForAttach, script_of, input_of}
+use Rattle.session.specs.Served.{ServedJob, ForDebug, ForCompile, ForAttach, IfGiven, With, script_of, input_of}
 
 -- how many bytes a script has at most: 1 MiB
 abbrev pub script_limit : ℕ
@@ -38,31 +38,35 @@ IsThere held = Holds held (λ text. Unit {0})
 -- what is loaded first is there: a source, whose length has a rule of its own, or an image within its limit
 abbrev pub FirstIsLoaded : Held → ServedJob → Type 0
 FirstIsLoaded held (ForDebug given) = IsThere (held given.source)
+FirstIsLoaded held (ForCompile given) = IsThere (held given.source)
 FirstIsLoaded held (ForAttach given) = IsWithin image_limit (held given.image)
 
 -- the texts of a job are there, and within their limits
 pub record AreWithin (held : Held) (job : ServedJob) : Type 0 where
   pub first : FirstIsLoaded held job
-  pub script : IsWithin script_limit (held (script_of job))
-  pub input : IsWithin input_limit (held (input_of job))
+  pub script : IfGiven (script_of job) (λ name. IsWithin script_limit (held name))
+  pub input : IfGiven (input_of job) (λ name. IsWithin input_limit (held name))
 
 -- the image of this name is loaded, and too long
 abbrev pub ImageIsTooLong : Held → ServedJob → List ℕ → Type 0
 ImageIsTooLong held (ForDebug given) name = ⊥
+ImageIsTooLong held (ForCompile given) name = ⊥
 ImageIsTooLong held (ForAttach given) name = (name ≡ given.image) × IsBeyond image_limit (held given.image)
+
+-- this text of the job is loaded under the name, and too long
+abbrev pub IsTheLong : Held → (text : Option (List ℕ)) → (limit : ℕ) → (name : List ℕ) → Type 0
+IsTheLong held text limit name = With text (λ given. (name ≡ given) × IsBeyond limit (held given))
 
 -- the script of this name is too long, and what is loaded before it is there and not too long
 pub record ScriptIsTooLong (held : Held) (job : ServedJob) (name : List ℕ) : Type 0 where
-  pub named : name ≡ script_of job
   pub first : FirstIsLoaded held job
-  pub cause : IsBeyond script_limit (held (script_of job))
+  pub cause : IsTheLong held (script_of job) script_limit name
 
 -- the input of this name is too long, and what is loaded before it is there and not too long
 pub record InputIsTooLong (held : Held) (job : ServedJob) (name : List ℕ) : Type 0 where
-  pub named : name ≡ input_of job
   pub first : FirstIsLoaded held job
-  pub script : IsWithin script_limit (held (script_of job))
-  pub cause : IsBeyond input_limit (held (input_of job))
+  pub script : IfGiven (script_of job) (λ given. IsWithin script_limit (held given))
+  pub cause : IsTheLong held (input_of job) input_limit name
 
 -- The text of this name is the first that is too long, of the image that is attached, the script and the input, and each text before it is there.
 abbrev pub IsTooLong : Held → ServedJob → List ℕ → Type 0

@@ -1,21 +1,20 @@
 -- What stands between the texts of a session and its run.
 use Rattle.std.specs.Prelude.{◌≡◌, ℕ, List}
-use Rattle.image_form.specs.Form.{form}
+use Rattle.debug_records.specs.declared.mode.Mode.{Mode}
+use Rattle.image_form.specs.Form.{Form, form}
 use Rattle.image_form.specs.Rules.{IsImage}
 use Rattle.image_form.specs.Spelling.{spelling}
-use Rattle.script_form.specs.Script.{IsScript, orders}
-use Rattle.thin_form.specs.Tree.{ProgramTree}
-use Rattle.thin_form.specs.Thin.{IsThin}
-use Rattle.thin_build.specs.Truthful.{Truthful}
-use Rattle.session.specs.Front.{HasProgram}
-use Rattle.session.specs.declared.preparing.Prepared.{Prepared}
+use Rattle.c_source.specs.Sources.{HasProgram}
+use Rattle.session.specs.Truth.{IsTruthfulTo}
+use Rattle.session.specs.declared.preparing.Made.{Made}
 
--- the image of the source with its bytes, and the commands of the script
-pub record IsPrepared (text commands : List ℕ) (p : Prepared) : Type 0 where
-  pub program : ProgramTree
-  pub source : IsThin text program
+-- The text is of a program, and this is an image of it.
+pub record IsImageFor (text : List ℕ) (mode : Mode) (form : Form) : Type 0 where
   pub understood : HasProgram text
-  pub script : IsScript commands (orders p.commands.items)
-  pub image : IsImage (form p.image)
-  pub bytes : p.bytes.items ≡ spelling (form p.image)
-  pub truthful : (input : List ℕ) → Truthful program (form p.image) input
+  pub image : IsImage form
+  pub truthful : IsTruthfulTo text mode form
+
+-- the image of the source, with its bytes
+pub record IsMade (text : List ℕ) (mode : Mode) (made : Made) : Type 0 where
+  pub image : IsImageFor text mode (form made.image)
+  pub bytes : made.bytes.items ≡ spelling (form made.image)

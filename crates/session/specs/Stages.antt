@@ -12,10 +12,14 @@ use Rattle.script_form.specs.Script.{IsScript, orders}
 use Rattle.script_form.specs.Refusal.{IsRefused}
 use Rattle.script_form.specs.declared.command.Command.{Command}
 use Rattle.command_line.specs.Words.{Text}
-use Rattle.session.specs.Causes.{AreNoImage, IsScriptText}
-use Rattle.session.specs.Front.{IsRefusedSource, IsSource}
+use Rattle.debug_records.specs.declared.mode.Mode.{Mode}
+use Rattle.session.specs.Causes.{AreNoImage}
+use Rattle.c_source.specs.Sources.{HasProgram, program_of_source}
+use Rattle.session.specs.Front.{IsRefusedSource}
+use Rattle.session.specs.Prepared.{IsImageFor, IsMade}
 use Rattle.session.specs.Served.{AreNotServed, AreServed, task_job}
 use Rattle.session.specs.declared.asking.Task.{Task}
+use Rattle.session.specs.declared.preparing.Made.{Made}
 
 -- a load ends well, or with a fault that the count of loads shows, or wants memory, or finds a text of this kind too long
 abbrev pub LoadEnds : {A : Type 0} → Result A Status → (old new : ℕ) → (List ℕ → Type 0) → Type 0
@@ -45,12 +49,26 @@ WriteEnds (Err WriteFault) old new = RoseOrStands old new
 WriteEnds (Err NoMemory) old new = new ≡ old
 WriteEnds (Err _) old new = ⊥
 
--- the source is of a program, or is refused, or memory was wanting
-abbrev pub SourceEnds : {A : Type 0} → Result A Status → (source : List ℕ) → Type 0
-SourceEnds (Ok x) source = IsSource source
-SourceEnds (Err (SourceRefused code line)) source = IsRefusedSource source code line
-SourceEnds (Err NoMemory) source = Unit {0}
-SourceEnds (Err _) source = ⊥
+-- the source is of a program, or breaks this rule first, or memory was wanting
+abbrev pub FrontEnds : {A : Type 0} → Result A Status → (source : List ℕ) → Type 0
+FrontEnds (Ok program) source = HasProgram source
+FrontEnds (Err (SourceRefused code line)) source = program_of_source source ≡ Err (code, line)
+FrontEnds (Err NoMemory) source = Unit {0}
+FrontEnds (Err _) source = ⊥
+
+-- this is an image of the source, or it is refused, or memory was wanting
+abbrev pub CompileEnds : Result Image Status → (source : List ℕ) → Mode → Type 0
+CompileEnds (Ok image) source mode = IsImageFor source mode (form image)
+CompileEnds (Err (SourceRefused code line)) source mode = IsRefusedSource source mode code line
+CompileEnds (Err NoMemory) source mode = Unit {0}
+CompileEnds (Err _) source mode = ⊥
+
+-- the source is of a program and its image is made, or it is refused, or memory was wanting
+abbrev pub MakeEnds : Result Made Status → (source : List ℕ) → Mode → Type 0
+MakeEnds (Ok made) source mode = IsMade source mode made
+MakeEnds (Err (SourceRefused code line)) source mode = IsRefusedSource source mode code line
+MakeEnds (Err NoMemory) source mode = Unit {0}
+MakeEnds (Err _) source mode = ⊥
 
 -- the script asks for the commands, or is refused for its first line that breaks a rule, or memory was wanting
 abbrev pub ScriptEnds : Result (Vec Command Global) Status → (script : List ℕ) → Type 0
@@ -65,11 +83,3 @@ ImageEnds (Ok image) bytes = IsImage (form image) × (bytes ≡ spelling (form i
 ImageEnds (Err (ImageRefused code offset)) bytes = AreNoImage code offset bytes
 ImageEnds (Err NoMemory) bytes = Unit {0}
 ImageEnds (Err _) bytes = ⊥
-
--- the source and the script are accepted, or the first of them that is not is refused, or memory was wanting
-abbrev pub PrepareEnds : {A : Type 0} → Result A Status → (source script : List ℕ) → Type 0
-PrepareEnds (Ok x) source script = IsSource source × IsScriptText script
-PrepareEnds (Err (SourceRefused code line)) source script = IsRefusedSource source code line
-PrepareEnds (Err (ScriptRefused code line)) source script = IsSource source × IsRefused script code line
-PrepareEnds (Err NoMemory) source script = Unit {0}
-PrepareEnds (Err _) source script = ⊥

@@ -1,13 +1,13 @@
 //! What the words ask for.
 
 ghost use Rattle.std.specs.Prelude.{◌≡◌, ◌↔◌, IsTrue, MatchOption, [], map, string_bytes};
-ghost use Rattle.debug_records.specs.declared.mode.Mode.TheVariants.{Slots};
-ghost use Rattle.command_line.specs.Job.{debug_given, job_given};
+ghost use Rattle.debug_records.specs.Change.{letters};
+ghost use Rattle.command_line.specs.Job.{job_given};
 ghost use Rattle.session.specs.Served.{ServedJob, Serves, task_job};
 ghost use Rattle.session.specs.Stages.{AskEnds};
 
-use command_line::{Attach, Debug, Job, job_of};
-use debug_records::Mode;
+use command_line::{Attach, Compile, Debug, Job, job_of};
+use debug_records::PassName;
 use line_form::Status;
 use std::alloc::Global;
 
@@ -15,23 +15,25 @@ use std::alloc::Global;
 #[derive(Drop)]
 pub enum Task {
     Debug(Debug),
+    Compile(Compile),
     Attach(Attach),
 }
 
-// No pass is named, and the homes are slots.
-fn is_plain(job: &Debug) -> bool
-    ensures { IsTrue result ↔ ((debug_given job.now).passes ≡ []) × ((debug_given job.now).mode ≡ Slots) }
+// No pass is named.
+fn is_empty(passes: &[PassName]) -> bool
+    ensures { IsTrue result ↔ (map letters passes.now ≡ []) }
 {
-    job.passes.is_empty() && job.mode == Mode::Slots
+    passes.is_empty()
 }
 
-// The job, if the program serves it: so far `attach`, and `debug` with no pass and with homes in slots.
+// The job, if the program serves it: so far `attach`, and `debug` and `compile` with no pass.
 fn served(job: Job) -> Option<Task>
     ensures { MatchOption result ((asked : ServedJob) → ¬ Serves (job_given job) asked) (λ a. Serves (job_given job) (task_job a)) }
 {
     match job {
-        Job::Debug(debug) if is_plain(&debug) => Some(Task::Debug(debug)),
+        Job::Debug(debug) if is_empty(&debug.passes) => Some(Task::Debug(debug)),
         Job::Debug(_debug) => None,
+        Job::Compile(compile) if is_empty(&compile.passes) => Some(Task::Compile(compile)),
         Job::Compile(_compile) => None,
         Job::Attach(attach) => Some(Task::Attach(attach)),
         Job::Passes(_passes) => None,

@@ -6,7 +6,7 @@ ghost use Rattle.session.specs.Ending.{Ends};
 
 use crate::loading::{load_texts, save_image};
 use crate::playing::play;
-use crate::preparing::prepare;
+use crate::preparing::{make, read_script};
 use command_line::Debug;
 use line_form::Status;
 use outside::{Shelf, Sink};
@@ -20,23 +20,20 @@ pub fn debug<S: Shelf, K: Sink>(alloc: Global, job: &Debug, shelf: &mut S, sink:
         Ok(texts) => texts,
         Err(status) => return status,
     };
-    let prepared = match prepare(alloc, &texts.source, &texts.script) {
-        Ok(prepared) => prepared,
+    let made = match make(alloc, &texts.source, job.mode) {
+        Ok(made) => made,
         Err(status) => return status,
     };
-    match save_image(alloc, shelf, job.image.as_str(), &prepared.bytes) {
+    let commands = match read_script(alloc, &texts.script) {
+        Ok(commands) => commands,
+        Err(status) => return status,
+    };
+    match save_image(alloc, shelf, job.image.as_str(), &made.bytes) {
         Ok(()) => {}
         Err(status) => return status,
     }
     let limit = u64::from(job.limit);
-    match play(
-        alloc,
-        &prepared.image,
-        &prepared.commands,
-        &texts.input,
-        limit,
-        sink,
-    ) {
+    match play(alloc, &made.image, &commands, &texts.input, limit, sink) {
         Ok(()) => Status::Done,
         Err(status) => status,
     }

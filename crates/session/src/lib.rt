@@ -3,6 +3,7 @@
 
 mod asking;
 mod attaching;
+mod compiling;
 mod debugging;
 mod loading;
 mod playing;

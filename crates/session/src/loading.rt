@@ -62,6 +62,18 @@ fn load_text<S: Shelf>(
     }
 }
 
+/// Loads a source, whose length has a rule of its own: of one that is longer than its limit there is one byte more than that.
+pub fn load_source<S: Shelf>(alloc: Global, shelf: &mut S, name: &str) -> Result<Vec<u8>, Status>
+    ensures ends { LoadEnds result (S.load_count shelf.old) (S.load_count shelf.new) (λ _. ⊥) }
+    ensures saves { S.save_count shelf.new ≡ S.save_count shelf.old }
+    ensures telling { S.tells shelf.new ≡ S.tells shelf.old }
+    ensures same { (n : List ℕ) → S.tells shelf.old ≡ true → S.held shelf.new n ≡ S.held shelf.old n }
+    ensures value { IfOk result (λ v. S.tells shelf.old ≡ true → Loads (S.held shelf.old name.now) 1048576 v.items) }
+    ensures there { IfOk result (λ v. S.tells shelf.old ≡ true → IsThere (S.held shelf.old name.now)) }
+{
+    load_text(alloc, shelf, name, TEXT_LIMIT)
+}
+
 // Says that the text of this name is too long.
 fn too_long(alloc: Global, name: &str) -> Status
     ensures { SaysTooLong result name.now }
@@ -107,7 +119,7 @@ pub fn load_texts<S: Shelf>(alloc: Global, shelf: &mut S, job: &Debug) -> Result
     ensures script_within { IfOk result (λ t. length t.script.items ≤ 1048576) }
     ensures input_within { IfOk result (λ t. length t.input.items ≤ input_limit) }
 {
-    let source = load_text(alloc, shelf, job.source.as_str(), TEXT_LIMIT)?;
+    let source = load_source(alloc, shelf, job.source.as_str())?;
     let script = load_whole(alloc, shelf, job.script.as_str(), TEXT_LIMIT)?;
     let input = load_whole(alloc, shelf, job.input.as_str(), most_input())?;
     Ok(Texts {

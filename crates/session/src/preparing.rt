@@ -1,58 +1,105 @@
 //! From the texts to what is played.
 
-ghost use Rattle.std.specs.Prelude.{IfOk};
-ghost use Rattle.session.specs.Front.{FrontEnds, HasProgram};
-ghost use Rattle.session.specs.Stages.{ImageEnds, PrepareEnds, ScriptEnds, SourceEnds};
-ghost use Rattle.session.specs.Prepared.{IsPrepared};
-ghost use Rattle.thin_form.specs.Tree.{program_view};
-ghost use Rattle.thin_form.specs.Program.{IsProgram};
-ghost use Rattle.thin_form.specs.Thin.{IsThin};
+ghost use Rattle.std.specs.Prelude.{IfOk, IfSome, MatchOption};
+ghost use Rattle.image_form.specs.Form.{form};
+ghost use Rattle.image_form.specs.Rules.{IsImage};
+ghost use Rattle.session.specs.Front.{IsStraight};
+ghost use Rattle.session.specs.Stages.{CompileEnds, FrontEnds, ImageEnds, MakeEnds, ScriptEnds};
+ghost use Rattle.session.specs.Truth.{IsTruthfulTo};
 
-use c_parse::parse;
-use c_token::tokens;
-use c_type::check;
-use debug_records::{Code, SourceErr};
+use c_tree::Program;
+use debug_records::{Code, Mode, SourceErr};
 use image_form::{Image, ImageErr, write};
 use line_form::Status;
+use program_image::image_of_program;
 use script_form::{Command, ScriptErr};
-use std::alloc::Global;
+use std::alloc::{AllocError, Global};
 use thin_build::build;
-use thin_form::{Program, ThinErr};
+use thin_form::ThinErr;
 
-/// The image of a source, its bytes, and the commands of a script.
+/// The image of a source, and its bytes.
 #[derive(Drop)]
-pub struct Prepared {
+pub struct Made {
     pub image: Image,
     pub bytes: Vec<u8>,
-    pub commands: Vec<Command>,
 }
 
-/// Reads a source by the rules of tokens, of the grammar, and of names and types. Refused for the first rule that it breaks.
-#[tactic(auto, using(crate::proofs::Refusals::tokens_refused, crate::proofs::Refusals::tree_refused, crate::proofs::Refusals::program_refused, crate::proofs::Refusals::program_found))]
-fn understand(alloc: Global, source: &[u8]) -> Result<(), SourceErr>
-    ensures { FrontEnds result source.now }
+/// The image of a source that is a straight-line `main`, where variables are kept in slots; else none.
+fn straight_image(alloc: Global, source: &[u8], mode: Mode) -> Result<Option<Image>, AllocError>
+    ensures { IfOk result (λ made. MatchOption made (¬ IsStraight source.now mode) (λ image. IsImage (form image) × IsTruthfulTo source.now mode (form image))) }
 {
-    let tokens = tokens(alloc, source)?;
-    let tree = parse(alloc, &tokens)?;
-    let _program = check(alloc, tree)?;
-    Ok(())
-}
-
-/// The program of a source, which else is refused for the first rule of C that it breaks; and by E11 and line 1 where it breaks none and
-/// is no straight-line `main`.
-fn read_source(alloc: Global, source: &[u8]) -> Result<Program, Status>
-    ensures program { IfOk result (λ program. IsThin source.now (program_view program) × IsProgram (program_view program) × HasProgram source.now) }
-    ensures ends { SourceEnds result source.now }
-{
-    match understand(alloc, source) {
-        Ok(()) => {}
-        Err(SourceErr::Refused(code, line)) => return Err(Status::SourceRefused(code, line)),
-        Err(SourceErr::NoMemory) => return Err(Status::NoMemory),
+    if mode == Mode::Registers {
+        return Ok(None);
     }
     match thin_form::read(alloc, source) {
+        Ok(program) => Ok(Some(build(alloc, &program)?)),
+        Err(ThinErr::Refused) => Ok(None),
+        Err(ThinErr::NoMemory) => Err(AllocError),
+    }
+}
+
+/// The image of a program; none where it is not compiled so far.
+fn general_image(alloc: Global, program: Program, mode: Mode) -> Result<Option<Image>, AllocError>
+    ensures { IfOk result (λ made. IfSome made (λ image. IsImage (form image))) }
+{
+    match image_of_program(alloc, program, mode)? {
+        Some(build) => Ok(Some(build.image)),
+        None => Ok(None),
+    }
+}
+
+/// The image of a program, whose source this is: a straight-line `main` with slots is compiled by the way that is proved to be truthful. None
+/// where the program is not compiled so far.
+fn image_for(
+    alloc: Global,
+    source: &[u8],
+    program: Program,
+    mode: Mode,
+) -> Result<Option<Image>, AllocError>
+    ensures { IfOk result (λ made. MatchOption made (¬ IsStraight source.now mode) (λ image. IsImage (form image) × IsTruthfulTo source.now mode (form image))) }
+{
+    let straight = straight_image(alloc, source, mode)?;
+    if straight.is_some() {
+        return Ok(straight);
+    }
+    match general_image(alloc, program, mode)? {
+        Some(image) => Ok(Some(image)),
+        None => Ok(None),
+    }
+}
+
+/// The program of a source, which else is refused for the first rule of C that it breaks.
+fn understood(alloc: Global, source: &[u8]) -> Result<Program, Status>
+    ensures { FrontEnds result source.now }
+{
+    match c_source::program(alloc, source) {
         Ok(program) => Ok(program),
-        Err(ThinErr::Refused) => Err(Status::SourceRefused(Code::UNEXPECTED_KEYWORD, 1)),
-        Err(ThinErr::NoMemory) => Err(Status::NoMemory),
+        Err(SourceErr::Refused(code, line)) => Err(Status::SourceRefused(code, line)),
+        Err(SourceErr::NoMemory) => Err(Status::NoMemory),
+    }
+}
+
+/// The image of a source. Refused for the first rule of C that the source breaks; and by E11 and line 1 where it breaks none and is not
+/// compiled so far.
+fn compiled(alloc: Global, source: &[u8], mode: Mode) -> Result<Image, Status>
+    ensures { CompileEnds result source.now mode }
+{
+    let program = understood(alloc, source)?;
+    match image_for(alloc, source, program, mode) {
+        Ok(Some(image)) => Ok(image),
+        Ok(None) => Err(Status::SourceRefused(Code::UNEXPECTED_KEYWORD, 1)),
+        Err(_) => Err(Status::NoMemory),
+    }
+}
+
+/// The image of a source, and its bytes. Refused as the source is.
+pub fn make(alloc: Global, source: &[u8], mode: Mode) -> Result<Made, Status>
+    ensures { MakeEnds result source.now mode }
+{
+    let image = compiled(alloc, source, mode)?;
+    match write(alloc, &image) {
+        Ok(bytes) => Ok(Made { image, bytes }),
+        Err(_) => Err(Status::NoMemory),
     }
 }
 
@@ -76,24 +123,4 @@ pub fn read_image(alloc: Global, bytes: &[u8]) -> Result<Image, Status>
         Err(ImageErr::Refused(code, offset)) => Err(Status::ImageRefused(code, offset)),
         Err(ImageErr::NoMemory) => Err(Status::NoMemory),
     }
-}
-
-/// The image of the source and the commands of the script. The first of them that is not accepted is refused.
-pub fn prepare(alloc: Global, source: &[u8], script: &[u8]) -> Result<Prepared, Status>
-    ensures prepared { IfOk result (IsPrepared source.now script.now) }
-    ensures ends { PrepareEnds result source.now script.now }
-{
-    let program = read_source(alloc, source)?;
-    let commands = read_script(alloc, script)?;
-    let Ok(image) = build(alloc, &program) else {
-        return Err(Status::NoMemory);
-    };
-    let Ok(bytes) = write(alloc, &image) else {
-        return Err(Status::NoMemory);
-    };
-    Ok(Prepared {
-        image,
-        bytes,
-        commands,
-    })
 }

@@ -7,12 +7,13 @@ ghost use Rattle.line_form.specs.declared.status.Status.TheVariants.{Done, Usage
 ghost use Rattle.debug_records.specs.declared.code.Code.{Code};
 ghost use Rattle.session.specs.Served.{AreNotServed, AreServed, SavesTo, ServedJob, task_job};
 ghost use Rattle.session.specs.Limits.{AreWithin, IsTooLong};
-ghost use Rattle.session.specs.Causes.{SourceIsRefused, ImageIsRefused, ScriptIsRefused, AreAccepted, HasLoaded, IsEarly, IsCut};
+ghost use Rattle.session.specs.Causes.{SourceIsRefused, ImageIsRefused, ScriptIsRefused, AreAccepted, HasLoaded, IsEarly, IsCut, IsLeftOut};
 ghost use Rattle.session.specs.Ending.{Ends};
 ghost use Rattle.session.specs.Outcome.{HasLeft, HasSaved, IsDone, TookPart};
 
 use crate::asking::{Task, asked};
 use crate::attaching::attach;
+use crate::compiling::compile;
 use crate::debugging::debug;
 use line_form::Status;
 use outside::{Shelf, Sink};
@@ -24,20 +25,21 @@ fn serve<S: Shelf, K: Sink>(alloc: Global, job: &Task, shelf: &mut S, sink: &mut
 {
     match job {
         Task::Debug(job) => debug(alloc, job, shelf, sink),
+        Task::Compile(job) => compile(alloc, job, shelf),
         Task::Attach(job) => attach(alloc, job, shelf, sink),
     }
 }
 
 /// One session: the words are the program's own name and then those of a job, which so far is
-/// `debug --passes none --homes slots [--limit N] SRC SCRIPT INPUT IMAGE` or `attach [--limit N] IMAGE SCRIPT INPUT`, its options and
-/// names in any order.
+/// `debug --passes none [--homes MODE] [--limit N] SRC SCRIPT INPUT IMAGE`, `compile --passes none [--homes MODE] SRC IMAGE` or
+/// `attach [--limit N] IMAGE SCRIPT INPUT`, its options and names in any order.
 ///
 /// `debug` loads the source, the script and the input from the shelf, in this order, compiles the source, saves the image, and puts
-/// the transcript of the script on the sink, each line in one piece. `attach` loads the image, the script and the input, and puts
-/// the transcript. The first fault ends it: `Usage` where the words are no job that the program serves, `ReadFault` where a load
+/// the transcript of the script on the sink, each line in one piece. `compile` loads the source, compiles it and saves the image.
+/// `attach` loads the image, the script and the input, and puts the transcript. The first fault ends it: `Usage` where the words are no job that the program serves, `ReadFault` where a load
 /// failed, `TooLong` where the image has more than 67,108,864 bytes, the script more than 1,048,576 or the input more than
 /// 16,777,216, `ImageRefused` where the bytes of the image spell none, `SourceRefused` where the source breaks a rule of C, or breaks
-/// none and is no straight-line `main`, `ScriptRefused` where the script is none, `WriteFault` where the save or a line failed, and
+/// none and is not compiled so far, `ScriptRefused` where the script is none, `WriteFault` where the save or a line failed, and
 /// `NoMemory` where memory was wanting.
 pub fn session<S: Shelf, K: Sink>(
     alloc: Global,
@@ -59,16 +61,16 @@ pub fn session<S: Shelf, K: Sink>(
     ensures write { result ≡ WriteFault → RoseOrStands (S.save_count shelf.old) (S.save_count shelf.new) ⊎ RoseOrStands (K.fault_count sink.old) (K.fault_count sink.new) }
     ensures write_only { result ≢ WriteFault → (S.save_count shelf.new ≡ S.save_count shelf.old) × (K.fault_count sink.new ≡ K.fault_count sink.old) }
     ensures complete { (asked : ServedJob) → AreServed (map string_bytes words.now) asked → S.tells shelf.old ≡ true → AreWithin (S.held shelf.old) asked → AreAccepted (S.held shelf.old) asked
-        → ¬ RoseOrStands (S.load_count shelf.old) (S.load_count shelf.new) → ¬ RoseOrStands (S.save_count shelf.old) (S.save_count shelf.new) → ¬ RoseOrStands (K.fault_count sink.old) (K.fault_count sink.new) → (result ≡ Done) ⊎ (result ≡ NoMemory) }
+        → ¬ RoseOrStands (S.load_count shelf.old) (S.load_count shelf.new) → ¬ RoseOrStands (S.save_count shelf.old) (S.save_count shelf.new) → ¬ RoseOrStands (K.fault_count sink.old) (K.fault_count sink.new) → (result ≡ Done) ⊎ ((result ≡ NoMemory) ⊎ IsLeftOut (S.held shelf.old) asked result) }
 
-    // What stays: before anything was saved or put out nothing changes, and only the image's name of a `debug` ever does.
+    // What stays: before anything was saved or put out nothing changes, and only the image's name of a `debug` or a `compile` ever does.
     ensures kept { IsEarly result → S.tells shelf.old ≡ true → (n : List ℕ) → S.held shelf.new n ≡ S.held shelf.old n }
     ensures nothing { IsEarly result → K.tells sink.old ≡ true → K.taken sink.new ≡ K.taken sink.old }
     ensures others { (asked : ServedJob) → AreServed (map string_bytes words.now) asked → S.tells shelf.old ≡ true → (n : List ℕ) → ¬ SavesTo asked n → S.held shelf.new n ≡ S.held shelf.old n }
     ensures unasked { AreNotServed (map string_bytes words.now) → S.tells shelf.old ≡ true → (n : List ℕ) → S.held shelf.new n ≡ S.held shelf.old n }
     ensures silent { AreNotServed (map string_bytes words.now) → K.tells sink.old ≡ true → K.taken sink.new ≡ K.taken sink.old }
 
-    // Under the name of the image a `debug` that is done, or that failed at a line and not at the save, leaves an image that is
+    // Under the name of the image a `debug` or a `compile` that is done, or that failed at a line and not at the save, leaves an image that is
     // truthful to the source, and one that is cut off the first part of such an image, or what stood there.
     ensures saved { (asked : ServedJob) → AreServed (map string_bytes words.now) asked → result ≡ Done → S.tells shelf.old ≡ true → HasSaved (S.held shelf.old) (S.held shelf.new) asked }
     ensures whole { (asked : ServedJob) → AreServed (map string_bytes words.now) asked → result ≡ WriteFault → ¬ RoseOrStands (S.save_count shelf.old) (S.save_count shelf.new) → S.tells shelf.old ≡ true → HasSaved (S.held shelf.old) (S.held shelf.new) asked }

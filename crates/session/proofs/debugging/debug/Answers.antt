@@ -4,11 +4,13 @@ use Rattle.outside.specs.Held.{Loads}
 use Rattle.outside.specs.Taken.{TakesPart}
 use Rattle.script_form.specs.Script.{orders}
 use Rattle.stop_engine.specs.Transcript.{transcript_bytes}
-use Rattle.session.specs.declared.preparing.Prepared.{Prepared}
-use Rattle.command_line.specs.Job.{debug_given}
-use Rattle.session.specs.Served.{ForDebug}
+use Rattle.command_line.specs.Job.{DebugGiven, debug_given}
+use Rattle.session.specs.Served.{ForDebug, Saving}
 use Rattle.session.proofs.Sessions.{source_refused, script_refused, both_accepted, debugged, image_made, nothing_left, part_left, whole_left, whole_saved, played_same}
 use Rattle.session.proofs.debugging.debug.Goals as goal
+
+abbrev saving : DebugGiven → Saving
+saving given = record { source = given.source; mode = given.mode; image = given.image }
 
 pub returns-in-Err : goal.returns-in-Err
 returns-in-Err g c = record {
@@ -22,8 +24,8 @@ returns-in-Err g c = record {
   transcript = search rules;
 }
 
-pub returns-in-Err-prepare : goal.returns-in-Err-prepare
-returns-in-Err-prepare g c = record {
+pub returns-in-Err-make : goal.returns-in-Err-make
+returns-in-Err-make g c = record {
   caused = record {
     usage = search rules;
     read = search rules;
@@ -32,10 +34,34 @@ returns-in-Err-prepare g c = record {
     within = search rules;
     image = search rules;
     source = λ code at e told.
-        source_refused Prepared c.in-Err-prepare.status code at c.deref.result.now c.deref-2.result.now (g.S.Shelf.held c.args.shelf.now) (debug_given c.args.job.now) e c.in-Err-prepare.ensures.ends
+        source_refused c.in-Err-make.status code at c.deref.result.now (debug_given c.args.job.now).mode (g.S.Shelf.held c.args.shelf.now (debug_given c.args.job.now).source) e c.in-Err-make.ensures
         (subst (Loads (g.S.Shelf.held c.args.shelf.now (debug_given c.args.job.now).source) 1048576) (sym c.deref.ensures.value) (c.in-Ok.ensures.source told));
+    script = search rules;
+    accepted = search rules;
+    write = search rules;
+    write_only = search rules;
+  };
+  stays = search rules;
+  image = record {
+    saved = search rules;
+    whole = search rules;
+    left = λ cut told. nothing_left (g.S.Shelf.held c.args.shelf.now) (g.S.Shelf.held c.load_texts.new.shelf) (ForDebug (debug_given c.args.job.now)) (λ n. c.load_texts.ensures.same n told);
+  };
+  transcript = search rules;
+}
+
+pub returns-in-Err-read_script : goal.returns-in-Err-read_script
+returns-in-Err-read_script g c = record {
+  caused = record {
+    usage = search rules;
+    read = search rules;
+    read_only = search rules;
+    too_long = search rules;
+    within = search rules;
+    image = search rules;
+    source = search rules;
     script = λ code at e told.
-        script_refused Prepared c.in-Err-prepare.status code at c.deref.result.now c.deref-2.result.now (g.S.Shelf.held c.args.shelf.now) (debug_given c.args.job.now) e c.in-Err-prepare.ensures.ends
+        script_refused c.in-Err-read_script.status code at c.deref.result.now c.deref-2.result.now c.in-Ok-make.made (g.S.Shelf.held c.args.shelf.now) (debug_given c.args.job.now) e c.in-Ok-make.ensures c.in-Err-read_script.ensures
         (subst (Loads (g.S.Shelf.held c.args.shelf.now (debug_given c.args.job.now).source) 1048576) (sym c.deref.ensures.value) (c.in-Ok.ensures.source told))
         (c.in-Ok.ensures.script told ∙ ap Some (sym c.deref-2.ensures.value));
     accepted = search rules;
@@ -63,7 +89,7 @@ returns-in-Err-save_image g c = record {
     source = search rules;
     script = search rules;
     accepted = λ e told.
-        both_accepted c.deref.result.now c.deref-2.result.now c.in-Ok-prepare.prepared (g.S.Shelf.held c.args.shelf.now) (debug_given c.args.job.now) c.in-Ok-prepare.ensures.prepared
+        both_accepted c.deref.result.now c.deref-2.result.now c.in-Ok-make.made c.in-Ok-read_script.commands (g.S.Shelf.held c.args.shelf.now) (debug_given c.args.job.now) c.in-Ok-make.ensures c.in-Ok-read_script.ensures
         (subst (Loads (g.S.Shelf.held c.args.shelf.now (debug_given c.args.job.now).source) 1048576) (sym c.deref.ensures.value) (c.in-Ok.ensures.source told))
         (c.in-Ok.ensures.script told ∙ ap Some (sym c.deref-2.ensures.value));
     write = search rules;
@@ -75,10 +101,10 @@ returns-in-Err-save_image g c = record {
     whole = search rules;
     left = λ cut told.
         let image : c.as_str.result.now ≡ (debug_given c.args.job.now).image = search rules in
-        let made = image_made (g.S.Shelf.held c.args.shelf.now) (debug_given c.args.job.now) c.deref.result.now c.deref-2.result.now c.deref-3.result.now c.in-Ok-prepare.prepared
+        let made = image_made (g.S.Shelf.held c.args.shelf.now) (saving (debug_given c.args.job.now)) c.deref.result.now c.deref-3.result.now c.in-Ok-make.made
         (subst (Loads (g.S.Shelf.held c.args.shelf.now (debug_given c.args.job.now).source) 1048576) (sym c.deref.ensures.value) (c.in-Ok.ensures.source told))
-        c.in-Ok-prepare.ensures.prepared c.deref-3.ensures.value in
-        part_left (g.S.Shelf.held c.args.shelf.now) (g.S.Shelf.held c.load_texts.new.shelf) (g.S.Shelf.held c.save_image.new.shelf) (debug_given c.args.job.now) c.as_str.result.now c.deref-3.result.now
+        c.in-Ok-make.ensures c.deref-3.ensures.value in
+        part_left (g.S.Shelf.held c.args.shelf.now) (g.S.Shelf.held c.load_texts.new.shelf) (g.S.Shelf.held c.save_image.new.shelf) (saving (debug_given c.args.job.now)) c.as_str.result.now c.deref-3.result.now
         made (c.load_texts.ensures.same c.as_str.result.now told) image (c.in-Err-save_image.ensures.part (c.in-Ok.ensures.telling ∙ told));
   };
   transcript = search rules;
@@ -96,7 +122,7 @@ returns-in-Ok-play g c = record {
     source = search rules;
     script = search rules;
     accepted = λ e told.
-        both_accepted c.deref.result.now c.deref-2.result.now c.in-Ok-prepare.prepared (g.S.Shelf.held c.args.shelf.now) (debug_given c.args.job.now) c.in-Ok-prepare.ensures.prepared
+        both_accepted c.deref.result.now c.deref-2.result.now c.in-Ok-make.made c.in-Ok-read_script.commands (g.S.Shelf.held c.args.shelf.now) (debug_given c.args.job.now) c.in-Ok-make.ensures c.in-Ok-read_script.ensures
         (subst (Loads (g.S.Shelf.held c.args.shelf.now (debug_given c.args.job.now).source) 1048576) (sym c.deref.ensures.value) (c.in-Ok.ensures.source told))
         (c.in-Ok.ensures.script told ∙ ap Some (sym c.deref-2.ensures.value));
     write = search rules;
@@ -106,10 +132,10 @@ returns-in-Ok-play g c = record {
   image = record {
     saved = λ e told.
         let image : c.as_str.result.now ≡ (debug_given c.args.job.now).image = search rules in
-        let made = image_made (g.S.Shelf.held c.args.shelf.now) (debug_given c.args.job.now) c.deref.result.now c.deref-2.result.now c.deref-3.result.now c.in-Ok-prepare.prepared
+        let made = image_made (g.S.Shelf.held c.args.shelf.now) (saving (debug_given c.args.job.now)) c.deref.result.now c.deref-3.result.now c.in-Ok-make.made
         (subst (Loads (g.S.Shelf.held c.args.shelf.now (debug_given c.args.job.now).source) 1048576) (sym c.deref.ensures.value) (c.in-Ok.ensures.source told))
-        c.in-Ok-prepare.ensures.prepared c.deref-3.ensures.value in
-        whole_saved (g.S.Shelf.held c.args.shelf.now) (g.S.Shelf.held c.save_image.new.shelf) (debug_given c.args.job.now) c.as_str.result.now c.deref-3.result.now made image (c.in-Ok-save_image.ensures.saved (c.in-Ok.ensures.telling ∙ told));
+        c.in-Ok-make.ensures c.deref-3.ensures.value in
+        whole_saved (g.S.Shelf.held c.args.shelf.now) (g.S.Shelf.held c.save_image.new.shelf) (saving (debug_given c.args.job.now)) c.as_str.result.now c.deref-3.result.now made image (c.in-Ok-save_image.ensures.saved (c.in-Ok.ensures.telling ∙ told));
     whole = search rules;
     left = search rules;
   };
@@ -118,14 +144,14 @@ returns-in-Ok-play g c = record {
     done = λ e told told_sink.
         let image : c.as_str.result.now ≡ (debug_given c.args.job.now).image = search rules in
         let limit : c.from-limit.result ≡ (debug_given c.args.job.now).limit = search rules in
-        let prints = debugged (g.S.Shelf.held c.args.shelf.now) (g.S.Shelf.held c.save_image.new.shelf) (debug_given c.args.job.now) c.deref.result.now c.deref-2.result.now c.in-Ok.texts.input.items c.in-Ok-prepare.prepared
+        let prints = debugged (g.S.Shelf.held c.args.shelf.now) (g.S.Shelf.held c.save_image.new.shelf) (debug_given c.args.job.now) c.deref.result.now c.deref-2.result.now c.in-Ok.texts.input.items c.in-Ok-make.made c.in-Ok-read_script.commands
         (subst (Loads (g.S.Shelf.held c.args.shelf.now (debug_given c.args.job.now).source) 1048576) (sym c.deref.ensures.value) (c.in-Ok.ensures.source told))
         (c.in-Ok.ensures.script told ∙ ap Some (sym c.deref-2.ensures.value))
-        (c.in-Ok.ensures.input told) c.in-Ok-prepare.ensures.prepared
+        (c.in-Ok.ensures.input told) c.in-Ok-make.ensures c.in-Ok-read_script.ensures
         (ap (g.S.Shelf.held c.save_image.new.shelf) (sym image) ∙ c.in-Ok-save_image.ensures.saved (c.in-Ok.ensures.telling ∙ told) ∙ ap Some c.deref-3.ensures.value) in
-        let same = played_same (form c.in-Ok-prepare.prepared.image) c.deref-4.result.now c.in-Ok-prepare.prepared.commands.items c.in-Ok.texts.input.items c.deref-5.result.now c.from-limit.result (debug_given c.args.job.now).limit c.deref-4.ensures.value c.deref-5.ensures.value limit in
+        let same = played_same (form c.in-Ok-make.made.image) c.deref-4.result.now c.in-Ok-read_script.commands.items c.in-Ok.texts.input.items c.deref-5.result.now c.from-limit.result (debug_given c.args.job.now).limit c.deref-4.ensures.value c.deref-5.ensures.value limit in
         record {
-          printed = transcript_bytes (form c.in-Ok-prepare.prepared.image) (orders c.in-Ok-prepare.prepared.commands.items) c.in-Ok.texts.input.items (debug_given c.args.job.now).limit;
+          printed = transcript_bytes (form c.in-Ok-make.made.image) (orders c.in-Ok-read_script.commands.items) c.in-Ok.texts.input.items (debug_given c.args.job.now).limit;
           prints = prints;
           whole = c.in-Ok-play.ensures.whole told_sink ∙ ap (λ p. g.K.Sink.taken c.args.sink.now ++ p) same;
         };
@@ -144,7 +170,7 @@ returns g c = record {
     source = search rules;
     script = search rules;
     accepted = λ e told.
-        both_accepted c.deref.result.now c.deref-2.result.now c.in-Ok-prepare.prepared (g.S.Shelf.held c.args.shelf.now) (debug_given c.args.job.now) c.in-Ok-prepare.ensures.prepared
+        both_accepted c.deref.result.now c.deref-2.result.now c.in-Ok-make.made c.in-Ok-read_script.commands (g.S.Shelf.held c.args.shelf.now) (debug_given c.args.job.now) c.in-Ok-make.ensures c.in-Ok-read_script.ensures
         (subst (Loads (g.S.Shelf.held c.args.shelf.now (debug_given c.args.job.now).source) 1048576) (sym c.deref.ensures.value) (c.in-Ok.ensures.source told))
         (c.in-Ok.ensures.script told ∙ ap Some (sym c.deref-2.ensures.value));
     write = search rules;
@@ -155,29 +181,29 @@ returns g c = record {
     saved = search rules;
     whole = λ e saves told.
         let image : c.as_str.result.now ≡ (debug_given c.args.job.now).image = search rules in
-        let made = image_made (g.S.Shelf.held c.args.shelf.now) (debug_given c.args.job.now) c.deref.result.now c.deref-2.result.now c.deref-3.result.now c.in-Ok-prepare.prepared
+        let made = image_made (g.S.Shelf.held c.args.shelf.now) (saving (debug_given c.args.job.now)) c.deref.result.now c.deref-3.result.now c.in-Ok-make.made
         (subst (Loads (g.S.Shelf.held c.args.shelf.now (debug_given c.args.job.now).source) 1048576) (sym c.deref.ensures.value) (c.in-Ok.ensures.source told))
-        c.in-Ok-prepare.ensures.prepared c.deref-3.ensures.value in
-        whole_saved (g.S.Shelf.held c.args.shelf.now) (g.S.Shelf.held c.save_image.new.shelf) (debug_given c.args.job.now) c.as_str.result.now c.deref-3.result.now made image (c.in-Ok-save_image.ensures.saved (c.in-Ok.ensures.telling ∙ told));
+        c.in-Ok-make.ensures c.deref-3.ensures.value in
+        whole_saved (g.S.Shelf.held c.args.shelf.now) (g.S.Shelf.held c.save_image.new.shelf) (saving (debug_given c.args.job.now)) c.as_str.result.now c.deref-3.result.now made image (c.in-Ok-save_image.ensures.saved (c.in-Ok.ensures.telling ∙ told));
     left = λ cut told.
         let image : c.as_str.result.now ≡ (debug_given c.args.job.now).image = search rules in
-        let made = image_made (g.S.Shelf.held c.args.shelf.now) (debug_given c.args.job.now) c.deref.result.now c.deref-2.result.now c.deref-3.result.now c.in-Ok-prepare.prepared
+        let made = image_made (g.S.Shelf.held c.args.shelf.now) (saving (debug_given c.args.job.now)) c.deref.result.now c.deref-3.result.now c.in-Ok-make.made
         (subst (Loads (g.S.Shelf.held c.args.shelf.now (debug_given c.args.job.now).source) 1048576) (sym c.deref.ensures.value) (c.in-Ok.ensures.source told))
-        c.in-Ok-prepare.ensures.prepared c.deref-3.ensures.value in
-        whole_left (g.S.Shelf.held c.args.shelf.now) (g.S.Shelf.held c.save_image.new.shelf) (debug_given c.args.job.now) c.as_str.result.now c.deref-3.result.now made image (c.in-Ok-save_image.ensures.saved (c.in-Ok.ensures.telling ∙ told));
+        c.in-Ok-make.ensures c.deref-3.ensures.value in
+        whole_left (g.S.Shelf.held c.args.shelf.now) (g.S.Shelf.held c.save_image.new.shelf) (saving (debug_given c.args.job.now)) c.as_str.result.now c.deref-3.result.now made image (c.in-Ok-save_image.ensures.saved (c.in-Ok.ensures.telling ∙ told));
   };
   transcript = record {
     part = λ cut told told_sink.
         let image : c.as_str.result.now ≡ (debug_given c.args.job.now).image = search rules in
         let limit : c.from-limit.result ≡ (debug_given c.args.job.now).limit = search rules in
-        let prints = debugged (g.S.Shelf.held c.args.shelf.now) (g.S.Shelf.held c.save_image.new.shelf) (debug_given c.args.job.now) c.deref.result.now c.deref-2.result.now c.in-Ok.texts.input.items c.in-Ok-prepare.prepared
+        let prints = debugged (g.S.Shelf.held c.args.shelf.now) (g.S.Shelf.held c.save_image.new.shelf) (debug_given c.args.job.now) c.deref.result.now c.deref-2.result.now c.in-Ok.texts.input.items c.in-Ok-make.made c.in-Ok-read_script.commands
         (subst (Loads (g.S.Shelf.held c.args.shelf.now (debug_given c.args.job.now).source) 1048576) (sym c.deref.ensures.value) (c.in-Ok.ensures.source told))
         (c.in-Ok.ensures.script told ∙ ap Some (sym c.deref-2.ensures.value))
-        (c.in-Ok.ensures.input told) c.in-Ok-prepare.ensures.prepared
+        (c.in-Ok.ensures.input told) c.in-Ok-make.ensures c.in-Ok-read_script.ensures
         (ap (g.S.Shelf.held c.save_image.new.shelf) (sym image) ∙ c.in-Ok-save_image.ensures.saved (c.in-Ok.ensures.telling ∙ told) ∙ ap Some c.deref-3.ensures.value) in
-        let same = played_same (form c.in-Ok-prepare.prepared.image) c.deref-4.result.now c.in-Ok-prepare.prepared.commands.items c.in-Ok.texts.input.items c.deref-5.result.now c.from-limit.result (debug_given c.args.job.now).limit c.deref-4.ensures.value c.deref-5.ensures.value limit in
+        let same = played_same (form c.in-Ok-make.made.image) c.deref-4.result.now c.in-Ok-read_script.commands.items c.in-Ok.texts.input.items c.deref-5.result.now c.from-limit.result (debug_given c.args.job.now).limit c.deref-4.ensures.value c.deref-5.ensures.value limit in
         inr (record {
-          printed = transcript_bytes (form c.in-Ok-prepare.prepared.image) (orders c.in-Ok-prepare.prepared.commands.items) c.in-Ok.texts.input.items (debug_given c.args.job.now).limit;
+          printed = transcript_bytes (form c.in-Ok-make.made.image) (orders c.in-Ok-read_script.commands.items) c.in-Ok.texts.input.items (debug_given c.args.job.now).limit;
           prints = prints;
           part = subst (λ p. TakesPart p (g.K.Sink.taken c.args.sink.now) (g.K.Sink.taken c.play.new.sink)) same (c.in-Err-play.ensures.part told_sink);
         });

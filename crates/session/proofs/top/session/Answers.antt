@@ -1,7 +1,8 @@
-use Rattle.std.proofs.Common.{refl, sym, subst, map, string_bytes}
+use Rattle.std.proofs.Common.{◌≡◌, ◌⊎◌, refl, sym, subst, map, string_bytes}
+use Rattle.line_form.specs.declared.status.Status.TheVariants.{Done, NoMemory}
 use Rattle.session.specs.Served.{SavesTo, ServedJob, task_job}
 use Rattle.session.specs.Limits.{AreWithin, IsTooLong}
-use Rattle.session.specs.Causes.{ImageIsRefused, SourceIsRefused, ScriptIsRefused, AreAccepted}
+use Rattle.session.specs.Causes.{ImageIsRefused, SourceIsRefused, ScriptIsRefused, AreAccepted, IsLeftOut}
 use Rattle.session.specs.Outcome.{HasLeft, HasSaved, IsDone, TookPart}
 use Rattle.session.proofs.AskedLemmas.{one_asked, refused_is_complete}
 use Rattle.session.proofs.Completeness.{complete}
@@ -69,11 +70,12 @@ returns-in-Ok-clause-done g c = λ asked served e told told_sink.
 pub returns-in-Ok-clause-complete : goal.returns-in-Ok-clause-complete
 returns-in-Ok-clause-complete g c = λ asked served told within accepted no_load no_save no_line.
     let same = one_asked (map string_bytes c.args.words.now) (task_job c.in-Ok.job) asked c.in-Ok.ensures served in
-    complete (task_job c.in-Ok.job) _ c.serve.result _
+    subst (λ (a : ServedJob). (c.serve.result ≡ Done) ⊎ ((c.serve.result ≡ NoMemory) ⊎ IsLeftOut (g.S.Shelf.held c.args.shelf.now) a c.serve.result)) same
+    (complete (task_job c.in-Ok.job) _ c.serve.result _
     c.serve.ensures.caused told
     (subst (λ (a : ServedJob). AreWithin (g.S.Shelf.held c.args.shelf.now) a) (sym same) within)
     (subst (λ (a : ServedJob). AreAccepted (g.S.Shelf.held c.args.shelf.now) a) (sym same) accepted)
-    no_load no_save no_line
+    no_load no_save no_line)
 
 pub returns-in-Err-clause-complete : goal.returns-in-Err-clause-complete
-returns-in-Err-clause-complete g c = λ asked served told within accepted no_load no_save no_line. refused_is_complete (map string_bytes c.args.words.now) c.in-Err.status asked c.in-Err.ensures served
+returns-in-Err-clause-complete g c = λ asked served told within accepted no_load no_save no_line. refused_is_complete _ (map string_bytes c.args.words.now) c.in-Err.status asked c.in-Err.ensures served

@@ -1,0 +1,24 @@
+//! The typed program of a text.
+
+ghost use Rattle.c_source.specs.Sources.{program_of_source};
+ghost use Rattle.c_tree.specs.Programs.{program_view};
+ghost use Rattle.debug_records.specs.Refusals.{Answers};
+
+use c_parse::parse;
+use c_token::tokens;
+use c_tree::Program;
+use c_type::check;
+use debug_records::SourceErr;
+use std::alloc::Global;
+
+/// The typed program of a source. Refused for the first rule of C that the source breaks: of tokens, else of the grammar, else of names
+/// and types (C11, clauses 6.2 to 6.9, as far as the language goes).
+#[tactic(auto, using(crate::proofs::Sources::tokens_refused, crate::proofs::Sources::tree_refused, crate::proofs::Sources::program_refused, crate::proofs::Sources::program_found))]
+pub fn program(alloc: Global, text: &[u8]) -> Result<Program, SourceErr>
+    ensures { Answers program_view result (program_of_source text.now) }
+{
+    let tokens = tokens(alloc, text)?;
+    let tree = parse(alloc, &tokens)?;
+    let program = check(alloc, tree)?;
+    Ok(program)
+}
