@@ -4,7 +4,6 @@ ghost use Rattle.std.specs.Prelude.{◌<◌};
 
 mod altered;
 mod attaching;
-mod compiling;
 mod images;
 mod orders;
 
