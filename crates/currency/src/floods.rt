@@ -1,7 +1,6 @@
 //! Where execution may go from a place on without an assignment of a variable.
 
-use crate::flags::{entry, flag, list, put_entry, put_flag};
-use crate::sharing::{no_lists, push_to};
+use graph_paths::{entry, flag, list, no_lists, push_to, put_entry, put_flag};
 use debug_records::Var;
 use places::{Assignment, FlowStep, FlowTable};
 use std::alloc::{AllocError, Global};

@@ -1,8 +1,7 @@
 //! The variables that are not shown.
 
-use crate::flags::list;
 use crate::floods::Flow;
-use crate::sharing::{Sharing, no_lists, push_to};
+use crate::sharing::Sharing;
 use crate::states::{State, States};
 use crate::verdict::{Verdict, Writer};
 use crate::vias::Hiding;
@@ -10,6 +9,7 @@ use crate::writers::Writers;
 use debug_records::{Change, Kind, Place, Var};
 use graph_core::{Graph, Scalar};
 use graph_homes::Home;
+use graph_paths::{list, no_lists, push_to};
 use places::PlaceTable;
 use std::alloc::{AllocError, Global};
 

@@ -1,11 +1,8 @@
 //! What can be told of each variable at each place: where its home holds its value, and else which change and which code hide it.
 #![tactic(auto)]
 
-mod bit_table;
-mod flags;
 mod floods;
 mod hidden;
-mod order;
 mod sharing;
 mod states;
 mod telling;

@@ -1,8 +1,8 @@
 //! Which scalars have the home of a name.
 
-use crate::flags::list;
 use graph_core::Graph;
 use graph_homes::Home;
+use graph_paths::{list, no_lists, push_to};
 use std::alloc::{AllocError, Global};
 
 /// How many registers there are; the homes behind them are slots.
@@ -29,23 +29,6 @@ fn home_number(homes: &[Home], name: u32) -> Option<u32> {
         Some(home) => Some(number_of(*home)),
         None => None,
     }
-}
-
-/// So many lists without entries.
-pub fn no_lists(alloc: Global, count: usize) -> Result<Vec<Vec<u32>>, AllocError> {
-    let mut lists = Vec::new(alloc);
-    for _ in 0..count {
-        lists.push(Vec::new(alloc))?;
-    }
-    Ok(lists)
-}
-
-/// Appends to the list of this number, if there is one.
-pub fn push_to(lists: &mut [Vec<u32>], number: u32, entry: u32) -> Result<(), AllocError> {
-    if let Some(found) = lists.get_mut(number as usize) {
-        found.push(entry)?;
-    }
-    Ok(())
 }
 
 impl<'a> Sharing<'a> {

@@ -1,10 +1,8 @@
 //! What is so of the scalars of a function on some path to a point.
 
-use crate::bit_table::BitTable;
-use crate::flags::{flag, put_flag};
-use crate::order::{reached_in_order, successor};
 use crate::sharing::Sharing;
 use graph_core::{Binding, Block, Graph, Instr, Name, NoteValue, Operand, Recipe};
+use graph_paths::{BitTable, flag, put_flag, reached_in_order, successor};
 use std::alloc::{AllocError, Global};
 
 /// For each scalar what is so of it.

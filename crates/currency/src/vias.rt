@@ -1,10 +1,10 @@
 //! The writes that hide a scalar, and the places that each hides it at.
 
-use crate::flags::entry;
 use crate::floods::Reach;
 use crate::sharing::Sharing;
 use crate::verdict::Writer;
 use crate::writers::Writers;
+use graph_paths::entry;
 use std::alloc::{AllocError, Global};
 
 /// A place with a write that hides a scalar. In order they come by the places that assign the scalar's variable, and then by themselves.

@@ -1,5 +1,7 @@
 //! Lists that answer for any number.
 
+use std::alloc::{AllocError, Global};
+
 /// The flag of this number; false where there is none.
 pub fn flag(flags: &[bool], number: u32) -> bool {
     match flags.get(number as usize) {
@@ -36,4 +38,21 @@ pub fn list(lists: &[Vec<u32>], number: u32) -> &[u32] {
         Some(found) => found.as_slice(),
         None => &[],
     }
+}
+
+/// So many lists without entries.
+pub fn no_lists(alloc: Global, count: usize) -> Result<Vec<Vec<u32>>, AllocError> {
+    let mut lists = Vec::new(alloc);
+    for _ in 0..count {
+        lists.push(Vec::new(alloc))?;
+    }
+    Ok(lists)
+}
+
+/// Appends to the list of this number, if there is one.
+pub fn push_to(lists: &mut [Vec<u32>], number: u32, entry: u32) -> Result<(), AllocError> {
+    if let Some(found) = lists.get_mut(number as usize) {
+        found.push(entry)?;
+    }
+    Ok(())
 }

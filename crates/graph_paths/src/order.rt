@@ -1,6 +1,6 @@
 //! The order in which the blocks of a graph are looked at.
 
-use crate::flags::{flag, put_flag};
+use crate::lists::{flag, put_flag};
 use graph_core::{Block, End};
 use std::alloc::{AllocError, Global};
 

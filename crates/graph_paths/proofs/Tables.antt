@@ -4,7 +4,7 @@ use Rattle.std.specs.Prelude.{slice_set, ◌&&◌, ◌||◌}
 use Rattle.std.proofs.lemmas.Bool.{cases_eq}
 use Rattle.std.proofs.lemmas.List.{length-set, get_or-set_same, get_or-set_other}
 use Rattle.bit_rows.specs.Grid.{row_at, with_bit, joined, met, met_bit, passed}
-use Rattle.currency.specs.Table.{AreWide}
+use Rattle.graph_paths.specs.Table.{AreWide}
 
 pub wide_set : (width : ℕ) (rows : List (List Bool)) (row : ℕ) (new : List Bool) → length new ≡ width → AreWide width rows → AreWide width (slice_set rows row new)
 wide_set width rows row new e wide k lt =

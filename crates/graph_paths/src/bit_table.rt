@@ -1,7 +1,7 @@
 //! Rows of bits of one width, that answer for any number.
 
 ghost use Rattle.std.specs.Prelude.{◌≡◌, length};
-ghost use Rattle.currency.specs.Table.{AreWide};
+ghost use Rattle.graph_paths.specs.Table.{AreWide};
 
 use bit_rows::Rows;
 use std::alloc::{AllocError, Global};

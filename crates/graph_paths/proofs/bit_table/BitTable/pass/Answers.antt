@@ -1,8 +1,8 @@
 use Rattle.std.proofs.Common.{◌≡◌, Bool, List, length, sym, ap, ◌∙◌, subst, arith}
 use Rattle.bit_rows.specs.Grid.{passed, row_at}
-use Rattle.currency.specs.Table.{AreWide}
-use Rattle.currency.proofs.Tables.{wide_passed, met_rows}
-use Rattle.currency.proofs.bit_table.BitTable.pass.Goals as goal
+use Rattle.graph_paths.specs.Table.{AreWide}
+use Rattle.graph_paths.proofs.Tables.{wide_passed, met_rows}
+use Rattle.graph_paths.proofs.bit_table.BitTable.pass.Goals as goal
 
 pub invariant_of-self : goal.invariant_of-self
 invariant_of-self c =

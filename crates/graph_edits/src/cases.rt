@@ -1,0 +1,40 @@
+//! Cases of changes.
+
+ghost use Rattle.std.specs.Prelude.{◌≡◌, ◌<◌, ◌≤◌, ◌+◌, ◌^◌, ◌++◌, List, IfOk, length};
+ghost use Rattle.debug_records.specs.declared.change.Change.{Change};
+ghost use Rattle.debug_records.specs.Change.{changes};
+
+use debug_records::{ChangeLog, Kind, PassName, Place, Var};
+use std::alloc::AllocError;
+
+/// A case in which a pass changes something. In order cases come by their places, and those of a place as they stand in the graph.
+#[derive(Clone, Copy, PartialEq, Eq, PartialOrd, Ord)]
+pub struct Case {
+    pub place: Place,
+    pub block: u32,
+    /// How many instructions stand before it in the block.
+    pub index: u32,
+    /// Which of the names that are read there it concerns, by number; 0 where it is no read.
+    pub operand: u32,
+    /// The variable that it concerns.
+    pub var: Var,
+}
+
+/// Appends a change for each case to the log, in order of the cases. False, with nothing appended, where there are 2^31 of them or more.
+pub fn log_cases(
+    log: &mut ChangeLog,
+    pass: PassName,
+    kind: Kind,
+    cases: &mut [Case],
+) -> Result<bool, AllocError>
+    requires room { length (changes log.old) < 2 ^ 31 }
+{
+    if cases.len() >= 0x8000_0000 {
+        return Ok(false);
+    }
+    cases.sort_unstable();
+    for case in &*cases {
+        log.push(pass, kind, case.place, case.var)?;
+    }
+    Ok(true)
+}
