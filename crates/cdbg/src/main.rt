@@ -6,6 +6,7 @@ mod tests;
 
 use line_form::{Status, fault_text};
 use outside::{FileShelf, StdoutSink};
+use program_passes::all_passes;
 use session::session;
 use std::process::ExitCode;
 use std::{env, io};
@@ -32,9 +33,12 @@ fn status_of(rt: &HostRuntime) -> Status {
     let Ok(output) = rt.clone() else {
         return Status::NoMemory;
     };
+    let Ok(passes) = all_passes(rt.alloc()) else {
+        return Status::NoMemory;
+    };
     let mut shelf = FileShelf::new(files);
     let mut sink = StdoutSink::new(output);
-    session(rt.alloc(), &words, &mut shelf, &mut sink)
+    session(rt.alloc(), &words, &passes, &mut shelf, &mut sink)
 }
 
 /// Says on standard error why the session was not done.

@@ -5,11 +5,14 @@ ghost use Rattle.std.specs.Prelude.{◌<◌};
 mod altered;
 mod attaching;
 mod images;
+mod optimised;
 mod orders;
+mod programs;
 
 use debug_records::Code;
 use line_form::{Status, fault_text};
 use outside::{MemShelf, MemSink};
+use program_passes::all_passes;
 use session::session;
 use std::alloc::{AllocError, Global};
 use std::process::Abort;
@@ -27,6 +30,15 @@ fn words(alloc: Global, texts: &[&str]) -> Result<Vec<String>, AllocError> {
     let mut words = Vec::new(alloc);
     for text in texts {
         words.push(String::from_str(alloc, text)?)?;
+    }
+    Ok(words)
+}
+
+/// The words that stand between spaces.
+fn split(alloc: Global, text: &str) -> Result<Vec<String>, AllocError> {
+    let mut words = Vec::new(alloc);
+    for word in text.split(' ') {
+        words.push(String::from_str(alloc, word)?)?;
     }
     Ok(words)
 }
@@ -64,7 +76,10 @@ fn shelf(
 
 /// A session in memory. What its contract says is left out here, so that a test owes no proof of what it looks at.
 fn run(alloc: Global, words: &[String], shelf: &mut MemShelf, sink: &mut MemSink) -> Status {
-    session(alloc, words, shelf, sink)
+    let Ok(passes) = all_passes(alloc) else {
+        return Status::NoMemory;
+    };
+    session(alloc, words, &passes, shelf, sink)
 }
 
 #[test]
@@ -199,10 +214,7 @@ fn the_image_has_the_size_of_its_parts(rt: HostRuntime) -> Result<(), Fail> {
 fn status_of_words(alloc: Global, text: &str) -> Result<Status, AllocError> {
     let mut shelf = MemShelf::new(alloc, [].as_slice())?;
     let mut sink = MemSink::new(alloc, [].as_slice())?;
-    let mut words = Vec::new(alloc);
-    for word in text.split(' ') {
-        words.push(String::from_str(alloc, word)?)?;
-    }
+    let words = split(alloc, text)?;
     Ok(run(alloc, &words, &mut shelf, &mut sink))
 }
 
@@ -219,12 +231,11 @@ fn other_words_are_no_job(rt: HostRuntime) -> Result<(), Fail> {
         "cdbg debug --passes none --homes slots --limit 1000000001 p.c s i image",
         "cdbg debug --passes none --homes slots --limit=-5 p.c s i image",
         "cdbg debug --passes none --homes slots --limit p.c s i image",
-        "cdbg debug --homes slots p.c s i image",
         "cdbg debug --passes copy,nosuch --homes slots p.c s i image",
-        "cdbg compile --homes slots p.c image",
         "cdbg compile --passes none --homes slots --limit 5 p.c image",
-        "cdbg passes --passes none p.c",
-        "cdbg sweep 7 1",
+        "cdbg passes --passes none --homes slots p.c",
+        "cdbg sweep 7 401",
+        "cdbg sweep 7 0",
     ];
     for text in texts {
         assert!(rt; status_of_words(rt.alloc(), text)? == Status::Usage);
@@ -234,8 +245,10 @@ fn other_words_are_no_job(rt: HostRuntime) -> Result<(), Fail> {
     assert!(rt; fault_text(rt.alloc(), &status)?.as_str() == "cdbg: usage");
     let served = "cdbg debug --passes=none p.c s --limit=0001000000000 i image --homes=slots";
     assert!(rt; status_of_words(rt.alloc(), served)? == Status::ReadFault);
-    let compiled = "cdbg compile p.c --passes=none image";
+    let compiled = "cdbg compile p.c image";
     assert!(rt; status_of_words(rt.alloc(), compiled)? == Status::ReadFault);
+    let listed = "cdbg passes p.c --passes=dead,dead";
+    assert!(rt; status_of_words(rt.alloc(), listed)? == Status::ReadFault);
     Ok(())
 }
 

@@ -1,14 +1,15 @@
-//! What can be told of each variable at each place: where its home holds its value, and else which change and which code hide it.
+//! What can be told of each variable at each place: where its home holds its value, by which recipe it is computed anew, and else which change and which code hide it.
 #![tactic(auto)]
 
-mod floods;
-mod hidden;
-mod sharing;
-mod states;
+mod causes;
+mod changes;
+mod copies;
+mod marks;
+mod rows;
+mod search;
 mod telling;
 mod verdict;
-mod vias;
 mod writers;
 
-pub use telling::verdicts;
+pub use rows::verdicts;
 pub use verdict::{PlaceVerdict, Verdict, Writer};

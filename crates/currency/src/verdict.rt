@@ -1,6 +1,7 @@
 //! Verdicts of variables at places.
 
 use debug_records::{Place, Var};
+use graph_core::Recipe;
 
 /// What writes the home of a name.
 #[derive(Clone, Copy, PartialEq, Eq)]
@@ -18,11 +19,24 @@ pub enum Writer {
     },
 }
 
-/// What can be told of a variable at a place.
-#[derive(Clone, Copy, PartialEq, Eq)]
+/// What can be told of a variable at a place (Hennessy 1982: current, recovered, noncurrent; Adl-Tabatabai and Gross 1996: nonresident).
+#[derive(Drop)]
 pub enum Verdict {
     /// Its home, or its memory, holds its value. At a place that no path reaches this is said too, since nothing stops there.
     Home,
+    /// Its value is that of a recipe over the names of its function, since an assignment was removed: by this change, the least of those that removed one whose
+    /// note reaches the place.
+    Recovered {
+        recipe: Recipe,
+        change: u32,
+    },
+    /// Its home may not hold its value: the change that removed an assignment or moved its computation, by its number; a place that assigns the variable; and what
+    /// writes the home for the moved computation, on a way from there on which nothing else assigns the variable, or nothing where the assignment was removed.
+    Noncurrent {
+        change: u32,
+        start: Place,
+        writer: Option<Writer>,
+    },
     /// Its home may hold another name's value: the change by which its register was given to other names too, by its number; a place that assigns the
     /// variable; and what writes the register on a way from there on which nothing else assigns the variable.
     Nonresident {
@@ -33,7 +47,7 @@ pub enum Verdict {
 }
 
 /// The verdict on a variable that is visible at a place.
-#[derive(Clone, Copy, PartialEq, Eq)]
+#[derive(Drop)]
 pub struct PlaceVerdict {
     pub place: Place,
     pub var: Var,

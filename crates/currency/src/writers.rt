@@ -1,42 +1,86 @@
-//! What writes the homes of names, by the places where it stands.
+//! What writes the homes of names, by these homes.
 
-use crate::sharing::Sharing;
 use crate::verdict::Writer;
 use debug_records::Place;
 use graph_core::{Binding, Block, Graph};
+use graph_homes::Home;
+use note_flow::{have_one_home, home_count, home_number};
 use std::alloc::{AllocError, Global};
 
 /// A name is written.
 #[derive(Clone, Copy)]
-struct Written {
-    name: u32,
-    writer: Writer,
+pub struct Written {
+    pub name: u32,
+    pub writer: Writer,
 }
 
-/// For each place what writes names in it, the first first: the bindings of parameters, then instructions by block and index.
+/// The place where a name is written, and the number of what writes it. In order they come by places, and in one place the bindings of parameters first,
+/// and then instructions by block and index.
+#[derive(Clone, Copy, PartialEq, Eq, PartialOrd, Ord)]
+pub struct Write {
+    pub place: u32,
+    pub number: u32,
+}
+
+/// What writes the names of a function, and for each home what writes it, in order.
 #[derive(Drop)]
-pub struct Writers {
-    by_place: Vec<Vec<Written>>,
+pub struct Writers<'a> {
+    homes: &'a [Home],
+    /// The bindings of parameters, and then instructions by block and index.
+    all: Vec<Written>,
+    count: u32,
+    by_home: Vec<Vec<Write>>,
+    /// For each name the same.
+    by_name: Vec<Vec<Write>>,
 }
 
-/// So many places without writers.
-fn no_writers(alloc: Global, count: usize) -> Result<Vec<Vec<Written>>, AllocError> {
-    let mut by_place = Vec::new(alloc);
+/// So many lists without entries.
+fn no_writes(alloc: Global, count: usize) -> Result<Vec<Vec<Write>>, AllocError> {
+    let mut lists = Vec::new(alloc);
     for _ in 0..count {
-        by_place.push(Vec::new(alloc))?;
+        lists.push(Vec::new(alloc))?;
     }
-    Ok(by_place)
+    Ok(lists)
 }
 
-impl Writers {
+/// Appends to the list of this number, if there is one.
+fn push_write(lists: &mut [Vec<Write>], number: u32, write: Write) -> Result<(), AllocError> {
+    if let Some(found) = lists.get_mut(number as usize) {
+        found.push(write)?;
+    }
+    Ok(())
+}
+
+/// The list of this number; no entries where there is none.
+fn writes(lists: &[Vec<Write>], number: u32) -> &[Write] {
+    match lists.get(number as usize) {
+        Some(found) => found.as_slice(),
+        None => &[],
+    }
+}
+
+/// Sorts each list.
+fn sort_all(lists: &mut [Vec<Write>]) {
+    for list in lists.iter_mut() {
+        list.sort_unstable();
+    }
+}
+
+impl<'a> Writers<'a> {
     /// A name is written in a place.
     fn add(&mut self, place: Option<Place>, name: u32, writer: Writer) -> Result<(), AllocError> {
-        if let Some(place) = place {
-            if let Some(found) = self.by_place.get_mut(place.0 as usize) {
-                found.push(Written { name, writer })?;
-            }
-        }
-        Ok(())
+        let (Some(place), Some(home)) = (place, home_number(self.homes, name)) else {
+            return Ok(());
+        };
+        let number = self.count;
+        self.all.push(Written { name, writer })?;
+        self.count = number.saturating_add(1);
+        let write = Write {
+            place: place.0,
+            number,
+        };
+        push_write(&mut self.by_home, home, write)?;
+        push_write(&mut self.by_name, name, write)
     }
 
     /// The bindings of a function's parameters.
@@ -76,15 +120,19 @@ impl Writers {
         Ok(())
     }
 
-    /// What writes the names of a function, by places below a number.
+    /// What writes the homes of a function's names.
     pub fn new(
         alloc: Global,
         function: u32,
         graph: &Graph,
-        places: usize,
-    ) -> Result<Writers, AllocError> {
+        homes: &'a [Home],
+    ) -> Result<Writers<'a>, AllocError> {
         let mut writers = Writers {
-            by_place: no_writers(alloc, places)?,
+            homes,
+            all: Vec::new(alloc),
+            count: 0,
+            by_home: no_writes(alloc, home_count(homes))?,
+            by_name: no_writes(alloc, homes.len())?,
         };
         writers.add_bindings(function, graph)?;
         let mut number = 0u32;
@@ -92,17 +140,30 @@ impl Writers {
             writers.add_block(function, number, block)?;
             number = number.saturating_add(1);
         }
+        sort_all(&mut writers.by_home);
+        sort_all(&mut writers.by_name);
         Ok(writers)
     }
 
-    /// What first writes the home of a scalar for another name in a place.
-    pub fn first_foreign(&self, sharing: &Sharing<'_>, scalar: u32, place: u32) -> Option<Writer> {
-        let found = self.by_place.get(place as usize)?;
-        for written in found {
-            if written.name != scalar && sharing.have_one_home(written.name, scalar) {
-                return Some(written.writer);
-            }
+    /// What writes the home of a name, in order.
+    pub fn of_home(&self, name: u32) -> &[Write] {
+        match home_number(self.homes, name) {
+            Some(home) => writes(&self.by_home, home),
+            None => &[],
         }
-        None
+    }
+
+    /// What writes the home of a scalar for another name, in order: nothing where the name has another home.
+    pub fn of_name_in_home(&self, name: u32, scalar: u32) -> &[Write] {
+        if have_one_home(self.homes, name, scalar) {
+            writes(&self.by_name, name)
+        } else {
+            &[]
+        }
+    }
+
+    /// What writes a name, by its number.
+    pub fn get(&self, number: u32) -> Option<Written> {
+        self.all.get(number as usize).copied()
     }
 }

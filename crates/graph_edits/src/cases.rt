@@ -1,8 +1,8 @@
 //! Cases of changes.
 
-ghost use Rattle.std.specs.Prelude.{◌≡◌, ◌<◌, ◌≤◌, ◌+◌, ◌^◌, ◌++◌, List, IfOk, length};
-ghost use Rattle.debug_records.specs.declared.change.Change.{Change};
+ghost use Rattle.std.specs.Prelude.{◌≡◌, ◌<◌, ◌^◌, ◌++◌, IfOk, false, length, true};
 ghost use Rattle.debug_records.specs.Change.{changes};
+ghost use Rattle.graph_edits.specs.Cases.{logged};
 
 use debug_records::{ChangeLog, Kind, PassName, Place, Var};
 use std::alloc::AllocError;
@@ -28,6 +28,8 @@ pub fn log_cases(
     cases: &mut [Case],
 ) -> Result<bool, AllocError>
     requires room { length (changes log.old) < 2 ^ 31 }
+    ensures logged { IfOk result (λ was. was ≡ true → changes log.new ≡ changes log.old ++ logged pass kind (length (changes log.old)) cases.new) }
+    ensures kept { IfOk result (λ was. was ≡ false → changes log.new ≡ changes log.old) }
 {
     if cases.len() >= 0x8000_0000 {
         return Ok(false);

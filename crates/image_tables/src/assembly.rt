@@ -1,10 +1,13 @@
 //! The image, part by part.
 
+ghost use Rattle.std.specs.Prelude.{◌≡◌, IfOk, map};
+ghost use Rattle.image_tables.specs.Tables.{assigned_pair, flow_pair, sight, sight_of_verdict, spot, spot_of_row};
+
 use crate::functions::functions_of;
 use crate::names::names_of;
 use crate::pairs::{assigned_of, changes_of, flow_of};
 use crate::places_table::places_of;
-use crate::rows::rows_of;
+use crate::rows::{Telling, rows_of};
 use crate::storages::Storages;
 use crate::variables::{variable_count, variables_of};
 use c_tree::Program;
@@ -28,7 +31,16 @@ pub struct Parts<'a> {
 
 /// The image of a program with this code. The parts belong to one program, and the code is that of its homed unit. Where they do not, what is made
 /// may be no image. The only error is want of memory.
-pub fn image_of(alloc: Global, parts: &Parts<'_>, emitted: Emitted) -> Result<Image, AllocError> {
+pub fn image_of(alloc: Global, parts: &Parts<'_>, emitted: Emitted) -> Result<Image, AllocError>
+    ensures mode { IfOk result (λ m. m.mode ≡ parts.now.homed.now.mode) }
+    ensures code { IfOk result (λ m. m.code.items ≡ emitted.code.items) }
+    ensures initial { IfOk result (λ m. m.initial.items ≡ emitted.initial.items) }
+    ensures owners { IfOk result (λ m. m.owners.items ≡ emitted.owners.items) }
+    ensures places { IfOk result (λ m. map spot m.places.items ≡ map spot_of_row parts.now.places.now.rows.items) }
+    ensures flow { IfOk result (λ m. m.flow.items ≡ map flow_pair parts.now.flow.now.steps.items) }
+    ensures assigned { IfOk result (λ m. m.assigned.items ≡ map assigned_pair parts.now.flow.now.assignments.items) }
+    ensures visible { IfOk result (λ m. map sight m.rows.items ≡ map sight_of_verdict parts.now.verdicts.now) }
+{
     let unit = &parts.homed.unit;
     let log = unit.log.changes();
     let storages = Storages::new(alloc, parts.homed, &emitted, variable_count(parts.program))?;
@@ -44,7 +56,14 @@ pub fn image_of(alloc: Global, parts: &Parts<'_>, emitted: Emitted) -> Result<Im
         &emitted.stops,
         &emitted.functions,
     )?;
-    let rows = rows_of(alloc, parts.verdicts, &unit.graphs, &emitted.functions)?;
+    let telling = Telling {
+        graphs: &unit.graphs,
+        homes: &parts.homed.homes,
+        code: &emitted.functions,
+        statics: &emitted.statics,
+        places: &parts.places.rows,
+    };
+    let (rows, nodes) = rows_of(alloc, parts.verdicts, telling)?;
     Ok(Image {
         mode: parts.homed.mode,
         functions,
@@ -54,7 +73,7 @@ pub fn image_of(alloc: Global, parts: &Parts<'_>, emitted: Emitted) -> Result<Im
         flow: flow_of(alloc, &parts.flow.steps)?,
         assigned: assigned_of(alloc, &parts.flow.assignments)?,
         rows,
-        nodes: Vec::new(alloc),
+        nodes,
         names: names_of(alloc, parts.program, log)?,
         code: emitted.code,
         initial: emitted.initial,

@@ -5,6 +5,7 @@ mod assembly;
 mod element;
 mod functions;
 mod names;
+mod nodes;
 mod numbers;
 mod pairs;
 mod places_table;

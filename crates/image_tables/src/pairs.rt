@@ -1,5 +1,8 @@
 //! The tables of changes, of flow and of assignments.
 
+ghost use Rattle.std.specs.Prelude.{◌≡◌, IfOk, map};
+ghost use Rattle.image_tables.specs.Tables.{assigned_pair, flow_pair};
+
 use crate::numbers::number_of;
 use debug_records::Change as Logged;
 use image_form::{AssignedPair, Change, FlowPair};
@@ -21,7 +24,9 @@ pub fn changes_of(alloc: Global, log: &[Logged]) -> Result<Vec<Change>, AllocErr
 }
 
 /// The pairs of places between which execution goes.
-pub fn flow_of(alloc: Global, steps: &[FlowStep]) -> Result<Vec<FlowPair>, AllocError> {
+pub fn flow_of(alloc: Global, steps: &[FlowStep]) -> Result<Vec<FlowPair>, AllocError>
+    ensures { IfOk result (λ v. v.items ≡ map flow_pair steps.now) }
+{
     let mut pairs = Vec::new(alloc);
     for step in steps {
         pairs.push(FlowPair {
@@ -36,7 +41,9 @@ pub fn flow_of(alloc: Global, steps: &[FlowStep]) -> Result<Vec<FlowPair>, Alloc
 pub fn assigned_of(
     alloc: Global,
     assignments: &[Assignment],
-) -> Result<Vec<AssignedPair>, AllocError> {
+) -> Result<Vec<AssignedPair>, AllocError>
+    ensures { IfOk result (λ v. v.items ≡ map assigned_pair assignments.now) }
+{
     let mut pairs = Vec::new(alloc);
     for assignment in assignments {
         pairs.push(AssignedPair {

@@ -1,5 +1,8 @@
 //! The table of places.
 
+ghost use Rattle.std.specs.Prelude.{◌≡◌, IfOk, map};
+ghost use Rattle.image_tables.specs.Tables.{spot, spot_of_row};
+
 use crate::numbers::{entry, put_entry};
 use emitted::{EmittedFunction, PlacedStop};
 use image_form::Place;
@@ -29,7 +32,9 @@ pub fn places_of(
     rows: &[PlaceRow],
     stops: &[PlacedStop],
     code: &[EmittedFunction],
-) -> Result<Vec<Place>, AllocError> {
+) -> Result<Vec<Place>, AllocError>
+    ensures { IfOk result (λ v. map spot v.items ≡ map spot_of_row rows.now) }
+{
     let addresses = addresses(alloc, stops, rows.len().saturating_add(1))?;
     let mut places = Vec::new(alloc);
     let mut number = 1u32;

@@ -1,10 +1,16 @@
 //! The rows of visible variables.
 
+ghost use Rattle.std.specs.Prelude.{◌≡◌, IfOk, map};
+ghost use Rattle.image_tables.specs.Tables.{sight, sight_of_verdict};
+
+use crate::nodes::{Naming, Nodes};
 use crate::numbers::{entry, number_of};
 use currency::{PlaceVerdict, Verdict as Told, Writer};
 use emitted::EmittedFunction;
-use graph_core::{Block, Graph};
-use image_form::{Verdict, VisibleRow};
+use graph_core::{Block, Graph, Recipe};
+use homed_unit::FunctionHomes;
+use image_form::{Node, Verdict, VisibleRow};
+use places::PlaceRow;
 use std::alloc::{AllocError, Global};
 
 /// For each block of a function how many instructions stand before it.
@@ -53,37 +59,125 @@ fn address_of(writer: Writer, before: &[Vec<u32>], code: &[EmittedFunction]) -> 
     }
 }
 
-/// A verdict as an image has it.
-fn verdict_of(told: Told, before: &[Vec<u32>], code: &[EmittedFunction]) -> Verdict {
-    match told {
-        Told::Home => Verdict::Home,
-        Told::Nonresident {
-            change,
-            start,
-            writer,
-        } => Verdict::Nonresident {
-            change,
-            start: start.0,
-            writer: address_of(writer, before, code),
-        },
+/// The word that writes a home, if something is to write it.
+fn address_of_some(
+    writer: Option<Writer>,
+    before: &[Vec<u32>],
+    code: &[EmittedFunction],
+) -> Option<u32> {
+    address_of(writer?, before, code)
+}
+
+/// What rows of verdicts are made of.
+#[derive(Clone, Copy)]
+pub struct Telling<'a> {
+    pub graphs: &'a [Graph],
+    pub homes: &'a [FunctionHomes],
+    pub code: &'a [EmittedFunction],
+    pub statics: &'a [u32],
+    pub places: &'a [PlaceRow],
+}
+
+impl<'a> Telling<'a> {
+    /// The function of a place.
+    fn function_at(&self, place: u32) -> Option<usize> {
+        if place == 0 {
+            return None;
+        }
+        let row = self.places.get(place as usize - 1)?;
+        Some(row.function as usize)
+    }
+
+    /// The function of a place, for recipes in its names.
+    fn naming_at(&self, place: u32) -> Option<Naming<'a>> {
+        let function = self.function_at(place)?;
+        let graph = self.graphs.get(function)?;
+        let homes = self.homes.get(function)?;
+        let code = self.code.get(function)?;
+        Some(Naming {
+            graph,
+            homes: &homes.homes,
+            code,
+            statics: self.statics,
+        })
     }
 }
 
-/// The rows of verdicts.
+/// Where rows are made.
+#[derive(Drop)]
+struct Rows {
+    /// For each function, and each of its blocks, how many instructions stand before it.
+    before: Vec<Vec<u32>>,
+    nodes: Nodes,
+}
+
+impl Rows {
+    /// The node of a recipe that is told of at a place. Where there is no such place, a node that no image has.
+    fn node_at(
+        &mut self,
+        telling: Telling<'_>,
+        place: u32,
+        recipe: &Recipe,
+    ) -> Result<u32, AllocError> {
+        match telling.naming_at(place) {
+            Some(naming) => self.nodes.add_recipe(naming, recipe),
+            None => Ok(4294967295),
+        }
+    }
+
+    /// A verdict as an image has it.
+    fn verdict_of(
+        &mut self,
+        telling: Telling<'_>,
+        told: &PlaceVerdict,
+    ) -> Result<Verdict, AllocError> {
+        match &told.verdict {
+            Told::Home => Ok(Verdict::Home),
+            Told::Recovered { recipe, change } => Ok(Verdict::Recovered {
+                change: *change,
+                node: self.node_at(telling, told.place.0, recipe)?,
+            }),
+            Told::Noncurrent {
+                change,
+                start,
+                writer,
+            } => Ok(Verdict::Noncurrent {
+                change: *change,
+                start: start.0,
+                writer: address_of_some(*writer, &self.before, telling.code),
+            }),
+            Told::Nonresident {
+                change,
+                start,
+                writer,
+            } => Ok(Verdict::Nonresident {
+                change: *change,
+                start: start.0,
+                writer: address_of(*writer, &self.before, telling.code),
+            }),
+        }
+    }
+}
+
+/// The rows of verdicts, and the nodes of their recipes.
 pub fn rows_of(
     alloc: Global,
     verdicts: &[PlaceVerdict],
-    graphs: &[Graph],
-    code: &[EmittedFunction],
-) -> Result<Vec<VisibleRow>, AllocError> {
-    let before = all_before(alloc, graphs)?;
+    telling: Telling<'_>,
+) -> Result<(Vec<VisibleRow>, Vec<Node>), AllocError>
+    ensures { IfOk result (λ r. map sight r.0.items ≡ map sight_of_verdict verdicts.now) }
+{
+    let mut making = Rows {
+        before: all_before(alloc, telling.graphs)?,
+        nodes: Nodes::new(alloc),
+    };
     let mut rows = Vec::new(alloc);
     for told in verdicts {
         rows.push(VisibleRow {
             place: told.place.0,
             variable: told.var.0,
-            verdict: verdict_of(told.verdict, &before, code),
+            verdict: making.verdict_of(telling, told)?,
         })?;
     }
-    Ok(rows)
+    Ok((rows, making.nodes.nodes))
 }

@@ -6,12 +6,13 @@ ghost use Rattle.image_form.specs.Form.{form};
 ghost use Rattle.image_form.specs.Rules.{IsImage};
 ghost use Rattle.image_form.specs.Spelling.{spelling};
 
-use crate::drafting::{draft_of, homed_of};
+use crate::drafting::{draft_of, homed_of, unit_of};
 use crate::made::Build;
 use c_flow::fits;
 use c_tree::Program;
-use debug_records::Mode;
+use debug_records::{Mode, PassName};
 use image_form::{Image, ImageErr, read, spell};
+use pass_runs::UnitPass;
 use std::alloc::{AllocError, Global};
 
 /// The image that bytes spell, if they spell one.
@@ -26,11 +27,13 @@ fn image_in(alloc: Global, bytes: &[u8]) -> Result<Option<Image>, AllocError>
     }
 }
 
-/// The image of a program, with its scalars in slots or in registers, by no passes. What is given is an image: it was written and read back, and
-/// what was read is given. None where the program is not compiled so far. The only error is want of memory.
+/// The image of a program, with its scalars in slots or in registers, behind the passes of these names. What is given is an image: it was written and
+/// read back, and what was read is given. None where the program is not compiled so far. The only error is want of memory.
 pub fn image_of_program(
     alloc: Global,
     program: Program,
+    passes: &[Box<dyn UnitPass>],
+    names: &[PassName],
     mode: Mode,
 ) -> Result<Option<Build>, AllocError>
     ensures image { IfOk result (λ o. IfSome o (λ b. IsImage (form b.image))) }
@@ -40,7 +43,10 @@ pub fn image_of_program(
     if !fits(alloc, &program)? {
         return Ok(None);
     }
-    let Some(homed) = homed_of(alloc, &program, mode)? else {
+    let Some(unit) = unit_of(alloc, &program, passes, names)? else {
+        return Ok(None);
+    };
+    let Some(homed) = homed_of(alloc, &unit, mode)? else {
         return Ok(None);
     };
     let Some(draft) = draft_of(alloc, &program, &homed)? else {

@@ -10,29 +10,40 @@ ghost use Rattle.homed_unit.specs.Homed.{HaveHomes, homed_view};
 use c_flow::flow;
 use c_tree::Program;
 use currency::verdicts;
-use debug_records::Mode;
+use debug_records::{Mode, PassName};
 use graph_build::build;
+use graph_core::Unit;
 use home_assign::assign;
 use homed_unit::HomedUnit;
 use image_form::Image;
 use image_tables::{Parts, image_of};
+use pass_runs::{UnitPass, run_passes};
 use rv_emit::emit;
 use std::alloc::{AllocError, Global};
 
-/// The unit of a program, with homes for its names. None where it is not valid.
-pub fn homed_of(
+/// The unit of a program, behind the passes of these names. None where the program's unit, or what a pass makes, is not valid.
+pub fn unit_of(
     alloc: Global,
     program: &Program,
-    mode: Mode,
-) -> Result<Option<HomedUnit>, AllocError>
+    passes: &[Box<dyn UnitPass>],
+    names: &[PassName],
+) -> Result<Option<Unit>, AllocError>
     requires { Fits32 (program_view program.now) }
+    ensures { IfOk result (λ o. IfSome o (λ u. IsValid (unit_view u))) }
+{
+    match build(alloc, program)? {
+        Some(unit) => run_passes(alloc, passes, names, unit),
+        None => Ok(None),
+    }
+}
+
+/// The unit of a program behind passes, with homes for its names. None where it is not valid.
+pub fn homed_of(alloc: Global, unit: &Unit, mode: Mode) -> Result<Option<HomedUnit>, AllocError>
+    requires { IsValid (unit_view unit.now) }
     ensures valid { IfOk result (λ o. IfSome o (λ h. IsValid (homed_view h).unit)) }
     ensures homes { IfOk result (λ o. IfSome o (λ h. HaveHomes (homed_view h))) }
 {
-    let Some(unit) = build(alloc, program)? else {
-        return Ok(None);
-    };
-    let homed = assign(alloc, &unit, mode)?;
+    let homed = assign(alloc, unit, mode)?;
     if homed.unit.is_valid() {
         Ok(Some(homed))
     } else {

@@ -8,11 +8,12 @@ use Rattle.line_form.specs.declared.status.Status.TheVariants.{Done, Usage, Sour
 use Rattle.script_form.specs.Refusal.{IsRefused}
 use Rattle.script_form.proofs.ScriptLaws.{readings_one}
 use Rattle.debug_records.specs.declared.code.TheConstants.Code.{UNEXPECTED_KEYWORD}
-use Rattle.debug_records.specs.declared.mode.Mode.{Mode}
 use Rattle.c_source.specs.Sources.{HasProgram}
-use Rattle.session.specs.Served.{ServedJob, ForDebug, ForCompile, ForAttach, IfGiven, With, input_of, script_of}
-use Rattle.session.specs.Limits.{Held, Holds, AreWithin, FirstIsLoaded, ImageIsTooLong, InputIsTooLong, IsBeyond, IsTheLong, IsTooLong, IsWithin, ScriptIsTooLong, image_limit, input_limit}
-use Rattle.session.specs.Front.{IsRefusedSource, IsStraight}
+use Rattle.command_line.specs.Job.{JobGiven, attach, compile, debug, passes, sweep}
+use Rattle.session.specs.Served.{IfGiven, With, input_of, script_of}
+use Rattle.session.specs.Limits.{Held, Holds, AreWithin, FirstIsLoaded, ImageIsTooLong, InputIsTooLong, IsBeyond, IsThisBeyond, IsTooLong, IsWithin, ScriptIsTooLong, image_limit, input_limit}
+use Rattle.session.specs.Front.{IsPromised, IsRefusedSource}
+use Rattle.work_gen.specs.Generated.{text as generated}
 use Rattle.session.proofs.Refusals.{refused_uncompiled}
 use Rattle.session.specs.Ending.{IsCaused, World}
 use Rattle.session.specs.Causes.{AreNoImage, ImageIsRefused, IsImageText, IsLeftOut, IsScriptText, IsUnderstood, SourceIsRefused, ScriptIsRefused, AreAccepted}
@@ -26,51 +27,61 @@ short_and_long : (limit : ℕ) (held : Option (List ℕ)) → IsWithin limit hel
 short_and_long limit None s l = s
 short_and_long limit (Some text) s l = let x : length text ≤ limit = s in let y : limit < length text = l in omega arith
 
-image_short_and_long : (held : Held) (job : ServedJob) (name : List ℕ) → FirstIsLoaded held job → ImageIsTooLong held job name → ⊥
-image_short_and_long held (ForDebug given) name w t = t
-image_short_and_long held (ForCompile given) name w t = t
-image_short_and_long held (ForAttach given) name w t = short_and_long image_limit (held given.image) w t.1
+image_short_and_long : (held : Held) (job : JobGiven) (name : List ℕ) → FirstIsLoaded held job → ImageIsTooLong held job name → ⊥
+image_short_and_long held (debug given) name w t = t
+image_short_and_long held (compile given) name w t = t
+image_short_and_long held (passes given) name w t = t
+image_short_and_long held (sweep given) name w t = t
+image_short_and_long held (attach given) name w t = short_and_long image_limit (held given.image) w t.1
 
-text_short_and_long : (held : Held) (text : Option (List ℕ)) (limit : ℕ) (name : List ℕ) → IfGiven text (λ given. IsWithin limit (held given)) → IsTheLong held text limit name → ⊥
+text_short_and_long : (held : Held) (text : Option (List ℕ)) (limit : ℕ) (name : List ℕ) → IfGiven text (λ given. IsWithin limit (held given)) → IsThisBeyond held text limit name → ⊥
 text_short_and_long held None limit name w t = t
 text_short_and_long held (Some given) limit name w t = short_and_long limit (held given) w t.1
 
-none_too_long : (held : Held) (job : ServedJob) (name : List ℕ) → AreWithin held job → IsTooLong held job name → ⊥
+none_too_long : (held : Held) (job : JobGiven) (name : List ℕ) → AreWithin held job → IsTooLong held job name → ⊥
 none_too_long held job name w t =
     ⊎_elim (λ (i : ImageIsTooLong held job name). image_short_and_long held job name w.first i)
     (λ u. ⊎_elim (λ (s : ScriptIsTooLong held job name). text_short_and_long held (script_of job) 1048576 name w.script s.cause)
     (λ (i : InputIsTooLong held job name). text_short_and_long held (input_of job) input_limit name w.input i.cause) u) t
 
 -- what is understood is refused only where it is not compiled
-held_left_out : (mode : Mode) (code : Code) (line : ℕ) (held : Option (List ℕ)) → Holds held HasProgram → Holds held (λ t. IsRefusedSource t mode code line) → (code ≡ UNEXPECTED_KEYWORD) × (line ≡ 1) × Holds held (λ t. ¬ IsStraight t mode)
-held_left_out mode code line None p r = absurd p
-held_left_out mode code line (Some text) p r =
-    let n = refused_uncompiled text mode code line p r in
+held_left_out : (promised : List ℕ → Type 0) (code : Code) (line : ℕ) (held : Option (List ℕ)) → Holds held HasProgram → Holds held (λ t. IsRefusedSource promised t code line) → (code ≡ UNEXPECTED_KEYWORD) × (line ≡ 1) × Holds held (λ t. ¬ promised t)
+held_left_out promised code line None p r = absurd p
+held_left_out promised code line (Some text) p r =
+    let n = refused_uncompiled text promised code line p r in
     (n.code_is, n.line_is, n.cause)
 
 same_refusal : (code : Code) (line : ℕ) → code ≡ UNEXPECTED_KEYWORD → line ≡ 1 → SourceRefused code line ≡ SourceRefused UNEXPECTED_KEYWORD 1
 same_refusal code line c l = cc
 
-source_left_out : (held : Held) (job : ServedJob) (code : Code) (line : ℕ) → IsUnderstood held job → SourceIsRefused held job code line → IsLeftOut held job (SourceRefused code line)
-source_left_out held (ForDebug given) code line u r =
-    let l = held_left_out given.mode code line (held given.source) u r in
+source_left_out : (held : Held) (job : JobGiven) (code : Code) (line : ℕ) → IsUnderstood held job → SourceIsRefused held job code line → IsLeftOut held job (SourceRefused code line)
+source_left_out held (debug given) code line u r =
+    let l = held_left_out (IsPromised (debug given)) code line (held given.source) u r in
     (same_refusal code line l.0 l.1, l.2)
-source_left_out held (ForCompile given) code line u r =
-    let l = held_left_out given.mode code line (held given.source) u r in
+source_left_out held (compile given) code line u r =
+    let l = held_left_out (IsPromised (compile given)) code line (held given.source) u r in
     (same_refusal code line l.0 l.1, l.2)
-source_left_out held (ForAttach given) code line u r = absurd r
+source_left_out held (passes given) code line u r =
+    let l = held_left_out (IsPromised (passes given)) code line (held given.source) u r in
+    (same_refusal code line l.0 l.1, l.2)
+source_left_out held (sweep given) code line u r =
+    let l = held_left_out (IsPromised (sweep given)) code line (Some (generated given.seed given.size)) u r in
+    (same_refusal code line l.0 l.1, l.2)
+source_left_out held (attach given) code line u r = absurd r
 
-image_understood : (held : Held) (job : ServedJob) (code : Code) (offset : ℕ) → IsUnderstood held job → ImageIsRefused held job code offset → ⊥
-image_understood held (ForDebug given) code offset u r = r
-image_understood held (ForCompile given) code offset u r = r
-image_understood held (ForAttach given) code offset u r = contrary IsImageText (AreNoImage code offset) (λ t p n. n.none p) (held given.image) u r
+image_understood : (held : Held) (job : JobGiven) (code : Code) (offset : ℕ) → IsUnderstood held job → ImageIsRefused held job code offset → ⊥
+image_understood held (debug given) code offset u r = r
+image_understood held (compile given) code offset u r = r
+image_understood held (passes given) code offset u r = r
+image_understood held (sweep given) code offset u r = r
+image_understood held (attach given) code offset u r = contrary IsImageText (AreNoImage code offset) (λ t p n. n.none p) (held given.image) u r
 
 script_read : (held : Held) (script : Option (List ℕ)) (code : Code) (line : ℕ) → IfGiven script (λ name. Holds (held name) IsScriptText) → With script (λ name. Holds (held name) (λ text. IsRefused text code line)) → ⊥
 script_read held None code line s r = r
 script_read held (Some name) code line s r = contrary IsScriptText (λ t. IsRefused t code line) (λ t p q. readings_one.apart t p.0 code line p.1 q) (held name) s r
 
 -- where the texts are within their limits and accepted, and no load, save or put failed
-pub complete : (job : ServedJob) (old : World) (status : Status) (new : World) → IsCaused job old status new → old.shelf_tells ≡ true
+pub complete : (job : JobGiven) (old : World) (status : Status) (new : World) → IsCaused job old status new → old.shelf_tells ≡ true
     → AreWithin old.held job → AreAccepted old.held job → ¬ RoseOrStands old.loads new.loads → ¬ RoseOrStands old.saves new.saves → ¬ RoseOrStands old.puts new.puts → (status ≡ Done) ⊎ ((status ≡ NoMemory) ⊎ IsLeftOut old.held job status)
 complete job old Done new c told w a nl ns nk = inl refl
 complete job old Usage new c told w a nl ns nk = absurd (c.usage refl)

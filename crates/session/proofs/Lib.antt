@@ -4,3 +4,4 @@ pub mod Refusals
 pub mod Sessions
 pub mod AskedLemmas
 pub mod Completeness
+pub mod Lines

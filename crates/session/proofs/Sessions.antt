@@ -17,10 +17,11 @@ use Rattle.debug_records.specs.declared.mode.Mode.{Mode}
 use Rattle.c_source.specs.Sources.{HasProgram}
 use Rattle.c_source.proofs.Sources.{program_is_short}
 use Rattle.session.specs.declared.preparing.Made.{Made}
-use Rattle.command_line.specs.Job.{AttachGiven, CompileGiven, DebugGiven}
-use Rattle.session.specs.Served.{ForAttach, ForCompile, ForDebug, Saving, ServedJob}
+use Rattle.command_line.specs.Job.{AttachGiven, CompileGiven, DebugGiven, JobGiven, PassesGiven, SweepGiven, attach, compile, debug, passes, sweep}
+use Rattle.command_line.specs.Words.{Text}
+use Rattle.session.specs.Served.{Saving}
 use Rattle.session.specs.Limits.{Held, Holds, AreWithin, IsBeyond, IsThere, IsWithin, image_limit, input_limit}
-use Rattle.session.specs.Front.{IsRefusedSource}
+use Rattle.session.specs.Front.{IsRefusedSource, IsStraight}
 use Rattle.session.specs.Causes.{AreNoImage, ImageIsRefused, IsImageText, IsScriptText, ScriptIsRefused, SourceIsRefused, AreAccepted}
 use Rattle.session.proofs.Refusals.{source_held}
 use Rattle.session.specs.Stages.{ImageEnds, LoadEnds, MakeEnds, ScriptEnds}
@@ -51,18 +52,18 @@ pub held_within : (limit : ℕ) (held : Option (List ℕ)) (got : List ℕ) → 
 held_within limit held got e short = subst (λ h. IsWithin limit h) (sym e) short
 
 -- all texts are within their limits
-pub debug_within : (held : Held) (given : DebugGiven) (script input : List ℕ) → IsThere (held given.source) → held given.script ≡ Some script → held given.input ≡ Some input → length script ≤ 1048576 → length input ≤ input_limit → AreWithin held (ForDebug given)
+pub debug_within : (held : Held) (given : DebugGiven) (script input : List ℕ) → IsThere (held given.source) → held given.script ≡ Some script → held given.input ≡ Some input → length script ≤ 1048576 → length input ≤ input_limit → AreWithin held (debug given)
 debug_within held given script input first s i short small = record {
   first = first;
   script = held_within 1048576 (held given.script) script s short;
   input = held_within input_limit (held given.input) input i small;
 }
 
-pub compile_within : (held : Held) (given : CompileGiven) → IsThere (held given.source) → AreWithin held (ForCompile given)
+pub compile_within : (held : Held) (given : CompileGiven) → IsThere (held given.source) → AreWithin held (compile given)
 compile_within held given first = record { first = first; script = tt; input = tt }
 
 pub attach_within : (held : Held) (given : AttachGiven) (image script input : List ℕ) → held given.image ≡ Some image → held given.script ≡ Some script → held given.input ≡ Some input
-    → length image ≤ image_limit → length script ≤ 1048576 → length input ≤ input_limit → AreWithin held (ForAttach given)
+    → length image ≤ image_limit → length script ≤ 1048576 → length input ≤ input_limit → AreWithin held (attach given)
 attach_within held given image script input m s i few short small = record {
   first = held_within image_limit (held given.image) image m few;
   script = held_within 1048576 (held given.script) script s short;
@@ -76,36 +77,36 @@ said_too_long A status name old new Long e ends = (subst (λ s. LoadEnds {A = A}
 pub holds : (P : List ℕ → Type 0) (held : Option (List ℕ)) (got : List ℕ) → held ≡ Some got → P got → Holds held P
 holds P held got e p = subst (λ h. Holds h P) (sym e) p
 
-source_accepted : (held : Option (List ℕ)) (got : List ℕ) → Loads held 1048576 got → HasProgram got → Holds held HasProgram
+pub source_accepted : (held : Option (List ℕ)) (got : List ℕ) → Loads held 1048576 got → HasProgram got → Holds held HasProgram
 source_accepted held got h s = holds HasProgram held got (held_is 1048576 held got h (program_is_short got s)) s
 
 -- why a source was refused
-pub source_refused : (status : Status) (code : Code) (line : ℕ) (source : List ℕ) (mode : Mode) (held : Option (List ℕ)) → status ≡ SourceRefused code line → MakeEnds (Err status) source mode → Loads held 1048576 source
-    → Holds held (λ t. IsRefusedSource t mode code line)
-source_refused status code line source mode held e ends loads = source_held mode code line held source loads (subst (λ s. MakeEnds (Err s) source mode) e ends)
+pub source_refused : (status : Status) (code : Code) (line : ℕ) (source : List ℕ) (names : List Text) (mode : Mode) (held : Option (List ℕ)) → status ≡ SourceRefused code line → MakeEnds (Err status) source names mode → Loads held 1048576 source
+    → Holds held (λ t. IsRefusedSource (IsStraight names mode) t code line)
+source_refused status code line source names mode held e ends loads = source_held (IsStraight names mode) code line held source loads (subst (λ s. MakeEnds (Err s) source names mode) e ends)
 
 -- why a script was, behind a source
-pub script_refused : (status : Status) (code : Code) (line : ℕ) (source script : List ℕ) (made : Made) (held : Held) (given : DebugGiven) → status ≡ ScriptRefused code line → IsMade source given.mode made → ScriptEnds (Err status) script
-    → Loads (held given.source) 1048576 source → held given.script ≡ Some script → ScriptIsRefused held (ForDebug given) code line
+pub script_refused : (status : Status) (code : Code) (line : ℕ) (source script : List ℕ) (made : Made) (held : Held) (given : DebugGiven) → status ≡ ScriptRefused code line → IsMade source given.passes given.mode made → ScriptEnds (Err status) script
+    → Loads (held given.source) 1048576 source → held given.script ≡ Some script → ScriptIsRefused held (debug given) code line
 script_refused status code line source script made held given e is ends loads is_script = record {
   before = source_accepted (held given.source) source loads is.image.understood;
   cause = holds (λ t. IsRefused t code line) (held given.script) script is_script (subst (λ s. ScriptEnds (Err s) script) e ends);
 }
 
 -- both are accepted where the image stands
-pub both_accepted : (source script : List ℕ) (made : Made) (commands : Vec Command Global) (held : Held) (given : DebugGiven) → IsMade source given.mode made → ScriptEnds (Ok commands) script
-    → Loads (held given.source) 1048576 source → held given.script ≡ Some script → AreAccepted held (ForDebug given)
+pub both_accepted : (source script : List ℕ) (made : Made) (commands : Vec Command Global) (held : Held) (given : DebugGiven) → IsMade source given.passes given.mode made → ScriptEnds (Ok commands) script
+    → Loads (held given.source) 1048576 source → held given.script ≡ Some script → AreAccepted held (debug given)
 both_accepted source script made commands held given is asks loads is_script = record {
   before = source_accepted (held given.source) source loads is.image.understood;
   script = holds IsScriptText (held given.script) script is_script (orders commands.items, asks);
 }
 
 -- and the source alone where nothing else is asked for
-pub source_alone_accepted : (source : List ℕ) (made : Made) (held : Held) (given : CompileGiven) → IsMade source given.mode made → Loads (held given.source) 1048576 source → AreAccepted held (ForCompile given)
+pub source_alone_accepted : (source : List ℕ) (made : Made) (held : Held) (given : CompileGiven) → IsMade source given.passes given.mode made → Loads (held given.source) 1048576 source → AreAccepted held (compile given)
 source_alone_accepted source made held given is loads = record { before = source_accepted (held given.source) source loads is.image.understood; script = tt }
 
 -- the bytes that were made are an image of the source
-pub image_made : (held : Held) (saving : Saving) (source bytes : List ℕ) (made : Made) → Loads (held saving.source) 1048576 source → IsMade source saving.mode made → bytes ≡ made.bytes.items → IsImageOfSource held saving bytes
+pub image_made : (held : Held) (saving : Saving) (source bytes : List ℕ) (made : Made) → Loads (held saving.source) 1048576 source → IsMade source saving.passes saving.mode made → bytes ≡ made.bytes.items → IsImageOfSource held saving bytes
 image_made held saving source bytes made loads is same = record {
   source = source;
   source_held = held_is 1048576 (held saving.source) source loads (program_is_short source is.image.understood);
@@ -117,10 +118,12 @@ image_made held saving source bytes made loads is same = record {
 }
 
 -- where nothing was saved, the image's name holds what it held
-pub nothing_left : (held held' : Held) (job : ServedJob) → ((n : List ℕ) → held' n ≡ held n) → HasLeft held held' job
-nothing_left held held' (ForDebug given) same = inl (same given.image)
-nothing_left held held' (ForCompile given) same = inl (same given.image)
-nothing_left held held' (ForAttach given) same = tt
+pub nothing_left : (held held' : Held) (job : JobGiven) → ((n : List ℕ) → held' n ≡ held n) → HasLeft held held' job
+nothing_left held held' (debug given) same = inl (same given.image)
+nothing_left held held' (compile given) same = inl (same given.image)
+nothing_left held held' (attach given) same = tt
+nothing_left held held' (passes given) same = tt
+nothing_left held held' (sweep given) same = tt
 
 -- a save that gave an error left what the name held, or a part of the image
 pub part_left : (held before held' : Held) (saving : Saving) (name bytes : List ℕ) → IsImageOfSource held saving bytes → before name ≡ held name → name ≡ saving.image → IsKeptOrCut bytes (before name) (held' name) → (held' saving.image ≡ held saving.image) ⊎ HoldsPart held held' saving
@@ -143,7 +146,7 @@ whole_saved held held' saving name bytes made is saved = record { bytes = bytes;
 
 -- the session saved the image and played it
 pub debugged : (held held' : Held) (given : DebugGiven) (source script input : List ℕ) (made : Made) (commands : Vec Command Global) → Loads (held given.source) 1048576 source → held given.script ≡ Some script → held given.input ≡ Some input
-    → IsMade source given.mode made → ScriptEnds (Ok commands) script → held' given.image ≡ Some made.bytes.items → IsDebugged held held' given (transcript_bytes (form made.image) (orders commands.items) input given.limit)
+    → IsMade source given.passes given.mode made → ScriptEnds (Ok commands) script → held' given.image ≡ Some made.bytes.items → IsDebugged held held' given (transcript_bytes (form made.image) (orders commands.items) input given.limit)
 debugged held held' given source script input made commands loads is_script is_input is asks saved = record {
   source = source;
   source_held = held_is 1048576 (held given.source) source loads (program_is_short source is.image.understood);
@@ -168,19 +171,19 @@ pub image_text : (image : Image) (bytes : List ℕ) → ImageEnds (Ok image) byt
 image_text image bytes is = (form image, is.0, is.1)
 
 -- why an image was refused
-pub image_refused : (status : Status) (code : Code) (offset : ℕ) (bytes : List ℕ) (held : Held) (given : AttachGiven) → status ≡ ImageRefused code offset → ImageEnds (Err status) bytes → held given.image ≡ Some bytes → ImageIsRefused held (ForAttach given) code offset
+pub image_refused : (status : Status) (code : Code) (offset : ℕ) (bytes : List ℕ) (held : Held) (given : AttachGiven) → status ≡ ImageRefused code offset → ImageEnds (Err status) bytes → held given.image ≡ Some bytes → ImageIsRefused held (attach given) code offset
 image_refused status code offset bytes held given e ends is = holds (AreNoImage code offset) (held given.image) bytes is (subst (λ s. ImageEnds (Err s) bytes) e ends)
 
 -- why a script was, behind an image
 pub attached_script_refused : (status : Status) (code : Code) (line : ℕ) (image : Image) (bytes script : List ℕ) (held : Held) (given : AttachGiven) → status ≡ ScriptRefused code line → ImageEnds (Ok image) bytes → ScriptEnds (Err status) script
-    → held given.image ≡ Some bytes → held given.script ≡ Some script → ScriptIsRefused held (ForAttach given) code line
+    → held given.image ≡ Some bytes → held given.script ≡ Some script → ScriptIsRefused held (attach given) code line
 attached_script_refused status code line image bytes script held given e is ends is_image is_script = record {
   before = holds IsImageText (held given.image) bytes is_image (image_text image bytes is);
   cause = holds (λ t. IsRefused t code line) (held given.script) script is_script (subst (λ s. ScriptEnds (Err s) script) e ends);
 }
 
 pub attached_accepted : (image : Image) (commands : Vec Command Global) (bytes script : List ℕ) (held : Held) (given : AttachGiven) → ImageEnds (Ok image) bytes → ScriptEnds (Ok commands) script
-    → held given.image ≡ Some bytes → held given.script ≡ Some script → AreAccepted held (ForAttach given)
+    → held given.image ≡ Some bytes → held given.script ≡ Some script → AreAccepted held (attach given)
 attached_accepted image commands bytes script held given is asks is_image is_script = record {
   before = holds IsImageText (held given.image) bytes is_image (image_text image bytes is);
   script = holds IsScriptText (held given.script) script is_script (orders commands.items, asks);

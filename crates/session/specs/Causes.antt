@@ -1,5 +1,5 @@
 -- What a refusal says of the texts, and what comes behind it.
-use Rattle.std.specs.Prelude.{◌≡◌, ℕ, List, Err}
+use Rattle.std.specs.Prelude.{◌≡◌, ℕ, List, Option, Some, None, Err}
 use Rattle.debug_records.specs.declared.code.Code.{Code}
 use Rattle.image_form.specs.Form.{Form}
 use Rattle.image_form.specs.Rules.{IsImage}
@@ -11,9 +11,11 @@ use Rattle.script_form.specs.Script.{Order, IsScript}
 use Rattle.script_form.specs.Refusal.{IsRefused}
 use Rattle.debug_records.specs.declared.code.TheConstants.Code.{UNEXPECTED_KEYWORD}
 use Rattle.c_source.specs.Sources.{HasProgram}
-use Rattle.session.specs.Served.{Saving, ServedJob, ForDebug, ForCompile, ForAttach, IfGiven, With, saving_of, script_of}
+use Rattle.command_line.specs.Job.{JobGiven, attach, compile, debug, passes, sweep}
+use Rattle.work_gen.specs.Generated.{text as generated}
+use Rattle.session.specs.Served.{IfGiven, With, script_of}
 use Rattle.session.specs.Limits.{Held, Holds}
-use Rattle.session.specs.Front.{IsRefusedSource, IsStraight}
+use Rattle.session.specs.Front.{IsPromised, IsRefusedSource}
 
 -- the text is a script
 abbrev pub IsScriptText : List ℕ → Type 0
@@ -23,40 +25,52 @@ IsScriptText text = (os : List Order) × IsScript text os
 abbrev pub IsImageText : List ℕ → Type 0
 IsImageText bytes = (f : Form) × IsImage f × (bytes ≡ spelling f)
 
+-- the text that a job compiles, where it is there: the source of its name, and for a `sweep` the generated one
+abbrev pub compiled_by : Held → JobGiven → Option (List ℕ)
+compiled_by held (debug given) = held given.source
+compiled_by held (compile given) = held given.source
+compiled_by held (attach given) = None
+compiled_by held (passes given) = held given.source
+compiled_by held (sweep given) = Some (generated given.seed given.size)
+
 -- the source of a job is refused; an `attach` has none
-abbrev pub SourceIsRefused : Held → ServedJob → Code → ℕ → Type 0
-SourceIsRefused held job code line = With (saving_of job) (λ (s : Saving). Holds (held s.source) (λ text. IsRefusedSource text s.mode code line))
+abbrev pub SourceIsRefused : Held → JobGiven → Code → ℕ → Type 0
+SourceIsRefused held job code line = Holds (compiled_by held job) (λ text. IsRefusedSource (IsPromised job) text code line)
 
 -- Bytes are refused that spell no image: this is the first rule that they break, at this byte.
 pub record AreNoImage (code : Code) (offset : ℕ) (bytes : List ℕ) : Type 0 where
   pub none : ¬ IsImageText bytes
   pub first : read_of bytes ≡ Err (code, offset)
 
--- the image of a job is refused; that of a `debug` or a `compile` is made by the program
-abbrev pub ImageIsRefused : Held → ServedJob → Code → ℕ → Type 0
-ImageIsRefused held (ForDebug given) code offset = ⊥
-ImageIsRefused held (ForCompile given) code offset = ⊥
-ImageIsRefused held (ForAttach given) code offset = Holds (held given.image) (AreNoImage code offset)
+-- the image of an `attach` is refused; no other job loads one
+abbrev pub ImageIsRefused : Held → JobGiven → Code → ℕ → Type 0
+ImageIsRefused held (debug given) code offset = ⊥
+ImageIsRefused held (compile given) code offset = ⊥
+ImageIsRefused held (attach given) code offset = Holds (held given.image) (AreNoImage code offset)
+ImageIsRefused held (passes given) code offset = ⊥
+ImageIsRefused held (sweep given) code offset = ⊥
 
 -- what comes before the script is accepted: a source of a program, or an image
-abbrev pub IsUnderstood : Held → ServedJob → Type 0
-IsUnderstood held (ForDebug given) = Holds (held given.source) HasProgram
-IsUnderstood held (ForCompile given) = Holds (held given.source) HasProgram
-IsUnderstood held (ForAttach given) = Holds (held given.image) IsImageText
+abbrev pub IsUnderstood : Held → JobGiven → Type 0
+IsUnderstood held (debug given) = Holds (held given.source) HasProgram
+IsUnderstood held (compile given) = Holds (held given.source) HasProgram
+IsUnderstood held (attach given) = Holds (held given.image) IsImageText
+IsUnderstood held (passes given) = Holds (held given.source) HasProgram
+IsUnderstood held (sweep given) = HasProgram (generated given.seed given.size)
 
 -- The script is refused where all before it is accepted: this is the first line that breaks a rule, and the rule.
-pub record ScriptIsRefused (held : Held) (job : ServedJob) (code : Code) (line : ℕ) : Type 0 where
+pub record ScriptIsRefused (held : Held) (job : JobGiven) (code : Code) (line : ℕ) : Type 0 where
   pub before : IsUnderstood held job
   pub cause : With (script_of job) (λ name. Holds (held name) (λ text. IsRefused text code line))
 
 -- the source or the image, and the script, are accepted
-pub record AreAccepted (held : Held) (job : ServedJob) : Type 0 where
+pub record AreAccepted (held : Held) (job : JobGiven) : Type 0 where
   pub before : IsUnderstood held job
   pub script : IfGiven (script_of job) (λ name. Holds (held name) IsScriptText)
 
--- The source of the job is of a program, but left out as one that is not compiled so far; never a straight-line `main` with slots.
-abbrev pub IsLeftOut : Held → ServedJob → Status → Type 0
-IsLeftOut held job result = (result ≡ SourceRefused UNEXPECTED_KEYWORD 1) × With (saving_of job) (λ (s : Saving). Holds (held s.source) (λ text. ¬ IsStraight text s.mode))
+-- The source of the job is of a program, but left out as one that is not compiled so far; never one of which it is proved that the job compiles it.
+abbrev pub IsLeftOut : Held → JobGiven → Status → Type 0
+IsLeftOut held job result = (result ≡ SourceRefused UNEXPECTED_KEYWORD 1) × Holds (compiled_by held job) (λ text. ¬ IsPromised job text)
 
 -- the session ended before anything was saved or put out
 abbrev pub IsEarly : Status → Type 0

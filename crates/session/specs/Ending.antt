@@ -5,7 +5,8 @@ use Rattle.outside.specs.Counts.{RoseOrStands}
 use Rattle.line_form.specs.declared.status.Status.{Status}
 use Rattle.line_form.specs.declared.status.Status.TheVariants.{Done, Usage, SourceRefused, ScriptRefused, ReadFault, WriteFault, ImageRefused, TooLong}
 use Rattle.debug_records.specs.declared.code.Code.{Code}
-use Rattle.session.specs.Served.{SavesTo, ServedJob}
+use Rattle.command_line.specs.Job.{JobGiven}
+use Rattle.session.specs.Served.{SavesTo}
 use Rattle.session.specs.Limits.{Held, AreWithin, IsTooLong}
 use Rattle.session.specs.Causes.{SourceIsRefused, ImageIsRefused, ScriptIsRefused, AreAccepted, HasLoaded, IsEarly, IsCut}
 use Rattle.session.specs.Outcome.{HasLeft, HasSaved, IsDone, TookPart}
@@ -21,7 +22,7 @@ pub record World : Type 0 where
   pub taken : List ℕ
 
 -- each fault comes exactly where its cause holds, in the order of the stages
-pub record IsCaused (job : ServedJob) (old : World) (result : Status) (new : World) : Type 0 where
+pub record IsCaused (job : JobGiven) (old : World) (result : Status) (new : World) : Type 0 where
   pub usage : result ≢ Usage
   pub read : result ≡ ReadFault → RoseOrStands old.loads new.loads
   pub read_only : result ≢ ReadFault → new.loads ≡ old.loads
@@ -35,24 +36,24 @@ pub record IsCaused (job : ServedJob) (old : World) (result : Status) (new : Wor
   pub write_only : result ≢ WriteFault → (new.saves ≡ old.saves) × (new.puts ≡ old.puts)
 
 -- before anything was saved or put out nothing changes, and only the image's name of a `debug` ever does
-pub record Stays (job : ServedJob) (old : World) (result : Status) (new : World) : Type 0 where
+pub record Stays (job : JobGiven) (old : World) (result : Status) (new : World) : Type 0 where
   pub kept : IsEarly result → old.shelf_tells ≡ true → (n : List ℕ) → new.held n ≡ old.held n
   pub nothing : IsEarly result → old.sink_tells ≡ true → new.taken ≡ old.taken
   pub others : old.shelf_tells ≡ true → (n : List ℕ) → ¬ SavesTo job n → new.held n ≡ old.held n
 
 -- what stands under the name of the image in the end
-pub record LeavesImage (job : ServedJob) (old : World) (result : Status) (new : World) : Type 0 where
+pub record LeavesImage (job : JobGiven) (old : World) (result : Status) (new : World) : Type 0 where
   pub saved : result ≡ Done → old.shelf_tells ≡ true → HasSaved old.held new.held job
   pub whole : result ≡ WriteFault → ¬ RoseOrStands old.saves new.saves → old.shelf_tells ≡ true → HasSaved old.held new.held job
   pub left : IsCut result → old.shelf_tells ≡ true → HasLeft old.held new.held job
 
 -- what the sink took in the end
-pub record LeavesTranscript (job : ServedJob) (old : World) (result : Status) (new : World) : Type 0 where
+pub record LeavesTranscript (job : JobGiven) (old : World) (result : Status) (new : World) : Type 0 where
   pub part : IsCut result → old.shelf_tells ≡ true → old.sink_tells ≡ true → TookPart old.held new.held job old.taken new.taken
   pub done : result ≡ Done → old.shelf_tells ≡ true → old.sink_tells ≡ true → IsDone old.held new.held job old.taken new.taken
 
 -- how a job ends
-pub record Ends (job : ServedJob) (old : World) (result : Status) (new : World) : Type 0 where
+pub record Ends (job : JobGiven) (old : World) (result : Status) (new : World) : Type 0 where
   pub caused : IsCaused job old result new
   pub stays : Stays job old result new
   pub image : LeavesImage job old result new

@@ -2,6 +2,7 @@ pub mod Served
 pub mod Limits
 pub mod Front
 pub mod Causes
+pub mod Summing
 pub mod Outcome
 pub mod Stages
 pub mod Truth

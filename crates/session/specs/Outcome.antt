@@ -1,5 +1,6 @@
 -- What a session leaves behind.
-use Rattle.std.specs.Prelude.{◌≡◌, ℕ, ◌⊎◌, List, [], ◌++◌, Option, Some}
+use Rattle.std.specs.Prelude.{◌≡◌, ℕ, ◌⊎◌, List, [], ◌∷◌, ◌++◌, Option, Some}
+use Rattle.std.specs.List.{All, flat_map}
 use Rattle.outside.specs.Held.{IsKeptOrCut}
 use Rattle.outside.specs.Taken.{TakesPart}
 use Rattle.image_form.specs.Form.{Form}
@@ -8,8 +9,17 @@ use Rattle.image_form.specs.Spelling.{spelling}
 use Rattle.script_form.specs.Script.{Order, IsScript}
 use Rattle.stop_engine.specs.Transcript.{transcript_bytes}
 use Rattle.c_source.specs.Sources.{HasProgram}
-use Rattle.command_line.specs.Job.{DebugGiven, AttachGiven}
-use Rattle.session.specs.Served.{Saving, ServedJob, ForDebug, ForCompile, ForAttach, IfGiven, saving_of}
+use Rattle.command_line.specs.Job.{AttachGiven, DebugGiven, JobGiven, PassesGiven, SweepGiven, attach, compile, debug, passes, sweep}
+use Rattle.debug_records.specs.declared.change.Kind.{Kind}
+use Rattle.debug_records.specs.declared.mode.Mode.TheVariants.{Registers}
+use Rattle.line_form.specs.Changes.{change_line}
+use Rattle.line_form.specs.Lines.{line}
+use Rattle.run_summary.specs.Summary.{IsSummed}
+use Rattle.run_summary.specs.declared.summary.Summary.{Summary}
+use Rattle.work_gen.specs.Generated.{text as generated}
+use Rattle.session.specs.Served.{IfGiven, Saving, default_names, saving_of}
+use Rattle.session.specs.Prepared.{IsImageFor}
+use Rattle.session.specs.Summing.{summary_lines, sweep_limit}
 use Rattle.session.specs.Limits.{Held}
 use Rattle.session.specs.Truth.{IsTruthfulTo}
 
@@ -33,7 +43,7 @@ pub record IsDebugged (held held' : Held) (given : DebugGiven) (printed : List �
   pub source_held : held given.source ≡ Some source
   pub understood : HasProgram source
   pub played : IsPlayed (held' given.image) (held given.script) (held given.input) given.limit printed
-  pub truthful : IsTruthfulTo source given.mode played.form
+  pub truthful : IsTruthfulTo source given.passes given.mode played.form
 
 -- The bytes are an image of the source that the shelf held before: they spell one that is truthful to the source.
 pub record IsImageOfSource (held : Held) (saving : Saving) (bytes : List ℕ) : Type 0 where
@@ -43,7 +53,7 @@ pub record IsImageOfSource (held : Held) (saving : Saving) (bytes : List ℕ) : 
   pub form : Form
   pub form_is : IsImage form
   pub bytes_are : bytes ≡ spelling form
-  pub truthful : IsTruthfulTo source saving.mode form
+  pub truthful : IsTruthfulTo source saving.passes saving.mode form
 
 -- such an image stands under its name
 pub record HoldsImage (held held' : Held) (saving : Saving) : Type 0 where
@@ -58,35 +68,63 @@ pub record HoldsPart (held held' : Held) (saving : Saving) : Type 0 where
   pub part : IsKeptOrCut bytes (held saving.image) (held' saving.image)
 
 -- what a job that is done leaves under the name of its image
-abbrev pub HasSaved : (held held' : Held) → ServedJob → Type 0
+abbrev pub HasSaved : (held held' : Held) → JobGiven → Type 0
 HasSaved held held' job = IfGiven (saving_of job) (HoldsImage held held')
 
 -- what a job that is cut off leaves there: what stood there, or the first part of an image of the source
-abbrev pub HasLeft : (held held' : Held) → ServedJob → Type 0
+abbrev pub HasLeft : (held held' : Held) → JobGiven → Type 0
 HasLeft held held' job = IfGiven (saving_of job) (λ (s : Saving). (held' s.image ≡ held s.image) ⊎ HoldsPart held held' s)
 
 -- what is printed is the transcript of the image that the shelf held
 abbrev pub IsAttached : Held → AttachGiven → List ℕ → Type 0
 IsAttached held given printed = IsPlayed (held given.image) (held given.script) (held given.input) given.limit printed
 
+-- the line of some change
+pub record IsChangeLine (text : List ℕ) : Type 0 where
+  pub number : ℕ
+  pub pass : List ℕ
+  pub kind : Kind
+  pub name : List ℕ
+  pub place : ℕ
+  pub text_is : text ≡ change_line number pass kind name place
+
+-- What the job `passes` prints: lines of changes, of the source that the shelf held. That they are the changes that the passes make in it is not proved yet.
+pub record ListsChanges (held : Held) (given : PassesGiven) (printed : List ℕ) : Type 0 where
+  pub source : List ℕ
+  pub source_held : held given.source ≡ Some source
+  pub understood : HasProgram source
+  pub lines : List (List ℕ)
+  pub lines_are : All IsChangeLine lines
+  pub printed_is : printed ≡ flat_map line lines
+
+-- What the job `sweep` prints: the summary of the run of an image of the generated source, with the passes and the homes that are the default, on no input.
+pub record IsSwept (given : SweepGiven) (printed : List ℕ) : Type 0 where
+  pub form : Form
+  pub image : IsImageFor (generated given.seed given.size) default_names Registers form
+  pub summary : Summary
+  pub summed : IsSummed form [] sweep_limit summary
+  pub printed_is : printed ≡ flat_map line (summary_lines given.seed given.size summary)
+
 -- what a job prints: a `compile` nothing
-abbrev pub Prints : (held held' : Held) → ServedJob → List ℕ → Type 0
-Prints held held' (ForDebug given) printed = IsDebugged held held' given printed
-Prints held held' (ForCompile given) printed = printed ≡ []
-Prints held held' (ForAttach given) printed = IsAttached held given printed
+abbrev pub Prints : (held held' : Held) → JobGiven → List ℕ → Type 0
+Prints held held' (debug given) printed = IsDebugged held held' given printed
+Prints held held' (compile given) printed = printed ≡ []
+Prints held held' (attach given) printed = IsAttached held given printed
+Prints held held' (passes given) printed = ListsChanges held given printed
+Prints held held' (sweep given) printed = IsSwept given printed
 
 -- the sink took all that the job prints
-pub record IsDone (held held' : Held) (job : ServedJob) (taken taken' : List ℕ) : Type 0 where
+pub record IsDone (held held' : Held) (job : JobGiven) (taken taken' : List ℕ) : Type 0 where
   pub printed : List ℕ
   pub prints : Prints held held' job printed
   pub whole : taken' ≡ taken ++ printed
 
 -- the sink took the first part of it
-pub record IsCutOff (held held' : Held) (job : ServedJob) (taken taken' : List ℕ) : Type 0 where
+pub record IsCutOff (held held' : Held) (job : JobGiven) (taken taken' : List ℕ) : Type 0 where
   pub printed : List ℕ
   pub prints : Prints held held' job printed
   pub part : TakesPart printed taken taken'
 
 -- the sink took nothing, or the first part of what the job prints
-abbrev pub TookPart : (held held' : Held) → ServedJob → (taken taken' : List ℕ) → Type 0
+abbrev pub TookPart : (held held' : Held) → JobGiven → (taken taken' : List ℕ) → Type 0
 TookPart held held' job taken taken' = (taken' ≡ taken) ⊎ IsCutOff held held' job taken taken'

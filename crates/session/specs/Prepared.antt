@@ -1,5 +1,6 @@
 -- What stands between the texts of a session and its run.
 use Rattle.std.specs.Prelude.{◌≡◌, ℕ, List}
+use Rattle.command_line.specs.Words.{Text}
 use Rattle.debug_records.specs.declared.mode.Mode.{Mode}
 use Rattle.image_form.specs.Form.{Form, form}
 use Rattle.image_form.specs.Rules.{IsImage}
@@ -8,13 +9,13 @@ use Rattle.c_source.specs.Sources.{HasProgram}
 use Rattle.session.specs.Truth.{IsTruthfulTo}
 use Rattle.session.specs.declared.preparing.Made.{Made}
 
--- The text is of a program, and this is an image of it.
-pub record IsImageFor (text : List ℕ) (mode : Mode) (form : Form) : Type 0 where
+-- The text is of a program, and this is an image of it behind the passes of these names.
+pub record IsImageFor (text : List ℕ) (names : List Text) (mode : Mode) (form : Form) : Type 0 where
   pub understood : HasProgram text
   pub image : IsImage form
-  pub truthful : IsTruthfulTo text mode form
+  pub truthful : IsTruthfulTo text names mode form
 
 -- the image of the source, with its bytes
-pub record IsMade (text : List ℕ) (mode : Mode) (made : Made) : Type 0 where
-  pub image : IsImageFor text mode (form made.image)
+pub record IsMade (text : List ℕ) (names : List Text) (mode : Mode) (made : Made) : Type 0 where
+  pub image : IsImageFor text names mode (form made.image)
   pub bytes : made.bytes.items ≡ spelling (form made.image)

@@ -1,72 +1,63 @@
--- The jobs that the program serves.
-use Rattle.std.specs.Prelude.{◌≡◌, Option, Some, None, List, []}
+-- The jobs that the program serves: all of the command line, where the passes that they need are handed in.
+use Rattle.std.specs.Prelude.{◌≡◌, Option, Some, None, List, [], ◌∷◌, codes}
 use Rattle.command_line.specs.Words.{Text}
 use Rattle.command_line.specs.Grammar.{IsJob}
-use Rattle.command_line.specs.Job.{AttachGiven, CompileGiven, DebugGiven, JobGiven, attach, attach_given, compile, compile_given, debug, debug_given}
+use Rattle.command_line.specs.Job.{JobGiven, attach, compile, debug, passes, sweep}
+use Rattle.debug_records.specs.declared.change.PassName.{PassName}
 use Rattle.debug_records.specs.declared.mode.Mode.{Mode}
-use Rattle.session.specs.declared.asking.Task as declared-task
-use Rattle.session.specs.declared.asking.Task.TheVariants as task
+use Rattle.pass_runs.specs.HandedIn.{AreHandedIn}
 
--- a job of those that the program serves
-pub data ServedJob : Type 0 where
-  ForDebug : DebugGiven → ServedJob
-  ForCompile : CompileGiven → ServedJob
-  ForAttach : AttachGiven → ServedJob
+-- the names of the passes that a `sweep` runs
+abbrev pub default_names : List Text
+default_names = codes "copy" ∷ codes "motion" ∷ codes "dead" ∷ []
 
-abbrev pub task_job : declared-task.Task → ServedJob
-task_job (task.Debug job) = ForDebug (debug_given job)
-task_job (task.Compile job) = ForCompile (compile_given job)
-task_job (task.Attach job) = ForAttach (attach_given job)
+-- the names of the passes that a job needs
+abbrev pub needed : JobGiven → List Text
+needed (debug given) = given.passes
+needed (compile given) = given.passes
+needed (attach given) = []
+needed (passes given) = given.passes
+needed (sweep given) = default_names
 
--- the job `debug` is served where it names no pass
-pub record ServesDebug (job : JobGiven) (given : DebugGiven) : Type 0 where
-  pub debug_is : job ≡ debug given
-  pub passes : given.passes ≡ []
+-- The words are a job, and each pass that it needs is handed in.
+pub record AreServed {P : Type 0} (named : P → PassName) (handed_in : List P) (words : List Text) (job : JobGiven) : Type 0 where
+  pub words_are : IsJob words job
+  pub passes_are : AreHandedIn named handed_in (needed job)
 
--- the job `compile` is served where it names no pass
-pub record ServesCompile (job : JobGiven) (given : CompileGiven) : Type 0 where
-  pub compile_is : job ≡ compile given
-  pub passes : given.passes ≡ []
-
--- the program serves a job: each `attach`, and such a `debug` and `compile`
-abbrev pub Serves : JobGiven → ServedJob → Type 0
-Serves job (ForDebug given) = ServesDebug job given
-Serves job (ForCompile given) = ServesCompile job given
-Serves job (ForAttach given) = job ≡ attach given
-
--- the words are a job that the program serves
-pub record AreServed (words : List Text) (job : ServedJob) : Type 0 where
-  pub given : JobGiven
-  pub words_are : IsJob words given
-  pub served : Serves given job
-
--- the words are no job, or one that the program does not serve
-abbrev pub AreNotServed : List Text → Type 0
-AreNotServed words = (job : ServedJob) → ¬ AreServed words job
+-- the words are no job, or one that needs a pass that is not handed in
+abbrev pub AreNotServed : {P : Type 0} → (P → PassName) → List P → List Text → Type 0
+AreNotServed named handed_in words = (job : JobGiven) → ¬ AreServed named handed_in words job
 
 -- the name of the script, where the job has one
-abbrev pub script_of : ServedJob → Option Text
-script_of (ForDebug given) = Some given.script
-script_of (ForCompile given) = None
-script_of (ForAttach given) = Some given.script
+abbrev pub script_of : JobGiven → Option Text
+script_of (debug given) = Some given.script
+script_of (compile given) = None
+script_of (attach given) = Some given.script
+script_of (passes given) = None
+script_of (sweep given) = None
 
 -- the name of the input, where the job has one
-abbrev pub input_of : ServedJob → Option Text
-input_of (ForDebug given) = Some given.input
-input_of (ForCompile given) = None
-input_of (ForAttach given) = Some given.input
+abbrev pub input_of : JobGiven → Option Text
+input_of (debug given) = Some given.input
+input_of (compile given) = None
+input_of (attach given) = Some given.input
+input_of (passes given) = None
+input_of (sweep given) = None
 
--- Of a job that saves an image of a source: the names of both, and where variables are kept.
+-- Of a job that saves an image of a source: the names of both, the passes that the source goes through, and where variables are kept.
 pub record Saving : Type 0 where
   pub source : Text
+  pub passes : List Text
   pub mode : Mode
   pub image : Text
 
 -- which image of which source a job saves, where it saves one
-abbrev pub saving_of : ServedJob → Option Saving
-saving_of (ForDebug given) = Some (record { source = given.source; mode = given.mode; image = given.image })
-saving_of (ForCompile given) = Some (record { source = given.source; mode = given.mode; image = given.image })
-saving_of (ForAttach given) = None
+abbrev pub saving_of : JobGiven → Option Saving
+saving_of (debug given) = Some (record { source = given.source; passes = given.passes; mode = given.mode; image = given.image })
+saving_of (compile given) = Some (record { source = given.source; passes = given.passes; mode = given.mode; image = given.image })
+saving_of (attach given) = None
+saving_of (passes given) = None
+saving_of (sweep given) = None
 
 -- the job has such a thing, and of it this is true
 abbrev pub With : {A : Type 0} → Option A → (A → Type 0) → Type 0
@@ -79,5 +70,5 @@ IfGiven None P = Unit {0}
 IfGiven (Some x) P = P x
 
 -- the job saves to this name: a `debug` and a `compile` save, and there the image
-abbrev pub SavesTo : ServedJob → Text → Type 0
+abbrev pub SavesTo : JobGiven → Text → Type 0
 SavesTo job name = With (saving_of job) (λ (s : Saving). name ≡ s.image)

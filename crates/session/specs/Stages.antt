@@ -1,8 +1,12 @@
 -- What each stage of a session answers.
-use Rattle.std.specs.Prelude.{◌≡◌, ℕ, List, Vec, Result, Ok, Err, string_bytes}
+use Rattle.std.specs.Prelude.{◌≡◌, ℕ, List, [], Vec, Result, Ok, Err, string_bytes}
 use Rattle.std.specs.Global.{Global}
 use Rattle.outside.specs.Counts.{RoseOrStands}
-use Rattle.image_form.specs.Form.{form}
+use Rattle.image_form.specs.Form.{Form, form}
+use Rattle.debug_records.specs.declared.mode.Mode.TheVariants.{Registers}
+use Rattle.run_summary.specs.Summary.{IsSummed}
+use Rattle.run_summary.specs.declared.summary.Summary.{Summary}
+use Rattle.work_gen.specs.Generated.{text as generated}
 use Rattle.image_form.specs.Rules.{IsImage}
 use Rattle.image_form.specs.Spelling.{spelling}
 use Rattle.image_form.specs.declared.format.Image.{Image}
@@ -13,12 +17,16 @@ use Rattle.script_form.specs.Refusal.{IsRefused}
 use Rattle.script_form.specs.declared.command.Command.{Command}
 use Rattle.command_line.specs.Words.{Text}
 use Rattle.debug_records.specs.declared.mode.Mode.{Mode}
+use Rattle.debug_records.specs.declared.change.PassName.{PassName}
+use Rattle.pass_runs.specs.HandedIn.{AreHandedIn}
 use Rattle.session.specs.Causes.{AreNoImage}
 use Rattle.c_source.specs.Sources.{HasProgram, program_of_source}
-use Rattle.session.specs.Front.{IsRefusedSource}
+use Rattle.session.specs.Front.{IsRefusedSource, IsStraight}
 use Rattle.session.specs.Prepared.{IsImageFor, IsMade}
-use Rattle.session.specs.Served.{AreNotServed, AreServed, task_job}
-use Rattle.session.specs.declared.asking.Task.{Task}
+use Rattle.session.specs.Served.{AreNotServed, AreServed, default_names, needed}
+use Rattle.session.specs.Summing.{sweep_limit}
+use Rattle.command_line.specs.declared.job.Job.{Job}
+use Rattle.command_line.specs.Job.{SweepGiven, job_given}
 use Rattle.session.specs.declared.preparing.Made.{Made}
 
 -- a load ends well, or with a fault that the count of loads shows, or wants memory, or finds a text of this kind too long
@@ -29,12 +37,19 @@ LoadEnds (Err NoMemory) old new Long = new ≡ old
 LoadEnds (Err (TooLong name)) old new Long = (new ≡ old) × Long (string_bytes name)
 LoadEnds (Err _) old new Long = ⊥
 
+-- the job, where each pass that it needs is handed in, or memory was wanting
+abbrev pub CheckEnds : {P : Type 0} → (P → PassName) → List P → Result Job Status → Job → Type 0
+CheckEnds named handed_in (Ok found) job = (found ≡ job) × AreHandedIn named handed_in (needed (job_given job))
+CheckEnds named handed_in (Err Usage) job = ¬ AreHandedIn named handed_in (needed (job_given job))
+CheckEnds named handed_in (Err NoMemory) job = Unit {0}
+CheckEnds named handed_in (Err _) job = ⊥
+
 -- the words ask for a job that the program serves, or for none, or memory was wanting
-abbrev pub AskEnds : Result Task Status → (words : List Text) → Type 0
-AskEnds (Ok job) words = AreServed words (task_job job)
-AskEnds (Err Usage) words = AreNotServed words
-AskEnds (Err NoMemory) words = Unit {0}
-AskEnds (Err _) words = ⊥
+abbrev pub AskEnds : {P : Type 0} → (P → PassName) → List P → Result Job Status → (words : List Text) → Type 0
+AskEnds named handed_in (Ok job) words = AreServed named handed_in words (job_given job)
+AskEnds named handed_in (Err Usage) words = AreNotServed named handed_in words
+AskEnds named handed_in (Err NoMemory) words = Unit {0}
+AskEnds named handed_in (Err _) words = ⊥
 
 -- a status that says of a name that its text is too long, or that memory was wanting
 abbrev pub SaysTooLong : Status → List ℕ → Type 0
@@ -57,18 +72,36 @@ FrontEnds (Err NoMemory) source = Unit {0}
 FrontEnds (Err _) source = ⊥
 
 -- this is an image of the source, or it is refused, or memory was wanting
-abbrev pub CompileEnds : Result Image Status → (source : List ℕ) → Mode → Type 0
-CompileEnds (Ok image) source mode = IsImageFor source mode (form image)
-CompileEnds (Err (SourceRefused code line)) source mode = IsRefusedSource source mode code line
-CompileEnds (Err NoMemory) source mode = Unit {0}
-CompileEnds (Err _) source mode = ⊥
+abbrev pub CompileEnds : Result Image Status → (source : List ℕ) → (names : List Text) → Mode → Type 0
+CompileEnds (Ok image) source names mode = IsImageFor source names mode (form image)
+CompileEnds (Err (SourceRefused code line)) source names mode = IsRefusedSource (IsStraight names mode) source code line
+CompileEnds (Err NoMemory) source names mode = Unit {0}
+CompileEnds (Err _) source names mode = ⊥
 
 -- the source is of a program and its image is made, or it is refused, or memory was wanting
-abbrev pub MakeEnds : Result Made Status → (source : List ℕ) → Mode → Type 0
-MakeEnds (Ok made) source mode = IsMade source mode made
-MakeEnds (Err (SourceRefused code line)) source mode = IsRefusedSource source mode code line
-MakeEnds (Err NoMemory) source mode = Unit {0}
-MakeEnds (Err _) source mode = ⊥
+abbrev pub MakeEnds : Result Made Status → (source : List ℕ) → (names : List Text) → Mode → Type 0
+MakeEnds (Ok made) source names mode = IsMade source names mode made
+MakeEnds (Err (SourceRefused code line)) source names mode = IsRefusedSource (IsStraight names mode) source code line
+MakeEnds (Err NoMemory) source names mode = Unit {0}
+MakeEnds (Err _) source names mode = ⊥
+
+-- the summary of the run of an image of the generated source, or that source is refused, or memory was wanting
+abbrev pub SweepEnds : Result Summary Status → SweepGiven → Type 0
+SweepEnds (Ok summary) given = (m : Form) × IsImageFor (generated given.seed given.size) default_names Registers m × IsSummed m [] sweep_limit summary
+SweepEnds (Err (SourceRefused code line)) given = IsRefusedSource (λ _. ⊥) (generated given.seed given.size) code line
+SweepEnds (Err NoMemory) given = Unit {0}
+SweepEnds (Err _) given = ⊥
+
+-- a source whose changes are listed is refused, or memory was wanting
+abbrev pub ListFails : Status → (source : List ℕ) → Type 0
+ListFails (SourceRefused code line) source = IsRefusedSource (λ _. ⊥) source code line
+ListFails NoMemory source = Unit {0}
+ListFails _ source = ⊥
+
+-- the source is of a program, whose changes are listed, or the list fails
+abbrev pub ListEnds : {A : Type 0} → Result A Status → (source : List ℕ) → Type 0
+ListEnds (Ok changes) source = HasProgram source
+ListEnds (Err status) source = ListFails status source
 
 -- the script asks for the commands, or is refused for its first line that breaks a rule, or memory was wanting
 abbrev pub ScriptEnds : Result (Vec Command Global) Status → (script : List ℕ) → Type 0

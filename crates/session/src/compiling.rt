@@ -1,26 +1,45 @@
 //! The compilation of a source.
 
 ghost use Rattle.std.specs.Prelude.{ℕ, Bool, List};
-ghost use Rattle.command_line.specs.Job.{compile_given};
-ghost use Rattle.session.specs.Served.{ForCompile};
+ghost use Rattle.command_line.specs.Job as given;
 ghost use Rattle.session.specs.Ending.{Ends};
+ghost use Rattle.session.specs.Stages.{MakeEnds};
 
 use crate::loading::{load_source, save_image};
-use crate::preparing::make;
+use crate::preparing;
+use crate::preparing::Made;
 use command_line::Compile;
 use line_form::Status;
 use outside::Shelf;
+use pass_runs::UnitPass;
 use std::alloc::Global;
 
+/// The image of the source of a job, and its bytes.
+fn make(
+    alloc: Global,
+    source: &[u8],
+    passes: &[Box<dyn UnitPass>],
+    job: &Compile,
+) -> Result<Made, Status>
+    ensures { MakeEnds result source.now (given.compile_given job.now).passes job.now.mode }
+{
+    preparing::make(alloc, source, passes, &job.passes, job.mode)
+}
+
 /// Loads a source, compiles it and saves the image. Nothing is put out, whatever a sink took before.
-pub fn compile<S: Shelf>(alloc: Global, job: &Compile, shelf: &mut S) -> Status
-    ensures { (puts : ℕ) (sink_tells : Bool) (taken : List ℕ) → Ends (ForCompile (compile_given job.now)) (record { loads = S.load_count shelf.old; saves = S.save_count shelf.old; puts = puts; shelf_tells = S.tells shelf.old; held = S.held shelf.old; sink_tells = sink_tells; taken = taken }) result (record { loads = S.load_count shelf.new; saves = S.save_count shelf.new; puts = puts; shelf_tells = S.tells shelf.new; held = S.held shelf.new; sink_tells = sink_tells; taken = taken }) }
+pub fn compile<S: Shelf>(
+    alloc: Global,
+    job: &Compile,
+    passes: &[Box<dyn UnitPass>],
+    shelf: &mut S,
+) -> Status
+    ensures { (puts : ℕ) (sink_tells : Bool) (taken : List ℕ) → Ends (given.compile (given.compile_given job.now)) (record { loads = S.load_count shelf.old; saves = S.save_count shelf.old; puts = puts; shelf_tells = S.tells shelf.old; held = S.held shelf.old; sink_tells = sink_tells; taken = taken }) result (record { loads = S.load_count shelf.new; saves = S.save_count shelf.new; puts = puts; shelf_tells = S.tells shelf.new; held = S.held shelf.new; sink_tells = sink_tells; taken = taken }) }
 {
     let source = match load_source(alloc, shelf, job.source.as_str()) {
         Ok(source) => source,
         Err(status) => return status,
     };
-    let made = match make(alloc, &source, job.mode) {
+    let made = match make(alloc, &source, passes, job) {
         Ok(made) => made,
         Err(status) => return status,
     };

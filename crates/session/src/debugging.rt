@@ -1,26 +1,46 @@
 //! The session of a source.
 
-ghost use Rattle.command_line.specs.Job.{debug_given};
-ghost use Rattle.session.specs.Served.{ForDebug};
+ghost use Rattle.command_line.specs.Job as given;
 ghost use Rattle.session.specs.Ending.{Ends};
+ghost use Rattle.session.specs.Stages.{MakeEnds};
 
 use crate::loading::{load_texts, save_image};
 use crate::playing::play;
-use crate::preparing::{make, read_script};
+use crate::preparing;
+use crate::preparing::{Made, read_script};
 use command_line::Debug;
 use line_form::Status;
 use outside::{Shelf, Sink};
+use pass_runs::UnitPass;
 use std::alloc::Global;
 
+/// The image of the source of a job, and its bytes.
+fn make(
+    alloc: Global,
+    source: &[u8],
+    passes: &[Box<dyn UnitPass>],
+    job: &Debug,
+) -> Result<Made, Status>
+    ensures { MakeEnds result source.now (given.debug_given job.now).passes job.now.mode }
+{
+    preparing::make(alloc, source, passes, &job.passes, job.mode)
+}
+
 /// Loads the texts, compiles the source, saves the image and puts out the transcript of the script.
-pub fn debug<S: Shelf, K: Sink>(alloc: Global, job: &Debug, shelf: &mut S, sink: &mut K) -> Status
-    ensures { Ends (ForDebug (debug_given job.now)) (record { loads = S.load_count shelf.old; saves = S.save_count shelf.old; puts = K.fault_count sink.old; shelf_tells = S.tells shelf.old; held = S.held shelf.old; sink_tells = K.tells sink.old; taken = K.taken sink.old }) result (record { loads = S.load_count shelf.new; saves = S.save_count shelf.new; puts = K.fault_count sink.new; shelf_tells = S.tells shelf.new; held = S.held shelf.new; sink_tells = K.tells sink.new; taken = K.taken sink.new }) }
+pub fn debug<S: Shelf, K: Sink>(
+    alloc: Global,
+    job: &Debug,
+    passes: &[Box<dyn UnitPass>],
+    shelf: &mut S,
+    sink: &mut K,
+) -> Status
+    ensures { Ends (given.debug (given.debug_given job.now)) (record { loads = S.load_count shelf.old; saves = S.save_count shelf.old; puts = K.fault_count sink.old; shelf_tells = S.tells shelf.old; held = S.held shelf.old; sink_tells = K.tells sink.old; taken = K.taken sink.old }) result (record { loads = S.load_count shelf.new; saves = S.save_count shelf.new; puts = K.fault_count sink.new; shelf_tells = S.tells shelf.new; held = S.held shelf.new; sink_tells = K.tells sink.new; taken = K.taken sink.new }) }
 {
     let texts = match load_texts(alloc, shelf, job) {
         Ok(texts) => texts,
         Err(status) => return status,
     };
-    let made = match make(alloc, &texts.source, job.mode) {
+    let made = match make(alloc, &texts.source, passes, job) {
         Ok(made) => made,
         Err(status) => return status,
     };

@@ -5,9 +5,11 @@ mod asking;
 mod attaching;
 mod compiling;
 mod debugging;
+mod listing;
 mod loading;
 mod playing;
 mod preparing;
+mod sweeping;
 mod top;
 
 pub use top::session;

@@ -2,8 +2,7 @@
 
 ghost use Rattle.std.specs.Prelude.{◌≡◌, ◌≢◌, ℕ, ◌<◌, ◌≤◌, true, List, Some, IfOk, OnOk, OnErr, length};
 ghost use Rattle.outside.specs.Held.{IsKeptOrCut, Loads};
-ghost use Rattle.command_line.specs.Job.{attach_given, debug_given};
-ghost use Rattle.session.specs.Served.{ForAttach, ForDebug};
+ghost use Rattle.command_line.specs.Job.{attach, attach_given, debug, debug_given};
 ghost use Rattle.session.specs.Limits.{IsBeyond, IsThere, IsTooLong, image_limit, input_limit};
 ghost use Rattle.session.specs.Stages.{LoadEnds, SaysTooLong, WriteEnds};
 
@@ -108,7 +107,7 @@ fn load_whole<S: Shelf>(
 
 /// Loads the source, the script and the input, in this order. The script and the input are refused directly where they are too long.
 pub fn load_texts<S: Shelf>(alloc: Global, shelf: &mut S, job: &Debug) -> Result<Texts, Status>
-    ensures ends { LoadEnds result (S.load_count shelf.old) (S.load_count shelf.new) (λ said. S.tells shelf.old ≡ true → IsTooLong (S.held shelf.old) (ForDebug (debug_given job.now)) said) }
+    ensures ends { LoadEnds result (S.load_count shelf.old) (S.load_count shelf.new) (λ said. S.tells shelf.old ≡ true → IsTooLong (S.held shelf.old) (debug (debug_given job.now)) said) }
     ensures saves { S.save_count shelf.new ≡ S.save_count shelf.old }
     ensures telling { S.tells shelf.new ≡ S.tells shelf.old }
     ensures same { (n : List ℕ) → S.tells shelf.old ≡ true → S.held shelf.new n ≡ S.held shelf.old n }
@@ -143,7 +142,7 @@ pub fn load_attached<S: Shelf>(
     shelf: &mut S,
     job: &Attach,
 ) -> Result<Attached, Status>
-    ensures ends { LoadEnds result (S.load_count shelf.old) (S.load_count shelf.new) (λ said. S.tells shelf.old ≡ true → IsTooLong (S.held shelf.old) (ForAttach (attach_given job.now)) said) }
+    ensures ends { LoadEnds result (S.load_count shelf.old) (S.load_count shelf.new) (λ said. S.tells shelf.old ≡ true → IsTooLong (S.held shelf.old) (attach (attach_given job.now)) said) }
     ensures saves { S.save_count shelf.new ≡ S.save_count shelf.old }
     ensures telling { S.tells shelf.new ≡ S.tells shelf.old }
     ensures same { (n : List ℕ) → S.tells shelf.old ≡ true → S.held shelf.new n ≡ S.held shelf.old n }

@@ -38,8 +38,8 @@ fn put_line<K: Sink>(alloc: Global, text: &[u8], sink: &mut K) -> Result<(), Sta
     }
 }
 
-// Puts the lines one after the other.
-fn put_lines<K: Sink>(alloc: Global, lines: &[Vec<u8>], sink: &mut K) -> Result<(), Status>
+/// Puts the lines one after the other.
+pub fn put_lines<K: Sink>(alloc: Global, lines: &[Vec<u8>], sink: &mut K) -> Result<(), Status>
     ensures ends { WriteEnds result (K.fault_count sink.old) (K.fault_count sink.new) }
     ensures telling { K.tells sink.new ≡ K.tells sink.old }
     ensures whole { OnOk result (K.tells sink.old ≡ true → K.taken sink.new ≡ K.taken sink.old ++ flat_map line (map (λ l. l.items) lines.now)) }

@@ -1,17 +1,19 @@
 //! From the texts to what is played.
 
-ghost use Rattle.std.specs.Prelude.{IfOk, IfSome, MatchOption};
+ghost use Rattle.std.specs.Prelude.{IfOk, IfSome, MatchOption, map};
+ghost use Rattle.debug_records.specs.Change.{letters};
 ghost use Rattle.image_form.specs.Form.{form};
 ghost use Rattle.image_form.specs.Rules.{IsImage};
 ghost use Rattle.session.specs.Front.{IsStraight};
-ghost use Rattle.session.specs.Stages.{CompileEnds, FrontEnds, ImageEnds, MakeEnds, ScriptEnds};
+ghost use Rattle.session.specs.Stages.{CompileEnds, FrontEnds, ImageEnds, ListEnds, MakeEnds, ScriptEnds};
 ghost use Rattle.session.specs.Truth.{IsTruthfulTo};
 
 use c_tree::Program;
-use debug_records::{Code, Mode, SourceErr};
+use debug_records::{Code, Mode, PassName, SourceErr};
 use image_form::{Image, ImageErr, write};
 use line_form::Status;
-use program_image::image_of_program;
+use pass_runs::UnitPass;
+use program_image::{NamedChange, changes_of_program, image_of_program};
 use script_form::{Command, ScriptErr};
 use std::alloc::{AllocError, Global};
 use thin_build::build;
@@ -24,11 +26,16 @@ pub struct Made {
     pub bytes: Vec<u8>,
 }
 
-/// The image of a source that is a straight-line `main`, where variables are kept in slots; else none.
-fn straight_image(alloc: Global, source: &[u8], mode: Mode) -> Result<Option<Image>, AllocError>
-    ensures { IfOk result (λ made. MatchOption made (¬ IsStraight source.now mode) (λ image. IsImage (form image) × IsTruthfulTo source.now mode (form image))) }
+/// The image of a source that is a straight-line `main`, where no pass is run and variables are kept in slots; else none.
+fn straight_image(
+    alloc: Global,
+    source: &[u8],
+    names: &[PassName],
+    mode: Mode,
+) -> Result<Option<Image>, AllocError>
+    ensures { IfOk result (λ made. MatchOption made (¬ IsStraight (map letters names.now) mode source.now) (λ image. IsImage (form image) × IsTruthfulTo source.now (map letters names.now) mode (form image))) }
 {
-    if mode == Mode::Registers {
+    if !names.is_empty() || mode == Mode::Registers {
         return Ok(None);
     }
     match thin_form::read(alloc, source) {
@@ -39,30 +46,38 @@ fn straight_image(alloc: Global, source: &[u8], mode: Mode) -> Result<Option<Ima
 }
 
 /// The image of a program; none where it is not compiled so far.
-fn general_image(alloc: Global, program: Program, mode: Mode) -> Result<Option<Image>, AllocError>
+fn general_image(
+    alloc: Global,
+    program: Program,
+    passes: &[Box<dyn UnitPass>],
+    names: &[PassName],
+    mode: Mode,
+) -> Result<Option<Image>, AllocError>
     ensures { IfOk result (λ made. IfSome made (λ image. IsImage (form image))) }
 {
-    match image_of_program(alloc, program, mode)? {
+    match image_of_program(alloc, program, passes, names, mode)? {
         Some(build) => Ok(Some(build.image)),
         None => Ok(None),
     }
 }
 
-/// The image of a program, whose source this is: a straight-line `main` with slots is compiled by the way that is proved to be truthful. None
+/// The image of a program, whose source this is: a straight-line `main` with slots and no pass is compiled by the way that is proved to be truthful. None
 /// where the program is not compiled so far.
 fn image_for(
     alloc: Global,
     source: &[u8],
     program: Program,
+    passes: &[Box<dyn UnitPass>],
+    names: &[PassName],
     mode: Mode,
 ) -> Result<Option<Image>, AllocError>
-    ensures { IfOk result (λ made. MatchOption made (¬ IsStraight source.now mode) (λ image. IsImage (form image) × IsTruthfulTo source.now mode (form image))) }
+    ensures { IfOk result (λ made. MatchOption made (¬ IsStraight (map letters names.now) mode source.now) (λ image. IsImage (form image) × IsTruthfulTo source.now (map letters names.now) mode (form image))) }
 {
-    let straight = straight_image(alloc, source, mode)?;
+    let straight = straight_image(alloc, source, names, mode)?;
     if straight.is_some() {
         return Ok(straight);
     }
-    match general_image(alloc, program, mode)? {
+    match general_image(alloc, program, passes, names, mode)? {
         Some(image) => Ok(Some(image)),
         None => Ok(None),
     }
@@ -81,24 +96,53 @@ fn understood(alloc: Global, source: &[u8]) -> Result<Program, Status>
 
 /// The image of a source. Refused for the first rule of C that the source breaks; and by E11 and line 1 where it breaks none and is not
 /// compiled so far.
-fn compiled(alloc: Global, source: &[u8], mode: Mode) -> Result<Image, Status>
-    ensures { CompileEnds result source.now mode }
+fn compiled(
+    alloc: Global,
+    source: &[u8],
+    passes: &[Box<dyn UnitPass>],
+    names: &[PassName],
+    mode: Mode,
+) -> Result<Image, Status>
+    ensures { CompileEnds result source.now (map letters names.now) mode }
 {
     let program = understood(alloc, source)?;
-    match image_for(alloc, source, program, mode) {
+    match image_for(alloc, source, program, passes, names, mode) {
         Ok(Some(image)) => Ok(image),
         Ok(None) => Err(Status::SourceRefused(Code::UNEXPECTED_KEYWORD, 1)),
         Err(_) => Err(Status::NoMemory),
     }
 }
 
-/// The image of a source, and its bytes. Refused as the source is.
-pub fn make(alloc: Global, source: &[u8], mode: Mode) -> Result<Made, Status>
-    ensures { MakeEnds result source.now mode }
+/// The image of a source behind the passes of these names, and its bytes. Refused as the source is.
+pub fn make(
+    alloc: Global,
+    source: &[u8],
+    passes: &[Box<dyn UnitPass>],
+    names: &[PassName],
+    mode: Mode,
+) -> Result<Made, Status>
+    ensures { MakeEnds result source.now (map letters names.now) mode }
 {
-    let image = compiled(alloc, source, mode)?;
+    let image = compiled(alloc, source, passes, names, mode)?;
     match write(alloc, &image) {
         Ok(bytes) => Ok(Made { image, bytes }),
+        Err(_) => Err(Status::NoMemory),
+    }
+}
+
+/// The changes that the passes of these names make in a source. Refused as the source is.
+pub fn list(
+    alloc: Global,
+    source: &[u8],
+    passes: &[Box<dyn UnitPass>],
+    names: &[PassName],
+) -> Result<Vec<NamedChange>, Status>
+    ensures { ListEnds result source.now }
+{
+    let program = understood(alloc, source)?;
+    match changes_of_program(alloc, &program, passes, names) {
+        Ok(Some(changes)) => Ok(changes),
+        Ok(None) => Err(Status::SourceRefused(Code::UNEXPECTED_KEYWORD, 1)),
         Err(_) => Err(Status::NoMemory),
     }
 }

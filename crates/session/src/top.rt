@@ -5,38 +5,54 @@ ghost use Rattle.std.specs.Global.{Global};
 ghost use Rattle.outside.specs.Counts.{RoseOrStands};
 ghost use Rattle.line_form.specs.declared.status.Status.TheVariants.{Done, Usage, SourceRefused, ScriptRefused, ReadFault, WriteFault, NoMemory, ImageRefused, TooLong};
 ghost use Rattle.debug_records.specs.declared.code.Code.{Code};
-ghost use Rattle.session.specs.Served.{AreNotServed, AreServed, SavesTo, ServedJob, task_job};
+ghost use Rattle.command_line.specs.Job.{JobGiven, job_given};
+ghost use Rattle.session.specs.Served.{AreNotServed, AreServed, SavesTo};
 ghost use Rattle.session.specs.Limits.{AreWithin, IsTooLong};
 ghost use Rattle.session.specs.Causes.{SourceIsRefused, ImageIsRefused, ScriptIsRefused, AreAccepted, HasLoaded, IsEarly, IsCut, IsLeftOut};
 ghost use Rattle.session.specs.Ending.{Ends};
 ghost use Rattle.session.specs.Outcome.{HasLeft, HasSaved, IsDone, TookPart};
 
-use crate::asking::{Task, asked};
+use crate::asking::asked;
 use crate::attaching::attach;
 use crate::compiling::compile;
 use crate::debugging::debug;
+use crate::listing::list_changes;
+use crate::sweeping::sweep;
+use command_line::Job;
 use line_form::Status;
 use outside::{Shelf, Sink};
+use pass_runs::UnitPass;
 use std::alloc::Global;
 
 // Carries out a job that the program serves.
-fn serve<S: Shelf, K: Sink>(alloc: Global, job: &Task, shelf: &mut S, sink: &mut K) -> Status
-    ensures { Ends (task_job job.now) (record { loads = S.load_count shelf.old; saves = S.save_count shelf.old; puts = K.fault_count sink.old; shelf_tells = S.tells shelf.old; held = S.held shelf.old; sink_tells = K.tells sink.old; taken = K.taken sink.old }) result (record { loads = S.load_count shelf.new; saves = S.save_count shelf.new; puts = K.fault_count sink.new; shelf_tells = S.tells shelf.new; held = S.held shelf.new; sink_tells = K.tells sink.new; taken = K.taken sink.new }) }
+fn serve<S: Shelf, K: Sink>(
+    alloc: Global,
+    job: &Job,
+    passes: &[Box<dyn UnitPass>],
+    shelf: &mut S,
+    sink: &mut K,
+) -> Status
+    ensures { Ends (job_given job.now) (record { loads = S.load_count shelf.old; saves = S.save_count shelf.old; puts = K.fault_count sink.old; shelf_tells = S.tells shelf.old; held = S.held shelf.old; sink_tells = K.tells sink.old; taken = K.taken sink.old }) result (record { loads = S.load_count shelf.new; saves = S.save_count shelf.new; puts = K.fault_count sink.new; shelf_tells = S.tells shelf.new; held = S.held shelf.new; sink_tells = K.tells sink.new; taken = K.taken sink.new }) }
 {
     match job {
-        Task::Debug(job) => debug(alloc, job, shelf, sink),
-        Task::Compile(job) => compile(alloc, job, shelf),
-        Task::Attach(job) => attach(alloc, job, shelf, sink),
+        Job::Debug(job) => debug(alloc, job, passes, shelf, sink),
+        Job::Compile(job) => compile(alloc, job, passes, shelf),
+        Job::Attach(job) => attach(alloc, job, shelf, sink),
+        Job::Passes(job) => list_changes(alloc, job, passes, shelf, sink),
+        Job::Sweep(job) => sweep(alloc, job, passes, sink),
     }
 }
 
-/// One session: the words are the program's own name and then those of a job, which so far is
-/// `debug --passes none [--homes MODE] [--limit N] SRC SCRIPT INPUT IMAGE`, `compile --passes none [--homes MODE] SRC IMAGE` or
-/// `attach [--limit N] IMAGE SCRIPT INPUT`, its options and names in any order.
+/// One session: the words are the program's own name and then those of a job, which is
+/// `debug [--passes LIST] [--homes MODE] [--limit N] SRC SCRIPT INPUT IMAGE`, `compile [--passes LIST] [--homes MODE] SRC IMAGE`,
+/// `attach [--limit N] IMAGE SCRIPT INPUT`, `passes [--passes LIST] SRC` or `sweep SEED SIZE`, its options and names in any order. The passes of the list
+/// are those that are handed in; of two of one name the first is taken.
 ///
 /// `debug` loads the source, the script and the input from the shelf, in this order, compiles the source, saves the image, and puts
 /// the transcript of the script on the sink, each line in one piece. `compile` loads the source, compiles it and saves the image.
-/// `attach` loads the image, the script and the input, and puts the transcript. The first fault ends it: `Usage` where the words are no job that the program serves, `ReadFault` where a load
+/// `attach` loads the image, the script and the input, and puts the transcript. `passes` loads the source, and puts a line for each change that the passes make in it.
+/// `sweep` compiles a generated program, steps its run to the end, and puts a summary of five lines. The first fault ends it: `Usage` where the words are no job, or
+/// one that needs a pass that is not handed in, `ReadFault` where a load
 /// failed, `TooLong` where the image has more than 67,108,864 bytes, the script more than 1,048,576 or the input more than
 /// 16,777,216, `ImageRefused` where the bytes of the image spell none, `SourceRefused` where the source breaks a rule of C, or breaks
 /// none and is not compiled so far, `ScriptRefused` where the script is none, `WriteFault` where the save or a line failed, and
@@ -44,45 +60,46 @@ fn serve<S: Shelf, K: Sink>(alloc: Global, job: &Task, shelf: &mut S, sink: &mut
 pub fn session<S: Shelf, K: Sink>(
     alloc: Global,
     words: &[String],
+    passes: &[Box<dyn UnitPass>],
     shelf: &mut S,
     sink: &mut K,
 ) -> Status
     // Each fault comes exactly where its cause holds, in the order of the stages.
-    ensures usage { result ≡ Usage → AreNotServed (map string_bytes words.now) }
-    ensures usage_only { AreNotServed (map string_bytes words.now) → (result ≡ Usage) ⊎ (result ≡ NoMemory) }
+    ensures usage { result ≡ Usage → AreNotServed (λ p. named p) passes.now (map string_bytes words.now) }
+    ensures usage_only { AreNotServed (λ p. named p) passes.now (map string_bytes words.now) → (result ≡ Usage) ⊎ (result ≡ NoMemory) }
     ensures read { result ≡ ReadFault → RoseOrStands (S.load_count shelf.old) (S.load_count shelf.new) }
     ensures read_only { result ≢ ReadFault → S.load_count shelf.new ≡ S.load_count shelf.old }
-    ensures too_long { (asked : ServedJob) (name : String Global) → AreServed (map string_bytes words.now) asked → result ≡ TooLong name → S.tells shelf.old ≡ true → IsTooLong (S.held shelf.old) asked (string_bytes name) }
-    ensures within { (asked : ServedJob) → AreServed (map string_bytes words.now) asked → HasLoaded result → S.tells shelf.old ≡ true → AreWithin (S.held shelf.old) asked }
-    ensures image { (asked : ServedJob) (code : Code) (offset : ℕ) → AreServed (map string_bytes words.now) asked → result ≡ ImageRefused code offset → S.tells shelf.old ≡ true → ImageIsRefused (S.held shelf.old) asked code offset }
-    ensures source { (asked : ServedJob) (code : Code) (line : ℕ) → AreServed (map string_bytes words.now) asked → result ≡ SourceRefused code line → S.tells shelf.old ≡ true → SourceIsRefused (S.held shelf.old) asked code line }
-    ensures script { (asked : ServedJob) (code : Code) (line : ℕ) → AreServed (map string_bytes words.now) asked → result ≡ ScriptRefused code line → S.tells shelf.old ≡ true → ScriptIsRefused (S.held shelf.old) asked code line }
-    ensures accepted { (asked : ServedJob) → AreServed (map string_bytes words.now) asked → (result ≡ Done) ⊎ (result ≡ WriteFault) → S.tells shelf.old ≡ true → AreAccepted (S.held shelf.old) asked }
+    ensures too_long { (asked : JobGiven) (name : String Global) → AreServed (λ p. named p) passes.now (map string_bytes words.now) asked → result ≡ TooLong name → S.tells shelf.old ≡ true → IsTooLong (S.held shelf.old) asked (string_bytes name) }
+    ensures within { (asked : JobGiven) → AreServed (λ p. named p) passes.now (map string_bytes words.now) asked → HasLoaded result → S.tells shelf.old ≡ true → AreWithin (S.held shelf.old) asked }
+    ensures image { (asked : JobGiven) (code : Code) (offset : ℕ) → AreServed (λ p. named p) passes.now (map string_bytes words.now) asked → result ≡ ImageRefused code offset → S.tells shelf.old ≡ true → ImageIsRefused (S.held shelf.old) asked code offset }
+    ensures source { (asked : JobGiven) (code : Code) (line : ℕ) → AreServed (λ p. named p) passes.now (map string_bytes words.now) asked → result ≡ SourceRefused code line → S.tells shelf.old ≡ true → SourceIsRefused (S.held shelf.old) asked code line }
+    ensures script { (asked : JobGiven) (code : Code) (line : ℕ) → AreServed (λ p. named p) passes.now (map string_bytes words.now) asked → result ≡ ScriptRefused code line → S.tells shelf.old ≡ true → ScriptIsRefused (S.held shelf.old) asked code line }
+    ensures accepted { (asked : JobGiven) → AreServed (λ p. named p) passes.now (map string_bytes words.now) asked → (result ≡ Done) ⊎ (result ≡ WriteFault) → S.tells shelf.old ≡ true → AreAccepted (S.held shelf.old) asked }
     ensures write { result ≡ WriteFault → RoseOrStands (S.save_count shelf.old) (S.save_count shelf.new) ⊎ RoseOrStands (K.fault_count sink.old) (K.fault_count sink.new) }
     ensures write_only { result ≢ WriteFault → (S.save_count shelf.new ≡ S.save_count shelf.old) × (K.fault_count sink.new ≡ K.fault_count sink.old) }
-    ensures complete { (asked : ServedJob) → AreServed (map string_bytes words.now) asked → S.tells shelf.old ≡ true → AreWithin (S.held shelf.old) asked → AreAccepted (S.held shelf.old) asked
+    ensures complete { (asked : JobGiven) → AreServed (λ p. named p) passes.now (map string_bytes words.now) asked → S.tells shelf.old ≡ true → AreWithin (S.held shelf.old) asked → AreAccepted (S.held shelf.old) asked
         → ¬ RoseOrStands (S.load_count shelf.old) (S.load_count shelf.new) → ¬ RoseOrStands (S.save_count shelf.old) (S.save_count shelf.new) → ¬ RoseOrStands (K.fault_count sink.old) (K.fault_count sink.new) → (result ≡ Done) ⊎ ((result ≡ NoMemory) ⊎ IsLeftOut (S.held shelf.old) asked result) }
 
     // What stays: before anything was saved or put out nothing changes, and only the image's name of a `debug` or a `compile` ever does.
     ensures kept { IsEarly result → S.tells shelf.old ≡ true → (n : List ℕ) → S.held shelf.new n ≡ S.held shelf.old n }
     ensures nothing { IsEarly result → K.tells sink.old ≡ true → K.taken sink.new ≡ K.taken sink.old }
-    ensures others { (asked : ServedJob) → AreServed (map string_bytes words.now) asked → S.tells shelf.old ≡ true → (n : List ℕ) → ¬ SavesTo asked n → S.held shelf.new n ≡ S.held shelf.old n }
-    ensures unasked { AreNotServed (map string_bytes words.now) → S.tells shelf.old ≡ true → (n : List ℕ) → S.held shelf.new n ≡ S.held shelf.old n }
-    ensures silent { AreNotServed (map string_bytes words.now) → K.tells sink.old ≡ true → K.taken sink.new ≡ K.taken sink.old }
+    ensures others { (asked : JobGiven) → AreServed (λ p. named p) passes.now (map string_bytes words.now) asked → S.tells shelf.old ≡ true → (n : List ℕ) → ¬ SavesTo asked n → S.held shelf.new n ≡ S.held shelf.old n }
+    ensures unasked { AreNotServed (λ p. named p) passes.now (map string_bytes words.now) → S.tells shelf.old ≡ true → (n : List ℕ) → S.held shelf.new n ≡ S.held shelf.old n }
+    ensures silent { AreNotServed (λ p. named p) passes.now (map string_bytes words.now) → K.tells sink.old ≡ true → K.taken sink.new ≡ K.taken sink.old }
 
     // Under the name of the image a `debug` or a `compile` that is done, or that failed at a line and not at the save, leaves an image that is
     // truthful to the source, and one that is cut off the first part of such an image, or what stood there.
-    ensures saved { (asked : ServedJob) → AreServed (map string_bytes words.now) asked → result ≡ Done → S.tells shelf.old ≡ true → HasSaved (S.held shelf.old) (S.held shelf.new) asked }
-    ensures whole { (asked : ServedJob) → AreServed (map string_bytes words.now) asked → result ≡ WriteFault → ¬ RoseOrStands (S.save_count shelf.old) (S.save_count shelf.new) → S.tells shelf.old ≡ true → HasSaved (S.held shelf.old) (S.held shelf.new) asked }
-    ensures left { (asked : ServedJob) → AreServed (map string_bytes words.now) asked → IsCut result → S.tells shelf.old ≡ true → HasLeft (S.held shelf.old) (S.held shelf.new) asked }
+    ensures saved { (asked : JobGiven) → AreServed (λ p. named p) passes.now (map string_bytes words.now) asked → result ≡ Done → S.tells shelf.old ≡ true → HasSaved (S.held shelf.old) (S.held shelf.new) asked }
+    ensures whole { (asked : JobGiven) → AreServed (λ p. named p) passes.now (map string_bytes words.now) asked → result ≡ WriteFault → ¬ RoseOrStands (S.save_count shelf.old) (S.save_count shelf.new) → S.tells shelf.old ≡ true → HasSaved (S.held shelf.old) (S.held shelf.new) asked }
+    ensures left { (asked : JobGiven) → AreServed (λ p. named p) passes.now (map string_bytes words.now) asked → IsCut result → S.tells shelf.old ≡ true → HasLeft (S.held shelf.old) (S.held shelf.new) asked }
 
     // A session that is cut off has put out the first part of the transcript; one that is done has put out the whole transcript of the
     // image, and the image that a `debug` saved is truthful to the source.
-    ensures part { (asked : ServedJob) → AreServed (map string_bytes words.now) asked → IsCut result → S.tells shelf.old ≡ true → K.tells sink.old ≡ true → TookPart (S.held shelf.old) (S.held shelf.new) asked (K.taken sink.old) (K.taken sink.new) }
-    ensures done { (asked : ServedJob) → AreServed (map string_bytes words.now) asked → result ≡ Done → S.tells shelf.old ≡ true → K.tells sink.old ≡ true → IsDone (S.held shelf.old) (S.held shelf.new) asked (K.taken sink.old) (K.taken sink.new) }
+    ensures part { (asked : JobGiven) → AreServed (λ p. named p) passes.now (map string_bytes words.now) asked → IsCut result → S.tells shelf.old ≡ true → K.tells sink.old ≡ true → TookPart (S.held shelf.old) (S.held shelf.new) asked (K.taken sink.old) (K.taken sink.new) }
+    ensures done { (asked : JobGiven) → AreServed (λ p. named p) passes.now (map string_bytes words.now) asked → result ≡ Done → S.tells shelf.old ≡ true → K.tells sink.old ≡ true → IsDone (S.held shelf.old) (S.held shelf.new) asked (K.taken sink.old) (K.taken sink.new) }
 {
-    match asked(alloc, words) {
-        Ok(job) => serve(alloc, &job, shelf, sink),
+    match asked(alloc, words, passes) {
+        Ok(job) => serve(alloc, &job, passes, shelf, sink),
         Err(status) => status,
     }
 }

@@ -146,7 +146,7 @@ fn static_variables_are_shown(rt: HostRuntime) -> Result<(), Fail> {
 }
 
 /// How many lines a text has that begin so.
-fn count_of_lines(text: &[u8], start: &[u8]) -> usize {
+pub fn count_of_lines(text: &[u8], start: &[u8]) -> usize {
     text.split(|byte| *byte == b'\n')
         .filter(|line| line.starts_with(start))
         .count()

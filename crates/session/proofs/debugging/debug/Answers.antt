@@ -4,13 +4,13 @@ use Rattle.outside.specs.Held.{Loads}
 use Rattle.outside.specs.Taken.{TakesPart}
 use Rattle.script_form.specs.Script.{orders}
 use Rattle.stop_engine.specs.Transcript.{transcript_bytes}
-use Rattle.command_line.specs.Job.{DebugGiven, debug_given}
-use Rattle.session.specs.Served.{ForDebug, Saving}
+use Rattle.command_line.specs.Job.{DebugGiven, debug, debug_given}
+use Rattle.session.specs.Served.{Saving}
 use Rattle.session.proofs.Sessions.{source_refused, script_refused, both_accepted, debugged, image_made, nothing_left, part_left, whole_left, whole_saved, played_same}
 use Rattle.session.proofs.debugging.debug.Goals as goal
 
 abbrev saving : DebugGiven → Saving
-saving given = record { source = given.source; mode = given.mode; image = given.image }
+saving given = record { source = given.source; passes = given.passes; mode = given.mode; image = given.image }
 
 pub returns-in-Err : goal.returns-in-Err
 returns-in-Err g c = record {
@@ -19,7 +19,7 @@ returns-in-Err g c = record {
   image = record {
     saved = search rules;
     whole = search rules;
-    left = λ cut told. nothing_left (g.S.Shelf.held c.args.shelf.now) (g.S.Shelf.held c.load_texts.new.shelf) (ForDebug (debug_given c.args.job.now)) (λ n. c.load_texts.ensures.same n told);
+    left = λ cut told. nothing_left (g.S.Shelf.held c.args.shelf.now) (g.S.Shelf.held c.load_texts.new.shelf) (debug (debug_given c.args.job.now)) (λ n. c.load_texts.ensures.same n told);
   };
   transcript = search rules;
 }
@@ -34,7 +34,7 @@ returns-in-Err-make g c = record {
     within = search rules;
     image = search rules;
     source = λ code at e told.
-        source_refused c.in-Err-make.status code at c.deref.result.now (debug_given c.args.job.now).mode (g.S.Shelf.held c.args.shelf.now (debug_given c.args.job.now).source) e c.in-Err-make.ensures
+        source_refused c.in-Err-make.status code at c.deref.result.now (debug_given c.args.job.now).passes (debug_given c.args.job.now).mode (g.S.Shelf.held c.args.shelf.now (debug_given c.args.job.now).source) e c.in-Err-make.ensures
         (subst (Loads (g.S.Shelf.held c.args.shelf.now (debug_given c.args.job.now).source) 1048576) (sym c.deref.ensures.value) (c.in-Ok.ensures.source told));
     script = search rules;
     accepted = search rules;
@@ -45,7 +45,7 @@ returns-in-Err-make g c = record {
   image = record {
     saved = search rules;
     whole = search rules;
-    left = λ cut told. nothing_left (g.S.Shelf.held c.args.shelf.now) (g.S.Shelf.held c.load_texts.new.shelf) (ForDebug (debug_given c.args.job.now)) (λ n. c.load_texts.ensures.same n told);
+    left = λ cut told. nothing_left (g.S.Shelf.held c.args.shelf.now) (g.S.Shelf.held c.load_texts.new.shelf) (debug (debug_given c.args.job.now)) (λ n. c.load_texts.ensures.same n told);
   };
   transcript = search rules;
 }
@@ -72,7 +72,7 @@ returns-in-Err-read_script g c = record {
   image = record {
     saved = search rules;
     whole = search rules;
-    left = λ cut told. nothing_left (g.S.Shelf.held c.args.shelf.now) (g.S.Shelf.held c.load_texts.new.shelf) (ForDebug (debug_given c.args.job.now)) (λ n. c.load_texts.ensures.same n told);
+    left = λ cut told. nothing_left (g.S.Shelf.held c.args.shelf.now) (g.S.Shelf.held c.load_texts.new.shelf) (debug (debug_given c.args.job.now)) (λ n. c.load_texts.ensures.same n told);
   };
   transcript = search rules;
 }

@@ -1,13 +1,19 @@
 use Rattle.std.proofs.Common.{sym, ap}
-use Rattle.session.specs.Served.{task_job}
+use Rattle.command_line.specs.Job.{job_given}
 use Rattle.session.proofs.AskedLemmas.{same_ends}
 use Rattle.session.proofs.top.serve.Goals as goal
 
 pub returns-in-Debug : goal.returns-in-Debug
-returns-in-Debug g c = same_ends _ _ _ _ _ (ap task_job (sym c.in-Debug.is)) c.debug.ensures
+returns-in-Debug g c = same_ends _ _ _ _ _ (ap job_given (sym c.in-Debug.is)) c.debug.ensures
 
 pub returns-in-Compile : goal.returns-in-Compile
-returns-in-Compile g c = same_ends _ _ _ _ _ (ap task_job (sym c.in-Compile.is)) (c.compile.ensures _ _ _)
+returns-in-Compile g c = same_ends _ _ _ _ _ (ap job_given (sym c.in-Compile.is)) (c.compile.ensures _ _ _)
 
 pub returns-in-Attach : goal.returns-in-Attach
-returns-in-Attach g c = same_ends _ _ _ _ _ (ap task_job (sym c.in-Attach.is)) c.attach.ensures
+returns-in-Attach g c = same_ends _ _ _ _ _ (ap job_given (sym c.in-Attach.is)) c.attach.ensures
+
+pub returns-in-Passes : goal.returns-in-Passes
+returns-in-Passes g c = same_ends _ _ _ _ _ (ap job_given (sym c.in-Passes.is)) c.list_changes.ensures
+
+pub returns-in-Sweep : goal.returns-in-Sweep
+returns-in-Sweep g c = same_ends _ _ _ _ _ (ap job_given (sym c.in-Sweep.is)) (c.sweep.ensures _ _ _ _)

@@ -1,0 +1,12 @@
+//! Copy propagation: what is read of a scalar that another one was copied to is read of that other one.
+#![tactic(auto)]
+
+mod blocks;
+mod graphs;
+mod propagation;
+mod reader;
+mod reading;
+mod regions;
+mod sources;
+
+pub use propagation::propagate_copies;

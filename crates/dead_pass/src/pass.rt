@@ -1,0 +1,72 @@
+//! The pass.
+
+ghost use Rattle.std.specs.Prelude.{◌≡◌, ◌<◌, ◌^◌, IfOk, IfSome, length};
+ghost use Rattle.graph_core.specs.Graphs.{unit_view};
+ghost use Rattle.graph_core.specs.Validity.{IsValid};
+
+use crate::idle_graph::IdleGraph;
+use crate::notes::graph_left;
+use crate::removed::RemovedChanges;
+use debug_records::{Kind, PassName};
+use graph_core::{Graph, Unit};
+use graph_edits::log_cases;
+use std::alloc::{AllocError, Global};
+
+/// The name of the pass.
+fn pass_name() -> PassName {
+    match PassName::of(b"dead") {
+        Some(name) => name,
+        None => unreachable!(),
+    }
+}
+
+/// What goes of each graph.
+fn idle_graphs(alloc: Global, graphs: &[Graph]) -> Result<Vec<IdleGraph<'_>>, AllocError> {
+    let mut all = Vec::new(alloc);
+    for graph in graphs {
+        all.push(IdleGraph::new(alloc, graph)?)?;
+    }
+    Ok(all)
+}
+
+/// What is left of each graph.
+fn graphs_left(
+    alloc: Global,
+    idle: &[IdleGraph<'_>],
+    removed: &RemovedChanges,
+) -> Result<Vec<Graph>, AllocError> {
+    let mut left = Vec::new(alloc);
+    for graph in idle {
+        left.push(graph_left(alloc, graph, removed)?)?;
+    }
+    Ok(left)
+}
+
+/// A unit without its dead assignments (Kennedy 1981; notes by Hennessy 1982). In code that some path reaches a computation goes, or a call's target, where what it
+/// writes is a temporary, or a scalar that nothing else assigns in its place, and each read that it reaches is by a computation that goes. Each assignment
+/// that goes is a change in the log. Its note gives the recipe of its right side, where there is one, or else that the value is gone by the change;
+/// earlier notes become so where a name of their recipe is no longer written.
+///
+/// None where what is left is not valid, or there are 2^31 changes. `AllocError` where memory was refused.
+pub fn remove_dead(alloc: Global, unit: &Unit) -> Result<Option<Unit>, AllocError>
+    requires valid { IsValid (unit_view unit.now) }
+    requires room { length (unit_view unit.now).log < 2 ^ 31 }
+    ensures valid { IfOk result (λ o. IfSome o (λ v. IsValid (unit_view v))) }
+{
+    let idle = idle_graphs(alloc, &unit.graphs)?;
+    let mut cases = Vec::new(alloc);
+    for graph in &idle {
+        graph.add_cases(&mut cases)?;
+    }
+    let mut left = unit.duplicate(alloc)?;
+    if !log_cases(&mut left.log, pass_name(), Kind::Removed, &mut cases)? {
+        return Ok(None);
+    }
+    let removed = RemovedChanges::new(alloc, left.log.changes())?;
+    left.graphs = graphs_left(alloc, &idle, &removed)?;
+    if left.is_valid() {
+        Ok(Some(left))
+    } else {
+        Ok(None)
+    }
+}

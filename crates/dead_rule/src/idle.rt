@@ -1,0 +1,143 @@
+//! The writes that go.
+
+use crate::flow_rows::FlowRows;
+use crate::live_names::{begin_at_end, live_names, step_back};
+use crate::points::{Point, Points};
+use crate::readers::Readers;
+use crate::writes::Writes;
+use graph_core::Graph;
+use graph_paths::{flag, put_flag, reached_in_order};
+use std::alloc::{AllocError, Global};
+
+/// Whether a write may go, if nothing reads it: it is of a temporary, or the only one of its scalar in its place.
+fn may_go(graph: &Graph, writes: &Writes, number: u32, point: &Point) -> bool {
+    match point.target {
+        None => false,
+        Some(name) if (name.0 as usize) >= graph.scalars.len() => true,
+        Some(name) => writes.only(point.place, name.0) == Some(number),
+    }
+}
+
+/// For each point whether it is a write that may go, if nothing reads it.
+fn all_that_may_go(
+    alloc: Global,
+    graph: &Graph,
+    points: &Points,
+    writes: &Writes,
+) -> Result<Vec<bool>, AllocError> {
+    let mut flags = Vec::new(alloc);
+    let mut number = 0u32;
+    for point in points.all() {
+        flags.push(may_go(graph, writes, number, point))?;
+        number = number.saturating_add(1);
+    }
+    Ok(flags)
+}
+
+/// Appends the writes of a block that may go, and whose names only such writes read.
+fn add_faint(
+    live: &mut FlowRows,
+    graph: &Graph,
+    points: &Points,
+    number: u32,
+    may_go: &[bool],
+    faint: &mut Vec<u32>,
+) -> Result<(), AllocError> {
+    begin_at_end(live, &graph.blocks, number);
+    let past = points.past(number);
+    for passed in 0..past.saturating_sub(points.start(number)) {
+        let point = past.saturating_sub(passed).saturating_sub(1);
+        if let Some(target) = points.target(point) {
+            if flag(may_go, point) && !live.has(target) {
+                faint.push(point)?;
+            }
+        }
+        step_back(live, points, point, may_go);
+    }
+    Ok(())
+}
+
+/// The writes that may go, and whose names only such writes read (faint). Among them are all that go.
+fn faint_writes(
+    alloc: Global,
+    graph: &Graph,
+    points: &Points,
+    backward: &[u32],
+    may_go: &[bool],
+) -> Result<Vec<u32>, AllocError> {
+    let mut live = live_names(alloc, graph, points, backward, may_go)?;
+    let mut faint = Vec::new(alloc);
+    for number in backward {
+        add_faint(&mut live, graph, points, *number, may_go, &mut faint)?;
+    }
+    Ok(faint)
+}
+
+/// What reads faint writes.
+fn readers_of(
+    alloc: Global,
+    graph: &Graph,
+    points: &Points,
+    backward: &[u32],
+    faint: &[u32],
+) -> Result<Readers, AllocError> {
+    let live = live_names(alloc, graph, points, backward, &[])?;
+    let mut readers = Readers::new(alloc, points)?;
+    for write in faint {
+        readers.find(alloc, &graph.blocks, points, &live, *write)?;
+    }
+    Ok(readers)
+}
+
+/// A write goes. Appends the writes that nothing reads any more.
+fn go(
+    points: &Points,
+    readers: &mut Readers,
+    write: u32,
+    unread: &mut Vec<u32>,
+) -> Result<(), AllocError> {
+    match points.at(write) {
+        Some(point) if !point.is_call => readers.take_away(write, unread),
+        _ => Ok(()),
+    }
+}
+
+/// The least set of writes: one goes where each point that reads it is a computation that goes. A call reads its arguments even where its target goes.
+fn least(
+    alloc: Global,
+    points: &Points,
+    readers: &mut Readers,
+    faint: &[u32],
+) -> Result<Vec<bool>, AllocError> {
+    let mut goes = vec![in alloc; false; points.count() as usize]?;
+    let mut unread = Vec::new(alloc);
+    for write in faint {
+        if readers.left(*write) == 0 {
+            unread.push(*write)?;
+        }
+    }
+    for at in 0..faint.len() {
+        let Some(write) = unread.get(at).copied() else {
+            break;
+        };
+        put_flag(&mut goes, write, true);
+        go(points, readers, write, &mut unread)?;
+    }
+    Ok(goes)
+}
+
+/// For each point of a graph whether what it writes goes: some path comes to it, it writes a temporary, or is the only write of its scalar in its place, and each
+/// read that it reaches is by a computation that goes itself (Kennedy 1981, removed one by one: what keeps itself alive, as `i = i + 1` in a loop, stays).
+pub fn idle_writes(
+    alloc: Global,
+    graph: &Graph,
+    points: &Points,
+    writes: &Writes,
+) -> Result<Vec<bool>, AllocError> {
+    let mut backward = reached_in_order(alloc, &graph.blocks)?;
+    backward.reverse();
+    let may_go = all_that_may_go(alloc, graph, points, writes)?;
+    let faint = faint_writes(alloc, graph, points, &backward, &may_go)?;
+    let mut readers = readers_of(alloc, graph, points, &backward, &faint)?;
+    least(alloc, points, &mut readers, &faint)
+}

@@ -1,0 +1,14 @@
+//! Which writes of a graph go, since nothing that stays reads what they write.
+#![tactic(auto)]
+
+mod flow_rows;
+mod idle;
+mod live_names;
+mod points;
+mod readers;
+mod writes;
+
+pub use flow_rows::FlowRows;
+pub use idle::idle_writes;
+pub use points::{Point, Points};
+pub use writes::Writes;

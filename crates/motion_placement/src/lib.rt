@@ -1,0 +1,8 @@
+//! Where the computations of a function are placed by lazy code motion (Knoop, Rüthing and Steffen 1992): as late as they can be, and on no path
+//! more often than before.
+#![tactic(auto)]
+
+mod placement;
+mod solving;
+
+pub use placement::{Action, Placement, place};

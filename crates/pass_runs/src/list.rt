@@ -1,0 +1,102 @@
+//! Lists of passes.
+
+ghost use Rattle.std.specs.Prelude.{◌≡◌, ◌<◌, ◌^◌, ◌↔◌, IfOk, IfSome, IsTrue, MatchOption, length, map};
+ghost use Rattle.debug_records.specs.Change.{letters};
+ghost use Rattle.graph_core.specs.Graphs.{unit_view};
+ghost use Rattle.graph_core.specs.Validity.{IsValid};
+ghost use Rattle.pass_runs.specs.HandedIn.{AreHandedIn, IsHandedIn, IsNoPass};
+
+use crate::pass::UnitPass;
+use debug_records::PassName;
+use graph_core::Unit;
+use std::alloc::{AllocError, Global};
+
+/// Whether a pass has a name of the same letters.
+fn is_called(pass: &Box<dyn UnitPass>, name: &PassName) -> bool
+    ensures { IsTrue result ↔ (letters (named pass.now) ≡ letters name.now) }
+{
+    let own = pass.name();
+    own.letters() == name.letters()
+}
+
+/// The index of the first pass of a name, if one has it.
+fn find_pass(passes: &[Box<dyn UnitPass>], name: &PassName) -> Option<usize>
+    ensures found { MatchOption result (IsNoPass (λ p. named p) passes.now (letters name.now)) (λ _. IsHandedIn (λ p. named p) passes.now (letters name.now)) }
+    ensures within { IfSome result (λ i. i < length passes.now) }
+{
+    for (i, pass) in passes.iter().enumerate() {
+        if is_called(pass, name) {
+            return Some(i);
+        }
+    }
+    None
+}
+
+/// Whether a name is the name of a pass.
+fn is_handed_in(passes: &[Box<dyn UnitPass>], name: &PassName) -> bool
+    ensures { IsTrue result ↔ IsHandedIn (λ p. named p) passes.now (letters name.now) }
+{
+    match find_pass(passes, name) {
+        Some(_i) => true,
+        None => false,
+    }
+}
+
+/// Whether each of these names is the name of a pass.
+pub fn are_handed_in(passes: &[Box<dyn UnitPass>], names: &[PassName]) -> bool
+    ensures { IsTrue result ↔ AreHandedIn (λ p. named p) passes.now (map letters names.now) }
+{
+    for name in names {
+        if !is_handed_in(passes, name) {
+            return false;
+        }
+    }
+    true
+}
+
+/// Whether the log of a unit has fewer than 2^31 changes.
+fn has_room(unit: &Unit) -> bool
+    ensures { IsTrue result → length (unit_view unit.now).log < 2 ^ 31 }
+{
+    unit.log.changes().len() < 0x8000_0000
+}
+
+/// What a pass makes of a unit.
+fn apply_one(
+    alloc: Global,
+    pass: &Box<dyn UnitPass>,
+    unit: &Unit,
+) -> Result<Option<Unit>, AllocError>
+    requires valid { IsValid (unit_view unit.now) }
+    requires room { length (unit_view unit.now).log < 2 ^ 31 }
+    ensures { IfOk result (λ made. IfSome made (λ v. IsValid (unit_view v))) }
+{
+    pass.apply(alloc, unit)
+}
+
+/// Runs the passes of these names on a valid unit, in order; of two passes of one name the first is taken. None where a name is no pass's, where the log has 2^31
+/// changes before a pass, or where a pass makes no unit.
+pub fn run_passes(
+    alloc: Global,
+    passes: &[Box<dyn UnitPass>],
+    names: &[PassName],
+    unit: Unit,
+) -> Result<Option<Unit>, AllocError>
+    requires { IsValid (unit_view unit) }
+    ensures { IfOk result (λ made. IfSome made (λ v. IsValid (unit_view v))) }
+{
+    let mut last = unit;
+    for name in names {
+        let Some(i) = find_pass(passes, name) else {
+            return Ok(None);
+        };
+        if !has_room(&last) {
+            return Ok(None);
+        }
+        let Some(next) = apply_one(alloc, &passes[i], &last)? else {
+            return Ok(None);
+        };
+        last = next;
+    }
+    Ok(Some(last))
+}

@@ -1,0 +1,26 @@
+//! What a pass is, before its law is proved.
+
+ghost use Rattle.std.specs.Prelude.{◌≡◌, ◌<◌, ◌^◌, IfOk, IfSome, length};
+ghost use Rattle.debug_records.specs.declared.change.PassName.{PassName};
+ghost use Rattle.graph_core.specs.Graphs.{unit_view};
+ghost use Rattle.graph_core.specs.Validity.{IsValid};
+
+use debug_records::PassName;
+use graph_core::Unit;
+use std::alloc::{AllocError, Global};
+
+/// A pass over units. That each step keeps what the unit does is the law of passes, which this does not ask for.
+pub trait UnitPass: Drop {
+    /// Its name.
+    ghost named: { Self → PassName };
+
+    /// The name of the pass.
+    fn name(&self) -> PassName
+        ensures { result ≡ named self.now };
+
+    /// What the pass makes of a valid unit, whose log has fewer than 2^31 changes: a valid unit. None where it makes none. `AllocError` where memory was refused.
+    fn apply(&self, alloc: Global, unit: &Unit) -> Result<Option<Unit>, AllocError>
+        requires valid { IsValid (unit_view unit.now) }
+        requires room { length (unit_view unit.now).log < 2 ^ 31 }
+        ensures { IfOk result (λ made. IfSome made (λ v. IsValid (unit_view v))) };
+}

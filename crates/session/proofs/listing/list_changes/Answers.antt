@@ -1,0 +1,104 @@
+use Rattle.std.proofs.Common.{◌≡◌, inr, map, rules, subst, sym}
+use Rattle.std.specs.List.{All, flat_map}
+use Rattle.line_form.specs.Lines.{line}
+use Rattle.outside.specs.Held.{Loads}
+use Rattle.command_line.specs.Job.{passes_given}
+use Rattle.session.specs.Limits.{IsThere}
+use Rattle.session.specs.Outcome.{IsChangeLine}
+use Rattle.session.proofs.Lines.{changes_listed, list_accepted, list_refused, list_within}
+use Rattle.session.proofs.listing.list_changes.Goals as goal
+
+pub returns-in-Err-list : goal.returns-in-Err-list
+returns-in-Err-list g c = record {
+  caused = record {
+    usage = search rules;
+    read = search rules;
+    read_only = search rules;
+    too_long = search rules;
+    within = λ l told.
+        let name : c.as_str.result.now ≡ (passes_given c.args.job.now).source = search rules in
+        list_within (g.S.Shelf.held c.args.shelf.now) (passes_given c.args.job.now) (subst (λ n. IsThere (g.S.Shelf.held c.args.shelf.now n)) name (c.in-Ok.ensures.there told));
+    image = search rules;
+    source = λ code at e told.
+        let name : c.as_str.result.now ≡ (passes_given c.args.job.now).source = search rules in
+        let loads = subst (λ n. Loads (g.S.Shelf.held c.args.shelf.now n) 1048576 c.deref.result.now) name (subst (Loads (g.S.Shelf.held c.args.shelf.now c.as_str.result.now) 1048576) (sym c.deref.ensures.value) (c.in-Ok.ensures.value told)) in
+        list_refused c.in-Err-list.status code at c.deref.result.now (g.S.Shelf.held c.args.shelf.now) (passes_given c.args.job.now) e c.in-Err-list.ensures loads;
+    script = search rules;
+    accepted = search rules;
+    write = search rules;
+    write_only = search rules;
+  };
+  stays = search rules;
+  image = search rules;
+  transcript = search rules;
+}
+
+pub returns-in-Ok-put_lines : goal.returns-in-Ok-put_lines
+returns-in-Ok-put_lines g c = record {
+  caused = record {
+    usage = search rules;
+    read = search rules;
+    read_only = search rules;
+    too_long = search rules;
+    within = λ l told.
+        let name : c.as_str.result.now ≡ (passes_given c.args.job.now).source = search rules in
+        list_within (g.S.Shelf.held c.args.shelf.now) (passes_given c.args.job.now) (subst (λ n. IsThere (g.S.Shelf.held c.args.shelf.now n)) name (c.in-Ok.ensures.there told));
+    image = search rules;
+    source = search rules;
+    script = search rules;
+    accepted = λ e told.
+        let name : c.as_str.result.now ≡ (passes_given c.args.job.now).source = search rules in
+        let loads = subst (λ n. Loads (g.S.Shelf.held c.args.shelf.now n) 1048576 c.deref.result.now) name (subst (Loads (g.S.Shelf.held c.args.shelf.now c.as_str.result.now) 1048576) (sym c.deref.ensures.value) (c.in-Ok.ensures.value told)) in
+        list_accepted c.deref.result.now (g.S.Shelf.held c.args.shelf.now) (passes_given c.args.job.now) c.in-Ok-list.ensures loads;
+    write = search rules;
+    write_only = search rules;
+  };
+  stays = search rules;
+  image = search rules;
+  transcript = record {
+    part = search rules;
+    done = λ e told told_sink.
+        let name : c.as_str.result.now ≡ (passes_given c.args.job.now).source = search rules in
+        let loads = subst (λ n. Loads (g.S.Shelf.held c.args.shelf.now n) 1048576 c.deref.result.now) name (subst (Loads (g.S.Shelf.held c.args.shelf.now c.as_str.result.now) 1048576) (sym c.deref.ensures.value) (c.in-Ok.ensures.value told)) in
+        record {
+          printed = flat_map line (map (λ l. l.items) c.deref-4.result.now);
+          prints = changes_listed c.deref.result.now (g.S.Shelf.held c.args.shelf.now) (passes_given c.args.job.now) c.deref-4.result.now c.in-Ok-list.ensures loads (subst (λ ls. All IsChangeLine (map (λ l. l.items) ls)) (sym c.deref-4.ensures.value) c.in-Ok-lines_of.ensures);
+          whole = c.in-Ok-put_lines.ensures.whole told_sink;
+        };
+  };
+}
+
+pub returns : goal.returns
+returns g c = record {
+  caused = record {
+    usage = search rules;
+    read = search rules;
+    read_only = search rules;
+    too_long = search rules;
+    within = λ l told.
+        let name : c.as_str.result.now ≡ (passes_given c.args.job.now).source = search rules in
+        list_within (g.S.Shelf.held c.args.shelf.now) (passes_given c.args.job.now) (subst (λ n. IsThere (g.S.Shelf.held c.args.shelf.now n)) name (c.in-Ok.ensures.there told));
+    image = search rules;
+    source = search rules;
+    script = search rules;
+    accepted = λ e told.
+        let name : c.as_str.result.now ≡ (passes_given c.args.job.now).source = search rules in
+        let loads = subst (λ n. Loads (g.S.Shelf.held c.args.shelf.now n) 1048576 c.deref.result.now) name (subst (Loads (g.S.Shelf.held c.args.shelf.now c.as_str.result.now) 1048576) (sym c.deref.ensures.value) (c.in-Ok.ensures.value told)) in
+        list_accepted c.deref.result.now (g.S.Shelf.held c.args.shelf.now) (passes_given c.args.job.now) c.in-Ok-list.ensures loads;
+    write = search rules;
+    write_only = search rules;
+  };
+  stays = search rules;
+  image = search rules;
+  transcript = record {
+    part = λ cut told told_sink.
+        let name : c.as_str.result.now ≡ (passes_given c.args.job.now).source = search rules in
+        let loads = subst (λ n. Loads (g.S.Shelf.held c.args.shelf.now n) 1048576 c.deref.result.now) name (subst (Loads (g.S.Shelf.held c.args.shelf.now c.as_str.result.now) 1048576) (sym c.deref.ensures.value) (c.in-Ok.ensures.value told)) in
+        inr (record {
+          printed = flat_map line (map (λ l. l.items) c.deref-4.result.now);
+          prints = changes_listed c.deref.result.now (g.S.Shelf.held c.args.shelf.now) (passes_given c.args.job.now) c.deref-4.result.now c.in-Ok-list.ensures loads (subst (λ ls. All IsChangeLine (map (λ l. l.items) ls)) (sym c.deref-4.ensures.value) c.in-Ok-lines_of.ensures);
+          part = c.in-Err-put_lines.ensures.part told_sink;
+        });
+    done = search rules;
+  };
+}
