@@ -5,9 +5,11 @@
 mod tests;
 
 use line_form::{Status, fault_text};
-use outside::{FileShelf, StdoutSink};
-use program_passes::all_passes;
+use outside::{FileShelf, Shelf, Sink, StdoutSink};
+use pass_runs::UnitPass;
+use program_passes::{CopyPropagation, DeadRemoval, LazyMotion};
 use session::session;
+use std::alloc::{AllocError, Global};
 use std::process::ExitCode;
 use std::{env, io};
 
@@ -18,6 +20,20 @@ fn words_of(rt: &HostRuntime) -> io::Result<Vec<String>> {
         words.push(word)?;
     }
     Ok(words)
+}
+
+/// The status of a session to which the passes `copy`, `motion` and `dead` are handed in. The only error is want of memory for these.
+fn session_of<S: Shelf, K: Sink>(
+    alloc: Global,
+    words: &[String],
+    shelf: &mut S,
+    sink: &mut K,
+) -> Result<Status, AllocError> {
+    let mut passes: Vec<Box<dyn UnitPass>> = Vec::new(alloc);
+    passes.push(Box::new(alloc, CopyPropagation::new())?)?;
+    passes.push(Box::new(alloc, LazyMotion::new())?)?;
+    passes.push(Box::new(alloc, DeadRemoval::new())?)?;
+    Ok(session(alloc, words, &passes, shelf, sink))
 }
 
 /// The status of a session over the real files and standard output. A word that is no text is no job.
@@ -33,12 +49,12 @@ fn status_of(rt: &HostRuntime) -> Status {
     let Ok(output) = rt.clone() else {
         return Status::NoMemory;
     };
-    let Ok(passes) = all_passes(rt.alloc()) else {
-        return Status::NoMemory;
-    };
     let mut shelf = FileShelf::new(files);
     let mut sink = StdoutSink::new(output);
-    session(rt.alloc(), &words, &passes, &mut shelf, &mut sink)
+    match session_of(rt.alloc(), &words, &mut shelf, &mut sink) {
+        Ok(status) => status,
+        Err(_) => Status::NoMemory,
+    }
 }
 
 /// Says on standard error why the session was not done.

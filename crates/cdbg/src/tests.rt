@@ -9,11 +9,10 @@ mod optimised;
 mod orders;
 mod programs;
 
+use crate::session_of;
 use debug_records::Code;
 use line_form::{Status, fault_text};
 use outside::{MemShelf, MemSink};
-use program_passes::all_passes;
-use session::session;
 use std::alloc::{AllocError, Global};
 use std::process::Abort;
 use std::test::Fail;
@@ -76,10 +75,10 @@ fn shelf(
 
 /// A session in memory. What its contract says is left out here, so that a test owes no proof of what it looks at.
 fn run(alloc: Global, words: &[String], shelf: &mut MemShelf, sink: &mut MemSink) -> Status {
-    let Ok(passes) = all_passes(alloc) else {
-        return Status::NoMemory;
-    };
-    session(alloc, words, &passes, shelf, sink)
+    match session_of(alloc, words, shelf, sink) {
+        Ok(status) => status,
+        Err(_) => Status::NoMemory,
+    }
 }
 
 #[test]

@@ -1,5 +1,5 @@
 -- How the tables of an image say what they are made of.
-use Rattle.std.specs.Prelude.{ℕ, ◌×◌}
+use Rattle.std.specs.Prelude.{ℕ}
 use Rattle.places.specs.declared.flow.Assignment.{Assignment}
 use Rattle.places.specs.declared.flow.FlowStep.{FlowStep}
 use Rattle.places.specs.declared.table.PlaceRow.{PlaceRow}

@@ -103,59 +103,53 @@ impl<'a> Telling<'a> {
     }
 }
 
-/// Where rows are made.
-#[derive(Drop)]
-struct Rows {
-    /// For each function, and each of its blocks, how many instructions stand before it.
-    before: Vec<Vec<u32>>,
-    nodes: Nodes,
+/// The node of a recipe that is told of at a place. Where there is no such place, a node that no image has.
+fn node_at(
+    telling: Telling<'_>,
+    nodes: &mut Nodes,
+    place: u32,
+    recipe: &Recipe,
+) -> Result<u32, AllocError> {
+    match telling.naming_at(place) {
+        Some(naming) => nodes.add_recipe(naming, recipe),
+        None => Ok(4294967295),
+    }
 }
 
-impl Rows {
-    /// The node of a recipe that is told of at a place. Where there is no such place, a node that no image has.
-    fn node_at(
-        &mut self,
-        telling: Telling<'_>,
-        place: u32,
-        recipe: &Recipe,
-    ) -> Result<u32, AllocError> {
-        match telling.naming_at(place) {
-            Some(naming) => self.nodes.add_recipe(naming, recipe),
-            None => Ok(4294967295),
+/// A verdict as an image has it. For each function, and each of its blocks, it is known how many instructions stand before it.
+fn verdict_of(
+    telling: Telling<'_>,
+    before: &[Vec<u32>],
+    nodes: &mut Nodes,
+    told: &PlaceVerdict,
+) -> Result<Verdict, AllocError> {
+    match &told.verdict {
+        Told::Home => Ok(Verdict::Home),
+        Told::Recovered { recipe, change } => {
+            let node = node_at(telling, nodes, told.place.0, recipe)?;
+            Ok(Verdict::Recovered {
+                change: *change,
+                node,
+            })
         }
-    }
-
-    /// A verdict as an image has it.
-    fn verdict_of(
-        &mut self,
-        telling: Telling<'_>,
-        told: &PlaceVerdict,
-    ) -> Result<Verdict, AllocError> {
-        match &told.verdict {
-            Told::Home => Ok(Verdict::Home),
-            Told::Recovered { recipe, change } => Ok(Verdict::Recovered {
-                change: *change,
-                node: self.node_at(telling, told.place.0, recipe)?,
-            }),
-            Told::Noncurrent {
-                change,
-                start,
-                writer,
-            } => Ok(Verdict::Noncurrent {
-                change: *change,
-                start: start.0,
-                writer: address_of_some(*writer, &self.before, telling.code),
-            }),
-            Told::Nonresident {
-                change,
-                start,
-                writer,
-            } => Ok(Verdict::Nonresident {
-                change: *change,
-                start: start.0,
-                writer: address_of(*writer, &self.before, telling.code),
-            }),
-        }
+        Told::Noncurrent {
+            change,
+            start,
+            writer,
+        } => Ok(Verdict::Noncurrent {
+            change: *change,
+            start: start.0,
+            writer: address_of_some(*writer, before, telling.code),
+        }),
+        Told::Nonresident {
+            change,
+            start,
+            writer,
+        } => Ok(Verdict::Nonresident {
+            change: *change,
+            start: start.0,
+            writer: address_of(*writer, before, telling.code),
+        }),
     }
 }
 
@@ -167,17 +161,16 @@ pub fn rows_of(
 ) -> Result<(Vec<VisibleRow>, Vec<Node>), AllocError>
     ensures { IfOk result (λ r. map sight r.0.items ≡ map sight_of_verdict verdicts.now) }
 {
-    let mut making = Rows {
-        before: all_before(alloc, telling.graphs)?,
-        nodes: Nodes::new(alloc),
-    };
+    let before = all_before(alloc, telling.graphs)?;
+    let mut nodes = Nodes::new(alloc);
     let mut rows = Vec::new(alloc);
     for told in verdicts {
+        let verdict = verdict_of(telling, &before, &mut nodes, told)?;
         rows.push(VisibleRow {
             place: told.place.0,
             variable: told.var.0,
-            verdict: making.verdict_of(telling, told)?,
+            verdict,
         })?;
     }
-    Ok((rows, making.nodes.nodes))
+    Ok((rows, nodes.nodes))
 }

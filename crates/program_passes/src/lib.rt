@@ -1,8 +1,6 @@
-//! The passes that the program hands in.
+//! The passes of the program, with their names.
 #![tactic(auto)]
 
-mod all;
 mod passes;
 
-pub use all::all_passes;
 pub use passes::{CopyPropagation, DeadRemoval, LazyMotion};

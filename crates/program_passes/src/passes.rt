@@ -1,17 +1,31 @@
 //! Passes with their names.
 
+ghost use Rattle.std.specs.Prelude.{◌≡◌, codes};
+ghost use Rattle.debug_records.specs.Change.{letters};
+
 use copy_pass::propagate_copies;
 use dead_pass::remove_dead;
 use debug_records::PassName;
 use graph_core::Unit;
 use motion_pass::move_code;
-use pass_runs::UnitPass;
+use pass_runs::{UnitPass, name_of};
 use std::alloc::{AllocError, Global};
 
-/// Copy propagation.
+/// Copy propagation, by the name `copy`.
 #[derive(Drop)]
 pub struct CopyPropagation {
-    pub name: PassName,
+    name: PassName,
+}
+
+impl CopyPropagation {
+    /// The pass.
+    pub fn new() -> CopyPropagation
+        ensures { letters result.name ≡ codes "copy" }
+    {
+        CopyPropagation {
+            name: name_of(b"copy"),
+        }
+    }
 }
 
 impl UnitPass for CopyPropagation {
@@ -26,10 +40,21 @@ impl UnitPass for CopyPropagation {
     }
 }
 
-/// Lazy code motion.
+/// Lazy code motion, by the name `motion`.
 #[derive(Drop)]
 pub struct LazyMotion {
-    pub name: PassName,
+    name: PassName,
+}
+
+impl LazyMotion {
+    /// The pass.
+    pub fn new() -> LazyMotion
+        ensures { letters result.name ≡ codes "motion" }
+    {
+        LazyMotion {
+            name: name_of(b"motion"),
+        }
+    }
 }
 
 impl UnitPass for LazyMotion {
@@ -44,10 +69,21 @@ impl UnitPass for LazyMotion {
     }
 }
 
-/// The removal of dead assignments.
+/// The removal of dead assignments, by the name `dead`.
 #[derive(Drop)]
 pub struct DeadRemoval {
-    pub name: PassName,
+    name: PassName,
+}
+
+impl DeadRemoval {
+    /// The pass.
+    pub fn new() -> DeadRemoval
+        ensures { letters result.name ≡ codes "dead" }
+    {
+        DeadRemoval {
+            name: name_of(b"dead"),
+        }
+    }
 }
 
 impl UnitPass for DeadRemoval {
