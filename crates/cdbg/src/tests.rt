@@ -5,7 +5,6 @@ ghost use Rattle.std.specs.Prelude.{◌<◌};
 mod altered;
 mod attaching;
 mod images;
-mod optimised;
 mod orders;
 mod programs;
 

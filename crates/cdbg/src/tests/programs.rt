@@ -15,10 +15,8 @@ const IN_REGISTERS: &str =
 
 const LIMITED: &str = "cdbg debug --passes none --limit 100 program.c script input image";
 
-const COMPILED: &str = "cdbg compile --passes none program.c image";
-
 /// A shelf with a source, a script and an input.
-pub(super) fn shelf(
+fn shelf(
     alloc: Global,
     source: &[u8],
     script: &[u8],
@@ -32,7 +30,7 @@ pub(super) fn shelf(
 }
 
 /// A session with these words prints this, and saves an image.
-pub(super) fn assert_printed(
+fn assert_printed(
     rt: &impl Abort,
     alloc: Global,
     text: &str,
@@ -48,7 +46,7 @@ pub(super) fn assert_printed(
 }
 
 /// The saved image prints this.
-pub(super) fn assert_attached(
+fn assert_attached(
     rt: &impl Abort,
     alloc: Global,
     shelf: &mut MemShelf,
@@ -171,16 +169,6 @@ fn more_variables_than_registers_share_them(rt: HostRuntime) -> Result<(), Fail>
     Ok(())
 }
 
-#[test]
-fn what_precedes_an_overflow_is_shown(rt: HostRuntime) -> Result<(), Fail> {
-    let source = b"int main(void){int x=2147483647; x=x+1; return 0;}\n".as_slice();
-    let script = b"step\nstep\nprint x\n".as_slice();
-    let transcript =
-        b"at 2 line 1 main depth 1\nat 3 line 1 main depth 1\nx = 2147483647\n".as_slice();
-    assert_run(&rt, rt.alloc(), source, script, b"".as_slice(), transcript)?;
-    Ok(())
-}
-
 /// A division that a call before it may keep from being reached.
 const DIVISION: &[u8] =
     b"#include <stdio.h>\n#include <stdlib.h>\nvoid g(int b){if(b==0)exit(3);}\nint main(void){\nint a=8;\nint b=getchar()-48;\nint x=0;\nint i=0;\ndo{\ng(b);\nx=a/b;\nputchar(48+x);\ni=i+1;\n}while(i<2);\nreturn x;\n}\n";
@@ -252,21 +240,6 @@ fn a_constant_over_its_types_is_refused_and_saves_nothing(rt: HostRuntime) -> Re
     assert!(rt; fault_text(rt.alloc(), &status)?.as_str() == "cdbg: source refused E04 line 1");
     assert!(rt; sink.bytes() == b"".as_slice());
     assert!(rt; shelf.held("image").is_none());
-    Ok(())
-}
-
-#[test]
-fn unsigned_constants_are_compared_as_unsigned(rt: HostRuntime) -> Result<(), Fail> {
-    let source = b"int main(void){return 2147483648u>0u;}\n".as_slice();
-    let script = b"continue\n".as_slice();
-    assert_run(
-        &rt,
-        rt.alloc(),
-        source,
-        script,
-        b"".as_slice(),
-        b"exit 1\n".as_slice(),
-    )?;
     Ok(())
 }
 
@@ -351,21 +324,6 @@ fn breaks_that_name_nothing_are_said(rt: HostRuntime) -> Result<(), Fail> {
     let script = b"break 9\nbreak g\nprint x\nwhere\n".as_slice();
     let transcript = b"no place on line 9\nno function g\nno stop\nno stop\n".as_slice();
     assert_run(&rt, rt.alloc(), PROGRAM, script, b"".as_slice(), transcript)?;
-    Ok(())
-}
-
-#[test]
-fn the_image_of_compile_prints_what_debug_prints(rt: HostRuntime) -> Result<(), Fail> {
-    let mut shelf = shelf(rt.alloc(), PROGRAM, SCRIPT, b"".as_slice())?;
-    // No script and no input is loaded, and nothing is put out.
-    assert_printed(&rt, rt.alloc(), COMPILED, &mut shelf, b"".as_slice())?;
-    assert_attached(&rt, rt.alloc(), &mut shelf, TRANSCRIPT)?;
-    let mut other = MemShelf::new(rt.alloc(), [].as_slice())?;
-    other.place(rt.alloc(), "program.c", PROGRAM)?;
-    other.place(rt.alloc(), "script", SCRIPT)?;
-    other.place(rt.alloc(), "input", b"".as_slice())?;
-    assert_printed(&rt, rt.alloc(), IN_REGISTERS, &mut other, TRANSCRIPT)?;
-    assert!(rt; shelf.held("image").ok_or("no image")? == other.held("image").ok_or("no image")?);
     Ok(())
 }
 
