@@ -4,9 +4,12 @@ ghost use Rattle.std.specs.Prelude.{◌<◌};
 
 mod altered;
 mod attaching;
+mod handed_in;
 mod images;
+mod optimised;
 mod orders;
 mod programs;
+mod sessions;
 
 use crate::session_of;
 use debug_records::Code;

@@ -6,9 +6,8 @@ ghost use Rattle.image_form.specs.Form.{form};
 ghost use Rattle.image_form.specs.Rules.{IsImage};
 ghost use Rattle.image_form.specs.Spelling.{spelling};
 
-use crate::drafting::{draft_of, homed_of, unit_of};
+use crate::drafting::{draft_of, homed_of, is_lawful, unit_of};
 use crate::made::Build;
-use c_flow::fits;
 use c_tree::Program;
 use debug_records::{Mode, PassName};
 use image_form::{Image, ImageErr, read, spell};
@@ -40,7 +39,7 @@ pub fn image_of_program(
     ensures bytes { IfOk result (λ o. IfSome o (λ b. b.bytes.items ≡ spelling (form b.image))) }
     ensures program { IfOk result (λ o. IfSome o (λ b. program_view b.program ≡ program_view program)) }
 {
-    if !fits(alloc, &program)? {
+    if !is_lawful(alloc, &program)? {
         return Ok(None);
     }
     let Some(unit) = unit_of(alloc, &program, passes, names)? else {

@@ -1,13 +1,15 @@
 //! From a program to what is to be its image, step by step.
 
-ghost use Rattle.std.specs.Prelude.{IfOk, IfSome};
+ghost use Rattle.std.specs.Prelude.{IfOk, IfSome, IsTrue};
 ghost use Rattle.c_tree.specs.Programs.{program_view};
 ghost use Rattle.c_flow.specs.Tables.{Fits32};
+ghost use Rattle.c_laws.specs.Laws.{IsWellFormed};
 ghost use Rattle.graph_core.specs.Graphs.{unit_view};
 ghost use Rattle.graph_core.specs.Validity.{IsValid};
 ghost use Rattle.homed_unit.specs.Homed.{HaveHomes, homed_view};
 
-use c_flow::flow;
+use c_flow::{fits, flow};
+use c_laws::is_well_formed;
 use c_tree::Program;
 use currency::verdicts;
 use debug_records::{Mode, PassName};
@@ -20,6 +22,17 @@ use image_tables::{Parts, image_of};
 use pass_runs::{UnitPass, run_passes};
 use rv_emit::emit;
 use std::alloc::{AllocError, Global};
+
+/// Whether a program keeps the laws of accepted programs, and its counts fit 32 bits.
+pub fn is_lawful(alloc: Global, program: &Program) -> Result<bool, AllocError>
+    ensures fits { IfOk result (λ b. IsTrue b → Fits32 (program_view program.now)) }
+    ensures laws { IfOk result (λ b. IsTrue b → IsWellFormed (program_view program.now)) }
+{
+    if !fits(alloc, program)? {
+        return Ok(false);
+    }
+    is_well_formed(alloc, program)
+}
 
 /// The unit of a program, behind the passes of these names. None where the program's unit, or what a pass makes, is not valid.
 pub fn unit_of(

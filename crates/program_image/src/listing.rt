@@ -1,8 +1,7 @@
 //! The changes that passes make in a program.
 
-use crate::drafting::unit_of;
+use crate::drafting::{is_lawful, unit_of};
 use crate::made::NamedChange;
-use c_flow::fits;
 use c_tree::{AutomaticVariable, Program};
 use debug_records::{Change, PassName, Var};
 use pass_runs::UnitPass;
@@ -48,7 +47,7 @@ pub fn changes_of_program(
     passes: &[Box<dyn UnitPass>],
     names: &[PassName],
 ) -> Result<Option<Vec<NamedChange>>, AllocError> {
-    if !fits(alloc, program)? {
+    if !is_lawful(alloc, program)? {
         return Ok(None);
     }
     let Some(unit) = unit_of(alloc, program, passes, names)? else {

@@ -1,0 +1,144 @@
+//! Sessions of sources that passes have optimised, and the jobs that speak of passes.
+
+use super::programs::{DIVISION, image_of};
+use super::sessions::{Session, assert_said, assert_session, image_prints, prints, shelf};
+use super::{run, split};
+use line_form::Status;
+use outside::{MemShelf, MemSink};
+use std::test::Fail;
+
+/// Copies, and assignments that nothing reads.
+const COPIED: &[u8] =
+    b"#include <stdio.h>\nint main(void){\nint y=getchar();\nint x=0;\nint z=0;\nx=y;\nz=x+1;\nputchar(z);\ny=7;\nputchar(y);\nreturn 0;\n}\n";
+
+/// An assignment that is dead on one of two ways.
+const ON_ONE_WAY: &[u8] =
+    b"#include <stdio.h>\nint f(void){return getchar();}\nint main(void){\nint x=1;\nif(getchar()==65)\nx=5;\nelse{\nx=f();\nputchar(x);\n}\nputchar(66);\nreturn 0;\n}\n";
+
+/// What sessions print, by the words of each.
+static BEHIND_PASSES: [(&str, Session); 7] = [
+    (
+        "cdbg debug --passes copy,dead --homes slots program.c script input image",
+        Session {
+            shows: "removed values are recovered until what they were copied from changes",
+            source: COPIED,
+            script: b"break 6\ncontinue\nprint x\nstep\nprint x\nbreak 10\ncontinue\nlocals\n",
+            input: b"C",
+            printed: b"break at 5\nat 5 line 6 main depth 1\nx = 0 (recovered: 2 dead removed 3)\nat 6 line 7 main depth 1\nx = 67 (recovered: 4 dead removed 5)\nbreak at 9\nout \"D\"\nat 9 line 10 main depth 1\ny = 7\nx noncurrent: 4 dead removed 5, path 5 6 7 8 9\nz = 68\n",
+        },
+    ),
+    (
+        "cdbg debug --passes dead --homes slots program.c script input image",
+        Session {
+            shows: "a variable is hidden behind a removal on one way",
+            source: ON_ONE_WAY,
+            script: b"break 5\ncontinue\nprint x\nbreak 11\ncontinue\nprint x\n",
+            input: b"A",
+            printed: b"break at 5\nat 5 line 5 main depth 1\nx = 1 (recovered: 1 dead removed 4)\nbreak at 9\nat 9 line 11 main depth 1\nx noncurrent: 2 dead removed 6, path 6 9\n",
+        },
+    ),
+    (
+        "cdbg debug --passes dead --homes slots program.c script input image",
+        Session {
+            shows: "the other way shows the variable until they meet",
+            source: ON_ONE_WAY,
+            script: b"break f\ncontinue\nwhere\nbreak 9\ncontinue\nprint x\nstep\nprint x\n",
+            input: b"BZ",
+            printed: b"break at 2\nat 2 line 2 f depth 2\n#0 f line 2 place 2\n#1 main line 8 place 7\nbreak at 8\nat 8 line 9 main depth 1\nx = 90\nout \"Z\"\nat 9 line 11 main depth 1\nx noncurrent: 2 dead removed 6, path 6 9\n",
+        },
+    ),
+    (
+        "cdbg debug --passes motion --homes registers program.c script input image",
+        Session {
+            shows: "a moved product hides its variable before its assignment",
+            source: b"#include <stdio.h>\nint main(void){\nint a=getchar();\nint b=getchar();\nint x=1;\nputchar(x);\nint i=0;\ndo{\nx=a*b;\nputchar(x);\ni=i+1;\n}while(i<2);\nreturn x;\n}\n",
+            script: b"break 9\ncontinue\nprint x\nstep\nprint x\ncontinue\nprint x\n",
+            input: b"\x02\x03",
+            printed: b"break at 7\nout \"\\x01\"\nat 7 line 9 main depth 1\nx noncurrent: 1 motion moved 7, path 4 5 6 7\nat 8 line 10 main depth 1\nx = 6\nout \"\\x06\"\nat 7 line 9 main depth 1\nx noncurrent: 1 motion moved 7, path 4 5 6 7\n",
+        },
+    ),
+    (
+        "cdbg debug --passes dead --homes slots program.c script input image",
+        Session {
+            shows: "a call stays where what it gives is dead",
+            source: b"#include <stdio.h>\nint main(void){int x=putchar(65); return 0;}\n",
+            script: b"step\nstep\nprint x\n",
+            input: b"",
+            printed: b"at 2 line 2 main depth 1\nout \"A\"\nat 3 line 2 main depth 1\nx noncurrent: 1 dead removed 2, path 2 3\n",
+        },
+    ),
+    (
+        "cdbg debug --passes motion program.c script input image",
+        Session {
+            shows: "a moved division gives what it gave",
+            source: DIVISION,
+            script: b"continue\n",
+            input: b"4",
+            printed: b"out \"22\"\nexit 2\n",
+        },
+    ),
+    (
+        "cdbg debug --passes motion program.c script input image",
+        Session {
+            shows: "a moved division by zero does not trap",
+            source: DIVISION,
+            script: b"continue\n",
+            input: b"0",
+            printed: b"exit 3\n",
+        },
+    ),
+];
+
+#[test]
+fn sources_are_debugged_behind_passes(rt: HostRuntime) -> Result<(), Fail> {
+    for (words, session) in &BEHIND_PASSES {
+        assert_session(&rt, rt.alloc(), words, session)?;
+    }
+    Ok(())
+}
+
+/// What jobs say over a source, by their words.
+static SAID: [(&str, &[u8], &[u8]); 2] = [
+    (
+        "cdbg passes --passes copy,dead program.c",
+        COPIED,
+        b"1 copy replaced x 6\n2 dead removed x 3\n3 dead removed z 4\n4 dead removed x 5\n",
+    ),
+    (
+        "cdbg sweep 7 1",
+        b"",
+        b"seed 7 size 1\nstops 14\npairs 55 home 54 recovered 0 noncurrent 0 nonresident 1\nout 1\nexit 0\n",
+    ),
+];
+
+#[test]
+fn changes_are_listed_and_runs_are_summed(rt: HostRuntime) -> Result<(), Fail> {
+    for (words, source, printed) in &SAID {
+        assert_said(&rt, rt.alloc(), words, source, printed)?;
+    }
+    Ok(())
+}
+
+#[test]
+fn a_pass_that_is_not_handed_in_is_no_job(rt: HostRuntime) -> Result<(), Fail> {
+    let mut shelf = shelf(rt.alloc(), COPIED, b"".as_slice(), b"".as_slice())?;
+    let mut sink = MemSink::new(rt.alloc(), [].as_slice())?;
+    let words = split(
+        rt.alloc(),
+        "cdbg debug --passes copy,nosuch program.c script input image",
+    )?;
+    assert!(rt; run(rt.alloc(), &words, &mut shelf, &mut sink) == Status::Usage);
+    Ok(())
+}
+
+#[test]
+fn the_image_of_an_optimised_program_is_attached(rt: HostRuntime) -> Result<(), Fail> {
+    let script = b"break 6\ncontinue\nprint x\n".as_slice();
+    let mut shelf = shelf(rt.alloc(), COPIED, script, b"C".as_slice())?;
+    let words = "cdbg compile --passes copy,dead --homes slots program.c image";
+    assert!(rt; prints(rt.alloc(), words, &mut shelf, b"".as_slice())?);
+    let printed =
+        b"break at 5\nat 5 line 6 main depth 1\nx = 0 (recovered: 2 dead removed 3)\n".as_slice();
+    assert!(rt; image_prints(rt.alloc(), &mut shelf, printed)?);
+    Ok(())
+}

@@ -1,0 +1,98 @@
+//! Sessions of sources, as tables say them.
+
+use super::attaching::attach;
+use super::{run, split};
+use line_form::Status;
+use outside::{MemShelf, MemSink};
+use std::alloc::{AllocError, Global};
+use std::process::Abort;
+
+/// A session of a source.
+pub(super) struct Session {
+    /// What it shows.
+    pub(super) shows: &'static str,
+    pub(super) source: &'static [u8],
+    pub(super) script: &'static [u8],
+    pub(super) input: &'static [u8],
+    /// What it prints.
+    pub(super) printed: &'static [u8],
+}
+
+/// A shelf with a source, a script and an input.
+pub(super) fn shelf(
+    alloc: Global,
+    source: &[u8],
+    script: &[u8],
+    input: &[u8],
+) -> Result<MemShelf, AllocError> {
+    let mut shelf = MemShelf::new(alloc, [].as_slice())?;
+    shelf.place(alloc, "program.c", source)?;
+    shelf.place(alloc, "script", script)?;
+    shelf.place(alloc, "input", input)?;
+    Ok(shelf)
+}
+
+/// Whether an image is held.
+fn has_image(shelf: &MemShelf) -> bool {
+    shelf.held("image").is_some()
+}
+
+/// Whether the job of these words is done and prints this.
+pub(super) fn prints(
+    alloc: Global,
+    words: &str,
+    shelf: &mut MemShelf,
+    printed: &[u8],
+) -> Result<bool, AllocError> {
+    let words = split(alloc, words)?;
+    let mut sink = MemSink::new(alloc, [].as_slice())?;
+    let status = run(alloc, &words, shelf, &mut sink);
+    Ok(status == Status::Done && sink.bytes() == printed)
+}
+
+/// Whether the held image, debugged by the held script, prints this.
+pub(super) fn image_prints(
+    alloc: Global,
+    shelf: &mut MemShelf,
+    printed: &[u8],
+) -> Result<bool, AllocError> {
+    let mut sink = MemSink::new(alloc, [].as_slice())?;
+    let status = attach(alloc, shelf, &mut sink)?;
+    Ok(status == Status::Done && sink.bytes() == printed)
+}
+
+/// Whether a session by these words prints what it should, and so does the image that it saved.
+fn holds(alloc: Global, words: &str, session: &Session) -> Result<bool, AllocError> {
+    let mut shelf = shelf(alloc, session.source, session.script, session.input)?;
+    Ok(
+        prints(alloc, words, &mut shelf, session.printed)?
+            && has_image(&shelf)
+            && image_prints(alloc, &mut shelf, session.printed)?,
+    )
+}
+
+/// A session by these words prints what it should, and so does the image that it saved.
+pub(super) fn assert_session(
+    rt: &impl Abort,
+    alloc: Global,
+    words: &str,
+    session: &Session,
+) -> Result<(), AllocError> {
+    let is_right = holds(alloc, words, session)?;
+    assert!(rt; is_right, "{}", session.shows);
+    Ok(())
+}
+
+/// The job of these words over a source prints this, and saves nothing.
+pub(super) fn assert_said(
+    rt: &impl Abort,
+    alloc: Global,
+    words: &str,
+    source: &[u8],
+    printed: &[u8],
+) -> Result<(), AllocError> {
+    let mut shelf = shelf(alloc, source, b"".as_slice(), b"".as_slice())?;
+    let is_right = prints(alloc, words, &mut shelf, printed)?;
+    assert!(rt; is_right && !has_image(&shelf), "{words}");
+    Ok(())
+}
