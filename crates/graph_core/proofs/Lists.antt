@@ -1,9 +1,10 @@
 -- What a chain of iterators says of a list, seen through a view.
 use mathlib.Core.Bool.{true≢false}
 use denote.Param.Members.{Mut}
-use Rattle.std.proofs.Common.{◌≡◌, ◌-◌, ◌<◌, ℕ, zero, suc, Bool, true, false, Option, List, [], ◌∷◌, ◌++◌, ◌+◌, ◌^◌, length, map, min, refl, sym, ap, ◌∙◌, arith}
+use Rattle.std.proofs.Common.{◌≡◌, ◌-◌, ◌<◌, ℕ, zero, suc, Bool, true, false, Option, List, [], ◌∷◌, ◌++◌, ◌+◌, ◌^◌, ◌≤◌, length, get_or, take, drop, map, min, refl, subst, sym, ap, ◌∙◌, arith}
 use Rattle.std.proofs.lemmas.Fn.{fold_over}
 use Rattle.std.proofs.lemmas.Iterator.{YieldsList, cases_from_all}
+use Rattle.std.proofs.lemmas.List.{take_all}
 use Rattle.std.specs.Prelude.{◌↔◌, IsTrue, MatchOption}
 use Rattle.std.specs.Bool.{MatchBool}
 use Rattle.std.specs.Fn.{Called}
@@ -52,3 +53,11 @@ module _ {S A B C F : Type 0} {steps : S → Option A → S → Type 0} {v : A �
           let one = told a x b q c in
           let sum : total count (map view (ys ++ (v x ∷ []))) ≡ total count (map view ys) + count (view (v x)) = ap (total count) (map_more view ys (v x)) ∙ total_more count (map view ys) (view (v x)) in
           (omega (arith, one.0, h, sum), one.1)
+
+-- P holds of each element of a list, seen through a view, where it holds of the first and of each of the rest
+module _ {A B : Type 0} (P : B → Type 0) (view : A → B) where
+  pub first_and_rest : (xs : List A) (x : A) → 1 ≤ length xs → x ≡ get_or xs 0 x → (AllByRecursion P (map view xs) ↔ P (view x) × AllByRecursion P (map view (take (length xs - 1) (drop 1 xs))))
+  first_and_rest [] x l e = absurd (omega (arith, l))
+  first_and_rest (y ∷ ys) x l e =
+      subst (λ (zs : List A). (P (view y) × AllByRecursion P (map view ys)) ↔ P (view x) × AllByRecursion P (map view zs)) (sym (take_all (length (y ∷ ys) - 1) ys (omega arith)))
+      (subst (λ (z : A). (P (view y) × AllByRecursion P (map view ys)) ↔ P (view z) × AllByRecursion P (map view ys)) (sym e) (λ h. h, λ h. h))

@@ -1,92 +1,60 @@
--- No place has two markers exactly where each place has at most one among all.
-use Rattle.std.proofs.Common.{◌≡◌, ℕ, ◌+◌, ◌-◌, ◌^◌, ◌≤◌, ◌==◌, min, Bool, true, false, if◌then◌else◌, List, [], ◌∷◌, ◌++◌, length, refl, sym, ap, ◌∙◌, subst, zero-add, arith}
-use Rattle.std.specs.Prelude.{◌≢◌, IsTrue, nat_lt}
-use Rattle.std.specs.List.{AllByRecursion}
+-- Markers are counted as their places are listed, and no place stands twice in a list exactly where none does in the list put in order.
+use mathlib.Core.Bool.{true≢false}
+use Rattle.std.proofs.Common.{◌≡◌, ℕ, zero, suc, ◌+◌, ◌<◌, ◌≤◌, ◌==◌, Bool, true, false, if◌then◌else◌, List, [], ◌∷◌, length, get_or, refl, sym, ap, ◌∙◌, subst, zero-add, arith}
+use Rattle.std.specs.Prelude.{◌≢◌, ◌↔◌, IsTrue, Result, Ok, Err, nat_lt}
+use Rattle.std.specs.Bool.{MatchBool}
+use Rattle.std.specs.List.{All, AllAdjacentBelow, AllByRecursion, AllPairs, Contains, IsAllAdjacentAnswer, sum_by}
+use Rattle.std.specs.List.Sorted.{IsBinarySearchResult, IsNonDecreasing, IsPermutation}
+use Rattle.std.specs.Ordering.{nat_cmp}
+use Rattle.std.specs.Result.{MatchResult, is_ok}
 use Rattle.std.proofs.lemmas.Bool.Decides.{nat_tests}
-use Rattle.std.proofs.lemmas.Bool.{eqb-true}
-use Rattle.debug_records.specs.declared.change.Place.{Place}
-use Rattle.graph_core.specs.declared.validity.Counted.TheVariants.{Markers, MarkersOf}
+use Rattle.std.proofs.lemmas.List.{get_or_default, length-append}
+use Rattle.std.proofs.lemmas.List.Elements.{All-from_recursion, All-weaker, Contains-append_right, recursion_from_All}
+use Rattle.std.proofs.lemmas.List.Kept.{AllPairs-from_increasing}
+use Rattle.std.proofs.lemmas.List.Sums.{sum_by-cons}
+use Rattle.std.proofs.lemmas.List.Sorted.{All-permutation, Contains-permutation, IsPermutation-sym, searched, sum_by-IsPermutation}
+use Rattle.graph_core.specs.declared.place_table.PlaceTable.{PlaceTable}
+use Rattle.graph_core.specs.declared.validity.Counted.TheVariants.{Markers}
 use Rattle.graph_core.specs.Graphs.{Instruction, Marker, Block, Graph}
 use Rattle.graph_core.specs.Paths.{Among, front, behind}
-use Rattle.graph_core.specs.Counts.{AreMarkedOnce, AreMarkedOnceIn, AreMarkedOnceInBlocks, any, count_in_blocks, count_in_graphs, markers_in_graphs, marks, only}
+use Rattle.graph_core.specs.Counts.{count_in_graphs, marks}
+use Rattle.graph_core.specs.PlaceTables.{IsTableOf, listed}
 use Rattle.graph_core.specs.Validity.{AreAllDifferent, markers_in, markers_of, markers_of_blocks, total}
 
-total_append : {A : Type 0} (f : A → ℕ) (xs ys : List A) → total f (xs ++ ys) ≡ total f xs + total f ys
-total_append f [] ys = sym (zero-add (total f ys))
-total_append f (x ∷ xs) ys = omega (arith, total_append f xs ys)
-
 -- a count of markers, instruction by instruction and place by place
-marks_in : (m : ℕ → ℕ) (all : List Instruction) → total (marks m) all ≡ total m (markers_in all)
-marks_in m [] = refl
-marks_in m (Marker p ∷ all) = ap (λ n. m p + n) (marks_in m all)
-marks_in m (_ ∷ all) = zero-add _ ∙ marks_in m all
+marks_in : (all : List Instruction) → total marks all ≡ length (markers_in all)
+marks_in [] = refl
+marks_in (Marker p ∷ all) = omega (arith, marks_in all)
+marks_in (_ ∷ all) = zero-add _ ∙ marks_in all
 
-marks_in_blocks : (m : ℕ → ℕ) (all : List Block) → total (λ (b : Block). total (marks m) b.instructions) all ≡ total m (markers_of_blocks all)
-marks_in_blocks m [] = refl
-marks_in_blocks m (b ∷ all) = omega (arith, marks_in m b.instructions, marks_in_blocks m all, total_append m (markers_in b.instructions) (markers_of_blocks all))
-
-marks_in_graphs : (m : ℕ → ℕ) (all : List Graph) → total (λ (g : Graph). total (λ (b : Block). total (marks m) b.instructions) g.blocks) all ≡ total m (markers_of all)
-marks_in_graphs m [] = refl
-marks_in_graphs m (g ∷ all) = omega (arith, marks_in_blocks m g.blocks, marks_in_graphs m all, total_append m (markers_of_blocks g.blocks) (markers_of all))
-
-any_counts : (all : List ℕ) → total any all ≡ length all
-any_counts [] = refl
-any_counts (p ∷ all) = omega (arith, any_counts all)
+marks_in_blocks : (all : List Block) → total (λ (b : Block). total marks b.instructions) all ≡ length (markers_of_blocks all)
+marks_in_blocks [] = refl
+marks_in_blocks (b ∷ all) = omega (arith, marks_in b.instructions, marks_in_blocks all, length-append (markers_in b.instructions) (markers_of_blocks all))
 
 pub markers_counted : (all : List Graph) → count_in_graphs Markers all ≡ length (markers_of all)
-markers_counted all = marks_in_graphs any all ∙ any_counts (markers_of all)
+markers_counted [] = refl
+markers_counted (g ∷ all) = omega (arith, marks_in_blocks g.blocks, markers_counted all, length-append (markers_of_blocks g.blocks) (markers_of all))
 
 -- one number among others
+among_contains : (p : ℕ) (all : List ℕ) → Among p all → Contains all p
+among_contains p [] a = elim a [ ]
+among_contains p (_ ∷ all) front = (0, omega arith, refl)
+among_contains p (q ∷ all) (behind a) = Contains-append_right (q ∷ []) all p (among_contains p all a)
+
+contains_among : (p : ℕ) (all : List ℕ) → Contains all p → Among p all
+contains_among p [] (k, lt, e) = absurd (omega (arith, lt))
+contains_among p (q ∷ all) (zero, lt, e) = subst (λ n. Among n (q ∷ all)) e front
+contains_among p (q ∷ all) (suc k, lt, e) = behind (contains_among p all (k, omega (arith, lt), e))
+
+-- how often a number stands in a list
+abbrev only : ℕ → ℕ → ℕ
+only q p = if p == q then 1 else 0
+
 only_itself : (p : ℕ) → only p p ≡ 1
 only_itself p = grind (arith, nat_tests)
 
 only_another : (p q : ℕ) → p ≢ q → only q p ≡ 0
 only_another p q h = grind (arith, nat_tests)
-
--- a number is counted where it occurs, and only there
-counted_some : (p : ℕ) (all : List ℕ) → Among p all → 1 ≤ total (only p) all
-counted_some p [] a = elim a [ ]
-counted_some p (_ ∷ all) front = omega (arith, only_itself p)
-counted_some p (q ∷ all) (behind a) = omega (arith, counted_some p all a)
-
-first_or_later : (p q : ℕ) (all : List ℕ) (b : Bool) → (q == p) ≡ b → 1 ≤ total (only p) (q ∷ all) → (1 ≤ total (only p) all → Among p all) → Among p (q ∷ all)
-first_or_later p q all true e some later = subst (λ k. Among k (q ∷ all)) (eqb-true q p e) front
-first_or_later p q all false e some later =
-    let none : only p q ≡ 0 = ap (λ (b : Bool). if b then 1 else 0) e in behind (later (omega (arith, some, none)))
-
-some_counts : (p : ℕ) (all : List ℕ) → 1 ≤ total (only p) all → Among p all
-some_counts p [] some = absurd (omega (arith, some))
-some_counts p (q ∷ all) some = first_or_later p q all (q == p) refl some (some_counts p all)
-
--- the markers of a place are counted where blocks have one, and only there
-pub marker_counted : (p : Place) (all : List Block) → Among p.0 (markers_of_blocks all) → 1 ≤ count_in_blocks (MarkersOf p) all
-marker_counted p all a = omega (arith, marks_in_blocks (only p.0) all, counted_some p.0 (markers_of_blocks all) a)
-
-pub counted_marker : (p : Place) (all : List Block) → 1 ≤ count_in_blocks (MarkersOf p) all → Among p.0 (markers_of_blocks all)
-counted_marker p all some = some_counts p.0 (markers_of_blocks all) (omega (arith, marks_in_blocks (only p.0) all, some))
-
--- a count that is cut off tells whether there are some
-pub some_counted : (n m : ℕ) → n ≡ min m (2 ^ 64 - 1) → IsTrue (nat_lt 0 n) → 1 ≤ m
-some_counted n m same t = grind (arith, nat_tests)
-
-pub some_told : (n m : ℕ) → n ≡ min m (2 ^ 64 - 1) → 1 ≤ m → IsTrue (nat_lt 0 n)
-some_told n m same some = grind (arith, nat_tests)
-
-all_map : {A : Type 0} {P Q : A → Type 0} (all : List A) → ((x : A) → P x → Q x) → AllByRecursion P all → AllByRecursion Q all
-all_map [] f h = tt
-all_map (x ∷ all) f h = (f x h.0, all_map all f h.1)
-
-all_append : {A : Type 0} (P : A → Type 0) (xs ys : List A) → AllByRecursion P xs → AllByRecursion P ys → AllByRecursion P (xs ++ ys)
-all_append P [] ys g h = h
-all_append P (x ∷ xs) ys g h = (g.0, all_append P xs ys g.1 h)
-
-all_before : {A : Type 0} (P : A → Type 0) (xs ys : List A) → AllByRecursion P (xs ++ ys) → AllByRecursion P xs
-all_before P [] ys h = tt
-all_before P (x ∷ xs) ys h = (h.0, all_before P xs ys h.1)
-
-all_behind : {A : Type 0} (P : A → Type 0) (xs ys : List A) → AllByRecursion P (xs ++ ys) → AllByRecursion P ys
-all_behind P [] ys h = h
-all_behind P (x ∷ xs) ys h = all_behind P xs ys h.1
 
 -- a number does not occur where it is counted 0 times
 absent : (p : ℕ) (all : List ℕ) → total (only p) all ≡ 0 → AllByRecursion (λ q. p ≢ q) all
@@ -104,7 +72,8 @@ counted_none p (q ∷ all) h =
 
 -- one number more in front
 dropped : (p : ℕ) (more all : List ℕ) → AllByRecursion (λ q. total (only q) (p ∷ more) ≤ 1) all → AllByRecursion (λ q. total (only q) more ≤ 1) all
-dropped p more all h = all_map all (λ (q : ℕ) (le : total (only q) (p ∷ more) ≤ 1). omega (arith, le)) h
+dropped p more [] h = tt
+dropped p more (q ∷ all) h = (omega (arith, h.0), dropped p more all h.1)
 
 added : (p : ℕ) (more all : List ℕ) → AllByRecursion (λ q. total (only q) more ≤ 1) all → AllByRecursion (λ q. p ≢ q) all → AllByRecursion (λ q. total (only q) (p ∷ more) ≤ 1) all
 added p more [] h d = tt
@@ -120,44 +89,72 @@ different_from [] d = tt
 different_from (p ∷ all) d =
     (omega (arith, only_itself p, counted_none p all d.0), added p all all (different_from all d.1) d.0)
 
-module _ (graphs : List Graph) where
-  abbrev Single : ℕ → Type 0
-  Single p = markers_in_graphs p graphs ≤ 1
+total_is_sum : (f : ℕ → ℕ) (xs : List ℕ) → total f xs ≡ sum_by f xs
+total_is_sum f [] = refl
+total_is_sum f (x ∷ xs) = omega (arith, total_is_sum f xs, sum_by-cons f x xs)
 
-  in_to : (all : List Instruction) → AreMarkedOnceIn graphs all → AllByRecursion Single (markers_in all)
-  in_to [] h = tt
-  in_to (Marker p ∷ all) h = (h.0, in_to all h.1)
-  in_to (_ ∷ all) h = in_to all h.1
+-- In whatever order the numbers stand, they are different.
+different_moved : (xs ys : List ℕ) → IsPermutation xs ys → AreAllDifferent xs → AreAllDifferent ys
+different_moved xs ys moved d =
+    let once : All (λ p. total (only p) xs ≤ 1) xs = All-from_recursion (λ p. total (only p) xs ≤ 1) xs (different_from xs d) in
+    let there : All (λ p. total (only p) xs ≤ 1) ys = All-permutation (λ p. total (only p) xs ≤ 1) xs ys moved once in
+    different_to ys (recursion_from_All (λ p. total (only p) ys ≤ 1) ys (All-weaker (λ p. total (only p) xs ≤ 1) (λ p. total (only p) ys ≤ 1) (λ p le. omega (arith, le, same p)) ys there))
+  where
+    same : (p : ℕ) → total (only p) ys ≡ total (only p) xs
+    same p = total_is_sum (only p) ys ∙ sum_by-IsPermutation (only p) xs ys moved ∙ sym (total_is_sum (only p) xs)
 
-  in_from : (all : List Instruction) → AllByRecursion Single (markers_in all) → AreMarkedOnceIn graphs all
-  in_from [] h = tt
-  in_from (Marker p ∷ all) h = (h.0, in_from all h.1)
-  in_from (_ ∷ all) h = (tt, in_from all h)
+-- Numbers of which each is less than the next are different, and two that are equal are not.
+rising_different : (xs : List ℕ) → AllPairs (λ x y. x < y) xs → AreAllDifferent xs
+rising_different [] h = tt
+rising_different (x ∷ xs) h =
+    let apart : All (λ q. x ≢ q) xs = λ k d lt e. absurd (omega (arith, h 0 (suc k) d (omega arith) (omega (arith, lt)), e)) in
+    (recursion_from_All (λ q. x ≢ q) xs apart, rising_different xs (λ i j d lt within. h (suc i) (suc j) d (omega (arith, lt)) (omega (arith, within))))
 
-  blocks_to : (all : List Block) → AreMarkedOnceInBlocks graphs all → AllByRecursion Single (markers_of_blocks all)
-  blocks_to [] h = tt
-  blocks_to (b ∷ all) h = all_append Single (markers_in b.instructions) (markers_of_blocks all) (in_to b.instructions h.0) (blocks_to all h.1)
+differ_at : (xs : List ℕ) (i j d : ℕ) → i < j → j < length xs → AreAllDifferent xs → get_or xs i d ≢ get_or xs j d
+differ_at [] i j d lt within h = absurd (omega (arith, within))
+differ_at (x ∷ xs) i zero d lt within h = absurd (omega (arith, lt))
+differ_at (x ∷ xs) zero (suc j) d lt within h = All-from_recursion (λ q. x ≢ q) xs h.0 j d (omega (arith, within))
+differ_at (x ∷ xs) (suc i) (suc j) d lt within h = differ_at xs i j d (omega (arith, lt)) (omega (arith, within)) h.1
 
-  blocks_from : (all : List Block) → AllByRecursion Single (markers_of_blocks all) → AreMarkedOnceInBlocks graphs all
-  blocks_from [] h = tt
-  blocks_from (b ∷ all) h =
-      (in_from b.instructions (all_before Single (markers_in b.instructions) (markers_of_blocks all) h), blocks_from all (all_behind Single (markers_in b.instructions) (markers_of_blocks all) h))
+-- Neighbours that rise tell the same of all.
+pairs_from_adjacent : (xs : List ℕ) → AllAdjacentBelow (λ x y. true ≡ nat_lt x y) xs (length xs) → AllPairs (λ x y. x < y) xs
+pairs_from_adjacent xs h = AllPairs-from_increasing xs (λ k lt. less k (h k 0 lt))
+  where
+    less : (k : ℕ) → true ≡ nat_lt (get_or xs k 0) (get_or xs (k + 1) 0) → get_or xs k 0 < get_or xs (k + 1) 0
+    less k e = grind (arith, nat_tests)
 
-  graphs_to : (all : List Graph) → AreMarkedOnce graphs all → AllByRecursion Single (markers_of all)
-  graphs_to [] h = tt
-  graphs_to (g ∷ all) h = all_append Single (markers_of_blocks g.blocks) (markers_of all) (blocks_to g.blocks h.0) (graphs_to all h.1)
+rising_told : (xs : List ℕ) (r : Bool) → IsNonDecreasing xs → MatchBool r (AllAdjacentBelow (λ x y. true ≡ nat_lt x y) xs (length xs)) ((k : ℕ) × (k + 1 < length xs) × ((d : ℕ) → false ≡ nat_lt (get_or xs k d) (get_or xs (k + 1) d))) → (IsTrue r ↔ AreAllDifferent xs)
+rising_told xs true order m = (λ e. rising_different xs (pairs_from_adjacent xs m), λ h. refl)
+rising_told xs false order m =
+    (λ e. absurd (true≢false (sym e)), λ h. absurd (differ_at xs m.0 (m.0 + 1) 0 (omega arith) m.1 h (equal m.0 (m.1) (m.2 0) (order m.0 (m.0 + 1) 0 (omega arith) m.1))))
+  where
+    equal : (k : ℕ) → k + 1 < length xs → false ≡ nat_lt (get_or xs k 0) (get_or xs (k + 1) 0) → get_or xs k 0 ≤ get_or xs (k + 1) 0 → get_or xs k 0 ≡ get_or xs (k + 1) 0
+    equal k lt e le = grind (arith, nat_tests)
 
-  graphs_from : (all : List Graph) → AllByRecursion Single (markers_of all) → AreMarkedOnce graphs all
-  graphs_from [] h = tt
-  graphs_from (g ∷ all) h =
-      (blocks_from g.blocks (all_before Single (markers_of_blocks g.blocks) (markers_of all) h), graphs_from all (all_behind Single (markers_of_blocks g.blocks) (markers_of all) h))
+-- what a search among numbers in order found is one of them
+found : (xs : List ℕ) (x : ℕ) (r : Result ℕ ℕ) → MatchResult r (λ i. (i < length xs) × (get_or xs i 0 ≡ x)) (λ i. (i ≤ length xs) × ((k : ℕ) → k < i → get_or xs k 0 < x) × ((k : ℕ) → i ≤ k → k < length xs → x < get_or xs k 0))
+    → (IsTrue (is_ok r) ↔ Contains xs x)
+found xs x (Ok i) m =
+    let here : get_or xs i x ≡ x = get_or_default xs i x 0 m.0 ∙ m.1 in
+    (λ e. (i, m.0, here), λ h. refl)
+found xs x (Err i) m =
+    (λ e. absurd (true≢false (sym e)), λ h. absurd (beside h.0 h.1 (get_or_default xs h.0 0 x h.1 ∙ h.2)))
+  where
+    beside : (k : ℕ) → k < length xs → get_or xs k 0 ≡ x → ⊥
+    beside k lt e = grind (arith, m.1, m.2)
 
-pub once_to : (all : List Graph) → AreMarkedOnce all all → AreAllDifferent (markers_of all)
-once_to all h =
-    different_to (markers_of all)
-    (all_map (markers_of all) (λ (p : ℕ) (le : markers_in_graphs p all ≤ 1). omega (arith, le, marks_in_graphs (only p) all)) (graphs_to all all h))
+-- what the tests of a table tell of the places that it lists
+module _ (places : List ℕ) (t : PlaceTable) (is : IsTableOf places t) where
+  pub told_listed : (x : ℕ) (r : Result ℕ ℕ) → IsBinarySearchResult (λ y. nat_cmp y x) (listed t) r → (IsTrue (is_ok r) ↔ Among x places)
+  told_listed x r told =
+      let both = found (listed t) x r (searched (listed t) x r told (λ i j le lt. is.order i j 0 le lt)) in (
+        λ e. contains_among x places (Contains-permutation (listed t) places x (IsPermutation-sym places (listed t) is.same) (both.0 e)),
+        λ a. both.1 (Contains-permutation places (listed t) x is.same (among_contains x places a)),
+      )
 
-pub once_from : (all : List Graph) → AreAllDifferent (markers_of all) → AreMarkedOnce all all
-once_from all d =
-    graphs_from all all
-    (all_map (markers_of all) (λ (p : ℕ) (le : total (only p) (markers_of all) ≤ 1). omega (arith, le, marks_in_graphs (only p) all)) (different_from (markers_of all) d))
+  pub told_different : (r : Bool) → IsAllAdjacentAnswer (λ x y b. b ≡ nat_lt x y) (listed t) r → (IsTrue r ↔ AreAllDifferent places)
+  told_different r told =
+      let both = rising_told (listed t) r is.order told in (
+        λ e. different_moved (listed t) places (IsPermutation-sym places (listed t) is.same) (both.0 e),
+        λ d. both.1 (different_moved places (listed t) is.same d),
+      )

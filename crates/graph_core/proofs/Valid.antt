@@ -2,9 +2,8 @@
 use Rattle.std.specs.Prelude.{slice_get}
 use Rattle.std.specs.List.{AllByRecursion}
 use Rattle.graph_core.specs.Graphs.{StaticObject, UnitForm}
-use Rattle.graph_core.specs.Counts.{AreMarkedOnce, KeepsCounts}
-use Rattle.graph_core.specs.Validity.{AreRelocations, HasParameters, IsGraph, IsValid}
-use Rattle.graph_core.proofs.Once.{once_to}
+use Rattle.graph_core.specs.Counts.{KeepsCounts}
+use Rattle.graph_core.specs.Validity.{AreAllDifferent, AreRelocations, HasParameters, IsGraph, IsValid, markers_of}
 
 pub counts_kept : (u : UnitForm) → IsValid u → KeepsCounts u
 counts_kept u v = record {
@@ -17,7 +16,7 @@ counts_kept u v = record {
 }
 
 pub valid_if : (u : UnitForm) → KeepsCounts u → HasParameters (slice_get u.graphs u.main) 0 → AllByRecursion (λ (o : StaticObject). AreRelocations u.statics o.relocations) u.statics
-    → AllByRecursion (IsGraph u) u.graphs → AreMarkedOnce u.graphs u.graphs → IsValid u
+    → AllByRecursion (IsGraph u) u.graphs → AreAllDifferent (markers_of u.graphs) → IsValid u
 valid_if u k main relocations graphs once = record {
   functions = k.functions;
   main = main;
@@ -27,6 +26,6 @@ valid_if u k main relocations graphs once = record {
   arguments = k.arguments;
   statics = k.statics;
   relocations = relocations;
-  once = once_to u.graphs once;
+  once = once;
   graphs = graphs;
 }

@@ -7,6 +7,7 @@ pub mod Paths
 pub mod Bounds
 pub mod Validity
 pub mod Counts
+pub mod PlaceTables
 pub mod WellMarked
 pub mod Points
 pub mod Computations

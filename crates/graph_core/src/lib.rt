@@ -7,6 +7,7 @@ mod duplicate;
 mod graph;
 mod instruction;
 mod name;
+mod place_table;
 mod recipe;
 mod unit;
 mod uses;

@@ -5,11 +5,12 @@ ghost use Rattle.std.specs.Prelude.{◌≡◌, ◌≤◌, ◌<◌, ◌↔◌, �
 ghost use Rattle.std.specs.List.{AllByRecursion};
 ghost use Rattle.debug_records.specs.declared.change.Place as declared-place;
 ghost use Rattle.graph_core.specs.Graphs.{binding_view, block_view, bytes_view, end_view, graph_view, instruction_view, location_view, note_view, operand_view, recipe_view, static_view, unit_view};
-ghost use Rattle.graph_core.specs.Uses.{marker_of, targets_of};
-ghost use Rattle.graph_core.specs.Paths.{Among};
+ghost use Rattle.graph_core.specs.Uses.{targets_of};
 ghost use Rattle.graph_core.specs.Memory.{static_bytes};
-ghost use Rattle.graph_core.specs.Counts.{AreMarkedOnce, AreMarkedOnceInBlocks, AreMarkedOnceIn, IsOnce, KeepsCounts, count_in_blocks, count_in_graphs, share};
-ghost use Rattle.graph_core.specs.Validity.{AreEdges, AreOperandsOf, AreOperandsOfEnd, AreRelocations, HasParameters, IsBinding, IsBlock, IsCall, IsGraph, IsInObject, IsInstruction, IsKept, IsLocation, IsNoteValue, IsObject, IsOperand, IsOwnPlace, IsStatic, IsTarget, IsValid, IsWanted, arguments_in, counts, depth_of, HasPlace, KeepsPlace, markers_of_blocks, place_behind, taken_by, taken_by_object, total};
+ghost use Rattle.graph_core.specs.Bounds.{most_markers};
+ghost use Rattle.graph_core.specs.Counts.{KeepsCounts, count_in_blocks, count_in_graphs, share};
+ghost use Rattle.graph_core.specs.PlaceTables.{IsTableOf};
+ghost use Rattle.graph_core.specs.Validity.{AreAllDifferent, AreEdges, AreOperandsOf, AreOperandsOfEnd, AreRelocations, HasParameters, IsBinding, IsBlock, IsCall, IsGraph, IsInObject, IsInstruction, IsKept, IsLocation, IsNoteValue, IsObject, IsOperand, IsOwnPlace, IsStatic, IsTarget, IsValid, IsWanted, arguments_in, counts, depth_of, HasPlace, KeepsPlace, markers_of, markers_of_blocks, place_behind, taken_by, taken_by_object, total};
 
 use crate::block::{Block, End};
 use crate::bounds::{
@@ -19,6 +20,7 @@ use crate::bounds::{
 use crate::graph::{Binding, Graph, MemoryObject};
 use crate::instruction::{Callee, Instr, Location};
 use crate::name::{Label, Name, Operand};
+use crate::place_table::PlaceTable;
 use crate::recipe::{NoteValue, Recipe};
 use crate::unit::{Bytes, Relocation, StaticObject, Unit};
 use debug_records::Place;
@@ -31,8 +33,6 @@ enum Counted {
     /// The arguments of calls.
     Arguments,
     Markers,
-    /// The markers of one place.
-    MarkersOf(Place),
 }
 
 /// Whether an instruction is counted, as a number.
@@ -64,10 +64,6 @@ fn share(counted: Counted, instruction: &Instr) -> u64
         Counted::Arguments => arguments_in(instruction),
         Counted::Markers => match instruction.marker() {
             Some(_) => 1,
-            None => 0,
-        },
-        Counted::MarkersOf(place) => match instruction.marker() {
-            Some(begun) => { if begun.0 == place.0 { 1 } else { 0 } }
             None => 0,
         },
     }
@@ -404,20 +400,14 @@ fn has_place(instructions: &[Instr], kept: Option<Place>) -> bool
     }
 }
 
-/// Whether a graph has the marker of a place.
-fn has_marker(graph: &Graph, place: Place) -> bool
-    ensures { IsTrue result ↔ Among place.0 (markers_of_blocks (graph_view graph.now).blocks) }
-{
-    0 < count_in_blocks(Counted::MarkersOf(place), &graph.blocks)
-}
-
-/// Whether a place that a block keeps, if it keeps one, is the entry of its graph or has its marker there.
-fn is_own_place(graph: &Graph, kept: Option<Place>) -> bool
+/// Whether a place that a block keeps, if it keeps one, is the entry of its graph or one of those that the graph begins, which a table lists.
+fn is_own_place(graph: &Graph, begun: &PlaceTable, kept: Option<Place>) -> bool
+    requires { IsTableOf (markers_of_blocks (graph_view graph.now).blocks) begun.now }
     ensures { IsTrue result ↔ IsOwnPlace (graph_view graph.now) (option_map (λ (p : declared-place.Place). p.0) kept) }
 {
     match kept {
         None => true,
-        Some(place) => place.0 == graph.entry.0 || has_marker(graph, place),
+        Some(place) => place.0 == graph.entry.0 || begun.has(place),
     }
 }
 
@@ -459,11 +449,12 @@ fn are_edges(graph: &Graph, in_force: Option<Place>, end: End) -> bool
     }
 }
 
-fn is_block(unit: &Unit, graph: &Graph, block: &Block) -> bool
+fn is_block(unit: &Unit, graph: &Graph, begun: &PlaceTable, block: &Block) -> bool
+    requires { IsTableOf (markers_of_blocks (graph_view graph.now).blocks) begun.now }
     ensures { IsTrue result ↔ IsBlock (unit_view unit.now) (graph_view graph.now) (block_view block.now) }
 {
     has_place(&block.instructions, block.place)
-        && is_own_place(graph, block.place)
+        && is_own_place(graph, begun, block.place)
         && are_instructions(unit, graph, &block.instructions)
         && are_operands_of_end(unit, graph, block.end)
         && are_edges(
@@ -473,10 +464,13 @@ fn is_block(unit: &Unit, graph: &Graph, block: &Block) -> bool
         )
 }
 
-fn are_blocks(unit: &Unit, graph: &Graph, blocks: &[Block]) -> bool
+fn are_blocks(unit: &Unit, graph: &Graph, begun: &PlaceTable, blocks: &[Block]) -> bool
+    requires { IsTableOf (markers_of_blocks (graph_view graph.now).blocks) begun.now }
     ensures { IsTrue result ↔ AllByRecursion (IsBlock (unit_view unit.now) (graph_view graph.now)) (map block_view blocks.now) }
 {
-    blocks.iter().all(|block| is_block(unit, graph, block))
+    blocks
+        .iter()
+        .all(|block| is_block(unit, graph, begun, block))
 }
 
 fn is_binding(graph: &Graph, binding: Binding) -> bool
@@ -494,7 +488,9 @@ fn are_bindings(graph: &Graph, bindings: &[Binding]) -> bool
     bindings.iter().all(|binding| is_binding(graph, *binding))
 }
 
-fn is_graph(unit: &Unit, graph: &Graph) -> bool
+/// Whether a graph is valid. The table then lists the places that it begins.
+fn is_graph(unit: &Unit, graph: &Graph, begun: &mut PlaceTable) -> bool
+    requires { length (markers_of_blocks (graph_view graph.now).blocks) ≤ most_markers }
     ensures { IsTrue result ↔ IsGraph (unit_view unit.now) (graph_view graph.now) }
 {
     if MAX_FUNCTION_INSTRUCTIONS < count_in_blocks(Counted::Instructions, &graph.blocks) {
@@ -515,13 +511,22 @@ fn is_graph(unit: &Unit, graph: &Graph) -> bool
     if !is_kept(graph, Some(graph.entry), Label(0)) {
         return false;
     }
-    are_bindings(graph, &graph.parameters) && are_blocks(unit, graph, &graph.blocks)
+    begun.list_blocks(&graph.blocks);
+    are_bindings(graph, &graph.parameters) && are_blocks(unit, graph, begun, &graph.blocks)
 }
 
-fn are_graphs(unit: &Unit, graphs: &[Graph]) -> bool
+fn are_graphs(unit: &Unit, graphs: &[Graph], begun: &mut PlaceTable) -> bool
+    requires { length (markers_of (map graph_view graphs.now)) ≤ most_markers }
     ensures { IsTrue result ↔ AllByRecursion (IsGraph (unit_view unit.now)) (map graph_view graphs.now) }
 {
-    graphs.iter().all(|graph| is_graph(unit, graph))
+    let mut left = graphs;
+    while let [graph, rest @ ..] = left {
+        if !is_graph(unit, graph, begun) {
+            return false;
+        }
+        left = rest;
+    }
+    true
 }
 
 fn are_relocations(unit: &Unit, relocations: &[Relocation]) -> bool
@@ -540,38 +545,13 @@ fn have_relocations(unit: &Unit, objects: &[StaticObject]) -> bool
         .all(|object| are_relocations(unit, &object.relocations))
 }
 
-/// Whether a place, if an instruction begins one, has no other marker in graphs.
-fn is_once(graphs: &[Graph], instruction: &Instr) -> bool
-    ensures { IsTrue result ↔ IsOnce (map graph_view graphs.now) (marker_of (instruction_view instruction.now)) }
+/// Whether no place has two markers in graphs.
+fn are_marked_once(graphs: &[Graph], begun: &mut PlaceTable) -> bool
+    requires { length (markers_of (map graph_view graphs.now)) ≤ most_markers }
+    ensures { IsTrue result ↔ AreAllDifferent (markers_of (map graph_view graphs.now)) }
 {
-    match instruction.marker() {
-        None => true,
-        Some(place) => count_in_graphs(Counted::MarkersOf(place), graphs) <= 1,
-    }
-}
-
-fn are_marked_once_in(graphs: &[Graph], instructions: &[Instr]) -> bool
-    ensures { IsTrue result ↔ AreMarkedOnceIn (map graph_view graphs.now) (map instruction_view instructions.now) }
-{
-    instructions
-        .iter()
-        .all(|instruction| is_once(graphs, instruction))
-}
-
-fn are_marked_once_in_blocks(graphs: &[Graph], blocks: &[Block]) -> bool
-    ensures { IsTrue result ↔ AreMarkedOnceInBlocks (map graph_view graphs.now) (map block_view blocks.now) }
-{
-    blocks
-        .iter()
-        .all(|block| are_marked_once_in(graphs, &block.instructions))
-}
-
-/// Whether no place that some graphs begin has another marker in all graphs.
-fn are_marked_once(graphs: &[Graph], some: &[Graph]) -> bool
-    ensures { IsTrue result ↔ AreMarkedOnce (map graph_view graphs.now) (map graph_view some.now) }
-{
-    some.iter()
-        .all(|graph| are_marked_once_in_blocks(graphs, &graph.blocks))
+    begun.list_graphs(graphs);
+    begun.are_different()
 }
 
 impl Unit {
@@ -595,7 +575,7 @@ impl Unit {
             <= MAX_STATIC_BYTES
     }
 
-    /// Whether the unit is valid. It takes no memory; where no other rule is broken, the time grows with the square of how much the unit has.
+    /// Whether the unit is valid. It takes no memory; the time grows as n log n with the number of markers, and else with how much the unit has.
     pub fn is_valid(&self) -> bool
         ensures { IsTrue result ↔ IsValid (unit_view self.now) }
     {
@@ -608,9 +588,10 @@ impl Unit {
         if !have_relocations(self, &self.statics) {
             return false;
         }
-        if !are_graphs(self, &self.graphs) {
+        let mut begun = PlaceTable::new();
+        if !are_graphs(self, &self.graphs, &mut begun) {
             return false;
         }
-        are_marked_once(&self.graphs, &self.graphs)
+        are_marked_once(&self.graphs, &mut begun)
     }
 }

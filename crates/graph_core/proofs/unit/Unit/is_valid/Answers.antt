@@ -3,9 +3,7 @@ use Rattle.std.specs.List.{AllByRecursion}
 use Rattle.graph_core.specs.declared.graph.Graph as declared-graph
 use Rattle.graph_core.specs.declared.unit.StaticObject as declared-static
 use Rattle.graph_core.specs.Graphs.{StaticObject, graph_view, static_view, unit_view}
-use Rattle.graph_core.specs.Counts.{AreMarkedOnce}
-use Rattle.graph_core.specs.Validity.{AreRelocations, IsGraph, IsValid}
-use Rattle.graph_core.proofs.Once.{once_from}
+use Rattle.graph_core.specs.Validity.{AreAllDifferent, AreRelocations, IsGraph, IsValid, markers_of}
 use Rattle.graph_core.proofs.Valid.{counts_kept, valid_if}
 use Rattle.graph_core.proofs.unit.Unit.is_valid.Goals as goal
 
@@ -36,12 +34,11 @@ returns c =
     let u = unit_view c.args.self.now in
     let P : List declared-static.StaticObject → Type 0 = λ all. AllByRecursion (λ (o : StaticObject). AreRelocations u.statics o.relocations) (map static_view all) in
     let Q : List declared-graph.Graph → Type 0 = λ all. AllByRecursion (IsGraph u) (map graph_view all) in
-    let R : List declared-graph.Graph → Type 0 = λ all. AreMarkedOnce (map graph_view all) u.graphs in
-    let S : List declared-graph.Graph → Type 0 = λ some. AreMarkedOnce (map graph_view c.deref-3.result.now) (map graph_view some) in
+    let R : List declared-graph.Graph → Type 0 = λ all. AreAllDifferent (markers_of (map graph_view all)) in
     let counts = c.keeps_counts.ensures.0 c.if-not-keeps_counts.false in
     let main = c.has_parameters.ensures.0 c.if-not-has_parameters.false in
     let relocations = subst P c.deref.ensures.value (c.have_relocations.ensures.0 c.if-not-have_relocations.false) in
     let graphs = subst Q c.deref-2.ensures.value (c.are_graphs.ensures.0 c.if-not-are_graphs.false) in (
-      λ t. valid_if u counts main relocations graphs (subst R c.deref-3.ensures.value (subst S c.deref-4.ensures.value (c.are_marked_once.ensures.0 t))),
-      λ (v : IsValid u). c.are_marked_once.ensures.1 (subst S (sym c.deref-4.ensures.value) (subst R (sym c.deref-3.ensures.value) (once_from u.graphs v.once))),
+      λ t. valid_if u counts main relocations graphs (subst R c.deref-3.ensures.value (c.are_marked_once.ensures.0 t)),
+      λ (v : IsValid u). c.are_marked_once.ensures.1 (subst R (sym c.deref-3.ensures.value) v.once),
     )
