@@ -3,7 +3,7 @@
 use debug_records::{ChangeLog, Code, Kind, Letter, PassName, Place, Var};
 use std::test::Fail;
 
-/// Codes of each letter, with their texts as docs/CODES.md has them.
+/// Codes of each letter, with their texts as docs/refusals.md has them.
 static CODES: [(Code, &str); 5] = [
     (Code::UNEXPECTED_KEYWORD, "E11"),
     (Code::UNKNOWN_COMMAND, "S01"),

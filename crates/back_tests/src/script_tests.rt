@@ -1,4 +1,4 @@
-//! Scripts, and what texts are refused for, worked by hand from docs/CODES.md.
+//! Scripts, and what texts are refused for, worked by hand from docs/refusals.md.
 
 use debug_records::Code;
 use script_form::{Command, ScriptErr, Target, read};
@@ -28,7 +28,7 @@ fn each_command_is_read(rt: HostRuntime) -> Result<(), Fail> {
     Ok(())
 }
 
-/// Texts that are no scripts, the rule that each breaks as docs/CODES.md has it, and its line. The last one has a line of 201 bytes.
+/// Texts that are no scripts, the rule that each breaks as docs/refusals.md has it, and its line. The last one has a line of 201 bytes.
 static REFUSALS: [(&[u8], Code, usize); 14] = [
     (b"jump 3\n", Code::UNKNOWN_COMMAND, 1),
     (b"quit\njump", Code::UNKNOWN_COMMAND, 2),

@@ -58,7 +58,7 @@ fn visible(alloc: Global, table: &PlaceTable) -> Result<Vec<Vec<u32>>, AllocErro
     Ok(all)
 }
 
-/// Programs, with what an independent reference in Python gives of them, by ISO/IEC 9899:2011 and the sentences of docs/DEFINITIONS.md on places.
+/// Programs, with what an independent reference in Python gives of them, by ISO/IEC 9899:2011 and the sentences of docs/definitions.md on places.
 static PROGRAMS: [Worked; 7] = [
     Worked {
         text: b"#include <stdio.h>\nint main(void){int x=2; x=x+3; putchar(65); return x;}",

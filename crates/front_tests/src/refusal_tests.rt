@@ -1,4 +1,4 @@
-//! What sources are refused for, and which are accepted, from their texts on. The codes and lines follow from docs/CODES.md and, where it tells
+//! What sources are refused for, and which are accepted, from their texts on. The codes and lines follow from docs/refusals.md and, where it tells
 //! what a construct is, from ISO/IEC 9899:2011; they were worked out by hand.
 
 use crate::texts::{Piece, text_of};
