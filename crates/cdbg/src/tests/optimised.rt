@@ -1,7 +1,7 @@
 //! Sessions of sources that passes have optimised, and the jobs that speak of passes.
 
 use super::programs::{DIVISION, image_of};
-use super::sessions::{Session, assert_said, assert_session, image_prints, prints, shelf};
+use super::sessions::{Session, assert_each, assert_said, image_prints, prints, shelf};
 use super::{run, split};
 use line_form::Status;
 use outside::{MemShelf, MemSink};
@@ -89,33 +89,30 @@ static BEHIND_PASSES: [(&str, Session); 7] = [
     ),
 ];
 
+fn behind_passes() -> &'static [(&'static str, Session)] {
+    &BEHIND_PASSES
+}
+
 #[test]
 fn sources_are_debugged_behind_passes(rt: HostRuntime) -> Result<(), Fail> {
-    for (words, session) in &BEHIND_PASSES {
-        assert_session(&rt, rt.alloc(), words, session)?;
-    }
+    assert_each(&rt, rt.alloc(), behind_passes())?;
     Ok(())
 }
 
-/// What jobs say over a source, by their words.
-static SAID: [(&str, &[u8], &[u8]); 2] = [
-    (
-        "cdbg passes --passes copy,dead program.c",
-        COPIED,
-        b"1 copy replaced x 6\n2 dead removed x 3\n3 dead removed z 4\n4 dead removed x 5\n",
-    ),
-    (
-        "cdbg sweep 7 1",
-        b"",
-        b"seed 7 size 1\nstops 14\npairs 55 home 54 recovered 0 noncurrent 0 nonresident 1\nout 1\nexit 0\n",
-    ),
-];
+#[test]
+fn the_changes_of_passes_are_listed(rt: HostRuntime) -> Result<(), Fail> {
+    let words = "cdbg passes --passes copy,dead program.c";
+    let printed =
+        b"1 copy replaced x 6\n2 dead removed x 3\n3 dead removed z 4\n4 dead removed x 5\n".as_slice();
+    assert_said(&rt, rt.alloc(), words, COPIED, printed)?;
+    Ok(())
+}
 
 #[test]
-fn changes_are_listed_and_runs_are_summed(rt: HostRuntime) -> Result<(), Fail> {
-    for (words, source, printed) in &SAID {
-        assert_said(&rt, rt.alloc(), words, source, printed)?;
-    }
+fn a_run_is_summed(rt: HostRuntime) -> Result<(), Fail> {
+    let printed =
+        b"seed 7 size 1\nstops 14\npairs 55 home 54 recovered 0 noncurrent 0 nonresident 1\nout 1\nexit 0\n".as_slice();
+    assert_said(&rt, rt.alloc(), "cdbg sweep 7 1", b"".as_slice(), printed)?;
     Ok(())
 }
 

@@ -1,7 +1,7 @@
 //! Sessions of sources that are compiled by no pass.
 
 use super::attaching::count_of_lines;
-use super::sessions::{Session, assert_session, image_prints, prints, shelf};
+use super::sessions::{Session, assert_all, image_prints, prints, shelf};
 use super::{PROGRAM, SCRIPT, TRANSCRIPT, number_at, run, split};
 use line_form::{Status, fault_text};
 use outside::{MemShelf, MemSink};
@@ -131,19 +131,19 @@ static IN_BOTH: [Session; 15] = [
     },
 ];
 
+fn in_both() -> &'static [Session] {
+    &IN_BOTH
+}
+
 #[test]
 fn sources_are_debugged_in_slots(rt: HostRuntime) -> Result<(), Fail> {
-    for session in &IN_BOTH {
-        assert_session(&rt, rt.alloc(), IN_SLOTS, session)?;
-    }
+    assert_all(&rt, rt.alloc(), IN_SLOTS, in_both())?;
     Ok(())
 }
 
 #[test]
 fn sources_are_debugged_in_registers(rt: HostRuntime) -> Result<(), Fail> {
-    for session in &IN_BOTH {
-        assert_session(&rt, rt.alloc(), IN_REGISTERS, session)?;
-    }
+    assert_all(&rt, rt.alloc(), IN_REGISTERS, in_both())?;
     Ok(())
 }
 
@@ -172,11 +172,13 @@ static ONLY_IN_REGISTERS: [Session; 3] = [
     },
 ];
 
+fn only_in_registers() -> &'static [Session] {
+    &ONLY_IN_REGISTERS
+}
+
 #[test]
 fn variables_share_registers(rt: HostRuntime) -> Result<(), Fail> {
-    for session in &ONLY_IN_REGISTERS {
-        assert_session(&rt, rt.alloc(), IN_REGISTERS, session)?;
-    }
+    assert_all(&rt, rt.alloc(), IN_REGISTERS, only_in_registers())?;
     Ok(())
 }
 

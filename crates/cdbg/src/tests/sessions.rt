@@ -72,7 +72,7 @@ fn holds(alloc: Global, words: &str, session: &Session) -> Result<bool, AllocErr
 }
 
 /// A session by these words prints what it should, and so does the image that it saved.
-pub(super) fn assert_session(
+fn assert_session(
     rt: &impl Abort,
     alloc: Global,
     words: &str,
@@ -80,6 +80,31 @@ pub(super) fn assert_session(
 ) -> Result<(), AllocError> {
     let is_right = holds(alloc, words, session)?;
     assert!(rt; is_right, "{}", session.shows);
+    Ok(())
+}
+
+/// Sessions by the same words.
+pub(super) fn assert_all(
+    rt: &impl Abort,
+    alloc: Global,
+    words: &str,
+    sessions: &[Session],
+) -> Result<(), AllocError> {
+    for session in sessions {
+        assert_session(rt, alloc, words, session)?;
+    }
+    Ok(())
+}
+
+/// Sessions by the words of each.
+pub(super) fn assert_each(
+    rt: &impl Abort,
+    alloc: Global,
+    sessions: &[(&str, Session)],
+) -> Result<(), AllocError> {
+    for (words, session) in sessions {
+        assert_session(rt, alloc, words, session)?;
+    }
     Ok(())
 }
 
