@@ -11,6 +11,7 @@ mod orders;
 mod programs;
 mod sessions;
 
+use self::sessions::{Ending, IN_SLOTS, assert_refused, ended, prints};
 use crate::session_of;
 use debug_records::Code;
 use line_form::{Status, fault_text};
@@ -104,17 +105,19 @@ fn an_empty_script_saves_the_image_and_says_nothing(rt: HostRuntime) -> Result<(
     Ok(())
 }
 
+/// How a session of the program ends, with a sink whose calls of these numbers fail.
+fn cut_off(alloc: Global, fails: &[u64]) -> Result<Ending, AllocError> {
+    let mut shelf = shelf(alloc, PROGRAM, SCRIPT, [].as_slice())?;
+    ended(alloc, IN_SLOTS, &mut shelf, fails)
+}
+
 #[test]
 fn a_sink_that_fails_at_its_second_line_has_taken_the_first(rt: HostRuntime) -> Result<(), Fail> {
-    let mut whole = shelf(rt.alloc(), PROGRAM, SCRIPT, [].as_slice())?;
-    let mut all = MemSink::new(rt.alloc(), [].as_slice())?;
-    let mut shelf = shelf(rt.alloc(), PROGRAM, SCRIPT, [].as_slice())?;
-    let mut sink = MemSink::new(rt.alloc(), [2].as_slice())?;
-    let words = job(rt.alloc())?;
-    assert!(rt; run(rt.alloc(), &words, &mut whole, &mut all) == Status::Done);
-    assert!(rt; run(rt.alloc(), &words, &mut shelf, &mut sink) == Status::WriteFault);
-    assert!(rt; sink.bytes() == b"at 2 line 2 main depth 1\n".as_slice());
-    assert!(rt; shelf.held("image").ok_or("no image")? == whole.held("image").ok_or("no image")?);
+    let whole = cut_off(rt.alloc(), [].as_slice())?;
+    let part = cut_off(rt.alloc(), [2].as_slice())?;
+    assert!(rt; whole.status == Status::Done && part.status == Status::WriteFault);
+    assert!(rt; part.taken.as_slice() == b"at 2 line 2 main depth 1\n".as_slice());
+    assert!(rt; !part.image.is_empty() && part.image.as_slice() == whole.image.as_slice());
     Ok(())
 }
 
@@ -194,20 +197,16 @@ fn number_at(rt: &impl Abort, bytes: &[u8], offset: usize) -> u32
 
 #[test]
 fn the_image_has_the_size_of_its_parts(rt: HostRuntime) -> Result<(), Fail> {
-    let mut shelf = shelf(rt.alloc(), PROGRAM, b"".as_slice(), [].as_slice())?;
-    let mut sink = MemSink::new(rt.alloc(), [].as_slice())?;
-    let words = job(rt.alloc())?;
-    assert!(rt; run(rt.alloc(), &words, &mut shelf, &mut sink) == Status::Done);
-    let image = shelf.held("image").ok_or("no image")?;
-    let words_of_code = number_at(&rt, image, 16) as usize;
-    assert!(rt; image.len() == 321 + 8 * words_of_code);
-    assert!(rt; number_at(&rt, image, 24) == 1, "functions");
-    assert!(rt; number_at(&rt, image, 28) == 5, "places");
-    assert!(rt; number_at(&rt, image, 32) == 1, "variables");
-    assert!(rt; number_at(&rt, image, 40) == 4, "flow pairs");
-    assert!(rt; number_at(&rt, image, 44) == 2, "assigned pairs");
-    assert!(rt; number_at(&rt, image, 48) == 3, "visible rows");
-    assert!(rt; number_at(&rt, image, 56) == 5, "bytes of names");
+    let image = cut_off(rt.alloc(), [].as_slice())?.image;
+    let words_of_code = number_at(&rt, &image, 16) as usize;
+    assert!(rt; image.len() == words_of_code.wrapping_mul(8).wrapping_add(321));
+    assert!(rt; number_at(&rt, &image, 24) == 1, "functions");
+    assert!(rt; number_at(&rt, &image, 28) == 5, "places");
+    assert!(rt; number_at(&rt, &image, 32) == 1, "variables");
+    assert!(rt; number_at(&rt, &image, 40) == 4, "flow pairs");
+    assert!(rt; number_at(&rt, &image, 44) == 2, "assigned pairs");
+    assert!(rt; number_at(&rt, &image, 48) == 3, "visible rows");
+    assert!(rt; number_at(&rt, &image, 56) == 5, "bytes of names");
     Ok(())
 }
 
@@ -254,62 +253,45 @@ fn other_words_are_no_job(rt: HostRuntime) -> Result<(), Fail> {
 }
 
 #[test]
-fn options_stand_in_any_order_and_the_limit_is_kept(rt: HostRuntime) -> Result<(), Fail> {
+fn options_stand_in_any_order(rt: HostRuntime) -> Result<(), Fail> {
+    let words = "cdbg debug program.c --limit=5000 script --homes=slots input image --passes=none";
     let mut shelf = shelf(rt.alloc(), PROGRAM, SCRIPT, [].as_slice())?;
-    let mut sink = MemSink::new(rt.alloc(), [].as_slice())?;
-    let texts = [
-        "cdbg",
-        "debug",
-        "program.c",
-        "--limit=5000",
-        "script",
-        "--homes=slots",
-        "input",
-        "image",
-        "--passes=none",
-    ];
-    let reordered = words(rt.alloc(), texts.as_slice())?;
-    assert!(rt; run(rt.alloc(), &reordered, &mut shelf, &mut sink) == Status::Done);
-    assert!(rt; sink.bytes() == TRANSCRIPT);
+    assert!(rt; prints(rt.alloc(), words, &mut shelf, TRANSCRIPT)?);
+    Ok(())
+}
 
-    shelf.place(rt.alloc(), "script", b"step\n".as_slice())?;
-    let mut stopped = MemSink::new(rt.alloc(), [].as_slice())?;
-    let mut no_instruction = job(rt.alloc())?;
-    no_instruction.push(String::from_str(rt.alloc(), "--limit")?)?;
-    no_instruction.push(String::from_str(rt.alloc(), "0")?)?;
-    assert!(rt; run(rt.alloc(), &no_instruction, &mut shelf, &mut stopped) == Status::Done);
-    assert!(rt; stopped.bytes() == b"limit 0\n".as_slice());
+#[test]
+fn the_limit_is_kept(rt: HostRuntime) -> Result<(), Fail> {
+    let words = "cdbg debug --passes none --homes slots program.c script input image --limit 0";
+    let mut shelf = shelf(rt.alloc(), PROGRAM, b"step\n".as_slice(), [].as_slice())?;
+    assert!(rt; prints(rt.alloc(), words, &mut shelf, b"limit 0\n".as_slice())?);
     Ok(())
 }
 
 /// So many spaces.
 fn spaces(alloc: Global, count: usize) -> Result<Vec<u8>, AllocError> {
     let mut text = Vec::new(alloc);
-    for _ in 0..count {
-        text.push(b' ')?;
-    }
+    text.resize(count, b' ')?;
     Ok(text)
 }
 
 #[test]
-fn a_script_or_an_input_may_be_too_long(rt: HostRuntime) -> Result<(), Fail> {
+fn a_script_may_be_too_long(rt: HostRuntime) -> Result<(), Fail> {
     let script = spaces(rt.alloc(), 1048577)?;
-    let mut shelf = shelf(rt.alloc(), b"int".as_slice(), &script, [3].as_slice())?;
-    let mut sink = MemSink::new(rt.alloc(), [].as_slice())?;
-    let words = job(rt.alloc())?;
     // The third load would fail: that of the input does not come.
-    let status = run(rt.alloc(), &words, &mut shelf, &mut sink);
-    assert!(rt; status.number() == 9);
-    assert!(rt; fault_text(rt.alloc(), &status)?.as_str() == "cdbg: too long script");
-    assert!(rt; sink.bytes() == b"".as_slice());
-    assert!(rt; shelf.held("image").is_none());
+    let mut shelf = shelf(rt.alloc(), b"int".as_slice(), &script, [3].as_slice())?;
+    let ended = ended(rt.alloc(), IN_SLOTS, &mut shelf, [].as_slice())?;
+    assert_refused(&rt, rt.alloc(), &ended, 9, "cdbg: too long script")?;
+    Ok(())
+}
 
-    let mut larger = MemShelf::new(rt.alloc(), [].as_slice())?;
-    larger.place(rt.alloc(), "program.c", b"int".as_slice())?;
-    larger.place(rt.alloc(), "script", b"jump 3\n".as_slice())?;
-    larger.place(rt.alloc(), "input", &spaces(rt.alloc(), 16777217)?)?;
-    let status = run(rt.alloc(), &words, &mut larger, &mut sink);
-    assert!(rt; fault_text(rt.alloc(), &status)?.as_str() == "cdbg: too long input");
+#[test]
+fn an_input_may_be_too_long(rt: HostRuntime) -> Result<(), Fail> {
+    let input = spaces(rt.alloc(), 16777217)?;
+    let script = b"jump 3\n".as_slice();
+    let mut shelf = sessions::shelf(rt.alloc(), b"int".as_slice(), script, &input)?;
+    let ended = ended(rt.alloc(), IN_SLOTS, &mut shelf, [].as_slice())?;
+    assert_refused(&rt, rt.alloc(), &ended, 9, "cdbg: too long input")?;
     Ok(())
 }
 

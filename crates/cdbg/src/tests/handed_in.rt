@@ -2,8 +2,7 @@
 
 ghost use Rattle.std.specs.Prelude.{◌≡◌};
 
-use super::programs::image_of;
-use super::sessions::shelf;
+use super::sessions::{image_of, shelf};
 use super::split;
 use debug_records::PassName;
 use graph_core::Unit;
@@ -53,8 +52,11 @@ impl UnitPass for Renamed {
     }
 }
 
-/// Copy propagation by both of its names, and a pass that changes nothing.
-fn passes(alloc: Global) -> Result<Vec<Box<dyn UnitPass>>, AllocError> {
+const COPIED: &[u8] =
+    b"#include <stdio.h>\nint main(void){\nint y=getchar();\nint x=0;\nx=y;\nputchar(x+1);\nreturn x;\n}\n";
+
+/// A session to which copy propagation by both of its names and the pass that changes nothing are handed in. What its contract says is left out here.
+fn run_with(alloc: Global, words: &[String], shelf: &mut MemShelf) -> Result<Status, AllocError> {
     let mut passes: Vec<Box<dyn UnitPass>> = Vec::new(alloc);
     passes.push(Box::new(alloc, CopyPropagation::new())?)?;
     passes.push(Box::new(
@@ -70,15 +72,6 @@ fn passes(alloc: Global) -> Result<Vec<Box<dyn UnitPass>>, AllocError> {
             pass: CopyPropagation::new(),
         },
     )?)?;
-    Ok(passes)
-}
-
-const COPIED: &[u8] =
-    b"#include <stdio.h>\nint main(void){\nint y=getchar();\nint x=0;\nx=y;\nputchar(x+1);\nreturn x;\n}\n";
-
-/// A session to which these passes are handed in. What its contract says is left out here.
-fn run_with(alloc: Global, words: &[String], shelf: &mut MemShelf) -> Result<Status, AllocError> {
-    let passes = passes(alloc)?;
     let mut sink = MemSink::new(alloc, [].as_slice())?;
     Ok(session(alloc, words, &passes, shelf, &mut sink))
 }

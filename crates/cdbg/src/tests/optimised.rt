@@ -1,10 +1,10 @@
 //! Sessions of sources that passes have optimised, and the jobs that speak of passes.
 
-use super::programs::{DIVISION, image_of};
-use super::sessions::{Session, assert_each, assert_said, image_prints, prints, shelf};
-use super::{run, split};
-use line_form::Status;
-use outside::{MemShelf, MemSink};
+use super::programs::DIVISION;
+use super::sessions::{
+    Session, assert_each, assert_refused, assert_said, ended, image_prints, prints, shelf,
+};
+use std::process::Abort;
 use std::test::Fail;
 
 /// Copies, and assignments that nothing reads.
@@ -119,12 +119,9 @@ fn a_run_is_summed(rt: HostRuntime) -> Result<(), Fail> {
 #[test]
 fn a_pass_that_is_not_handed_in_is_no_job(rt: HostRuntime) -> Result<(), Fail> {
     let mut shelf = shelf(rt.alloc(), COPIED, b"".as_slice(), b"".as_slice())?;
-    let mut sink = MemSink::new(rt.alloc(), [].as_slice())?;
-    let words = split(
-        rt.alloc(),
-        "cdbg debug --passes copy,nosuch program.c script input image",
-    )?;
-    assert!(rt; run(rt.alloc(), &words, &mut shelf, &mut sink) == Status::Usage);
+    let words = "cdbg debug --passes copy,nosuch program.c script input image";
+    let ended = ended(rt.alloc(), words, &mut shelf, [].as_slice())?;
+    assert_refused(&rt, rt.alloc(), &ended, 2, "cdbg: usage")?;
     Ok(())
 }
 

@@ -1,15 +1,14 @@
 //! Sessions of sources that are compiled by no pass.
 
 use super::attaching::count_of_lines;
-use super::sessions::{Session, assert_all, image_prints, prints, shelf};
-use super::{PROGRAM, SCRIPT, TRANSCRIPT, number_at, run, split};
-use line_form::{Status, fault_text};
-use outside::{MemShelf, MemSink};
+use super::sessions::{
+    IN_SLOTS, Session, assert_all, assert_refused, ended, image_prints, prints, shelf,
+};
+use super::{PROGRAM, SCRIPT, TRANSCRIPT, number_at};
+use line_form::Status;
 use std::alloc::{AllocError, Global};
 use std::process::Abort;
 use std::test::Fail;
-
-const IN_SLOTS: &str = "cdbg debug --passes none --homes slots program.c script input image";
 
 const IN_REGISTERS: &str =
     "cdbg debug --passes none --homes registers program.c script input image";
@@ -182,14 +181,6 @@ fn variables_share_registers(rt: HostRuntime) -> Result<(), Fail> {
     Ok(())
 }
 
-/// The bytes of the held image; none where there is no image.
-pub(super) fn image_of(alloc: Global, shelf: &MemShelf) -> Result<Vec<u8>, AllocError> {
-    match shelf.held("image") {
-        Some(image) => image.to_vec(alloc),
-        None => Ok(Vec::new(alloc)),
-    }
-}
-
 /// The address of a place of an image of one function with no static bytes: its record's last number.
 fn address_of_place(rt: &impl Abort, image: &[u8], place: usize) -> u32 {
     let code_words = number_at(rt, image, 16) as usize;
@@ -205,8 +196,7 @@ fn the_empty_statements_of_two_arms_have_addresses_of_their_own(
 ) -> Result<(), Fail> {
     let source = b"int main(void){int c=0; if (c) ; else ; return c;}\n".as_slice();
     let mut shelf = shelf(rt.alloc(), source, b"".as_slice(), b"".as_slice())?;
-    assert!(rt; prints(rt.alloc(), IN_SLOTS, &mut shelf, b"".as_slice())?);
-    let image = image_of(rt.alloc(), &shelf)?;
+    let image = ended(rt.alloc(), IN_SLOTS, &mut shelf, [].as_slice())?.image;
     assert!(rt; address_of_place(&rt, &image, 4) != address_of_place(&rt, &image, 5));
     Ok(())
 }
@@ -221,50 +211,40 @@ fn a_loop_without_end_meets_the_limit(rt: HostRuntime) -> Result<(), Fail> {
     Ok(())
 }
 
-/// Words over a source print nothing, save nothing, and end with this status and this on standard error.
-fn assert_refused(
-    rt: &impl Abort,
-    alloc: Global,
-    source: &[u8],
-    number: u8,
-    fault: &str,
-) -> Result<(), AllocError> {
-    let mut shelf = shelf(alloc, source, SCRIPT, b"".as_slice())?;
-    let mut sink = MemSink::new(alloc, [].as_slice())?;
-    let words = split(alloc, IN_REGISTERS)?;
-    let status = run(alloc, &words, &mut shelf, &mut sink);
-    assert!(rt; status.number() == number);
-    assert!(rt; fault_text(alloc, &status)?.as_str() == fault);
-    assert!(rt; sink.bytes().is_empty());
-    assert!(rt; image_of(alloc, &shelf)?.is_empty());
-    Ok(())
-}
-
 #[test]
 fn a_constant_over_its_types_is_refused_and_saves_nothing(rt: HostRuntime) -> Result<(), Fail> {
     let source = b"int main(void){return 2147483648;}\n".as_slice();
+    let mut shelf = shelf(rt.alloc(), source, SCRIPT, b"".as_slice())?;
+    let ended = ended(rt.alloc(), IN_REGISTERS, &mut shelf, [].as_slice())?;
     assert_refused(
         &rt,
         rt.alloc(),
-        source,
+        &ended,
         3,
         "cdbg: source refused E04 line 1",
     )?;
     Ok(())
 }
 
+/// The image that the job of these words saves of the program.
+fn image_by(alloc: Global, words: &str) -> Result<Vec<u8>, AllocError> {
+    let mut shelf = shelf(alloc, PROGRAM, SCRIPT, b"".as_slice())?;
+    Ok(ended(alloc, words, &mut shelf, [].as_slice())?.image)
+}
+
 #[test]
 fn the_image_of_compile_is_that_of_debug(rt: HostRuntime) -> Result<(), Fail> {
-    let mut compiled = shelf(rt.alloc(), PROGRAM, SCRIPT, b"".as_slice())?;
-    assert!(rt; prints(rt.alloc(), COMPILED, &mut compiled, b"".as_slice())?);
-    assert!(rt; image_prints(rt.alloc(), &mut compiled, TRANSCRIPT)?);
-    let mut debugged = shelf(rt.alloc(), PROGRAM, SCRIPT, b"".as_slice())?;
-    assert!(rt; prints(rt.alloc(), IN_REGISTERS, &mut debugged, TRANSCRIPT)?);
-    let images = (
-        image_of(rt.alloc(), &compiled)?,
-        image_of(rt.alloc(), &debugged)?,
-    );
-    assert!(rt; images.0.as_slice() == images.1.as_slice());
+    let compiled = image_by(rt.alloc(), COMPILED)?;
+    let debugged = image_by(rt.alloc(), IN_REGISTERS)?;
+    assert!(rt; !compiled.is_empty() && compiled.as_slice() == debugged.as_slice());
+    Ok(())
+}
+
+#[test]
+fn compile_puts_nothing_out(rt: HostRuntime) -> Result<(), Fail> {
+    let mut shelf = shelf(rt.alloc(), PROGRAM, SCRIPT, b"".as_slice())?;
+    assert!(rt; prints(rt.alloc(), COMPILED, &mut shelf, b"".as_slice())?);
+    assert!(rt; image_prints(rt.alloc(), &mut shelf, TRANSCRIPT)?);
     Ok(())
 }
 
@@ -273,11 +253,15 @@ fn a_loop_s_output_is_said_in_lines(rt: HostRuntime) -> Result<(), Fail> {
     let source =
         b"#include <stdio.h>\nint main(void){int i=0; while(i<70000){putchar(65); i=i+1;} return 0;}\n".as_slice();
     let mut shelf = shelf(rt.alloc(), source, b"continue\n".as_slice(), b"".as_slice())?;
-    let mut sink = MemSink::new(rt.alloc(), [].as_slice())?;
-    let words = split(rt.alloc(), IN_REGISTERS)?;
-    assert!(rt; run(rt.alloc(), &words, &mut shelf, &mut sink) == Status::Done);
+    let ended = ended(rt.alloc(), IN_REGISTERS, &mut shelf, [].as_slice())?;
+    assert!(rt; ended.status == Status::Done);
     // 70,000 bytes in lines of 64.
-    assert!(rt; count_of_lines(sink.bytes(), b"out \"A".as_slice()) == 1094);
-    assert!(rt; sink.bytes().ends_with(b"A\"\nexit 0\n".as_slice()));
+    assert!(rt; count_of_lines(&ended.taken, b"out \"A".as_slice()) == 1094);
+    assert!(rt;
+        ended
+            .taken
+            .as_slice()
+            .ends_with(b"A\"\nexit 0\n".as_slice())
+    );
     Ok(())
 }

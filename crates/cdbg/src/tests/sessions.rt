@@ -2,10 +2,13 @@
 
 use super::attaching::attach;
 use super::{run, split};
-use line_form::Status;
+use line_form::{Status, fault_text};
 use outside::{MemShelf, MemSink};
 use std::alloc::{AllocError, Global};
 use std::process::Abort;
+
+pub(super) const IN_SLOTS: &str =
+    "cdbg debug --passes none --homes slots program.c script input image";
 
 /// A session of a source.
 pub(super) struct Session {
@@ -32,9 +35,53 @@ pub(super) fn shelf(
     Ok(shelf)
 }
 
-/// Whether an image is held.
-fn has_image(shelf: &MemShelf) -> bool {
-    shelf.held("image").is_some()
+/// How a session ended.
+#[derive(Drop)]
+pub(super) struct Ending {
+    pub(super) status: Status,
+    /// What was put out.
+    pub(super) taken: Vec<u8>,
+    /// The bytes of the image that is held; none where there is no image.
+    pub(super) image: Vec<u8>,
+}
+
+/// The bytes of the image that is held; none where there is no image.
+pub(super) fn image_of(alloc: Global, shelf: &MemShelf) -> Result<Vec<u8>, AllocError> {
+    match shelf.held("image") {
+        Some(image) => image.to_vec(alloc),
+        None => Ok(Vec::new(alloc)),
+    }
+}
+
+/// How the job of these words ends over a shelf, with a sink whose calls of these numbers fail.
+pub(super) fn ended(
+    alloc: Global,
+    words: &str,
+    shelf: &mut MemShelf,
+    fails: &[u64],
+) -> Result<Ending, AllocError> {
+    let words = split(alloc, words)?;
+    let mut sink = MemSink::new(alloc, fails)?;
+    let status = run(alloc, &words, shelf, &mut sink);
+    Ok(Ending {
+        status,
+        taken: sink.bytes().to_vec(alloc)?,
+        image: image_of(alloc, shelf)?,
+    })
+}
+
+/// A session ended with this status and this on standard error, and put out and saved nothing.
+pub(super) fn assert_refused(
+    rt: &impl Abort,
+    alloc: Global,
+    ended: &Ending,
+    number: u8,
+    fault: &str,
+) -> Result<(), AllocError> {
+    assert!(rt; ended.status.number() == number);
+    assert!(rt; fault_text(alloc, &ended.status)?.as_str() == fault);
+    assert!(rt; ended.taken.is_empty() && ended.image.is_empty());
+    Ok(())
 }
 
 /// Whether the job of these words is done and prints this.
@@ -44,10 +91,8 @@ pub(super) fn prints(
     shelf: &mut MemShelf,
     printed: &[u8],
 ) -> Result<bool, AllocError> {
-    let words = split(alloc, words)?;
-    let mut sink = MemSink::new(alloc, [].as_slice())?;
-    let status = run(alloc, &words, shelf, &mut sink);
-    Ok(status == Status::Done && sink.bytes() == printed)
+    let ended = ended(alloc, words, shelf, [].as_slice())?;
+    Ok(ended.status == Status::Done && ended.taken.as_slice() == printed)
 }
 
 /// Whether the held image, debugged by the held script, prints this.
@@ -66,7 +111,6 @@ fn holds(alloc: Global, words: &str, session: &Session) -> Result<bool, AllocErr
     let mut shelf = shelf(alloc, session.source, session.script, session.input)?;
     Ok(
         prints(alloc, words, &mut shelf, session.printed)?
-            && has_image(&shelf)
             && image_prints(alloc, &mut shelf, session.printed)?,
     )
 }
@@ -117,7 +161,8 @@ pub(super) fn assert_said(
     printed: &[u8],
 ) -> Result<(), AllocError> {
     let mut shelf = shelf(alloc, source, b"".as_slice(), b"".as_slice())?;
-    let is_right = prints(alloc, words, &mut shelf, printed)?;
-    assert!(rt; is_right && !has_image(&shelf), "{words}");
+    let ended = ended(alloc, words, &mut shelf, [].as_slice())?;
+    assert!(rt; ended.status == Status::Done && ended.image.is_empty());
+    assert!(rt; ended.taken.as_slice() == printed);
     Ok(())
 }
