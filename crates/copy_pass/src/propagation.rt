@@ -1,8 +1,11 @@
 //! Copies of a unit.
 
-ghost use Rattle.std.specs.Prelude.{◌≡◌, ◌<◌, ◌^◌, IfOk, IfSome, length};
-ghost use Rattle.graph_core.specs.Graphs.{unit_view};
+ghost use Rattle.std.specs.Prelude.{◌≡◌, ◌<◌, ◌^◌, IfOk, IfSome, codes, length, map};
+ghost use Rattle.debug_records.specs.Change.{pass_name};
+ghost use Rattle.debug_records.specs.declared.change.Kind.TheVariants.{Replaced};
+ghost use Rattle.graph_core.specs.Graphs.{graph_view, unit_view};
 ghost use Rattle.graph_core.specs.Validity.{IsValid};
+ghost use Rattle.graph_edits.specs.Kept.{AddsChanges, EachFunction, KeepsAllButBlocks, ShareTheSame};
 
 use crate::graphs::propagate;
 use debug_records::{Kind, PassName};
@@ -10,14 +13,42 @@ use graph_core::{Graph, Unit};
 use graph_edits::{Case, log_cases};
 use std::alloc::{AllocError, Global};
 
-/// The copies of all graphs.
-fn propagate_all(alloc: Global, graphs: &mut [Graph]) -> Result<Vec<Case>, AllocError> {
-    let mut cases = Vec::new(alloc);
-    for graph in graphs {
-        let found = propagate(alloc, graph.entry, &graph.scalars, &mut graph.blocks)?;
-        cases.extend_from_slice(&found)?;
+/// The name of the pass.
+fn copy_name() -> PassName
+    ensures { result ≡ pass_name (codes "copy") }
+{
+    match PassName::of(b"copy") {
+        Some(name) => name,
+        None => unreachable!(),
     }
-    Ok(cases)
+}
+
+/// The graph with its copies propagated, and the reads that changed behind those that are told.
+fn graph_after(alloc: Global, graph: &Graph, cases: &mut Vec<Case>) -> Result<Graph, AllocError>
+    ensures { IfOk result (λ v. KeepsAllButBlocks (graph_view graph.now) (graph_view v)) }
+{
+    let mut made = graph.duplicate(alloc)?;
+    let mut found = propagate(alloc, graph.entry, &graph.scalars, &mut made.blocks)?;
+    cases.append(&mut found)?;
+    Ok(made)
+}
+
+/// The graphs with their copies propagated, one after the other.
+fn graphs_after(
+    alloc: Global,
+    graphs: &[Graph],
+    cases: &mut Vec<Case>,
+) -> Result<Vec<Graph>, AllocError>
+    ensures { IfOk result (λ all. EachFunction KeepsAllButBlocks (map graph_view graphs.now) (map graph_view all.items)) }
+{
+    let mut made = Vec::new(alloc);
+    let mut left = graphs;
+    while let [graph, rest @ ..] = left {
+        let next = graph_after(alloc, graph, cases)?;
+        made.push(next)?;
+        left = rest;
+    }
+    Ok(made)
 }
 
 /// Copy propagation (Aho, Lam, Sethi and Ullman 2006, section 9.1): a read of a scalar becomes a read of another one of the same C type where one
@@ -30,13 +61,15 @@ pub fn propagate_copies(alloc: Global, unit: &Unit) -> Result<Option<Unit>, Allo
     requires valid { IsValid (unit_view unit.now) }
     requires room { length (unit_view unit.now).log < 2 ^ 31 }
     ensures valid { IfOk result (λ o. IfSome o (λ v. IsValid (unit_view v))) }
+    ensures shared { IfOk result (λ o. IfSome o (λ v. ShareTheSame (unit_view unit.now) (unit_view v))) }
+    ensures log { IfOk result (λ o. IfSome o (λ v. AddsChanges (pass_name (codes "copy")) Replaced (unit_view unit.now) (unit_view v))) }
+    ensures functions { IfOk result (λ o. IfSome o (λ v. EachFunction KeepsAllButBlocks (unit_view unit.now).graphs (unit_view v).graphs)) }
 {
-    let Some(pass) = PassName::of(b"copy") else {
-        return Ok(None);
-    };
+    let mut cases = Vec::new(alloc);
+    let graphs = graphs_after(alloc, &unit.graphs, &mut cases)?;
     let mut made = unit.duplicate(alloc)?;
-    let mut cases = propagate_all(alloc, &mut made.graphs)?;
-    if !log_cases(&mut made.log, pass, Kind::Replaced, &mut cases)? {
+    made.graphs = graphs;
+    if !log_cases(&mut made.log, copy_name(), Kind::Replaced, &mut cases)? {
         return Ok(None);
     }
     if made.is_valid() {

@@ -1,1 +1,3 @@
 mod Logging
+pub mod Functions
+pub mod Log

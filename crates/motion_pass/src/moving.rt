@@ -2,7 +2,7 @@
 
 ghost use Rattle.std.specs.Prelude.{IfOk};
 ghost use Rattle.graph_core.specs.Graphs.{graph_view};
-ghost use Rattle.motion_pass.specs.Kept.{KeepsFunction};
+ghost use Rattle.graph_edits.specs.Kept.{KeepsFunction};
 
 use debug_records::{Place, Var};
 use graph_core::{Block, End, Graph, Instr, Label, Name, Operand, Scalar};

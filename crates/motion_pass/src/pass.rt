@@ -4,7 +4,8 @@ ghost use Rattle.std.specs.Prelude.{◌≡◌, ◌<◌, ◌^◌, IfOk, IfSome, c
 ghost use Rattle.debug_records.specs.Change.{pass_name};
 ghost use Rattle.graph_core.specs.Graphs.{graph_view, unit_view};
 ghost use Rattle.graph_core.specs.Validity.{IsValid};
-ghost use Rattle.motion_pass.specs.Kept.{AddsMoves, KeepFunctions, KeepsFunction, ShareTheSame};
+ghost use Rattle.debug_records.specs.declared.change.Kind.TheVariants.{Moved};
+ghost use Rattle.graph_edits.specs.Kept.{AddsChanges, EachFunction, KeepsFunction, ShareTheSame};
 
 use crate::bounds::Amount;
 use crate::moving::moved_graph;
@@ -51,7 +52,7 @@ fn move_graphs(
     graphs: &[Graph],
     cases: &mut Vec<Case>,
 ) -> Result<Vec<Graph>, AllocError>
-    ensures { IfOk result (λ v. KeepFunctions (map graph_view graphs.now) (map graph_view v.items)) }
+    ensures { IfOk result (λ v. EachFunction KeepsFunction (map graph_view graphs.now) (map graph_view v.items)) }
 {
     let mut amount = Amount::of(graphs);
     let mut moved = Vec::new(alloc);
@@ -74,8 +75,8 @@ pub fn move_code(alloc: Global, unit: &Unit) -> Result<Option<Unit>, AllocError>
     requires room { length (unit_view unit.now).log < 2 ^ 31 }
     ensures valid { IfOk result (λ o. IfSome o (λ v. IsValid (unit_view v))) }
     ensures shared { IfOk result (λ o. IfSome o (λ v. ShareTheSame (unit_view unit.now) (unit_view v))) }
-    ensures log { IfOk result (λ o. IfSome o (λ v. AddsMoves (pass_name (codes "motion")) (unit_view unit.now) (unit_view v))) }
-    ensures functions { IfOk result (λ o. IfSome o (λ v. KeepFunctions (unit_view unit.now).graphs (unit_view v).graphs)) }
+    ensures log { IfOk result (λ o. IfSome o (λ v. AddsChanges (pass_name (codes "motion")) Moved (unit_view unit.now) (unit_view v))) }
+    ensures functions { IfOk result (λ o. IfSome o (λ v. EachFunction KeepsFunction (unit_view unit.now).graphs (unit_view v).graphs)) }
 {
     let mut cases = Vec::new(alloc);
     let graphs = move_graphs(alloc, &unit.graphs, &mut cases)?;

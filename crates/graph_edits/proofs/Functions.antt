@@ -1,0 +1,67 @@
+-- Functions that are gone through one by one.
+use Rattle.std.proofs.Common.{◌≡◌, ◌-◌, ◌<◌, ◌≤◌, ℕ, zero, suc, List, [], ◌∷◌, ◌++◌, length, refl, sym, ap, ◌∙◌, subst, arith, append_assoc, get_or, map, take, drop}
+use Rattle.std.specs.Prelude.{slice_set}
+use Rattle.std.proofs.Math.Seq.{take-length}
+use Rattle.graph_core.specs.Graphs.{Graph}
+use Rattle.graph_edits.specs.Kept.{EachFunction, KeepsFunction, KeepsAllButBlocks}
+
+-- What is left of the functions, behind those that stand in their new form.
+pub data Left (IsMade : Graph → Graph → Type 0) (gs hs left : List Graph) : Type 0 where
+  leaves : ((more : List Graph) → EachFunction IsMade left more → EachFunction IsMade gs (hs ++ more)) → Left IsMade gs hs left
+
+append_nil : {A : Type 0} (xs : List A) → xs ++ [] ≡ xs
+append_nil [] = refl
+append_nil (x ∷ xs) = ap (λ ys. x ∷ ys) (append_nil xs)
+
+rest_is : {A : Type 0} (y : A) (left : List A) → take (length (y ∷ left) - 1) (drop 1 (y ∷ left)) ≡ left
+rest_is y left = (let count : length (y ∷ left) - 1 ≡ length left = omega arith in ap (λ n. take n left) count ∙ take-length left)
+
+module _ (IsMade : Graph → Graph → Type 0) where
+  pub left_first : (gs : List Graph) → Left IsMade gs [] gs
+  left_first gs = leaves (λ more of. of)
+
+  pub left_next : (gs hs all : List Graph) (g h : Graph) (left : List Graph) → all ≡ hs ++ h ∷ [] → IsMade g h → Left IsMade gs hs (g ∷ left) → Left IsMade gs all left
+  left_next gs hs all g h left e made (leaves go) =
+      let P : List Graph → Type 0 = λ zs. Left IsMade gs zs left in
+      subst P (sym e) (leaves (λ more of. (let Q : List Graph → Type 0 = λ zs. EachFunction IsMade gs zs in
+      subst Q (sym (append_assoc hs (h ∷ []) more)) (go (h ∷ more) (made, of)))))
+
+  pub functions_step : {A : Type 0} (view : A → Graph) (gs : List Graph) (left : List A) (x d : A) (hs all : List Graph) (h : Graph) → 1 ≤ length left → x ≡ get_or left 0 d → all ≡ hs ++ h ∷ []
+      → IsMade (view x) h → Left IsMade gs hs (map view left) → Left IsMade gs all (map view (take (length left - 1) (drop 1 left)))
+  functions_step view gs [] x d hs all h le e made are old = absurd (omega arith)
+  functions_step view gs (y ∷ left) x d hs all h le e made are old =
+      subst (λ zs. Left IsMade gs all (map view zs)) (sym (rest_is y left)) (left_next gs hs all (view y) h (map view left) made (subst (λ z. IsMade (view z) h) e are) old)
+
+  pub functions_done : {A : Type 0} (view : A → Graph) (gs : List Graph) (left : List A) (hs : List Graph) → length left < 1 → Left IsMade gs hs (map view left) → EachFunction IsMade gs hs
+  functions_done view gs [] hs lt (leaves go) = (let Q : List Graph → Type 0 = λ zs. EachFunction IsMade gs zs in subst Q (append_nil hs) (go [] tt))
+  functions_done view gs (y ∷ left) hs lt old = absurd (omega arith)
+
+-- what stays the same keeps all
+pub keeps_itself : (g : Graph) → KeepsAllButBlocks g g
+keeps_itself g = record { function = record { entry = refl; parameters = refl; scalars = refl; objects = refl; first_moved = refl }; names = refl; blocks = refl }
+
+keeps_twice : (f g h : Graph) → KeepsAllButBlocks f g → KeepsAllButBlocks g h → KeepsAllButBlocks f h
+keeps_twice f g h a b = record {
+  function = record {
+    entry = b.function.entry ∙ a.function.entry;
+    parameters = b.function.parameters ∙ a.function.parameters;
+    scalars = b.function.scalars ∙ a.function.scalars;
+    objects = b.function.objects ∙ a.function.objects;
+    first_moved = b.function.first_moved ∙ a.function.first_moved;
+  };
+  names = b.names ∙ a.names;
+  blocks = b.blocks ∙ a.blocks;
+}
+
+-- functions that stay keep all
+pub each_itself : (gs : List Graph) → EachFunction KeepsAllButBlocks gs gs
+each_itself [] = tt
+each_itself (g ∷ gs) = (keeps_itself g, each_itself gs)
+
+-- one function that was made another one
+pub each_with : {A : Type 0} (view : A → Graph) (gs : List Graph) (xs : List A) (i : ℕ) (d x : A) → KeepsAllButBlocks (view (get_or xs i d)) (view x) → EachFunction KeepsAllButBlocks gs (map view xs)
+    → EachFunction KeepsAllButBlocks gs (map view (slice_set xs i x))
+each_with view gs [] i d x made old = old
+each_with view [] (y ∷ xs) i d x made old = absurd old
+each_with view (g ∷ gs) (y ∷ xs) zero d x made old = (keeps_twice g (view y) (view x) old.0 made, old.1)
+each_with view (g ∷ gs) (y ∷ xs) (suc i) d x made old = (old.0, each_with view gs xs i d x made old.1)
