@@ -4,6 +4,7 @@ use crate::reader::Reader;
 use crate::reading::{read_end, read_instruction};
 use crate::regions::Regions;
 use crate::sources::{Copied, Sources};
+use copy_rule::CopyAt;
 use debug_records::Place;
 use graph_core::{Block, Instr, Operand, Scalar};
 use graph_edits::Case;
@@ -46,6 +47,8 @@ pub struct Walk<'a> {
     pub sources: Sources,
     /// The reads that changed.
     pub cases: Vec<Case>,
+    /// The copies of scalars as they are in the end.
+    pub copies: Vec<CopyAt>,
 }
 
 impl Walk<'_> {
@@ -70,13 +73,14 @@ impl Walk<'_> {
         Ok(())
     }
 
-    /// Goes over an instruction: it reads what its names are copies of, and writes its target.
+    /// Goes over an instruction, with so many behind it: it reads what its names are copies of, and writes its target.
     fn step(
         &mut self,
         instruction: &mut Instr,
         place: Place,
         block: u32,
         index: u32,
+        left: usize,
     ) -> Result<(), AllocError> {
         read_instruction(&mut self.reader(place, block, index), instruction)?;
         if let Some(target) = instruction.target() {
@@ -84,6 +88,12 @@ impl Walk<'_> {
         }
         if let Some(copied) = copy_of(self.scalars, instruction) {
             self.sources.begin(copied)?;
+            self.copies.push(CopyAt {
+                block,
+                left,
+                target: copied.target,
+                source: copied.source,
+            })?;
         }
         Ok(())
     }
@@ -92,11 +102,13 @@ impl Walk<'_> {
     fn pass(&mut self, number: u32, block: &mut Block) -> Result<(), AllocError> {
         let mut place = block.place.unwrap_or(self.entry);
         let mut index = 0u32;
+        let mut left = block.instructions.len();
         for instruction in &mut block.instructions {
+            left = left.saturating_sub(1);
             if let Some(begun) = instruction.marker() {
                 place = begun;
             }
-            self.step(instruction, place, number, index)?;
+            self.step(instruction, place, number, index, left)?;
             index = index.saturating_add(1);
         }
         block.end = read_end(&mut self.reader(place, number, index), block.end)?;

@@ -5,9 +5,11 @@ ghost use Rattle.debug_records.specs.Change.{pass_name};
 ghost use Rattle.debug_records.specs.declared.change.Kind.TheVariants.{Replaced};
 ghost use Rattle.graph_core.specs.Graphs.{graph_view, unit_view};
 ghost use Rattle.graph_core.specs.Validity.{IsValid};
+ghost use Rattle.copy_rule.specs.Copying.{IsPropagated};
 ghost use Rattle.graph_edits.specs.Kept.{AddsChanges, EachFunction, KeepsAllButBlocks, ShareTheSame};
 
 use crate::graphs::propagate;
+use copy_rule::propagated;
 use debug_records::{Kind, PassName};
 use graph_core::{Graph, Unit};
 use graph_edits::{Case, log_cases};
@@ -24,12 +26,19 @@ fn copy_name() -> PassName
 }
 
 /// The graph with its copies propagated, and the reads that changed behind those that are told.
-fn graph_after(alloc: Global, graph: &Graph, cases: &mut Vec<Case>) -> Result<Graph, AllocError>
-    ensures { IfOk result (λ v. KeepsAllButBlocks (graph_view graph.now) (graph_view v)) }
+///
+/// The search goes along a graph once and says which copies there are in the end. By these the graph is read, and seen to make just them.
+fn graph_after(
+    alloc: Global,
+    graph: &Graph,
+    cases: &mut Vec<Case>,
+) -> Result<Option<Graph>, AllocError>
+    ensures { IfOk result (λ o. IfSome o (λ v. IsPropagated (graph_view graph.now) (graph_view v))) }
 {
-    let mut made = graph.duplicate(alloc)?;
-    let mut found = propagate(alloc, graph.entry, &graph.scalars, &mut made.blocks)?;
-    cases.append(&mut found)?;
+    let mut ahead = graph.duplicate(alloc)?;
+    let mut found = propagate(alloc, graph.entry, &graph.scalars, &mut ahead.blocks)?;
+    cases.append(&mut found.cases)?;
+    let made = propagated(alloc, graph, &found.copies)?;
     Ok(made)
 }
 
@@ -38,17 +47,19 @@ fn graphs_after(
     alloc: Global,
     graphs: &[Graph],
     cases: &mut Vec<Case>,
-) -> Result<Vec<Graph>, AllocError>
-    ensures { IfOk result (λ all. EachFunction KeepsAllButBlocks (map graph_view graphs.now) (map graph_view all.items)) }
+) -> Result<Option<Vec<Graph>>, AllocError>
+    ensures { IfOk result (λ o. IfSome o (λ all. EachFunction IsPropagated (map graph_view graphs.now) (map graph_view all.items))) }
 {
     let mut made = Vec::new(alloc);
     let mut left = graphs;
     while let [graph, rest @ ..] = left {
-        let next = graph_after(alloc, graph, cases)?;
+        let Some(next) = graph_after(alloc, graph, cases)? else {
+            return Ok(None);
+        };
         made.push(next)?;
         left = rest;
     }
-    Ok(made)
+    Ok(Some(made))
 }
 
 /// Copy propagation (Aho, Lam, Sethi and Ullman 2006, section 9.1): a read of a scalar becomes a read of another one of the same C type where one
@@ -56,7 +67,8 @@ fn graphs_after(
 /// reaches nothing changes. The log tells each read that became another by a change `Replaced` of the pass `copy`: of the place, and of the variable
 /// that was read before; in order of place, and then as the reads stand in the graph.
 ///
-/// None where the unit so made is not valid or has 2^31 changes or more, which no unit is known to meet. `AllocError` where memory was refused.
+/// None where the search for copies told others than those that the unit then makes, or the unit so made is not valid or has 2^31 changes or more, which
+/// no unit is known to meet. `AllocError` where memory was refused.
 pub fn propagate_copies(alloc: Global, unit: &Unit) -> Result<Option<Unit>, AllocError>
     requires valid { IsValid (unit_view unit.now) }
     requires room { length (unit_view unit.now).log < 2 ^ 31 }
@@ -64,9 +76,12 @@ pub fn propagate_copies(alloc: Global, unit: &Unit) -> Result<Option<Unit>, Allo
     ensures shared { IfOk result (λ o. IfSome o (λ v. ShareTheSame (unit_view unit.now) (unit_view v))) }
     ensures log { IfOk result (λ o. IfSome o (λ v. AddsChanges (pass_name (codes "copy")) Replaced (unit_view unit.now) (unit_view v))) }
     ensures functions { IfOk result (λ o. IfSome o (λ v. EachFunction KeepsAllButBlocks (unit_view unit.now).graphs (unit_view v).graphs)) }
+    ensures exact { IfOk result (λ o. IfSome o (λ v. EachFunction IsPropagated (unit_view unit.now).graphs (unit_view v).graphs)) }
 {
     let mut cases = Vec::new(alloc);
-    let graphs = graphs_after(alloc, &unit.graphs, &mut cases)?;
+    let Some(graphs) = graphs_after(alloc, &unit.graphs, &mut cases)? else {
+        return Ok(None);
+    };
     let mut made = unit.duplicate(alloc)?;
     made.graphs = graphs;
     if !log_cases(&mut made.log, copy_name(), Kind::Replaced, &mut cases)? {

@@ -1,0 +1,7 @@
+pub mod Missing
+pub mod Points
+pub mod ByRule
+pub mod Bringing
+pub mod Walked
+pub mod Tables
+pub mod Known
