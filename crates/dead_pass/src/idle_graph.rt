@@ -1,5 +1,9 @@
 //! A graph and what goes of it.
 
+ghost use Rattle.std.specs.Prelude.{◌≡◌, IfOk};
+ghost use Rattle.dead_pass.specs.Idle.{graph_of};
+ghost use Rattle.graph_core.specs.Graphs.{graph_view};
+
 use dead_rule::{Points, Writes, idle_writes};
 use graph_core::{Graph, Instr, Name, Operand};
 use graph_edits::Case;
@@ -18,7 +22,9 @@ pub struct IdleGraph<'a> {
 
 impl<'a> IdleGraph<'a> {
     /// A graph and what goes of it.
-    pub fn new(alloc: Global, graph: &'a Graph) -> Result<IdleGraph<'a>, AllocError> {
+    pub fn new(alloc: Global, graph: &'a Graph) -> Result<IdleGraph<'a>, AllocError>
+        ensures { IfOk result (λ idle. graph_of idle ≡ graph_view graph.now) }
+    {
         let points = Points::new(alloc, graph)?;
         let writes = Writes::new(alloc, graph, &points)?;
         let goes = idle_writes(alloc, graph, &points, &writes)?;

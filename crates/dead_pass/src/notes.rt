@@ -1,5 +1,11 @@
 //! What is left of a graph.
 
+ghost use Rattle.std.specs.Prelude.{◌≡◌, IfOk, None, OnOk, map, option_map};
+ghost use Rattle.dead_pass.specs.Idle.{graph_of};
+ghost use Rattle.dead_pass.specs.Left.{AreLeft, AreLeftBlocks, IsLeftAs, IsLeftBlock, IsLeftGraph, IsNoteOf, IsPushed};
+ghost use Rattle.graph_core.specs.Graphs.{Call as CallOf, block_view, graph_view, instruction_view, operand_view};
+ghost use Rattle.graph_core.specs.Uses as uses;
+
 use crate::idle_graph::IdleGraph;
 use crate::recipes::{NotePoint, recipe_of};
 use crate::removed::RemovedChanges;
@@ -7,7 +13,7 @@ use crate::stale::{begin_at_start, stale_names, step};
 use crate::ways::Ways;
 use dead_rule::FlowRows;
 use debug_records::{Place, Var};
-use graph_core::{Block, Graph, Instr, MAX_RECIPE_DEPTH, Name, NoteValue, Operand, Recipe};
+use graph_core::{Block, Callee, Graph, Instr, MAX_RECIPE_DEPTH, Name, NoteValue, Operand, Recipe};
 use graph_paths::{flag, put_flag, reached_in_order};
 use smallvec::SmallVec;
 use std::alloc::{AllocError, Global};
@@ -52,6 +58,49 @@ fn gone_by(
         Some(number) => Ok(NoteValue::Gone(number)),
         None => before.duplicate(alloc),
     }
+}
+
+/// Whether an instruction only computes a value and writes it to a name.
+fn is_computation(instruction: &Instr) -> bool
+    ensures { result ≡ uses.is_computation (instruction_view instruction.now) }
+{
+    match instruction {
+        Instr::Move { .. }
+        | Instr::Operate { .. }
+        | Instr::Truncate { .. }
+        | Instr::Same { .. }
+        | Instr::Address { .. }
+        | Instr::Load { .. } => true,
+        Instr::Marker(_)
+        | Instr::Note { .. }
+        | Instr::Store { .. }
+        | Instr::Zero { .. }
+        | Instr::CopyWords { .. }
+        | Instr::Call { .. } => false,
+    }
+}
+
+/// A call without a target.
+fn untargeted(alloc: Global, callee: Callee, arguments: &[Operand]) -> Result<Instr, AllocError>
+    ensures { IfOk result (λ call. instruction_view call ≡ CallOf None callee (map operand_view arguments.now)) }
+{
+    let arguments = SmallVec::from_slice(alloc, arguments)?;
+    Ok(Instr::Call {
+        target: None,
+        callee,
+        arguments,
+    })
+}
+
+/// An equal instruction, or nothing where it is a computation that goes.
+fn kept(alloc: Global, goes: bool, instruction: &Instr) -> Result<Option<Instr>, AllocError>
+    ensures { IfOk result (λ left. IsLeftAs (instruction_view instruction.now) (option_map instruction_view left)) }
+{
+    if goes && is_computation(instruction) {
+        return Ok(None);
+    }
+    let same = instruction.duplicate(alloc)?;
+    Ok(Some(same))
 }
 
 impl<'a> Leaving<'a> {
@@ -144,6 +193,51 @@ impl<'a> Leaving<'a> {
         gone_by(alloc, change, before)
     }
 
+    /// What is left of a note of a scalar.
+    fn left_note(
+        &mut self,
+        alloc: Global,
+        point: u32,
+        of: Name,
+        value: &NoteValue,
+    ) -> Result<Instr, AllocError>
+        ensures { IfOk result (λ left. IsNoteOf of.0 (instruction_view left)) }
+    {
+        let place = match self.idle.points.at(point) {
+            Some(found) => found.place,
+            None => Place(0),
+        };
+        let value = self.said(alloc, NotePoint { point, place }, of, value)?;
+        Ok(Instr::Note { of, value })
+    }
+
+    /// What is left of an instruction that some path reaches.
+    fn left_instruction(
+        &mut self,
+        alloc: Global,
+        point: u32,
+        instruction: &Instr,
+    ) -> Result<Option<Instr>, AllocError>
+        ensures { IfOk result (λ left. IsLeftAs (instruction_view instruction.now) (option_map instruction_view left)) }
+    {
+        let goes = self.idle.goes(point);
+        match instruction {
+            Instr::Note { of, value } => {
+                let note = self.left_note(alloc, point, *of, value)?;
+                Ok(Some(note))
+            }
+            Instr::Call {
+                callee,
+                arguments,
+                ..
+            } if goes => {
+                let call = untargeted(alloc, *callee, arguments.as_slice())?;
+                Ok(Some(call))
+            }
+            _ => kept(alloc, goes, instruction),
+        }
+    }
+
     /// Appends what is left of an instruction that some path reaches.
     fn push_left(
         &mut self,
@@ -151,63 +245,64 @@ impl<'a> Leaving<'a> {
         point: u32,
         instruction: &Instr,
         left: &mut Vec<Instr>,
-    ) -> Result<(), AllocError> {
-        let goes = self.idle.goes(point);
-        match instruction {
-            Instr::Note { of, value } => {
-                let place = match self.idle.points.at(point) {
-                    Some(found) => found.place,
-                    None => Place(0),
-                };
-                let note = NotePoint { point, place };
-                let value = self.said(alloc, note, *of, value)?;
-                left.push(Instr::Note { of: *of, value })?;
-            }
-            Instr::Call {
-                callee,
-                arguments,
-                ..
-            } if goes => {
-                left.push(Instr::Call {
-                    target: None,
-                    callee: *callee,
-                    arguments: SmallVec::from_slice(alloc, arguments.as_slice())?,
-                })?;
-            }
-            _ if goes => {}
-            _ => left.push(instruction.duplicate(alloc)?)?,
+    ) -> Result<(), AllocError>
+        ensures { OnOk result (IsPushed (instruction_view instruction.now) (map instruction_view left.old.items) (map instruction_view left.new.items)) }
+    {
+        if let Some(kept) = self.left_instruction(alloc, point, instruction)? {
+            left.push(kept)?;
         }
         Ok(())
     }
 
-    /// What is left of a block that some path reaches.
-    fn left_of(&mut self, alloc: Global, number: u32, block: &Block) -> Result<Block, AllocError> {
+    /// What is left of the instructions of a block that some path reaches.
+    fn left_of(
+        &mut self,
+        alloc: Global,
+        number: u32,
+        instructions: &[Instr],
+    ) -> Result<Vec<Instr>, AllocError>
+        ensures { IfOk result (λ left. AreLeft (map instruction_view instructions.now) (map instruction_view left.items)) }
+    {
         begin_at_start(&mut self.stale, number);
-        let mut instructions = Vec::new(alloc);
+        let mut left = Vec::new(alloc);
         let mut point = self.idle.points.start(number);
-        for instruction in &block.instructions {
-            self.push_left(alloc, point, instruction, &mut instructions)?;
+        let mut ahead = instructions;
+        while let [instruction, rest @ ..] = ahead {
+            self.push_left(alloc, point, instruction, &mut left)?;
             step(&mut self.stale, self.idle, point);
             point = point.saturating_add(1);
+            ahead = rest;
+        }
+        Ok(left)
+    }
+
+    /// What is left of a block.
+    fn left_block(&mut self, alloc: Global, number: u32, block: &Block) -> Result<Block, AllocError>
+        ensures { IfOk result (λ left. IsLeftBlock (block_view block.now) (block_view left)) }
+    {
+        if !flag(&self.reached, number) {
+            let same = block.duplicate(alloc)?;
+            return Ok(same);
         }
         Ok(Block {
             place: block.place,
-            instructions,
+            instructions: self.left_of(alloc, number, &block.instructions)?,
             end: block.end,
         })
     }
 
     /// What is left of blocks.
-    fn blocks_left(&mut self, alloc: Global, blocks: &[Block]) -> Result<Vec<Block>, AllocError> {
+    fn blocks_left(&mut self, alloc: Global, blocks: &[Block]) -> Result<Vec<Block>, AllocError>
+        ensures { IfOk result (λ left. AreLeftBlocks (map block_view blocks.now) (map block_view left.items)) }
+    {
         let mut left = Vec::new(alloc);
         let mut number = 0u32;
-        for block in blocks {
-            if flag(&self.reached, number) {
-                left.push(self.left_of(alloc, number, block)?)?;
-            } else {
-                left.push(block.duplicate(alloc)?)?;
-            }
+        let mut ahead = blocks;
+        while let [block, rest @ ..] = ahead {
+            let next = self.left_block(alloc, number, block)?;
+            left.push(next)?;
             number = number.saturating_add(1);
+            ahead = rest;
         }
         Ok(left)
     }
@@ -218,9 +313,12 @@ pub fn graph_left(
     alloc: Global,
     idle: &IdleGraph<'_>,
     removed: &RemovedChanges,
-) -> Result<Graph, AllocError> {
+) -> Result<Graph, AllocError>
+    ensures { IfOk result (λ left. IsLeftGraph (graph_of idle.now) (graph_view left)) }
+{
     if idle.stays() {
-        return idle.graph.duplicate(alloc);
+        let same = idle.graph.duplicate(alloc)?;
+        return Ok(same);
     }
     let mut leaving = Leaving::new(alloc, idle, removed)?;
     let blocks = leaving.blocks_left(alloc, &idle.graph.blocks)?;

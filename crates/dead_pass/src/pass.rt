@@ -1,8 +1,13 @@
 //! The pass.
 
-ghost use Rattle.std.specs.Prelude.{◌≡◌, ◌<◌, ◌^◌, IfOk, IfSome, length};
-ghost use Rattle.graph_core.specs.Graphs.{unit_view};
+ghost use Rattle.std.specs.Prelude.{◌≡◌, ◌<◌, ◌^◌, IfOk, IfSome, codes, length, map};
+ghost use Rattle.debug_records.specs.Change.{pass_name};
+ghost use Rattle.debug_records.specs.declared.change.Kind.TheVariants.{Removed};
+ghost use Rattle.dead_pass.specs.Idle.{graph_of};
+ghost use Rattle.dead_pass.specs.Left.{IsLeftGraph};
+ghost use Rattle.graph_core.specs.Graphs.{graph_view, unit_view};
 ghost use Rattle.graph_core.specs.Validity.{IsValid};
+ghost use Rattle.graph_edits.specs.Kept.{AddsChanges, EachFunction, KeepsAllButBlocks, ShareTheSame};
 
 use crate::idle_graph::IdleGraph;
 use crate::notes::graph_left;
@@ -13,7 +18,9 @@ use graph_edits::log_cases;
 use std::alloc::{AllocError, Global};
 
 /// The name of the pass.
-fn pass_name() -> PassName {
+fn dead_name() -> PassName
+    ensures { result ≡ pass_name (codes "dead") }
+{
     match PassName::of(b"dead") {
         Some(name) => name,
         None => unreachable!(),
@@ -21,7 +28,9 @@ fn pass_name() -> PassName {
 }
 
 /// What goes of each graph.
-fn idle_graphs(alloc: Global, graphs: &[Graph]) -> Result<Vec<IdleGraph<'_>>, AllocError> {
+fn idle_graphs(alloc: Global, graphs: &[Graph]) -> Result<Vec<IdleGraph<'_>>, AllocError>
+    ensures { IfOk result (λ all. map graph_of all.items ≡ map graph_view graphs.now) }
+{
     let mut all = Vec::new(alloc);
     for graph in graphs {
         all.push(IdleGraph::new(alloc, graph)?)?;
@@ -34,10 +43,15 @@ fn graphs_left(
     alloc: Global,
     idle: &[IdleGraph<'_>],
     removed: &RemovedChanges,
-) -> Result<Vec<Graph>, AllocError> {
+) -> Result<Vec<Graph>, AllocError>
+    ensures { IfOk result (λ left. EachFunction IsLeftGraph (map graph_of idle.now) (map graph_view left.items)) }
+{
     let mut left = Vec::new(alloc);
-    for graph in idle {
-        left.push(graph_left(alloc, graph, removed)?)?;
+    let mut ahead = idle;
+    while let [graph, rest @ ..] = ahead {
+        let next = graph_left(alloc, graph, removed)?;
+        left.push(next)?;
+        ahead = rest;
     }
     Ok(left)
 }
@@ -52,6 +66,10 @@ pub fn remove_dead(alloc: Global, unit: &Unit) -> Result<Option<Unit>, AllocErro
     requires valid { IsValid (unit_view unit.now) }
     requires room { length (unit_view unit.now).log < 2 ^ 31 }
     ensures valid { IfOk result (λ o. IfSome o (λ v. IsValid (unit_view v))) }
+    ensures shared { IfOk result (λ o. IfSome o (λ v. ShareTheSame (unit_view unit.now) (unit_view v))) }
+    ensures log { IfOk result (λ o. IfSome o (λ v. AddsChanges (pass_name (codes "dead")) Removed (unit_view unit.now) (unit_view v))) }
+    ensures functions { IfOk result (λ o. IfSome o (λ v. EachFunction KeepsAllButBlocks (unit_view unit.now).graphs (unit_view v).graphs)) }
+    ensures left { IfOk result (λ o. IfSome o (λ v. EachFunction IsLeftGraph (unit_view unit.now).graphs (unit_view v).graphs)) }
 {
     let idle = idle_graphs(alloc, &unit.graphs)?;
     let mut cases = Vec::new(alloc);
@@ -59,7 +77,7 @@ pub fn remove_dead(alloc: Global, unit: &Unit) -> Result<Option<Unit>, AllocErro
         graph.add_cases(&mut cases)?;
     }
     let mut left = unit.duplicate(alloc)?;
-    if !log_cases(&mut left.log, pass_name(), Kind::Removed, &mut cases)? {
+    if !log_cases(&mut left.log, dead_name(), Kind::Removed, &mut cases)? {
         return Ok(None);
     }
     let removed = RemovedChanges::new(alloc, left.log.changes())?;

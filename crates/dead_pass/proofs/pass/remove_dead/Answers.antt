@@ -1,0 +1,17 @@
+use Rattle.std.proofs.Common.{map, refl, rules}
+use Rattle.debug_records.specs.declared.change.Kind.TheVariants.{Removed}
+use Rattle.graph_core.specs.Graphs.{graph_view}
+use Rattle.graph_edits.specs.Kept.{EachFunction}
+use Rattle.graph_edits.proofs.Log.{changes_added}
+use Rattle.dead_pass.specs.Left.{IsLeftGraph}
+use Rattle.dead_pass.proofs.Leaving.{each_keeps}
+use Rattle.dead_pass.proofs.pass.remove_dead.Goals as goal
+
+pub returns-then-is_valid-clause-log : goal.returns-then-is_valid-clause-log
+returns-then-is_valid-clause-log c =
+    changes_added c.dead_name.result _ Removed c.in_ok-left.left _ _ _ _ _ refl (c.in_ok-log_cases.ensures.logged c.if-not-branch.false) c.in_ok-left.ensures c.dead_name.ensures
+
+pub returns-then-is_valid-clause-functions : goal.returns-then-is_valid-clause-functions
+returns-then-is_valid-clause-functions c =
+    let left : EachFunction IsLeftGraph (map graph_view c.args.unit.now.graphs.items) (map graph_view c.in_ok-left-2.field-0.items) = search rules in
+    each_keeps (map graph_view c.args.unit.now.graphs.items) (map graph_view c.in_ok-left-2.field-0.items) left
