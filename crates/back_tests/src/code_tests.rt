@@ -24,6 +24,10 @@ static UPPER_IMMEDIATES: [(u32, Instruction); 8] = [
     (0x00001517, Instruction::Auipc(10, 0x1)), // auipc x10, 0x1
 ];
 
+fn upper_immediates() -> &'static [(u32, Instruction)] {
+    &UPPER_IMMEDIATES
+}
+
 static JUMPS: [(u32, Instruction); 13] = [
     (0x0000006f, Instruction::Jal(0, 0x00000000)), // jal x0, .+0
     (0x00c000ef, Instruction::Jal(1, 0x0000000c)), // jal x1, .+12
@@ -39,6 +43,10 @@ static JUMPS: [(u32, Instruction); 13] = [
     (0x800280e7, Instruction::Jalr(1, 5, 0xfffff800)), // jalr x1, -2048(x5)
     (0xfff38367, Instruction::Jalr(6, 7, 0xffffffff)), // jalr x6, -1(x7)
 ];
+
+fn jumps() -> &'static [(u32, Instruction)] {
+    &JUMPS
+}
 
 static BRANCHES: [(u32, Instruction); 36] = [
     (
@@ -187,6 +195,10 @@ static BRANCHES: [(u32, Instruction); 36] = [
     ), // bgeu x14, x15, .+1024
 ];
 
+fn branches() -> &'static [(u32, Instruction)] {
+    &BRANCHES
+}
+
 static LOADS: [(u32, Instruction); 15] = [
     (
         0x7fff8003,
@@ -250,6 +262,10 @@ static LOADS: [(u32, Instruction); 15] = [
     ), // lhu x5, -1(x6)
 ];
 
+fn loads() -> &'static [(u32, Instruction)] {
+    &LOADS
+}
+
 static STORES: [(u32, Instruction); 15] = [
     (
         0x7e0f8fa3,
@@ -312,6 +328,10 @@ static STORES: [(u32, Instruction); 15] = [
         Instruction::Store(StoreOperation::Sw, 9, 10, 0x00000020),
     ), // sw x9, 32(x10)
 ];
+
+fn stores() -> &'static [(u32, Instruction)] {
+    &STORES
+}
 
 static OPERATIONS_ON_AN_IMMEDIATE: [(u32, Instruction); 33] = [
     (
@@ -447,6 +467,10 @@ static OPERATIONS_ON_AN_IMMEDIATE: [(u32, Instruction); 33] = [
         Instruction::Immediate(ImmediateOperation::Srai, 5, 6, 16),
     ), // srai x5, x6, 16
 ];
+
+fn operations_on_an_immediate() -> &'static [(u32, Instruction)] {
+    &OPERATIONS_ON_AN_IMMEDIATE
+}
 
 static OPERATIONS_ON_TWO_REGISTERS: [(u32, Instruction); 54] = [
     (
@@ -667,6 +691,10 @@ static OPERATIONS_ON_TWO_REGISTERS: [(u32, Instruction); 54] = [
     ), // remu x5, x6, x31
 ];
 
+fn operations_on_two_registers() -> &'static [(u32, Instruction)] {
+    &OPERATIONS_ON_TWO_REGISTERS
+}
+
 static FENCES_AND_CALLS: [(u32, Instruction); 6] = [
     (
         0x00000013,
@@ -678,6 +706,10 @@ static FENCES_AND_CALLS: [(u32, Instruction); 6] = [
     (0x00000073, Instruction::Ecall), // ecall
     (0x00100073, Instruction::Ebreak), // ebreak
 ];
+
+fn fences_and_calls() -> &'static [(u32, Instruction)] {
+    &FENCES_AND_CALLS
+}
 
 static NO_INSTRUCTION: [u32; 28] = [
     0x00000000, // the word 0
@@ -710,17 +742,21 @@ static NO_INSTRUCTION: [u32; 28] = [
     0x00008073, // ECALL with rs1 1
 ];
 
+fn no_instruction() -> &'static [u32] {
+    &NO_INSTRUCTION
+}
+
 #[test]
 fn words_and_instructions_are_those_of_the_assembler(rt: HostRuntime) {
     for table in [
-        UPPER_IMMEDIATES.as_slice(),
-        &JUMPS,
-        &BRANCHES,
-        &LOADS,
-        &STORES,
-        &OPERATIONS_ON_AN_IMMEDIATE,
-        &OPERATIONS_ON_TWO_REGISTERS,
-        &FENCES_AND_CALLS,
+        upper_immediates(),
+        jumps(),
+        branches(),
+        loads(),
+        stores(),
+        operations_on_an_immediate(),
+        operations_on_two_registers(),
+        fences_and_calls(),
     ] {
         for (word, instruction) in table {
             assert!(rt; is_spelled(*word, *instruction), "{word}");
@@ -730,7 +766,7 @@ fn words_and_instructions_are_those_of_the_assembler(rt: HostRuntime) {
 
 #[test]
 fn other_words_spell_nothing(rt: HostRuntime) {
-    for word in &NO_INSTRUCTION {
+    for word in no_instruction() {
         assert!(rt; decode(*word).is_none(), "{word}");
     }
 }

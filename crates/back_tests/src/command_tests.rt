@@ -40,9 +40,13 @@ static LINES: [(&str, bool); 16] = [
     ("cdbg debug s c i -m", false),
 ];
 
+fn lines() -> &'static [(&'static str, bool)] {
+    &LINES
+}
+
 #[test]
 fn words_are_a_job_or_none(rt: HostRuntime) -> Result<(), Fail> {
-    for (text, wanted) in &LINES {
+    for (text, wanted) in lines() {
         assert!(rt; is_job(rt.alloc(), *text)? == *wanted, "{text}");
     }
     let text = "cdbg debug s --limit 7 c --homes=slots i --passes copy,dead m";

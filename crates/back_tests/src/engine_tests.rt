@@ -73,7 +73,7 @@ fn assert_session(rt: &impl Abort, alloc: Global, session: &Session) -> Result<(
 
 #[test]
 fn each_session_has_its_lines(rt: HostRuntime) -> Result<(), Fail> {
-    for session in &SESSIONS {
+    for session in sessions() {
         assert_session(&rt, rt.alloc(), session)?;
     }
     Ok(())
@@ -115,10 +115,14 @@ static ADDITIONS: [(&[&str], &[&str]); 2] = [
     ),
 ];
 
+fn additions() -> &'static [(&'static [&'static str], &'static [&'static str])] {
+    &ADDITIONS
+}
+
 #[test]
 fn the_addition_is_followed(rt: HostRuntime) -> Result<(), Fail> {
     let image = addition_image(rt.alloc())?;
-    for (orders, expected) in &ADDITIONS {
+    for (orders, expected) in additions() {
         let lines = lines_of(rt.alloc(), &image, 1000, *orders)?;
         assert_lines(&rt, &lines, *expected, "the addition");
     }
@@ -135,12 +139,16 @@ static HALTS: [(Halt, &[u8]); 6] = [
     (Halt::Exited(5), b""),
 ];
 
+fn halts() -> &'static [(Halt, &'static [u8])] {
+    &HALTS
+}
+
 #[test]
 fn a_run_has_its_own_output(rt: HostRuntime) -> Result<(), Fail> {
     let image = addition_image(rt.alloc())?;
     let mut engine = Engine::new(rt.alloc(), &image, &[], 1000)?;
     assert!(rt; matches!(engine.show(rt.alloc(), "x")?, Shown::NoStop));
-    for (halt, taken) in &HALTS {
+    for (halt, taken) in halts() {
         assert!(rt; engine.run_to(&Stops::Any)? == *halt);
         assert!(rt; engine.taken() == *taken);
     }
@@ -549,3 +557,7 @@ static SESSIONS: [Session; 20] = [
         ],
     },
 ];
+
+fn sessions() -> &'static [Session] {
+    &SESSIONS
+}

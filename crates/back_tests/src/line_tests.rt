@@ -109,9 +109,13 @@ static LINES: [(Line, &str); 26] = [
     ),
 ];
 
+fn lines() -> &'static [(Line, &'static str)] {
+    &LINES
+}
+
 #[test]
 fn each_line_says_what_it_should(rt: HostRuntime) -> Result<(), Fail> {
-    for (line, text) in &LINES {
+    for (line, text) in lines() {
         let found = line_of(rt.alloc(), line)?;
         assert!(rt; found.as_slice() == text.as_bytes(), "{text}");
     }
@@ -167,9 +171,13 @@ static PARTS: [(Part, &str); 8] = [
     (Part::Array(&[b"1", b"-2"], true), "{1, -2, ...}"),
 ];
 
+fn parts() -> &'static [(Part, &'static str)] {
+    &PARTS
+}
+
 #[test]
 fn each_part_says_what_it_should(rt: HostRuntime) -> Result<(), Fail> {
-    for (part, text) in &PARTS {
+    for (part, text) in parts() {
         let found = part_of(rt.alloc(), part)?;
         assert!(rt; found.as_slice() == text.as_bytes(), "{text}");
     }
@@ -185,6 +193,10 @@ static ALL_BYTES: [&str; 5] = [
     r##"out "A""##,
 ];
 
+fn all_bytes() -> &'static [&'static str] {
+    &ALL_BYTES
+}
+
 #[test]
 fn each_byte_of_the_output_is_quoted(rt: HostRuntime) -> Result<(), Fail> {
     let mut output = Vec::new(rt.alloc());
@@ -193,8 +205,8 @@ fn each_byte_of_the_output_is_quoted(rt: HostRuntime) -> Result<(), Fail> {
     }
     output.push(b'A')?;
     let lines = out_lines(rt.alloc(), &output)?;
-    assert!(rt; lines.len() == ALL_BYTES.len());
-    for (line, text) in lines.iter().zip(&ALL_BYTES) {
+    assert!(rt; lines.len() == all_bytes().len());
+    for (line, text) in lines.iter().zip(all_bytes()) {
         assert!(rt; line.as_slice() == text.as_bytes(), "{text}");
     }
     assert!(rt; out_lines(rt.alloc(), b"")?.is_empty());

@@ -140,6 +140,10 @@ static CALLS: [Program; 5] = [
     },
 ];
 
+fn calls() -> &'static [Program] {
+    &CALLS
+}
+
 static LOADS_AND_STORES: [Program; 4] = [
     Program {
         shows: "loads of each width from the bytes",
@@ -225,6 +229,10 @@ static LOADS_AND_STORES: [Program; 4] = [
         registers: &[(18, 0xfffffffd), (19, 0xfffdfd00), (20, 0x00000000)],
     },
 ];
+
+fn loads_and_stores() -> &'static [Program] {
+    &LOADS_AND_STORES
+}
 
 static OPERATIONS: [Program; 6] = [
     Program {
@@ -366,6 +374,10 @@ static OPERATIONS: [Program; 6] = [
     },
 ];
 
+fn operations() -> &'static [Program] {
+    &OPERATIONS
+}
+
 static BRANCHES: [Program; 4] = [
     Program {
         shows: "branches at a negative and a positive number",
@@ -448,6 +460,10 @@ static BRANCHES: [Program; 4] = [
     },
 ];
 
+fn branches() -> &'static [Program] {
+    &BRANCHES
+}
+
 static JUMPS: [Program; 4] = [
     Program {
         shows: "jumps and returns",
@@ -501,6 +517,10 @@ static JUMPS: [Program; 4] = [
     },
 ];
 
+fn jumps() -> &'static [Program] {
+    &JUMPS
+}
+
 /// Each program of each table leaves what is told of it.
 fn assert_all(rt: &impl Abort, alloc: Global, tables: &[&[Program]]) -> Result<(), AllocError> {
     for table in tables {
@@ -514,11 +534,11 @@ fn assert_all(rt: &impl Abort, alloc: Global, tables: &[&[Program]]) -> Result<(
 #[test]
 fn programs_leave_what_the_other_machine_leaves(rt: HostRuntime) -> Result<(), AllocError> {
     let tables = [
-        CALLS.as_slice(),
-        &LOADS_AND_STORES,
-        &OPERATIONS,
-        &BRANCHES,
-        &JUMPS,
+        calls(),
+        loads_and_stores(),
+        operations(),
+        branches(),
+        jumps(),
     ];
     assert_all(&rt, rt.alloc(), &tables)
 }
@@ -564,6 +584,10 @@ static BYTES: [(u32, u8); 17] = [
     (0xffffffff, 0x00),
 ];
 
+fn bytes() -> &'static [(u32, u8)] {
+    &BYTES
+}
+
 /// The stack of that machine from addresses on: how many bytes it has there, and its last one.
 static STACKS: [(u32, usize, Option<u8>); 5] = [
     (0x01fffffb, 5, Some(2)),
@@ -573,13 +597,17 @@ static STACKS: [(u32, usize, Option<u8>); 5] = [
     (0x01000000, 16777216, Some(2)),
 ];
 
+fn stacks() -> &'static [(u32, usize, Option<u8>)] {
+    &STACKS
+}
+
 #[test]
 fn every_byte_can_be_read(rt: HostRuntime) -> Result<(), AllocError> {
     let machine = machine_with_a_stack(rt.alloc())?;
-    for (address, byte) in &BYTES {
+    for (address, byte) in bytes() {
         assert!(rt; machine.byte(*address) == *byte, "at {address}");
     }
-    for (address, count, last) in &STACKS {
+    for (address, count, last) in stacks() {
         let stack = machine.stack_from(*address);
         assert!(rt;
             stack.len() == *count && stack.last().copied() == *last,

@@ -106,6 +106,10 @@ static READINGS: [Reading; 6] = [
     },
 ];
 
+fn readings() -> &'static [Reading] {
+    &READINGS
+}
+
 /// Whether a load of such a file gives what it should.
 fn is_given(alloc: Global, reading: &Reading) -> bool {
     let taken = Cell::new(0);
@@ -128,7 +132,7 @@ fn is_given(alloc: Global, reading: &Reading) -> bool {
 
 #[test]
 fn parts_are_joined(rt: HostRuntime) {
-    for reading in &READINGS {
+    for reading in readings() {
         assert!(rt; is_given(rt.alloc(), reading), "under {}", reading.limit);
     }
 }
@@ -143,9 +147,13 @@ static WRITINGS: [(usize, bool, bool, bool, u64); 5] = [
     (100, false, false, false, 0x61_62_63_64_65),
 ];
 
+fn writings() -> &'static [(usize, bool, bool, bool, u64)] {
+    &WRITINGS
+}
+
 #[test]
 fn partial_writes_go_on(rt: HostRuntime) {
-    for (room, is_full_an_error, can_flush, is_saved, wanted) in &WRITINGS {
+    for (room, is_full_an_error, can_flush, is_saved, wanted) in writings() {
         let taken = Cell::new(0);
         let mut shelf = FileShelf::new(Parts {
             answers: &[],

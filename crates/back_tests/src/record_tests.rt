@@ -24,9 +24,13 @@ static CODES: [(Code, &str); 5] = [
     ),
 ];
 
+fn codes() -> &'static [(Code, &'static str)] {
+    &CODES
+}
+
 #[test]
 fn codes_and_changes_are_numbered(rt: HostRuntime) -> Result<(), Fail> {
-    for (code, text) in &CODES {
+    for (code, text) in codes() {
         assert!(rt; code.to_string(rt.alloc())?.as_str() == *text, "{text}");
     }
     let mut log = ChangeLog::new(rt.alloc());

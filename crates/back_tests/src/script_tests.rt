@@ -50,9 +50,13 @@ static REFUSALS: [(&[u8], Code, usize); 14] = [
     ),
 ];
 
+fn refusals() -> &'static [(&'static [u8], Code, usize)] {
+    &REFUSALS
+}
+
 #[test]
 fn each_rule_has_its_code(rt: HostRuntime) {
-    for (text, code, line) in &REFUSALS {
+    for (text, code, line) in refusals() {
         let error = read(rt.alloc(), *text).err();
         assert!(rt; error == Some(ScriptErr::Refused(*code, *line)), "{text:?}");
     }

@@ -227,9 +227,13 @@ static TEXTS: [(&[u8], bool); 76] = [
     ),
 ];
 
+fn texts() -> &'static [(&'static [u8], bool)] {
+    &TEXTS
+}
+
 #[test]
 fn texts_are_of_the_form_or_not(rt: HostRuntime) {
-    for (text, wanted) in &TEXTS {
+    for (text, wanted) in texts() {
         assert!(rt; is_accepted(rt.alloc(), *text) == *wanted, "{text:?}");
     }
 }
@@ -318,9 +322,13 @@ static LONG: [(&[u8], &[u8], u32, &[u8], bool); 9] = [
     ),
 ];
 
+fn long() -> &'static [(&'static [u8], &'static [u8], u32, &'static [u8], bool)] {
+    &LONG
+}
+
 #[test]
 fn long_texts_keep_the_limits(rt: HostRuntime) -> Result<(), Fail> {
-    for (before, part, count, behind, wanted) in &LONG {
+    for (before, part, count, behind, wanted) in long() {
         let text = repeated(rt.alloc(), *before, *part, *count, *behind)?;
         assert!(rt;
             is_accepted(rt.alloc(), &text) == *wanted,

@@ -353,6 +353,10 @@ static ROWS: [Row; 17] = [
     },
 ];
 
+fn rows() -> &'static [Row] {
+    &ROWS
+}
+
 /// An operation has the word that the table has for it.
 fn assert_word(rt: &impl Abort, found: u32, wanted: u32, name: &str, row: &Row) {
     let (a, b) = (row.a, row.b);
@@ -361,7 +365,7 @@ fn assert_word(rt: &impl Abort, found: u32, wanted: u32, name: &str, row: &Row) 
 
 #[test]
 fn sums_and_products(rt: HostRuntime) {
-    for row in &ROWS {
+    for row in rows() {
         let (a, b) = (row.a, row.b);
         assert_word(&rt, add(a, b), row.add, "add", row);
         assert_word(&rt, sub(a, b), row.sub, "sub", row);
@@ -374,7 +378,7 @@ fn sums_and_products(rt: HostRuntime) {
 
 #[test]
 fn quotients_and_remainders(rt: HostRuntime) {
-    for row in &ROWS {
+    for row in rows() {
         let (a, b) = (row.a, row.b);
         assert_word(&rt, div_signed(a, b), row.div_signed, "div", row);
         assert_word(&rt, div_unsigned(a, b), row.div_unsigned, "divu", row);
@@ -385,7 +389,7 @@ fn quotients_and_remainders(rt: HostRuntime) {
 
 #[test]
 fn shifts_and_comparisons(rt: HostRuntime) {
-    for row in &ROWS {
+    for row in rows() {
         let (a, b) = (row.a, row.b);
         assert_word(&rt, sll(a, b), row.sll, "sll", row);
         assert_word(&rt, srl(a, b), row.srl, "srl", row);
@@ -419,7 +423,7 @@ fn operated(row: &Row) -> [(Operation, u32); 15] {
 
 #[test]
 fn operations_are_by_their_names(rt: HostRuntime) {
-    for row in &ROWS {
+    for row in rows() {
         for (operation, wanted) in operated(row) {
             assert_word(
                 &rt,
@@ -442,9 +446,13 @@ static TRUNCATED: [(Truncation, u32, u32); 6] = [
     (Truncation::Signed16, 0x7fff, 0x7fff),
 ];
 
+fn truncated() -> &'static [(Truncation, u32, u32)] {
+    &TRUNCATED
+}
+
 #[test]
 fn truncations_keep_low_bits(rt: HostRuntime) {
-    for (truncation, word, wanted) in &TRUNCATED {
+    for (truncation, word, wanted) in truncated() {
         assert!(rt; truncate(*truncation, *word) == *wanted, "{word}");
     }
 }
@@ -460,9 +468,13 @@ static RANGE: [(i64, bool); 7] = [
     (9223372036854775807, false),
 ];
 
+fn range() -> &'static [(i64, bool)] {
+    &RANGE
+}
+
 #[test]
 fn range_of_a_signed_word(rt: HostRuntime) {
-    for (number, fits) in &RANGE {
+    for (number, fits) in range() {
         assert!(rt; fits_i32(*number) == *fits, "{number}");
     }
 }

@@ -28,14 +28,6 @@ const SCRIPT: &[u8] = b"step\nstep\nprint x\nstep\nprint x\nstep\nstep\n";
 const TRANSCRIPT: &[u8] =
     b"at 2 line 2 main depth 1\nat 3 line 2 main depth 1\nx = 2\nat 4 line 2 main depth 1\nx = 5\nout \"A\"\nat 5 line 2 main depth 1\nexit 5\n";
 
-fn words(alloc: Global, texts: &[&str]) -> Result<Vec<String>, AllocError> {
-    let mut words = Vec::new(alloc);
-    for text in texts {
-        words.push(String::from_str(alloc, text)?)?;
-    }
-    Ok(words)
-}
-
 /// The words that stand between spaces.
 fn split(alloc: Global, text: &str) -> Result<Vec<String>, AllocError> {
     let mut words = Vec::new(alloc);
@@ -43,23 +35,6 @@ fn split(alloc: Global, text: &str) -> Result<Vec<String>, AllocError> {
         words.push(String::from_str(alloc, word)?)?;
     }
     Ok(words)
-}
-
-/// The words of the one job.
-fn job(alloc: Global) -> Result<Vec<String>, AllocError> {
-    let texts = [
-        "cdbg",
-        "debug",
-        "--passes",
-        "none",
-        "--homes",
-        "slots",
-        "program.c",
-        "script",
-        "input",
-        "image",
-    ];
-    words(alloc, texts.as_slice())
 }
 
 /// A shelf with a source, a script and the empty input, whose calls of these numbers fail.
@@ -84,24 +59,35 @@ fn run(alloc: Global, words: &[String], shelf: &mut MemShelf, sink: &mut MemSink
     }
 }
 
+/// How a session of a source by the one job ends, over a shelf whose calls of these numbers fail.
+fn session_ends(
+    alloc: Global,
+    source: &[u8],
+    script: &[u8],
+    fails: &[u64],
+) -> Result<Ending, AllocError> {
+    let mut shelf = shelf(alloc, source, script, fails)?;
+    ended(alloc, IN_SLOTS, &mut shelf, [].as_slice())
+}
+
+/// How a session of a source with the usual script ends.
+fn status_of(alloc: Global, source: &[u8]) -> Result<Status, AllocError> {
+    let ended = session_ends(alloc, source, SCRIPT, [].as_slice())?;
+    Ok(ended.status)
+}
+
 #[test]
 fn a_program_runs_from_its_bytes_to_its_transcript(rt: HostRuntime) -> Result<(), Fail> {
-    let mut shelf = shelf(rt.alloc(), PROGRAM, SCRIPT, [].as_slice())?;
-    let mut sink = MemSink::new(rt.alloc(), [].as_slice())?;
-    let words = job(rt.alloc())?;
-    assert!(rt; run(rt.alloc(), &words, &mut shelf, &mut sink) == Status::Done);
-    assert!(rt; sink.bytes() == TRANSCRIPT);
+    let ended = session_ends(rt.alloc(), PROGRAM, SCRIPT, [].as_slice())?;
+    assert!(rt; ended.status == Status::Done && ended.taken.as_slice() == TRANSCRIPT);
     Ok(())
 }
 
 #[test]
 fn an_empty_script_saves_the_image_and_says_nothing(rt: HostRuntime) -> Result<(), Fail> {
-    let mut shelf = shelf(rt.alloc(), PROGRAM, b"".as_slice(), [].as_slice())?;
-    let mut sink = MemSink::new(rt.alloc(), [].as_slice())?;
-    let words = job(rt.alloc())?;
-    assert!(rt; run(rt.alloc(), &words, &mut shelf, &mut sink) == Status::Done);
-    assert!(rt; sink.bytes() == b"".as_slice());
-    assert!(rt; shelf.held("image").is_some());
+    let ended = session_ends(rt.alloc(), PROGRAM, b"".as_slice(), [].as_slice())?;
+    assert!(rt; ended.status == Status::Done);
+    assert!(rt; ended.taken.is_empty() && !ended.image.is_empty());
     Ok(())
 }
 
@@ -123,62 +109,53 @@ fn a_sink_that_fails_at_its_second_line_has_taken_the_first(rt: HostRuntime) -> 
 
 #[test]
 fn a_load_that_fails_ends_the_session(rt: HostRuntime) -> Result<(), Fail> {
-    let mut shelf = shelf(rt.alloc(), PROGRAM, SCRIPT, [2].as_slice())?;
-    let mut sink = MemSink::new(rt.alloc(), [].as_slice())?;
-    let words = job(rt.alloc())?;
-    assert!(rt; run(rt.alloc(), &words, &mut shelf, &mut sink) == Status::ReadFault);
-    assert!(rt; sink.bytes() == b"".as_slice());
+    let ended = session_ends(rt.alloc(), PROGRAM, SCRIPT, [2].as_slice())?;
+    assert!(rt; ended.status == Status::ReadFault);
+    assert!(rt; ended.taken.is_empty() && ended.image.is_empty());
     Ok(())
 }
 
 #[test]
 fn a_save_that_fails_leaves_no_image_and_says_nothing(rt: HostRuntime) -> Result<(), Fail> {
-    let mut shelf = shelf(rt.alloc(), PROGRAM, SCRIPT, [4].as_slice())?;
-    let mut sink = MemSink::new(rt.alloc(), [].as_slice())?;
-    let words = job(rt.alloc())?;
-    assert!(rt; run(rt.alloc(), &words, &mut shelf, &mut sink) == Status::WriteFault);
-    assert!(rt; sink.bytes() == b"".as_slice());
-    assert!(rt; shelf.held("image").is_none());
+    let ended = session_ends(rt.alloc(), PROGRAM, SCRIPT, [4].as_slice())?;
+    assert!(rt; ended.status == Status::WriteFault);
+    assert!(rt; ended.taken.is_empty() && ended.image.is_empty());
     Ok(())
 }
 
 #[test]
 fn an_unknown_command_refuses_the_script(rt: HostRuntime) -> Result<(), Fail> {
-    let mut shelf = shelf(rt.alloc(), PROGRAM, b"jump 3\n".as_slice(), [].as_slice())?;
-    let mut sink = MemSink::new(rt.alloc(), [].as_slice())?;
-    let words = job(rt.alloc())?;
-    let status = run(rt.alloc(), &words, &mut shelf, &mut sink);
-    assert!(rt; status == Status::ScriptRefused(Code::UNKNOWN_COMMAND, 1));
-    assert!(rt; status.number() == 4);
-    assert!(rt; fault_text(rt.alloc(), &status)?.as_str() == "cdbg: script refused S01 line 1");
-    assert!(rt; shelf.held("image").is_none());
+    let ended = session_ends(rt.alloc(), PROGRAM, b"jump 3\n".as_slice(), [].as_slice())?;
+    assert!(rt; ended.status == Status::ScriptRefused(Code::UNKNOWN_COMMAND, 1));
+    assert_refused(
+        &rt,
+        rt.alloc(),
+        &ended,
+        4,
+        "cdbg: script refused S01 line 1",
+    )?;
     Ok(())
 }
 
 #[test]
 fn the_empty_source_is_refused(rt: HostRuntime) -> Result<(), Fail> {
-    let mut shelf = shelf(rt.alloc(), b"".as_slice(), SCRIPT, [].as_slice())?;
-    let mut sink = MemSink::new(rt.alloc(), [].as_slice())?;
-    let words = job(rt.alloc())?;
-    let status = run(rt.alloc(), &words, &mut shelf, &mut sink);
-    assert!(rt; status == Status::SourceRefused(Code::NO_MAIN, 1));
-    assert!(rt; status.number() == 3);
-    assert!(rt; fault_text(rt.alloc(), &status)?.as_str() == "cdbg: source refused E29 line 1");
+    let ended = session_ends(rt.alloc(), b"".as_slice(), SCRIPT, [].as_slice())?;
+    assert!(rt; ended.status == Status::SourceRefused(Code::NO_MAIN, 1));
+    assert_refused(
+        &rt,
+        rt.alloc(),
+        &ended,
+        3,
+        "cdbg: source refused E29 line 1",
+    )?;
     Ok(())
 }
 
 #[test]
 fn a_source_is_refused_before_its_script(rt: HostRuntime) -> Result<(), Fail> {
-    let mut shelf = shelf(
-        rt.alloc(),
-        b"int".as_slice(),
-        b"jump 3\n".as_slice(),
-        [].as_slice(),
-    )?;
-    let mut sink = MemSink::new(rt.alloc(), [].as_slice())?;
-    let words = job(rt.alloc())?;
-    let status = run(rt.alloc(), &words, &mut shelf, &mut sink);
-    assert!(rt; status == Status::SourceRefused(Code::UNEXPECTED_TOKEN, 1));
+    let script = b"jump 3\n".as_slice();
+    let ended = session_ends(rt.alloc(), b"int".as_slice(), script, [].as_slice())?;
+    assert!(rt; ended.status == Status::SourceRefused(Code::UNEXPECTED_TOKEN, 1));
     Ok(())
 }
 
@@ -252,6 +229,24 @@ fn other_words_are_no_job(rt: HostRuntime) -> Result<(), Fail> {
     Ok(())
 }
 
+/// The words of a job that lists so many passes.
+fn listing(alloc: Global, passes: u32) -> Result<String, AllocError> {
+    let mut text = String::from_str(alloc, "cdbg passes program.c --passes=dead")?;
+    for _ in 1..passes {
+        text.push_str(",dead")?;
+    }
+    Ok(text)
+}
+
+#[test]
+fn a_list_has_at_most_32_passes(rt: HostRuntime) -> Result<(), Fail> {
+    let most = listing(rt.alloc(), 32)?;
+    assert!(rt; status_of_words(rt.alloc(), &most)? == Status::ReadFault);
+    let more = listing(rt.alloc(), 33)?;
+    assert!(rt; status_of_words(rt.alloc(), &more)? == Status::Usage);
+    Ok(())
+}
+
 #[test]
 fn options_stand_in_any_order(rt: HostRuntime) -> Result<(), Fail> {
     let words = "cdbg debug program.c --limit=5000 script --homes=slots input image --passes=none";
@@ -299,13 +294,10 @@ fn an_input_may_be_too_long(rt: HostRuntime) -> Result<(), Fail> {
 fn an_ending_is_said_again_and_no_stop_is_shown_there(rt: HostRuntime) -> Result<(), Fail> {
     let source = b"#include <stdio.h>\nint main(void){return 7;}".as_slice();
     let script = b"print x\nstep\nprint y\nstep\nstep\nprint x\n".as_slice();
-    let mut shelf = shelf(rt.alloc(), source, script, [].as_slice())?;
-    let mut sink = MemSink::new(rt.alloc(), [].as_slice())?;
-    let words = job(rt.alloc())?;
-    assert!(rt; run(rt.alloc(), &words, &mut shelf, &mut sink) == Status::Done);
+    let ended = session_ends(rt.alloc(), source, script, [].as_slice())?;
     let expected =
         b"no stop\nat 2 line 2 main depth 1\nno y here\nexit 7\nexit 7\nno stop\n".as_slice();
-    assert!(rt; sink.bytes() == expected);
+    assert!(rt; ended.status == Status::Done && ended.taken.as_slice() == expected);
     Ok(())
 }
 
@@ -343,14 +335,14 @@ static REFUSED: [(&[u8], Code, u32); 15] = [
     (b"int x; int main(int a){return a;}", Code::NO_MAIN, 1),
 ];
 
+fn refused() -> &'static [(&'static [u8], Code, u32)] {
+    &REFUSED
+}
+
 #[test]
 fn a_source_is_refused_for_the_first_rule_that_it_breaks(rt: HostRuntime) -> Result<(), Fail> {
-    let words = job(rt.alloc())?;
-    for &(source, code, line) in REFUSED.iter() {
-        let mut shelf = shelf(rt.alloc(), source, SCRIPT, [].as_slice())?;
-        let mut sink = MemSink::new(rt.alloc(), [].as_slice())?;
-        let status = run(rt.alloc(), &words, &mut shelf, &mut sink);
-        assert!(rt; status == Status::SourceRefused(code, line));
+    for (source, code, line) in refused() {
+        assert!(rt; status_of(rt.alloc(), *source)? == Status::SourceRefused(*code, *line));
     }
     Ok(())
 }
@@ -369,20 +361,20 @@ fn nested(alloc: Global, pairs: usize) -> Result<Vec<u8>, AllocError> {
     Ok(text)
 }
 
+/// How a session of a `main` that returns 0 in so many pairs of parentheses ends.
+fn nested_ends(alloc: Global, pairs: usize) -> Result<Ending, AllocError> {
+    let source = nested(alloc, pairs)?;
+    session_ends(alloc, &source, b"continue\n".as_slice(), [].as_slice())
+}
+
 #[test]
 fn parentheses_nest_63_deep_in_a_return(rt: HostRuntime) -> Result<(), Fail> {
-    let words = job(rt.alloc())?;
-    for pairs in [62, 63, 64] {
-        let source = nested(rt.alloc(), pairs)?;
-        let mut shelf = shelf(rt.alloc(), &source, b"continue\n".as_slice(), [].as_slice())?;
-        let mut sink = MemSink::new(rt.alloc(), [].as_slice())?;
-        let status = run(rt.alloc(), &words, &mut shelf, &mut sink);
-        if pairs < 64 {
-            assert!(rt; status == Status::Done);
-            assert!(rt; sink.bytes() == b"exit 0\n".as_slice());
-        } else {
-            assert!(rt; status == Status::SourceRefused(Code::NESTING, 1));
-        }
+    for pairs in [62, 63] {
+        let ended = nested_ends(rt.alloc(), pairs)?;
+        assert!(rt; ended.status == Status::Done);
+        assert!(rt; ended.taken.as_slice() == b"exit 0\n".as_slice());
     }
+    let ended = nested_ends(rt.alloc(), 64)?;
+    assert!(rt; ended.status == Status::SourceRefused(Code::NESTING, 1));
     Ok(())
 }

@@ -1,7 +1,8 @@
 //! Images that were altered or cut off.
 
 use super::attaching::{attach, shelf};
-use super::{PROGRAM, job, number_at, run};
+use super::sessions::ended;
+use super::{PROGRAM, number_at, session_ends};
 use debug_records::Code;
 use line_form::Status;
 use outside::{MemShelf, MemSink};
@@ -66,12 +67,9 @@ fn alterations() -> [Alteration; 12] {
 }
 
 /// The image of the program that stands beside these tests.
-fn image_of_program(alloc: Global) -> Result<Vec<u8>, Fail> {
-    let mut shelf = super::shelf(alloc, PROGRAM, b"".as_slice(), [].as_slice())?;
-    let mut sink = MemSink::new(alloc, [].as_slice())?;
-    run(alloc, &job(alloc)?, &mut shelf, &mut sink);
-    let image = shelf.held("image").ok_or("no image")?;
-    Ok(image.to_vec(alloc)?)
+fn image_of_program(alloc: Global) -> Result<Vec<u8>, AllocError> {
+    let ended = session_ends(alloc, PROGRAM, b"".as_slice(), [].as_slice())?;
+    Ok(ended.image)
 }
 
 /// How many code words an image has.
@@ -152,41 +150,45 @@ fn places_out_of_order_are_refused(rt: HostRuntime) -> Result<(), Fail> {
     Ok(())
 }
 
-/// What a session of a script prints over the program's image with another first code word.
-fn printed(
-    rt: &impl Abort,
-    alloc: Global,
-    word: u8,
-    limit: &str,
-    script: &[u8],
-) -> Result<Vec<u8>, Fail> {
+/// The program's image with another first code word, which is less than 256.
+fn image_with(rt: &impl Abort, alloc: Global, word: u8) -> Result<Vec<u8>, AllocError> {
     let mut image = image_of_program(alloc)?;
     set(rt, &mut image, 64, word);
     for at in 65..68 {
         set(rt, &mut image, at, 0);
     }
-    let mut shelf = shelf(alloc, &image, script, b"".as_slice())?;
-    let mut sink = MemSink::new(alloc, [].as_slice())?;
-    let texts = [
-        "cdbg", "attach", "--limit", limit, "image", "script", "input",
-    ];
-    let words = super::words(alloc, texts.as_slice())?;
-    assert!(rt; run(alloc, &words, &mut shelf, &mut sink) == Status::Done);
-    Ok(sink.bytes().to_vec(alloc)?)
+    Ok(image)
+}
+
+/// What the session of these words prints over an image, where it is done; else nothing.
+fn printed(alloc: Global, words: &str, image: &[u8], script: &[u8]) -> Result<Vec<u8>, AllocError> {
+    let mut shelf = shelf(alloc, image, script, b"".as_slice())?;
+    let ended = ended(alloc, words, &mut shelf, [].as_slice())?;
+    if ended.status == Status::Done {
+        Ok(ended.taken)
+    } else {
+        Ok(Vec::new(alloc))
+    }
 }
 
 #[test]
-fn hostile_code_ends_in_a_fault_or_at_the_limit(rt: HostRuntime) -> Result<(), Fail> {
-    // A word that is no instruction.
-    let faults = printed(&rt, rt.alloc(), 0, "100", b"step\nstep\n".as_slice())?;
+fn a_word_that_is_no_instruction_is_a_fault(rt: HostRuntime) -> Result<(), Fail> {
+    let image = image_with(&rt, rt.alloc(), 0)?;
+    let words = "cdbg attach --limit 100 image script input";
+    let faults = printed(rt.alloc(), words, &image, b"step\nstep\n".as_slice())?;
     assert!(rt; faults.as_slice() == b"fault 0x00010000\nfault 0x00010000\n".as_slice());
-    // A jump to itself.
-    let spins = printed(&rt, rt.alloc(), 0x6f, "50", b"step\n".as_slice())?;
+    Ok(())
+}
+
+#[test]
+fn a_jump_to_itself_meets_the_limit(rt: HostRuntime) -> Result<(), Fail> {
+    let image = image_with(&rt, rt.alloc(), 0x6f)?;
+    let words = "cdbg attach --limit 50 image script input";
+    let spins = printed(rt.alloc(), words, &image, b"step\n".as_slice())?;
     assert!(rt; spins.as_slice() == b"limit 50\n".as_slice());
     Ok(())
 }
 
-/// Words that name an image, over a shelf without one.
 #[test]
 fn an_image_may_be_absent(rt: HostRuntime) -> Result<(), Fail> {
     let mut shelf = MemShelf::new(rt.alloc(), [].as_slice())?;

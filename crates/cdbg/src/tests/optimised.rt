@@ -2,9 +2,10 @@
 
 use super::programs::DIVISION;
 use super::sessions::{
-    Session, assert_each, assert_refused, assert_said, ended, image_prints, prints, shelf,
+    Session, assert_each, assert_refused, assert_said, assert_session, ended, image_prints, prints,
+    shelf,
 };
-use std::process::Abort;
+use std::alloc::{AllocError, Global};
 use std::test::Fail;
 
 /// Copies, and assignments that nothing reads.
@@ -15,16 +16,39 @@ const COPIED: &[u8] =
 const ON_ONE_WAY: &[u8] =
     b"#include <stdio.h>\nint f(void){return getchar();}\nint main(void){\nint x=1;\nif(getchar()==65)\nx=5;\nelse{\nx=f();\nputchar(x);\n}\nputchar(66);\nreturn 0;\n}\n";
 
+/// A session that shows a variable before and behind the removals of its assignments.
+static BETWEEN_REMOVALS: Session = Session {
+    shows: "removed values are recovered until what they were copied from changes",
+    source: COPIED,
+    script: b"break 6\ncontinue\nprint x\nstep\nprint x\nbreak 10\ncontinue\nlocals\n",
+    input: b"C",
+    printed: b"break at 5\nat 5 line 6 main depth 1\nx = 0 (recovered: 2 dead removed 3)\nat 6 line 7 main depth 1\nx = 67 (recovered: 4 dead removed 5)\nbreak at 9\nout \"D\"\nat 9 line 10 main depth 1\ny = 7\nx noncurrent: 4 dead removed 5, path 5 6 7 8 9\nz = 68\n",
+};
+
+fn between_removals() -> &'static Session {
+    &BETWEEN_REMOVALS
+}
+
 /// What sessions print, by the words of each.
-static BEHIND_PASSES: [(&str, Session); 7] = [
+static BEHIND_PASSES: [(&str, Session); 8] = [
     (
-        "cdbg debug --passes copy,dead --homes slots program.c script input image",
+        "cdbg debug --passes copy --homes slots program.c script input image",
         Session {
-            shows: "removed values are recovered until what they were copied from changes",
+            shows: "a copy that is read no more leaves its variable as it was",
             source: COPIED,
-            script: b"break 6\ncontinue\nprint x\nstep\nprint x\nbreak 10\ncontinue\nlocals\n",
+            script: b"break 6\ncontinue\nprint x\n",
             input: b"C",
-            printed: b"break at 5\nat 5 line 6 main depth 1\nx = 0 (recovered: 2 dead removed 3)\nat 6 line 7 main depth 1\nx = 67 (recovered: 4 dead removed 5)\nbreak at 9\nout \"D\"\nat 9 line 10 main depth 1\ny = 7\nx noncurrent: 4 dead removed 5, path 5 6 7 8 9\nz = 68\n",
+            printed: b"break at 5\nat 5 line 6 main depth 1\nx = 0\n",
+        },
+    ),
+    (
+        "cdbg debug --passes dead --homes slots program.c script input image",
+        Session {
+            shows: "a removed assignment of a loop hides its variable in each turn",
+            source: b"#include <stdio.h>\nint main(void){\nint x=getchar();\nputchar(x);\nint i=0;\nwhile(i<2){\nx=getchar();\ni=i+1;\n}\nreturn i;\n}\n",
+            script: b"break 7\ncontinue\nprint x\ncontinue\nprint x\n",
+            input: b"ABC",
+            printed: b"break at 6\nout \"A\"\nat 6 line 7 main depth 1\nx noncurrent: 1 dead removed 6, path 6 7 5 6\nat 6 line 7 main depth 1\nx noncurrent: 1 dead removed 6, path 6 7 5 6\n",
         },
     ),
     (
@@ -100,11 +124,23 @@ fn sources_are_debugged_behind_passes(rt: HostRuntime) -> Result<(), Fail> {
 }
 
 #[test]
+fn values_are_shown_between_the_removals_of_two_passes(rt: HostRuntime) -> Result<(), Fail> {
+    let words = "cdbg debug --passes copy,dead --homes slots program.c script input image";
+    assert_session(&rt, rt.alloc(), words, between_removals())?;
+    Ok(())
+}
+
+#[test]
 fn the_changes_of_passes_are_listed(rt: HostRuntime) -> Result<(), Fail> {
-    let words = "cdbg passes --passes copy,dead program.c";
-    let printed =
+    let both = "cdbg passes --passes copy,dead program.c";
+    let removed =
         b"1 copy replaced x 6\n2 dead removed x 3\n3 dead removed z 4\n4 dead removed x 5\n".as_slice();
-    assert_said(&rt, rt.alloc(), words, COPIED, printed)?;
+    assert_said(&rt, rt.alloc(), both, COPIED, removed)?;
+    let copy = "cdbg passes --passes copy program.c";
+    let copied = b"1 copy replaced x 6\n".as_slice();
+    assert_said(&rt, rt.alloc(), copy, COPIED, copied)?;
+    let none = "cdbg passes --passes none program.c";
+    assert_said(&rt, rt.alloc(), none, COPIED, b"".as_slice())?;
     Ok(())
 }
 
@@ -113,6 +149,41 @@ fn a_run_is_summed(rt: HostRuntime) -> Result<(), Fail> {
     let printed =
         b"seed 7 size 1\nstops 14\npairs 55 home 54 recovered 0 noncurrent 0 nonresident 1\nout 1\nexit 0\n".as_slice();
     assert_said(&rt, rt.alloc(), "cdbg sweep 7 1", b"".as_slice(), printed)?;
+    Ok(())
+}
+
+/// The numbers that stand in a text, in order.
+fn numbers_in(alloc: Global, text: &[u8]) -> Result<Vec<u32>, AllocError> {
+    let mut numbers = Vec::new(alloc);
+    for word in text.split(|byte| !byte.is_ascii_digit()) {
+        if !word.is_empty() {
+            let number = word.iter().fold(0u32, |number, digit| {
+                number
+                    .wrapping_mul(10)
+                    .wrapping_add(u32::from(digit.wrapping_sub(b'0')))
+            });
+            numbers.push(number)?;
+        }
+    }
+    Ok(numbers)
+}
+
+/// What `sweep 7 400` puts out.
+fn large_sweep(alloc: Global) -> Result<Vec<u8>, AllocError> {
+    let mut shelf = shelf(alloc, b"".as_slice(), b"".as_slice(), b"".as_slice())?;
+    Ok(ended(alloc, "cdbg sweep 7 400", &mut shelf, [].as_slice())?.taken)
+}
+
+#[test]
+fn the_parts_of_a_large_run_add_up(rt: HostRuntime) -> Result<(), Fail> {
+    let printed = large_sweep(rt.alloc())?;
+    let numbers = numbers_in(rt.alloc(), &printed)?;
+    // Seed, size, stops, pairs with their four parts, bytes put out, and the ending.
+    assert!(rt; numbers.len() == 10);
+    assert!(rt; numbers.starts_with([7, 400, 812, 4045].as_slice()));
+    assert!(rt; numbers.iter().skip(4).take(4).sum::<u32>() == 4045);
+    assert!(rt; numbers.ends_with([1, 0].as_slice()));
+    assert!(rt; printed.as_slice() == large_sweep(rt.alloc())?.as_slice());
     Ok(())
 }
 
@@ -127,12 +198,10 @@ fn a_pass_that_is_not_handed_in_is_no_job(rt: HostRuntime) -> Result<(), Fail> {
 
 #[test]
 fn the_image_of_an_optimised_program_is_attached(rt: HostRuntime) -> Result<(), Fail> {
-    let script = b"break 6\ncontinue\nprint x\n".as_slice();
-    let mut shelf = shelf(rt.alloc(), COPIED, script, b"C".as_slice())?;
+    let session = between_removals();
+    let mut shelf = shelf(rt.alloc(), session.source, session.script, session.input)?;
     let words = "cdbg compile --passes copy,dead --homes slots program.c image";
     assert!(rt; prints(rt.alloc(), words, &mut shelf, b"".as_slice())?);
-    let printed =
-        b"break at 5\nat 5 line 6 main depth 1\nx = 0 (recovered: 2 dead removed 3)\n".as_slice();
-    assert!(rt; image_prints(rt.alloc(), &mut shelf, printed)?);
+    assert!(rt; image_prints(rt.alloc(), &mut shelf, session.printed)?);
     Ok(())
 }

@@ -1,9 +1,8 @@
 //! Which of two faults of a source is told.
 
-use super::{SCRIPT, job, run, shelf};
+use super::status_of;
 use debug_records::Code;
 use line_form::Status;
-use outside::MemSink;
 use std::alloc::{AllocError, Global};
 use std::test::Fail;
 
@@ -41,14 +40,14 @@ static PAIRS: [(&[u8], Code, u32); 8] = [
     ),
 ];
 
+fn pairs() -> &'static [(&'static [u8], Code, u32)] {
+    &PAIRS
+}
+
 #[test]
 fn tokens_come_before_the_grammar_and_that_before_types(rt: HostRuntime) -> Result<(), Fail> {
-    let words = job(rt.alloc())?;
-    for &(source, code, line) in PAIRS.iter() {
-        let mut shelf = shelf(rt.alloc(), source, SCRIPT, [].as_slice())?;
-        let mut sink = MemSink::new(rt.alloc(), [].as_slice())?;
-        let status = run(rt.alloc(), &words, &mut shelf, &mut sink);
-        assert!(rt; status == Status::SourceRefused(code, line));
+    for (source, code, line) in pairs() {
+        assert!(rt; status_of(rt.alloc(), *source)? == Status::SourceRefused(*code, *line));
     }
     Ok(())
 }
@@ -81,7 +80,7 @@ fn functions(
     Ok(text)
 }
 
-/// Two functions that break limits, the limit that is told, and its line.
+/// Two functions with so many empty statements each that break limits, the limit that is told, and its line.
 static LIMITS: [(&[u8], u32, &[u8], u32, Code, u32); 7] = [
     // In one function weight comes first, then objects, then parameters.
     (
@@ -145,15 +144,15 @@ static LIMITS: [(&[u8], u32, &[u8], u32, Code, u32); 7] = [
     ),
 ];
 
+fn limits() -> &'static [(&'static [u8], u32, &'static [u8], u32, Code, u32)] {
+    &LIMITS
+}
+
 #[test]
 fn limits_are_looked_at_in_their_order(rt: HostRuntime) -> Result<(), Fail> {
-    let words = job(rt.alloc())?;
-    for &(first, first_count, second, second_count, code, line) in LIMITS.iter() {
-        let source = functions(rt.alloc(), first, first_count, second, second_count)?;
-        let mut shelf = shelf(rt.alloc(), &source, SCRIPT, [].as_slice())?;
-        let mut sink = MemSink::new(rt.alloc(), [].as_slice())?;
-        let status = run(rt.alloc(), &words, &mut shelf, &mut sink);
-        assert!(rt; status == Status::SourceRefused(code, line));
+    for (first, first_count, second, second_count, code, line) in limits() {
+        let source = functions(rt.alloc(), *first, *first_count, *second, *second_count)?;
+        assert!(rt; status_of(rt.alloc(), &source)? == Status::SourceRefused(*code, *line));
     }
     Ok(())
 }
@@ -172,7 +171,6 @@ fn with_many_pairs(alloc: Global, before: &[u8], count: u32) -> Result<Vec<u8>, 
 
 #[test]
 fn visible_pairs_are_the_last_limit(rt: HostRuntime) -> Result<(), Fail> {
-    let words = job(rt.alloc())?;
     let cases: [(&[u8], u32, Code); 3] = [
         (b"", 0, Code::VISIBLE_PAIRS),
         (b"char s[1048576];", 0, Code::STATIC_OBJECTS),
@@ -180,22 +178,15 @@ fn visible_pairs_are_the_last_limit(rt: HostRuntime) -> Result<(), Fail> {
     ];
     for (before, count, code) in cases {
         let source = with_many_pairs(rt.alloc(), before, count)?;
-        let mut shelf = shelf(rt.alloc(), &source, SCRIPT, [].as_slice())?;
-        let mut sink = MemSink::new(rt.alloc(), [].as_slice())?;
-        let status = run(rt.alloc(), &words, &mut shelf, &mut sink);
-        assert!(rt; status == Status::SourceRefused(code, 1));
+        assert!(rt; status_of(rt.alloc(), &source)? == Status::SourceRefused(code, 1));
     }
     Ok(())
 }
 
 #[test]
 fn a_text_that_is_too_long_is_refused_for_that(rt: HostRuntime) -> Result<(), Fail> {
-    let words = job(rt.alloc())?;
     let mut source = Vec::new(rt.alloc());
     push_statements(&mut source, b"@", 1_048_576, b"")?;
-    let mut shelf = shelf(rt.alloc(), &source, SCRIPT, [].as_slice())?;
-    let mut sink = MemSink::new(rt.alloc(), [].as_slice())?;
-    let status = run(rt.alloc(), &words, &mut shelf, &mut sink);
-    assert!(rt; status == Status::SourceRefused(Code::TEXT_SIZE, 1));
+    assert!(rt; status_of(rt.alloc(), &source)? == Status::SourceRefused(Code::TEXT_SIZE, 1));
     Ok(())
 }

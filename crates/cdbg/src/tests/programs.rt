@@ -13,7 +13,7 @@ use std::test::Fail;
 const IN_REGISTERS: &str =
     "cdbg debug --passes none --homes registers program.c script input image";
 
-const LIMITED: &str = "cdbg debug --passes none --limit 100 program.c script input image";
+const BY_DEFAULT: &str = "cdbg debug program.c script input image";
 
 const COMPILED: &str = "cdbg compile --passes none program.c image";
 
@@ -21,8 +21,8 @@ const COMPILED: &str = "cdbg compile --passes none program.c image";
 pub(super) const DIVISION: &[u8] =
     b"#include <stdio.h>\n#include <stdlib.h>\nvoid g(int b){if(b==0)exit(3);}\nint main(void){\nint a=8;\nint b=getchar()-48;\nint x=0;\nint i=0;\ndo{\ng(b);\nx=a/b;\nputchar(48+x);\ni=i+1;\n}while(i<2);\nreturn x;\n}\n";
 
-/// What sessions print with variables in slots and in registers alike.
-static IN_BOTH: [Session; 15] = [
+/// What sessions print with variables in slots and in registers, by passes and without, alike.
+static IN_EACH: [Session; 5] = [
     Session {
         shows: "an empty main ends with zero",
         source: b"int main(){}\n",
@@ -37,6 +37,35 @@ static IN_BOTH: [Session; 15] = [
         input: b"",
         printed: b"at 2 line 1 main depth 1\nat 3 line 1 main depth 1\nat 5 line 1 main depth 1\nat 6 line 1 main depth 1\n",
     },
+    Session {
+        shows: "a thousand and twenty four activations may live",
+        source: b"int f(int n){if(n==0)return 0;return f(n-1)+1;}\nint main(void){return f(1022);}\n",
+        script: b"continue\n",
+        input: b"",
+        printed: b"exit 1022\n",
+    },
+    Session {
+        shows: "one activation more ends the run",
+        source: b"int f(int n){if(n==0)return 0;return f(n-1)+1;}\nint main(void){return f(1023);}\n",
+        script: b"continue\n",
+        input: b"",
+        printed: b"depth\n",
+    },
+    Session {
+        shows: "unsigned constants are compared as unsigned",
+        source: b"int main(void){return 2147483648u>0u;}\n",
+        script: b"continue\n",
+        input: b"",
+        printed: b"exit 1\n",
+    },
+];
+
+fn in_each() -> &'static [Session] {
+    &IN_EACH
+}
+
+/// What sessions print with variables in slots and in registers alike, where no pass changes the program.
+static IN_BOTH: [Session; 10] = [
     Session {
         shows: "an outer activation and a call's value are shown",
         source: b"#include <stdio.h>\nint f(void){return getchar();}\nint main(void){\nint x=1;\nif(getchar()==65)\nx=5;\nelse{\nx=f();\nputchar(x);\n}\nputchar(66);\nreturn 0;\n}\n",
@@ -64,27 +93,6 @@ static IN_BOTH: [Session; 15] = [
         script: b"continue\n",
         input: b"0",
         printed: b"exit 3\n",
-    },
-    Session {
-        shows: "a thousand and twenty four activations may live",
-        source: b"int f(int n){if(n==0)return 0;return f(n-1)+1;}\nint main(void){return f(1022);}\n",
-        script: b"continue\n",
-        input: b"",
-        printed: b"exit 1022\n",
-    },
-    Session {
-        shows: "one activation more ends the run",
-        source: b"int f(int n){if(n==0)return 0;return f(n-1)+1;}\nint main(void){return f(1023);}\n",
-        script: b"continue\n",
-        input: b"",
-        printed: b"depth\n",
-    },
-    Session {
-        shows: "unsigned constants are compared as unsigned",
-        source: b"int main(void){return 2147483648u>0u;}\n",
-        script: b"continue\n",
-        input: b"",
-        printed: b"exit 1\n",
     },
     Session {
         shows: "an array and pointers are shown",
@@ -136,13 +144,21 @@ fn in_both() -> &'static [Session] {
 
 #[test]
 fn sources_are_debugged_in_slots(rt: HostRuntime) -> Result<(), Fail> {
+    assert_all(&rt, rt.alloc(), IN_SLOTS, in_each())?;
     assert_all(&rt, rt.alloc(), IN_SLOTS, in_both())?;
     Ok(())
 }
 
 #[test]
 fn sources_are_debugged_in_registers(rt: HostRuntime) -> Result<(), Fail> {
+    assert_all(&rt, rt.alloc(), IN_REGISTERS, in_each())?;
     assert_all(&rt, rt.alloc(), IN_REGISTERS, in_both())?;
+    Ok(())
+}
+
+#[test]
+fn sources_are_debugged_by_default(rt: HostRuntime) -> Result<(), Fail> {
+    assert_all(&rt, rt.alloc(), BY_DEFAULT, in_each())?;
     Ok(())
 }
 
@@ -207,7 +223,10 @@ fn a_loop_without_end_meets_the_limit(rt: HostRuntime) -> Result<(), Fail> {
     let script = b"step\nstep\ncontinue\n".as_slice();
     let printed = b"at 2 line 1 main depth 1\nat 2 line 1 main depth 1\nlimit 100\n".as_slice();
     let mut shelf = shelf(rt.alloc(), source, script, b"".as_slice())?;
-    assert!(rt; prints(rt.alloc(), LIMITED, &mut shelf, printed)?);
+    let limited = "cdbg debug --limit 100 program.c script input image";
+    assert!(rt; prints(rt.alloc(), limited, &mut shelf, printed)?);
+    let unchanged = "cdbg debug --passes none --limit 100 program.c script input image";
+    assert!(rt; prints(rt.alloc(), unchanged, &mut shelf, printed)?);
     Ok(())
 }
 

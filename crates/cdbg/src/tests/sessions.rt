@@ -116,7 +116,7 @@ fn holds(alloc: Global, words: &str, session: &Session) -> Result<bool, AllocErr
 }
 
 /// A session by these words prints what it should, and so does the image that it saved.
-fn assert_session(
+pub(super) fn assert_session(
     rt: &impl Abort,
     alloc: Global,
     words: &str,
