@@ -22,10 +22,11 @@ pub record AreAll {A : Type 0} (IsOne : A → Type 0) (all : List A) : Type 0 wh
   pub each : (a : A) → IsOne a → Contains all a
   pub once : AllPairs (λ a b. a ≢ b) all
 
--- Those that are so and have a number below this one; those that have this number.
+-- It is so, and its number is below this one.
 abbrev pub Below : {A : Type 0} (IsOne : A → Type 0) (number : A → ℕ) (k : ℕ) → A → Type 0
 Below IsOne number k a = IsOne a × (number a < k)
 
+-- It is so, and has this number.
 abbrev pub Numbered : {A : Type 0} (IsOne : A → Type 0) (number : A → ℕ) (k : ℕ) → A → Type 0
 Numbered IsOne number k a = IsOne a × (number a ≡ k)
 

@@ -1,6 +1,6 @@
 //! Names that are read at one point of both graphs.
 
-ghost use Rattle.std.specs.Prelude.{◌≡◌, ℕ, ◌+◌, ◌++◌, [], ◌∷◌, IfOk, IfSome, MatchOption, map, option_map, slice_get, true};
+ghost use Rattle.std.specs.Prelude.{◌≡◌, ℕ, IfOk, IfSome, MatchOption, map, option_map, slice_get, true};
 ghost use Rattle.graph_core.specs.Graphs.{Scalar as ScalarOf, scalar_view};
 ghost use Rattle.graph_core.specs.Uses.{numbers};
 ghost use Rattle.debug_records.specs.declared.change.Var as declared-var;

@@ -1,4 +1,4 @@
-use Rattle.std.proofs.Common.{arith, length, map}
+use Rattle.std.proofs.Common.{arith}
 use Rattle.std.proofs.lemmas.List.{length-map}
 use Rattle.graph_core.specs.Graphs.{block_view, graph_view}
 use Rattle.replaced_reads.proofs.OfBlocks.{block_next, blocks_done, blocks_first}
