@@ -4,8 +4,6 @@
 mod blocks;
 mod graphs;
 mod propagation;
-mod reader;
-mod reading;
 mod regions;
 mod sources;
 

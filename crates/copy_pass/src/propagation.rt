@@ -6,13 +6,16 @@ ghost use Rattle.debug_records.specs.declared.change.Kind.TheVariants.{Replaced}
 ghost use Rattle.graph_core.specs.Graphs.{graph_view, unit_view};
 ghost use Rattle.graph_core.specs.Validity.{IsValid};
 ghost use Rattle.copy_rule.specs.Copying.{IsPropagated};
+ghost use Rattle.graph_edits.specs.Changes.{AddsChangesOf};
 ghost use Rattle.graph_edits.specs.Kept.{AddsChanges, EachFunction, KeepsAllButBlocks, ShareTheSame};
+ghost use Rattle.replaced_reads.specs.Reads.{IsReplacedRead};
 
-use crate::graphs::propagate;
+use crate::graphs::copies_of;
 use copy_rule::propagated;
 use debug_records::{Kind, PassName};
 use graph_core::{Graph, Unit};
-use graph_edits::{Case, log_cases};
+use graph_edits::log_cases;
+use replaced_reads::replaced_reads;
 use std::alloc::{AllocError, Global};
 
 /// The name of the pass.
@@ -25,35 +28,25 @@ fn copy_name() -> PassName
     }
 }
 
-/// The graph with its copies propagated, and the reads that changed behind those that are told.
+/// The graph with its copies propagated.
 ///
 /// The search goes along a graph once and says which copies there are in the end. By these the graph is read, and seen to make just them.
-fn graph_after(
-    alloc: Global,
-    graph: &Graph,
-    cases: &mut Vec<Case>,
-) -> Result<Option<Graph>, AllocError>
+fn graph_after(alloc: Global, graph: &Graph) -> Result<Option<Graph>, AllocError>
     ensures { IfOk result (λ o. IfSome o (λ v. IsPropagated (graph_view graph.now) (graph_view v))) }
 {
-    let mut ahead = graph.duplicate(alloc)?;
-    let mut found = propagate(alloc, graph.entry, &graph.scalars, &mut ahead.blocks)?;
-    cases.append(&mut found.cases)?;
-    let made = propagated(alloc, graph, &found.copies)?;
+    let copies = copies_of(alloc, &graph.scalars, &graph.blocks)?;
+    let made = propagated(alloc, graph, &copies)?;
     Ok(made)
 }
 
 /// The graphs with their copies propagated, one after the other.
-fn graphs_after(
-    alloc: Global,
-    graphs: &[Graph],
-    cases: &mut Vec<Case>,
-) -> Result<Option<Vec<Graph>>, AllocError>
+fn graphs_after(alloc: Global, graphs: &[Graph]) -> Result<Option<Vec<Graph>>, AllocError>
     ensures { IfOk result (λ o. IfSome o (λ all. EachFunction IsPropagated (map graph_view graphs.now) (map graph_view all.items))) }
 {
     let mut made = Vec::new(alloc);
     let mut left = graphs;
     while let [graph, rest @ ..] = left {
-        let Some(next) = graph_after(alloc, graph, cases)? else {
+        let Some(next) = graph_after(alloc, graph)? else {
             return Ok(None);
         };
         made.push(next)?;
@@ -65,21 +58,24 @@ fn graphs_after(
 /// Copy propagation (Aho, Lam, Sethi and Ullman 2006, section 9.1): a read of a scalar becomes a read of another one of the same C type where one
 /// instruction that copies that one to it reaches on every path from the function's entry with neither written since, until there is no such read. In code that no path
 /// reaches nothing changes. The log tells each read that became another by a change `Replaced` of the pass `copy`: of the place, and of the variable
-/// that was read before; in order of place, and then as the reads stand in the graph.
+/// that was read before; in order of place, then of block, instruction and operand.
 ///
-/// None where the search for copies told others than those that the unit then makes, or the unit so made is not valid or has 2^31 changes or more, which
-/// no unit is known to meet. `AllocError` where memory was refused.
+/// None where the search for copies told others than those that the unit then makes, the unit so made is not valid, or a number of its blocks, instructions or
+/// changes is too large for the log, which no unit is known to meet. `AllocError` where memory was refused.
 pub fn propagate_copies(alloc: Global, unit: &Unit) -> Result<Option<Unit>, AllocError>
     requires valid { IsValid (unit_view unit.now) }
     requires room { length (unit_view unit.now).log < 2 ^ 31 }
     ensures valid { IfOk result (λ o. IfSome o (λ v. IsValid (unit_view v))) }
     ensures shared { IfOk result (λ o. IfSome o (λ v. ShareTheSame (unit_view unit.now) (unit_view v))) }
     ensures log { IfOk result (λ o. IfSome o (λ v. AddsChanges (pass_name (codes "copy")) Replaced (unit_view unit.now) (unit_view v))) }
+    ensures changes { IfOk result (λ o. IfSome o (λ v. AddsChangesOf (pass_name (codes "copy")) Replaced IsReplacedRead (unit_view unit.now) (unit_view v))) }
     ensures functions { IfOk result (λ o. IfSome o (λ v. EachFunction KeepsAllButBlocks (unit_view unit.now).graphs (unit_view v).graphs)) }
     ensures exact { IfOk result (λ o. IfSome o (λ v. EachFunction IsPropagated (unit_view unit.now).graphs (unit_view v).graphs)) }
 {
-    let mut cases = Vec::new(alloc);
-    let Some(graphs) = graphs_after(alloc, &unit.graphs, &mut cases)? else {
+    let Some(graphs) = graphs_after(alloc, &unit.graphs)? else {
+        return Ok(None);
+    };
+    let Some(mut cases) = replaced_reads(alloc, &unit.graphs, &graphs)? else {
         return Ok(None);
     };
     let mut made = unit.duplicate(alloc)?;

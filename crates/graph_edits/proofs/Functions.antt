@@ -3,7 +3,7 @@ use Rattle.std.proofs.Common.{◌≡◌, ◌-◌, ◌<◌, ◌≤◌, ℕ, zero,
 use Rattle.std.specs.Prelude.{slice_set}
 use Rattle.std.proofs.Math.Seq.{take-length}
 use Rattle.graph_core.specs.Graphs.{Graph}
-use Rattle.graph_edits.specs.Kept.{EachFunction, KeepsFunction, KeepsAllButBlocks}
+use Rattle.graph_edits.specs.Kept.{EachFunction, KeepsAllButBlocks}
 
 -- What is left of the functions, behind those that stand in their new form.
 pub data Left (IsMade : Graph → Graph → Type 0) (gs hs left : List Graph) : Type 0 where

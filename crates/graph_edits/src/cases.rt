@@ -2,7 +2,9 @@
 
 ghost use Rattle.std.specs.Prelude.{◌≡◌, ◌<◌, ◌^◌, ◌++◌, IfOk, false, length, true};
 ghost use Rattle.debug_records.specs.Change.{changes};
+ghost use Rattle.std.specs.List.Sorted.{IsPermutation};
 ghost use Rattle.graph_edits.specs.Cases.{logged};
+ghost use Rattle.graph_edits.specs.Changes.{AreInOrder};
 
 use debug_records::{ChangeLog, Kind, PassName, Place, Var};
 use std::alloc::AllocError;
@@ -20,7 +22,7 @@ pub struct Case {
     pub var: Var,
 }
 
-/// Appends a change for each case to the log, in order of the cases. False, with nothing appended, where there are 2^31 of them or more.
+/// Puts the cases in order, and appends a change for each to the log. False, with nothing appended, where there are 2^31 of them or more.
 pub fn log_cases(
     log: &mut ChangeLog,
     pass: PassName,
@@ -29,6 +31,8 @@ pub fn log_cases(
 ) -> Result<bool, AllocError>
     requires room { length (changes log.old) < 2 ^ 31 }
     ensures logged { IfOk result (λ was. was ≡ true → changes log.new ≡ changes log.old ++ logged pass kind (length (changes log.old)) cases.new) }
+    ensures same { IfOk result (λ was. was ≡ true → IsPermutation cases.old cases.new) }
+    ensures in_order { IfOk result (λ was. was ≡ true → AreInOrder cases.new) }
     ensures kept { IfOk result (λ was. was ≡ false → changes log.new ≡ changes log.old) }
 {
     if cases.len() >= 0x8000_0000 {

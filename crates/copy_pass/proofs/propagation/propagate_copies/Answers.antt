@@ -1,16 +1,29 @@
-use Rattle.std.proofs.Common.{map, refl, subst}
+use Rattle.std.proofs.Common.{map, refl, subst, sym}
 use Rattle.std.specs.Prelude.{IfSome}
 use Rattle.debug_records.specs.declared.change.Kind.TheVariants.{Replaced}
 use Rattle.graph_core.specs.Graphs.{graph_view}
+use Rattle.graph_edits.specs.Changes.{AreCasesOf}
 use Rattle.graph_edits.specs.Kept.{EachFunction}
-use Rattle.graph_edits.proofs.Log.{changes_added}
+use Rattle.graph_edits.proofs.Log.{changes_added, changes_of_cases}
 use Rattle.copy_rule.specs.Copying.{IsPropagated}
+use Rattle.replaced_reads.specs.Reads.{IsReplacedRead}
 use Rattle.copy_pass.proofs.Keeping.{each_keeps}
 use Rattle.copy_pass.proofs.propagation.propagate_copies.Goals as goal
 
 pub returns-then-is_valid-clause-log : goal.returns-then-is_valid-clause-log
 returns-then-is_valid-clause-log c =
     changes_added c.copy_name.result _ Replaced c.in_ok-made.made _ _ _ _ _ refl (c.in_ok-log_cases.ensures.logged c.if-not-branch.false) c.in_ok-made.ensures c.copy_name.ensures
+
+pub returns-then-is_valid-clause-changes : goal.returns-then-is_valid-clause-changes
+returns-then-is_valid-clause-changes c =
+    let before = map graph_view c.args.unit.now.graphs.items in
+    let after = map graph_view c.in-Some.graphs.items in
+    let are = subst (λ o. IfSome o (λ cases. AreCasesOf IsReplacedRead before after cases.items)) c.in-Some-2.is
+    (subst (λ ys. IfSome c.in_ok-cases.field-0 (λ cases. AreCasesOf IsReplacedRead before (map graph_view ys) cases.items)) c.deref-3.ensures.value
+    (subst (λ xs. IfSome c.in_ok-cases.field-0 (λ cases. AreCasesOf IsReplacedRead (map graph_view xs) (map graph_view c.deref-3.result.now) cases.items)) c.deref-2.ensures.value c.in_ok-cases.ensures)) in
+    changes_of_cases c.copy_name.result _ Replaced IsReplacedRead c.in_ok-made.made _ _ _ _ _ _ refl (c.in_ok-log_cases.ensures.logged c.if-not-branch.false) c.in_ok-made.ensures c.copy_name.ensures
+    (subst (AreCasesOf IsReplacedRead before after) (sym c.deref_mut.ensures.value) are)
+    (c.in_ok-log_cases.ensures.same c.if-not-branch.false) (c.in_ok-log_cases.ensures.in_order c.if-not-branch.false)
 
 pub returns-then-is_valid-clause-functions : goal.returns-then-is_valid-clause-functions
 returns-then-is_valid-clause-functions c =

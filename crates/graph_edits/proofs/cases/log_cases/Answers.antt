@@ -1,4 +1,5 @@
 use Rattle.std.proofs.Common.{arith}
+use Rattle.graph_edits.proofs.InOrder.{in_order}
 use Rattle.graph_edits.proofs.Logging.{longer, one_more}
 use Rattle.graph_edits.proofs.cases.log_cases.Goals as goal
 
@@ -11,3 +12,6 @@ loop-case-preserved c = record {
   few = c.loop-case.invariant.few;
   left = one_more c.args.pass c.args.kind _ _ c.sort_unstable.new.self c.loop-case.case-index _ _ _ c.loop-case-test.true c.in_ok-push.ensures.number c.in_ok-push.ensures.appended c.loop-case.invariant.left;
 }
+
+pub returns-clause-in_order : goal.returns-clause-in_order
+returns-clause-in_order c = λ _. in_order _ c.sort_unstable.ensures.sorted

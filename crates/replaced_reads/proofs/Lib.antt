@@ -1,0 +1,3 @@
+mod Instructions
+mod OfBlocks
+mod Operands
