@@ -1,3 +1,3 @@
-pub mod Tokens
+pub mod Levels
 pub mod Loops
 pub mod ElseChains

@@ -1,19 +1,19 @@
 -- Declarations of objects, and initializers.
-use Rattle.std.specs.Prelude.{ℕ, zero, suc, Bool, true, false, ◌||◌, if◌then◌else◌, List, [], ◌∷◌, ◌++◌, length, Option, Some, None, Result, Ok, Err}
+use Rattle.std.specs.Prelude.{ℕ, zero, suc, Bool, true, false, ◌||◌, if◌then◌else◌, List, [], ◌∷◌, ◌++◌, length, Option, Some, None, Ok, Err}
 use Rattle.std.specs.Option.{option_map_or}
 use Rattle.c_token.specs.Lexemes.{Lexeme, Word}
 use Rattle.c_token.specs.Lexemes as word
 use Rattle.c_tree.specs.declared.types.IntegerType.{IntegerType}
 use Rattle.c_tree.specs.Expressions.{NameTree}
 use Rattle.c_tree.specs.Declarations.{BracketsTree, Absent, Empty, Sized, InitializerTree, Value, Braces, chain, DeclaratorTree, DeclarationTree}
-use Rattle.c_parse.specs.declared.expression.Sort.TheVariants as sort
-use Rattle.c_parse.specs.declared.mark.Mark.TheVariants as mark
-use Rattle.c_parse.specs.declared.specifiers.Place.TheVariants as place
-use Rattle.c_parse.specs.Outcome.{Parser, ◌>>=◌}
-use Rattle.c_parse.specs.Front.{stuck, refusal, is_at, behind, want, extent_before, separated}
-use Rattle.c_parse.specs.Operators.{begins_expression}
-use Rattle.c_parse.specs.Specifiers.{specifiers, integer_type, stars}
-use Rattle.c_parse.specs.Expressions.{Nesting, nested, assignment, nesting}
+use Rattle.c_parse_expressions.specs.declared.expression.Sort.TheVariants as sort
+use Rattle.c_parse_tokens.specs.declared.mark.Mark.TheVariants as mark
+use Rattle.c_parse_tokens.specs.declared.specifier.Place.TheVariants as place
+use Rattle.c_parse_tokens.specs.Outcome.{Parser, ◌>>=◌}
+use Rattle.c_parse_tokens.specs.Front.{stuck, refusal, is_at, behind, want, extent_before, separated}
+use Rattle.c_parse_tokens.specs.Operators.{begins_expression}
+use Rattle.c_parse_tokens.specs.Specifiers.{specifiers, integer_type, stars}
+use Rattle.c_parse_expressions.specs.Expressions.{Nesting, nested, assignment, nesting}
 
 -- the name at the front
 abbrev pub identifier_of : Word → Lexeme → Parser NameTree

@@ -6,4 +6,4 @@ use Rattle.c_parse.specs.declared.statement.ForHeader.{ForHeader}
 use Rattle.c_parse.specs.Statements.{HeaderTree}
 
 abbrev pub header_view : ForHeader → HeaderTree
-header_view h = record { start = start_view h.start; condition = option_map expression_view h.condition; step = option_map expression_view h.step }
+header_view h = record { start = start_view h.start.value; condition = option_map (λ e. expression_view e.value) h.condition; step = option_map (λ e. expression_view e.value) h.step }

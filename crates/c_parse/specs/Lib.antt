@@ -1,8 +1,3 @@
-pub mod Outcome
-pub mod Front
-pub mod Operators
-pub mod Specifiers
-pub mod Expressions
 pub mod Declarations
 pub mod Statements
 pub mod Headers

@@ -9,15 +9,15 @@ use Rattle.c_token.specs.Lexemes as word
 use Rattle.c_tree.specs.Expressions.{ExpressionTree}
 use Rattle.c_tree.specs.Statements.{StartTree, StatementTree, BlockTree, BranchTree, LabelTree, CaseLabel, DefaultLabel, if_tree, else_tree, behind_labels, block_tree, chain}
 use Rattle.c_tree.specs.Statements as tree
-use Rattle.c_parse.specs.declared.expression.Sort.TheVariants as sort
-use Rattle.c_parse.specs.declared.mark.Mark.{Mark}
-use Rattle.c_parse.specs.declared.mark.Mark.TheVariants as mark
-use Rattle.c_parse.specs.Outcome.{Parser, ◌>>=◌}
-use Rattle.c_parse.specs.declared.fault.Stuck.{Stuck}
-use Rattle.c_parse.specs.Front.{stuck, refusal, inside, one_less, is_at, behind, want, spot_at, last_before, extent_before}
-use Rattle.c_parse.specs.Operators.{begins_expression}
-use Rattle.c_parse.specs.Specifiers.{begins_type}
-use Rattle.c_parse.specs.Expressions.{Nesting, nested, conditional, comma, nesting}
+use Rattle.c_parse_expressions.specs.declared.expression.Sort.TheVariants as sort
+use Rattle.c_parse_tokens.specs.declared.mark.Mark.{Mark}
+use Rattle.c_parse_tokens.specs.declared.mark.Mark.TheVariants as mark
+use Rattle.c_parse_tokens.specs.Outcome.{Parser, ◌>>=◌}
+use Rattle.c_parse_tokens.specs.declared.fault.Stuck.{Stuck}
+use Rattle.c_parse_tokens.specs.Front.{stuck, refusal, inside, one_less, is_at, behind, want, spot_at, last_before, extent_before}
+use Rattle.c_parse_tokens.specs.Operators.{begins_expression}
+use Rattle.c_parse_tokens.specs.Specifiers.{begins_type}
+use Rattle.c_parse_expressions.specs.Expressions.{Nesting, nested, conditional, comma, nesting}
 use Rattle.c_parse.specs.Declarations.{declaration}
 
 -- a token that begins a statement and no expression
@@ -84,6 +84,14 @@ expression_statement nest ts = comma nest ts >>= λ e. want mark.Semicolon e.1 >
 unfoldable pub return_statement : Nesting → (start : List Lexeme) → Parser StatementTree
 return_statement nest start ts =
     optional nest mark.Semicolon ts >>= λ e. want mark.Semicolon e.1 >>= λ rest. Ok (tree.Return (extent_before start rest) e.0, rest)
+
+-- a `break` that begins at the start, behind its word
+abbrev pub break_statement : (start : List Lexeme) → Parser StatementTree
+break_statement start ts = want mark.Semicolon ts >>= λ rest. Ok (tree.Break (extent_before start rest), rest)
+
+-- a `continue` that begins at the start, behind its word
+abbrev pub continue_statement : (start : List Lexeme) → Parser StatementTree
+continue_statement start ts = want mark.Semicolon ts >>= λ rest. Ok (tree.Continue (extent_before start rest), rest)
 
 -- a label, if one stands at the front
 abbrev pub label_of : Nesting → Word → Lexeme → List Lexeme → Result (Option (LabelTree × List Lexeme)) Stuck

@@ -5,17 +5,16 @@ ghost use Rattle.std.specs.Option.{option_map};
 ghost use Rattle.c_token.specs.Lexemes.{lexemes};
 ghost use Rattle.c_tree.specs.Expressions.{identifier_view};
 ghost use Rattle.c_tree.specs.Declarations.{brackets_view, initializer_view, declarator_view, declaration_view};
-ghost use Rattle.c_parse.specs.Outcome.{Gives};
-ghost use Rattle.c_parse.specs.Front.{separated};
-ghost use Rattle.c_parse.specs.Expressions.{nesting};
+ghost use Rattle.c_parse_tokens.specs.Outcome.{Gives};
+ghost use Rattle.c_parse_tokens.specs.Front.{separated};
+ghost use Rattle.c_parse_expressions.specs.Expressions.{nesting};
 ghost use Rattle.c_parse.specs.Declarations.{identifier, brackets, initialized, named_declarator, declarator, begun_declaration, declaration};
 
-use crate::expression::{Sort, nested};
-use crate::fault::ParseErr;
-use crate::front::{behind, extent_before, stuck, want};
 use crate::initializer::initializer;
-use crate::mark::Mark;
-use crate::specifiers::{Place, specifiers, stars};
+use c_parse_expressions::{Sort, nested, node, push};
+use c_parse_tokens::{
+    Mark, ParseErr, Place, behind, extent_before, given, specifiers, stars, stuck, want,
+};
 use c_token::{Kind, Token};
 use c_tree::{Brackets, Declaration, Declarator, Identifier, Initializer, IntegerType};
 use std::alloc::Global;
@@ -46,19 +45,20 @@ pub fn brackets(
     alloc: Global,
     depth: u32,
     tokens: &[Token],
-) -> Result<(Brackets, &[Token]), ParseErr>
-    ensures reads { Gives (λ x. (brackets_view x.0, lexemes x.1.now)) result (brackets (nesting depth) (lexemes tokens.now)) }
+) -> Result<(Box<Brackets>, &[Token]), ParseErr>
+    ensures reads { Gives (λ x. (brackets_view x.0.value, lexemes x.1.now)) result (brackets (nesting depth) (lexemes tokens.now)) }
     ensures not_longer { IfOk result (λ x. length x.1.now ≤ length tokens.now) }
 {
     let Some(inside) = behind(Mark::OpenBracket, tokens) else {
-        return Ok((Brackets::Absent, tokens));
+        return Ok((given!(node(alloc, Brackets::Absent)), tokens));
     };
     if let Some(rest) = behind(Mark::CloseBracket, inside) {
-        return Ok((Brackets::Empty, rest));
+        return Ok((given!(node(alloc, Brackets::Empty)), rest));
     }
-    let (size, rest) = nested(alloc, depth, Sort::Assignment, inside)?;
-    let rest = want(Mark::CloseBracket, rest)?;
-    Ok((Brackets::Sized(size), rest))
+    let (size, rest) = given!(nested(alloc, depth, Sort::Assignment, inside));
+    let rest = given!(want(Mark::CloseBracket, rest));
+    let sized = Brackets::Sized(Box::into_inner(size));
+    Ok((given!(node(alloc, sized)), rest))
 }
 
 /// The initializer behind `=`, if one stands at the front. Behind empty brackets one has to stand.
@@ -68,8 +68,8 @@ fn initialized<'t>(
     depth: u32,
     brackets: &Brackets,
     tokens: &'t [Token],
-) -> Result<(Option<Initializer>, &'t [Token]), ParseErr>
-    ensures reads { Gives (λ x. (option_map initializer_view x.0, lexemes x.1.now)) result (initialized depth (brackets_view brackets.now) (lexemes tokens.now)) }
+) -> Result<(Option<Box<Initializer>>, &'t [Token]), ParseErr>
+    ensures reads { Gives (λ x. (option_map (λ i. initializer_view i.value) x.0, lexemes x.1.now)) result (initialized depth (brackets_view brackets.now) (lexemes tokens.now)) }
     ensures not_longer { IfOk result (λ x. length x.1.now ≤ length tokens.now) }
 {
     let Some(rest) = behind(Mark::Equal, tokens) else {
@@ -78,8 +78,18 @@ fn initialized<'t>(
         }
         return Ok((None, tokens));
     };
-    let (initializer, rest) = initializer(alloc, depth, rest)?;
+    let (initializer, rest) = given!(initializer(alloc, depth, rest));
     Ok((Some(initializer), rest))
+}
+
+/// The initializer that a box holds, if there is one.
+fn held(initializer: Option<Box<Initializer>>) -> Option<Initializer>
+    ensures { option_map initializer_view result ≡ option_map (λ i. initializer_view i.value) initializer }
+{
+    match initializer {
+        None => None,
+        Some(initializer) => Some(Box::into_inner(initializer)),
+    }
 }
 
 /// The declarator of an object, whose name has been read.
@@ -91,21 +101,21 @@ pub fn named_declarator<'t>(
     stars: usize,
     identifier: Identifier,
     tokens: &'t [Token],
-) -> Result<(Declarator, &'t [Token]), ParseErr>
+) -> Result<(Box<Declarator>, &'t [Token]), ParseErr>
     requires { length tokens.now < length start.now }
-    ensures reads { Gives (λ x. (declarator_view x.0, lexemes x.1.now)) result (named_declarator depth (lexemes start.now) stars (identifier_view identifier) (lexemes tokens.now)) }
+    ensures reads { Gives (λ x. (declarator_view x.0.value, lexemes x.1.now)) result (named_declarator depth (lexemes start.now) stars (identifier_view identifier) (lexemes tokens.now)) }
     ensures not_longer { IfOk result (λ x. length x.1.now ≤ length tokens.now) }
 {
-    let (brackets, rest) = brackets(alloc, depth, tokens)?;
-    let (initializer, rest) = initialized(alloc, depth, &brackets, rest)?;
+    let (brackets, rest) = given!(brackets(alloc, depth, tokens));
+    let (initializer, rest) = given!(initialized(alloc, depth, &brackets, rest));
     let declarator = Declarator {
         extent: extent_before(start, rest),
         stars,
         identifier,
-        brackets,
-        initializer,
+        brackets: Box::into_inner(brackets),
+        initializer: held(initializer),
     };
-    Ok((declarator, rest))
+    Ok((given!(node(alloc, declarator)), rest))
 }
 
 /// The declarator of an object.
@@ -114,12 +124,12 @@ fn declarator(
     alloc: Global,
     depth: u32,
     tokens: &[Token],
-) -> Result<(Declarator, &[Token]), ParseErr>
-    ensures reads { Gives (λ x. (declarator_view x.0, lexemes x.1.now)) result (declarator depth (lexemes tokens.now)) }
+) -> Result<(Box<Declarator>, &[Token]), ParseErr>
+    ensures reads { Gives (λ x. (declarator_view x.0.value, lexemes x.1.now)) result (declarator depth (lexemes tokens.now)) }
     ensures shorter { IfOk result (λ x. length x.1.now < length tokens.now) }
 {
     let (stars, rest) = stars(tokens);
-    let (identifier, rest) = identifier(alloc, rest)?;
+    let (identifier, rest) = given!(identifier(alloc, rest));
     named_declarator(alloc, depth, tokens, stars, identifier, rest)
 }
 
@@ -127,20 +137,20 @@ fn declarator(
 fn declarators(
     alloc: Global,
     depth: u32,
-    first: Declarator,
+    first: Box<Declarator>,
     tokens: &[Token],
 ) -> Result<(Vec<Declarator>, &[Token]), ParseErr>
     ensures reads { Gives (λ x. (map declarator_view x.0.items, lexemes x.1.now)) result
-        (separated (length (lexemes tokens.now)) (declarator depth) (declarator_view first ∷ [])
+        (separated (length (lexemes tokens.now)) (declarator depth) (declarator_view first.value ∷ [])
         (lexemes tokens.now)) }
     ensures not_longer { IfOk result (λ x. length x.1.now ≤ length tokens.now) }
 {
     let mut declarators = Vec::new(alloc);
-    declarators.push(first)?;
+    push(&mut declarators, first)?;
     let mut rest = tokens;
     while let Some(after) = behind(Mark::Comma, rest) {
         let (next, behind) = declarator(alloc, depth, after)?;
-        declarators.push(next)?;
+        push(&mut declarators, next)?;
         rest = behind;
     }
     Ok((declarators, rest))
@@ -153,15 +163,15 @@ pub fn begun_declaration<'t>(
     depth: u32,
     start: &[Token],
     integer_type: IntegerType,
-    first: Declarator,
+    first: Box<Declarator>,
     tokens: &'t [Token],
 ) -> Result<(Declaration, &'t [Token]), ParseErr>
     requires { length tokens.now < length start.now }
-    ensures reads { Gives (λ x. (declaration_view x.0, lexemes x.1.now)) result (begun_declaration depth (lexemes start.now) integer_type (declarator_view first) (lexemes tokens.now)) }
+    ensures reads { Gives (λ x. (declaration_view x.0, lexemes x.1.now)) result (begun_declaration depth (lexemes start.now) integer_type (declarator_view first.value) (lexemes tokens.now)) }
     ensures shorter { IfOk result (λ x. length x.1.now < length tokens.now) }
 {
-    let (declarators, rest) = declarators(alloc, depth, first, tokens)?;
-    let rest = want(Mark::Semicolon, rest)?;
+    let (declarators, rest) = given!(declarators(alloc, depth, first, tokens));
+    let rest = given!(want(Mark::Semicolon, rest));
     let declaration = Declaration {
         extent: extent_before(start, rest),
         integer_type,
@@ -180,7 +190,7 @@ pub fn declaration(
     ensures reads { Gives (λ x. (declaration_view x.0, lexemes x.1.now)) result (declaration depth (lexemes tokens.now)) }
     ensures shorter { IfOk result (λ x. length x.1.now < length tokens.now) }
 {
-    let (found, rest) = specifiers(Place::Object, tokens)?;
-    let (first, rest) = declarator(alloc, depth, rest)?;
+    let (found, rest) = given!(specifiers(Place::Object, tokens));
+    let (first, rest) = given!(declarator(alloc, depth, rest));
     begun_declaration(alloc, depth, tokens, found.integer_type(), first, rest)
 }

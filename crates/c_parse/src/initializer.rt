@@ -3,14 +3,11 @@
 ghost use Rattle.std.specs.Prelude.{◌≡◌, ◌<◌, length, map, IfOk};
 ghost use Rattle.c_token.specs.Lexemes.{lexemes};
 ghost use Rattle.c_tree.specs.Declarations.{initializer_view};
-ghost use Rattle.c_parse.specs.Outcome.{Gives};
+ghost use Rattle.c_parse_tokens.specs.Outcome.{Gives};
 ghost use Rattle.c_parse.specs.Declarations.{nested_initializer, in_braces, within_braces, initializer};
 
-use crate::expression::assignment;
-use crate::fault::ParseErr;
-use crate::front::{behind, is_at, refusal, want};
-use crate::mark::Mark;
-use crate::operators::begins_expression;
+use c_parse_expressions::{assignment, node, push};
+use c_parse_tokens::{Mark, ParseErr, begins_expression, behind, given, is_at, refusal, want};
 use c_token::Token;
 use c_tree::Initializer;
 use std::alloc::Global;
@@ -22,8 +19,8 @@ fn nested_initializer(
     alloc: Global,
     depth: u32,
     tokens: &[Token],
-) -> Result<(Initializer, &[Token]), ParseErr>
-    ensures reads { Gives (λ x. (initializer_view x.0, lexemes x.1.now)) result (nested_initializer (within_braces depth) (lexemes tokens.now)) }
+) -> Result<(Box<Initializer>, &[Token]), ParseErr>
+    ensures reads { Gives (λ x. (initializer_view x.0.value, lexemes x.1.now)) result (nested_initializer (within_braces depth) (lexemes tokens.now)) }
     ensures shorter { IfOk result (λ x. length x.1.now < length tokens.now) }
 {
     if depth == 0 {
@@ -46,13 +43,13 @@ fn in_braces(
 {
     let mut initializers = Vec::new(alloc);
     let (first, mut rest) = nested_initializer(alloc, depth, tokens)?;
-    initializers.push(first)?;
+    push(&mut initializers, first)?;
     while let Some(after) = behind(Mark::Comma, rest) {
         if is_at(Mark::CloseBrace, after) {
             return Ok((initializers, after));
         }
         let (next, behind) = nested_initializer(alloc, depth, after)?;
-        initializers.push(next)?;
+        push(&mut initializers, next)?;
         rest = behind;
     }
     Ok((initializers, rest))
@@ -65,15 +62,16 @@ pub fn initializer(
     alloc: Global,
     depth: u32,
     tokens: &[Token],
-) -> Result<(Initializer, &[Token]), ParseErr>
-    ensures reads { Gives (λ x. (initializer_view x.0, lexemes x.1.now)) result (initializer depth (lexemes tokens.now)) }
+) -> Result<(Box<Initializer>, &[Token]), ParseErr>
+    ensures reads { Gives (λ x. (initializer_view x.0.value, lexemes x.1.now)) result (initializer depth (lexemes tokens.now)) }
     ensures shorter { IfOk result (λ x. length x.1.now < length tokens.now) }
 {
     let Some(inside) = behind(Mark::OpenBrace, tokens) else {
-        let (value, rest) = assignment(alloc, depth, tokens)?;
-        return Ok((Initializer::Expression(value), rest));
+        let (value, rest) = given!(assignment(alloc, depth, tokens));
+        let value = Initializer::Expression(Box::into_inner(value));
+        return Ok((given!(node(alloc, value)), rest));
     };
-    let (initializers, rest) = in_braces(alloc, depth, inside)?;
-    let rest = want(Mark::CloseBrace, rest)?;
-    Ok((Initializer::List(initializers), rest))
+    let (initializers, rest) = given!(in_braces(alloc, depth, inside));
+    let rest = given!(want(Mark::CloseBrace, rest));
+    Ok((given!(node(alloc, Initializer::List(initializers))), rest))
 }

@@ -1,39 +1,26 @@
 //! Statements (ISO/IEC 9899:2011, 6.8).
 
-ghost use Rattle.std.specs.Prelude.{◌≡◌, ◌+◌, ◌<◌, ◌≤◌, [], length, map, IfOk, IfSome};
+ghost use Rattle.std.specs.Prelude.{◌≡◌, ◌+◌, ◌<◌, ◌≤◌, List, [], length, map, Ok, IfOk, IfSome};
 ghost use Rattle.std.specs.Option.{option_map};
-ghost use Rattle.c_token.specs.Lexemes.{word_view, lexemes};
+ghost use Rattle.c_token.specs.Lexemes.{Lexeme, word_view, lexemes};
 ghost use Rattle.c_tree.specs.Expressions.{expression_view};
-ghost use Rattle.c_tree.specs.Statements.{start_view, label_view, statement_view, block_view, branch_view};
-ghost use Rattle.c_parse.specs.Outcome.{Gives};
-ghost use Rattle.c_parse.specs.Expressions.{nesting};
+ghost use Rattle.c_tree.specs.Statements.{StatementTree, Empty, if_tree, else_tree, start_view, label_view, statement_view, block_view, branch_view};
+ghost use Rattle.c_parse_tokens.specs.Outcome.{Gives};
+ghost use Rattle.c_parse_tokens.specs.Front.{inside};
+ghost use Rattle.c_parse_expressions.specs.Expressions.{nesting};
 ghost use Rattle.c_parse.specs.Headers.{header_view};
-ghost use Rattle.c_parse.specs.Statements.{is_statement_word, begins_statement, condition, optional, for_start, for_header, begins_header, expression_statement, return_statement, label, labels, nested_statement, statement_in, unlabeled, block, branch, if_statement, while_statement, do_statement, for_statement, switch_statement, statements};
+ghost use Rattle.c_parse.specs.Statements.{is_statement_word, begins_statement, condition, optional, start_of, for_start, for_header, begins_header, expression_statement, return_statement, break_statement, continue_statement, label, labels, nested_statement, statement_in, unlabeled, block, branch, if_statement, while_statement, do_statement, for_statement, switch_statement, statements};
 
 use crate::declaration::declaration;
-use crate::expression::{Sort, comma, conditional, nested};
-use crate::fault::ParseErr;
-use crate::front::{
-    behind, deeper, extent_before, is_at, last_before, refusal, spot_at, stuck, want,
+use c_parse_expressions::{Sort, comma, conditional, nested, node, push};
+use c_parse_tokens::{
+    Mark, ParseErr, begins_expression, begins_type, behind, extent_before, given, is_at,
+    last_before, one_less, refusal, spot_at, stuck, want,
 };
-use crate::mark::Mark;
-use crate::node::node;
-use crate::operators::begins_expression;
-use crate::specifiers::begins_type;
 use c_token::{Keyword, Kind, Punctuator, Token};
 use c_tree::{Block, Branch, Expression, ForStart, Label, Statement};
 use debug_records::Spot;
 use std::alloc::Global;
-
-// What a call gives; its failure is the function's own.
-macro_rules! given {
-    ($call:expr) => {
-        match $call {
-            Ok(value) => value,
-            Err(fault) => return Err(fault),
-        }
-    };
-}
 
 /// The token begins a statement and no expression.
 fn is_statement_word(kind: &Kind) -> bool
@@ -77,8 +64,8 @@ fn condition(
     alloc: Global,
     depth: u32,
     tokens: &[Token],
-) -> Result<(Expression, &[Token]), ParseErr>
-    ensures reads { Gives (λ x. (expression_view x.0, lexemes x.1.now)) result (condition (nesting depth) (lexemes tokens.now)) }
+) -> Result<(Box<Expression>, &[Token]), ParseErr>
+    ensures reads { Gives (λ x. (expression_view x.0.value, lexemes x.1.now)) result (condition (nesting depth) (lexemes tokens.now)) }
     ensures shorter { IfOk result (λ x. length x.1.now < length tokens.now) }
 {
     let rest = given!(want(Mark::OpenParenthesis, tokens));
@@ -94,8 +81,8 @@ fn optional(
     depth: u32,
     end: Mark,
     tokens: &[Token],
-) -> Result<(Option<Expression>, &[Token]), ParseErr>
-    ensures reads { Gives (λ x. (option_map expression_view x.0, lexemes x.1.now)) result (optional (nesting depth) end (lexemes tokens.now)) }
+) -> Result<(Option<Box<Expression>>, &[Token]), ParseErr>
+    ensures reads { Gives (λ x. (option_map (λ e. expression_view e.value) x.0, lexemes x.1.now)) result (optional (nesting depth) end (lexemes tokens.now)) }
     ensures not_longer { IfOk result (λ x. length x.1.now ≤ length tokens.now) }
 {
     if is_at(end, tokens) {
@@ -105,30 +92,51 @@ fn optional(
     Ok((Some(value), rest))
 }
 
+/// The expression that a box holds, if there is one.
+fn held(value: Option<Box<Expression>>) -> Option<Expression>
+    ensures { option_map expression_view result ≡ option_map (λ e. expression_view e.value) value }
+{
+    match value {
+        None => None,
+        Some(value) => Some(Box::into_inner(value)),
+    }
+}
+
 /// The first part of a `for`, up to behind its semicolon.
 #[tactic(auto, unfolding(crate::specs::Statements::for_start))]
-fn for_start(alloc: Global, depth: u32, tokens: &[Token]) -> Result<(ForStart, &[Token]), ParseErr>
-    ensures reads { Gives (λ x. (start_view x.0, lexemes x.1.now)) result (for_start depth (lexemes tokens.now)) }
+fn for_start(
+    alloc: Global,
+    depth: u32,
+    tokens: &[Token],
+) -> Result<(Box<ForStart>, &[Token]), ParseErr>
+    ensures reads { Gives (λ x. (start_view x.0.value, lexemes x.1.now)) result (for_start depth (lexemes tokens.now)) }
     ensures shorter { IfOk result (λ x. length x.1.now < length tokens.now) }
 {
     if begins_type(tokens) {
         let (start, rest) = given!(declaration(alloc, depth, tokens));
-        return Ok((ForStart::Declaration(start), rest));
+        return Ok((given!(node(alloc, ForStart::Declaration(start))), rest));
     }
     let (start, rest) = given!(optional(alloc, depth, Mark::Semicolon, tokens));
     let rest = given!(want(Mark::Semicolon, rest));
+    Ok((given!(node(alloc, started(start))), rest))
+}
+
+/// The first part of a `for` that is no declaration.
+fn started(start: Option<Box<Expression>>) -> ForStart
+    ensures { start_view result ≡ start_of (option_map (λ e. expression_view e.value) start) }
+{
     match start {
-        None => Ok((ForStart::Nothing, rest)),
-        Some(value) => Ok((ForStart::Expression(value), rest)),
+        None => ForStart::Nothing,
+        Some(value) => ForStart::Expression(Box::into_inner(value)),
     }
 }
 
 /// What stands between the parentheses of a `for`.
 #[derive(Drop)]
 struct ForHeader {
-    start: ForStart,
-    condition: Option<Expression>,
-    step: Option<Expression>,
+    start: Box<ForStart>,
+    condition: Option<Box<Expression>>,
+    step: Option<Box<Expression>>,
 }
 
 /// The three parts of a `for`, up to its closing parenthesis.
@@ -167,14 +175,17 @@ fn expression_statement(
     alloc: Global,
     depth: u32,
     tokens: &[Token],
-) -> Result<(Statement, &[Token]), ParseErr>
-    ensures reads { Gives (λ x. (statement_view x.0, lexemes x.1.now)) result (expression_statement (nesting depth) (lexemes tokens.now)) }
+) -> Result<(Box<Statement>, &[Token]), ParseErr>
+    ensures reads { Gives (λ x. (statement_view x.0.value, lexemes x.1.now)) result (expression_statement (nesting depth) (lexemes tokens.now)) }
     ensures shorter { IfOk result (λ x. length x.1.now < length tokens.now) }
 {
     let (value, rest) = given!(comma(alloc, depth, tokens));
     let rest = given!(want(Mark::Semicolon, rest));
-    let last = last_before(tokens, rest);
-    Ok((Statement::Expression { value, last }, rest))
+    let statement = Statement::Expression {
+        value: Box::into_inner(value),
+        last: last_before(tokens, rest),
+    };
+    Ok((given!(node(alloc, statement)), rest))
 }
 
 /// A `return`, from its word on.
@@ -184,21 +195,66 @@ fn return_statement<'t>(
     depth: u32,
     tokens: &'t [Token],
     rest: &'t [Token],
-) -> Result<(Statement, &'t [Token]), ParseErr>
+) -> Result<(Box<Statement>, &'t [Token]), ParseErr>
     requires { length rest.now < length tokens.now }
-    ensures reads { Gives (λ x. (statement_view x.0, lexemes x.1.now)) result (return_statement (nesting depth) (lexemes tokens.now) (lexemes rest.now)) }
+    ensures reads { Gives (λ x. (statement_view x.0.value, lexemes x.1.now)) result (return_statement (nesting depth) (lexemes tokens.now) (lexemes rest.now)) }
     ensures shorter { IfOk result (λ x. length x.1.now < length rest.now) }
 {
     let (value, rest) = given!(optional(alloc, depth, Mark::Semicolon, rest));
     let rest = given!(want(Mark::Semicolon, rest));
-    let extent = extent_before(tokens, rest);
-    Ok((Statement::Return { extent, value }, rest))
+    let statement = Statement::Return {
+        extent: extent_before(tokens, rest),
+        value: held(value),
+    };
+    Ok((given!(node(alloc, statement)), rest))
+}
+
+/// A statement that does nothing, whose semicolon has been read.
+fn empty(alloc: Global, spot: Spot, rest: &[Token]) -> Result<(Box<Statement>, &[Token]), ParseErr>
+    ensures reads { Gives {Y = StatementTree × List Lexeme} (λ x. (statement_view x.0.value, lexemes x.1.now)) result (Ok (Empty spot, lexemes rest.now)) }
+    ensures not_longer { IfOk result (λ x. length x.1.now ≤ length rest.now) }
+{
+    Ok((given!(node(alloc, Statement::Empty(spot))), rest))
+}
+
+/// A `break`, from its word on.
+fn break_statement<'t>(
+    alloc: Global,
+    tokens: &'t [Token],
+    rest: &'t [Token],
+) -> Result<(Box<Statement>, &'t [Token]), ParseErr>
+    requires { length rest.now < length tokens.now }
+    ensures reads { Gives (λ x. (statement_view x.0.value, lexemes x.1.now)) result (break_statement (lexemes tokens.now) (lexemes rest.now)) }
+    ensures shorter { IfOk result (λ x. length x.1.now < length rest.now) }
+{
+    let rest = given!(want(Mark::Semicolon, rest));
+    let statement = Statement::Break(extent_before(tokens, rest));
+    Ok((given!(node(alloc, statement)), rest))
+}
+
+/// A `continue`, from its word on.
+fn continue_statement<'t>(
+    alloc: Global,
+    tokens: &'t [Token],
+    rest: &'t [Token],
+) -> Result<(Box<Statement>, &'t [Token]), ParseErr>
+    requires { length rest.now < length tokens.now }
+    ensures reads { Gives (λ x. (statement_view x.0.value, lexemes x.1.now)) result (continue_statement (lexemes tokens.now) (lexemes rest.now)) }
+    ensures shorter { IfOk result (λ x. length x.1.now < length rest.now) }
+{
+    let rest = given!(want(Mark::Semicolon, rest));
+    let statement = Statement::Continue(extent_before(tokens, rest));
+    Ok((given!(node(alloc, statement)), rest))
 }
 
 /// A label, if one stands at the front.
 #[tactic(auto, unfolding(crate::specs::Statements::label))]
-fn label(alloc: Global, depth: u32, tokens: &[Token]) -> Result<Option<(Label, &[Token])>, ParseErr>
-    ensures reads { Gives (λ x. option_map (λ l. (label_view l.0, lexemes l.1.now)) x) result (label (nesting depth) (lexemes tokens.now)) }
+fn label(
+    alloc: Global,
+    depth: u32,
+    tokens: &[Token],
+) -> Result<Option<(Box<Label>, &[Token])>, ParseErr>
+    ensures reads { Gives (λ x. option_map (λ l. (label_view l.0.value, lexemes l.1.now)) x) result (label (nesting depth) (lexemes tokens.now)) }
     ensures shorter { IfOk result (λ x. IfSome x (λ l. length l.1.now < length tokens.now)) }
 {
     match tokens {
@@ -211,8 +267,11 @@ fn label(alloc: Global, depth: u32, tokens: &[Token]) -> Result<Option<(Label, &
         ] => {
             let (value, behind_value) = given!(conditional(alloc, depth, rest));
             let rest = given!(want(Mark::Colon, behind_value));
-            let extent = extent_before(tokens, rest);
-            Ok(Some((Label::Case { extent, value }, rest)))
+            let label = Label::Case {
+                extent: extent_before(tokens, rest),
+                value: Box::into_inner(value),
+            };
+            Ok(Some((given!(node(alloc, label)), rest)))
         }
         [
             Token {
@@ -222,7 +281,8 @@ fn label(alloc: Global, depth: u32, tokens: &[Token]) -> Result<Option<(Label, &
             rest @ ..,
         ] => {
             let rest = given!(want(Mark::Colon, rest));
-            Ok(Some((Label::Default(extent_before(tokens, rest)), rest)))
+            let label = Label::Default(extent_before(tokens, rest));
+            Ok(Some((given!(node(alloc, label)), rest)))
         }
         _ => Ok(None),
     }
@@ -236,10 +296,19 @@ fn labels(alloc: Global, depth: u32, tokens: &[Token]) -> Result<(Vec<Label>, &[
     let mut labels = Vec::new(alloc);
     let mut rest = tokens;
     while let Some((next, behind)) = label(alloc, depth, rest)? {
-        labels.push(next)?;
+        push(&mut labels, next)?;
         rest = behind;
     }
     Ok((labels, rest))
+}
+
+/// The nesting that is left for statements inside a construct whose first token may be taken.
+#[tactic(auto, using(crate::proofs::Levels::statements_inside))]
+fn deeper(depth: u32, is_taken: bool, tokens: &[Token]) -> Result<u32, ParseErr>
+    ensures less { IfOk result (λ less. less < depth) }
+    ensures statements { Gives statements result (inside (statements depth) is_taken (lexemes tokens.now)) }
+{
+    one_less(depth, is_taken, tokens)
 }
 
 /// A statement within another, or in a block where declarations may stand too, where the nesting allows one more.
@@ -250,8 +319,8 @@ fn nested_statement(
     depth: u32,
     may_declare: bool,
     tokens: &[Token],
-) -> Result<(Statement, &[Token]), ParseErr>
-    ensures reads { Gives (λ x. (statement_view x.0, lexemes x.1.now)) result (nested_statement (statements depth) may_declare (lexemes tokens.now)) }
+) -> Result<(Box<Statement>, &[Token]), ParseErr>
+    ensures reads { Gives (λ x. (statement_view x.0.value, lexemes x.1.now)) result (nested_statement (statements depth) may_declare (lexemes tokens.now)) }
     ensures shorter { IfOk result (λ x. length x.1.now < length tokens.now) }
 {
     let declares = may_declare && begins_type(tokens);
@@ -260,7 +329,8 @@ fn nested_statement(
     }
     if declares {
         let (declaration, rest) = given!(declaration(alloc, depth - 1, tokens));
-        return Ok((Statement::Declaration(declaration), rest));
+        let statement = Statement::Declaration(declaration);
+        return Ok((given!(node(alloc, statement)), rest));
     }
     statement(alloc, depth - 1, tokens)
 }
@@ -268,8 +338,12 @@ fn nested_statement(
 /// A statement with its labels.
 #[cycle(statement)]
 #[tactic(auto, unfolding(crate::specs::Statements::statement_in))]
-fn statement(alloc: Global, depth: u32, tokens: &[Token]) -> Result<(Statement, &[Token]), ParseErr>
-    ensures reads { Gives (λ x. (statement_view x.0, lexemes x.1.now)) result (statement_in depth (statements depth) (lexemes tokens.now)) }
+fn statement(
+    alloc: Global,
+    depth: u32,
+    tokens: &[Token],
+) -> Result<(Box<Statement>, &[Token]), ParseErr>
+    ensures reads { Gives (λ x. (statement_view x.0.value, lexemes x.1.now)) result (statement_in depth (statements depth) (lexemes tokens.now)) }
     ensures shorter { IfOk result (λ x. length x.1.now < length tokens.now) }
 {
     let (labels, rest) = given!(labels(alloc, depth, tokens));
@@ -277,25 +351,29 @@ fn statement(alloc: Global, depth: u32, tokens: &[Token]) -> Result<(Statement, 
     if labels.is_empty() {
         return Ok((statement, rest));
     }
-    let statement = node(alloc, statement)?;
-    Ok((Statement::Labeled { labels, statement }, rest))
+    let labeled = Statement::Labeled { labels, statement };
+    Ok((given!(node(alloc, labeled)), rest))
 }
 
 /// A statement without labels.
 #[cycle(statement)]
 #[tactic(auto, unfolding(crate::specs::Statements::unlabeled))]
-fn unlabeled(alloc: Global, depth: u32, tokens: &[Token]) -> Result<(Statement, &[Token]), ParseErr>
-    ensures reads { Gives (λ x. (statement_view x.0, lexemes x.1.now)) result (unlabeled depth (statements depth) (lexemes tokens.now)) }
+fn unlabeled(
+    alloc: Global,
+    depth: u32,
+    tokens: &[Token],
+) -> Result<(Box<Statement>, &[Token]), ParseErr>
+    ensures reads { Gives (λ x. (statement_view x.0.value, lexemes x.1.now)) result (unlabeled depth (statements depth) (lexemes tokens.now)) }
     ensures shorter { IfOk result (λ x. length x.1.now < length tokens.now) }
 {
     let [first, rest @ ..] = tokens else {
         return Err(ParseErr::Stuck(stuck(tokens)));
     };
     match &first.kind {
-        Kind::Punctuator(Punctuator::Semicolon) => Ok((Statement::Empty(first.spot), rest)),
+        Kind::Punctuator(Punctuator::Semicolon) => empty(alloc, first.spot, rest),
         Kind::Punctuator(Punctuator::OpenBrace) => {
             let (block, rest) = given!(block(alloc, depth, true, tokens));
-            Ok((Statement::Block(block), rest))
+            Ok((given!(node(alloc, Statement::Block(block))), rest))
         }
         Kind::Keyword(keyword) => match keyword {
             Keyword::If => if_statement(alloc, depth, tokens),
@@ -303,14 +381,8 @@ fn unlabeled(alloc: Global, depth: u32, tokens: &[Token]) -> Result<(Statement, 
             Keyword::Do => do_statement(alloc, depth, tokens, rest),
             Keyword::For => for_statement(alloc, depth, first.spot, rest),
             Keyword::Switch => switch_statement(alloc, depth, first.spot, rest),
-            Keyword::Break => {
-                let rest = given!(want(Mark::Semicolon, rest));
-                Ok((Statement::Break(extent_before(tokens, rest)), rest))
-            }
-            Keyword::Continue => {
-                let rest = given!(want(Mark::Semicolon, rest));
-                Ok((Statement::Continue(extent_before(tokens, rest)), rest))
-            }
+            Keyword::Break => break_statement(alloc, tokens, rest),
+            Keyword::Continue => continue_statement(alloc, tokens, rest),
             Keyword::Return => return_statement(alloc, depth, tokens, rest),
             _ => expression_statement(alloc, depth, tokens),
         },
@@ -342,7 +414,7 @@ pub fn block(
             return Ok((block, behind));
         }
         let (next, behind) = nested_statement(alloc, depth, may_declare, rest)?;
-        statements.push(next)?;
+        push(&mut statements, next)?;
         rest = behind;
     }
 }
@@ -350,8 +422,8 @@ pub fn block(
 /// `if`, its condition and what stands behind it.
 #[cycle(statement)]
 #[tactic(auto, unfolding(crate::specs::Statements::branch))]
-fn branch(alloc: Global, depth: u32, tokens: &[Token]) -> Result<(Branch, &[Token]), ParseErr>
-    ensures reads { Gives (λ x. (branch_view x.0, lexemes x.1.now)) result (branch (nesting depth) (statements depth) (lexemes tokens.now)) }
+fn branch(alloc: Global, depth: u32, tokens: &[Token]) -> Result<(Box<Branch>, &[Token]), ParseErr>
+    ensures reads { Gives (λ x. (branch_view x.0.value, lexemes x.1.now)) result (branch (nesting depth) (statements depth) (lexemes tokens.now)) }
     ensures shorter { IfOk result (λ x. length x.1.now < length tokens.now) }
 {
     let rest = given!(want(Mark::If, tokens));
@@ -359,10 +431,31 @@ fn branch(alloc: Global, depth: u32, tokens: &[Token]) -> Result<(Branch, &[Toke
     let (then, rest) = given!(nested_statement(alloc, depth, false, rest));
     let branch = Branch {
         spot: spot_at(tokens),
-        condition,
-        then,
+        condition: Box::into_inner(condition),
+        then: Box::into_inner(then),
     };
-    Ok((branch, rest))
+    Ok((given!(node(alloc, branch)), rest))
+}
+
+/// An `if`, the `else if`s behind it, and the last `else`.
+#[tactic(auto, using(crate::proofs::ElseChains::chosen_view))]
+fn chosen(
+    alloc: Global,
+    first: Box<Branch>,
+    others: Vec<Branch>,
+    otherwise: Option<Box<Statement>>,
+    rest: &[Token],
+) -> Result<(Box<Statement>, &[Token]), ParseErr>
+    ensures reads { Gives {Y = StatementTree × List Lexeme} (λ x. (statement_view x.0.value, lexemes x.1.now)) result
+        (Ok (if_tree (branch_view first.value) (else_tree (map branch_view others.items) (option_map (λ o. statement_view o.value) otherwise)), lexemes rest.now)) }
+    ensures not_longer { IfOk result (λ x. length x.1.now ≤ length rest.now) }
+{
+    let statement = Statement::If {
+        first,
+        others,
+        otherwise,
+    };
+    Ok((given!(node(alloc, statement)), rest))
 }
 
 /// `if`, each `else if` behind it, which nests no deeper, and the last `else`.
@@ -372,34 +465,22 @@ fn if_statement(
     alloc: Global,
     depth: u32,
     tokens: &[Token],
-) -> Result<(Statement, &[Token]), ParseErr>
-    ensures reads { Gives (λ x. (statement_view x.0, lexemes x.1.now)) result (if_statement (nesting depth) (statements depth) (lexemes tokens.now)) }
+) -> Result<(Box<Statement>, &[Token]), ParseErr>
+    ensures reads { Gives (λ x. (statement_view x.0.value, lexemes x.1.now)) result (if_statement (nesting depth) (statements depth) (lexemes tokens.now)) }
     ensures shorter { IfOk result (λ x. length x.1.now < length tokens.now) }
 {
     let (first, mut rest) = branch(alloc, depth, tokens)?;
-    let first = Box::new(alloc, first)?;
     let mut others = Vec::new(alloc);
     while let Some(after) = behind(Mark::Else, rest) {
         if !is_at(Mark::If, after) {
             let (last, rest) = nested_statement(alloc, depth, false, after)?;
-            let otherwise = Some(Box::new(alloc, last)?);
-            let statement = Statement::If {
-                first,
-                others,
-                otherwise,
-            };
-            return Ok((statement, rest));
+            return chosen(alloc, first, others, Some(last), rest);
         }
         let (next, behind) = branch(alloc, depth, after)?;
-        others.push(next)?;
+        push(&mut others, next)?;
         rest = behind;
     }
-    let statement = Statement::If {
-        first,
-        others,
-        otherwise: None,
-    };
-    Ok((statement, rest))
+    chosen(alloc, first, others, None, rest)
 }
 
 /// The condition and the body of a `while`, behind its word.
@@ -410,18 +491,18 @@ fn while_statement(
     depth: u32,
     spot: Spot,
     tokens: &[Token],
-) -> Result<(Statement, &[Token]), ParseErr>
-    ensures reads { Gives (λ x. (statement_view x.0, lexemes x.1.now)) result (while_statement (nesting depth) (statements depth) spot (lexemes tokens.now)) }
+) -> Result<(Box<Statement>, &[Token]), ParseErr>
+    ensures reads { Gives (λ x. (statement_view x.0.value, lexemes x.1.now)) result (while_statement (nesting depth) (statements depth) spot (lexemes tokens.now)) }
     ensures shorter { IfOk result (λ x. length x.1.now < length tokens.now) }
 {
     let (condition, rest) = given!(condition(alloc, depth, tokens));
     let (body, rest) = given!(nested_statement(alloc, depth, false, rest));
     let statement = Statement::While {
         spot,
-        condition,
-        body: node(alloc, body)?,
+        condition: Box::into_inner(condition),
+        body,
     };
-    Ok((statement, rest))
+    Ok((given!(node(alloc, statement)), rest))
 }
 
 /// A `do`, from its word on.
@@ -432,9 +513,9 @@ fn do_statement<'t>(
     depth: u32,
     tokens: &'t [Token],
     rest: &'t [Token],
-) -> Result<(Statement, &'t [Token]), ParseErr>
+) -> Result<(Box<Statement>, &'t [Token]), ParseErr>
     requires { length rest.now < length tokens.now }
-    ensures reads { Gives (λ x. (statement_view x.0, lexemes x.1.now)) result (do_statement (nesting depth) (statements depth) (lexemes tokens.now) (lexemes rest.now)) }
+    ensures reads { Gives (λ x. (statement_view x.0.value, lexemes x.1.now)) result (do_statement (nesting depth) (statements depth) (lexemes tokens.now) (lexemes rest.now)) }
     ensures shorter { IfOk result (λ x. length x.1.now < length rest.now) }
 {
     let (body, rest) = given!(nested_statement(alloc, depth, false, rest));
@@ -443,10 +524,10 @@ fn do_statement<'t>(
     let rest = given!(want(Mark::Semicolon, rest));
     let statement = Statement::DoWhile {
         extent: extent_before(tokens, rest),
-        body: node(alloc, body)?,
-        condition,
+        body,
+        condition: Box::into_inner(condition),
     };
-    Ok((statement, rest))
+    Ok((given!(node(alloc, statement)), rest))
 }
 
 /// The parts and the body of a `for`, behind its word.
@@ -457,23 +538,23 @@ fn for_statement(
     depth: u32,
     spot: Spot,
     tokens: &[Token],
-) -> Result<(Statement, &[Token]), ParseErr>
-    ensures reads { Gives (λ x. (statement_view x.0, lexemes x.1.now)) result (for_statement depth (statements depth) spot (lexemes tokens.now)) }
+) -> Result<(Box<Statement>, &[Token]), ParseErr>
+    ensures reads { Gives (λ x. (statement_view x.0.value, lexemes x.1.now)) result (for_statement depth (statements depth) spot (lexemes tokens.now)) }
     ensures shorter { IfOk result (λ x. length x.1.now < length tokens.now) }
 {
     let rest = given!(want(Mark::OpenParenthesis, tokens));
-    let inside = given!(deeper(depth, begins_header(rest), rest));
+    let inside = given!(one_less(depth, begins_header(rest), rest));
     let (header, rest) = given!(for_header(alloc, inside, rest));
     let rest = given!(want(Mark::CloseParenthesis, rest));
     let (body, rest) = given!(nested_statement(alloc, depth, false, rest));
     let statement = Statement::For {
         spot,
-        start: header.start,
-        condition: header.condition,
-        step: header.step,
-        body: node(alloc, body)?,
+        start: Box::into_inner(header.start),
+        condition: held(header.condition),
+        step: held(header.step),
+        body,
     };
-    Ok((statement, rest))
+    Ok((given!(node(alloc, statement)), rest))
 }
 
 /// The value and the block of a `switch`, behind its word.
@@ -484,12 +565,17 @@ fn switch_statement(
     depth: u32,
     spot: Spot,
     tokens: &[Token],
-) -> Result<(Statement, &[Token]), ParseErr>
-    ensures reads { Gives (λ x. (statement_view x.0, lexemes x.1.now)) result (switch_statement (nesting depth) (statements depth) spot (lexemes tokens.now)) }
+) -> Result<(Box<Statement>, &[Token]), ParseErr>
+    ensures reads { Gives (λ x. (statement_view x.0.value, lexemes x.1.now)) result (switch_statement (nesting depth) (statements depth) spot (lexemes tokens.now)) }
     ensures shorter { IfOk result (λ x. length x.1.now < length tokens.now) }
 {
     let (value, rest) = given!(condition(alloc, depth, tokens));
     let inside = given!(deeper(depth, is_at(Mark::OpenBrace, rest), rest));
     let (body, rest) = given!(block(alloc, inside, false, rest));
-    Ok((Statement::Switch { spot, value, body }, rest))
+    let statement = Statement::Switch {
+        spot,
+        value: Box::into_inner(value),
+        body,
+    };
+    Ok((given!(node(alloc, statement)), rest))
 }

@@ -2,14 +2,14 @@ use Rattle.std.proofs.Common.{◌≡◌, ◌≤◌, ℕ, [], ◌∷◌, length}
 use Rattle.std.specs.Prelude.{map}
 use Rattle.c_token.specs.Lexemes.{lexemes}
 use Rattle.c_tree.specs.Declarations.{declarator_view}
-use Rattle.c_parse.specs.Front.{separated}
+use Rattle.c_parse_tokens.specs.Front.{separated}
 use Rattle.c_parse.specs.Declarations.{declarator}
 use Rattle.c_parse.proofs.declaration.declarators.Given as goal
 
 abbrev pub invariant-loop-after : goal.invariant-loop-after
 invariant-loop-after l = record {
   not_longer : length l.rest ≤ length l.tokens;
-  same : (n : ℕ) × (length l.rest ≤ n) × (separated (length (lexemes l.tokens)) (declarator l.depth) (declarator_view l.fn.first ∷ []) (lexemes l.tokens)
+  same : (n : ℕ) × (length l.rest ≤ n) × (separated (length (lexemes l.tokens)) (declarator l.depth) (declarator_view l.fn.first.value ∷ []) (lexemes l.tokens)
       ≡ separated n (declarator l.depth) (map declarator_view l.declarators.items) (lexemes l.rest));
 }
 

@@ -1,9 +1,9 @@
-use Rattle.std.proofs.Common.{◌≡◌, ◌<◌, ◌≤◌, length, ℕ, ◌+◌, ◌*◌, ◌-◌}
+use Rattle.std.proofs.Common.{◌≡◌, ◌<◌, ◌≤◌, length, ℕ, ◌+◌, ◌*◌}
 use Rattle.std.specs.Prelude.{map}
 use Rattle.c_token.specs.Lexemes.{lexemes}
 use Rattle.c_tree.specs.Statements.{statement_view, branch_view}
-use Rattle.c_parse.specs.Front.{spot_at}
-use Rattle.c_parse.specs.Expressions.{nesting}
+use Rattle.c_parse_tokens.specs.Front.{spot_at}
+use Rattle.c_parse_expressions.specs.Expressions.{nesting}
 use Rattle.c_parse.specs.Statements.{statements, block, statements_from, if_statement, else_from}
 use Rattle.c_parse.proofs.statement.+statement.Given as goal
 

@@ -2,7 +2,7 @@ use Rattle.std.proofs.Common.{◌≡◌, ◌<◌, ◌+◌, ◌≤◌, ℕ, [], l
 use Rattle.std.specs.Prelude.{map}
 use Rattle.c_token.specs.Lexemes.{lexemes}
 use Rattle.c_tree.specs.Statements.{label_view}
-use Rattle.c_parse.specs.Expressions.{nesting}
+use Rattle.c_parse_expressions.specs.Expressions.{nesting}
 use Rattle.c_parse.specs.Statements.{labels}
 use Rattle.c_parse.proofs.statement.labels.Given as goal
 
