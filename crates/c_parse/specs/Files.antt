@@ -26,8 +26,8 @@ use Rattle.c_parse_tokens.specs.Outcome.{Parser, ◌>>=◌}
 use Rattle.c_parse_tokens.specs.Front.{stuck, is_at, behind, want, spot_at, last_before, extent_before, separated}
 use Rattle.c_parse_tokens.specs.Specifiers.{specifiers, integer_type, base_of, stars}
 use Rattle.c_parse_expressions.specs.Expressions.{nesting}
-use Rattle.c_parse.specs.Declarations.{identifier, brackets, named_declarator, begun_declaration}
-use Rattle.c_parse.specs.Statements.{block, statements}
+use Rattle.c_parse_declarations.specs.Declarations.{identifier, brackets, named_declarator, begun_declaration}
+use Rattle.c_parse_statements.specs.Statements.{block, statements}
 
 abbrev pub is_name : Word → Bool
 is_name (word.Name name) = true

@@ -1,4 +1,1 @@
-pub mod Declarations
-pub mod Statements
-pub mod Headers
 pub mod Files

@@ -10,9 +10,9 @@ ghost use Rattle.c_tree.specs.Trees.{function_view, item_view};
 ghost use Rattle.c_parse_tokens.specs.Outcome.{Gives};
 ghost use Rattle.c_parse.specs.Files.{parameter_name, parameter, parameters, are_named, body, function, result_stars, objects, external, header, item, items};
 
-use crate::declaration::{begun_declaration, brackets, identifier, named_declarator};
-use crate::statement::block;
+use c_parse_declarations::{begun_declaration, brackets, identifier, named_declarator};
 use c_parse_expressions::{node, push};
+use c_parse_statements::block;
 use c_parse_tokens::{
     Mark, ParseErr, Place, SpecifierList, behind, extent_before, given, is_at, last_before,
     specifiers, spot_at, stars, stuck, want,
