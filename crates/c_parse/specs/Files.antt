@@ -15,19 +15,19 @@ use Rattle.c_tree.specs.Expressions.{NameTree}
 use Rattle.c_tree.specs.Declarations.{ParameterTree}
 use Rattle.c_tree.specs.Statements.{BlockTree}
 use Rattle.c_tree.specs.Trees.{FunctionTree, ItemTree, Include, Declares, Defines}
-use Rattle.c_parse.specs.declared.fault.Stuck.{Stuck}
-use Rattle.c_parse.specs.declared.fault.Stuck.TheVariants.{At, AtEnd}
-use Rattle.c_parse.specs.declared.fault.ParseErr.{ParseErr}
-use Rattle.c_parse.specs.declared.fault.ParseErr.TheVariants as errors
-use Rattle.c_parse.specs.declared.mark.Mark.TheVariants as mark
-use Rattle.c_parse.specs.declared.specifiers.Place.TheVariants as place
-use Rattle.c_parse.specs.declared.specifiers.SpecifierList.{SpecifierList}
-use Rattle.c_parse.specs.Outcome.{Parser, ◌>>=◌}
-use Rattle.c_parse.specs.Front.{stuck, is_at, behind, want, spot_at, last_before, extent_before, separated}
-use Rattle.c_parse.specs.Specifiers.{specifiers, integer_type, base_of, stars}
-use Rattle.c_parse.specs.Expressions.{nesting}
-use Rattle.c_parse.specs.Declarations.{identifier, brackets, named_declarator, begun_declaration}
-use Rattle.c_parse.specs.Statements.{block, statements}
+use Rattle.c_parse_tokens.specs.declared.fault.Stuck.{Stuck}
+use Rattle.c_parse_tokens.specs.declared.fault.Stuck.TheVariants.{At, AtEnd}
+use Rattle.c_parse_tokens.specs.declared.fault.ParseErr.{ParseErr}
+use Rattle.c_parse_tokens.specs.declared.fault.ParseErr.TheVariants as errors
+use Rattle.c_parse_tokens.specs.declared.mark.Mark.TheVariants as mark
+use Rattle.c_parse_tokens.specs.declared.specifier.Place.TheVariants as place
+use Rattle.c_parse_tokens.specs.declared.specifier.SpecifierList.{SpecifierList}
+use Rattle.c_parse_tokens.specs.Outcome.{Parser, ◌>>=◌}
+use Rattle.c_parse_tokens.specs.Front.{stuck, is_at, behind, want, spot_at, last_before, extent_before, separated}
+use Rattle.c_parse_tokens.specs.Specifiers.{specifiers, integer_type, base_of, stars}
+use Rattle.c_parse_expressions.specs.Expressions.{nesting}
+use Rattle.c_parse_declarations.specs.Declarations.{identifier, brackets, named_declarator, begun_declaration}
+use Rattle.c_parse_statements.specs.Statements.{block, statements}
 
 abbrev pub is_name : Word → Bool
 is_name (word.Name name) = true

@@ -1,9 +1,1 @@
-pub mod Outcome
-pub mod Front
-pub mod Operators
-pub mod Specifiers
-pub mod Expressions
-pub mod Declarations
-pub mod Statements
-pub mod Headers
 pub mod Files

@@ -7,15 +7,16 @@ ghost use Rattle.c_tree.specs.Expressions.{identifier_view};
 ghost use Rattle.c_tree.specs.Declarations.{parameter_view};
 ghost use Rattle.c_tree.specs.Statements.{block_view};
 ghost use Rattle.c_tree.specs.Trees.{function_view, item_view};
-ghost use Rattle.c_parse.specs.Outcome.{Gives};
+ghost use Rattle.c_parse_tokens.specs.Outcome.{Gives};
 ghost use Rattle.c_parse.specs.Files.{parameter_name, parameter, parameters, are_named, body, function, result_stars, objects, external, header, item, items};
 
-use crate::declaration::{begun_declaration, brackets, identifier, named_declarator};
-use crate::fault::ParseErr;
-use crate::front::{behind, extent_before, is_at, last_before, spot_at, stuck, want};
-use crate::mark::Mark;
-use crate::specifiers::{Place, SpecifierList, specifiers, stars};
-use crate::statement::block;
+use c_parse_declarations::{begun_declaration, brackets, identifier, named_declarator};
+use c_parse_expressions::{node, push};
+use c_parse_statements::block;
+use c_parse_tokens::{
+    Mark, ParseErr, Place, SpecifierList, behind, extent_before, given, is_at, last_before,
+    specifiers, spot_at, stars, stuck, want,
+};
 use c_token::{Kind, Token};
 use c_tree::{Block, Brackets, Extent, Function, Header, Identifier, Item, Parameter};
 use std::alloc::Global;
@@ -37,7 +38,7 @@ fn parameter_name(
             },
             ..
         ] => {
-            let (identifier, rest) = identifier(alloc, tokens)?;
+            let (identifier, rest) = given!(identifier(alloc, tokens));
             Ok((Some(identifier), rest))
         }
         _ => Ok((None, tokens)),
@@ -46,14 +47,18 @@ fn parameter_name(
 
 /// A parameter.
 #[tactic(auto, unfolding(crate::specs::Files::parameter))]
-fn parameter(alloc: Global, depth: u32, tokens: &[Token]) -> Result<(Parameter, &[Token]), ParseErr>
-    ensures reads { Gives (λ x. (parameter_view x.0, lexemes x.1.now)) result (parameter depth (lexemes tokens.now)) }
+fn parameter(
+    alloc: Global,
+    depth: u32,
+    tokens: &[Token],
+) -> Result<(Box<Parameter>, &[Token]), ParseErr>
+    ensures reads { Gives (λ x. (parameter_view x.0.value, lexemes x.1.now)) result (parameter depth (lexemes tokens.now)) }
     ensures shorter { IfOk result (λ x. length x.1.now < length tokens.now) }
 {
-    let (found, start) = specifiers(Place::Object, tokens)?;
+    let (found, start) = given!(specifiers(Place::Object, tokens));
     let (stars, rest) = stars(start);
-    let (identifier, rest) = parameter_name(alloc, rest)?;
-    let (brackets, rest) = brackets(alloc, depth, rest)?;
+    let (identifier, rest) = given!(parameter_name(alloc, rest));
+    let (brackets, rest) = given!(brackets(alloc, depth, rest));
     let parameter = Parameter {
         extent: Extent {
             first: spot_at(start),
@@ -62,9 +67,9 @@ fn parameter(alloc: Global, depth: u32, tokens: &[Token]) -> Result<(Parameter, 
         integer_type: found.integer_type(),
         stars,
         identifier,
-        brackets,
+        brackets: Box::into_inner(brackets),
     };
-    Ok((parameter, rest))
+    Ok((given!(node(alloc, parameter)), rest))
 }
 
 /// The parameters of a function, up to the closing parenthesis. `(void)` and `()` have none.
@@ -85,10 +90,10 @@ fn parameters(
         return Ok((parameters, rest));
     }
     let (first, mut rest) = parameter(alloc, depth, tokens)?;
-    parameters.push(first)?;
+    push(&mut parameters, first)?;
     while let Some(after) = behind(Mark::Comma, rest) {
         let (next, behind) = parameter(alloc, depth, after)?;
-        parameters.push(next)?;
+        push(&mut parameters, next)?;
         rest = behind;
     }
     Ok((parameters, rest))
@@ -125,7 +130,7 @@ fn body<'t>(
     if !are_named(parameters) {
         return Err(ParseErr::Stuck(stuck(tokens)));
     }
-    let (body, rest) = block(alloc, depth, true, tokens)?;
+    let (body, rest) = given!(block(alloc, depth, true, tokens));
     Ok((Some(body), rest))
 }
 
@@ -145,10 +150,10 @@ fn function<'t>(
     ensures reads { Gives (λ x. (function_view x.0, lexemes x.1.now)) result (function depth found (lexemes start.now) stars (identifier_view identifier) (lexemes tokens.now)) }
     ensures shorter { IfOk result (λ x. length x.1.now < length tokens.now) }
 {
-    let (parameters, rest) = parameters(alloc, depth - 1, tokens)?;
-    let rest = want(Mark::CloseParenthesis, rest)?;
+    let (parameters, rest) = given!(parameters(alloc, depth - 1, tokens));
+    let rest = given!(want(Mark::CloseParenthesis, rest));
     let extent = extent_before(start, rest);
-    let (body, rest) = body(alloc, depth, &parameters, rest)?;
+    let (body, rest) = given!(body(alloc, depth, &parameters, rest));
     let function = Function {
         extent,
         base: found.base(),
@@ -192,15 +197,15 @@ fn objects<'t>(
     if found.is_void {
         return Err(ParseErr::Stuck(stuck(tokens)));
     }
-    let (first, rest) = named_declarator(alloc, depth, start, stars, identifier, tokens)?;
-    let (declaration, rest) = begun_declaration(
+    let (first, rest) = given!(named_declarator(alloc, depth, start, stars, identifier, tokens));
+    let (declaration, rest) = given!(begun_declaration(
         alloc,
         depth,
         whole,
         found.integer_type(),
         first,
         rest,
-    )?;
+    ));
     Ok((Item::Declaration(declaration), rest))
 }
 
@@ -211,12 +216,14 @@ fn external(alloc: Global, depth: u32, tokens: &[Token]) -> Result<(Item, &[Toke
     ensures reads { Gives (λ x. (item_view x.0, lexemes x.1.now)) result (external depth (lexemes tokens.now)) }
     ensures shorter { IfOk result (λ x. length x.1.now < length tokens.now) }
 {
-    let (found, start) = specifiers(Place::File, tokens)?;
+    let (found, start) = given!(specifiers(Place::File, tokens));
     let (stars, rest) = result_stars(found, start);
-    let (identifier, rest) = identifier(alloc, rest)?;
+    let (identifier, rest) = given!(identifier(alloc, rest));
     match behind(Mark::OpenParenthesis, rest) {
         Some(inside) => {
-            let (function, rest) = function(alloc, depth, found, start, stars, identifier, inside)?;
+            let (function, rest) = given!(function(
+                alloc, depth, found, start, stars, identifier, inside
+            ));
             Ok((Item::Function(function), rest))
         }
         None => objects(alloc, depth, found, tokens, start, stars, identifier, rest),

@@ -6,9 +6,8 @@ ghost use Rattle.c_tree.specs.Trees.{tree_view};
 ghost use Rattle.debug_records.specs.Refusals.{Answers};
 ghost use Rattle.c_parse.specs.Files.{last_line, tree_of, RefusedFor};
 
-use crate::fault::{ParseErr, Stuck};
 use crate::file::items;
-use crate::front::spot_at;
+use c_parse_tokens::{ParseErr, Stuck, spot_at};
 use c_token::Token;
 use c_tree::Tree;
 use debug_records::{Code, SourceErr};
@@ -18,7 +17,7 @@ use std::alloc::Global;
 const NESTING: u32 = 64;
 
 /// The line of the last token, from 1; 0 where there is none.
-#[tactic(auto, using(crate::proofs::Tokens::length_lexemes, crate::proofs::Tokens::lexemes_drop), unfolding(crate::specs::Files::last_line))]
+#[tactic(auto, using(c_parse_tokens::proofs::Tokens::length_lexemes, c_parse_tokens::proofs::Tokens::lexemes_drop), unfolding(crate::specs::Files::last_line))]
 fn last_line(tokens: &[Token]) -> u32
     ensures { result ≡ last_line (lexemes tokens.now) }
 {

@@ -1,8 +1,8 @@
-use Rattle.std.proofs.Common.{◌≡◌, ◌≤◌, ◌<◌, ℕ, length}
+use Rattle.std.proofs.Common.{◌≡◌, ◌≤◌, ℕ, length}
 use Rattle.std.specs.Prelude.{map}
 use Rattle.c_token.specs.Lexemes.{lexemes}
 use Rattle.c_tree.specs.Declarations.{parameter_view}
-use Rattle.c_parse.specs.Front.{separated}
+use Rattle.c_parse_tokens.specs.Front.{separated}
 use Rattle.c_parse.specs.Files.{parameter, parameters}
 use Rattle.c_parse.proofs.file.parameters.Given as goal
 

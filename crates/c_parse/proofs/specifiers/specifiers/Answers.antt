@@ -1,7 +1,0 @@
-use Rattle.std.proofs.Common.{rules}
-use Rattle.c_parse.specs.Specifiers.{is_type}
-use Rattle.c_parse.proofs.specifiers.specifiers.Goals as goal
-
-pub loop-rest-init : goal.loop-rest-init
-unfolding is_type
-loop-rest-init c = rw c.none-found.ensures (search rules)

@@ -1,0 +1,13 @@
+use Rattle.std.proofs.Common.{◌≡◌, ◌≤◌, length}
+use Rattle.c_token.specs.Lexemes.{lexemes}
+use Rattle.c_parse_expressions.specs.Expressions.{literals}
+use Rattle.c_parse_expressions.proofs.expression.literals.Given as goal
+
+abbrev pub invariant-loop-rest : goal.invariant-loop-rest
+invariant-loop-rest l = record {
+  same : literals l.first (lexemes l.tokens) ≡ literals l.bytes.items (lexemes l.rest);
+  not_longer : length l.rest ≤ length l.tokens;
+}
+
+abbrev pub decreases-loop-rest : goal.decreases-loop-rest
+decreases-loop-rest l = length l.rest

@@ -1,0 +1,4 @@
+pub mod Outcome
+pub mod Front
+pub mod Operators
+pub mod Specifiers
