@@ -25,3 +25,5 @@ pub mod Waiting
 pub mod Unread
 pub mod Asking
 pub mod Walking
+pub mod RowSets
+pub mod LiveRows

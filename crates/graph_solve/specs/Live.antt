@@ -47,6 +47,11 @@ abbrev pub without : Option ℕ → Numbers → Numbers
 without None live = live
 without (Some x) live = remove live x
 
+-- without what instructions write
+abbrev pub without_all : List Instruction → Numbers → Numbers
+without_all [] live = live
+without_all (i ∷ more) live = without_all more (without (target_of i) live)
+
 -- the names that are live before an instruction, from those behind it
 abbrev pub before_one : (width : ℕ) → Instruction → Numbers → Numbers
 before_one width i live = with_names width (reads_of i) (without (target_of i) live)

@@ -74,7 +74,7 @@ module _ (width x : ℕ) where
       put_in more (cond (nat_lt y width) (insert live y) live) ∙ ap (λ c. (any && w) || c) (one_put (nat_lt y width) y live refl)
       ∙ or_move (any && w) ((y == x) && w) (contains live x) ∙ ap (λ c. c || contains live x) (and_or (y == x) any w)
 
-  without_in : (o : Option ℕ) (live : Numbers) → contains (without o live) x ≡ (not (option_map_or (λ y. y == x) o false) && contains live x)
+  pub without_in : (o : Option ℕ) (live : Numbers) → contains (without o live) x ≡ (not (option_map_or (λ y. y == x) o false) && contains live x)
   without_in None live = refl
   without_in (Some y) live = contains-remove nat_cmp_total live y x ∙ ap (λ b. not b && contains live x) (unsigned_tied x y ∙ same_symm x y)
 

@@ -1,21 +1,27 @@
 //! The names that are read later.
 
-ghost use Rattle.std.specs.Prelude.{◌≡◌, ◌<◌, ◌^◌, IfOk, OnOk, length, map, option_map};
-ghost use Rattle.std.specs.FinSet.{empty};
+ghost use Rattle.std.specs.Prelude.{◌≡◌, ◌<◌, ◌^◌, IfOk, OnOk, length, map, option_map, slice_get};
 ghost use Rattle.graph_core.specs.Paths as paths;
 ghost use Rattle.graph_solve.specs.Live as later;
 ghost use Rattle.graph_core.specs.Graphs.{block_view, end_view, graph_view, instruction_view};
 ghost use Rattle.graph_core.specs.Uses.{numbers, reads_of_end};
 ghost use Rattle.graph_solve.specs.GraphFlow.{AreTargetsWithin};
-ghost use Rattle.graph_solve.specs.Live.{AreLive, before_block, before_one, with_names};
+ghost use Rattle.graph_solve.specs.Live.{AreLive, before_block, before_one, makes_live, with_names};
 ghost use Rattle.graph_solve.specs.LiveLaws.{live_flow};
+ghost use Rattle.graph_solve.specs.Rows.{table};
+ghost use Rattle.graph_solve.specs.Solved.{ends_of, starts_of};
 
 use crate::facts::Facts;
-use crate::graph::solve;
+use crate::graph::{flow_graph, solve_in_tables};
+use crate::names_in_rows::{live_tables, read_rows};
 use crate::problem::Problem;
-use crate::solved_rows::Solution;
+use crate::solved_rows::{Solution, SolvedRows};
+use crate::steps::Steps;
+use bit_rows::Rows;
 use graph_core::{Block, End, Graph, Instr, Name};
 use std::alloc::{AllocError, Global};
+use std::marker::Brand;
+use std::sync::ledger::{Blank, Ledger};
 
 /// Puts the names below the width into the set.
 fn add_names(names: &[Name], width: u32, live: &mut Facts) -> Result<(), AllocError>
@@ -98,25 +104,13 @@ fn writes(instruction: &Instr, name: u32) -> bool
     }
 }
 
-/// For each block the names that it reads before it writes them.
-fn read_first(alloc: Global, graph: &Graph) -> Result<Vec<Facts>, AllocError>
-    ensures { IfOk result (λ all. all.items ≡ map (λ b. before_block graph.now.name_count b empty) (map block_view graph.now.blocks.items)) }
-{
-    let none = Facts::new(alloc);
-    let mut all = Vec::new(alloc);
-    for block in &graph.blocks {
-        all.push(live_at_start(alloc, block, graph.name_count, &none)?)?;
-    }
-    Ok(all)
-}
-
 /// Live names as a problem: they flow against execution, from none at the function's ends.
 #[derive(Drop)]
 pub(crate) struct LiveNames<'a> {
     pub graph: &'a Graph,
     /// For each block the names that it reads first.
-    pub read: &'a Vec<Facts>,
-    ghost are_read: { read.now.items ≡ map (λ b. before_block graph.now.name_count b empty) (map block_view graph.now.blocks.items) },
+    pub read: &'a Rows,
+    ghost are_read: { read.now ≡ table (length graph.now.blocks.items) graph.now.name_count (λ block name. makes_live graph.now.name_count name (slice_get (map block_view graph.now.blocks.items) block)) },
 }
 
 impl<'a> Problem for LiveNames<'a> {
@@ -146,10 +140,7 @@ impl<'a> Problem for LiveNames<'a> {
     }
 
     fn written(&self, block: u32, fact: u32) -> bool {
-        match self.read.get(block as usize) {
-            Some(read) => read.has(fact),
-            None => false,
-        }
+        (block as usize) < self.graph.blocks.len() && self.read.get(block, fact)
     }
 
     fn edge(&self, alloc: Global) -> Result<Facts, AllocError> {
@@ -172,17 +163,48 @@ impl<'a> Problem for LiveNames<'a> {
     }
 }
 
+/// The names that are read later on a ledger of its own, as rows of bits.
+fn live_on<L: Ledger>(alloc: Global, graph: &Graph, blank: Blank) -> Result<SolvedRows, AllocError>
+    requires few { length graph.now.blocks.items < 2 ^ 31 }
+    requires within { AreTargetsWithin (graph_view graph.now) }
+    requires name { blank.name ≡ L.name }
+    requires parts { blank.parts ≡ L.parts }
+    requires some { 0 < blank.parts }
+    ensures live { IfOk result (λ solved. AreLive (graph_view graph.now) (starts_of solved) (ends_of solved)) }
+    ensures blocks { IfOk result (λ solved. solved.blocks ≡ length graph.now.blocks.items) }
+    ensures width { IfOk result (λ solved. solved.width ≡ graph.now.name_count) }
+{
+    let flow = flow_graph(alloc, graph)?;
+    let read = read_rows(alloc, graph)?;
+    let names = LiveNames { graph, read: &read };
+    let tables = live_tables(alloc, graph, &flow)?;
+    let mut steps = Steps::<L>::new(blank);
+    let solved = solve_in_tables(alloc, graph, &flow, &names, tables, &mut steps)?;
+    Ok(solved)
+}
+
 /// The names that are read later, at the start and at the end of each block (Hennessy 1982): those that some path from there on
-/// reads before it writes them.
+/// reads before it writes them. As rows of bits, in time linear in their words where no loop is deep.
 ///
 /// Notes read nothing. The call writes the parameters before the entry.
+pub fn live_rows(alloc: Global, graph: &Graph) -> Result<SolvedRows, AllocError>
+    requires few { length graph.now.blocks.items < 2 ^ 31 }
+    requires within { AreTargetsWithin (graph_view graph.now) }
+    ensures live { IfOk result (λ solved. AreLive (graph_view graph.now) (starts_of solved) (ends_of solved)) }
+    ensures blocks { IfOk result (λ solved. solved.blocks ≡ length graph.now.blocks.items) }
+    ensures width { IfOk result (λ solved. solved.width ≡ graph.now.name_count) }
+{
+    let solved = live_on::<Brand>(alloc, graph, Blank::new(1))?;
+    Ok(solved)
+}
+
+/// The same as sets.
 pub fn live(alloc: Global, graph: &Graph) -> Result<Solution, AllocError>
     requires few { length graph.now.blocks.items < 2 ^ 31 }
     requires within { AreTargetsWithin (graph_view graph.now) }
     ensures { IfOk result (λ solution. AreLive (graph_view graph.now) solution.starts.items solution.ends.items) }
 {
-    let read = read_first(alloc, graph)?;
-    let names = LiveNames { graph, read: &read };
-    let solution = solve(alloc, graph, &names)?;
+    let solved = live_rows(alloc, graph)?;
+    let solution = solved.solution(alloc)?;
     Ok(solution)
 }

@@ -4,7 +4,7 @@ use Rattle.graph_solve.specs.Rows.{sets_at}
 use Rattle.graph_solve.specs.Work.{edges_of}
 use Rattle.graph_solve.proofs.Tasks.{directed_as, within_as}
 use Rattle.graph_solve.proofs.Waiting.{rows_solve}
-use Rattle.graph_solve.proofs.solving.solve_rows.Goals as goal
+use Rattle.graph_solve.proofs.solving.solve_tables.Goals as goal
 
 pub invariant_of-result : goal.invariant_of-result
 invariant_of-result g c =
