@@ -6,11 +6,10 @@ ghost use Rattle.graph_solve.specs.First.{first_bit};
 ghost use Rattle.graph_solve.specs.Rows.{table};
 ghost use Rattle.graph_solve.specs.Work.{IsTask, IsWork, edges_from, sum_to, to_come, weighed};
 
-use crate::flow_graph::FlowGraph;
-use crate::problem::Problem;
 use crate::task::Task;
 use crate::work::Work;
 use bit_rows::Rows;
+use graph_problem::{FlowGraph, Problem};
 use std::alloc::{AllocError, Global};
 use std::collections::VecDeque;
 

@@ -4,17 +4,14 @@ ghost use Rattle.std.specs.Prelude.{◌≡◌, ◌+◌, ◌*◌, ◌<◌, ◌≤
 ghost use Rattle.graph_core.specs.Graphs.{block_view, end_view, graph_view};
 ghost use Rattle.graph_core.specs.Uses.{targets_of};
 ghost use Rattle.graph_solve.specs.GraphFlow.{AreFlow, AreTargetsWithin, edge_count, edge_from, graph_flow, is_return, lead_within, leads_within};
-ghost use Rattle.graph_solve.specs.Solution.{IsSolution};
+ghost use Rattle.graph_problem.specs.Solution.{IsSolution};
 ghost use Rattle.graph_solve.specs.Solved.{ends_of, starts_of};
 ghost use Rattle.graph_solve.specs.Work.{AreTables};
 
-use crate::flow_graph::{Edge, FlowGraph};
-use crate::plain::solve_flow_plain;
-use crate::problem::Problem;
-use crate::solved_rows::{Solution, SolvedRows};
+use crate::solved_rows::SolvedRows;
 use crate::solving::{Tables, solve_tables, tables_of};
-use crate::steps::Steps;
 use graph_core::{Block, End, Graph};
+use graph_problem::{Edge, FlowGraph, Problem, Solution, Steps, solve_flow_plain};
 use std::alloc::{AllocError, Global};
 use std::marker::Brand;
 use std::sync::ledger::{Blank, Ledger};
@@ -41,7 +38,7 @@ fn push_edges(alloc: Global, from: u32, end: &End, edges: &mut Vec<Edge>) -> Res
 }
 
 /// The blocks of a graph, and the edges between them.
-pub(crate) fn flow_graph(alloc: Global, graph: &Graph) -> Result<FlowGraph, AllocError>
+pub fn flow_graph(alloc: Global, graph: &Graph) -> Result<FlowGraph, AllocError>
     requires { length graph.now.blocks.items ≤ 2 ^ 32 }
     ensures are { IfOk result (λ flow. AreFlow (graph_view graph.now) (length graph.now.blocks.items) flow.ends.items flow.edges.items) }
     ensures count { IfOk result (λ flow. length flow.edges.items ≡ edge_count (graph_view graph.now)) }
@@ -92,7 +89,7 @@ pub fn targets_are_within(graph: &Graph) -> bool
 
 /// At the start and at the end of each block of a function, with the blocks and edges of this graph, the meet over all paths of the problem's direction
 /// that lead there, from the problem's rows.
-pub(crate) fn solve_in_tables<P: Problem, L: Ledger>(
+pub fn solve_in_tables<P: Problem, L: Ledger>(
     alloc: Global,
     graph: &Graph,
     flow: &FlowGraph,

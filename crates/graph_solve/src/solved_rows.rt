@@ -3,17 +3,10 @@
 ghost use Rattle.std.specs.Prelude.{◌≡◌, ℕ, ◌+◌, ◌<◌, ◌^◌, length};
 ghost use Rattle.bit_rows.specs.Grid.{row_at};
 
-use crate::facts::Facts;
 use crate::sets::sets_of;
 use bit_rows::Rows;
+use graph_problem::Solution;
 use std::alloc::{AllocError, Global};
-
-/// For each block the facts at its start and at its end.
-#[derive(Drop)]
-pub struct Solution {
-    pub starts: Vec<Facts>,
-    pub ends: Vec<Facts>,
-}
 
 /// Rows of bits that solve a problem: for each block what comes to it along paths, and then for each what it makes of it.
 #[derive(Drop)]
@@ -30,7 +23,7 @@ pub struct SolvedRows {
 impl SolvedRows {
     ghost use Rattle.std.specs.FinSet.{contains};
     ghost use Rattle.std.specs.Prelude.{IfOk, Some, slice_get, slice_set};
-    ghost use Rattle.graph_solve.specs.Numbers.{Numbers};
+    ghost use Rattle.graph_problem.specs.Numbers.{Numbers};
     ghost use Rattle.graph_solve.specs.Rows.{AreSameElsewhere, set_at};
     ghost use Rattle.graph_solve.specs.Solved.{ends_of, starts_of};
 

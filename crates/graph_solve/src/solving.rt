@@ -3,26 +3,24 @@
 ghost use Rattle.std.specs.Prelude.{◌≡◌, ◌+◌, ◌*◌, ◌<◌, ◌≤◌, ◌^◌, IfOk, OnOk, length};
 ghost use Rattle.graph_solve.specs.First.{first_bit};
 ghost use Rattle.graph_solve.specs.Rows.{table};
-ghost use Rattle.graph_solve.specs.Solution.{AreWithin, IsSolution, control_flow};
+ghost use Rattle.graph_problem.specs.Solution.{AreWithin, IsSolution, control_flow};
 ghost use Rattle.graph_solve.specs.Solved.{ends_of, starts_of};
 ghost use Rattle.graph_solve.specs.Work.{AreTables};
 
 use crate::begin::first_work;
 use crate::first::{FirstBits, KeptBits, WrittenBits};
-use crate::flow_graph::FlowGraph;
-use crate::problem::Problem;
 use crate::solved_rows::SolvedRows;
-use crate::steps::Steps;
 use crate::tables::table_of;
 use crate::task::task_of;
 use crate::work::settle;
 use bit_rows::Rows;
+use graph_problem::{FlowGraph, Problem, Steps};
 use std::alloc::{AllocError, Global};
 use std::sync::ledger::Ledger;
 
 /// The rows of a problem over a graph.
 #[derive(Drop)]
-pub(crate) struct Tables {
+pub struct Tables {
     /// For each block the facts that it keeps.
     pub kept: Rows,
     /// For each block the facts that it makes.

@@ -1,15 +1,13 @@
 //! What the solver knows of a problem and a graph before it begins.
 
 ghost use Rattle.std.specs.Prelude.{◌≡◌, ◌+◌, ◌<◌, ◌^◌, [], length, IfOk, map};
-ghost use Rattle.graph_solve.specs.Rounds.{directed};
+ghost use Rattle.graph_problem.specs.Rounds.{directed};
 ghost use Rattle.graph_solve.specs.Rows.{table};
-ghost use Rattle.graph_solve.specs.Solution.{AreWithin};
+ghost use Rattle.graph_problem.specs.Solution.{AreWithin};
 ghost use Rattle.graph_solve.specs.Work.{AreTargets, IsTask};
 
-use crate::directed::directed_edge;
-use crate::flow_graph::FlowGraph;
-use crate::problem::Problem;
 use bit_rows::Rows;
+use graph_problem::{FlowGraph, Problem, directed_edge};
 use std::alloc::{AllocError, Global};
 
 /// The problem in rows of bits, and the graph in the direction of its paths.

@@ -7,7 +7,8 @@ ghost use Rattle.home_assign.specs.Table.{AreWide};
 
 use bit_rows::Rows;
 use graph_core::{Binding, Block, Graph, Instr, Name, Operand};
-use graph_solve::{SolvedRows, live_rows};
+use graph_live::live_rows;
+use graph_solve::SolvedRows;
 use std::alloc::{AllocError, Global};
 
 /// Which names of a graph interfere: one is written where the other is live behind it. And which of them have which registers.
