@@ -10,10 +10,10 @@ ghost use Rattle.home_assign.specs.Homes.{AreHomesFor, MayHaveHomes, homes_liste
 use crate::choosing::registers;
 use crate::interference::interference_of;
 use crate::joins::first_joined;
-use crate::sharing::{log_shared, moved_by};
 use debug_records::{ChangeLog, Mode, PassName};
 use graph_core::{Graph, Unit};
 use graph_homes::Home;
+use home_sharing::{log_shared, moved_by};
 use homed_unit::{FunctionHomes, HomedUnit};
 use std::alloc::{AllocError, Global};
 
