@@ -1,15 +1,5 @@
-pub mod Trees
-pub mod Lists
-pub mod Falling
-pub mod Relaxing
-pub mod Rounding
-pub mod Directing
-pub mod Solved
-pub mod PathLaws
-pub mod Neighbours
 pub mod Valid
 pub mod Carrying
-pub mod Living
 pub mod Within
 pub mod Bitsets
 pub mod Weighing
@@ -22,6 +12,5 @@ pub mod Targets
 pub mod Beginning
 pub mod Reading
 pub mod Waiting
-pub mod Unread
 pub mod Asking
-pub mod Walking
+pub mod RowSets

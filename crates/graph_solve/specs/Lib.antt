@@ -1,16 +1,4 @@
-pub mod Numbers
-pub mod Problem
-pub mod Paths
-pub mod Meets
-pub mod Solution
-pub mod Rounds
-pub mod SetLaws
-pub mod SetProblems
 pub mod GraphFlow
-pub mod Live
-pub mod Inside
-pub mod Unread
-pub mod LiveLaws
 pub mod First
 pub mod Rows
 pub mod Work

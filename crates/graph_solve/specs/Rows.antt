@@ -1,9 +1,9 @@
 -- Rows of bits as sets of numbers.
-use Rattle.std.specs.Prelude.{ℕ, suc, ◌+◌, Bool, true, false, List, [], ◌∷◌, map}
+use Rattle.std.specs.Prelude.{◌≡◌, ℕ, suc, ◌+◌, Bool, true, false, List, [], ◌∷◌, length, map}
 use Rattle.std.specs.FinSet.{empty, insert}
 use Rattle.std.specs.List.{range_with_len}
 use Rattle.bit_rows.specs.Grid.{row_at}
-use Rattle.graph_solve.specs.Numbers.{Numbers}
+use Rattle.graph_problem.specs.Numbers.{Numbers}
 
 -- the numbers whose bits are set in a row that begins with this number
 abbrev pub numbers_from : ℕ → List Bool → Numbers
@@ -26,3 +26,9 @@ sets_at rows from count = map (λ row. set_at rows (from + row)) (range_with_len
 -- rows that are made of a function of row and bit
 abbrev pub table : (rows width : ℕ) → (ℕ → ℕ → Bool) → List (List Bool)
 table rows width bits = map (λ row. map (bits row) (range_with_len 0 width)) (range_with_len 0 rows)
+
+-- Rows are as they were but for one, which has as many bits as it had.
+pub record AreSameElsewhere (row : ℕ) (old new : List (List Bool)) : Type 0 where
+  pub count : length new ≡ length old
+  pub width : length (row_at new row) ≡ length (row_at old row)
+  pub others : (other : ℕ) → (other ≡ row → ⊥) → row_at new other ≡ row_at old other

@@ -4,14 +4,16 @@ use Rattle.std.specs.List.{All, Contains}
 use Rattle.std.specs.declared.vec.Vec.{Vec}
 use Rattle.std.specs.declared.alloc.Global.{Global}
 use Rattle.bit_rows.specs.Grid.{row_at}
-use Rattle.graph_solve.specs.declared.flow_graph.Edge.{Edge}
-use Rattle.graph_solve.specs.declared.flow_graph.FlowGraph.{FlowGraph}
+use Rattle.graph_problem.specs.declared.flow_graph.Edge.{Edge}
+use Rattle.graph_problem.specs.declared.flow_graph.FlowGraph.{FlowGraph}
+use Rattle.graph_solve.specs.declared.solving.Tables.{Tables}
 use Rattle.graph_solve.specs.declared.task.Task.{Task}
 use Rattle.graph_solve.specs.declared.work.Work.{Work}
-use Rattle.graph_solve.specs.Problem.{DataFlow}
-use Rattle.graph_solve.specs.Paths.{ControlFlow}
-use Rattle.graph_solve.specs.Solution.{AreWithin, HasEdge, control_flow}
-use Rattle.graph_solve.specs.Rounds.{AreFalling, directed}
+use Rattle.graph_solve.specs.First.{first_bit}
+use Rattle.graph_problem.specs.Problem.{DataFlow}
+use Rattle.graph_problem.specs.Paths.{ControlFlow}
+use Rattle.graph_problem.specs.Solution.{AreWithin, HasEdge, control_flow}
+use Rattle.graph_problem.specs.Rounds.{AreFalling, directed}
 use Rattle.graph_solve.specs.Rows.{set_at, sets_at, table}
 
 -- where edges lead from a block, in the order of the edges
@@ -27,6 +29,12 @@ pub record AreTargets (edges : List Edge) (blocks : ℕ) (targets : List (Vec �
 -- the edges as paths lead along them
 abbrev pub edges_of : DataFlow → FlowGraph → List Edge
 edges_of flow graph = map (directed flow.forward) graph.edges.items
+
+-- The rows of a problem over a graph are what the problem tells of each block and fact.
+pub record AreTables (flow : DataFlow) (graph : FlowGraph) (tables : Tables) : Type 0 where
+  pub kept : tables.kept ≡ table (length graph.ends.items) flow.width flow.kept
+  pub written : tables.written ≡ table (length graph.ends.items) flow.width flow.written
+  pub first : tables.first ≡ table (length graph.ends.items + length graph.ends.items) flow.width (first_bit graph.ends.items flow.forward flow.unites flow.edge)
 
 -- What the solver knows of the problem and the graph.
 pub record IsTask (flow : DataFlow) (graph : FlowGraph) (task : Task) : Type 0 where

@@ -2,15 +2,14 @@
 
 ghost use Rattle.std.specs.Prelude.{◌≡◌, ◌+◌, ◌*◌, ◌<◌, ◌^◌, ℕ, [], length, IfOk};
 ghost use Rattle.std.specs.List.{All, Contains};
+ghost use Rattle.graph_solve.specs.First.{first_bit};
+ghost use Rattle.graph_solve.specs.Rows.{table};
 ghost use Rattle.graph_solve.specs.Work.{IsTask, IsWork, edges_from, sum_to, to_come, weighed};
 
-use crate::facts::Facts;
-use crate::first::FirstBits;
-use crate::flow_graph::FlowGraph;
-use crate::problem::Problem;
-use crate::tables::table_of;
 use crate::task::Task;
 use crate::work::Work;
+use bit_rows::Rows;
+use graph_problem::{FlowGraph, Problem};
 use std::alloc::{AllocError, Global};
 use std::collections::VecDeque;
 
@@ -31,27 +30,20 @@ fn first_queue(alloc: Global, blocks: u32, forward: bool) -> Result<VecDeque<u32
     Ok(queue)
 }
 
-/// The work as it begins.
+/// The work as it begins, with the rows of the first values.
 pub(crate) fn first_work<P: Problem>(
     alloc: Global,
     graph: &FlowGraph,
     problem: &P,
     task: &Task,
+    values: Rows,
 ) -> Result<Work, AllocError>
-    requires { IsTask (P.flow problem.now) graph.now task.now }
+    requires task { IsTask (P.flow problem.now) graph.now task.now }
+    requires values { values ≡ table (length graph.now.ends.items + length graph.now.ends.items) (P.flow problem.now).width (first_bit graph.now.ends.items (P.flow problem.now).forward (P.flow problem.now).unites (P.flow problem.now).edge) }
     ensures state { IfOk result (λ work. IsWork (P.flow problem.now) graph.now work 0 []) }
     ensures to_come { IfOk result (λ work. to_come (edges_from task.now) task.now.height work ≡ length graph.now.edges.items * (task.now.height + 1)) }
 {
     let forward = problem.forward();
-    let width = problem.width();
-    let edge = problem.edge(alloc)?;
-    let bits = FirstBits {
-        graph,
-        forward,
-        unites: task.unites,
-        edge: &edge,
-    };
-    let values = table_of(alloc, &bits, 2 * task.blocks, width)?;
     let queue = first_queue(alloc, task.blocks, forward)?;
     let waiting = vec![in alloc; true; graph.ends.len()]?;
     let counts = vec![in alloc; 0; graph.ends.len()]?;

@@ -4,16 +4,14 @@ ghost use Rattle.std.specs.Prelude.{◌≡◌, ◌+◌, ◌*◌, ◌<◌, ◌≤
 ghost use Rattle.graph_core.specs.Graphs.{block_view, end_view, graph_view};
 ghost use Rattle.graph_core.specs.Uses.{targets_of};
 ghost use Rattle.graph_solve.specs.GraphFlow.{AreFlow, AreTargetsWithin, edge_count, edge_from, graph_flow, is_return, lead_within, leads_within};
-ghost use Rattle.graph_solve.specs.Solution.{IsSolution};
+ghost use Rattle.graph_problem.specs.Solution.{IsSolution};
 ghost use Rattle.graph_solve.specs.Solved.{ends_of, starts_of};
+ghost use Rattle.graph_solve.specs.Work.{AreTables};
 
-use crate::flow_graph::{Edge, FlowGraph};
-use crate::plain::solve_flow_plain;
-use crate::problem::Problem;
-use crate::solved_rows::{Solution, SolvedRows};
-use crate::solving::solve_rows;
-use crate::steps::Steps;
+use crate::solved_rows::SolvedRows;
+use crate::solving::{Tables, solve_tables, tables_of};
 use graph_core::{Block, End, Graph};
+use graph_problem::{Edge, FlowGraph, Problem, Solution, Steps, solve_flow_plain};
 use std::alloc::{AllocError, Global};
 use std::marker::Brand;
 use std::sync::ledger::{Blank, Ledger};
@@ -40,7 +38,7 @@ fn push_edges(alloc: Global, from: u32, end: &End, edges: &mut Vec<Edge>) -> Res
 }
 
 /// The blocks of a graph, and the edges between them.
-fn flow_graph(alloc: Global, graph: &Graph) -> Result<FlowGraph, AllocError>
+pub fn flow_graph(alloc: Global, graph: &Graph) -> Result<FlowGraph, AllocError>
     requires { length graph.now.blocks.items ≤ 2 ^ 32 }
     ensures are { IfOk result (λ flow. AreFlow (graph_view graph.now) (length graph.now.blocks.items) flow.ends.items flow.edges.items) }
     ensures count { IfOk result (λ flow. length flow.edges.items ≡ edge_count (graph_view graph.now)) }
@@ -89,6 +87,30 @@ pub fn targets_are_within(graph: &Graph) -> bool
     within
 }
 
+/// At the start and at the end of each block of a function, with the blocks and edges of this graph, the meet over all paths of the problem's direction
+/// that lead there, from the problem's rows.
+pub fn solve_in_tables<P: Problem, L: Ledger>(
+    alloc: Global,
+    graph: &Graph,
+    flow: &FlowGraph,
+    problem: &P,
+    tables: Tables,
+    steps: &mut Steps<L>,
+) -> Result<SolvedRows, AllocError>
+    requires few { length graph.now.blocks.items < 2 ^ 31 }
+    requires within { AreTargetsWithin (graph_view graph.now) }
+    requires flow { AreFlow (graph_view graph.now) (length graph.now.blocks.items) flow.now.ends.items flow.now.edges.items }
+    requires count { length flow.now.edges.items ≡ edge_count (graph_view graph.now) }
+    requires tables { AreTables (P.flow problem.now) flow.now tables }
+    ensures solution { IfOk result (λ solved. IsSolution (P.flow problem.now) (graph_flow (graph_view graph.now)) (length graph.now.blocks.items) (starts_of solved) (ends_of solved)) }
+    ensures blocks { IfOk result (λ solved. solved.blocks ≡ length graph.now.blocks.items) }
+    ensures width { IfOk result (λ solved. solved.width ≡ (P.flow problem.now).width) }
+    ensures steps { OnOk result (steps.new ≤ steps.old + edge_count (graph_view graph.now) * ((P.flow problem.now).height + 1)) }
+{
+    let solved = solve_tables(alloc, flow, problem, tables, steps)?;
+    Ok(solved)
+}
+
 /// At the start and at the end of each block of a function the meet over all paths of the problem's direction that lead there, in rows of bits,
 /// in time linear in their words where no loop is deep. A step is counted for each meet of two values.
 pub fn solve_in_rows<P: Problem, L: Ledger>(
@@ -105,7 +127,8 @@ pub fn solve_in_rows<P: Problem, L: Ledger>(
     ensures steps { OnOk result (steps.new ≤ steps.old + edge_count (graph_view graph.now) * ((P.flow problem.now).height + 1)) }
 {
     let flow = flow_graph(alloc, graph)?;
-    let solved = solve_rows(alloc, &flow, problem, steps)?;
+    let tables = tables_of(alloc, &flow, problem)?;
+    let solved = solve_in_tables(alloc, graph, &flow, problem, tables, steps)?;
     Ok(solved)
 }
 

@@ -2,33 +2,19 @@
 #![tactic(auto)]
 
 mod begin;
-mod directed;
-mod facts;
 mod first;
-mod flow_graph;
 mod graph;
-mod inside;
-mod laws;
-mod live_names;
-mod plain;
-mod problem;
-mod rounds;
 mod sets;
 mod solved_rows;
 mod solving;
-mod steps;
 mod tables;
 mod task;
 mod work;
 
-pub use facts::Facts;
-pub use flow_graph::{Edge, FlowGraph};
-pub use graph::{solve, solve_counted, solve_in_rows, solve_plain, targets_are_within};
-pub use inside::{Effect, Effects, step_over, step_over_end, walk_over};
-pub use laws::{is_live_inside, unread_is_not_read_first, walk_is_met, walk_is_transfer};
-pub use live_names::{live, live_before, live_before_end};
-pub use plain::solve_flow_plain;
-pub use problem::Problem;
-pub use solved_rows::{Solution, SolvedRows};
-pub use solving::solve_rows;
-pub use steps::Steps;
+pub use graph::{
+    flow_graph, solve, solve_counted, solve_in_rows, solve_in_tables, solve_plain,
+    targets_are_within,
+};
+pub use solved_rows::SolvedRows;
+pub use solving::{Tables, solve_rows};
+pub use tables::{Bits, table_of};

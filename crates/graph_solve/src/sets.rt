@@ -4,8 +4,8 @@ ghost use Rattle.std.specs.Prelude.{◌≡◌, ℕ, ◌+◌, ◌≤◌, ◌<◌,
 ghost use Rattle.bit_rows.specs.Grid.{row_at};
 ghost use Rattle.graph_solve.specs.Rows.{set_at, sets_at};
 
-use crate::facts::Facts;
 use bit_rows::Rows;
+use graph_problem::Facts;
 use std::alloc::{AllocError, Global};
 
 /// The numbers whose bits are set in a row.

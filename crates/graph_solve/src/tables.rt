@@ -5,12 +5,11 @@ ghost use Rattle.std.specs.List.{range_with_len};
 ghost use Rattle.bit_rows.specs.Grid.{is_set, row_at};
 ghost use Rattle.graph_solve.specs.Rows.{table};
 
-use crate::problem::Problem;
 use bit_rows::Rows;
 use std::alloc::{AllocError, Global};
 
 /// Which bits of rows are set.
-pub(crate) trait Bits {
+pub trait Bits {
     /// Whether a bit of a row is set.
     ghost bits: { Self → ℕ → ℕ → Bool };
 
@@ -38,7 +37,7 @@ fn put_row<B: Bits>(bits: &B, row: u32, width: u32, rows: &mut Rows)
 }
 
 /// So many rows with the bits that are told.
-pub(crate) fn table_of<B: Bits>(
+pub fn table_of<B: Bits>(
     alloc: Global,
     bits: &B,
     count: u32,

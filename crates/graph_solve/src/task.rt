@@ -1,16 +1,13 @@
 //! What the solver knows of a problem and a graph before it begins.
 
 ghost use Rattle.std.specs.Prelude.{◌≡◌, ◌+◌, ◌<◌, ◌^◌, [], length, IfOk, map};
-ghost use Rattle.graph_solve.specs.Rounds.{directed};
-ghost use Rattle.graph_solve.specs.Solution.{AreWithin};
+ghost use Rattle.graph_problem.specs.Rounds.{directed};
+ghost use Rattle.graph_solve.specs.Rows.{table};
+ghost use Rattle.graph_problem.specs.Solution.{AreWithin};
 ghost use Rattle.graph_solve.specs.Work.{AreTargets, IsTask};
 
-use crate::directed::directed_edge;
-use crate::first::{KeptBits, WrittenBits};
-use crate::flow_graph::FlowGraph;
-use crate::problem::Problem;
-use crate::tables::table_of;
 use bit_rows::Rows;
+use graph_problem::{FlowGraph, Problem, directed_edge};
 use std::alloc::{AllocError, Global};
 
 /// The problem in rows of bits, and the graph in the direction of its paths.
@@ -55,23 +52,24 @@ pub(crate) fn targets_of(
     Ok(targets)
 }
 
-/// What the solver knows of a problem and a graph.
+/// What the solver knows of a problem and a graph, with the rows of what each block keeps and makes.
 pub(crate) fn task_of<P: Problem>(
     alloc: Global,
     graph: &FlowGraph,
     problem: &P,
     blocks: u32,
+    kept: Rows,
+    written: Rows,
 ) -> Result<Task, AllocError>
     requires blocks { blocks ≡ length graph.now.ends.items }
     requires few { length graph.now.ends.items + length graph.now.ends.items < 2 ^ 32 }
+    requires kept { kept ≡ table (length graph.now.ends.items) (P.flow problem.now).width (P.flow problem.now).kept }
+    requires written { written ≡ table (length graph.now.ends.items) (P.flow problem.now).width (P.flow problem.now).written }
     requires within { AreWithin (length graph.now.ends.items) graph.now.edges.items }
     ensures { IfOk result (λ task. IsTask (P.flow problem.now) graph.now task) }
 {
-    let width = problem.width();
     let height = problem.height();
     let unites = problem.unites();
-    let kept = table_of(alloc, &KeptBits { problem }, blocks, width)?;
-    let written = table_of(alloc, &WrittenBits { problem }, blocks, width)?;
     let targets = targets_of(alloc, graph, problem.forward())?;
     Ok(Task {
         blocks,

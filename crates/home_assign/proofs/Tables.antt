@@ -4,6 +4,7 @@ use Rattle.std.specs.Prelude.{slice_set}
 use Rattle.std.proofs.lemmas.Bool.{cases_eq}
 use Rattle.std.proofs.lemmas.List.{length-set, get_or-set_same, get_or-set_other}
 use Rattle.bit_rows.specs.Grid.{row_at, with_bit, joined, met, met_bit}
+use Rattle.graph_solve.specs.Rows.{AreSameElsewhere}
 use Rattle.home_assign.specs.Table.{AreWide}
 
 pub wide_set : (width : ℕ) (rows : List (List Bool)) (row : ℕ) (new : List Bool) → length new ≡ width → AreWide width rows → AreWide width (slice_set rows row new)
@@ -32,3 +33,10 @@ wide_met width rows from to unite f t wide = wide_set width rows to (met unite (
 
 pub met_rows : (rows : List (List Bool)) (to : ℕ) (new : List Bool) → length (slice_set rows to new) ≡ length rows
 met_rows rows to new = length-set rows to new
+
+-- Rows of which one was written have their width.
+pub wide_elsewhere : (width row : ℕ) (old new : List (List Bool)) → row < length old → AreSameElsewhere row old new → AreWide width old → AreWide width new
+wide_elsewhere width row old new here same wide other lt = elim (cases_eq other row) [
+  | inl e ↦ ap (λ r. length (row_at new r)) e ∙ same.width ∙ wide row here
+  | inr ne ↦ ap length (same.others other ne) ∙ wide other (omega (arith, lt, same.count))
+]

@@ -10,10 +10,10 @@ ghost use Rattle.home_assign.specs.Homes.{AreHomesFor, MayHaveHomes, homes_liste
 use crate::choosing::registers;
 use crate::interference::interference_of;
 use crate::joins::first_joined;
-use crate::sharing::log_shared;
 use debug_records::{ChangeLog, Mode, PassName};
 use graph_core::{Graph, Unit};
 use graph_homes::Home;
+use home_sharing::{log_shared, moved_by};
 use homed_unit::{FunctionHomes, HomedUnit};
 use std::alloc::{AllocError, Global};
 
@@ -37,9 +37,9 @@ fn homes_of(alloc: Global, graph: &Graph, mode: Mode) -> Result<Vec<Home>, Alloc
     match mode {
         Mode::Slots => slots(alloc, graph),
         Mode::Registers => {
-            let interference = interference_of(alloc, graph)?;
+            let mut interference = interference_of(alloc, graph)?;
             let joined = first_joined(alloc, graph)?;
-            registers(alloc, &interference, &joined)
+            registers(alloc, &mut interference, &joined)
         }
     }
 }
@@ -62,11 +62,12 @@ fn homes_of_all(
     requires { AllByRecursion MayHaveHomes (map graph_view graphs.now) }
     ensures { IfOk result (λ v. AreHomesOf (map graph_view graphs.now) (homes_listed v.items)) }
 {
+    let moved = moved_by(alloc, log.changes())?;
     let mut homes = Vec::new(alloc);
     let mut left = graphs;
     while let [graph, rest @ ..] = left {
         let of = homes_of(alloc, graph, mode)?;
-        log_shared(alloc, graph, &of, pass_name(), log)?;
+        log_shared(alloc, graph, &of, &moved, pass_name(), log)?;
         homes.push(FunctionHomes { homes: of })?;
         left = rest;
     }

@@ -16,24 +16,22 @@ const HOME_REGISTERS: [u8; 15] = [9, 18, 19, 20, 21, 22, 23, 24, 25, 26, 27, 28,
 #[derive(Drop)]
 struct Choice {
     homes: Vec<Home>,
-    /// For each register that may be a home the names that it is the home of.
-    holders: Vec<Vec<u32>>,
     slots: u32,
 }
 
 /// A register that may be a home, by its number among them.
-fn home_register(number: usize) -> u8
+fn home_register(number: u32) -> u8
     requires { number < 15 }
     ensures { IsHomeRegister result }
 {
-    HOME_REGISTERS[number]
+    HOME_REGISTERS[number as usize]
 }
 
 /// The number of a register among those that may be homes.
-fn number_of(register: u8) -> Option<usize>
+fn number_of(register: u8) -> Option<u32>
     ensures { IfSome result (λ r. r < 15) }
 {
-    for number in 0..15usize {
+    for number in 0..15u32 {
         if home_register(number) == register {
             return Some(number);
         }
@@ -42,20 +40,8 @@ fn number_of(register: u8) -> Option<usize>
 }
 
 impl Choice {
-    /// No name that has a register interferes with a name.
-    fn is_free(&self, interference: &Interference, register: usize, name: u32) -> bool {
-        if let Some(holders) = self.holders.get(register) {
-            for holder in holders {
-                if interference.holds(name, *holder) {
-                    return false;
-                }
-            }
-        }
-        true
-    }
-
     /// The register of a name, if it has one, as its number among those that may be homes.
-    fn register_of(&self, name: u32) -> Option<usize>
+    fn register_of(&self, name: u32) -> Option<u32>
         ensures { IfSome result (λ r. r < 15) }
     {
         match self.homes.get(name as usize) {
@@ -65,11 +51,11 @@ impl Choice {
     }
 
     /// The register of the name that this one is joined to, if it is free.
-    fn joined(&self, interference: &Interference, name: u32, joined: Option<u32>) -> Option<usize>
+    fn joined(&self, interference: &mut Interference, name: u32, joined: Option<u32>) -> Option<u32>
         ensures { IfSome result (λ r. r < 15) }
     {
         let register = self.register_of(joined?)?;
-        if self.is_free(interference, register, name) {
+        if interference.is_free(register, name) {
             Some(register)
         } else {
             None
@@ -77,11 +63,11 @@ impl Choice {
     }
 
     /// The first register that is free.
-    fn first_free(&self, interference: &Interference, name: u32) -> Option<usize>
+    fn first_free(&self, interference: &mut Interference, name: u32) -> Option<u32>
         ensures { IfSome result (λ r. r < 15) }
     {
-        for register in 0..15usize {
-            if self.is_free(interference, register, name) {
+        for register in 0..15u32 {
+            if interference.is_free(register, name) {
                 return Some(register);
             }
         }
@@ -89,7 +75,7 @@ impl Choice {
     }
 
     /// The register of the next name, if there is one.
-    fn chosen(&self, interference: &Interference, name: u32, joined: Option<u32>) -> Option<usize>
+    fn chosen(&self, interference: &mut Interference, name: u32, joined: Option<u32>) -> Option<u32>
         ensures { IfSome result (λ r. r < 15) }
     {
         match self.joined(interference, name, joined) {
@@ -99,16 +85,13 @@ impl Choice {
     }
 
     /// The next name has a register.
-    fn put_register(&mut self, register: usize, name: u32) -> Result<(), AllocError>
+    fn put_register(&mut self, register: u32) -> Result<(), AllocError>
         requires register { register < 15 }
         requires among { AllByRecursion (IsHomeAmong (length self.old.homes.items)) self.old.homes.items }
         ensures one { OnOk result (length self.new.homes.items ≡ length self.old.homes.items + 1) }
         ensures slots { self.new.slots ≡ self.old.slots }
         ensures among { OnOk result (AllByRecursion (IsHomeAmong (length self.new.homes.items)) self.new.homes.items) }
     {
-        if let Some(holders) = self.holders.get_mut(register) {
-            holders.push(name)?;
-        }
         put_home(&mut self.homes, Home::Register(home_register(register)))
     }
 
@@ -129,7 +112,7 @@ impl Choice {
     /// The home of the next name.
     fn push(
         &mut self,
-        interference: &Interference,
+        interference: &mut Interference,
         name: u32,
         joined: Option<u32>,
     ) -> Result<(), AllocError>
@@ -141,7 +124,10 @@ impl Choice {
         ensures among { OnOk result (AllByRecursion (IsHomeAmong (length self.new.homes.items)) self.new.homes.items) }
     {
         match self.chosen(interference, name, joined) {
-            Some(register) => self.put_register(register, name),
+            Some(register) => {
+                interference.take(register, name);
+                self.put_register(register)
+            }
             None => self.put_slot(),
         }
     }
@@ -159,20 +145,11 @@ fn put_home(homes: &mut Vec<Home>, home: Home) -> Result<(), AllocError>
     Ok(())
 }
 
-/// For each register that may be a home no names.
-fn no_holders(alloc: Global) -> Result<Vec<Vec<u32>>, AllocError> {
-    let mut holders = Vec::new(alloc);
-    for _ in 0..15usize {
-        holders.push(Vec::new(alloc))?;
-    }
-    Ok(holders)
-}
-
 /// The homes of a graph's names, in order: the register of the earliest earlier name that it is joined to, where that is free; else the first
 /// register that is free; else a slot of its own.
 pub fn registers(
     alloc: Global,
-    interference: &Interference,
+    interference: &mut Interference,
     joined: &[Option<u32>],
 ) -> Result<Vec<Home>, AllocError>
     requires { length joined.now ≤ 3000 }
@@ -180,7 +157,6 @@ pub fn registers(
 {
     let mut choice = Choice {
         homes: Vec::new(alloc),
-        holders: no_holders(alloc)?,
         slots: 0,
     };
     let mut left = joined;

@@ -5,6 +5,5 @@ mod assigning;
 mod choosing;
 mod interference;
 mod joins;
-mod sharing;
 
 pub use assigning::assign;

@@ -3,10 +3,10 @@ use Rattle.std.proofs.Common.{nat_cmp, ◌≡◌, ℕ, ◌<◌, Bool, true, fals
 use Rattle.std.specs.Prelude.{◌||◌, ◌&&◌, ◌==◌, not, cond}
 use Rattle.std.specs.Cmp.{nat_cmp_total}
 use Rattle.std.specs.FinSet.{empty, contains, union, difference, contains-empty, contains-union, contains-difference}
-use Rattle.graph_solve.specs.Numbers.{Numbers, IsBelow, numbers_below, made_of}
-use Rattle.graph_solve.specs.Problem.{DataFlow}
-use Rattle.graph_solve.specs.SetLaws.{below_empty, below_made, in_below, made_of_both, not_below}
-use Rattle.graph_solve.specs.SetProblems.{every_path}
+use Rattle.graph_problem.specs.Numbers.{Numbers, IsBelow, numbers_below, made_of}
+use Rattle.graph_problem.specs.Problem.{DataFlow}
+use Rattle.graph_problem.specs.SetLaws.{below_empty, below_made, in_below, made_of_both, not_below}
+use Rattle.graph_problem.specs.SetProblems.{every_path}
 
 -- the fact, or none
 abbrev pub fact_if : Bool → Numbers

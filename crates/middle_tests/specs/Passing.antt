@@ -3,8 +3,8 @@ use Rattle.std.specs.Prelude.{◌≡◌, ℕ, ◌<◌, ◌==◌, if◌then◌els
 use Rattle.bit_rows.specs.Grid.{row_at}
 use Rattle.graph_core.specs.Graphs.{Instruction, End}
 use Rattle.graph_core.specs.Paths.{notes, writes}
-use Rattle.graph_solve.specs.declared.inside.Effect.{Effect}
-use Rattle.graph_solve.specs.declared.inside.Effect.TheVariants.{Sets, Clears, Leaves}
+use Rattle.graph_live.specs.declared.inside.Effect.{Effect}
+use Rattle.graph_live.specs.declared.inside.Effect.TheVariants.{Sets, Clears, Leaves}
 
 -- whether a name was written since its last note: what writes it sets the fact of its number, and a note of it clears the fact
 abbrev pub written_effect : Instruction → (fact : ℕ) → Effect

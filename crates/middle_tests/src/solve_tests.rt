@@ -9,10 +9,9 @@ ghost use Rattle.middle_tests.specs.Passing.{HasShape, end_effect, written_effec
 use bit_rows::Rows;
 use debug_records::Place;
 use graph_core::{Block, Comparison, End, Graph, Instr, Label, Name, NoteValue, Operand, Recipe};
-use graph_solve::{
-    Effect, Effects, Facts, Problem, Solution, live, live_before, live_before_end, solve,
-    solve_plain, step_over, targets_are_within, walk_over,
-};
+use graph_live::{Effect, Effects, live, live_before, live_before_end, step_over, walk_over};
+use graph_problem::{Facts, Problem, Solution};
+use graph_solve::{solve, solve_plain, targets_are_within};
 use std::alloc::{AllocError, Global};
 use std::process::Abort;
 use std::test::Fail;

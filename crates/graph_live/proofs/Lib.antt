@@ -1,0 +1,4 @@
+pub mod Living
+pub mod Unread
+pub mod Walking
+pub mod LiveRows

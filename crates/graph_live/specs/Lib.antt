@@ -1,0 +1,4 @@
+pub mod Live
+pub mod Inside
+pub mod Unread
+pub mod LiveLaws

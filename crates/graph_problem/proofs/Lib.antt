@@ -1,0 +1,9 @@
+pub mod Trees
+pub mod Lists
+pub mod Falling
+pub mod Relaxing
+pub mod Rounding
+pub mod Directing
+pub mod Solved
+pub mod PathLaws
+pub mod Neighbours
