@@ -1,4 +1,2 @@
-pub mod Objects
 pub mod Rounds
-pub mod Statics
 pub mod SourceRuns

@@ -3,14 +3,15 @@ use Rattle.std.proofs.Common.{◌≡◌, ℕ, zero, suc, ◌-◌, ◌<◌, List,
 use Rattle.std.specs.Prelude.{slice_get}
 use Rattle.c_tree.specs.Programs.{ProgramTree, TypedFunctionTree}
 use Rattle.c_meaning.specs.Weights.{weight_of_statements, heaviest}
-use Rattle.c_meaning.specs.declared.value.Value.{Value}
-use Rattle.c_meaning.specs.declared.event.Frame.{Frame}
+use Rattle.c_memory.specs.declared.value.Value.{Value}
+use Rattle.c_states.specs.declared.event.Frame.{Frame}
 use Rattle.c_places.specs.Places.{Place}
-use Rattle.c_meaning.specs.declared.state.Outcome as declared-outcome
-use Rattle.c_meaning.specs.declared.state.Outcome.TheVariants as outcome
-use Rattle.c_meaning.specs.Views.{outcome_view}
-use Rattle.c_meaning.specs.States.{State, Outcome, Next}
-use Rattle.c_meaning.specs.Statements.{Activation, rounds, then_do}
+use Rattle.c_states.specs.declared.state.Outcome as declared-outcome
+use Rattle.c_states.specs.declared.state.Outcome.TheVariants as outcome
+use Rattle.c_states.specs.Views.{outcome_view}
+use Rattle.c_states.specs.States.{State, Outcome, Next}
+use Rattle.c_activations.specs.Activations.{Activation}
+use Rattle.c_meaning.specs.Statements.{rounds, then_do}
 use Rattle.c_meaning.specs.Runs.{activate, calls_at, calls_of}
 
 -- where an activation may begin, the function is activated

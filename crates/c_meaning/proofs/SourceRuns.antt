@@ -2,12 +2,13 @@
 use Rattle.std.proofs.Common.{◌≡◌, ℕ, List, [], sym, ap, ◌∙◌}
 use Rattle.c_tree.specs.Programs.{ProgramTree}
 use Rattle.c_places.specs.Places.{Place, places_of_program}
-use Rattle.c_meaning.specs.declared.state.Evaluated as declared-evaluated
-use Rattle.c_meaning.specs.declared.event.Ending.{Ending}
-use Rattle.c_meaning.specs.Memory.{Memory}
-use Rattle.c_meaning.specs.States.{Event, State}
-use Rattle.c_meaning.specs.Views.{evaluated_view}
-use Rattle.c_meaning.specs.Runs.{calls_of, finished, first_memory, source_run, with_ending}
+use Rattle.c_states.specs.declared.state.Evaluated as declared-evaluated
+use Rattle.c_states.specs.declared.event.Ending.{Ending}
+use Rattle.c_memory.specs.Memory.{Memory}
+use Rattle.c_states.specs.States.{Event, State}
+use Rattle.c_states.specs.Views.{evaluated_view}
+use Rattle.c_meaning.specs.Runs.{calls_of, finished, source_run, with_ending}
+use Rattle.c_activations.specs.StaticStorage.{first_memory}
 
 -- what `main` comes to, begun with the first memory, ends the run
 pub run_is : (p : ProgramTree) (input : List ℕ) (turns : ℕ) (places : List Place) (memory : Memory) (events : List Event) (value : declared-evaluated.Evaluated) (after : State) (ending : Ending)

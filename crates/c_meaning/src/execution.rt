@@ -3,26 +3,24 @@
 ghost use Rattle.std.specs.Prelude.{◌≡◌, IfOk, map, slice_get};
 ghost use Rattle.c_tree.specs.Programs.{program_view};
 ghost use Rattle.c_tree.specs.TypedExpressions.{rvalue_view, lvalue_view, arguments_view};
-ghost use Rattle.c_meaning.specs.Views.{activation_view, behind, both_view, designates, evaluated_view, evaluates, evaluates_all, listed_view, state_view, tested_view};
+ghost use Rattle.c_activations.specs.Views.{activation_view};
+ghost use Rattle.c_meaning.specs.Views.{behind, designates, evaluates, evaluates_all, listed_view};
+ghost use Rattle.c_states.specs.Views.{both_view, evaluated_view, state_view, tested_view};
 ghost use Rattle.c_places.specs.Places.{place_view};
-ghost use Rattle.c_meaning.specs.States.{both, tested};
-ghost use Rattle.c_meaning.specs.Expressions.{call, located};
+ghost use Rattle.c_states.specs.States.{both, tested};
+ghost use Rattle.c_meaning.specs.Expressions.{call};
+ghost use Rattle.c_states.specs.Steps.{located};
 ghost use Rattle.c_meaning.specs.Runs.{activate, calls_at, calls_of};
 
-use crate::activation::Activation;
-use crate::calls::{at_close, bind, enter, function_at, handed_back};
-use crate::event::{Ending, Frame};
-use crate::joints::{
-    arithmetic_from, assigned, comparison_from, convert_from, decay_from, difference_from, discard,
-    load_from, located, moved_behind, moved_from, not_of, pointer_comparison_from, second,
-    sign_from, step, step_pointer, tested, truth_of, update, update_pointer, usable_from,
-};
-use crate::lifetimes::forget;
-use crate::state::{Evaluated, Operands, State, Tested};
+use crate::operands::{of_object, of_operand, of_operands, of_right_side};
 use crate::statements::execute_all as execute_statements;
-use crate::steps::{given, leave, named, next_byte, put};
-use crate::value::Value;
+use c_activations::{Activation, at_close, bind, enter, forget, function_at, handed_back};
+use c_memory::Value;
 use c_places::Place;
+use c_states::{
+    Ending, Evaluated, Frame, Operands, State, Tested, given, leave, located, moved_behind,
+    moved_from, named, next_byte, put, second, tested, truth_of, usable_from,
+};
 use c_tree::{Arguments, Callee, Lvalue, Program, Rvalue};
 use std::alloc::{AllocError, Global};
 
@@ -52,88 +50,33 @@ pub fn evaluate(
     match e {
         Rvalue::Constant { value, .. } => Ok(Evaluated::Gives(Value::Number(*value))),
         Rvalue::Null => Ok(Evaluated::Gives(Value::Null)),
-        Rvalue::Load { from, .. } => {
+        Rvalue::Load { from, .. } | Rvalue::Decay(from) | Rvalue::AddressOf(from) => {
             let found = done!(designate(alloc, here, place, from, state));
-            Ok(load_from(found, state))
+            Ok(of_object(e, found, state))
         }
-        Rvalue::Decay(from) => {
-            let found = done!(designate(alloc, here, place, from, state));
-            Ok(decay_from(found, state))
-        }
-        Rvalue::AddressOf(from) => {
-            let found = done!(designate(alloc, here, place, from, state));
-            Ok(found)
-        }
-        Rvalue::Convert { to, operand } => {
+        Rvalue::Convert { operand, .. }
+        | Rvalue::Signed { operand, .. }
+        | Rvalue::Discard(operand)
+        | Rvalue::Not(operand) => {
             let value = done!(evaluate(alloc, here, place, operand, state));
-            Ok(convert_from(*to, value))
+            Ok(of_operand(e, value, state))
         }
-        Rvalue::Discard(operand) => {
-            let value = done!(evaluate(alloc, here, place, operand, state));
-            Ok(discard(value))
+        Rvalue::Arithmetic { left, right, .. }
+        | Rvalue::Compare { left, right, .. }
+        | Rvalue::ComparePointers { left, right, .. }
+        | Rvalue::Difference { left, right, .. }
+        | Rvalue::Move {
+            pointer: left,
+            by: right,
+            ..
         }
-        Rvalue::Signed {
-            sign,
-            integer_type,
-            operand,
-        } => {
-            let value = done!(evaluate(alloc, here, place, operand, state));
-            Ok(sign_from(*sign, *integer_type, value))
-        }
-        Rvalue::Not(operand) => {
-            let test = done!(evaluate_test(alloc, here, place, operand, state));
-            Ok(not_of(test))
-        }
-        Rvalue::Arithmetic {
-            operator,
-            integer_type,
-            left,
-            right,
-        } => {
-            let operands = done!(evaluate_both(alloc, here, place, left, right, state));
-            Ok(arithmetic_from(*operator, *integer_type, operands))
-        }
-        Rvalue::Compare {
-            operator,
-            left,
-            right,
+        | Rvalue::MoveFrom {
+            by: left,
+            pointer: right,
             ..
         } => {
             let operands = done!(evaluate_both(alloc, here, place, left, right, state));
-            Ok(comparison_from(*operator, operands))
-        }
-        Rvalue::ComparePointers {
-            operator,
-            left,
-            right,
-        } => {
-            let operands = done!(evaluate_both(alloc, here, place, left, right, state));
-            Ok(pointer_comparison_from(*operator, operands, state))
-        }
-        Rvalue::Move {
-            direction,
-            element,
-            pointer,
-            by,
-        } => {
-            let operands = done!(evaluate_both(alloc, here, place, pointer, by, state));
-            Ok(moved_from(*direction, *element, operands, state))
-        }
-        Rvalue::MoveFrom {
-            by,
-            element,
-            pointer,
-        } => {
-            let operands = done!(evaluate_both(alloc, here, place, by, pointer, state));
-            Ok(moved_behind(*element, operands, state))
-        }
-        Rvalue::Difference {
-            element,
-            left,
-            right,
-        } => {
-            let operands = done!(evaluate_both(alloc, here, place, left, right, state));
-            Ok(difference_from(*element, operands, state))
+            Ok(of_operands(e, operands, state))
         }
         Rvalue::And(left, right) => match done!(evaluate_test(alloc, here, place, left, state)) {
             Tested::Holds => {
@@ -175,66 +118,23 @@ pub fn evaluate(
         },
         Rvalue::Assign { target, value, .. } => {
             let operands = done!(designate_and_evaluate(alloc, here, place, target, value, state));
-            Ok(assigned(operands, state))
+            Ok(of_operands(e, operands, state))
         }
-        Rvalue::Update {
-            operator,
-            target_type,
-            integer_type,
+        Rvalue::Update { target, value, .. }
+        | Rvalue::UpdatePointer {
             target,
-            value,
+            by: value,
+            ..
         } => match done!(locate(alloc, here, place, target, state)) {
             Operands::Pair(pointer, old) => {
                 let right = done!(evaluate(alloc, here, place, value, state));
-                Ok(update(
-                    *operator,
-                    *target_type,
-                    *integer_type,
-                    pointer,
-                    old,
-                    right,
-                    state,
-                ))
+                Ok(of_right_side(e, pointer, old, right, state))
             }
             Operands::NoPair(ending) => Ok(Evaluated::Ends(ending)),
         },
-        Rvalue::UpdatePointer {
-            direction,
-            element,
-            target,
-            by,
-        } => match done!(locate(alloc, here, place, target, state)) {
-            Operands::Pair(pointer, old) => {
-                let right = done!(evaluate(alloc, here, place, by, state));
-                Ok(update_pointer(*direction, *element, pointer, old, right, state))
-            }
-            Operands::NoPair(ending) => Ok(Evaluated::Ends(ending)),
-        },
-        Rvalue::Step {
-            direction,
-            given,
-            target_type,
-            integer_type,
-            target,
-        } => {
+        Rvalue::Step { target, .. } | Rvalue::StepPointer { target, .. } => {
             let operands = done!(locate(alloc, here, place, target, state));
-            Ok(step(
-                *direction,
-                *given,
-                *target_type,
-                *integer_type,
-                operands,
-                state,
-            ))
-        }
-        Rvalue::StepPointer {
-            direction,
-            given,
-            element,
-            target,
-        } => {
-            let operands = done!(locate(alloc, here, place, target, state));
-            Ok(step_pointer(*direction, *given, *element, operands, state))
+            Ok(of_operands(e, operands, state))
         }
         Rvalue::Call { callee, arguments } => {
             let mut values = Vec::new(alloc);

@@ -2,18 +2,25 @@
 
 ghost use Rattle.std.specs.Prelude.{◌≡◌, IfOk, map};
 ghost use Rattle.c_tree.specs.Programs.{program_view};
-ghost use Rattle.c_meaning.specs.Views.{evaluated_view, event_view, run_view};
-ghost use Rattle.c_meaning.specs.States as states;
+ghost use Rattle.c_states.specs.Views.{evaluated_view, event_view};
+ghost use Rattle.c_meaning.specs.Views.{run_view};
+ghost use Rattle.c_states.specs.States as states;
 ghost use Rattle.c_meaning.specs.Runs.{finished, source_run, with_ending};
 
-use crate::event::{Ending, Event, SourceRun};
 use crate::execution::call_function;
-use crate::state::{Evaluated, State};
-use crate::static_storage::first_memory;
-use crate::value::Value;
+use c_activations::first_memory;
+use c_memory::Value;
 use c_places::places_of_program;
+use c_states::{Ending, Evaluated, Event, State};
 use c_tree::Program;
 use std::alloc::{AllocError, Global};
+
+/// A run: what was seen of it, and how it ended.
+#[derive(Drop)]
+pub struct SourceRun {
+    pub events: Vec<Event>,
+    pub ending: Ending,
+}
 
 /// How many activations may live at once.
 const ACTIVATIONS: usize = 1024;

@@ -3,18 +3,20 @@
 ghost use Rattle.std.specs.Prelude.{◌≡◌, ◌+◌, ◌<◌, ◌^◌, IfOk, length, map, option_map};
 ghost use Rattle.c_tree.specs.TypedExpressions.{rvalue_view};
 ghost use Rattle.c_tree.specs.TypedStatements.{Return, Switch, statement_view, statements_view, declared_view, start_view, step_view};
-ghost use Rattle.c_meaning.specs.Views.{activation_view, begins, checks, declares, declares_all, evaluated_view, executes, executes_all, executes_case, executes_default, initialises_elements, outcome_view, round_view, runs, state_view, steps, tested_view, tests_at, values_at};
-ghost use Rattle.c_meaning.specs.States as states;
-ghost use Rattle.c_meaning.specs.Statements.{after_body, after_switch, do_round, for_round, has_case, loop, then_do, while_round};
+ghost use Rattle.c_activations.specs.Activations.{at};
+ghost use Rattle.c_activations.specs.Views.{activation_view};
+ghost use Rattle.c_meaning.specs.Views.{begins, checks, declares, declares_all, executes, executes_all, initialises_elements, round_view, runs, steps, tests_at, values_at};
+ghost use Rattle.c_states.specs.Views.{evaluated_view, outcome_view, state_view, tested_view};
+ghost use Rattle.c_states.specs.States as states;
+ghost use Rattle.c_meaning.specs.Statements.{do_round, for_round, loop, while_round};
 
-use crate::activation::Activation;
-use crate::event::Ending;
 use crate::execution::evaluate;
-use crate::joints::{effect, tested};
-use crate::lifetimes::{close, initialise, initialise_by_literal, make, store_element};
-use crate::state::{Evaluated, Outcome, State, Tested};
-use crate::value::{Phase, Value};
+use crate::loops::{Round, behind_body, behind_step};
+use crate::switches::{labelled, left_switch};
+use c_activations::{Activation, close, initialise, initialise_by_literal, make, store_element};
+use c_memory::{Phase, Value};
 use c_places::number_at;
+use c_states::{Ending, Evaluated, Outcome, State, Tested, effect, tested};
 use c_tree::{Declared, Initial, Rvalue, TypedStart, TypedStatement, TypedStatements, TypedStep};
 use debug_records::Spot;
 use std::alloc::{AllocError, Global};
@@ -40,8 +42,7 @@ fn value_at(
 ) -> Result<Evaluated, AllocError>
     ensures { IfOk result (λ v. evaluated_view v (state_view state.new) ≡ values_at here.now spot (rvalue_view e.now) (state_view state.old)) }
 {
-    let value = done!(evaluate(alloc, here, number_at(here.places, spot.at), e, state));
-    Ok(value)
+    evaluate(alloc, here, number_at(here.places, spot.at), e, state)
 }
 
 /// Whether the condition of the place at a spot holds.
@@ -72,10 +73,7 @@ fn check(
 {
     match condition {
         None => Ok(Tested::Holds),
-        Some(e) => {
-            let test = done!(test_at(alloc, here, spot, e, state));
-            Ok(test)
-        }
+        Some(e) => test_at(alloc, here, spot, e, state),
     }
 }
 
@@ -109,10 +107,7 @@ fn run_step(
 {
     match part {
         None => Ok(Outcome::Next),
-        Some(part) => {
-            let outcome = done!(run(alloc, here, part.spot, &part.value, state));
-            Ok(outcome)
-        }
+        Some(part) => run(alloc, here, part.spot, &part.value, state),
     }
 }
 
@@ -128,14 +123,8 @@ fn begin_loop(
 {
     match start {
         TypedStart::Nothing => Ok(Outcome::Next),
-        TypedStart::Expression { spot, value } => {
-            let outcome = done!(run(alloc, here, *spot, value, state));
-            Ok(outcome)
-        }
-        TypedStart::Declaration(all) => {
-            let outcome = done!(declare_all(alloc, here, all, state));
-            Ok(outcome)
-        }
+        TypedStart::Expression { spot, value } => run(alloc, here, *spot, value, state),
+        TypedStart::Declaration(all) => declare_all(alloc, here, all, state),
     }
 }
 
@@ -257,20 +246,9 @@ fn execute(
             close(first, outcome, state);
             Ok(outcome)
         }
-        TypedStatement::Declaration(all) => {
-            let outcome = done!(declare_all(alloc, here, all, state));
-            Ok(outcome)
-        }
-        TypedStatement::Empty(spot) => {
-            if !done!(here.begin(alloc, *spot, state)) {
-                return Ok(Outcome::Ended(Ending::Turns));
-            }
-            Ok(Outcome::Next)
-        }
-        TypedStatement::Expression { spot, value } => {
-            let outcome = done!(run(alloc, here, *spot, value, state));
-            Ok(outcome)
-        }
+        TypedStatement::Declaration(all) => declare_all(alloc, here, all, state),
+        TypedStatement::Empty(spot) => pass(alloc, here, *spot, Outcome::Next, state),
+        TypedStatement::Expression { spot, value } => run(alloc, here, *spot, value, state),
         TypedStatement::If {
             spot,
             condition,
@@ -341,25 +319,30 @@ fn execute(
             Ok(outcome)
         }
         TypedStatement::Switch { spot, value, body } => {
-            let outcome = done!(execute_switch(alloc, here, *spot, value, body, state));
-            Ok(outcome)
+            execute_switch(alloc, here, *spot, value, body, state)
         }
-        TypedStatement::Break(spot) => {
-            if !done!(here.begin(alloc, *spot, state)) {
-                return Ok(Outcome::Ended(Ending::Turns));
-            }
-            Ok(Outcome::Broken)
-        }
-        TypedStatement::Continue(spot) => {
-            if !done!(here.begin(alloc, *spot, state)) {
-                return Ok(Outcome::Ended(Ending::Turns));
-            }
-            Ok(Outcome::Continued)
-        }
+        TypedStatement::Break(spot) => pass(alloc, here, *spot, Outcome::Broken, state),
+        TypedStatement::Continue(spot) => pass(alloc, here, *spot, Outcome::Continued, state),
         TypedStatement::Return { spot, value } => {
-            let outcome = done!(execute_return(alloc, here, *spot, value, state));
-            Ok(outcome)
+            execute_return(alloc, here, *spot, value, state)
         }
+    }
+}
+
+/// A place at which nothing is done: control leaves it as an outcome says, where a turn is left.
+fn pass(
+    alloc: Global,
+    here: &Activation,
+    spot: Spot,
+    outcome: Outcome,
+    state: &mut State,
+) -> Result<Outcome, AllocError>
+    ensures { IfOk result (λ o. outcome_view o (state_view state.new) ≡ at (activation_view here.now) spot (state_view state.old) (outcome_view outcome)) }
+{
+    if here.begin(alloc, spot, state)? {
+        Ok(outcome)
+    } else {
+        Ok(Outcome::Ended(Ending::Turns))
     }
 }
 
@@ -383,72 +366,8 @@ pub fn execute_all(
             outcome => Ok(outcome),
         },
         TypedStatements::Case(_, rest) | TypedStatements::Default(rest) => {
-            let outcome = done!(execute_all(alloc, here, rest, state));
-            Ok(outcome)
+            execute_all(alloc, here, rest, state)
         }
-    }
-}
-
-/// The statements from the label of a number on.
-#[cycle(run)]
-fn execute_case(
-    alloc: Global,
-    here: &Activation,
-    number: i64,
-    all: &TypedStatements,
-    state: &mut State,
-) -> Result<Outcome, AllocError>
-    ensures { IfOk result (λ o. outcome_view o (state_view state.new) ≡ executes_case here.now number (statements_view all.now) (state_view state.old)) }
-{
-    match all {
-        TypedStatements::End => Ok(Outcome::Next),
-        TypedStatements::Case(label, rest) => {
-            if number == *label {
-                let outcome = done!(execute_all(alloc, here, rest, state));
-                Ok(outcome)
-            } else {
-                let outcome = done!(execute_case(alloc, here, number, rest, state));
-                Ok(outcome)
-            }
-        }
-        TypedStatements::More(_, rest) | TypedStatements::Default(rest) => {
-            let outcome = done!(execute_case(alloc, here, number, rest, state));
-            Ok(outcome)
-        }
-    }
-}
-
-/// The statements from `default` on.
-#[cycle(run)]
-fn execute_default(
-    alloc: Global,
-    here: &Activation,
-    all: &TypedStatements,
-    state: &mut State,
-) -> Result<Outcome, AllocError>
-    ensures { IfOk result (λ o. outcome_view o (state_view state.new) ≡ executes_default here.now (statements_view all.now) (state_view state.old)) }
-{
-    match all {
-        TypedStatements::End => Ok(Outcome::Next),
-        TypedStatements::Default(rest) => {
-            let outcome = done!(execute_all(alloc, here, rest, state));
-            Ok(outcome)
-        }
-        TypedStatements::More(_, rest) | TypedStatements::Case(_, rest) => {
-            let outcome = done!(execute_default(alloc, here, rest, state));
-            Ok(outcome)
-        }
-    }
-}
-
-/// Whether a switch's block has a label for a number.
-fn has_case(number: i64, all: &TypedStatements) -> bool
-    ensures { result ≡ has_case number (statements_view all.now) }
-{
-    match all {
-        TypedStatements::End => false,
-        TypedStatements::Case(label, rest) => number == *label || has_case(number, rest),
-        TypedStatements::More(_, rest) | TypedStatements::Default(rest) => has_case(number, rest),
     }
 }
 
@@ -469,26 +388,11 @@ fn execute_switch(
     }
     match done!(value_at(alloc, here, spot, value, state)) {
         Evaluated::Gives(Value::Number(number)) => {
-            if has_case(number, body) {
-                let outcome = done!(execute_case(alloc, here, number, body, state));
-                Ok(left_switch(outcome))
-            } else {
-                let outcome = done!(execute_default(alloc, here, body, state));
-                Ok(left_switch(outcome))
-            }
+            let outcome = done!(execute_all(alloc, here, labelled(number, body), state));
+            Ok(left_switch(outcome))
         }
         Evaluated::Gives(_) | Evaluated::Leaves => Ok(Outcome::Ended(Ending::Undefined)),
         Evaluated::Ends(ending) => Ok(Outcome::Ended(ending)),
-    }
-}
-
-/// What leaves a `switch`.
-fn left_switch(outcome: Outcome) -> Outcome
-    ensures { (s : states.State) → outcome_view result s ≡ after_switch (outcome_view outcome s) }
-{
-    match outcome {
-        Outcome::Broken => Outcome::Next,
-        outcome => outcome,
     }
 }
 
@@ -513,27 +417,6 @@ fn execute_return(
             Evaluated::Leaves => Ok(Outcome::Ended(Ending::Undefined)),
             Evaluated::Ends(ending) => Ok(Outcome::Ended(ending)),
         },
-    }
-}
-
-/// How a round of a loop ends.
-#[derive(Clone, Copy)]
-pub enum Round {
-    /// The next round follows.
-    Again,
-    /// The loop is left.
-    Leave(Outcome),
-}
-
-/// How a loop goes on behind its body.
-fn behind_body(outcome: Outcome) -> Round
-    ensures { (again : states.State → states.Outcome) (s : states.State) → round_view result again s ≡ after_body (outcome_view outcome s) again }
-{
-    match outcome {
-        Outcome::Next | Outcome::Continued => Round::Again,
-        Outcome::Broken => Round::Leave(Outcome::Next),
-        Outcome::Returned(value) => Round::Leave(Outcome::Returned(value)),
-        Outcome::Ended(ending) => Round::Leave(Outcome::Ended(ending)),
     }
 }
 
@@ -695,15 +578,5 @@ fn for_round(
         }
         Tested::Fails => Ok(Round::Leave(Outcome::Next)),
         Tested::NoTest(ending) => Ok(Round::Leave(Outcome::Ended(ending))),
-    }
-}
-
-/// How a loop goes on behind its step.
-fn behind_step(outcome: Outcome) -> Round
-    ensures { (again : states.State → states.Outcome) (s : states.State) → round_view result again s ≡ then_do (outcome_view outcome s) again }
-{
-    match outcome {
-        Outcome::Next => Round::Again,
-        outcome => Round::Leave(outcome),
     }
 }

@@ -5,9 +5,13 @@ use Rattle.c_tree.specs.TypedExpressions.{rvalue_view}
 use Rattle.c_tree.specs.TypedStatements.{start_view, statement_view, step_view}
 use Rattle.std.proofs.lemmas.List.{length-map}
 use Rattle.c_tree.specs.declared.typed_statement.TypedStatement.{TypedStatement}
-use Rattle.c_meaning.specs.declared.state.Outcome.TheVariants as outcome
-use Rattle.c_meaning.specs.Views.{activation_view, begins, checks, executes, object_view, outcome_view, round_view, state_view, steps, tests_at}
-use Rattle.c_meaning.specs.Statements.{closed, do_round, for_round, loop, rounds, then_do, while_round}
+use Rattle.c_states.specs.declared.state.Outcome.TheVariants as outcome
+use Rattle.c_activations.specs.Views.{activation_view}
+use Rattle.c_meaning.specs.Views.{begins, checks, executes, round_view, steps, tests_at}
+use Rattle.c_memory.specs.Views.{object_view}
+use Rattle.c_states.specs.Views.{outcome_view, state_view}
+use Rattle.c_activations.specs.Lifetimes.{closed}
+use Rattle.c_meaning.specs.Statements.{do_round, for_round, loop, rounds, then_do, while_round}
 use Rattle.c_meaning.proofs.Rounds.{goes_on, leaves, rounds_step, weighs_less}
 use Rattle.c_meaning.proofs.+run.Goals as goal
 use Rattle.c_meaning.proofs.+run.Goals.{statements::execute-in-Next+in_ok-outcome-in-Next, statements::execute-in_default}

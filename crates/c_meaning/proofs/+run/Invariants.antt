@@ -4,7 +4,9 @@ use Rattle.c_tree.specs.Programs.{program_view}
 use Rattle.c_tree.specs.TypedExpressions.{rvalue_view, lvalue_view, arguments_view}
 use Rattle.c_tree.specs.TypedStatements.{statement_view, statements_view, declared_view, initial_view, start_view, step_view}
 use Rattle.c_meaning.specs.Weights.{weight, weight_of_left, weights, weight_of_all, weight_of_initial, weight_of_declared, weight_of_start, weight_of_option, weight_of_step, weight_of, weight_of_statements, heaviest}
-use Rattle.c_meaning.specs.Views.{activation_view, checks, executes, state_view, steps, tests_at}
+use Rattle.c_activations.specs.Views.{activation_view}
+use Rattle.c_meaning.specs.Views.{checks, executes, steps, tests_at}
+use Rattle.c_states.specs.Views.{state_view}
 use Rattle.c_meaning.specs.Statements.{do_round, for_round, loop, rounds, while_round}
 use Rattle.c_meaning.proofs.+run.Given as goal
 
@@ -64,12 +66,6 @@ decreases-statements::execute l = l.here.now.left * heaviest (program_view l.her
 
 abbrev pub decreases-statements::execute_all : goal.decreases-statements::execute_all
 decreases-statements::execute_all l = l.here.now.left * heaviest (program_view l.here.now.program.now).functions + (weight_of_statements (statements_view l.all.now))
-
-abbrev pub decreases-statements::execute_case : goal.decreases-statements::execute_case
-decreases-statements::execute_case l = l.here.now.left * heaviest (program_view l.here.now.program.now).functions + (weight_of_statements (statements_view l.all.now))
-
-abbrev pub decreases-statements::execute_default : goal.decreases-statements::execute_default
-decreases-statements::execute_default l = l.here.now.left * heaviest (program_view l.here.now.program.now).functions + (weight_of_statements (statements_view l.all.now))
 
 abbrev pub decreases-statements::execute_switch : goal.decreases-statements::execute_switch
 decreases-statements::execute_switch l = l.here.now.left * heaviest (program_view l.here.now.program.now).functions + (weight (rvalue_view l.value.now) + weight_of_statements (statements_view l.body.now) + 4)

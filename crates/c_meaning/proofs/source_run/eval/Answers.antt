@@ -1,7 +1,8 @@
 use Rattle.std.proofs.Common.{map, ap, ◌∙◌}
 use Rattle.c_tree.specs.Programs.{program_view}
 use Rattle.c_places.specs.Places.{place_view}
-use Rattle.c_meaning.specs.Views.{event_view, object_view, state_view}
+use Rattle.c_states.specs.Views.{event_view, state_view}
+use Rattle.c_memory.specs.Views.{object_view}
 use Rattle.c_meaning.proofs.SourceRuns.{run_is}
 use Rattle.c_meaning.proofs.source_run.eval.Goals as goal
 
