@@ -1,24 +1,20 @@
--- Memory, states and events of the code, as contracts see them.
-use Rattle.std.specs.Prelude.{Option, Some, None, List, ◌++◌, ℕ, map}
+-- What expressions and statements come to in an activation of the code.
+use Rattle.std.specs.Prelude.{Option, Some, None, List, ◌++◌, ℕ}
 use Rattle.c_activations.specs.declared.activation.Activation as declared-activation
 use Rattle.c_memory.specs.declared.value.Value.{Value}
 use Rattle.c_states.specs.declared.event.Ending.{Ending}
 use Rattle.c_tree.specs.TypedExpressions.{RvalueTree, LvalueTree, ArgumentTrees}
-use Rattle.c_tree.specs.TypedStatements.{TypedStatementTree, TypedStatementTrees, DeclaredTree, StepTree, TypedStartTree}
+use Rattle.c_tree.specs.TypedStatements.{TypedStatementTree, While, DoWhile, For, TypedStatementTrees, DeclaredTree, StepTree, TypedStartTree}
 use Rattle.c_meaning.specs.Expressions.{evaluate, designate, evaluate_all}
 use Rattle.c_meaning.specs.declared.loops.Round as declared-round
 use Rattle.c_meaning.specs.declared.loops.Round.TheVariants as round
 use Rattle.debug_records.specs.declared.source.Spot.{Spot}
-use Rattle.c_meaning.specs.declared.source_run.SourceRun as declared-run
 use Rattle.c_states.specs.States.{State, Evaluated, Outcome, Tested, Listed, Lists, NoList}
 use Rattle.c_activations.specs.Activations.{Activation, depth_of}
-use Rattle.c_meaning.specs.Statements.{execute, execute_all, value_at, test_at, check, run, step, begin_loop, declare_all, declare, initialise_elements}
-use Rattle.c_meaning.specs.Runs.{SourceRun, calls_at}
-use Rattle.c_states.specs.Views.{event_view, outcome_view}
+use Rattle.c_meaning.specs.Statements.{execute, execute_all, value_at, test_at, check, run, step, begin_loop, declare_all, declare, initialise_elements, while_round, do_round, for_round}
+use Rattle.c_meaning.specs.Runs.{calls_at}
+use Rattle.c_states.specs.Views.{outcome_view}
 use Rattle.c_activations.specs.Views.{activation_view}
-
-abbrev pub run_view : declared-run.SourceRun → SourceRun
-run_view r = record { events = map event_view r.events.items; ending = r.ending }
 
 -- values of arguments behind earlier ones
 abbrev pub listed_view : Option Ending → List Value → State → Listed
@@ -73,6 +69,13 @@ declares here = declare (calls_at (activation_view here) here.left) (activation_
 
 abbrev pub initialises_elements : declared-activation.Activation → Spot → (object index : ℕ) → List RvalueTree → State → Outcome
 initialises_elements here = initialise_elements (calls_at (activation_view here) here.left) (activation_view here)
+
+-- a round of a loop, given what a next round comes to
+abbrev pub round_of : declared-activation.Activation → TypedStatementTree → (State → Outcome) → State → Outcome
+round_of here (While spot c body) = while_round (activation_view here) spot (tests_at here spot c) (executes here body)
+round_of here (DoWhile body spot c) = do_round (activation_view here) spot (tests_at here spot c) (executes here body)
+round_of here (For start spot c p body) = for_round (activation_view here) spot (checks here spot c) (executes here body) (steps here p)
+round_of here _ = λ again s. again s
 
 -- how a round of a loop ends, given what a next round comes to
 abbrev pub round_view : declared-round.Round → (State → Outcome) → State → Outcome

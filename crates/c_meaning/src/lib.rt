@@ -1,13 +1,12 @@
 //! What the run of a C program is: what its expressions and statements come to, and its events.
 #![tactic(auto)]
 
-mod execution;
 mod laws;
 mod loops;
 mod operands;
-mod source_run;
-mod statements;
 mod switches;
 
 pub use laws::runs_are_worked;
-pub use source_run::{SourceRun, eval};
+pub use loops::{Round, behind_body, behind_step};
+pub use operands::{of_object, of_operand, of_operands, of_right_side};
+pub use switches::{labelled, left_switch};

@@ -3,8 +3,8 @@ use Rattle.c_tree.specs.Programs.{program_view}
 use Rattle.c_places.specs.Places.{place_view}
 use Rattle.c_states.specs.Views.{event_view, state_view}
 use Rattle.c_memory.specs.Views.{object_view}
-use Rattle.c_meaning.proofs.SourceRuns.{run_is}
-use Rattle.c_meaning.proofs.source_run.eval.Goals as goal
+use Rattle.c_eval.proofs.SourceRuns.{run_is}
+use Rattle.c_eval.proofs.source_run.eval.Goals as goal
 
 pub returns : goal.returns
 returns c =

@@ -4,11 +4,10 @@ use Rattle.c_tree.specs.Programs.{program_view}
 use Rattle.c_tree.specs.TypedExpressions.{rvalue_view, lvalue_view, arguments_view}
 use Rattle.c_tree.specs.TypedStatements.{statement_view, statements_view, declared_view, initial_view, start_view, step_view}
 use Rattle.c_meaning.specs.Weights.{weight, weight_of_left, weights, weight_of_all, weight_of_initial, weight_of_declared, weight_of_start, weight_of_option, weight_of_step, weight_of, weight_of_statements, heaviest}
-use Rattle.c_activations.specs.Views.{activation_view}
-use Rattle.c_meaning.specs.Views.{checks, executes, steps, tests_at}
+use Rattle.c_meaning.specs.Views.{round_of}
 use Rattle.c_states.specs.Views.{state_view}
-use Rattle.c_meaning.specs.Statements.{do_round, for_round, loop, rounds, while_round}
-use Rattle.c_meaning.proofs.+run.Given as goal
+use Rattle.c_meaning.specs.Statements.{loop, rounds}
+use Rattle.c_eval.proofs.+run.Given as goal
 
 abbrev pub decreases-execution::evaluate : goal.decreases-execution::evaluate
 decreases-execution::evaluate l = l.here.now.left * heaviest (program_view l.here.now.program.now).functions + (weight (rvalue_view l.e.now))
@@ -62,7 +61,7 @@ abbrev pub decreases-statements::initialise_elements : goal.decreases-statements
 decreases-statements::initialise_elements l = l.here.now.left * heaviest (program_view l.here.now.program.now).functions + (weight_of_all (map rvalue_view l.all.now))
 
 abbrev pub decreases-statements::execute : goal.decreases-statements::execute
-decreases-statements::execute l = l.here.now.left * heaviest (program_view l.here.now.program.now).functions + (weight_of (statement_view l.statement.now))
+decreases-statements::execute l = l.here.now.left * heaviest (program_view l.here.now.program.now).functions + (weight_of (statement_view l.statement.now) + 2)
 
 abbrev pub decreases-statements::execute_all : goal.decreases-statements::execute_all
 decreases-statements::execute_all l = l.here.now.left * heaviest (program_view l.here.now.program.now).functions + (weight_of_statements (statements_view l.all.now))
@@ -73,20 +72,11 @@ decreases-statements::execute_switch l = l.here.now.left * heaviest (program_vie
 abbrev pub decreases-statements::execute_return : goal.decreases-statements::execute_return
 decreases-statements::execute_return l = l.here.now.left * heaviest (program_view l.here.now.program.now).functions + (weight_of_option (option_map rvalue_view l.value.now) + 4)
 
-abbrev pub decreases-statements::execute_while : goal.decreases-statements::execute_while
-decreases-statements::execute_while l = l.here.now.left * heaviest (program_view l.here.now.program.now).functions + (weight (rvalue_view l.condition.now) + weight_of (statement_view l.body.now) + 6)
-
 abbrev pub decreases-statements::while_round : goal.decreases-statements::while_round
 decreases-statements::while_round l = l.here.now.left * heaviest (program_view l.here.now.program.now).functions + (weight (rvalue_view l.condition.now) + weight_of (statement_view l.body.now) + 5)
 
-abbrev pub decreases-statements::execute_do : goal.decreases-statements::execute_do
-decreases-statements::execute_do l = l.here.now.left * heaviest (program_view l.here.now.program.now).functions + (weight (rvalue_view l.condition.now) + weight_of (statement_view l.body.now) + 6)
-
 abbrev pub decreases-statements::do_round : goal.decreases-statements::do_round
 decreases-statements::do_round l = l.here.now.left * heaviest (program_view l.here.now.program.now).functions + (weight (rvalue_view l.condition.now) + weight_of (statement_view l.body.now) + 5)
-
-abbrev pub decreases-statements::execute_for : goal.decreases-statements::execute_for
-decreases-statements::execute_for l = l.here.now.left * heaviest (program_view l.here.now.program.now).functions + (weight_of_option (option_map rvalue_view l.condition.now) + weight_of_step (option_map step_view l.part.now) + weight_of (statement_view l.body.now) + 6)
 
 abbrev pub decreases-statements::for_round : goal.decreases-statements::for_round
 decreases-statements::for_round l = l.here.now.left * heaviest (program_view l.here.now.program.now).functions + (weight_of_option (option_map rvalue_view l.condition.now) + weight_of_step (option_map step_view l.part.now) + weight_of (statement_view l.body.now) + 5)
@@ -97,23 +87,14 @@ decreases-execution::call_function l = l.left * heaviest (program_view l.program
 abbrev pub decreases-execution::activate : goal.decreases-execution::activate
 decreases-execution::activate l = l.here.now.left * heaviest (program_view l.here.now.program.now).functions + heaviest (program_view l.here.now.program.now).functions
 
-abbrev pub invariant-statements::execute_while-loop-rest : goal.invariant-statements::execute_while-loop-rest
-invariant-statements::execute_while-loop-rest l =
-    rounds l.rest (while_round (activation_view l.here) l.spot (tests_at l.here l.spot (rvalue_view l.condition)) (executes l.here (statement_view l.body))) (state_view l.state) ≡ loop (while_round (activation_view l.here) l.spot (tests_at l.here l.spot (rvalue_view l.condition)) (executes l.here (statement_view l.body))) (state_view l.fn.state)
+abbrev pub decreases-statements::execute_loop : goal.decreases-statements::execute_loop
+decreases-statements::execute_loop l = l.here.now.left * heaviest (program_view l.here.now.program.now).functions + (weight_of (statement_view l.statement.now) + 1)
 
-abbrev pub decreases-statements::execute_while-loop-rest : goal.decreases-statements::execute_while-loop-rest
-decreases-statements::execute_while-loop-rest l = l.rest
+abbrev pub decreases-statements::execute_round : goal.decreases-statements::execute_round
+decreases-statements::execute_round l = l.here.now.left * heaviest (program_view l.here.now.program.now).functions + weight_of (statement_view l.statement.now)
 
-abbrev pub invariant-statements::execute_do-loop-rest : goal.invariant-statements::execute_do-loop-rest
-invariant-statements::execute_do-loop-rest l =
-    rounds l.rest (do_round (activation_view l.here) l.spot (tests_at l.here l.spot (rvalue_view l.condition)) (executes l.here (statement_view l.body))) (state_view l.state) ≡ loop (do_round (activation_view l.here) l.spot (tests_at l.here l.spot (rvalue_view l.condition)) (executes l.here (statement_view l.body))) (state_view l.fn.state)
+abbrev pub invariant-statements::execute_loop-loop-rest : goal.invariant-statements::execute_loop-loop-rest
+invariant-statements::execute_loop-loop-rest l = rounds l.rest (round_of l.here (statement_view l.statement)) (state_view l.state) ≡ loop (round_of l.here (statement_view l.statement)) (state_view l.fn.state)
 
-abbrev pub decreases-statements::execute_do-loop-rest : goal.decreases-statements::execute_do-loop-rest
-decreases-statements::execute_do-loop-rest l = l.rest
-
-abbrev pub invariant-statements::execute_for-loop-rest : goal.invariant-statements::execute_for-loop-rest
-invariant-statements::execute_for-loop-rest l =
-    rounds l.rest (for_round (activation_view l.here) l.spot (checks l.here l.spot (option_map rvalue_view l.condition)) (executes l.here (statement_view l.body)) (steps l.here (option_map step_view l.part))) (state_view l.state) ≡ loop (for_round (activation_view l.here) l.spot (checks l.here l.spot (option_map rvalue_view l.condition)) (executes l.here (statement_view l.body)) (steps l.here (option_map step_view l.part))) (state_view l.fn.state)
-
-abbrev pub decreases-statements::execute_for-loop-rest : goal.decreases-statements::execute_for-loop-rest
-decreases-statements::execute_for-loop-rest l = l.rest
+abbrev pub decreases-statements::execute_loop-loop-rest : goal.decreases-statements::execute_loop-loop-rest
+decreases-statements::execute_loop-loop-rest l = l.rest

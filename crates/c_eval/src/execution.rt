@@ -12,9 +12,9 @@ ghost use Rattle.c_meaning.specs.Expressions.{call};
 ghost use Rattle.c_states.specs.Steps.{located};
 ghost use Rattle.c_meaning.specs.Runs.{activate, calls_at, calls_of};
 
-use crate::operands::{of_object, of_operand, of_operands, of_right_side};
 use crate::statements::execute_all as execute_statements;
 use c_activations::{Activation, at_close, bind, enter, forget, function_at, handed_back};
+use c_meaning::{of_object, of_operand, of_operands, of_right_side};
 use c_memory::Value;
 use c_places::Place;
 use c_states::{

@@ -3,7 +3,7 @@
 ghost use Rattle.std.specs.Prelude.{◌≡◌, IfOk, map};
 ghost use Rattle.c_tree.specs.Programs.{program_view};
 ghost use Rattle.c_states.specs.Views.{evaluated_view, event_view};
-ghost use Rattle.c_meaning.specs.Views.{run_view};
+ghost use Rattle.c_eval.specs.Views.{run_view};
 ghost use Rattle.c_states.specs.States as states;
 ghost use Rattle.c_meaning.specs.Runs.{finished, source_run, with_ending};
 

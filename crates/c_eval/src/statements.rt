@@ -5,15 +5,14 @@ ghost use Rattle.c_tree.specs.TypedExpressions.{rvalue_view};
 ghost use Rattle.c_tree.specs.TypedStatements.{Return, Switch, statement_view, statements_view, declared_view, start_view, step_view};
 ghost use Rattle.c_activations.specs.Activations.{at};
 ghost use Rattle.c_activations.specs.Views.{activation_view};
-ghost use Rattle.c_meaning.specs.Views.{begins, checks, declares, declares_all, executes, executes_all, initialises_elements, round_view, runs, steps, tests_at, values_at};
+ghost use Rattle.c_meaning.specs.Views.{begins, checks, declares, declares_all, executes, executes_all, initialises_elements, round_of, round_view, runs, steps, tests_at, values_at};
 ghost use Rattle.c_states.specs.Views.{evaluated_view, outcome_view, state_view, tested_view};
 ghost use Rattle.c_states.specs.States as states;
 ghost use Rattle.c_meaning.specs.Statements.{do_round, for_round, loop, while_round};
 
 use crate::execution::evaluate;
-use crate::loops::{Round, behind_body, behind_step};
-use crate::switches::{labelled, left_switch};
 use c_activations::{Activation, close, initialise, initialise_by_literal, make, store_element};
+use c_meaning::{Round, behind_body, behind_step, labelled, left_switch};
 use c_memory::{Phase, Value};
 use c_places::number_at;
 use c_states::{Ending, Evaluated, Outcome, State, Tested, effect, tested};
@@ -287,32 +286,12 @@ fn execute(
                 Tested::NoTest(ending) => Ok(Outcome::Ended(ending)),
             }
         }
-        TypedStatement::While {
-            spot,
-            condition,
-            body,
-        } => {
-            let outcome = done!(execute_while(alloc, here, *spot, condition, body, state));
-            Ok(outcome)
-        }
-        TypedStatement::DoWhile {
-            body,
-            spot,
-            condition,
-        } => {
-            let outcome = done!(execute_do(alloc, here, *spot, condition, body, state));
-            Ok(outcome)
-        }
-        TypedStatement::For {
-            start,
-            spot,
-            condition,
-            step,
-            body,
-        } => {
+        TypedStatement::While { .. } => execute_loop(alloc, here, statement, state),
+        TypedStatement::DoWhile { .. } => execute_loop(alloc, here, statement, state),
+        TypedStatement::For { start, .. } => {
             let first = state.memory.len();
             let outcome = match done!(begin_loop(alloc, here, start, state)) {
-                Outcome::Next => execute_for(alloc, here, *spot, condition, step, body, state)?,
+                Outcome::Next => execute_loop(alloc, here, statement, state)?,
                 outcome => outcome,
             };
             close(first, outcome, state);
@@ -420,29 +399,59 @@ fn execute_return(
     }
 }
 
-/// A `while`.
+/// A loop, behind the first part of a `for`.
 #[cycle(run)]
 #[tactic(auto, using(crate::proofs::Rounds::rounds_step))]
-fn execute_while(
+fn execute_loop(
     alloc: Global,
     here: &Activation,
-    spot: Spot,
-    condition: &Rvalue,
-    body: &TypedStatement,
+    statement: &TypedStatement,
     state: &mut State,
 ) -> Result<Outcome, AllocError>
-    ensures { IfOk result (λ o. outcome_view o (state_view state.new) ≡ loop (while_round (activation_view here.now) spot (tests_at here.now spot (rvalue_view condition.now)) (executes here.now (statement_view body.now))) (state_view state.old)) }
+    ensures { IfOk result (λ o. outcome_view o (state_view state.new) ≡ loop (round_of here.now (statement_view statement.now)) (state_view state.old)) }
 {
     let mut rest = state.turns;
     while rest > 0 {
         rest -= 1;
-        let round = done!(while_round(alloc, here, spot, condition, body, state));
+        let round = done!(execute_round(alloc, here, statement, state));
         match round {
             Round::Again => {}
             Round::Leave(outcome) => return Ok(outcome),
         }
     }
     Ok(Outcome::Ended(Ending::Turns))
+}
+
+/// A round of a loop.
+#[cycle(run)]
+fn execute_round(
+    alloc: Global,
+    here: &Activation,
+    statement: &TypedStatement,
+    state: &mut State,
+) -> Result<Round, AllocError>
+    ensures { IfOk result (λ r. (again : states.State → states.Outcome) → round_view r again (state_view state.new) ≡ round_of here.now (statement_view statement.now) again (state_view state.old)) }
+{
+    match statement {
+        TypedStatement::While {
+            spot,
+            condition,
+            body,
+        } => while_round(alloc, here, *spot, condition, body, state),
+        TypedStatement::DoWhile {
+            body,
+            spot,
+            condition,
+        } => do_round(alloc, here, *spot, condition, body, state),
+        TypedStatement::For {
+            spot,
+            condition,
+            step,
+            body,
+            ..
+        } => for_round(alloc, here, *spot, condition, step, body, state),
+        _ => Ok(Round::Again),
+    }
 }
 
 /// A round of `while`.
@@ -468,31 +477,6 @@ fn while_round(
         Tested::Fails => Ok(Round::Leave(Outcome::Next)),
         Tested::NoTest(ending) => Ok(Round::Leave(Outcome::Ended(ending))),
     }
-}
-
-/// A `do`.
-#[cycle(run)]
-#[tactic(auto, using(crate::proofs::Rounds::rounds_step))]
-fn execute_do(
-    alloc: Global,
-    here: &Activation,
-    spot: Spot,
-    condition: &Rvalue,
-    body: &TypedStatement,
-    state: &mut State,
-) -> Result<Outcome, AllocError>
-    ensures { IfOk result (λ o. outcome_view o (state_view state.new) ≡ loop (do_round (activation_view here.now) spot (tests_at here.now spot (rvalue_view condition.now)) (executes here.now (statement_view body.now))) (state_view state.old)) }
-{
-    let mut rest = state.turns;
-    while rest > 0 {
-        rest -= 1;
-        let round = done!(do_round(alloc, here, spot, condition, body, state));
-        match round {
-            Round::Again => {}
-            Round::Leave(outcome) => return Ok(outcome),
-        }
-    }
-    Ok(Outcome::Ended(Ending::Turns))
 }
 
 /// A round of `do`.
@@ -521,32 +505,6 @@ fn do_round(
             }
         }
     }
-}
-
-/// A `for`.
-#[cycle(run)]
-#[tactic(auto, using(crate::proofs::Rounds::rounds_step))]
-fn execute_for(
-    alloc: Global,
-    here: &Activation,
-    spot: Spot,
-    condition: &Option<Rvalue>,
-    part: &Option<TypedStep>,
-    body: &TypedStatement,
-    state: &mut State,
-) -> Result<Outcome, AllocError>
-    ensures { IfOk result (λ o. outcome_view o (state_view state.new) ≡ loop (for_round (activation_view here.now) spot (checks here.now spot (option_map rvalue_view condition.now)) (executes here.now (statement_view body.now)) (steps here.now (option_map step_view part.now))) (state_view state.old)) }
-{
-    let mut rest = state.turns;
-    while rest > 0 {
-        rest -= 1;
-        let round = done!(for_round(alloc, here, spot, condition, part, body, state));
-        match round {
-            Round::Again => {}
-            Round::Leave(outcome) => return Ok(outcome),
-        }
-    }
-    Ok(Outcome::Ended(Ending::Turns))
 }
 
 /// A round of `for`.
