@@ -1,14 +1,13 @@
 -- What fits in numbers of 32 bits, where the places and variables of a program do.
-use Rattle.std.proofs.Common.{◌≡◌, ℕ, List, [], ◌∷◌, ◌+◌, ◌<◌, ◌^◌, length, map, sym, ap, ◌∙◌, subst, arith}
+use Rattle.std.proofs.Common.{◌≡◌, ℕ, List, [], ◌∷◌, ◌+◌, ◌<◌, ◌^◌, length, map, ap, ◌∙◌, arith}
 use Rattle.std.specs.Prelude.{All}
 use Rattle.std.proofs.lemmas.List.{length-map}
 use Rattle.std.proofs.lemmas.List.Elements.{All-nil, All-cons, All-head, All-tail}
 use Rattle.c_tree.specs.declared.program.TypedFunction.{TypedFunction}
-use Rattle.c_tree.specs.Programs.{TypedFunctionTree, ProgramTree, function_view}
+use Rattle.c_tree.specs.Programs.{TypedFunctionTree, function_view}
 use Rattle.c_places.specs.declared.place.Place as declared-place
-use Rattle.c_places.specs.Places.{Place, number_at, place_view, places_of_program}
+use Rattle.c_places.specs.Places.{Place, number_at, place_view}
 use Rattle.c_flow.specs.Tables.{place_number}
-use Rattle.c_flow.proofs.InFunctions.{functions_below}
 
 -- as many positions as places
 pub few_positions : (places : List declared-place.Place) (positions : List ℕ) (listed : List Place) → map place_view places ≡ listed → length positions ≡ length places → length listed + 1 < 2 ^ 32 → length positions + 1 < 2 ^ 32
@@ -25,15 +24,3 @@ parameters_fit [] all = All-nil (λ (f : TypedFunction). f.first_variable + f.pa
 parameters_fit (f ∷ functions) all =
     All-cons (λ (f : TypedFunction). f.first_variable + f.parameters < 2 ^ 32) f functions (All-head (λ (f : TypedFunctionTree). f.first_variable + f.parameters < 2 ^ 32) (function_view f) (map function_view functions) all)
     (parameters_fit functions (All-tail (λ (f : TypedFunctionTree). f.first_variable + f.parameters < 2 ^ 32) (function_view f) (map function_view functions) all))
-
--- what holds of places as contracts see them holds of the places
-of_views : (bound : ℕ) (places : List declared-place.Place) → All (λ (p : Place). p.function < bound) (map place_view places) → All (λ (p : declared-place.Place). p.function < bound) places
-of_views bound [] all = All-nil (λ (p : declared-place.Place). p.function < bound)
-of_views bound (p ∷ places) all =
-    All-cons (λ (q : declared-place.Place). q.function < bound) p places (All-head (λ (q : Place). q.function < bound) (place_view p) (map place_view places) all)
-    (of_views bound places (All-tail (λ (q : Place). q.function < bound) (place_view p) (map place_view places) all))
-
--- the numbers of the functions of places fit
-pub functions_fit : (places : List declared-place.Place) (p : ProgramTree) → map place_view places ≡ places_of_program p → length p.functions < 2 ^ 32 → All (λ (q : declared-place.Place). q.function < 2 ^ 32) places
-functions_fit places p same few =
-    of_views (2 ^ 32) places (subst (λ (ps : List Place). All (λ (q : Place). q.function < 2 ^ 32) ps) (sym same) (functions_below 0 (2 ^ 32) p.functions (omega arith)))

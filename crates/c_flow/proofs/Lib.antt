@@ -1,13 +1,7 @@
 pub mod Counting
 pub mod Fitting
-pub mod InFunctions
 pub mod InOrder
 pub mod SameNumbers
 pub mod Starts
 pub mod EachAssigned
-pub mod Classes
-pub mod AnyOf
-pub mod SameCount
-pub mod Looking
-pub mod Entries
 pub mod Counted

@@ -2,6 +2,3 @@ pub mod Flow
 pub mod Assigns
 pub mod Worked
 pub mod Tables
-pub mod Names
-pub mod PlacesBefore
-pub mod Wanted

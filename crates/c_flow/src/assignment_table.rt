@@ -6,41 +6,17 @@ ghost use Rattle.std.specs.List.Sorted.{IsNonDecreasing};
 ghost use Rattle.c_tree.specs.Programs.{program_view};
 ghost use Rattle.places.specs.Flow.{IsAssignmentBefore};
 ghost use Rattle.c_places.specs.Places.{number_at, places_of_program};
-ghost use Rattle.c_flow.specs.Assigns.{assignments_of_program, variable_number};
+ghost use Rattle.c_flow.specs.Assigns.{assignments_of_program};
 ghost use Rattle.c_flow.specs.Tables.{FewVariables, assignments_among, place_number};
 
 use crate::assigned::{Assigned, assigned_by_program};
 use crate::numbering::number_in;
 use crate::order::put_in_order;
-use crate::visible_variables::automatic_number;
-use c_tree::{Object, Program};
+use crate::variables::variable_number;
+use c_tree::Program;
 use debug_records::{Place, Var};
 use places::Assignment;
 use std::alloc::{AllocError, Global};
-
-/// The number of an object's variable, if the program has it.
-fn variable_number(program: &Program, object: Object) -> Option<u32>
-    requires { FewVariables (program_view program.now) }
-    ensures { result ≡ variable_number (program_view program.now) object }
-{
-    match object {
-        Object::Static(x) => {
-            if (x as usize) < program.statics.len() {
-                Some(x)
-            } else {
-                None
-            }
-        }
-        Object::Literal(x) => {
-            if (x as usize) < program.literals.len() {
-                Some((program.statics.len() + x as usize) as u32)
-            } else {
-                None
-            }
-        }
-        Object::Automatic(x) => automatic_number(program, x as usize),
-    }
-}
 
 /// The assignments that these are, among places at these positions, in the same order.
 fn numbered_assignments(

@@ -2,7 +2,6 @@
 #![tactic(auto)]
 
 mod assigned;
-mod assignment_search;
 mod assignment_table;
 mod beginning;
 mod edge;
@@ -11,17 +10,15 @@ mod laws;
 mod limits;
 mod numbering;
 mod order;
-mod places_before;
 mod step_table;
 mod tables;
-mod visibility;
-mod visible_variables;
+mod variables;
 
-pub use assignment_search::assigns;
 pub use beginning::{start, start_of_all, start_of_declarators};
 pub use edge::Ways;
 pub use flow_edges::{round_of, ways_of_body, within_loop};
 pub use laws::flows_are_worked;
 pub use limits::fits;
 pub use numbering::{number_in, positions_of};
-pub use tables::flow;
+pub use tables::flow_table;
+pub use variables::automatic_number;

@@ -1,7 +1,4 @@
-pub mod Types
-pub mod Memory
-pub mod Operations
-pub mod States
+pub mod Operands
 pub mod Expressions
 pub mod Statements
 pub mod Runs

@@ -1,22 +1,19 @@
 -- What a statement comes to. Each place that it begins is a turn (ISO/IEC 9899:2011, 6.8).
-use Rattle.std.specs.Prelude.{ℕ, zero, suc, ◌+◌, ◌||◌, ℤ, pos, int_le, ◌&&◌, Bool, true, false, Option, Some, None, List, [], ◌∷◌, ◌++◌, length, map, slice_get}
-use Rattle.std.specs.Option.{option_map_or}
+use Rattle.std.specs.Prelude.{ℕ, zero, suc, ◌+◌, ◌||◌, ℤ, int_le, ◌&&◌, Bool, true, false, Option, Some, None, List, [], ◌∷◌, length}
 use Rattle.debug_records.specs.declared.source.Spot.{Spot}
 use Rattle.c_tree.specs.TypedExpressions.{RvalueTree}
 use Rattle.c_tree.specs.TypedStatements as tree
 use Rattle.c_tree.specs.TypedStatements.{InitialTree, Zero, Scalar, Elements, Literal, DeclaredTree, TypedStartTree, Nothing, Declares, StepTree, TypedStatementTree, Block, Declaration, Empty, Run, If, IfElse, While, DoWhile, For, Switch, Break, Continue, Return, TypedStatementTrees, none, first, case, default}
-use Rattle.c_tree.specs.Programs.{AutomaticTree, LiteralTree, ProgramTree}
-use Rattle.word_base.specs.Owners.{Owner, Variable}
-use Rattle.c_meaning.specs.declared.value.Value.{Value}
-use Rattle.c_meaning.specs.declared.value.Value.TheVariants.{Number}
-use Rattle.c_meaning.specs.declared.value.Phase.{Phase}
-use Rattle.c_meaning.specs.declared.value.Phase.TheVariants.{Initialising, Live}
-use Rattle.c_meaning.specs.declared.event.Frame.{Frame}
-use Rattle.c_meaning.specs.declared.event.Ending.TheVariants.{Undefined, Turns}
-use Rattle.c_meaning.specs.Memory.{Object, Memory, new_object, contents, set_value, begun, ended_from}
-use Rattle.c_places.specs.Places.{Place, number_at, scope_at, visible}
-use Rattle.c_meaning.specs.States.{Shown, Stop, State, seen, Evaluated, Outcome, Next, Broken, Continued, Returned, Ended, on_value, on_effect, Tested, Holds, tested, choose}
+use Rattle.c_memory.specs.declared.value.Value.{Value}
+use Rattle.c_memory.specs.declared.value.Value.TheVariants.{Number}
+use Rattle.c_memory.specs.declared.value.Phase.TheVariants.{Initialising, Live}
+use Rattle.c_states.specs.declared.event.Ending.TheVariants.{Undefined, Turns}
+use Rattle.c_memory.specs.Memory.{set_value, begun}
+use Rattle.c_places.specs.Places.{number_at}
+use Rattle.c_states.specs.States.{State, Evaluated, Outcome, Next, Broken, Continued, Returned, Ended, on_value, on_effect, Tested, Holds, tested, choose}
 use Rattle.c_meaning.specs.Expressions.{Calls, evaluate}
+use Rattle.c_activations.specs.Lifetimes.{closed, made, literal_values, set_values}
+use Rattle.c_activations.specs.Activations.{Activation, depth_of, at}
 
 -- the next statement, where control goes on
 abbrev pub then_do : Outcome → (State → Outcome) → Outcome
@@ -41,18 +38,6 @@ after_switch (Broken s) = Next s
 after_switch (Continued s) = Continued s
 after_switch (Returned v s) = Returned v s
 after_switch (Ended e s) = Ended e s
-
--- all objects that began when there were so many end, however control leaves
-abbrev pub ending_from : ℕ → State → State
-ending_from n s = record s { memory = ended_from n s.memory }
-
--- The objects that began in a block end with it (6.2.4p6).
-abbrev pub closed : ℕ → Outcome → Outcome
-closed n (Next s) = Next (ending_from n s)
-closed n (Broken s) = Broken (ending_from n s)
-closed n (Continued s) = Continued (ending_from n s)
-closed n (Returned v s) = Returned v (ending_from n s)
-closed n (Ended e s) = Ended e s
 
 -- At most so many rounds of a loop; a round is given what comes behind it.
 abbrev pub rounds : ℕ → ((State → Outcome) → State → Outcome) → State → Outcome
@@ -81,56 +66,6 @@ abbrev pub on_number : Value → State → (ℤ → State → Outcome) → Outco
 on_number (Number k) s go = go k s
 on_number _ s go = Ended Undefined s
 
--- What is the same for all of an activation: the program and its places, the function, and the activations that wait, each with the place of its call,
--- from the innermost on.
-pub record Activation : Type 0 where
-  pub program : ProgramTree
-  pub places : List Place
-  pub function : ℕ
-  pub waiting : List Frame
-
--- how many activations live
-abbrev pub depth_of : Activation → ℕ
-depth_of here = length here.waiting + 1
-
--- all live activations, where this one stands at a place
-abbrev pub frames_at : Activation → ℕ → List Frame
-frames_at here place = record { function = here.function; place = place } ∷ here.waiting
-
--- the owner of this activation's object of a variable
-abbrev pub owner_of : Activation → ℕ → Owner
-owner_of here x = Variable x (depth_of here)
-
-abbrev pub shown : Activation → Memory → ℕ → Shown
-shown here memory x = record { variable = x; values = contents (owner_of here x) memory }
-
--- the visible variables at the place at a position, with their values
-abbrev pub shown_at : Activation → ℕ → Memory → List Shown
-shown_at here at memory = map (shown here memory) (visible here.program.automatics (scope_at here.places at))
-
--- the stop at the place at a position
-abbrev pub stopped : Activation → ℕ → State → State
-stopped here at s =
-    let place = number_at here.places at in
-    seen (Stop place (depth_of here) (frames_at here place) (shown_at here at s.memory) s.memory) s
-
--- A place has begun, or no turn was left for it.
-pub data Begun : Type 0 where
-  Goes : State → Begun
-  NoTurn : State → Begun
-
--- A place is begun: that is a turn and a stop, before anything of the place is done (5.1.2.3).
-abbrev pub begin : Activation → Spot → State → Begun
-begin here spot s = elim s.turns [ zero ↦ NoTurn s | suc left ↦ Goes (stopped here spot.at (record s { turns = left })) ]
-
-abbrev pub on_begun : Begun → (State → Outcome) → Outcome
-on_begun (Goes s) go = go s
-on_begun (NoTurn s) go = Ended Turns s
-
--- what is done at a place
-abbrev pub at : Activation → Spot → State → (State → Outcome) → Outcome
-at here spot s go = on_begun (begin here spot s) go
-
 -- a round of `while`: the condition, and where it holds the body
 abbrev pub while_round : Activation → Spot → (State → Tested) → (State → Outcome) → (State → Outcome) → State → Outcome
 while_round here spot condition body again s = at here spot s (λ t. choose (condition t) (λ u. after_body (body u) again) Next)
@@ -143,23 +78,6 @@ do_round here spot condition body again s = after_body (body s) (λ t. at here s
 abbrev pub for_round : Activation → Spot → (State → Tested) → (body step : State → Outcome) → (State → Outcome) → State → Outcome
 for_round here spot condition body step again s =
     at here spot s (λ t. choose (condition t) (λ u. after_body (body u) (λ w. then_do (step w) again)) Next)
-
--- a new object of a variable, if the program has it
-abbrev pub objects_of : Activation → Phase → ℕ → List Object
-objects_of here phase x = option_map_or (λ (a : AutomaticTree). new_object (owner_of here x) a.of phase ∷ []) (slice_get here.program.automatics x) []
-
--- A declarator makes a new object, which is zero (6.2.4p6).
-abbrev pub made : Activation → Phase → ℕ → State → State
-made here phase x s = record s { memory = s.memory ++ objects_of here phase x }
-
--- the values of a literal that initialises an array, if the program has it
-abbrev pub literal_values : List LiteralTree → ℕ → List Value
-literal_values all n = option_map_or (λ (l : LiteralTree). map (λ byte. Number (pos byte)) l.bytes) (slice_get all n) []
-
--- values from an index on
-abbrev pub set_values : Memory → ℕ → (index : ℕ) → List Value → Memory
-set_values memory n index [] = memory
-set_values memory n index (v ∷ vs) = set_values (set_value memory n index v) n (index + 1) vs
 
 -- `calls` is what a called function comes to, given the place of the call.
 module _ (calls : ℕ → Calls) (here : Activation) where

@@ -89,7 +89,7 @@ abbrev mutual
 
   pub weight_of_statements : TypedStatementTrees → ℕ
   weight_of_statements statement.none = 1
-  weight_of_statements (statement.first s rest) = 1 + weight_of s + weight_of_statements rest
+  weight_of_statements (statement.first s rest) = 4 + weight_of s + weight_of_statements rest
   weight_of_statements (case value rest) = 1 + weight_of_statements rest
   weight_of_statements (default rest) = 1 + weight_of_statements rest
 

@@ -11,16 +11,16 @@ use Rattle.c_tree.specs.declared.typed_expression.Comparison.TheVariants.{Less}
 use Rattle.c_tree.specs.declared.typed_expression.Callee.TheVariants.{Putchar}
 use Rattle.c_tree.specs.TypedExpressions.{RvalueTree, LvalueTree, Constant, Load, AddressOf, Arithmetic, Compare, Assign, Call, Named, Target}
 use Rattle.c_tree.specs.TypedExpressions as expression
-use Rattle.c_tree.specs.TypedStatements.{TypedStatementTree, TypedStatementTrees, DeclaredTree, Block, Declaration, Empty, Run, IfElse, For, Switch, Break, Continue, Return, none, first, case, default, Nothing, Declares}
+use Rattle.c_tree.specs.TypedStatements.{TypedStatementTree, TypedStatementTrees, Block, Declaration, Empty, Run, IfElse, For, Switch, Break, Continue, Return, none, first, case, default, Nothing, Declares}
 use Rattle.c_tree.specs.TypedStatements as statement
 use Rattle.c_tree.specs.Programs.{AutomaticTree, ProgramTree}
 use Rattle.word_base.specs.Owners.{Variable}
-use Rattle.c_meaning.specs.declared.value.Value.TheVariants.{Number}
-use Rattle.c_meaning.specs.declared.value.Phase.TheVariants.{Live}
-use Rattle.c_meaning.specs.declared.event.Ending.{Ending}
-use Rattle.c_meaning.specs.declared.event.Ending.TheVariants.{Undefined, Exit, Turns}
-use Rattle.c_meaning.specs.Memory.{Memory}
-use Rattle.c_meaning.specs.States.{Shown, Event, Put, Exited, TooDeep, Stop}
+use Rattle.c_memory.specs.declared.value.Value.TheVariants.{Number}
+use Rattle.c_memory.specs.declared.value.Phase.TheVariants.{Live}
+use Rattle.c_states.specs.declared.event.Ending.{Ending}
+use Rattle.c_states.specs.declared.event.Ending.TheVariants.{Undefined, Exit, Turns}
+use Rattle.c_memory.specs.Memory.{Memory}
+use Rattle.c_states.specs.States.{Shown, Event, Put, Exited, TooDeep, Stop}
 use Rattle.c_meaning.specs.Runs.{SourceRun, source_run}
 
 -- a spot on line 1; lines change nothing of a run

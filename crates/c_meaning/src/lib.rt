@@ -1,25 +1,12 @@
-//! What the run of a C program is: its places, its values and memory, and its events.
+//! What the run of a C program is: what its expressions and statements come to, and its events.
 #![tactic(auto)]
 
-mod activation;
-mod calls;
-mod event;
-mod execution;
-mod joints;
 mod laws;
-mod lifetimes;
-mod memory;
-mod operations;
-mod source_run;
-mod state;
-mod statements;
-mod static_storage;
-mod steps;
-mod types;
-mod value;
+mod loops;
+mod operands;
+mod switches;
 
-pub use event::{Ending, Event, Frame, Shown, SourceRun, Stop};
 pub use laws::runs_are_worked;
-pub use memory::{Object, Owner};
-pub use source_run::eval;
-pub use value::{Phase, Value};
+pub use loops::{Round, behind_body, behind_step};
+pub use operands::{of_object, of_operand, of_operands, of_right_side};
+pub use switches::{labelled, left_switch};

@@ -1,7 +1,9 @@
 //! The places of small programs, where execution may go from them and what they assign, from the texts on.
 
-use c_flow::{assigns, fits, flow};
+use c_assigns::assigns;
+use c_flow::{fits, flow_table};
 use c_parse::parse;
+use c_place_table::place_table;
 use c_token::tokens;
 use c_tree::Program;
 use c_type::check;
@@ -215,7 +217,8 @@ fn assert_worked(rt: &impl Abort, alloc: Global, worked: &Worked) -> Result<(), 
     let program = program_of(alloc, text)?;
     let is_small = fits(alloc, &program)?;
     assert!(rt; is_small);
-    let (places, flows) = flow(alloc, &program)?;
+    let places = place_table(alloc, &program)?;
+    let flows = flow_table(alloc, &program)?;
     let (steps, assignments) = pairs(alloc, &flows)?;
     let are_worked = are_rows(alloc, &places, worked.places)?
         && steps.as_slice() == worked.steps

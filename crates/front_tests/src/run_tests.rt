@@ -1,7 +1,8 @@
 //! Runs of small programs, worked by hand from what ISO/IEC 9899:2011 says of them.
 
-use c_meaning::{Ending, Event, SourceRun, eval};
+use c_eval::{SourceRun, eval};
 use c_parse::parse;
+use c_states::{Ending, Event};
 use c_token::tokens;
 use c_type::check;
 use debug_records::SourceErr;

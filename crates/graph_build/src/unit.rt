@@ -13,7 +13,7 @@ ghost use Rattle.graph_core.specs.Validity.{IsValid};
 
 use crate::function::{Source, graph_of};
 use crate::statics::{array_bytes_of, statics_of};
-use c_flow::{flow, positions_of};
+use c_flow::{flow_table, positions_of};
 use c_places::places_of_program;
 use c_tree::Program;
 use debug_records::ChangeLog;
@@ -45,13 +45,13 @@ pub fn build(alloc: Global, program: &Program) -> Result<Option<Unit>, AllocErro
     ensures steps { IfOk result (λ o. IfSome o (λ u. (s : FlowStep) → Contains (unit_view u).steps s ↔ Contains (steps_of_program (program_view program.now)) s)) }
     ensures assignments { IfOk result (λ o. IfSome o (λ u. (a : Assignment) → Contains (unit_view u).assignments a ↔ Contains (assignments_of_program (program_view program.now)) a)) }
 {
-    let (_, table) = flow(alloc, program)?;
+    let flow = flow_table(alloc, program)?;
     let unit = Unit {
         graphs: graphs_of(alloc, program)?,
         main: program.main,
         statics: statics_of(alloc, program)?,
         array_bytes: array_bytes_of(alloc, program)?,
-        flow: table,
+        flow,
         log: ChangeLog::new(alloc),
     };
     if unit.is_valid() {

@@ -8,8 +8,9 @@ ghost use Rattle.graph_core.specs.Graphs.{unit_view};
 ghost use Rattle.graph_core.specs.Validity.{IsValid};
 ghost use Rattle.homed_unit.specs.Homed.{HaveHomes, homed_view};
 
-use c_flow::{fits, flow};
+use c_flow::fits;
 use c_laws::is_well_formed;
+use c_place_table::place_table;
 use c_tree::Program;
 use currency::verdicts;
 use debug_records::{Mode, PassName};
@@ -74,15 +75,16 @@ pub fn draft_of(
     requires valid { IsValid (homed_view homed.now).unit }
     requires homes { HaveHomes (homed_view homed.now) }
 {
-    let (places, flow) = flow(alloc, program)?;
-    let Some(verdicts) = verdicts(alloc, homed, &places, &flow)? else {
+    let places = place_table(alloc, program)?;
+    let flow = &homed.unit.flow;
+    let Some(verdicts) = verdicts(alloc, homed, &places, flow)? else {
         return Ok(None);
     };
     let emitted = emit(alloc, homed)?;
     let parts = Parts {
         program,
         places: &places,
-        flow: &flow,
+        flow,
         homed,
         verdicts: &verdicts,
     };

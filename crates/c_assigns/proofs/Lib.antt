@@ -1,0 +1,4 @@
+pub mod AnyOf
+pub mod SameCount
+pub mod Looking
+pub mod Entries

@@ -1,0 +1,2 @@
+pub mod PlacesBefore
+pub mod Wanted

@@ -1,0 +1,8 @@
+//! The run of a C program, as it is defined.
+#![tactic(auto)]
+
+mod execution;
+mod source_run;
+mod statements;
+
+pub use source_run::{SourceRun, eval};

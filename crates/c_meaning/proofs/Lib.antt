@@ -1,4 +1,0 @@
-pub mod Objects
-pub mod Rounds
-pub mod Statics
-pub mod SourceRuns

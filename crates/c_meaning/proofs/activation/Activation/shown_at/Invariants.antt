@@ -1,8 +1,0 @@
-use Rattle.std.proofs.Common.{◌≡◌, map, take}
-use Rattle.c_meaning.specs.Views.{activation_view, object_view, shown_view}
-use Rattle.c_meaning.specs.Statements.{shown}
-use Rattle.c_meaning.proofs.activation.Activation.shown_at.Given as goal
-
-abbrev pub invariant-loop-variable : goal.invariant-loop-variable
-invariant-loop-variable l =
-    map shown_view l.shown.items ≡ map (shown (activation_view l.self) (map object_view l.memory)) (take l.variable-index l.variable-items)

@@ -1,0 +1,4 @@
+pub mod Types
+pub mod Memory
+pub mod Operations
+pub mod Views
