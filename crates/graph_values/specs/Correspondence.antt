@@ -48,10 +48,10 @@ IsInMemory p (source-owner.Literal n) = Unit {0}
 IsInMemory p (source-owner.Variable x depth) = (a : AutomaticTree) × (slice_get p.automatics x ≡ Some a) × (a.in_memory ≡ true)
 
 module _ (p : ProgramTree) (memory : source-memory.Memory) (others : unit-memory.Memory) where
-  -- A pointer of the source and a value of the unit. A pointer to an object that has not ended is one to the unit's object of the same owner, at the same offset. Of a pointer to an
-  -- object that has ended nothing is asked but that the unit's value is known.
+  -- A pointer of the source and a value of the unit. A pointer to an object that has not ended leads to what stands in the unit's memory, and the unit's value is the pointer to its object of
+  -- the same owner, at the same offset. Of a pointer to an object that has ended nothing is asked but that the unit's value is known.
   pub data SamePointer (n offset : ℕ) (w : unit-value.Value) : Type 0 where
-    points : (o : source-memory.Object) → slice_get memory n ≡ Some o → o.phase ≢ Ended → (m : ℕ) (q : unit-memory.Object) → slice_get others m ≡ Some q → SameObject p o q
+    points : (o : source-memory.Object) → slice_get memory n ≡ Some o → o.phase ≢ Ended → IsInMemory p o.owner → (m : ℕ) (q : unit-memory.Object) → slice_get others m ≡ Some q → SameObject p o q
         → offset ≤ unit-memory.bytes_of q → w ≡ unit.Pointer m (unit-memory.bytes_of q) offset → SamePointer n offset w
     ended : (o : source-memory.Object) → slice_get memory n ≡ Some o → o.phase ≡ Ended → w ≢ unit.Odd → SamePointer n offset w
 
