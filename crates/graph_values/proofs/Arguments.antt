@@ -151,4 +151,4 @@ module _ (x : Setting) (calls : Calls) (low : ScalarsFirst x) (e : RvalueTree) (
 
   pub first_does : DoesAll x calls (first e rest)
   first_does t m s l w size st sound fits =
-      first_result t m s l w size st sound fits (evaluate calls (depth_in x) e s) (typed_e s sound) (does_e t (To None (rest_in t m)) s l w size st sound fits)
+      first_result t m s l w size st sound fits (evaluate calls (depth_in x) e s) (typed_e s sound) (does_e t (To None (rest_in t m)) s l w size st sound fits tt)

@@ -96,7 +96,7 @@ module _ (x : Setting) (calls : Calls) (low : ScalarsFirst x) (o : declared.Arit
   finishes t g size (source.Pointer n offset) u s l w fits same_a same_b ka kb = absurd ka
 
   pub arithmetic_does : Does x calls (Arithmetic o ty a b)
-  arithmetic_does t g s l w size st sound fits =
+  arithmetic_does t g s l w size st sound fits aims =
       pair_does x calls low a b typed_a typed_b low_a spares_b grows_a does_a does_b t g (Name (own_in t)) (last_in t g) (λ v u s1. given (arithmetic o ty v u) s1) s l w size st sound fits
       (λ v u s1 l1 w1 sound1 fits1 same_a same_b ka kb. finishes t g size v u s1 l1 w1 fits1 same_a same_b (subst (λ k. HasKind s1.memory k v) kind_a ka) kb)
 

@@ -66,7 +66,7 @@ module _ (x : Setting) (calls : Calls) (low : ScalarsFirst x) (all : ArgumentTre
       → SameValues x.program s.memory w.memory vs (map (value x.unit.statics l.names) (passed_in x all t)) → Result x g (stands_by void t) t (λ y. false) (last_by c void t g).ops (last_by c void t g).end l w (call calls c vs s)
 
   call_does : (c : source-callee.Callee) (void : Bool) → is_void (given_by (names_in x).results c) ≡ void → Finishes c void → Does x calls (Call c all)
-  call_does c void is finish t g s l w size st sound fits =
+  call_does c void is finish t g s l w size st sound fits aims =
       subst (λ v. Stands x.graph x.top (passing x all t (last_by c v t g)).inner
       → Result x g (stands_by v t) t (any_written x all) (passing x all t (last_by c v t g)).ops (passing x all t (last_by c v t g)).end l w (evaluate calls (depth_in x) (Call c all) s)) (sym is)
       (λ st'. list_then x types g (last_by c void t g) all (stands_by void t) t (passing x all t (last_by c void t g)).ops (passing x all t (last_by c void t g)).end l w s.memory (evaluate_all calls (depth_in x) all s) (call calls c)

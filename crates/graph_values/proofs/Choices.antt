@@ -69,7 +69,7 @@ module _ (x : Setting) (calls : Calls) (low : ScalarsFirst x) (a b : RvalueTree)
         test_after x t (from_in g t) either_written (written_by x b) ops m.ops end m.end l h.local w h.world (h.leads (block_of x.place m) stands)
         (λ y lt nf. (let no = or_false (writes (names_in x) y a) (writes (names_in x) y b) nf in (omega (arith, lt, from), no.1, h.kept y (omega (arith, lt, le)) refl no.0))) h.later
         (forked x.place x.top g t).one (forked x.place x.top g t).other (tested (evaluate calls (depth_in x) b s1))
-        (does_b (from_in g t) (Either (forked x.place x.top g t).one (forked x.place x.top g t).other (forked x.place x.top g t).inner) s1 h.local h.world (omega (arith, size, from)) (closed_inner x.graph x.top x.place m st) left.sound h.fits)
+        (does_b (from_in g t) (Either (forked x.place x.top g t).one (forked x.place x.top g t).other (forked x.place x.top g t).inner) s1 h.local h.world (omega (arith, size, from)) (closed_inner x.graph x.top x.place m st) left.sound h.fits tt)
 
     -- the left one decides
     left_decides : (ops : List Instruction) (end : End) (s1 : State) (label : ℕ) → Reached x None (at_in g t) (written_by x a) l w (to_label x ops end l w label) s1 → Reached x None t either_written l w (to_label x ops end l w label) s1
@@ -90,7 +90,7 @@ module _ (x : Setting) (calls : Calls) (low : ScalarsFirst x) (a b : RvalueTree)
     or_tests ops end st (NoTest e s1) keeps h = h
 
   pub and_does : Does x calls (And a b)
-  and_does t g s l w size st sound fits =
+  and_does t g s l w size st sound fits aims =
       let way = forked x.place x.top g t in
       let m = right_in g t in
       let goal = Either (label_of x.top m) way.other (closed x.place m) in
@@ -102,10 +102,10 @@ module _ (x : Setting) (calls : Calls) (low : ScalarsFirst x) (a b : RvalueTree)
       subst (Result x g (Name t) t either_written c.ops c.end l w) (both_as r (λ s1. tested (evaluate calls (depth_in x) b s1)))
       (fork_done x low t either_written size g c.ops c.end l w (both_tests r (λ s1. tested (evaluate calls (depth_in x) b s1))) fork_stands
       (and_tests t g s l w size sound fits c.ops c.end stands r (keeps_tested x.program s.memory (kind_of x.program x.tree a) (evaluate calls (depth_in x) a s) (typed_a s sound))
-      (does_a (at_in g t) goal s l w (omega (arith, size, le)) st sound fits)))
+      (does_a (at_in g t) goal s l w (omega (arith, size, le)) st sound fits tt)))
 
   pub or_does : Does x calls (Or a b)
-  or_does t g s l w size st sound fits =
+  or_does t g s l w size st sound fits aims =
       let way = forked x.place x.top g t in
       let m = right_in g t in
       let goal = Either way.one (label_of x.top m) (closed x.place m) in
@@ -117,4 +117,4 @@ module _ (x : Setting) (calls : Calls) (low : ScalarsFirst x) (a b : RvalueTree)
       subst (Result x g (Name t) t either_written c.ops c.end l w) (either_as r (λ s1. tested (evaluate calls (depth_in x) b s1)))
       (fork_done x low t either_written size g c.ops c.end l w (either_test r (λ s1. tested (evaluate calls (depth_in x) b s1))) fork_stands
       (or_tests t g s l w size sound fits c.ops c.end stands r (keeps_tested x.program s.memory (kind_of x.program x.tree a) (evaluate calls (depth_in x) a s) (typed_a s sound))
-      (does_a (at_in g t) goal s l w (omega (arith, size, le)) st sound fits)))
+      (does_a (at_in g t) goal s l w (omega (arith, size, le)) st sound fits tt)))

@@ -53,11 +53,11 @@ use Rattle.graph_values.proofs.Operands.{Does, code_in, Low, Spares, behind_le, 
 use Rattle.graph_values.proofs.Arithmetic.{pick_between}
 use Rattle.graph_values.proofs.Laying.{behind_from}
 
-truth_word : (c : Bool) → word_of_test c ≡ word_of (truth c)
+pub truth_word : (c : Bool) → word_of_test c ≡ word_of (truth c)
 truth_word true = refl
 truth_word false = refl
 
-truth_in : (c : Bool) → InWord (truth c)
+pub truth_in : (c : Bool) → InWord (truth c)
 truth_in true = omega arith
 truth_in false = omega arith
 
@@ -172,6 +172,6 @@ module _ (x : Setting) (calls : Calls) (low : ScalarsFirst x) (o : declared.Comp
   compares_values t g size (source.Pointer n k) u s l w fits sa sb ka kb = absurd ka
 
   pub compare_does : Does x calls (Compare o ty a b)
-  compare_does t g s l w size st sound fits =
+  compare_does t g s l w size st sound fits aims =
       pair_does x calls low a b typed_a typed_b low_a spares_b grows_a does_a does_b t g (Name (own_of t)) (last_of t g) (λ v u s1. given (compares o v u) s1) s l w size st sound fits
       (λ v u s1 l1 w1 sound1 fits1 sa sb ka kb. compares_values t g size v u s1 l1 w1 fits1 sa sb (subst (λ k. HasKind s1.memory k v) kind_a ka) (subst (λ k. HasKind s1.memory k u) kind_b kb))

@@ -110,7 +110,7 @@ module _ (x : Setting) (calls : Calls) (low : ScalarsFirst x) (c a b : RvalueTre
         (arm_ends x low g (kind_of x.program x.tree e) t t from (written_by x e) (written_by x e) inner (value_in x e from) k.ops k.end h.local h.world (evaluate calls (depth_in x) e s1) (omega (arith, above)) (omega arith) size (λ y lt nf. nf)
         (closed_block x.graph x.top x.place (join_in t g) join_stands)
         (λ v s2 e2. (let gave = subst (Keeps x.program s1.memory (kind_of x.program x.tree e)) e2 (typed_e s1 left.sound) in kind_word s2.memory (kind_of x.program x.tree e) v gave.is))
-        (does_e from goal s1 h.local h.world (omega (arith, size, above)) (subst (λ z. Stands x.graph x.top z.inner) is m_inner) left.sound h.fits))
+        (does_e from goal s1 h.local h.world (omega (arith, size, above)) (subst (λ z. Stands x.graph x.top z.inner) is m_inner) left.sound h.fits (omega (arith, above), λ lt. absurd (omega (arith, lt, size)))))
 
     spares_a : (y : ℕ) → all_written y ≡ false → writes (names_in x) y a ≡ false
     spares_a y nf = (or_false (writes (names_in x) y c) (writes (names_in x) y a) (or_false (writes (names_in x) y c || writes (names_in x) y a) (writes (names_in x) y b) nf).0).1
@@ -142,7 +142,7 @@ module _ (x : Setting) (calls : Calls) (low : ScalarsFirst x) (c a b : RvalueTre
       else arms_laid (names_in x) Anywhere t (laid (names_in x) c UseTested (t + 1)) (laid (names_in x) a (In t)) (laid (names_in x) b (In t))
 
   pub conditional_does : Does x calls (Conditional c a b)
-  conditional_does t g s l w size st sound fits =
+  conditional_does t g s l w size st sound fits aims =
       subst (λ void. Stands x.graph x.top (choice_by void t g).inner → Result x g (laid_by void t).value t all_written (choice_by void t g).ops (choice_by void t g).end l w (evaluate calls (depth_in x) (Conditional c a b) s)) (sym whole)
       (λ st'. decides t g s l w size st' sound fits (tested (evaluate calls (depth_in x) c s)) (keeps_tested x.program s.memory (kind_of x.program x.tree c) (evaluate calls (depth_in x) c s) (typed_c s sound))
-      (does_c (t + 1) (Either (label_of x.top (one_in t g)) (label_of x.top (other_in t g)) (closed x.place (one_in t g))) s l w (omega (arith, size)) st' sound fits)) st
+      (does_c (t + 1) (Either (label_of x.top (one_in t g)) (label_of x.top (other_in t g)) (closed x.place (one_in t g))) s l w (omega (arith, size)) st' sound fits tt)) st

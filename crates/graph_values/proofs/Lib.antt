@@ -15,6 +15,7 @@ pub mod Scalars
 pub mod Arithmetic
 pub mod Laying
 pub mod Lays
+pub mod Growing
 pub mod Conditions
 pub mod Choices
 pub mod Sequences
@@ -32,3 +33,6 @@ pub mod Conditionals
 pub mod Homes
 pub mod Elements
 pub mod Access
+pub mod Storing
+pub mod Places
+pub mod Loading

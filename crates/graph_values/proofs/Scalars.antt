@@ -50,13 +50,13 @@ use Rattle.graph_values.proofs.Noting.{ScalarsApart, known_value, other_number, 
 use Rattle.graph_values.proofs.Typing.{Typed, Gave, gave_by, of_word, kind_word}
 use Rattle.graph_values.proofs.Standing.{Stands}
 use Rattle.graph_values.proofs.Objects.{first_index, Owned, owned_at, begun_live}
-use Rattle.graph_values.proofs.Operands.{Does, code_in, value_in, written_by, or_false}
+use Rattle.graph_values.proofs.Operands.{Apart, Does, code_in, value_in, written_by, or_false}
 
 pub constant_does : (x : Setting) (calls : Calls) (z : ℤ) (type : IntegerType) → holds (integer type) z ≡ true → Does x calls (Constant z type)
-constant_does x calls z type fits t g s l w size st sound f = leaf_done x g (unit.Constant (word_of z)) t (λ y. false) (source.Number z) s l w f refl (in_word type z fits)
+constant_does x calls z type fits t g s l w size st sound f aims = leaf_done x g (unit.Constant (word_of z)) t (λ y. false) (source.Number z) s l w f refl (in_word type z fits)
 
 pub null_does : (x : Setting) (calls : Calls) → Does x calls Null
-null_does x calls t g s l w size st sound f = leaf_done x g (unit.Constant 0) t (λ y. false) source.Null s l w f refl tt
+null_does x calls t g s l w size st sound f aims = leaf_done x g (unit.Constant 0) t (λ y. false) source.Null s l w f refl tt
 
 -- the one value of an object is of its type
 pub one_typed : (memory : SourceMemory) (o : SourceObject) (v : source-value.Value) → o.values ≡ v ∷ [] → AllByRecursion (IsOf memory (loaded o.element)) o.values → IsOf memory (loaded o.element) v
@@ -100,12 +100,12 @@ module _ (x : Setting) (calls : Calls) (sc : Scalar) (v : ℕ) (of : ObjectType)
   ]
 
   pub scalar_does : Does x calls (Load sc (Named (named.Automatic v) of))
-  scalar_does t g s l w size st sound f =
+  scalar_does t g s l w size st sound f aims =
       subst (λ o. Result x g (loaded_laid (names_in x) Anywhere o t (place_laid (names_in x) (Named (named.Automatic v) of) t)).value t (λ y. false) (by_name t g o).ops (by_name t g o).end l w
       (evaluate calls (depth_in x) (Load sc (Named (named.Automatic v) of)) s)) (sym named_by) (found_by t g s l w sound f (object_of (Variable v (depth_in x)) s.memory) refl)
 
 -- Assignment to a scalar: the value of the right side is computed in the scalar's name, and noted.
-module _ (x : Setting) (calls : Calls) (apart : ScalarsApart x) (sc : Scalar) (v : ℕ) (of : ObjectType) (k : ℕ) (named_by : scalar_of (names_in x) v ≡ Some k) (e : RvalueTree) (typed_e : Typed x calls e) (does_e : Does x calls e) where
+module _ (x : Setting) (calls : Calls) (apart : ScalarsApart x) (sc : Scalar) (v : ℕ) (of : ObjectType) (k : ℕ) (named_by : scalar_of (names_in x) v ≡ Some k) (e : RvalueTree) (low : ScalarsFirst x) (typed_e : Typed x calls e) (apart_e : Apart x k e) (does_e : Does x calls e) where
   abbrev assigned_by : ℕ → Goal → Option ℕ → Made
   assigned_by t g o = elim (o) [
     | Some j ↦ code_in x e t (To (Some j) (noted j g))
@@ -155,7 +155,7 @@ module _ (x : Setting) (calls : Calls) (apart : ScalarsApart x) (sc : Scalar) (v
         (second_with (source.Pointer n 0) (evaluate calls (depth_in x) e s) store)
         (with_then x (Some k) g (noted k g) (Name k) (value_in x e t) t t t (λ y. is_that y (Some k) || false || writes (names_in x) y e) (written_by x e) (λ y. false)
         (code_in x e t (To (Some k) (noted k g))).ops (code_in x e t (To (Some k) (noted k g))).end l w (evaluate calls (depth_in x) e s) (store (source.Pointer n 0)) (omega arith) (omega arith) (λ y lt nf. written_in_name y nf)
-        (does_e t (To (Some k) (noted k g)) s l w size st sound f)
+        (does_e t (To (Some k) (noted k g)) s l w size st sound f (let less = low v k named_by in (omega (arith, less, size), λ lt. apart_e)))
         (λ u s1 e1 h1.
         (let gave = gave_by x.program s.memory (kind_of x.program x.tree e) (evaluate calls (depth_in x) e s) u s1 e1 (typed_e s sound) in
         let o = owned_at (Variable v (depth_in x)) s.memory n h in
@@ -165,7 +165,7 @@ module _ (x : Setting) (calls : Calls) (apart : ScalarsApart x) (sc : Scalar) (v
         (is_writable o1.object 0) refl))))
 
   pub assigned_does : Does x calls (Assign sc (Named (named.Automatic v) of) e)
-  assigned_does t g s l w size st sound f =
+  assigned_does t g s l w size st sound f aims =
       subst (λ o. Stands x.graph x.top (assigned_by t g o).inner
       → Result x g (assigned_laid (names_in x) Anywhere o t (place_laid (names_in x) (Named (named.Automatic v) of) t) (laid (names_in x) e (use_for o Anywhere) (begun_at o t (λ y. writes (names_in x) y e) (place_laid (names_in x) (Named (named.Automatic v) of) t)))).value
       t (λ y. is_that y o || false || writes (names_in x) y e) (assigned_by t g o).ops (assigned_by t g o).end l w (evaluate calls (depth_in x) (Assign sc (Named (named.Automatic v) of) e) s)) (sym named_by)

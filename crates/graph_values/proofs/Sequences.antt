@@ -22,7 +22,7 @@ use Rattle.graph_values.proofs.Kept.{Sound, Fits, ScalarsFirst, fits_wanted}
 use Rattle.graph_values.proofs.Results.{Reached, to_made, UnusedR, Result, stuck_now, ended_result, result_after}
 use Rattle.graph_values.proofs.Typing.{Keeps, Left, Typed}
 use Rattle.graph_values.proofs.Standing.{Stands, Grows, inner_of}
-use Rattle.graph_values.proofs.Operands.{Does, code_in, value_in, written_by, or_false}
+use Rattle.graph_values.proofs.Operands.{aims_behind, Does, code_in, value_in, written_by, or_false}
 use Rattle.graph_values.proofs.Arithmetic.{pick_between}
 use Rattle.graph_values.proofs.Choices.{Tops}
 
@@ -39,15 +39,15 @@ afterwards_then x p before k g m a t t2 f f1 f2 ops end l w (Leaves s) next le s
 afterwards_then x p before k g m a t t2 f f1 f2 ops end l w (Ends e s) next le spares keeps h go_on = ended_result x g a t f ops end l w e s h
 
 pub comma_does : (x : Setting) (calls : Calls) (a b : RvalueTree) → Typed x calls a → Tops x Nothing a → Grows (names_in x) x.place x.top x.graph a → Does x calls a → Does x calls b → Does x calls (Comma a b)
-comma_does x calls a b typed_a tops_a grows_a does_a does_b t g s l w size st sound fits =
+comma_does x calls a b typed_a tops_a grows_a does_a does_b t g s l w size st sound fits aims =
     let k = pick (names_in x) t (laid (names_in x) a Nothing t).top in
     let m = code_in x b k g in
     let c = code_in x a t (Unused m) in
     let top = tops_a t size in
     let le : t ≤ k = pick_between (names_in x) t (laid (names_in x) a Nothing t).top t (omega arith) top in
     afterwards_then x x.program s.memory (kind_of x.program x.tree a) g m (value_in x b k) t k (λ y. writes (names_in x) y a || writes (names_in x) y b) (written_by x a) (written_by x b) c.ops c.end l w (evaluate calls (depth_in x) a s)
-    (evaluate calls (depth_in x) b) le (λ y lt nf. or_false (writes (names_in x) y a) (writes (names_in x) y b) nf) (typed_a s sound) (does_a t (Unused m) s l w size st sound fits)
-    (λ s1 left h. does_b k g s1 h.local h.world (omega (arith, size, le)) (grows_a t (Unused m) st) left.sound h.fits)
+    (evaluate calls (depth_in x) b) le (λ y lt nf. or_false (writes (names_in x) y a) (writes (names_in x) y b) nf) (typed_a s sound) (does_a t (Unused m) s l w size st sound fits tt)
+    (λ s1 left h. does_b k g s1 h.local h.world (omega (arith, size, le)) (grows_a t (Unused m) st) left.sound h.fits (aims_behind x g a b t k le aims))
 
 -- no value, whatever it is for
 pub left_done : (x : Setting) (g : Goal) (a b : Operand) (t : ℕ) (f : ℕ → Bool) (s : State) (l : Local) (w : World) → Fits x None s l w → Result x g a t f (leaf g b).ops (leaf g b).end l w (Leaves s)
@@ -59,8 +59,8 @@ left_done x (Unused m) a b t f s l w fits = record { local = l; world = w; leads
 left_done x (Either one other inner) a b t f s l w fits = stuck_now x None (leaf (Either one other inner) b).ops (leaf (Either one other inner) b).end s l w fits
 
 pub discard_does : (x : Setting) (calls : Calls) (e : RvalueTree) → Typed x calls e → Does x calls e → Does x calls (Discard e)
-discard_does x calls e typed_e does_e t g s l w size st sound fits =
+discard_does x calls e typed_e does_e t g s l w size st sound fits aims =
     let m = leaf g zero_operand in
     let c = code_in x e t (Unused m) in
     afterwards_then x x.program s.memory (kind_of x.program x.tree e) g m (value_in x (Discard e) t) t t (written_by x e) (written_by x e) (λ y. false) c.ops c.end l w (evaluate calls (depth_in x) e s) Leaves (omega arith) (λ y lt nf. (nf, refl))
-    (typed_e s sound) (does_e t (Unused m) s l w size st sound fits) (λ s1 left h. left_done x g (value_in x (Discard e) t) zero_operand t (λ y. false) s1 h.local h.world h.fits)
+    (typed_e s sound) (does_e t (Unused m) s l w size st sound fits tt) (λ s1 left h. left_done x g (value_in x (Discard e) t) zero_operand t (λ y. false) s1 h.local h.world h.fits)

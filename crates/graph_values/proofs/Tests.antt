@@ -26,7 +26,7 @@ HasWord source.Null = Unit {0}
 HasWord (source.Pointer n offset) = Unit {0}
 
 -- a number is true where its word is not 0
-true_word : (z : ℤ) → InWord z → not (word_of z == 0) ≡ is_true (source.Number z)
+pub true_word : (z : ℤ) → InWord z → not (word_of z == 0) ≡ is_true (source.Number z)
 true_word (pos zero) h = refl
 true_word (pos (suc n)) h = let lt : suc n < 4294967296 = h in let some : word_of (pos (suc n)) ≢ 0 = λ e. absurd (omega (arith, lt, e)) in let e : word_of (pos (suc n)) == 0 ≡ false = grind (arith, nat_tests, some) in ap not e
 true_word (negsuc n) h = let lt : n < 2147483648 = h in let some : word_of (negsuc n) ≢ 0 = λ e. absurd (omega (arith, lt, e)) in let e : word_of (negsuc n) == 0 ≡ false = grind (arith, nat_tests, some) in ap not e
@@ -35,7 +35,7 @@ word_test : (live : ℕ → Bool) (b : Bool) → option_map not (is_known (truth
 word_test live true = refl
 word_test live false = refl
 
-over_ended : (phase : Phase) → phase ≡ Ended → not (is_over phase) ≡ false
+pub over_ended : (phase : Phase) → phase ≡ Ended → not (is_over phase) ≡ false
 over_ended phase e = ap (λ q. not (is_over q)) e
 
 -- A value is not zero in the unit where it is true in the source, if it may be used.
