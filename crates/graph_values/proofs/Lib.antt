@@ -36,3 +36,8 @@ pub mod Access
 pub mod Storing
 pub mod Places
 pub mod Loading
+pub mod Converting
+pub mod Converts
+pub mod Negations
+pub mod Signs
+pub mod Wrapping
