@@ -41,3 +41,4 @@ pub mod Converts
 pub mod Negations
 pub mod Signs
 pub mod Wrapping
+pub mod Fragment
