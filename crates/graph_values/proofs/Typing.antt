@@ -1,0 +1,109 @@
+-- What the types of expressions tell of their values.
+use Rattle.std.proofs.Common.{◌≡◌, ℕ, ◌*◌, ◌≤◌, List, [], ◌∷◌, length, Option, Some, None, Bool, true, false, slice_get, refl, sym, ap, ◌∙◌, subst}
+use Rattle.std.specs.Prelude.{if◌then◌else◌}
+use Rattle.c_tree.specs.declared.object_type.Scalar.{Scalar}
+use Rattle.c_tree.specs.declared.object_type.ValueType.{ValueType}
+use Rattle.c_tree.specs.declared.object_type.ValueType.TheVariants.{Void, Integer, Pointer}
+use Rattle.c_tree.specs.TypedExpressions.{RvalueTree}
+use Rattle.c_tree.specs.Programs.{ProgramTree}
+use Rattle.c_law_types.specs.declared.kind.Kind.{Kind}
+use Rattle.c_law_types.specs.declared.kind.Kind.TheVariants.{Wrong, NullPointer, Of}
+use Rattle.c_law_types.specs.Expressions.{kind_of}
+use Rattle.c_memory.specs.declared.value.Value.{Value}
+use Rattle.c_memory.specs.declared.value.Value.TheVariants as source
+use Rattle.c_memory.specs.Types.{element_of}
+use Rattle.c_memory.specs.Memory.{Memory, is_usable}
+use Rattle.c_memory.specs.Operations.{is_true}
+use Rattle.c_states.specs.declared.event.Ending.TheVariants.{Undefined}
+use Rattle.c_states.specs.States.{State, Evaluated, Gives, Leaves, Ends, Tested, Holds, Fails, NoTest, tested, tested_usable, by_truth}
+use Rattle.c_meaning.specs.Expressions.{Calls, evaluate}
+use Rattle.graph_values.specs.Typed.{PointsInto, IsOf}
+use Rattle.graph_values.proofs.Words.{in_word}
+use Rattle.graph_values.proofs.Tests.{HasWord}
+use Rattle.graph_values.proofs.Leads.{Setting, depth_in}
+use Rattle.graph_values.proofs.Later.{Later, later_refl, later_trans}
+use Rattle.graph_values.proofs.Kept.{Sound}
+
+-- a value is what the type of its expression says
+abbrev pub HasKind : Memory → Kind → Value → Type 0
+HasKind memory Wrong v = ⊥
+HasKind memory NullPointer v = v ≡ source.Null
+HasKind memory (Of t) v = IsOf memory t v
+
+-- An expression gave a value of its kind, and the memory went on.
+pub record Gave (p : ProgramTree) (before : Memory) (k : Kind) (v : Value) (s : State) : Type 0 where
+  pub sound : Sound p s
+  pub later : Later before s.memory
+  pub is : HasKind s.memory k v
+
+-- it gave none
+pub record Left (p : ProgramTree) (before : Memory) (s : State) : Type 0 where
+  pub sound : Sound p s
+  pub later : Later before s.memory
+
+abbrev pub Keeps : ProgramTree → Memory → Kind → Evaluated → Type 0
+Keeps p before k (Gives v s) = Gave p before k v s
+Keeps p before k (Leaves s) = Left p before s
+Keeps p before k (Ends e s) = Unit {0}
+
+-- What an expression comes to is of its type, in each state that keeps what runs keep.
+abbrev pub Typed : Setting → Calls → RvalueTree → Type 0
+Typed x calls e = (s : State) → Sound x.program s → Keeps x.program s.memory (kind_of x.program x.tree e) (evaluate calls (depth_in x) e s)
+
+-- a result that is a value
+pub gave_by : (p : ProgramTree) (before : Memory) (k : Kind) (r : Evaluated) (v : Value) (s : State) → r ≡ Gives v s → Keeps p before k r → Gave p before k v s
+gave_by p before k r v s e keeps = subst (Keeps p before k) e keeps
+
+-- a value of a type is one that a word can say
+pub of_word : (memory : Memory) (t : ValueType) (v : Value) → IsOf memory t v → HasWord v
+of_word memory Void v is = absurd is
+of_word memory (Integer t) (source.Number z) is = in_word t z is
+of_word memory (Integer t) source.Null is = tt
+of_word memory (Integer t) (source.Pointer n offset) is = tt
+of_word memory (Pointer of) (source.Number z) is = absurd is
+of_word memory (Pointer of) source.Null is = tt
+of_word memory (Pointer of) (source.Pointer n offset) is = tt
+
+pub kind_word : (memory : Memory) (k : Kind) (v : Value) → HasKind memory k v → HasWord v
+kind_word memory Wrong v is = absurd is
+kind_word memory NullPointer v is = subst HasWord (sym is) tt
+kind_word memory (Of t) v is = of_word memory t v is
+
+-- it is so later
+pub into_later : (memory after : Memory) → Later memory after → (element : Scalar) (n offset : ℕ) → PointsInto memory element n offset → PointsInto after element n offset
+into_later memory after later element n offset c =
+    let o = later n c.object c.is in
+    record { object = o.object; is = o.is; element_is = o.element ∙ c.element_is; index = c.index; at = c.at; within = subst (λ k. c.index ≤ k) (sym o.count) c.within }
+
+pub of_later : (memory after : Memory) → Later memory after → (t : ValueType) (v : Value) → IsOf memory t v → IsOf after t v
+of_later memory after later Void v is = is
+of_later memory after later (Integer t) (source.Number z) is = is
+of_later memory after later (Integer t) source.Null is = is
+of_later memory after later (Integer t) (source.Pointer n offset) is = is
+of_later memory after later (Pointer of) (source.Number z) is = is
+of_later memory after later (Pointer of) source.Null is = is
+of_later memory after later (Pointer of) (source.Pointer n offset) is = into_later memory after later (element_of of) n offset is
+
+pub kind_later : (memory after : Memory) → Later memory after → (k : Kind) (v : Value) → HasKind memory k v → HasKind after k v
+kind_later memory after later Wrong v is = is
+kind_later memory after later NullPointer v is = is
+kind_later memory after later (Of t) v is = of_later memory after later t v is
+
+-- what is kept where a value is tested
+abbrev pub KeepsTest : ProgramTree → Memory → Tested → Type 0
+KeepsTest p before (Holds s) = Left p before s
+KeepsTest p before (Fails s) = Left p before s
+KeepsTest p before (NoTest e s) = Unit {0}
+
+pub keeps_tested : (p : ProgramTree) (before : Memory) (k : Kind) (r : Evaluated) → Keeps p before k r → KeepsTest p before (tested r)
+keeps_tested p before k (Gives v s) h = by_usable (is_usable s.memory v)
+  where
+    by_true : (b : Bool) → KeepsTest p before (by_truth b s)
+    by_true true = record { sound = h.sound; later = h.later }
+    by_true false = record { sound = h.sound; later = h.later }
+
+    by_usable : (b : Bool) → KeepsTest p before (tested_usable (if b then Gives v s else Ends Undefined s))
+    by_usable true = by_true (is_true v)
+    by_usable false = tt
+keeps_tested p before k (Leaves s) h = tt
+keeps_tested p before k (Ends e s) h = tt
