@@ -1,0 +1,11 @@
+mod Temporaries
+mod Written
+mod Pieces
+mod Held
+mod Within
+mod Expressions
+mod Statements
+mod Scalars
+mod Functions
+mod InnerPieces
+mod InnerBlocks

@@ -1,0 +1,4 @@
+pub mod Sizes
+pub mod Weighing
+pub mod Forms
+pub mod Units

@@ -1,0 +1,2 @@
+//! How much the graphs of a program have.
+#![tactic(auto)]
