@@ -1,11 +1,23 @@
-mod Temporaries
-mod Written
-mod Pieces
-mod Held
-mod Within
-mod Expressions
-mod Statements
-mod Scalars
-mod Functions
-mod InnerPieces
-mod InnerBlocks
+pub mod Temporaries
+pub mod Written
+pub mod Pieces
+pub mod Held
+pub mod Within
+pub mod Expressions
+pub mod Statements
+pub mod Scalars
+pub mod Functions
+pub mod InnerPieces
+pub mod InnerBlocks
+pub mod SameSizes
+pub mod BlockCounts
+pub mod Blocks
+pub mod WellFormed
+pub mod NamesAgain
+pub mod Names
+pub mod ArgumentPieces
+pub mod Arguments
+pub mod ArgumentCounts
+pub mod FunctionArguments
+pub mod Keeping
+pub mod Converting

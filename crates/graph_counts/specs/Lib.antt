@@ -2,3 +2,5 @@ pub mod Sizes
 pub mod Weighing
 pub mod Forms
 pub mod Units
+pub mod Keeping
+pub mod Worked
