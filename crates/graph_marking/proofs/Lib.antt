@@ -1,0 +1,14 @@
+pub mod Pieces
+pub mod Passes
+pub mod Marked
+pub mod Instances
+pub mod Statements
+pub mod Paths
+pub mod Standing
+pub mod Heads
+pub mod Targets
+pub mod Ascending
+pub mod Functions
+pub mod First
+pub mod Noting
+pub mod Worked
