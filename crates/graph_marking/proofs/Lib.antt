@@ -9,6 +9,9 @@ pub mod Heads
 pub mod Targets
 pub mod Ascending
 pub mod Functions
+pub mod Flows
 pub mod First
+pub mod Avoiding
 pub mod Noting
+pub mod Following
 pub mod Worked

@@ -3,4 +3,4 @@
 
 mod laws;
 
-pub use laws::notes_may_wait;
+pub use laws::{markers_follow_flow, notes_may_wait};
