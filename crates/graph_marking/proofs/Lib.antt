@@ -1,0 +1,17 @@
+pub mod Pieces
+pub mod Passes
+pub mod Marked
+pub mod Instances
+pub mod Statements
+pub mod Paths
+pub mod Standing
+pub mod Heads
+pub mod Targets
+pub mod Ascending
+pub mod Functions
+pub mod Flows
+pub mod First
+pub mod Avoiding
+pub mod Noting
+pub mod Following
+pub mod Worked

@@ -1,0 +1,5 @@
+pub mod Passing
+pub mod Points
+pub mod Surely
+pub mod Following
+pub mod Worked
