@@ -1,18 +1,15 @@
 -- No edge of a function's graph leads back to its first block.
-use Rattle.std.proofs.Common.{◌≡◌, ◌⊎◌, inl, inr, ℕ, ◌+◌, Bool, Option, Some, None, List, [], ◌∷◌, length, reverse, slice_get, refl, sym, subst}
+use Rattle.std.proofs.Common.{◌≡◌, ◌⊎◌, inl, inr, ℕ, Bool, Some, None, List, [], ◌∷◌, length, reverse, slice_get, refl, sym, subst}
 use Rattle.c_tree.specs.Programs.{TypedFunctionTree, ProgramTree}
-use Rattle.c_places.specs.Places.{places_of_program, number_at}
-use Rattle.c_flow.specs.declared.edge.Edge.{Edge}
-use Rattle.c_flow.specs.Flow.{flow_of_function}
-use Rattle.graph_core.specs.Graphs.{Instruction, End, Block, Graph}
+use Rattle.c_places.specs.Places.{places_of_program}
+use Rattle.graph_core.specs.Graphs.{Block, Graph}
 use Rattle.graph_core.specs.Uses.{targets_of}
 use Rattle.graph_core.specs.Paths.{Among, front, behind}
-use Rattle.graph_drafts.specs.Drafts.{Made}
 use Rattle.graph_counts.specs.Units.{function_part, block_count, function_coding, graph_of}
 use Rattle.graph_counts.specs.Forms.{Coding, Part}
 use Rattle.graph_marking.specs.Passing.{Grows}
 use Rattle.graph_marking.specs.Points.{StandIn}
-use Rattle.graph_marking.proofs.Statements.{IsMadeOf, AreMadeOf, Holds}
+use Rattle.graph_marking.proofs.Statements.{Holds}
 use Rattle.graph_marking.proofs.Functions.{function_holds}
 use Rattle.graph_marking.proofs.Ascending.{AllAscend}
 use Rattle.graph_marking.proofs.First.{Avoids, AllAvoid, HasAvoided, LeadsAway, StandAvoided, avoids_passes, leads_later, later_block}

@@ -1,21 +1,20 @@
 -- What is made does not lead to the first block of its graph.
-use Rattle.std.proofs.Common.{◌≡◌, ◌⊎◌, inl, inr, ℕ, zero, suc, ◌+◌, ◌-◌, ◌≤◌, Bool, true, false, Option, Some, None, List, [], ◌∷◌, ◌++◌, length, reverse, slice_get, refl, sym, ap, ◌∙◌, subst, arith, if◌then◌else◌}
+use Rattle.std.proofs.Common.{◌≡◌, ◌⊎◌, inl, inr, ℕ, suc, ◌+◌, ◌-◌, Bool, true, false, Option, Some, None, List, [], ◌∷◌, ◌++◌, length, slice_get, refl, sym, subst, arith, if◌then◌else◌}
 use Rattle.c_tree.specs.Programs.{TypedFunctionTree, ProgramTree}
 use Rattle.c_facts.specs.Flow.{reaches_end}
 use Rattle.c_places.specs.Places.{Place, stop, brought_by_body, parameters_of, entry_of, close_of, places_of_all, places_of_function, places_of_program, number_at}
 use Rattle.c_flow.specs.declared.edge.Edge.{Edge}
 use Rattle.c_flow.specs.Flow.{edge, start_of_all, ways_of_body, flow_of_all, flow_of_function}
 use Rattle.graph_core.specs.declared.block.Comparison.{Comparison}
-use Rattle.graph_core.specs.Graphs.{Operand, Instruction, End, Jump, Branch, Return, Block}
+use Rattle.graph_core.specs.Graphs.{Operand, End, Branch, Block}
 use Rattle.graph_core.specs.Uses.{targets_of}
 use Rattle.graph_core.specs.Paths.{Among, front, behind}
 use Rattle.graph_drafts.specs.Drafts.{Made, closed, label_of}
-use Rattle.graph_counts.specs.Forms.{Coding, block_of}
 use Rattle.graph_marking.specs.Passing.{Grows, IsPassing}
 use Rattle.graph_marking.specs.Points.{StandIn}
 use Rattle.graph_marking.proofs.Instances.{got_before, got_next}
-use Rattle.graph_marking.proofs.Targets.{AllFit, WayFits, EdgesFit, edge_among, fit_front, fit_back, starts_fit, flows_fit}
-use Rattle.graph_marking.proofs.Ascending.{AllAscend, Among', places_within, numbered_within}
+use Rattle.graph_marking.proofs.Targets.{AllFit, WayFits, edge_among, fit_front, fit_back, starts_fit, flows_fit}
+use Rattle.graph_marking.proofs.Ascending.{AllAscend, places_within, numbered_within}
 
 some_same : {A : Type 0} {a b : A} → Some a ≡ Some b → a ≡ b
 some_same e = cc

@@ -1,5 +1,5 @@
 -- Markers that follow one another on a path of a function's graph are a step of its flow, and each cycle has a marker.
-use Rattle.std.proofs.Common.{◌≡◌, ◌⊎◌, inl, inr, ℕ, zero, suc, ◌+◌, ◌-◌, Bool, true, false, Option, Some, None, List, [], ◌∷◌, ◌++◌, length, map, reverse, slice_get, refl, sym, ap, ◌∙◌, subst, arith, if◌then◌else◌}
+use Rattle.std.proofs.Common.{◌≡◌, ◌⊎◌, inl, inr, ℕ, zero, suc, ◌+◌, ◌-◌, Bool, true, false, Option, Some, None, List, [], ◌∷◌, ◌++◌, length, reverse, slice_get, refl, sym, ap, ◌∙◌, subst, arith, if◌then◌else◌}
 use Rattle.std.specs.Prelude.{option_map}
 use Rattle.c_tree.specs.Programs.{TypedFunctionTree, ProgramTree}
 use Rattle.c_facts.specs.Flow.{reaches_end}
@@ -12,8 +12,8 @@ use Rattle.graph_core.specs.WellMarked as marked
 use Rattle.graph_core.specs.WellMarked.{ComesToMarker}
 use Rattle.graph_drafts.specs.Drafts.{Made}
 use Rattle.graph_counts.specs.Forms.{Coding, Part, place_of, block_of}
-use Rattle.graph_counts.specs.Units.{function_part, blocks_in, block_count, function_coding, graph_of}
-use Rattle.graph_marking.specs.Points.{AtLabel, GoesBack, GoesOn, StandIn, Meets, here, IsLed}
+use Rattle.graph_counts.specs.Units.{function_part, block_count, function_coding, graph_of}
+use Rattle.graph_marking.specs.Points.{AtLabel, GoesBack, StandIn, here, IsLed}
 use Rattle.graph_marking.proofs.Marked.{led_back, led_on, led_here}
 use Rattle.graph_marking.proofs.Instances.{Each, HasBack, LeadsBack, StandBack, grown_stand, back_passes, NoMarkers, NoneMarked, HasNone, LeadsNone, none_passes}
 use Rattle.graph_marking.proofs.Statements.{IsMadeOf, AreMadeOf, Holds}

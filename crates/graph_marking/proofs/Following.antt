@@ -1,19 +1,18 @@
 -- The markers of a well-formed program's unit follow its flow.
-use Rattle.std.proofs.Common.{◌≡◌, ℕ, zero, suc, ◌+◌, ◌<◌, Bool, true, false, Option, Some, None, List, [], ◌∷◌, ◌++◌, length, map, slice_get, refl, sym, ap, ◌∙◌, subst, arith, ◌==◌}
+use Rattle.std.proofs.Common.{◌≡◌, ℕ, zero, suc, ◌+◌, ◌<◌, Bool, true, false, Some, None, List, [], ◌∷◌, ◌++◌, map, slice_get, refl, sym, ap, subst, arith, ◌==◌}
 use Rattle.std.specs.Prelude.{◌&&◌, ◌||◌, nat_lt}
-use Rattle.std.specs.List.{list_any}
 use Rattle.std.proofs.lemmas.Bool.Decides.{nat_tests}
 use Rattle.places.specs.declared.flow.FlowStep.{FlowStep}
 use Rattle.places.specs.Flow.{can_go}
 use Rattle.c_tree.specs.Programs.{TypedFunctionTree, ProgramTree}
 use Rattle.c_places.specs.Places.{Place, places_of_program, number_at}
 use Rattle.c_flow.specs.declared.edge.Edge.{Edge}
-use Rattle.c_flow.specs.Flow.{flow_of_function, flow_of_functions, flow_of_program, numbered, steps_of_program}
+use Rattle.c_flow.specs.Flow.{flow_of_function, flow_of_functions, flow_of_program, numbered}
 use Rattle.c_laws.specs.Orders.{ascends, ascends_behind}
 use Rattle.c_laws.specs.Laws.{IsWellFormed}
 use Rattle.graph_core.specs.Graphs.{Graph, UnitForm}
 use Rattle.graph_core.specs.Paths.{Among, front, behind}
-use Rattle.graph_counts.specs.Units.{IsUnitOf, graphs_from, graph_of}
+use Rattle.graph_counts.specs.Units.{IsUnitOf, graphs_from}
 use Rattle.graph_counts.proofs.Blocks.{blocks_counted}
 use Rattle.graph_counts.proofs.WellFormed.{and_both, laws_of}
 use Rattle.graph_counts.proofs.Keeping.{OfFunction}

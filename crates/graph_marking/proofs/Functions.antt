@@ -1,23 +1,19 @@
 -- What passes the code of expressions holds behind the marker of each place of a function.
-use Rattle.std.proofs.Common.{◌≡◌, ℕ, ◌+◌, Bool, true, false, Option, Some, None, List, [], ◌∷◌, ◌++◌, map, refl, sym, ap, ◌∙◌, if◌then◌else◌}
-use Rattle.std.proofs.lemmas.List.{append-nil}
+use Rattle.std.proofs.Common.{◌≡◌, ℕ, Bool, true, false, Option, Some, None, List, [], ◌∷◌, ◌++◌, refl, ap, ◌∙◌, if◌then◌else◌}
 use Rattle.c_tree.specs.Programs.{TypedFunctionTree}
 use Rattle.c_facts.specs.Flow.{reaches_end}
-use Rattle.c_places.specs.Places.{Place, stop, brought_by_body, parameters_of, entry_of, close_of, places_of_all, places_of_function}
-use Rattle.c_flow.specs.declared.edge.Edge.{Edge}
-use Rattle.c_flow.specs.declared.edge.Ways.{Ways}
+use Rattle.c_places.specs.Places.{Place, stop, brought_by_body, parameters_of, close_of, places_of_all, places_of_function}
 use Rattle.c_flow.specs.Flow.{edge, start_of_all, ways_of_body, flow_of_all, flow_of_function}
 use Rattle.graph_core.specs.Graphs as unit
 use Rattle.graph_core.specs.Graphs.{Instruction}
-use Rattle.graph_core.specs.Paths.{Among, is_marker}
 use Rattle.graph_layout.specs.Names.{scalar_of}
-use Rattle.graph_drafts.specs.Drafts.{Made, ending, note}
-use Rattle.graph_counts.specs.Forms.{Coding, Part, place_of, going, placed_at}
+use Rattle.graph_drafts.specs.Drafts.{Made, ending}
+use Rattle.graph_counts.specs.Forms.{Coding, Part, place_of, going}
 use Rattle.graph_counts.specs.Units.{note_if, note_parameters, add_close, body_part, function_part}
-use Rattle.graph_marking.specs.Passing.{Grows, IsPassing}
+use Rattle.graph_marking.specs.Passing.{IsPassing}
 use Rattle.graph_marking.proofs.Pieces.{grows_on, grows_none}
 use Rattle.graph_marking.proofs.Statements.{Adds, Holds, HoldAlong, Brings', adds_on, no_part, one_step, no_step, steps_on, going_has, going_grows, place_adds, parts, statements_add}
-use Rattle.graph_marking.proofs.Heads.{heads, marks, Comes, statements_come}
+use Rattle.graph_marking.proofs.Heads.{heads, marks, statements_come}
 
 module _ (c : Coding) (Has : (p : ℕ) → Made → Type 0) (Leads : (p label : ℕ) → List unit.Block → Type 0) (Stand : List unit.Block → Type 0) (passing : (p : ℕ) → IsPassing p c.top (Has p) (Leads p) Stand) where
   abbrev Before' : (at : ℕ) → Made → Made → Type 0

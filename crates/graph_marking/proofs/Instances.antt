@@ -1,10 +1,8 @@
 -- A property of points that goes back, and one of instructions that are no markers, pass what is made.
-use Rattle.std.proofs.Common.{◌≡◌, ℕ, zero, suc, ◌+◌, ◌-◌, true, false, Option, Some, None, List, [], ◌∷◌, ◌++◌, length, slice_get, refl, sym, ◌∙◌, subst}
-use Rattle.graph_core.specs.declared.block.Comparison.{Comparison}
-use Rattle.graph_core.specs.Graphs.{Operand, Instruction, End, Return, Jump, Branch, Block}
-use Rattle.graph_core.specs.Uses.{targets_of}
+use Rattle.std.proofs.Common.{◌≡◌, ℕ, zero, suc, false, Some, None, List, [], ◌∷◌, ◌++◌, length, slice_get, refl, sym, ◌∙◌, subst}
+use Rattle.graph_core.specs.Graphs.{Instruction, End, Return, Jump, Branch, Block}
 use Rattle.graph_core.specs.Paths.{Among, front, behind, is_marker}
-use Rattle.graph_drafts.specs.Drafts.{Made, before, ending, closed, label_of}
+use Rattle.graph_drafts.specs.Drafts.{Made, closed, label_of}
 use Rattle.graph_marking.specs.Passing.{Grows, IsPassing}
 use Rattle.graph_marking.specs.Points.{AtLabel, GoesBack, StandIn}
 

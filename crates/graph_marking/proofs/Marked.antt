@@ -1,6 +1,6 @@
 -- The next marker on a path is one that may follow, and there is one, or an end: such a property goes back and on.
-use Rattle.std.proofs.Common.{◌≡◌, ℕ, true, false, Option, Some, None, List, [], ◌∷◌, slice_get, refl, subst}
-use Rattle.graph_core.specs.Graphs.{Operand, Instruction, Marker, End, Return, Jump, Branch, Block, Graph}
+use Rattle.std.proofs.Common.{◌≡◌, ℕ, false, Some, List, [], ◌∷◌, slice_get, refl, subst}
+use Rattle.graph_core.specs.Graphs.{Instruction, Marker, End, Block, Graph}
 use Rattle.graph_core.specs.Uses.{targets_of}
 use Rattle.graph_core.specs.Paths.{Among, is_marker}
 use Rattle.graph_core.specs.WellMarked as marked

@@ -4,7 +4,6 @@ use Rattle.std.specs.Prelude.{not, ◌||◌}
 use Rattle.std.proofs.lemmas.Bool.Decides.{nat_tests}
 use Rattle.c_tree.specs.declared.types.IntegerType.{IntegerType}
 use Rattle.c_tree.specs.declared.object_type.Scalar.{Scalar}
-use Rattle.c_tree.specs.declared.object_type.ObjectType.{ObjectType}
 use Rattle.c_tree.specs.declared.typed_expression.Sign.TheVariants.{Plus, Minus, Complement}
 use Rattle.c_tree.specs.declared.typed_expression.Direction.TheVariants.{Up}
 use Rattle.c_tree.specs.declared.typed_expression.Given.{Given}
@@ -13,17 +12,14 @@ use Rattle.c_tree.specs.TypedExpressions.{RvalueTree, LvalueTree, ArgumentTrees,
 use Rattle.c_type_rules.specs.Integers.{object_size}
 use Rattle.c_value_types.specs.ValueTypes.{type_of, given_by, is_void, is_pointer, integer_in}
 use Rattle.word_base.specs.declared.operation.Operation.TheVariants as operation
-use Rattle.graph_core.specs.declared.block.Comparison.{Comparison}
 use Rattle.graph_core.specs.Graphs as unit
 use Rattle.graph_core.specs.Graphs.{Operand, Instruction, Operate, Truncate, Same, Note, Is, Of, Block, End, Jump, Branch, Return}
-use Rattle.graph_core.specs.Uses.{targets_of}
-use Rattle.graph_core.specs.Paths.{Among, is_marker}
-use Rattle.graph_scale.specs.Conversions.{keeps_bits, is_kept_constant, is_narrow}
+use Rattle.graph_scale.specs.Conversions.{keeps_bits, is_kept_constant}
 use Rattle.graph_scale.specs.Operands.{held, operand_at}
 use Rattle.graph_layout.specs.declared.laid.Use.TheVariants.{Anywhere, Nothing, Tested}
 use Rattle.graph_layout.specs.Names.{Names, scalar_named, pick}
 use Rattle.graph_layout.specs.Writes.{writes, writes_within, writes_any, names_it, is_that, is_moved, is_location_moved}
-use Rattle.graph_layout.specs.Laid.{Laid, Pair, PlaceLaid, pair, behind_move, behind_own, use_for}
+use Rattle.graph_layout.specs.Laid.{Laid, Pair, pair, behind_move, behind_own, use_for}
 use Rattle.graph_layout.specs.Layout.{laid, place_laid, passed_laid}
 use Rattle.graph_drafts.specs.Rules.{element_of, truncation_to, steps_by}
 use Rattle.graph_drafts.specs.Drafts.{Made, Goal, To, Unused, Either, use_of, before, ending, leaf, label_of, closed, forked, valued, used, operated, move_if, hold_location, noted, note, use_old, behind_old}
@@ -36,8 +32,8 @@ use Rattle.graph_code.specs.Steps.{in_turn, finished, arm_use, arm_goal, arm_val
 use Rattle.graph_code.specs.Code.{code, code_place, code_address, code_all}
 use Rattle.graph_marking.specs.Passing.{Grows, IsPassing}
 use Rattle.graph_marking.specs.Points.{AtLabel, GoesBack, StandIn}
-use Rattle.graph_marking.specs.Surely.{IsIdle, IsSure, IsSurePlace, AreSure, Notes, now, later, over}
-use Rattle.graph_marking.proofs.Pieces.{Before, changed_leads, keep_leads, move_leads, loaded_leads}
+use Rattle.graph_marking.specs.Surely.{IsSure, IsSurePlace, AreSure, Notes, now, later, over}
+use Rattle.graph_marking.proofs.Pieces.{changed_leads, keep_leads, move_leads, loaded_leads}
 use Rattle.graph_marking.proofs.Passes.{code_passes, place_passes}
 use Rattle.graph_marking.proofs.Instances.{got_before, got_next, to_one, to_two, to_none}
 

@@ -1,9 +1,8 @@
 -- What holds behind the marker of each place, and goes on, holds wherever a path has come from there.
-use Rattle.std.proofs.Common.{◌≡◌, ◌⊎◌, inl, inr, ℕ, true, false, Option, Some, None, List, [], ◌∷◌, slice_get, refl, sym, ap, ◌∙◌, subst}
-use Rattle.graph_core.specs.Graphs.{Instruction, Marker, Note, Move, Operate, Truncate, Same, Address, Load, Store, Zero, CopyWords, Call, End, Block, Graph}
-use Rattle.graph_core.specs.Uses.{targets_of}
-use Rattle.graph_core.specs.Paths.{History, Among, Way, stays, passes, goes, Path, path, place_of, place_by, is_marker}
-use Rattle.graph_marking.specs.Points.{AtLabel, GoesOn}
+use Rattle.std.proofs.Common.{◌≡◌, ◌⊎◌, inl, inr, ℕ, false, Option, Some, None, List, ◌∷◌, slice_get, refl, sym, ap, ◌∙◌, subst}
+use Rattle.graph_core.specs.Graphs.{Instruction, Marker, Note, End, Block, Graph}
+use Rattle.graph_core.specs.Paths.{History, Way, stays, passes, goes, Path, path, place_of, place_by, is_marker}
+use Rattle.graph_marking.specs.Points.{GoesOn}
 use Rattle.graph_marking.proofs.Instances.{NoMarkers}
 
 some_same : {A : Type 0} {a b : A} → Some a ≡ Some b → a ≡ b

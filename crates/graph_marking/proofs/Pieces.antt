@@ -1,5 +1,5 @@
 -- What passes the pieces of code.
-use Rattle.std.proofs.Common.{◌≡◌, ℕ, zero, suc, ◌+◌, ◌-◌, Bool, true, false, Option, Some, None, List, [], ◌∷◌, ◌++◌, length, slice_get, refl, sym, ap, ◌∙◌, subst, arith, if◌then◌else◌, ◌==◌}
+use Rattle.std.proofs.Common.{◌≡◌, ℕ, ◌+◌, Bool, true, false, Option, Some, None, List, [], ◌∷◌, ◌++◌, refl, sym, ap, ◌∙◌, if◌then◌else◌, ◌==◌}
 use Rattle.std.proofs.lemmas.List.{append_assoc, append-nil}
 use Rattle.c_tree.specs.declared.types.IntegerType.{IntegerType}
 use Rattle.c_tree.specs.declared.typed_expression.Comparison as declared-comparison
@@ -12,7 +12,6 @@ use Rattle.c_type_rules.specs.Integers.{integer}
 use Rattle.word_base.specs.declared.operation.Operation.{Operation}
 use Rattle.word_base.specs.declared.operation.Operation.TheVariants as operation
 use Rattle.graph_core.specs.declared.instruction.Element as declared-element
-use Rattle.graph_core.specs.declared.block.Comparison as declared-branch
 use Rattle.graph_core.specs.declared.block.Comparison.TheVariants as branch
 use Rattle.graph_core.specs.Graphs as unit
 use Rattle.graph_core.specs.Graphs.{Operand, Location, Instruction, Note, Operate, Truncate, Same, Address, Store, Block, End, Jump, Branch}
@@ -31,7 +30,7 @@ use Rattle.graph_code.specs.declared.site.Two as declared-two
 use Rattle.graph_code.specs.declared.site.Two.TheVariants as two
 use Rattle.graph_code.specs.declared.change.Change as declared-change
 use Rattle.graph_code.specs.declared.change.Change.TheVariants as change
-use Rattle.graph_code.specs.Steps.{in_turn, signed, finished, distance, changed, changed_element, takes_more, renewed_scalar, loaded_first, renewed_memory, left_scalar, left_memory, object_address, or_zero}
+use Rattle.graph_code.specs.Steps.{signed, finished, distance, changed, changed_element, takes_more, renewed_scalar, loaded_first, renewed_memory, left_scalar, left_memory, object_address, or_zero}
 use Rattle.graph_marking.specs.Passing.{Grows, IsPassing}
 
 abbrev pub inner_of : Goal → List Block

@@ -1,5 +1,5 @@
 -- What passes the code of expressions holds behind the marker of each place of a statement, where it holds of each place to which the flow leads from there.
-use Rattle.std.proofs.Common.{◌≡◌, ◌⊎◌, inl, inr, ℕ, ◌+◌, ◌*◌, ◌-◌, Bool, true, false, Option, Some, None, List, [], ◌∷◌, ◌++◌, length, slice_get, refl, sym, subst, if◌then◌else◌}
+use Rattle.std.proofs.Common.{◌≡◌, ℕ, ◌+◌, ◌*◌, Bool, true, false, Option, Some, None, List, [], ◌∷◌, ◌++◌, refl, if◌then◌else◌}
 use Rattle.std.specs.Prelude.{nat_le}
 use Rattle.c_tree.specs.declared.object_type.Scalar.{Scalar}
 use Rattle.c_tree.specs.declared.object_type.ObjectType.{ObjectType}
@@ -8,7 +8,6 @@ use Rattle.c_tree.specs.TypedExpressions.{RvalueTree}
 use Rattle.c_tree.specs.TypedStatements as statement
 use Rattle.c_tree.specs.TypedStatements.{InitialTree, Zero, Scalar as scalar-initial, Elements, Literal, DeclaredTree, TypedStartTree, Nothing, Value, Declares, StepTree, TypedStatementTree, Block, Declaration, Empty, Run, If, IfElse, While, DoWhile, For, Switch, Break, Continue, Return, TypedStatementTrees, case, default}
 use Rattle.c_type_rules.specs.Integers.{scalar_size}
-use Rattle.c_facts.specs.Flow.{has_default}
 use Rattle.c_flow.specs.declared.edge.Edge.{Edge}
 use Rattle.c_flow.specs.declared.edge.Ways.{Ways}
 use Rattle.c_flow.specs.Flow.{edge, start, start_of_all, start_of_declarators, flow_of_declarators, flow_of_start, round_of, flow_of_step, flow_out, flow_to_labels, flow_past, within_loop, within_switch, before as with_rest, flow_of, flow_of_all}
@@ -17,16 +16,16 @@ use Rattle.graph_core.specs.Graphs as unit
 use Rattle.graph_core.specs.Graphs.{Operand, Instruction, Marker, Automatic, Store, CopyWords, End, Jump, Branch}
 use Rattle.graph_core.specs.Paths.{Among, front, behind, is_marker}
 use Rattle.graph_scale.specs.Conversions.{word_of}
-use Rattle.graph_layout.specs.declared.laid.Use.TheVariants.{Anywhere, In, Tested}
+use Rattle.graph_layout.specs.declared.laid.Use.TheVariants.{Anywhere, Tested}
 use Rattle.graph_layout.specs.Names.{scalar_of, object_of, pick}
 use Rattle.graph_layout.specs.Layout.{laid}
 use Rattle.graph_drafts.specs.Rules.{element_of}
-use Rattle.graph_drafts.specs.Drafts.{Made, Goal, To, Unused, Either, before, ending, note, closed, label_of, next_label}
+use Rattle.graph_drafts.specs.Drafts.{Made, Goal, To, Unused, Either, before, ending, note, closed, label_of}
 use Rattle.graph_code.specs.Steps.{or_zero}
 use Rattle.graph_code.specs.Code.{code}
-use Rattle.graph_counts.specs.Forms.{Coding, Part, bare, object_type_of, words_of, cleared, default_start, place_of, block_of, begun, going, label_for, with_end, placed_at, coded, branching, reached, store_elements, copied_words, declare_single, declare_array, declare_kept, declare_scalar, declare_as, declare, initial_reached, start_reached, condition_reached, statement_reached, tests, add_run, add_going, add_branching, add_declared, add_start, add_step, add_head, add_result, add_switch, add, add_all}
+use Rattle.graph_counts.specs.Forms.{Coding, Part, bare, object_type_of, words_of, cleared, default_start, place_of, block_of, begun, going, label_for, with_end, placed_at, coded, reached, store_elements, copied_words, declare_single, declare_array, declare_kept, declare_scalar, declare_as, declare, initial_reached, start_reached, condition_reached, statement_reached, tests, add_run, add_going, add_branching, add_declared, add_start, add_step, add_head, add_result, add_switch, add, add_all}
 use Rattle.graph_marking.specs.Passing.{Grows, IsPassing}
-use Rattle.graph_marking.proofs.Pieces.{inner_of, grows_on, grows_none, closed_grows, Carried, Before, lead_on, leads_on, before_leads, stays}
+use Rattle.graph_marking.proofs.Pieces.{grows_on, grows_none, closed_grows, Carried, Before, leads_on, before_leads, stays}
 use Rattle.graph_marking.proofs.Passes.{code_passes}
 
 -- an edge among those of two lists

@@ -1,5 +1,5 @@
 -- Properties of code that is made from its end, that pass what is no marker and the ends of blocks.
-use Rattle.std.specs.Prelude.{◌≡◌, ℕ, false, Option, List, [], ◌∷◌, ◌++◌}
+use Rattle.std.specs.Prelude.{◌≡◌, ℕ, false, Option, List, ◌++◌}
 use Rattle.graph_core.specs.declared.block.Comparison.{Comparison}
 use Rattle.graph_core.specs.Graphs.{Operand, Instruction, Return, Jump, Branch, Block}
 use Rattle.graph_core.specs.Paths.{is_marker}

@@ -1,5 +1,5 @@
 -- Properties of points of a graph: what is left of a block, and its end.
-use Rattle.std.specs.Prelude.{◌≡◌, ℕ, ◌+◌, ◌-◌, false, Option, Some, List, [], ◌∷◌, slice_get}
+use Rattle.std.specs.Prelude.{◌≡◌, ℕ, ◌+◌, ◌-◌, false, Some, List, [], ◌∷◌, slice_get}
 use Rattle.graph_core.specs.Graphs.{Instruction, Marker, End, Block, Graph}
 use Rattle.graph_core.specs.Uses.{targets_of}
 use Rattle.graph_core.specs.Paths.{Among, is_marker}

@@ -1,7 +1,6 @@
 -- Between a write of a scalar and its note there may stand a computation: `x = y++`, where `y` is narrow.
-use Rattle.std.specs.Prelude.{◌≡◌, false, Option, None, List, [], ◌∷◌}
+use Rattle.std.specs.Prelude.{◌≡◌, false, None, [], ◌∷◌}
 use Rattle.c_tree.specs.declared.types.IntegerType.TheVariants.{Char, Int}
-use Rattle.c_tree.specs.declared.object_type.Scalar.{Scalar}
 use Rattle.c_tree.specs.declared.object_type.ObjectType.TheVariants as type
 use Rattle.c_tree.specs.declared.object_type.Object.TheVariants.{Automatic}
 use Rattle.c_tree.specs.declared.typed_expression.Direction.TheVariants.{Up}
@@ -9,10 +8,10 @@ use Rattle.c_tree.specs.declared.typed_expression.Given.TheVariants.{Old}
 use Rattle.c_tree.specs.TypedExpressions.{RvalueTree, Convert, Assign, Step, Named}
 use Rattle.word_base.specs.declared.operation.Operation.TheVariants.{Add}
 use Rattle.word_base.specs.declared.operation.Truncation.TheVariants.{Unsigned8}
-use Rattle.graph_core.specs.Graphs.{Instruction, Note, Is, Of, Name, Constant, Move, Operate, Truncate, Return}
+use Rattle.graph_core.specs.Graphs.{Note, Is, Of, Name, Constant, Move, Operate, Truncate, Return}
 use Rattle.graph_layout.specs.declared.names.Home.TheVariants as home
 use Rattle.graph_layout.specs.Names.{Names}
-use Rattle.graph_drafts.specs.Drafts.{Made, Unused, ending}
+use Rattle.graph_drafts.specs.Drafts.{Unused, ending}
 use Rattle.graph_code.specs.Code.{code}
 
 -- two scalars: `int x`, and behind it `char y`
