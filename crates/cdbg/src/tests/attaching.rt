@@ -121,7 +121,7 @@ static ATTACHED: [Attached; 7] = [
     },
 ];
 
-fn attached() -> &'static [Attached] {
+fn sessions_of_images() -> &'static [Attached] {
     &ATTACHED
 }
 
@@ -151,7 +151,7 @@ fn holds(alloc: Global, session: &Attached) -> Result<bool, AllocError> {
 
 #[test]
 fn images_of_another_compiler_are_debugged(rt: HostRuntime) -> Result<(), Fail> {
-    for session in attached() {
+    for session in sessions_of_images() {
         let is_right = holds(rt.alloc(), session)?;
         assert!(rt; is_right, "{}", session.shows);
     }
