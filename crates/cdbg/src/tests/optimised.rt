@@ -178,11 +178,25 @@ fn large_sweep(alloc: Global) -> Result<Vec<u8>, AllocError> {
 fn the_parts_of_a_large_run_add_up(rt: HostRuntime) -> Result<(), Fail> {
     let printed = large_sweep(rt.alloc())?;
     let numbers = numbers_in(rt.alloc(), &printed)?;
-    // Seed, size, stops, pairs with their four parts, bytes put out, and the ending.
-    assert!(rt; numbers.len() == 10);
-    assert!(rt; numbers.starts_with([7, 400, 812, 4045].as_slice()));
-    assert!(rt; numbers.iter().skip(4).take(4).sum::<u32>() == 4045);
-    assert!(rt; numbers.ends_with([1, 0].as_slice()));
+    let [
+        seed,
+        size,
+        stops,
+        pairs,
+        home,
+        recovered,
+        noncurrent,
+        nonresident,
+        out,
+        status,
+    ] = numbers.as_slice()
+    else {
+        return Err(Fail::from("ten numbers"));
+    };
+    assert!(rt; *seed == 7 && *size == 400 && *stops == 812 && *pairs == 4045);
+    let shown = home.wrapping_add(*recovered);
+    let hidden = noncurrent.wrapping_add(*nonresident);
+    assert!(rt; shown.wrapping_add(hidden) == 4045 && *out == 1 && *status == 0);
     assert!(rt; printed.as_slice() == large_sweep(rt.alloc())?.as_slice());
     Ok(())
 }
