@@ -207,16 +207,12 @@ impl<'a> Leaving<'a> {
     ) -> Result<Instr, AllocError>
         ensures { IfOk result (λ left. IsKeptAs (instruction_view instruction.now) (instruction_view left)) }
     {
-        match instruction {
-            Instr::Note { of, value } => {
-                let note = self.left_note(alloc, idle, point, *of, value)?;
-                Ok(note)
-            }
-            _ => {
-                let same = instruction.duplicate(alloc)?;
-                Ok(same)
-            }
+        if let Instr::Note { of, value } = instruction {
+            let note = self.left_note(alloc, idle, point, *of, value)?;
+            return Ok(note);
         }
+        let same = instruction.duplicate(alloc)?;
+        Ok(same)
     }
 
     /// Appends what is left of an instruction that some path reaches.
@@ -232,12 +228,12 @@ impl<'a> Leaving<'a> {
         ensures { OnOk result (IsPushed goes (instruction_view instruction.now) (map instruction_view left.old.items) (map instruction_view left.new.items)) }
     {
         if goes {
-            push_gone(alloc, instruction, left)
-        } else {
-            let kept = self.kept(alloc, idle, point, instruction)?;
-            left.push(kept)?;
-            Ok(())
+            push_gone(alloc, instruction, left)?;
+            return Ok(());
         }
+        let kept = self.kept(alloc, idle, point, instruction)?;
+        left.push(kept)?;
+        Ok(())
     }
 
     /// What is left of the instructions of a block that some path reaches.

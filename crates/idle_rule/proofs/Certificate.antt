@@ -84,22 +84,19 @@ module _ (g : Graph) (turns : Turns) (names : ℕ) (led : ℕ → Bool) (are : A
           → IsGoing g turns names led told greatest n b before i rest → IsIdle g n (i ∷ rest) b.end
       made again s = idle (stands n b before i rest s.free.p at parts s.free.in_place) s.free.target s.free.may_go (λ h m left f way none read. computed h m left f way none read) (λ h m left f way none read. read_by h m left f way none read)
         where
-          abbrev x : ℕ
-          x = s.free.x
-
           reached_here : IsReached g n rest b.end
           reached_here = reached_behind (point_reached g led are n b before (i ∷ rest) at parts s.reached) Odd
 
-          computed : (h : History) (m : ℕ) (left : List Instruction) (f : End) → Way g n rest b.end h m left f → some_passed (writes x) h ≡ false → ReadsNext x left f → is_computed_next left ≡ true
-          computed h m [] f way none read = absurd (true≢false (sym ((tells_on x s.named false s.unasked way none).0 read)))
-          computed h m (j ∷ left) f way none read = (and_parts (is_going turns m (length left)) (is_computation j) (gone_next m j left f x (tells_on x s.named false s.unasked way none) read)).1
+          computed : (h : History) (m : ℕ) (left : List Instruction) (f : End) → Way g n rest b.end h m left f → some_passed (writes s.free.x) h ≡ false → ReadsNext s.free.x left f → is_computed_next left ≡ true
+          computed h m [] f way none read = absurd (true≢false (sym ((tells_on s.free.x s.named false s.unasked way none).0 read)))
+          computed h m (j ∷ left) f way none read = (and_parts (is_going turns m (length left)) (is_computation j) (gone_next m j left f s.free.x (tells_on s.free.x s.named false s.unasked way none) read)).1
 
-          read_by : (h : History) (m : ℕ) (left : List Instruction) (f : End) → Way g n rest b.end h m left f → some_passed (writes x) h ≡ false → ReadsNext x left f → IsIdle g m left f
-          read_by h m [] f way none read = absurd (true≢false (sym ((tells_on x s.named false s.unasked way none).0 read)))
+          read_by : (h : History) (m : ℕ) (left : List Instruction) (f : End) → Way g n rest b.end h m left f → some_passed (writes s.free.x) h ≡ false → ReadsNext s.free.x left f → IsIdle g m left f
+          read_by h m [] f way none read = absurd (true≢false (sym ((tells_on s.free.x s.named false s.unasked way none).0 read)))
           read_by h m (j ∷ left) f way none read =
-              let gone : is_gone turns m (length left) j ≡ true = gone_next m j left f x (tells_on x s.named false s.unasked way none) read in
+              let gone : is_gone turns m (length left) j ≡ true = gone_next m j left f s.free.x (tells_on s.free.x s.named false s.unasked way none) read in
               let goes_on : is_going turns m (length left) ≡ true = (and_parts (is_going turns m (length left)) (is_computation j) gone).0 in
-              let le : turns m (length left) ≤ s.here = (above_on x s.here s.above way none).0 gone (among_reads x j read) in
+              let le : turns m (length left) ≤ s.here = (above_on s.free.x s.here s.above way none).0 gone (among_reads s.free.x j read) in
               let small : s.here < turns n (length rest) = s.earlier in
               let there = path_at g led are (reached_on reached_here way).path in
               let is : IsIdle g m (j ∷ left) there.block.end = again m there.block there.before left j there.is there.instructions goes_on (omega (arith, le, small, lt)) in

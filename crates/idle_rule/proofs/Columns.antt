@@ -53,8 +53,8 @@ among_more view (y ∷ xs) zero d x lt a = one a
     one : Among x (map view (take (zero + 1) (y ∷ xs))) → Among x (map view (take zero (y ∷ xs))) ⊎ (x ≡ view y)
     one front = inr refl
     one (behind b) = elim b [ ]
-among_more view (y ∷ xs) (suc k) d x lt a = later a
+among_more view (y ∷ xs) (suc k) d x lt a = later (λ b. among_more view xs k d x (omega (arith, lt)) b) a
   where
-    later : Among x (map view (take (suc k + 1) (y ∷ xs))) → Among x (map view (take (suc k) (y ∷ xs))) ⊎ (x ≡ view (get_or xs k d))
-    later front = inl front
-    later (behind b) = elim (among_more view xs k d x (omega (arith, lt)) b) [ inl c ↦ inl (behind c) | inr q ↦ inr q ]
+    later : (Among x (map view (take (k + 1) xs)) → Among x (map view (take k xs)) ⊎ (x ≡ view (get_or xs k d))) → Among x (map view (take (suc k + 1) (y ∷ xs))) → Among x (map view (take (suc k) (y ∷ xs))) ⊎ (x ≡ view (get_or xs k d))
+    later again front = inl front
+    later again (behind b) = elim (again b) [ inl c ↦ inl (behind c) | inr q ↦ inr q ]

@@ -150,7 +150,8 @@ impl Counts {
         ensures scalars { self.new.scalars ≡ self.old.scalars }
         ensures counted { result ≡ true → (p x : ℕ) → IsCountedAt self.new p x (one_if ((p == entry) && is_bound x (map binding_view bindings.now))) }
     {
-        for binding in bindings {
+        for at in 0..bindings.len() {
+            let binding = &bindings[at];
             if !self.bind_one(entry, binding) {
                 return false;
             }
@@ -169,19 +170,27 @@ impl Counts {
         }
     }
 
-    /// Counts what a block writes.
-    fn count_block(&mut self, block: &Block) -> bool
+    /// Counts what instructions write, the first of which stands where this place is in force.
+    fn count_all(&mut self, place: Option<Place>, instructions: &[Instr]) -> bool
         ensures scalars { self.new.scalars ≡ self.old.scalars }
-        ensures counted { result ≡ true → (p x c : ℕ) → IsCountedAt self.old p x c → IsCountedAt self.new p x (writes_among p x (block_view block.now).place (block_view block.now).instructions + c) }
+        ensures counted { result ≡ true → (p x c : ℕ) → IsCountedAt self.old p x c → IsCountedAt self.new p x (writes_among p x (option_map (λ (q : declared-place.Place). q.0) place) (map instruction_view instructions.now) + c) }
     {
-        let mut place = block.place;
-        for instruction in &block.instructions {
+        let mut place = place;
+        for instruction in instructions {
             if !self.count_instruction(place, instruction) {
                 return false;
             }
             place = place_behind(place, instruction);
         }
         true
+    }
+
+    /// Counts what a block writes.
+    fn count_block(&mut self, block: &Block) -> bool
+        ensures scalars { self.new.scalars ≡ self.old.scalars }
+        ensures counted { result ≡ true → (p x c : ℕ) → IsCountedAt self.old p x c → IsCountedAt self.new p x (writes_among p x (block_view block.now).place (block_view block.now).instructions + c) }
+    {
+        self.count_all(block.place, &block.instructions)
     }
 
     /// Counts what blocks write.
@@ -236,13 +245,18 @@ impl Counts {
         Some(self.marks.get(row, name.0) && !self.marks.get(self.places + row, name.0))
     }
 
-    /// Tells of each instruction of a block whether what it writes may go.
-    pub fn free_writes(&self, alloc: Global, block: &Block) -> Result<Option<Vec<bool>>, AllocError>
-        ensures { IfOk result (λ o. IfSome o (λ told. (g : GraphForm) → IsCountOf g self.now → AreFree g (block_view block.now).place (block_view block.now).instructions told.items)) }
+    /// Tells of each instruction whether what it writes may go. The first stands where this place is in force.
+    fn free_all(
+        &self,
+        alloc: Global,
+        place: Option<Place>,
+        instructions: &[Instr],
+    ) -> Result<Option<Vec<bool>>, AllocError>
+        ensures { IfOk result (λ o. IfSome o (λ told. (g : GraphForm) → IsCountOf g self.now → AreFree g (option_map (λ (q : declared-place.Place). q.0) place) (map instruction_view instructions.now) told.items)) }
     {
         let mut told = Vec::new(alloc);
-        let mut place = block.place;
-        for instruction in &block.instructions {
+        let mut place = place;
+        for instruction in instructions {
             let Some(free) = self.is_free(place, instruction) else {
                 return Ok(None);
             };
@@ -250,5 +264,12 @@ impl Counts {
             place = place_behind(place, instruction);
         }
         Ok(Some(told))
+    }
+
+    /// Tells of each instruction of a block whether what it writes may go.
+    pub fn free_writes(&self, alloc: Global, block: &Block) -> Result<Option<Vec<bool>>, AllocError>
+        ensures { IfOk result (λ o. IfSome o (λ told. (g : GraphForm) → IsCountOf g self.now → AreFree g (block_view block.now).place (block_view block.now).instructions told.items)) }
+    {
+        self.free_all(alloc, block.place, &block.instructions)
     }
 }

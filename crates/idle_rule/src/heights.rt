@@ -92,7 +92,8 @@ impl Heights<'_> {
         ensures there { result ≡ true → (x : ℕ) → Among x (numbers names.now) → turn ≤ height_in self.now walk.new x }
         ensures rest { (x : ℕ) → height_in self.now walk.old x ≤ height_in self.now walk.new x }
     {
-        for name in names {
+        for at in 0..names.len() {
+            let name = &names[at];
             if !self.raise(walk, name.0, turn) {
                 return false;
             }

@@ -22,6 +22,6 @@ returns-clause-only c = λ x lt b.
       | inl a ↦ inl (any_among x _ (sym (ap (λ (l : List ℕ). list_any (λ y. y == x) l) names) ∙ a))
       | inr old ↦ elim (c.join_all.ensures.only x old) [
         | inl z ↦ absurd (true≢false (sym z ∙ c.keep.ensures.there x ∙ ap (λ d. d && bits_of c.args.marks.now c.args.blocks x) (c.requires.table.zero_row x)))
-        | inr one ↦ inr (one_kept c.args.blocks (end_view c.args.end.now) c.args.marks.now c.keep.new.marks x (λ n bit small. c.keep.ensures.rows n bit (λ q. omega (arith, q, small))) one)
+        | inr one ↦ inr (one_kept c.args.blocks (end_view c.args.end.now) c.args.marks.now c.keep.new.self x (λ n bit small. c.keep.ensures.rows n bit (λ q. omega (arith, q, small))) one)
       ]
     ])

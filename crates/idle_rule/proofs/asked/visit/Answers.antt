@@ -11,5 +11,5 @@ returns-clause-asked c =
     let xs = c.args.all.now in
     let b = c.index-all-number.result in
     let at : slice_get (map block_view xs) c.args.number ≡ Some (block_view b) = block_there block_view xs c.args.number b c.requires.block c.index-all-number.is in
-    asked_more (turn_of c.args.turns.now) (map block_view xs) _ c.args.names c.args.number (block_view b) c.args.marks.now c.walk_back-_told.new.marks c.unite-is_new.new.self c.requires.block at c.in_ok-_told.ensures.others c.unite-is_new.ensures.rows c.unite-is_new.ensures.there
+    asked_more (turn_of c.args.turns.now) (map block_view xs) _ c.args.names c.args.number (block_view b) c.args.marks.now c.walk_back.new.marks c.unite-is_new.new.self c.requires.block at c.in_ok-_told.ensures.others c.unite-is_new.ensures.rows c.unite-is_new.ensures.there
     (c.in_ok-_told.ensures.asked (map block_view xs) c.requires.asked) c.requires.asked

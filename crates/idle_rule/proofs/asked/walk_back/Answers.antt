@@ -29,7 +29,7 @@ loop-left-preserved c =
     record {
       table = c.in_ok-step_back.ensures.table;
       others = λ other bit ne. c.in_ok-step_back.ensures.others other bit ne ∙ c.loop-left.invariant.others other bit ne;
-      walked = subst (λ l. IsWalked T c.args.blocks c.args.names c.args.number e c.args.marks.now c.step_back.new.marks c.push.new.told.items l) (sym (back_step instruction_view _ left c.index-instructions-at.result c.loop-left-test.true c.index-instructions-at.is))
+      walked = subst (λ l. IsWalked T c.args.blocks c.args.names c.args.number e c.args.marks.now c.step_back.new.marks c.push.new.self.items l) (sym (back_step instruction_view _ left c.index-instructions-at.result c.loop-left-test.true c.index-instructions-at.is))
           (walked_next T c.args.blocks c.args.names c.args.number e c.args.marks.now c.loop-left.marks c.step_back.new.marks c.loop-left.told.items _ i _ c.is_told-asked.result c.is_gone-gone.result c.in_ok-push.ensures.items
           (λ x target. c.is_told-asked.ensures x (c.target.ensures ∙ target)) (c.is_gone-gone.ensures ∙ ap (λ k. is_gone T c.args.number k i) (sym count)) c.in_ok-step_back.ensures.walk c.loop-left.invariant.walked);
     }

@@ -5,10 +5,10 @@ use Rattle.dead_pass.specs.LeftBy.{IsKeptAs, same}
 use Rattle.dead_pass.proofs.Leaving.{kept_note}
 use Rattle.dead_pass.proofs.notes.Leaving.kept.Goals as goal
 
-pub returns-in-Note-clause-kept : goal.returns-in-Note-clause-kept
-returns-in-Note-clause-kept c =
+pub returns-in_ok-note : goal.returns-in_ok-note
+returns-in_ok-note c =
     let note = instruction_view c.in_ok-note.note in
     subst (λ (i : Instr). IsKeptAs (instruction_view i) note) (sym c.in-Note.is) (kept_note c.in-Note.of.0 (note_view c.in-Note.value) note c.in_ok-note.ensures)
 
-pub returns-in_default-clause-kept : goal.returns-in_default-clause-kept
-returns-in_default-clause-kept c = subst (λ (j : Instruction). IsKeptAs (instruction_view c.args.instruction.now) j) (sym c.in_ok-same.ensures) same
+pub returns : goal.returns
+returns c = subst (λ (j : Instruction). IsKeptAs (instruction_view c.args.instruction.now) j) (sym c.in_ok-same.ensures) same

@@ -7,17 +7,17 @@ use Rattle.idle_rule.specs.Counting.{IsCountedAt, is_bound_by, one_if}
 use Rattle.idle_rule.proofs.Adding.{bound_step}
 use Rattle.idle_rule.proofs.counts.Counts.bind_all.Goals as goal
 
-pub loop-binding-preserved : goal.loop-binding-preserved
-loop-binding-preserved c = record {
-  scalars = c.bind_one.ensures.scalars ∙ c.loop-binding.invariant.scalars;
-  counted = λ p x. (let old = c.loop-binding.invariant.counted p x in (
-    is_bound_by x (binding_view c.binding-item.result) || old.0,
+pub loop-at-preserved : goal.loop-at-preserved
+loop-at-preserved c = record {
+  scalars = c.bind_one.ensures.scalars ∙ c.loop-at.invariant.scalars;
+  counted = λ p x. (let old = c.loop-at.invariant.counted p x in (
+    is_bound_by x (binding_view c.index-bindings-at.result) || old.0,
     c.bind_one.ensures.counted c.if-not-bind_one.false p x old.0 old.1,
-    bound_step binding_view c.args.bindings.now c.loop-binding.binding-index c.binding-item.result x old.0 _ c.loop-binding-test.true c.binding-item.is old.2,
+    bound_step binding_view c.args.bindings.now c.loop-at.at c.index-bindings-at.result x old.0 _ c.loop-at-test.true c.index-bindings-at.is old.2,
   ));
 }
 
 pub returns-clause-counted : goal.returns-clause-counted
-returns-clause-counted c = λ e p x. (let old = c.loop-binding.invariant.counted p x in
-    let same : old.0 ≡ is_bound x _ = sym (at_drop_all (λ l. is_bound x (map binding_view l) || old.0) c.args.bindings.now c.loop-binding.binding-index (omega (arith, c.loop-binding-test.false))) ∙ old.2 in
-    subst (λ b. IsCountedAt _ p x (one_if ((p == c.args.entry) && b))) same old.1)
+returns-clause-counted c = λ e p x. (let old = c.loop-at.invariant.counted p x in
+    let same : old.0 ≡ is_bound x (map binding_view c.args.bindings.now) = sym (at_drop_all (λ l. is_bound x (map binding_view l) || old.0) c.args.bindings.now c.loop-at.at (omega (arith, c.loop-at-test.false))) ∙ old.2 in
+    subst (λ b. IsCountedAt c.loop-at.self p x (one_if ((p == c.args.entry) && b))) same old.1)

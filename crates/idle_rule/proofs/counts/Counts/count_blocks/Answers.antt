@@ -22,4 +22,4 @@ returns-clause-counted c = λ e p x k at. (let old = c.loop-block.invariant.coun
     let none : total (λ (b : Block). writes_among p x b.place b.instructions) _ ≡ 0 = at_drop_all (λ l. total (λ (b : Block). writes_among p x b.place b.instructions) (map block_view l)) c.args.blocks.now c.loop-block.block-index (omega (arith, c.loop-block-test.false)) in
     let sum = old.2 in
     let same : old.0 ≡ _ = omega (arith, none, sum) in
-    subst (λ n. IsCountedAt _ p x n) same old.1)
+    subst (λ n. IsCountedAt c.loop-block.self p x n) same old.1)

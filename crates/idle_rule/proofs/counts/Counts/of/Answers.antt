@@ -12,12 +12,12 @@ pub returns-then-count_blocks : goal.returns-then-count_blocks
 returns-then-count_blocks c =
     let g = c.args.graph.now in
     record {
-      scalars = c.count_blocks.ensures.scalars ∙ c.bind_all.ensures.scalars ∙ c.in_ok-counts.ensures.scalars ∙ sym (length-map g.scalars.items scalar_view);
+      scalars = c.count_blocks.ensures.scalars ∙ c.bind_all.ensures.scalars ∙ c.in_ok-counts.ensures.scalars ∙ c.len-2.ensures ∙ sym (length-map g.scalars.items scalar_view);
       counted = λ p x.
           (let bound = one_if ((p == g.entry.0) && is_bound x (map binding_view g.parameters.items)) in
           let wrote = total (λ (b : Block). writes_among p x b.place b.instructions) (map block_view g.blocks.items) in
           let swap : wrote + bound ≡ bound + wrote = omega arith in
-          let first = subst (λ xs. IsCountedAt c.bind_all.new.counts p x (one_if ((p == g.entry.0) && is_bound x (map binding_view xs)))) c.deref.ensures.value (c.bind_all.ensures.counted c.if-bind_all.true p x) in
-          subst (λ n. IsCountedAt c.count_blocks.new.counts p x n) swap
-          (subst (λ xs. IsCountedAt c.count_blocks.new.counts p x (total (λ (b : Block). writes_among p x b.place b.instructions) (map block_view xs) + bound)) c.deref-2.ensures.value (c.count_blocks.ensures.counted c.if-count_blocks.true p x bound first)));
+          let first = subst (λ xs. IsCountedAt c.bind_all.new.self p x (one_if ((p == g.entry.0) && is_bound x (map binding_view xs)))) c.deref.ensures.value (c.bind_all.ensures.counted c.if-bind_all.true p x) in
+          subst (λ n. IsCountedAt c.count_blocks.new.self p x n) swap
+          (subst (λ xs. IsCountedAt c.count_blocks.new.self p x (total (λ (b : Block). writes_among p x b.place b.instructions) (map block_view xs) + bound)) c.deref-2.ensures.value (c.count_blocks.ensures.counted c.if-count_blocks.true p x bound first)));
     }

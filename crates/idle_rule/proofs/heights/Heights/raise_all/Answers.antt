@@ -4,13 +4,13 @@ use Rattle.idle_rule.specs.Heights.{height_in}
 use Rattle.idle_rule.proofs.Columns.{among_more}
 use Rattle.idle_rule.proofs.heights.Heights.raise_all.Goals as goal
 
-pub loop-name-preserved : goal.loop-name-preserved
-loop-name-preserved c = record {
-  length = c.raise.ensures.length ∙ c.loop-name.invariant.length;
-  there = λ x a. elim (among_more (λ (n : Name). n.0) c.args.names.now c.loop-name.name-index c.name-item.result x c.loop-name-test.true a) [
-    | inl b ↦ (let h = c.loop-name.invariant.there x b in let g = c.raise.ensures.rest x in omega (arith, h, g))
-    | inr q ↦ (let at : x ≡ c.name-item.result.0 = q ∙ ap (λ (n : Name). n.0) (sym c.name-item.is) in
+pub loop-at-preserved : goal.loop-at-preserved
+loop-at-preserved c = record {
+  length = c.raise.ensures.length ∙ c.loop-at.invariant.length;
+  there = λ x a. elim (among_more (λ (n : Name). n.0) c.args.names.now c.loop-at.at c.index-names-at.result x c.loop-at-test.true a) [
+    | inl b ↦ (let h = c.loop-at.invariant.there x b in let g = c.raise.ensures.rest x in omega (arith, h, g))
+    | inr q ↦ (let at : x ≡ c.index-names-at.result.0 = q ∙ ap (λ (n : Name). n.0) (sym c.index-names-at.is) in
         subst (λ k. c.args.turn ≤ height_in c.args.self.now c.raise.new.walk k) (sym at) (c.raise.ensures.there c.if-not-raise.false))
   ];
-  rest = λ x. (let h = c.loop-name.invariant.rest x in let g = c.raise.ensures.rest x in omega (arith, h, g));
+  rest = λ x. (let h = c.loop-at.invariant.rest x in let g = c.raise.ensures.rest x in omega (arith, h, g));
 }
