@@ -45,16 +45,18 @@ raised heights old new name turn was le there same rest x = elim (cases_eq x nam
     by_was true e = (let h = there e in omega (arith, h, le))
     by_was false e = (let h : height_in heights new name ≡ height_in heights old name = ap (λ l. height_in heights l name) (same e) in omega (arith, h))
 
+among_cons : {x y : ℕ} {l : List ℕ} → Among x (y ∷ l) → (x ≡ y) ⊎ Among x l
+among_cons front = inl refl
+among_cons (behind b) = inr b
+
+among_none : {x : ℕ} → Among x [] → ⊥
+among_none a = elim a [ ]
+
 -- a name among one more
 pub among_more : {A : Type 0} (view : A → ℕ) (xs : List A) (k : ℕ) (d : A) (x : ℕ) → k < length xs → Among x (map view (take (k + 1) xs)) → Among x (map view (take k xs)) ⊎ (x ≡ view (get_or xs k d))
 among_more view [] k d x lt a = absurd (omega (arith, lt))
-among_more view (y ∷ xs) zero d x lt a = one a
-  where
-    one : Among x (map view (take (zero + 1) (y ∷ xs))) → Among x (map view (take zero (y ∷ xs))) ⊎ (x ≡ view y)
-    one front = inr refl
-    one (behind b) = elim b [ ]
-among_more view (y ∷ xs) (suc k) d x lt a = later (λ b. among_more view xs k d x (omega (arith, lt)) b) a
-  where
-    later : (Among x (map view (take (k + 1) xs)) → Among x (map view (take k xs)) ⊎ (x ≡ view (get_or xs k d))) → Among x (map view (take (suc k + 1) (y ∷ xs))) → Among x (map view (take (suc k) (y ∷ xs))) ⊎ (x ≡ view (get_or xs k d))
-    later again front = inl front
-    later again (behind b) = elim (again b) [ inl c ↦ inl (behind c) | inr q ↦ inr q ]
+among_more view (y ∷ xs) zero d x lt a = elim (among_cons a) [ inl q ↦ inr q | inr b ↦ absurd (among_none b) ]
+among_more view (y ∷ xs) (suc k) d x lt a = elim (among_cons a) [
+  | inl q ↦ inl (subst (λ z. Among x (z ∷ map view (take k xs))) q front)
+  | inr b ↦ elim (among_more view xs k d x (omega (arith, lt)) b) [ inl c ↦ inl (behind c) | inr q ↦ inr q ]
+]

@@ -1,4 +1,4 @@
-use Rattle.std.proofs.Common.{◌≡◌, ◌∷◌, [], length, map, refl, sym, ap, ◌∙◌, subst, arith}
+use Rattle.std.proofs.Common.{◌≡◌, ◌-◌, ◌∷◌, [], drop, length, map, refl, sym, ap, ◌∙◌, subst, arith}
 use Rattle.graph_core.specs.Graphs.{end_view, instruction_view}
 use Rattle.idle_rule.specs.Walks.{turn_of}
 use Rattle.path_marks.specs.Table.{bits_of}
@@ -14,8 +14,8 @@ loop-left-init c =
     record {
       table = c.in_ok-begin.ensures.table;
       others = c.in_ok-begin.ensures.others;
-      walked = subst (λ ts. IsWalked T c.args.blocks c.args.names c.args.number e c.args.marks.now c.begin.new.marks ts _) (sym c.new-told.ensures.items)
-          (subst (λ l. IsWalked T c.args.blocks c.args.names c.args.number e c.args.marks.now c.begin.new.marks [] l) (sym (back_first instruction_view _))
+      walked = subst (λ ts. IsWalked T c.args.blocks c.args.names c.args.number e c.args.marks.now c.begin.new.marks ts (map instruction_view (drop (length c.deref-instructions.result.now - 0) c.deref-instructions.result.now))) (sym c.new-told.ensures.items)
+          (subst (λ l. IsWalked T c.args.blocks c.args.names c.args.number e c.args.marks.now c.begin.new.marks [] l) (sym (back_first instruction_view c.deref-instructions.result.now))
           (walked_first T c.args.blocks c.args.names c.args.number e c.args.marks.now c.begin.new.marks c.in_ok-begin.ensures.come c.in_ok-begin.ensures.read c.in_ok-begin.ensures.only));
     }
 
@@ -37,5 +37,5 @@ loop-left-preserved c =
 pub returns-clause-tells : goal.returns-clause-tells
 returns-clause-tells c = λ x lt.
     (let T = turn_of c.args.turns.now in
-    subst (λ xs. TellsAsked T (λ l. bits_of c.args.marks.now l x) c.args.blocks x c.args.number (bits_of c.loop-left.marks c.args.blocks x) (map instruction_view xs) (end_view c.args.block.now.end)) c.deref.ensures.value
+    subst (λ xs. TellsAsked T (λ l. bits_of c.args.marks.now l x) c.args.blocks x c.args.number (bits_of c.loop-left.marks c.args.blocks x) (map instruction_view xs) (end_view c.args.block.now.end)) c.deref-instructions.ensures.value
     (subst (λ l. TellsAsked T (λ m. bits_of c.args.marks.now m x) c.args.blocks x c.args.number (bits_of c.loop-left.marks c.args.blocks x) l (end_view c.args.block.now.end)) (back_all instruction_view _ c.loop-left.left (omega arith)) (c.loop-left.invariant.walked.tells x lt)))

@@ -4,16 +4,16 @@ use Rattle.std.proofs.lemmas.List.{at_drop_all}
 use Rattle.graph_core.specs.Graphs.{binding_view}
 use Rattle.graph_core.specs.Paths.{is_bound}
 use Rattle.idle_rule.specs.Counting.{IsCountedAt, is_bound_by, one_if}
-use Rattle.idle_rule.proofs.Adding.{bound_step}
+use Rattle.idle_rule.proofs.Adding.{bound_at}
 use Rattle.idle_rule.proofs.counts.Counts.bind_all.Goals as goal
 
 pub loop-at-preserved : goal.loop-at-preserved
 loop-at-preserved c = record {
   scalars = c.bind_one.ensures.scalars ∙ c.loop-at.invariant.scalars;
   counted = λ p x. (let old = c.loop-at.invariant.counted p x in (
-    is_bound_by x (binding_view c.index-bindings-at.result) || old.0,
+    _,
     c.bind_one.ensures.counted c.if-not-bind_one.false p x old.0 old.1,
-    bound_step binding_view c.args.bindings.now c.loop-at.at c.index-bindings-at.result x old.0 _ c.loop-at-test.true c.index-bindings-at.is old.2,
+    bound_at binding_view c.args.bindings.now c.loop-at.at _ x old.0 _ c.loop-at-test.true old.2,
   ));
 }
 

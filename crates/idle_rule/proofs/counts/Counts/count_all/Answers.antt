@@ -15,7 +15,7 @@ loop-instruction-preserved c = record {
   counted = λ p x k at. (let old = c.loop-instruction.invariant.counted p x k at in (
     one_if (is_place p (option_map (λ (q : Place). q.0) c.loop-instruction.place) && writes x (instruction_view c.instruction-item.result)) + old.0,
     c.count_instruction.ensures.counted c.if-not-count_instruction.false p x old.0 old.1,
-    count_step instruction_view c.args.instructions.now c.loop-instruction.instruction-index c.instruction-item.result p x (option_map (λ (q : Place). q.0) c.loop-instruction.place) _ old.0 _ c.loop-instruction-test.true c.instruction-item.is c.place_behind.ensures old.2,
+    count_step instruction_view c.args.instructions.now c.loop-instruction.instruction-index c.instruction-item.result p x (option_map (λ (q : Place). q.0) c.loop-instruction.place) _ old.0 _ c.loop-instruction-test.true c.instruction-item.is c.place_behind-place.ensures old.2,
   ));
 }
 

@@ -15,7 +15,7 @@ loop-instruction-preserved c = λ g counted.
     let place = option_map (λ (q : Place). q.0) c.loop-instruction.place in
     let is = subst (λ o. IfSome o (λ free. (free ≡ true) ↔ IsFree g place (instruction_view c.instruction-item.result))) c.in-Some.is (c.is_free.ensures g counted) in
     let split = ap (λ l. map instruction_view l) (drop_item xs k c.instruction-item.result c.loop-instruction-test.true c.instruction-item.is) in
-    free_next g (option_map (λ (q : Place). q.0) c.args.place) (map instruction_view c.args.instructions.now) place _ (instruction_view c.instruction-item.result) _ c.loop-instruction.told.items _ c.in-Some.free c.in_ok-push.ensures.items is c.place_behind.ensures
+    free_next g (option_map (λ (q : Place). q.0) c.args.place) (map instruction_view c.args.instructions.now) place _ (instruction_view c.instruction-item.result) _ c.loop-instruction.told.items _ c.in-Some.free c.in_ok-push.ensures.items is c.place_behind-place.ensures
     (subst (λ l. AreFreeAhead g (option_map (λ (q : Place). q.0) c.args.place) (map instruction_view c.args.instructions.now) place l c.loop-instruction.told.items) split (c.loop-instruction.invariant g counted)))
 
 pub returns : goal.returns

@@ -7,10 +7,9 @@ use Rattle.idle_rule.proofs.heights.Heights.raise_all.Goals as goal
 pub loop-at-preserved : goal.loop-at-preserved
 loop-at-preserved c = record {
   length = c.raise.ensures.length ∙ c.loop-at.invariant.length;
-  there = λ x a. elim (among_more (λ (n : Name). n.0) c.args.names.now c.loop-at.at c.index-names-at.result x c.loop-at-test.true a) [
+  there = λ x a. elim (among_more (λ (n : Name). n.0) c.args.names.now c.loop-at.at _ x c.loop-at-test.true a) [
     | inl b ↦ (let h = c.loop-at.invariant.there x b in let g = c.raise.ensures.rest x in omega (arith, h, g))
-    | inr q ↦ (let at : x ≡ c.index-names-at.result.0 = q ∙ ap (λ (n : Name). n.0) (sym c.index-names-at.is) in
-        subst (λ k. c.args.turn ≤ height_in c.args.self.now c.raise.new.walk k) (sym at) (c.raise.ensures.there c.if-not-raise.false))
+    | inr q ↦ subst (λ k. c.args.turn ≤ height_in c.args.self.now c.raise.new.walk k) (sym q) (c.raise.ensures.there c.if-not-raise.false)
   ];
   rest = λ x. (let h = c.loop-at.invariant.rest x in let g = c.raise.ensures.rest x in omega (arith, h, g));
 }

@@ -22,5 +22,5 @@ returns-clause-above c = λ e x count.
     let here : (y : ℕ) → height_in c.args.self.now c.loop-left.walk y ≤ height_at c.args.self.now y c.args.number = λ y.
     (let o = over_height c.args.self.now c.row.result.now c.loop-left.walk (c.fits.ensures e) y in let s = c.row.ensures y in omega (arith, o, s)) in
     let all = raised_all T c.args.self.now c.args.number (end_view c.args.block.now.end) c.loop-left.walk _ here c.loop-left.invariant x count in
-    subst (λ xs. IsAbove T (height_at c.args.self.now x) count x c.args.number (height_at c.args.self.now x c.args.number) (map instruction_view xs) (end_view c.args.block.now.end)) c.deref-2.ensures.value
+    subst (λ xs. IsAbove T (height_at c.args.self.now x) count x c.args.number (height_at c.args.self.now x c.args.number) (map instruction_view xs) (end_view c.args.block.now.end)) c.deref-instructions.ensures.value
     (subst (λ l. IsAbove T (height_at c.args.self.now x) count x c.args.number (height_at c.args.self.now x c.args.number) l (end_view c.args.block.now.end)) (back_all instruction_view _ c.loop-left.left (omega arith)) all))

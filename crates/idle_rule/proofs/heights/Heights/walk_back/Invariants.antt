@@ -5,4 +5,4 @@ use Rattle.idle_rule.proofs.Rising.{IsRaised}
 use Rattle.idle_rule.proofs.heights.Heights.walk_back.Given as goal
 
 abbrev pub invariant-loop-left : goal.invariant-loop-left
-invariant-loop-left l = IsRaised (turn_of l.turns) l.self l.number (end_view l.block.end) l.walk.items (map instruction_view (drop (length l.instructions - l.left) l.instructions))
+invariant-loop-left l = IsRaised (turn_of l.turns) l.self l.number (end_view l.block.end) l.walk (map instruction_view (drop (length l.instructions - l.left) l.instructions))
