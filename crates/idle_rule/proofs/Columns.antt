@@ -53,10 +53,13 @@ among_none : {x : ℕ} → Among x [] → ⊥
 among_none a = elim a [ ]
 
 -- a name among one more
-pub among_more : {A : Type 0} (view : A → ℕ) (xs : List A) (k : ℕ) (d : A) (x : ℕ) → k < length xs → Among x (map view (take (k + 1) xs)) → Among x (map view (take k xs)) ⊎ (x ≡ view (get_or xs k d))
-among_more view [] k d x lt a = absurd (omega (arith, lt))
-among_more view (y ∷ xs) zero d x lt a = elim (among_cons a) [ inl q ↦ inr q | inr b ↦ absurd (among_none b) ]
-among_more view (y ∷ xs) (suc k) d x lt a = elim (among_cons a) [
+among_suc : {A : Type 0} (view : A → ℕ) (xs : List A) (k : ℕ) (d : A) (x : ℕ) → k < length xs → Among x (map view (take (suc k) xs)) → Among x (map view (take k xs)) ⊎ (x ≡ view (get_or xs k d))
+among_suc view [] k d x lt a = absurd (omega (arith, lt))
+among_suc view (y ∷ xs) zero d x lt a = elim (among_cons a) [ inl q ↦ inr q | inr b ↦ absurd (among_none b) ]
+among_suc view (y ∷ xs) (suc k) d x lt a = elim (among_cons a) [
   | inl q ↦ inl (subst (λ z. Among x (z ∷ map view (take k xs))) q front)
-  | inr b ↦ elim (among_more view xs k d x (omega (arith, lt)) b) [ inl c ↦ inl (behind c) | inr q ↦ inr q ]
+  | inr b ↦ elim (among_suc view xs k d x (omega (arith, lt)) b) [ inl c ↦ inl (behind c) | inr q ↦ inr q ]
 ]
+
+pub among_more : {A : Type 0} (view : A → ℕ) (xs : List A) (k : ℕ) (d : A) (x : ℕ) → k < length xs → Among x (map view (take (k + 1) xs)) → Among x (map view (take k xs)) ⊎ (x ≡ view (get_or xs k d))
+among_more view xs k d x lt a = (let z : k + 1 ≡ suc k = omega arith in among_suc view xs k d x lt (subst (λ n. Among x (map view (take n xs))) z a))
