@@ -73,11 +73,7 @@ fn untargeted(alloc: Global, callee: Callee, arguments: &[Operand]) -> Result<In
 }
 
 /// Appends what is left of an instruction whose write goes: a call without its target, or nothing.
-fn push_gone(
-    alloc: Global,
-    instruction: &Instr,
-    left: &mut Vec<Instr>,
-) -> Result<(), AllocError>
+fn push_gone(alloc: Global, instruction: &Instr, left: &mut Vec<Instr>) -> Result<(), AllocError>
     ensures { OnOk result (map instruction_view left.new.items ≡ map instruction_view left.old.items ++ without (instruction_view instruction.now)) }
 {
     if let Instr::Call {
@@ -103,11 +99,7 @@ fn var_of(graph: &Graph, name: Name) -> Option<Var> {
 /// The assignment of a scalar in a place, where it goes.
 fn dropped(idle: &IdleGraph<'_>, place: Place, name: Name) -> Option<u32> {
     let write = idle.writes.only(place, name.0)?;
-    if idle.goes(write) {
-        Some(write)
-    } else {
-        None
-    }
+    if idle.goes(write) { Some(write) } else { None }
 }
 
 impl<'a> Leaving<'a> {

@@ -29,10 +29,7 @@ fn dead_name() -> PassName
 }
 
 /// What goes of each graph.
-fn idle_graphs(
-    alloc: Global,
-    graphs: &[Graph],
-) -> Result<Option<Vec<IdleGraph<'_>>>, AllocError>
+fn idle_graphs(alloc: Global, graphs: &[Graph]) -> Result<Option<Vec<IdleGraph<'_>>>, AllocError>
     ensures { IfOk result (λ o. IfSome o (λ all. map graph_of all.items ≡ map graph_view graphs.now)) }
 {
     let mut all = Vec::new(alloc);

@@ -161,6 +161,6 @@ pub idle_by : (g : Graph) (blocks : List Block) (count : ℕ) → blocks ≡ g.b
     → ((n many : ℕ) (b : Block) → slice_get blocks n ≡ Some b → AreLater turns heights many n b.instructions b.end) → AreIdle g (is_going turns)
 idle_by g blocks count e counts_to turns names led counts counted marks heights are asked right above later =
     let P : List Block → Type 0 = λ l. AreLed l led → AreAsked turns l (length l) names marks → ((n : ℕ) (b : Block) → slice_get l n ≡ Some b → IsRightBlock turns counts l names led marks n b)
-        → ((x n many : ℕ) (b : Block) → slice_get l n ≡ Some b → IsAbove turns (height_at heights x) many x n (height_at heights x n) b.instructions b.end) → ((n many : ℕ) (b : Block) → slice_get l n ≡ Some b → AreLater turns heights many n b.instructions b.end) → AreIdle g (is_going turns) in
+    → ((x n many : ℕ) (b : Block) → slice_get l n ≡ Some b → IsAbove turns (height_at heights x) many x n (height_at heights x n) b.instructions b.end) → ((n many : ℕ) (b : Block) → slice_get l n ≡ Some b → AreLater turns heights many n b.instructions b.end) → AreIdle g (is_going turns) in
     subst P (sym e) (λ a b c d f. checked_idle g turns names led a counts counted marks b heights c d f) are (subst (λ k. AreAsked turns blocks k names marks) counts_to asked)
     (λ n b at. right n b (let lt = slice_get_within blocks n b at in omega (arith, lt, counts_to)) at) above later

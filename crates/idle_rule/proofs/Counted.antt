@@ -87,9 +87,9 @@ module _ (bits new : ℕ → ℕ → Bool) (first places place name row : ℕ) (
     | inl q ↦ elim (cases_eq x name) [
       | inr m ↦ at_same bits new first places p x (one_if ((p == place) && b)) (one_if ((p == place) && ((name == x) || b))) (apart_name x m (p - first)) (apart_name x m (places + (p - first))) (ap (λ z. one_if ((p == place) && (z || b))) (ne_eqb name x (λ r. m (sym r)))) at
       | inl m ↦ (let one : one_if ((p == place) && ((name == x) || b)) ≡ 1 = ap (λ z. one_if (z && ((name == x) || b))) (eq-eqb p place q) ∙ ap (λ z. one_if (z || b)) (eq-eqb name x (sym m)) in (
-            ap (λ k. new (k - first) x) q ∙ ap (λ r. new r x) (sym is) ∙ ap (new put) m ∙ there ∙ ap is_some (sym one),
-            rows (places + (p - first)) x (λ r. omega (arith, r, is, within)) ∙ at.1 ∙ few ((p == place) && b) ∙ ap is_many (sym one),
-          ))
+        ap (λ k. new (k - first) x) q ∙ ap (λ r. new r x) (sym is) ∙ ap (new put) m ∙ there ∙ ap is_some (sym one),
+        rows (places + (p - first)) x (λ r. omega (arith, r, is, within)) ∙ at.1 ∙ few ((p == place) && b) ∙ ap is_many (sym one),
+      ))
     ]
   ]
     where

@@ -61,7 +61,7 @@ module _ (turns : Turns) (blocks names n : ℕ) (e : End) (first : Marks) where
     tells = λ x lt. (
       (λ a. step x lt ∙ or_left (not gone && reads x i) (not (writes x i) && bits_of now blocks x) (ap (λ z. not z && reads x i) is_gone_now ∙ a)),
       (λ unwritten. tells_more turns [] (λ l. bits_of first l x) blocks x n (bits_of now blocks x) (bits_of more blocks x) rest e
-      (λ was. step x lt ∙ or_right (not gone && reads x i) (not (writes x i) && bits_of now blocks x) (ap (λ z. not z && bits_of now blocks x) unwritten ∙ was)) (w.tells x lt)),
+          (λ was. step x lt ∙ or_right (not gone && reads x i) (not (writes x i) && bits_of now blocks x) (ap (λ z. not z && bits_of now blocks x) unwritten ∙ was)) (w.tells x lt)),
     );
     asked_behind = λ all are. subst (λ l. EachBehind (IsAskedWhere turns all names n e) l (i ∷ rest)) (sym grown)
         (each_next (IsAskedWhere turns all names n e) told v i rest w.count (λ x target lt b. w.asked all are x lt (sym (is_told x target) ∙ b)) (w.asked_behind all are));

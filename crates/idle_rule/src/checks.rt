@@ -108,7 +108,15 @@ fn is_right_block(
         return Ok(false);
     };
     let is_reached = reached.get(0, number);
-    Ok(are_right(turns, names, number, is_reached, &block.instructions, &free, &asked))
+    Ok(are_right(
+        turns,
+        names,
+        number,
+        is_reached,
+        &block.instructions,
+        &free,
+        &asked,
+    ))
 }
 
 /// Whether this is so of all blocks.

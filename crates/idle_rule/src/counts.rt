@@ -46,8 +46,16 @@ impl PlaceRange {
         match place {
             None => self,
             Some(place) => PlaceRange {
-                first: if place.0 < self.first { place.0 } else { self.first },
-                last: if place.0 > self.last { place.0 } else { self.last },
+                first: if place.0 < self.first {
+                    place.0
+                } else {
+                    self.first
+                },
+                last: if place.0 > self.last {
+                    place.0
+                } else {
+                    self.last
+                },
             },
         }
     }

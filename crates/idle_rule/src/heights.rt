@@ -30,7 +30,11 @@ impl Heights<'_> {
     {
         let column = *self.columns.get(name as usize)?;
         let found = *self.names.get(column as usize)?;
-        if found == name { Some(column as usize) } else { None }
+        if found == name {
+            Some(column as usize)
+        } else {
+            None
+        }
     }
 
     /// The row of a block.
