@@ -23,9 +23,9 @@ module _ (g : Graph) (goes : (block left : ℕ) → Bool) (are : AreIdle g goes)
   left_reduced n b at way (went {i} {rest} {left} going more) before parts =
       let whole : b.instructions ≡ (before ++ i ∷ []) ++ rest = parts ∙ sym (append_assoc before (i ∷ []) rest) in
       gone ((are.goes n b before rest i at parts).0 going) (left_reduced n b at way more (before ++ i ∷ []) whole)
-  left_reduced n b at way (kept {i} {j} {rest} {left} staying as more) before parts =
+  left_reduced n b at way (kept {i} {j} {rest} {left} staying is_kept more) before parts =
       let whole : b.instructions ≡ (before ++ i ∷ []) ++ rest = parts ∙ sym (append_assoc before (i ∷ []) rest) in
-      stays (not_goes n b before rest i at parts staying) (stays_as i j as (point_reached g led reached n b before (i ∷ rest) at parts way)) (left_reduced n b at way more (before ++ i ∷ []) whole)
+      stays (not_goes n b before rest i at parts staying) (stays_as i j is_kept (point_reached g led reached n b before (i ∷ rest) at parts way)) (left_reduced n b at way more (before ++ i ∷ []) whole)
     where
       stays_as : (k l : Instruction) → IsKeptAs k l → IsReached g n (k ∷ rest) b.end → StaysAs g n rest b.end k l
       stays_as k l kept_same r = same
@@ -106,7 +106,7 @@ gone_left (Call y f all) x rest left target more = left_kept untargeted more
 instructions_left : {g : Graph} {n : ℕ} {e : End} {rest left : List Instruction} → AreReduced g n e rest left → AreLeft rest left
 instructions_left ends = left_none
 instructions_left (gone {i} {rest} {after} goes more) = (let t = target_idle goes.idle in gone_left i t.0 rest after t.1 (instructions_left more))
-instructions_left (stays {i} {j} {rest} {after} never as more) = left_kept (stays_left as) (instructions_left more)
+instructions_left (stays {i} {j} {rest} {after} never is_kept more) = left_kept (stays_left is_kept) (instructions_left more)
   where
     stays_left : {g : Graph} {n : ℕ} {rest : List Instruction} {e : End} {k l : Instruction} → StaysAs g n rest e k l → IsLeftAs k (Some l)
     stays_left same = left_stays

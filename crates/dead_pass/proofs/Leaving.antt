@@ -1,6 +1,7 @@
 -- Instructions and blocks of which something is left, one by one.
 use Rattle.std.proofs.Common.{◌≡◌, ◌+◌, ◌-◌, ◌<◌, ◌≤◌, ℕ, Bool, true, false, Option, Some, None, List, [], ◌∷◌, ◌++◌, length, map, refl, sym, ap, ◌∙◌, subst, arith, append_assoc, get_or, take, drop}
 use Rattle.std.proofs.lemmas.List.{length-map}
+use Rattle.std.specs.List.{AllByRecursion}
 use Rattle.std.proofs.Math.Seq.{take-length}
 use Rattle.graph_core.specs.Graphs.{NoteValue, Instruction, Note, Block}
 use Rattle.idle_rule.specs.Removing.{without}
@@ -28,8 +29,8 @@ module _ (goes : ℕ → Bool) where
   ahead_next : (all ahead left longer : List Instruction) (i : Instruction) → IsPushed (goes (length ahead)) i left longer → IsAhead all (i ∷ ahead) left → IsAhead all ahead longer
   ahead_next all ahead left longer i (went is grown) (goes_on go) =
       goes_on (λ later are. (let P : List Instruction → Type 0 = λ l. AreLeftBy goes all l in subst P (sym (append_assoc left (without i) later) ∙ ap (λ l. l ++ later) (sym grown)) (go (without i ++ later) (gone is are))))
-  ahead_next all ahead left longer i (stayed {j} is as grown) (goes_on go) =
-      goes_on (λ later are. (let P : List Instruction → Type 0 = λ l. AreLeftBy goes all l in subst P (sym (append_assoc left (j ∷ []) later) ∙ ap (λ l. l ++ later) (sym grown)) (go (j ∷ later) (kept is as are))))
+  ahead_next all ahead left longer i (stayed {j} is is_kept grown) (goes_on go) =
+      goes_on (λ later are. (let P : List Instruction → Type 0 = λ l. AreLeftBy goes all l in subst P (sym (append_assoc left (j ∷ []) later) ∙ ap (λ l. l ++ later) (sym grown)) (go (j ∷ later) (kept is is_kept are))))
 
   pub ahead_step : {A : Type 0} (view : A → Instruction) (all left longer : List Instruction) (ahead : List A) (x : A) (count : ℕ) (going : Bool) → 1 ≤ length ahead → x ≡ get_or ahead 0 x → count ≡ length (take (length ahead - 1) (drop 1 ahead)) → going ≡ goes count
       → IsPushed going (view x) left longer → IsAhead all (map view ahead) left → IsAhead all (map view (take (length ahead - 1) (drop 1 ahead))) longer
@@ -67,3 +68,16 @@ module _ (goes : (block left : ℕ) → Bool) (led : ℕ → Bool) where
 pub rest_count : {A : Type 0} (ahead : List A) → 1 ≤ length ahead → length (take (length ahead - 1) (drop 1 ahead)) + 1 ≡ length ahead
 rest_count [] le = absurd (omega (arith, le))
 rest_count (y ∷ ahead) le = (let e = ap (λ l. length l) (rest_is y ahead) in omega (arith, e))
+
+-- what is so of all that is ahead
+pub first_of_all : {A : Type 0} (P : A → Type 0) (ahead : List A) (x : A) → 1 ≤ length ahead → x ≡ get_or ahead 0 x → AllByRecursion P ahead → P x
+first_of_all P [] x le e all = absurd (omega (arith, le))
+first_of_all P (y ∷ ahead) x le e all = subst P (sym e) all.0
+
+pub all_behind : {A : Type 0} (P : A → Type 0) (ahead : List A) → 1 ≤ length ahead → AllByRecursion P ahead → AllByRecursion P (take (length ahead - 1) (drop 1 ahead))
+all_behind P [] le all = absurd (omega (arith, le))
+all_behind {A} P (y ∷ ahead) le all = (let Q : List A → Type 0 = λ zs. AllByRecursion P zs in subst Q (sym (rest_is y ahead)) all.1)
+
+pub all_and_last : {A : Type 0} (P : A → Type 0) (xs : List A) (x : A) → AllByRecursion P xs → P x → AllByRecursion P (xs ++ x ∷ [])
+all_and_last P [] x all last = (last, tt)
+all_and_last P (y ∷ xs) x all last = (all.0, all_and_last P xs x all.1 last)

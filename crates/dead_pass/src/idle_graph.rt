@@ -3,9 +3,7 @@
 ghost use Rattle.std.specs.Prelude.{◌≡◌, ℕ, ◌<◌, ◌^◌, IfOk, IfSome, false, length, slice_index_or, true};
 ghost use Rattle.graph_core.specs.Graphs.{graph_view};
 ghost use Rattle.idle_rule.specs.Asking.{is_going};
-ghost use Rattle.idle_rule.specs.Certified.{AreIdle};
 ghost use Rattle.idle_rule.specs.Walks.{turn_of};
-ghost use Rattle.path_marks.specs.Reached.{AreLed};
 ghost use Rattle.path_marks.specs.Table.{bits_of};
 
 use dead_rule::{Points, Writes, idle_writes};
@@ -25,9 +23,7 @@ pub struct IdleGraph<'a> {
     turns: Vec<Vec<u32>>,
     /// The blocks that paths reach, as bits of a row.
     reached: Marks,
-    ghost idle: { AreIdle (graph_view graph.now) (is_going (turn_of turns.items)) },
     ghost few: { length graph.now.blocks.items < 2 ^ 32 },
-    ghost led: { AreLed (graph_view graph.now).blocks (bits_of reached 0) },
 }
 
 /// Whether all writes of a block stay.
@@ -43,11 +39,12 @@ fn all_stay(turns: &[u32]) -> bool
 }
 
 impl<'a> IdleGraph<'a> {
-    ghost use Rattle.dead_pass.specs.Idle.{graph_of};
+    ghost use Rattle.dead_pass.specs.Idle.{IsBorneOut, graph_of};
 
     /// A graph and what goes of it. None where that is not borne out, which no graph is known to meet.
     pub fn new(alloc: Global, graph: &'a Graph) -> Result<Option<IdleGraph<'a>>, AllocError>
-        ensures { IfOk result (λ o. IfSome o (λ idle. graph_of idle ≡ graph_view graph.now)) }
+        ensures graph { IfOk result (λ o. IfSome o (λ idle. graph_of idle ≡ graph_view graph.now)) }
+        ensures borne_out { IfOk result (λ o. IfSome o (λ idle. IsBorneOut idle)) }
     {
         if graph.blocks.len() > 0xffff_ffff {
             return Ok(None);

@@ -1,7 +1,7 @@
 //! What is left of a graph.
 
 ghost use Rattle.std.specs.Prelude.{◌≡◌, ◌<◌, ◌^◌, ◌++◌, IfOk, None, OnOk, length, map};
-ghost use Rattle.dead_pass.specs.Idle.{graph_of};
+ghost use Rattle.dead_pass.specs.Idle.{IsBorneOut, graph_of};
 ghost use Rattle.dead_pass.specs.LeftBy.{AreLeftBlocksBy, AreLeftBy, IsKeptAs, IsLeftBlockBy, IsNoteOf, IsPushed};
 ghost use Rattle.graph_core.specs.Graphs.{Call as CallOf, block_view, graph_view, instruction_view, operand_view};
 ghost use Rattle.idle_rule.specs.Asking.{is_going};
@@ -302,6 +302,7 @@ pub fn graph_left(
     idle: &IdleGraph<'_>,
     removed: &RemovedChanges,
 ) -> Result<Graph, AllocError>
+    requires { IsBorneOut idle.now }
     ensures { IfOk result (λ left. IsReduced (graph_of idle.now) (graph_view left)) }
 {
     if idle.stays() {

@@ -1,9 +1,10 @@
 //! The pass.
 
 ghost use Rattle.std.specs.Prelude.{◌≡◌, ◌<◌, ◌^◌, IfOk, IfSome, codes, length, map};
+ghost use Rattle.std.specs.List.{AllByRecursion};
 ghost use Rattle.debug_records.specs.Change.{pass_name};
 ghost use Rattle.debug_records.specs.declared.change.Kind.TheVariants.{Removed};
-ghost use Rattle.dead_pass.specs.Idle.{graph_of};
+ghost use Rattle.dead_pass.specs.Idle.{IsBorneOut, graph_of};
 ghost use Rattle.dead_pass.specs.Left.{IsLeftGraph};
 ghost use Rattle.graph_core.specs.Graphs.{graph_view, unit_view};
 ghost use Rattle.graph_core.specs.Validity.{IsValid};
@@ -30,7 +31,8 @@ fn dead_name() -> PassName
 
 /// What goes of each graph.
 fn idle_graphs(alloc: Global, graphs: &[Graph]) -> Result<Option<Vec<IdleGraph<'_>>>, AllocError>
-    ensures { IfOk result (λ o. IfSome o (λ all. map graph_of all.items ≡ map graph_view graphs.now)) }
+    ensures graphs { IfOk result (λ o. IfSome o (λ all. map graph_of all.items ≡ map graph_view graphs.now)) }
+    ensures borne_out { IfOk result (λ o. IfSome o (λ all. AllByRecursion IsBorneOut all.items)) }
 {
     let mut all = Vec::new(alloc);
     for graph in graphs {
@@ -48,6 +50,7 @@ fn graphs_left(
     idle: &[IdleGraph<'_>],
     removed: &RemovedChanges,
 ) -> Result<Vec<Graph>, AllocError>
+    requires { AllByRecursion IsBorneOut idle.now }
     ensures { IfOk result (λ left. EachFunction IsReduced (map graph_of idle.now) (map graph_view left.items)) }
 {
     let mut left = Vec::new(alloc);

@@ -13,7 +13,7 @@ use Rattle.dead_pass.proofs.notes.graph_left.Goals as goal
 pub returns-then-stays : goal.returns-then-stays
 returns-then-stays c =
     let idle = c.args.idle.now in
-    subst (λ (g : Graph). IsReduced (graph_of idle) g) (sym c.in_ok-same.ensures) (graph_stays (graph_of idle) (is_going (turn_of idle.turns.items)) idle.idle (bits_of idle.reached 0) idle.led (c.stays.ensures c.if-stays.true))
+    subst (λ (g : Graph). IsReduced (graph_of idle) g) (sym c.in_ok-same.ensures) (graph_stays (graph_of idle) (is_going (turn_of idle.turns.items)) c.requires.goes (bits_of idle.reached 0) c.requires.led (c.stays.ensures c.if-stays.true))
 
 pub returns : goal.returns
 returns c =
@@ -27,4 +27,4 @@ returns c =
     let one = ap (λ x. made (map binding_view x) (map scalar_view c.in_ok-from_slice-2.field-0.items) c.in_ok-from_slice-3.field-0.items) (c.in_ok-from_slice.ensures.items ∙ c.deref-2.ensures.value) in
     let two = ap (λ x. made (map binding_view g.parameters.items) (map scalar_view x) c.in_ok-from_slice-3.field-0.items) (c.in_ok-from_slice-2.ensures.items ∙ c.deref-3.ensures.value) in
     let three = ap (λ x. made (map binding_view g.parameters.items) (map scalar_view g.scalars.items) x) (c.in_ok-from_slice-3.ensures.items ∙ c.deref-4.ensures.value) in
-    subst (λ (h : Graph). IsReduced (graph_view g) h) (sym (one ∙ two ∙ three)) (graph_reduced (graph_view g) (is_going (turn_of idle.turns.items)) idle.idle (bits_of idle.reached 0) idle.led after all)
+    subst (λ (h : Graph). IsReduced (graph_view g) h) (sym (one ∙ two ∙ three)) (graph_reduced (graph_view g) (is_going (turn_of idle.turns.items)) c.requires.goes (bits_of idle.reached 0) c.requires.led after all)
