@@ -12,7 +12,7 @@ loop-ahead-init c =
     let goes = is_going (turn_of c.args.idle.now.turns.items) in
     let led = bits_of c.args.idle.now.reached 0 in
     let all = map block_view c.args.blocks.now in
-    record { counted = search; left = subst (λ xs. AreAhead goes led all all 0 (map block_view xs)) (sym c.new-left.ensures.items) (blocks_first goes led all) }
+    record { counted = omega arith; left = subst (λ xs. AreAhead goes led all all 0 (map block_view xs)) (sym c.new-left.ensures.items) (blocks_first goes led all) }
 
 pub loop-ahead-preserved : goal.loop-ahead-preserved
 loop-ahead-preserved c =

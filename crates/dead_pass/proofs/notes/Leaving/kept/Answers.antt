@@ -5,8 +5,8 @@ use Rattle.dead_pass.specs.LeftBy.{IsKeptAs, same}
 use Rattle.dead_pass.proofs.Leaving.{kept_note}
 use Rattle.dead_pass.proofs.notes.Leaving.kept.Goals as goal
 
-pub returns-in_ok-note : goal.returns-in_ok-note
-returns-in_ok-note c =
+pub returns-in-Note : goal.returns-in-Note
+returns-in-Note c =
     let note = instruction_view c.in_ok-note.note in
     subst (λ (i : Instr). IsKeptAs (instruction_view i) note) (sym c.in-Note.is) (kept_note c.in-Note.of.0 (note_view c.in-Note.value) note c.in_ok-note.ensures)
 

@@ -13,4 +13,4 @@ returns-then-not-is_reached c =
 pub returns : goal.returns
 returns c =
     reduced (sym c.is_reached.ensures ∙ c.if-not-is_reached.false)
-    (subst (λ xs. AreLeftBy (is_going (turn_of c.args.idle.now.turns.items) c.args.number) (map instruction_view xs) (map instruction_view c.in_ok-instructions.instructions.items)) c.deref.ensures.value c.in_ok-instructions.ensures)
+    (subst (λ xs. AreLeftBy (is_going (turn_of c.args.idle.now.turns.items) c.args.number) (map instruction_view xs) (map instruction_view c.in_ok-left_of.field-0.items)) c.deref.ensures.value c.in_ok-left_of.ensures)
