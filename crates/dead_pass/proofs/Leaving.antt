@@ -1,11 +1,11 @@
 -- Instructions and blocks of which something is left, one by one.
-use Rattle.std.proofs.Common.{◌≡◌, ◌+◌, ◌-◌, ◌<◌, ◌≤◌, ℕ, Bool, true, false, Option, Some, None, List, [], ◌∷◌, ◌++◌, length, map, refl, sym, ap, ◌∙◌, subst, arith, append_assoc, get_or, take, drop}
+use Rattle.std.proofs.Common.{◌≡◌, ◌+◌, ◌-◌, ◌<◌, ◌≤◌, ℕ, Bool, List, [], ◌∷◌, ◌++◌, length, map, refl, sym, ap, ◌∙◌, subst, arith, append_assoc, get_or, take, drop}
 use Rattle.std.proofs.lemmas.List.{length-map}
 use Rattle.std.specs.List.{AllByRecursion}
 use Rattle.std.proofs.Math.Seq.{take-length}
 use Rattle.graph_core.specs.Graphs.{NoteValue, Instruction, Note, Block}
 use Rattle.idle_rule.specs.Removing.{without}
-use Rattle.dead_pass.specs.LeftBy.{IsKeptAs, same, noted, IsPushed, went, stayed, AreLeftBy, none, gone, kept, IsLeftBlockBy, unreached, reduced, AreLeftBlocksBy, IsNoteOf, notes}
+use Rattle.dead_pass.specs.LeftBy.{IsKeptAs, noted, IsPushed, went, stayed, AreLeftBy, none, gone, kept, IsLeftBlockBy, AreLeftBlocksBy, IsNoteOf, notes}
 
 append_nil : {A : Type 0} (xs : List A) → xs ++ [] ≡ xs
 append_nil [] = refl
@@ -77,7 +77,3 @@ first_of_all P (y ∷ ahead) x le e all = subst P (sym e) all.0
 pub all_behind : {A : Type 0} (P : A → Type 0) (ahead : List A) → 1 ≤ length ahead → AllByRecursion P ahead → AllByRecursion P (take (length ahead - 1) (drop 1 ahead))
 all_behind P [] le all = absurd (omega (arith, le))
 all_behind {A} P (y ∷ ahead) le all = (let Q : List A → Type 0 = λ zs. AllByRecursion P zs in subst Q (sym (rest_is y ahead)) all.1)
-
-pub all_and_last : {A : Type 0} (P : A → Type 0) (xs : List A) (x : A) → AllByRecursion P xs → P x → AllByRecursion P (xs ++ x ∷ [])
-all_and_last P [] x all last = (last, tt)
-all_and_last P (y ∷ xs) x all last = (all.0, all_and_last P xs x all.1 last)

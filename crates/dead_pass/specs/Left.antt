@@ -1,5 +1,5 @@
 -- What the removal of dead assignments may leave of a graph.
-use Rattle.std.specs.Prelude.{◌≡◌, ℕ, true, Option, Some, None, List, [], ◌∷◌, ◌++◌, ⊤}
+use Rattle.std.specs.Prelude.{◌≡◌, ℕ, true, Option, Some, None, List, [], ◌∷◌, ⊤}
 use Rattle.graph_core.specs.declared.instruction.Callee.{Callee}
 use Rattle.graph_core.specs.Graphs.{Operand, NoteValue, Instruction, Note, Call, Block, Graph}
 use Rattle.graph_core.specs.Uses.{is_computation}

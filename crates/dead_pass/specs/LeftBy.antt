@@ -1,5 +1,5 @@
 -- What is left where it is told of each write whether it goes.
-use Rattle.std.specs.Prelude.{◌≡◌, ℕ, ◌+◌, Bool, true, false, if◌then◌else◌, List, [], ◌∷◌, ◌++◌, length, ⊤}
+use Rattle.std.specs.Prelude.{◌≡◌, ℕ, ◌+◌, Bool, true, false, List, [], ◌∷◌, ◌++◌, length, ⊤}
 use Rattle.graph_core.specs.Graphs.{NoteValue, Instruction, Note, Block}
 use Rattle.idle_rule.specs.Removing.{without}
 
