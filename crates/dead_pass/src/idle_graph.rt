@@ -1,13 +1,16 @@
 //! A graph and what goes of it.
 
-ghost use Rattle.std.specs.Prelude.{◌≡◌, IfOk};
-ghost use Rattle.dead_pass.specs.Idle.{graph_of};
+ghost use Rattle.std.specs.Prelude.{◌≡◌, ℕ, ◌<◌, ◌^◌, IfOk, IfSome, false, length, slice_index_or, true};
 ghost use Rattle.graph_core.specs.Graphs.{graph_view};
+ghost use Rattle.idle_rule.specs.Asking.{is_going};
+ghost use Rattle.idle_rule.specs.Walks.{turn_of};
+ghost use Rattle.path_marks.specs.Table.{bits_of};
 
 use dead_rule::{Points, Writes, idle_writes};
 use graph_core::{Graph, Instr, Name, Operand};
 use graph_edits::Case;
-use graph_paths::flag;
+use idle_rule::{Heights, are_idle, turn_at};
+use path_marks::Marks;
 use std::alloc::{AllocError, Global};
 
 /// A graph and what goes of it.
@@ -16,34 +19,97 @@ pub struct IdleGraph<'a> {
     pub graph: &'a Graph,
     pub points: Points,
     pub writes: Writes,
-    /// For each point whether what it writes goes.
-    pub goes: Vec<bool>,
+    /// For each block by how many instructions stand behind a write the turn in which it goes; 0 where it stays.
+    turns: Vec<Vec<u32>>,
+    /// The blocks that paths reach, as bits of a row.
+    reached: Marks,
+    ghost few: { length graph.now.blocks.items < 2 ^ 32 },
+}
+
+/// Whether all writes of a block stay.
+fn all_stay(turns: &[u32]) -> bool
+    ensures { result ≡ true → (left : ℕ) → slice_index_or turns.now left 0 ≡ 0 }
+{
+    for turn in turns {
+        if *turn != 0 {
+            return false;
+        }
+    }
+    true
 }
 
 impl<'a> IdleGraph<'a> {
-    /// A graph and what goes of it.
-    pub fn new(alloc: Global, graph: &'a Graph) -> Result<IdleGraph<'a>, AllocError>
-        ensures { IfOk result (λ idle. graph_of idle ≡ graph_view graph.now) }
+    ghost use Rattle.dead_pass.specs.Idle.{IsBorneOut, graph_of};
+
+    /// A graph and what goes of it. None where that is not borne out, which no graph is known to meet.
+    pub fn new(alloc: Global, graph: &'a Graph) -> Result<Option<IdleGraph<'a>>, AllocError>
+        ensures graph { IfOk result (λ o. IfSome o (λ idle. graph_of idle ≡ graph_view graph.now)) }
+        ensures borne_out { IfOk result (λ o. IfSome o (λ idle. IsBorneOut idle)) }
     {
+        if graph.blocks.len() > 0xffff_ffff {
+            return Ok(None);
+        }
         let points = Points::new(alloc, graph)?;
         let writes = Writes::new(alloc, graph, &points)?;
-        let goes = idle_writes(alloc, graph, &points, &writes)?;
-        Ok(IdleGraph {
+        let found = idle_writes(alloc, graph, &points, &writes)?;
+        let heights = Heights {
+            columns: &found.columns,
+            names: &found.names,
+            rows: &found.rows,
+        };
+        let Some(reached) = are_idle(alloc, graph, &found.turns, heights)? else {
+            return Ok(None);
+        };
+        Ok(Some(IdleGraph {
             graph,
             points,
             writes,
-            goes,
-        })
+            turns: found.turns,
+            reached,
+        }))
     }
 
     /// Whether nothing goes.
-    pub fn stays(&self) -> bool {
-        !self.goes.contains(&true)
+    pub fn stays(&self) -> bool
+        ensures { result ≡ true → (n left : ℕ) → is_going (turn_of self.now.turns.items) n left ≡ false }
+    {
+        for turns in &self.turns {
+            if !all_stay(turns) {
+                return false;
+            }
+        }
+        true
+    }
+
+    /// Whether some path reaches a block.
+    pub fn is_reached(&self, block: u32) -> bool
+        ensures { result ≡ bits_of self.now.reached 0 block }
+    {
+        self.reached.get(0, block)
+    }
+
+    /// Whether the write goes that stands in a block with so many instructions behind it.
+    pub fn goes_at(&self, block: u32, left: usize) -> bool
+        ensures { result ≡ is_going (turn_of self.now.turns.items) block left }
+    {
+        turn_at(&self.turns, block, left) != 0
     }
 
     /// Whether what a point writes goes.
     pub fn goes(&self, point: u32) -> bool {
-        flag(&self.goes, point)
+        let Some(found) = self.points.at(point) else {
+            return false;
+        };
+        let Some(block) = self.graph.blocks.get(found.block as usize) else {
+            return false;
+        };
+        match block.instructions.len().checked_sub(1) {
+            Some(last) => match last.checked_sub(found.index as usize) {
+                Some(left) => self.goes_at(found.block, left),
+                None => false,
+            },
+            None => false,
+        }
     }
 
     /// Whether a point writes a name, and stays.

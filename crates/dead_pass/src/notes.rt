@@ -1,10 +1,13 @@
 //! What is left of a graph.
 
-ghost use Rattle.std.specs.Prelude.{◌≡◌, IfOk, None, OnOk, map, option_map};
-ghost use Rattle.dead_pass.specs.Idle.{graph_of};
-ghost use Rattle.dead_pass.specs.Left.{AreLeft, AreLeftBlocks, IsLeftAs, IsLeftBlock, IsLeftGraph, IsNoteOf, IsPushed};
+ghost use Rattle.std.specs.Prelude.{◌≡◌, ◌<◌, ◌^◌, ◌++◌, IfOk, None, OnOk, length, map};
+ghost use Rattle.dead_pass.specs.Idle.{IsBorneOut, graph_of};
+ghost use Rattle.dead_pass.specs.LeftBy.{AreLeftBlocksBy, AreLeftBy, IsKeptAs, IsLeftBlockBy, IsNoteOf, IsPushed};
 ghost use Rattle.graph_core.specs.Graphs.{Call as CallOf, block_view, graph_view, instruction_view, operand_view};
-ghost use Rattle.graph_core.specs.Uses as uses;
+ghost use Rattle.idle_rule.specs.Asking.{is_going};
+ghost use Rattle.idle_rule.specs.Removing.{IsReduced, without};
+ghost use Rattle.idle_rule.specs.Walks.{turn_of};
+ghost use Rattle.path_marks.specs.Table.{bits_of};
 
 use crate::idle_graph::IdleGraph;
 use crate::recipes::{NotePoint, recipe_of};
@@ -14,19 +17,16 @@ use crate::ways::Ways;
 use dead_rule::FlowRows;
 use debug_records::{Place, Var};
 use graph_core::{Block, Callee, Graph, Instr, MAX_RECIPE_DEPTH, Name, NoteValue, Operand, Recipe};
-use graph_paths::{flag, put_flag, reached_in_order};
+use graph_paths::reached_in_order;
 use smallvec::SmallVec;
 use std::alloc::{AllocError, Global};
 
-/// A graph that is left by and by.
+/// What is known of a graph that is left by and by.
 #[derive(Drop)]
 struct Leaving<'a> {
-    idle: &'a IdleGraph<'a>,
     removed: &'a RemovedChanges,
     stale: FlowRows,
     ways: Ways,
-    /// For each block whether some path reaches it.
-    reached: Vec<bool>,
 }
 
 /// Whether a recipe has a stale name.
@@ -60,26 +60,6 @@ fn gone_by(
     }
 }
 
-/// Whether an instruction only computes a value and writes it to a name.
-fn is_computation(instruction: &Instr) -> bool
-    ensures { result ≡ uses.is_computation (instruction_view instruction.now) }
-{
-    match instruction {
-        Instr::Move { .. }
-        | Instr::Operate { .. }
-        | Instr::Truncate { .. }
-        | Instr::Same { .. }
-        | Instr::Address { .. }
-        | Instr::Load { .. } => true,
-        Instr::Marker(_)
-        | Instr::Note { .. }
-        | Instr::Store { .. }
-        | Instr::Zero { .. }
-        | Instr::CopyWords { .. }
-        | Instr::Call { .. } => false,
-    }
-}
-
 /// A call without a target.
 fn untargeted(alloc: Global, callee: Callee, arguments: &[Operand]) -> Result<Instr, AllocError>
     ensures { IfOk result (λ call. instruction_view call ≡ CallOf None callee (map operand_view arguments.now)) }
@@ -92,60 +72,56 @@ fn untargeted(alloc: Global, callee: Callee, arguments: &[Operand]) -> Result<In
     })
 }
 
-/// An equal instruction, or nothing where it is a computation that goes.
-fn kept(alloc: Global, goes: bool, instruction: &Instr) -> Result<Option<Instr>, AllocError>
-    ensures { IfOk result (λ left. IsLeftAs (instruction_view instruction.now) (option_map instruction_view left)) }
+/// Appends what is left of an instruction whose write goes: a call without its target, or nothing.
+fn push_gone(alloc: Global, instruction: &Instr, left: &mut Vec<Instr>) -> Result<(), AllocError>
+    ensures { OnOk result (map instruction_view left.new.items ≡ map instruction_view left.old.items ++ without (instruction_view instruction.now)) }
 {
-    if goes && is_computation(instruction) {
-        return Ok(None);
+    if let Instr::Call {
+        callee,
+        arguments,
+        ..
+    } = instruction
+    {
+        let call = untargeted(alloc, *callee, arguments.as_slice())?;
+        left.push(call)?;
     }
-    let same = instruction.duplicate(alloc)?;
-    Ok(Some(same))
+    Ok(())
+}
+
+/// The variable of a scalar.
+fn var_of(graph: &Graph, name: Name) -> Option<Var> {
+    match graph.scalars.get(name.0 as usize) {
+        Some(scalar) => Some(scalar.var),
+        None => None,
+    }
+}
+
+/// The assignment of a scalar in a place, where it goes.
+fn dropped(idle: &IdleGraph<'_>, place: Place, name: Name) -> Option<u32> {
+    let write = idle.writes.only(place, name.0)?;
+    if idle.goes(write) { Some(write) } else { None }
 }
 
 impl<'a> Leaving<'a> {
     /// A graph from which something goes.
     fn new(
         alloc: Global,
-        idle: &'a IdleGraph<'a>,
+        idle: &IdleGraph<'_>,
         removed: &'a RemovedChanges,
     ) -> Result<Leaving<'a>, AllocError> {
         let order = reached_in_order(alloc, &idle.graph.blocks)?;
-        let mut reached = vec![in alloc; false; idle.graph.blocks.len()]?;
-        for number in &order {
-            put_flag(&mut reached, *number, true);
-        }
         Ok(Leaving {
-            idle,
             removed,
             stale: stale_names(alloc, idle, &order)?,
             ways: Ways::new(alloc, idle)?,
-            reached,
         })
-    }
-
-    /// The variable of a scalar.
-    fn var_of(&self, name: Name) -> Option<Var> {
-        match self.idle.graph.scalars.get(name.0 as usize) {
-            Some(scalar) => Some(scalar.var),
-            None => None,
-        }
-    }
-
-    /// The assignment of a scalar in a place, where it goes.
-    fn dropped(&self, place: Place, name: Name) -> Option<u32> {
-        let write = self.idle.writes.only(place, name.0)?;
-        if self.idle.goes(write) {
-            Some(write)
-        } else {
-            None
-        }
     }
 
     /// What the note of an assignment that goes says: a recipe, or else the change.
     fn said_of_dropped(
         &mut self,
         alloc: Global,
+        idle: &IdleGraph<'_>,
         note: NotePoint,
         of: Name,
         before: &NoteValue,
@@ -153,7 +129,7 @@ impl<'a> Leaving<'a> {
     ) -> Result<NoteValue, AllocError> {
         let recipe = recipe_of(
             alloc,
-            self.idle,
+            idle,
             &mut self.ways,
             &self.stale,
             note,
@@ -163,7 +139,7 @@ impl<'a> Leaving<'a> {
         match recipe {
             Some(recipe) => Ok(NoteValue::Is(recipe)),
             None => {
-                let change = match self.var_of(of) {
+                let change = match var_of(idle.graph, of) {
                     Some(var) => self.removed.last(note.place, var),
                     None => None,
                 };
@@ -176,17 +152,18 @@ impl<'a> Leaving<'a> {
     fn said(
         &mut self,
         alloc: Global,
+        idle: &IdleGraph<'_>,
         note: NotePoint,
         of: Name,
         before: &NoteValue,
     ) -> Result<NoteValue, AllocError> {
-        if let Some(assignment) = self.dropped(note.place, of) {
-            return self.said_of_dropped(alloc, note, of, before, assignment);
+        if let Some(assignment) = dropped(idle, note.place, of) {
+            return self.said_of_dropped(alloc, idle, note, of, before, assignment);
         }
         if !is_lost(of, before, &self.stale) {
             return before.duplicate(alloc);
         }
-        let change = match self.var_of(of) {
+        let change = match var_of(idle.graph, of) {
             Some(var) => self.removed.first(note.place, var),
             None => None,
         };
@@ -197,60 +174,57 @@ impl<'a> Leaving<'a> {
     fn left_note(
         &mut self,
         alloc: Global,
+        idle: &IdleGraph<'_>,
         point: u32,
         of: Name,
         value: &NoteValue,
     ) -> Result<Instr, AllocError>
         ensures { IfOk result (λ left. IsNoteOf of.0 (instruction_view left)) }
     {
-        let place = match self.idle.points.at(point) {
+        let place = match idle.points.at(point) {
             Some(found) => found.place,
             None => Place(0),
         };
-        let value = self.said(alloc, NotePoint { point, place }, of, value)?;
+        let value = self.said(alloc, idle, NotePoint { point, place }, of, value)?;
         Ok(Instr::Note { of, value })
     }
 
-    /// What is left of an instruction that some path reaches.
-    fn left_instruction(
+    /// What is left of an instruction that does not go: a note may say another value.
+    fn kept(
         &mut self,
         alloc: Global,
+        idle: &IdleGraph<'_>,
         point: u32,
         instruction: &Instr,
-    ) -> Result<Option<Instr>, AllocError>
-        ensures { IfOk result (λ left. IsLeftAs (instruction_view instruction.now) (option_map instruction_view left)) }
+    ) -> Result<Instr, AllocError>
+        ensures { IfOk result (λ left. IsKeptAs (instruction_view instruction.now) (instruction_view left)) }
     {
-        let goes = self.idle.goes(point);
-        match instruction {
-            Instr::Note { of, value } => {
-                let note = self.left_note(alloc, point, *of, value)?;
-                Ok(Some(note))
-            }
-            Instr::Call {
-                callee,
-                arguments,
-                ..
-            } if goes => {
-                let call = untargeted(alloc, *callee, arguments.as_slice())?;
-                Ok(Some(call))
-            }
-            _ => kept(alloc, goes, instruction),
+        if let Instr::Note { of, value } = instruction {
+            let note = self.left_note(alloc, idle, point, *of, value)?;
+            return Ok(note);
         }
+        let same = instruction.duplicate(alloc)?;
+        Ok(same)
     }
 
     /// Appends what is left of an instruction that some path reaches.
     fn push_left(
         &mut self,
         alloc: Global,
+        idle: &IdleGraph<'_>,
         point: u32,
+        goes: bool,
         instruction: &Instr,
         left: &mut Vec<Instr>,
     ) -> Result<(), AllocError>
-        ensures { OnOk result (IsPushed (instruction_view instruction.now) (map instruction_view left.old.items) (map instruction_view left.new.items)) }
+        ensures { OnOk result (IsPushed goes (instruction_view instruction.now) (map instruction_view left.old.items) (map instruction_view left.new.items)) }
     {
-        if let Some(kept) = self.left_instruction(alloc, point, instruction)? {
-            left.push(kept)?;
+        if goes {
+            push_gone(alloc, instruction, left)?;
+            return Ok(());
         }
+        let kept = self.kept(alloc, idle, point, instruction)?;
+        left.push(kept)?;
         Ok(())
     }
 
@@ -258,18 +232,20 @@ impl<'a> Leaving<'a> {
     fn left_of(
         &mut self,
         alloc: Global,
+        idle: &IdleGraph<'_>,
         number: u32,
         instructions: &[Instr],
     ) -> Result<Vec<Instr>, AllocError>
-        ensures { IfOk result (λ left. AreLeft (map instruction_view instructions.now) (map instruction_view left.items)) }
+        ensures { IfOk result (λ left. AreLeftBy (is_going (turn_of idle.now.turns.items) number) (map instruction_view instructions.now) (map instruction_view left.items)) }
     {
         begin_at_start(&mut self.stale, number);
         let mut left = Vec::new(alloc);
-        let mut point = self.idle.points.start(number);
+        let mut point = idle.points.start(number);
         let mut ahead = instructions;
         while let [instruction, rest @ ..] = ahead {
-            self.push_left(alloc, point, instruction, &mut left)?;
-            step(&mut self.stale, self.idle, point);
+            let goes = idle.goes_at(number, rest.len());
+            self.push_left(alloc, idle, point, goes, instruction, &mut left)?;
+            step(&mut self.stale, idle, point);
             point = point.saturating_add(1);
             ahead = rest;
         }
@@ -277,31 +253,43 @@ impl<'a> Leaving<'a> {
     }
 
     /// What is left of a block.
-    fn left_block(&mut self, alloc: Global, number: u32, block: &Block) -> Result<Block, AllocError>
-        ensures { IfOk result (λ left. IsLeftBlock (block_view block.now) (block_view left)) }
+    fn left_block(
+        &mut self,
+        alloc: Global,
+        idle: &IdleGraph<'_>,
+        number: u32,
+        block: &Block,
+    ) -> Result<Block, AllocError>
+        ensures { IfOk result (λ left. IsLeftBlockBy (is_going (turn_of idle.now.turns.items)) (bits_of idle.now.reached 0) number (block_view block.now) (block_view left)) }
     {
-        if !flag(&self.reached, number) {
+        if !idle.is_reached(number) {
             let same = block.duplicate(alloc)?;
             return Ok(same);
         }
         Ok(Block {
             place: block.place,
-            instructions: self.left_of(alloc, number, &block.instructions)?,
+            instructions: self.left_of(alloc, idle, number, &block.instructions)?,
             end: block.end,
         })
     }
 
     /// What is left of blocks.
-    fn blocks_left(&mut self, alloc: Global, blocks: &[Block]) -> Result<Vec<Block>, AllocError>
-        ensures { IfOk result (λ left. AreLeftBlocks (map block_view blocks.now) (map block_view left.items)) }
+    fn blocks_left(
+        &mut self,
+        alloc: Global,
+        idle: &IdleGraph<'_>,
+        blocks: &[Block],
+    ) -> Result<Vec<Block>, AllocError>
+        requires few { length blocks.now < 2 ^ 32 }
+        ensures { IfOk result (λ left. AreLeftBlocksBy (is_going (turn_of idle.now.turns.items)) (bits_of idle.now.reached 0) 0 (map block_view blocks.now) (map block_view left.items)) }
     {
         let mut left = Vec::new(alloc);
         let mut number = 0u32;
         let mut ahead = blocks;
         while let [block, rest @ ..] = ahead {
-            let next = self.left_block(alloc, number, block)?;
+            let next = self.left_block(alloc, idle, number, block)?;
             left.push(next)?;
-            number = number.saturating_add(1);
+            number += 1;
             ahead = rest;
         }
         Ok(left)
@@ -314,14 +302,15 @@ pub fn graph_left(
     idle: &IdleGraph<'_>,
     removed: &RemovedChanges,
 ) -> Result<Graph, AllocError>
-    ensures { IfOk result (λ left. IsLeftGraph (graph_of idle.now) (graph_view left)) }
+    requires { IsBorneOut idle.now }
+    ensures { IfOk result (λ left. IsReduced (graph_of idle.now) (graph_view left)) }
 {
     if idle.stays() {
         let same = idle.graph.duplicate(alloc)?;
         return Ok(same);
     }
     let mut leaving = Leaving::new(alloc, idle, removed)?;
-    let blocks = leaving.blocks_left(alloc, &idle.graph.blocks)?;
+    let blocks = leaving.blocks_left(alloc, idle, &idle.graph.blocks)?;
     Ok(Graph {
         entry: idle.graph.entry,
         parameters: Vec::from_slice(alloc, &idle.graph.parameters)?,

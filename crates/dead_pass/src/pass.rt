@@ -1,12 +1,14 @@
 //! The pass.
 
 ghost use Rattle.std.specs.Prelude.{◌≡◌, ◌<◌, ◌^◌, IfOk, IfSome, codes, length, map};
+ghost use Rattle.std.specs.List.{AllByRecursion};
 ghost use Rattle.debug_records.specs.Change.{pass_name};
 ghost use Rattle.debug_records.specs.declared.change.Kind.TheVariants.{Removed};
-ghost use Rattle.dead_pass.specs.Idle.{graph_of};
+ghost use Rattle.dead_pass.specs.Idle.{IsBorneOut, graph_of};
 ghost use Rattle.dead_pass.specs.Left.{IsLeftGraph};
 ghost use Rattle.graph_core.specs.Graphs.{graph_view, unit_view};
 ghost use Rattle.graph_core.specs.Validity.{IsValid};
+ghost use Rattle.idle_rule.specs.Removing.{IsReduced};
 ghost use Rattle.graph_edits.specs.Kept.{AddsChanges, EachFunction, KeepsAllButBlocks, ShareTheSame};
 
 use crate::idle_graph::IdleGraph;
@@ -28,14 +30,18 @@ fn dead_name() -> PassName
 }
 
 /// What goes of each graph.
-fn idle_graphs(alloc: Global, graphs: &[Graph]) -> Result<Vec<IdleGraph<'_>>, AllocError>
-    ensures { IfOk result (λ all. map graph_of all.items ≡ map graph_view graphs.now) }
+fn idle_graphs(alloc: Global, graphs: &[Graph]) -> Result<Option<Vec<IdleGraph<'_>>>, AllocError>
+    ensures graphs { IfOk result (λ o. IfSome o (λ all. map graph_of all.items ≡ map graph_view graphs.now)) }
+    ensures borne_out { IfOk result (λ o. IfSome o (λ all. AllByRecursion IsBorneOut all.items)) }
 {
     let mut all = Vec::new(alloc);
     for graph in graphs {
-        all.push(IdleGraph::new(alloc, graph)?)?;
+        let Some(idle) = IdleGraph::new(alloc, graph)? else {
+            return Ok(None);
+        };
+        all.push(idle)?;
     }
-    Ok(all)
+    Ok(Some(all))
 }
 
 /// What is left of each graph.
@@ -44,7 +50,8 @@ fn graphs_left(
     idle: &[IdleGraph<'_>],
     removed: &RemovedChanges,
 ) -> Result<Vec<Graph>, AllocError>
-    ensures { IfOk result (λ left. EachFunction IsLeftGraph (map graph_of idle.now) (map graph_view left.items)) }
+    requires { AllByRecursion IsBorneOut idle.now }
+    ensures { IfOk result (λ left. EachFunction IsReduced (map graph_of idle.now) (map graph_view left.items)) }
 {
     let mut left = Vec::new(alloc);
     let mut ahead = idle;
@@ -61,7 +68,7 @@ fn graphs_left(
 /// that goes is a change in the log. Its note gives the recipe of its right side, where there is one, or else that the value is gone by the change;
 /// earlier notes become so where a name of their recipe is no longer written.
 ///
-/// None where what is left is not valid, or there are 2^31 changes. `AllocError` where memory was refused.
+/// None where the search told others to go than those that do by this rule, or what is left is not valid, which no unit is known to meet, or there are 2^31 changes. `AllocError` where memory was refused.
 pub fn remove_dead(alloc: Global, unit: &Unit) -> Result<Option<Unit>, AllocError>
     requires valid { IsValid (unit_view unit.now) }
     requires room { length (unit_view unit.now).log < 2 ^ 31 }
@@ -70,8 +77,11 @@ pub fn remove_dead(alloc: Global, unit: &Unit) -> Result<Option<Unit>, AllocErro
     ensures log { IfOk result (λ o. IfSome o (λ v. AddsChanges (pass_name (codes "dead")) Removed (unit_view unit.now) (unit_view v))) }
     ensures functions { IfOk result (λ o. IfSome o (λ v. EachFunction KeepsAllButBlocks (unit_view unit.now).graphs (unit_view v).graphs)) }
     ensures left { IfOk result (λ o. IfSome o (λ v. EachFunction IsLeftGraph (unit_view unit.now).graphs (unit_view v).graphs)) }
+    ensures exact { IfOk result (λ o. IfSome o (λ v. EachFunction IsReduced (unit_view unit.now).graphs (unit_view v).graphs)) }
 {
-    let idle = idle_graphs(alloc, &unit.graphs)?;
+    let Some(idle) = idle_graphs(alloc, &unit.graphs)? else {
+        return Ok(None);
+    };
     let mut cases = Vec::new(alloc);
     for graph in &idle {
         graph.add_cases(&mut cases)?;

@@ -6,6 +6,7 @@ use dead_rule::FlowRows;
 use debug_records::Place;
 use graph_core::{Instr, Operand, Recipe};
 use std::alloc::{AllocError, Global};
+use word_base::{Operation, Truncation};
 
 /// A note of an assignment that goes.
 #[derive(Clone, Copy)]
@@ -22,6 +23,15 @@ enum Source {
     /// What the instruction at a point computes.
     Made(u32),
     /// What no recipe gives.
+    Unknown,
+}
+
+/// How a value is computed of sources.
+#[derive(Clone, Copy)]
+enum Computed {
+    Truncated(Truncation, Source),
+    Operated(Operation, Source, Source),
+    /// In a way that no recipe gives.
     Unknown,
 }
 
@@ -69,6 +79,48 @@ fn still_gives(
     }
 }
 
+/// The recipe at a note of an operand that is read at a point, where it still gives there what it gave.
+fn read_recipe(
+    idle: &IdleGraph<'_>,
+    ways: &mut Ways,
+    stale: &FlowRows,
+    note: NotePoint,
+    at: u32,
+    operand: Operand,
+) -> Result<Option<Recipe>, AllocError> {
+    if still_gives(idle, ways, stale, note, at, operand)? {
+        Ok(Some(Recipe::Operand(operand)))
+    } else {
+        Ok(None)
+    }
+}
+
+/// Of what sources the instruction at a point computes its value.
+fn computed_at(idle: &IdleGraph<'_>, place: Place, made: u32) -> Computed {
+    match idle.instruction(made) {
+        Some(
+            Instr::Truncate {
+                truncation,
+                from,
+                ..
+            },
+        ) => Computed::Truncated(*truncation, source_of(idle, place, made, *from)),
+        Some(
+            Instr::Operate {
+                operation,
+                left,
+                right,
+                ..
+            },
+        ) => Computed::Operated(
+            *operation,
+            source_of(idle, place, made, *left),
+            source_of(idle, place, made, *right),
+        ),
+        _ => Computed::Unknown,
+    }
+}
+
 /// The recipe at a note of what a source gives, where it is at most so deep.
 fn recipe_at(
     alloc: Global,
@@ -86,52 +138,27 @@ fn recipe_at(
         Source::Unknown => return Ok(None),
         Source::Made(made) => made,
         Source::Read { at, operand } => {
-            let gives = still_gives(idle, ways, stale, note, at, operand)?;
-            return Ok(if gives {
-                Some(Recipe::Operand(operand))
-            } else {
-                None
-            });
+            return read_recipe(idle, ways, stale, note, at, operand);
         }
     };
-    match idle.instruction(made) {
-        Some(
-            Instr::Truncate {
-                truncation,
-                from,
-                ..
-            },
-        ) => {
-            let from = source_of(idle, note.place, made, *from);
-            match recipe_at(alloc, idle, ways, stale, note, from, depth - 1)? {
-                Some(of) => Ok(Some(Recipe::Truncated(*truncation, Box::new(alloc, of)?))),
-                None => Ok(None),
-            }
+    match computed_at(idle, note.place, made) {
+        Computed::Unknown => Ok(None),
+        Computed::Truncated(truncation, from) => {
+            let Some(of) = recipe_at(alloc, idle, ways, stale, note, from, depth - 1)? else {
+                return Ok(None);
+            };
+            Ok(Some(Recipe::Truncated(truncation, Box::new(alloc, of)?)))
         }
-        Some(
-            Instr::Operate {
-                operation,
-                left,
-                right,
-                ..
-            },
-        ) => {
-            let left = source_of(idle, note.place, made, *left);
-            let right = source_of(idle, note.place, made, *right);
+        Computed::Operated(operation, left, right) => {
             let Some(left) = recipe_at(alloc, idle, ways, stale, note, left, depth - 1)? else {
                 return Ok(None);
             };
+            let Some(right) = recipe_at(alloc, idle, ways, stale, note, right, depth - 1)? else {
+                return Ok(None);
+            };
             let left = Box::new(alloc, left)?;
-            match recipe_at(alloc, idle, ways, stale, note, right, depth - 1)? {
-                Some(right) => Ok(Some(Recipe::Operated(
-                    *operation,
-                    left,
-                    Box::new(alloc, right)?,
-                ))),
-                None => Ok(None),
-            }
+            Ok(Some(Recipe::Operated(operation, left, Box::new(alloc, right)?)))
         }
-        _ => Ok(None),
     }
 }
 

@@ -3,8 +3,8 @@ use Rattle.debug_records.specs.declared.change.Kind.TheVariants.{Removed}
 use Rattle.graph_core.specs.Graphs.{graph_view}
 use Rattle.graph_edits.specs.Kept.{EachFunction}
 use Rattle.graph_edits.proofs.Log.{changes_added}
-use Rattle.dead_pass.specs.Left.{IsLeftGraph}
-use Rattle.dead_pass.proofs.Leaving.{each_keeps}
+use Rattle.idle_rule.specs.Removing.{IsReduced}
+use Rattle.dead_pass.proofs.ByRule.{each_keeps, each_left}
 use Rattle.dead_pass.proofs.pass.remove_dead.Goals as goal
 
 pub returns-then-is_valid-clause-log : goal.returns-then-is_valid-clause-log
@@ -13,5 +13,10 @@ returns-then-is_valid-clause-log c =
 
 pub returns-then-is_valid-clause-functions : goal.returns-then-is_valid-clause-functions
 returns-then-is_valid-clause-functions c =
-    let left : EachFunction IsLeftGraph (map graph_view c.args.unit.now.graphs.items) (map graph_view c.in_ok-left-2.field-0.items) = search rules in
+    let left : EachFunction IsReduced (map graph_view c.args.unit.now.graphs.items) (map graph_view c.in_ok-left-2.field-0.items) = search rules in
     each_keeps (map graph_view c.args.unit.now.graphs.items) (map graph_view c.in_ok-left-2.field-0.items) left
+
+pub returns-then-is_valid-clause-left : goal.returns-then-is_valid-clause-left
+returns-then-is_valid-clause-left c =
+    let left : EachFunction IsReduced (map graph_view c.args.unit.now.graphs.items) (map graph_view c.in_ok-left-2.field-0.items) = search rules in
+    each_left (map graph_view c.args.unit.now.graphs.items) (map graph_view c.in_ok-left-2.field-0.items) left

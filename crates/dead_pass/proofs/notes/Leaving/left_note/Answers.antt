@@ -1,4 +1,4 @@
-use Rattle.dead_pass.specs.Left.{notes}
+use Rattle.dead_pass.specs.LeftBy.{notes}
 use Rattle.dead_pass.proofs.notes.Leaving.left_note.Goals as goal
 
 pub returns : goal.returns
