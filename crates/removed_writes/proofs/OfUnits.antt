@@ -1,6 +1,5 @@
 -- What the graphs before say of cases, they say whatever stands behind.
-use Rattle.std.proofs.Common.{◌≡◌, ℕ, ◌<◌, Some, List, [], ◌∷◌, length, get_or, ap, subst, sym, arith}
-use Rattle.std.specs.Prelude.{slice_get}
+use Rattle.std.proofs.Common.{◌≡◌, ℕ, ◌<◌, List, [], ◌∷◌, length, get_or, arith}
 use Rattle.std.proofs.lemmas.Option.{slice_get-get_or, slice_get_within}
 use Rattle.graph_core.specs.Graphs.{Graph}
 use Rattle.graph_edits.specs.declared.cases.Case.{Case}

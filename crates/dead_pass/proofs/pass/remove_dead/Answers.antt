@@ -19,7 +19,7 @@ returns-then-is_valid-clause-changes c =
     let before = map graph_view c.args.unit.now.graphs.items in
     let after = map graph_view c.in_ok-left-2.field-0.items in
     let left : EachFunction IsReduced before after = search rules in
-    let are : AreCasesOf (λ g h. IsRemovedWrite g) before before c.in-Some-2.items = search rules in
+    let are : AreCasesOf (λ g h. IsRemovedWrite g) before before c.in-Some-2.cases.items = search rules in
     changes_of_cases c.dead_name.result _ Removed (λ g h. IsRemovedWrite g) c.in_ok-left.left _ _ _ _ _ _ refl (c.in_ok-log_cases.ensures.logged c.if-not-branch.false) c.in_ok-left.ensures c.dead_name.ensures
     (subst (AreCasesOf (λ g h. IsRemovedWrite g) before after) (sym c.deref_mut.ensures.value) (cases_before IsRemovedWrite before after (each_count IsReduced before after left) _ are))
     (c.in_ok-log_cases.ensures.same c.if-not-branch.false) (c.in_ok-log_cases.ensures.in_order c.if-not-branch.false)

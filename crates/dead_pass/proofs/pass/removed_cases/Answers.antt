@@ -4,7 +4,6 @@ use Rattle.std.specs.declared.vec.Vec.{Vec}
 use Rattle.std.specs.declared.alloc.Global.{Global}
 use Rattle.std.proofs.lemmas.List.{length-map}
 use Rattle.std.proofs.lemmas.Option.{slice_get-map, slice_get_read}
-use Rattle.graph_core.specs.Graphs.{graph_view}
 use Rattle.graph_edits.proofs.OfFunctions.{AreCasesBelow, cases_first, cases_last, cases_next, function_step}
 use Rattle.idle_rule.specs.Asking.{is_going}
 use Rattle.idle_rule.specs.Certified.{AreIdle}
@@ -21,9 +20,9 @@ loop-number-init c =
 
 pub removed_writes-requires : goal.removed_writes-requires
 removed_writes-requires c =
-    let one = c.index-one.result.now in
+    let one = c.index-idle-number.result in
     let inside = c.loop-number-test.true in
-    let is : IsBorneOut one = one_of_all IsBorneOut c.args.idle.now c.loop-number.number one (omega (arith, inside)) c.index-one.ensures c.requires in
+    let is : IsBorneOut one = one_of_all IsBorneOut c.args.idle.now c.loop-number.number one (omega (arith, inside)) c.index-idle-number.is c.requires in
     subst (λ (ts : List (Vec _ Global)). AreIdle (graph_of one) (is_going (turn_of ts))) (sym c.deref.ensures.value) is.goes
 
 pub loop-number-preserved : goal.loop-number-preserved
@@ -31,10 +30,10 @@ loop-number-preserved c =
     let xs = c.args.idle.now in
     let gs = map graph_of xs in
     let k = c.loop-number.number in
-    let one = c.index-one.result.now in
+    let one = c.index-idle-number.result in
     let test = c.loop-number-test.true in
     let inside : k < length xs = omega (arith, test) in
-    let there : slice_get gs k ≡ Some (graph_of one) = slice_get-map graph_of xs k ∙ ap (option_map graph_of) (slice_get_read xs (length xs) k one refl inside c.index-one.ensures) in
+    let there : slice_get gs k ≡ Some (graph_of one) = slice_get-map graph_of xs k ∙ ap (option_map graph_of) (slice_get_read xs (length xs) k one refl inside c.index-idle-number.is) in
     cases_next (λ before after. IsRemovedWrite before) gs gs k _ _ c.loop-number.invariant
     (function_step (λ before after. IsRemovedWrite before) gs gs k (graph_of one) (graph_of one) _ _ there there (c.in_ok-removed_writes.ensures c.if-not-branch.false))
 
