@@ -1,5 +1,5 @@
 -- Instructions and blocks of which something is left, one by one.
-use Rattle.std.proofs.Common.{◌≡◌, ◌+◌, ◌-◌, ◌<◌, ◌≤◌, ℕ, Bool, List, [], ◌∷◌, ◌++◌, length, map, refl, sym, ap, ◌∙◌, subst, arith, append_assoc, get_or, take, drop}
+use Rattle.std.proofs.Common.{◌≡◌, ◌+◌, ◌-◌, ◌<◌, ◌≤◌, ℕ, zero, suc, Bool, List, [], ◌∷◌, ◌++◌, length, map, refl, sym, ap, ◌∙◌, subst, arith, append_assoc, get_or, take, drop}
 use Rattle.std.proofs.lemmas.List.{length-map}
 use Rattle.std.specs.List.{AllByRecursion}
 use Rattle.std.proofs.Math.Seq.{take-length}
@@ -77,3 +77,8 @@ first_of_all P (y ∷ ahead) x le e all = subst P (sym e) all.0
 pub all_behind : {A : Type 0} (P : A → Type 0) (ahead : List A) → 1 ≤ length ahead → AllByRecursion P ahead → AllByRecursion P (take (length ahead - 1) (drop 1 ahead))
 all_behind P [] le all = absurd (omega (arith, le))
 all_behind {A} P (y ∷ ahead) le all = (let Q : List A → Type 0 = λ zs. AllByRecursion P zs in subst Q (sym (rest_is y ahead)) all.1)
+
+pub one_of_all : {A : Type 0} (P : A → Type 0) (all : List A) (k : ℕ) (x : A) → k < length all → x ≡ get_or all k x → AllByRecursion P all → P x
+one_of_all P [] k x lt e all = absurd (omega (arith, lt))
+one_of_all P (y ∷ more) zero x lt e all = subst P (sym e) all.0
+one_of_all P (y ∷ more) (suc k) x lt e all = one_of_all P more k x (omega (arith, lt)) e all.1

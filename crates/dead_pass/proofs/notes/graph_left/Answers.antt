@@ -5,7 +5,7 @@ use Rattle.path_marks.specs.Table.{bits_of}
 use Rattle.idle_rule.specs.Asking.{is_going}
 use Rattle.idle_rule.specs.Removing.{IsReduced}
 use Rattle.idle_rule.specs.Walks.{turn_of}
-use Rattle.dead_pass.specs.Idle.{graph_of}
+use Rattle.removal_notes.specs.Idle.{graph_of}
 use Rattle.dead_pass.specs.LeftBy.{AreLeftBlocksBy}
 use Rattle.dead_pass.proofs.ByRule.{graph_reduced, graph_stays}
 use Rattle.dead_pass.proofs.notes.graph_left.Goals as goal

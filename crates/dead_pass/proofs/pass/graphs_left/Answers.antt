@@ -4,7 +4,7 @@ use Rattle.graph_core.specs.declared.graph.Graph as declared-graph
 use Rattle.graph_core.specs.Graphs.{graph_view}
 use Rattle.graph_edits.proofs.Functions.{Left, left_first, functions_step, functions_done}
 use Rattle.idle_rule.specs.Removing.{IsReduced}
-use Rattle.dead_pass.specs.Idle.{IsBorneOut, graph_of}
+use Rattle.removal_notes.specs.Idle.{IsBorneOut, graph_of}
 use Rattle.dead_pass.proofs.Leaving.{all_behind, first_of_all}
 use Rattle.dead_pass.proofs.pass.graphs_left.Goals as goal
 

@@ -3,7 +3,7 @@ use Rattle.std.specs.List.{AllByRecursion}
 use Rattle.graph_core.specs.Graphs.{graph_view}
 use Rattle.idle_rule.specs.Removing.{IsReduced}
 use Rattle.graph_edits.proofs.Functions.{Left}
-use Rattle.dead_pass.specs.Idle.{IsBorneOut, graph_of}
+use Rattle.removal_notes.specs.Idle.{IsBorneOut, graph_of}
 use Rattle.dead_pass.proofs.pass.graphs_left.Given as goal
 
 abbrev pub invariant-loop-ahead : goal.invariant-loop-ahead
