@@ -1,0 +1,14 @@
+pub mod Writing
+pub mod Holding
+pub mod Assigning
+pub mod Products
+pub mod Scaling
+pub mod Moving
+pub mod PointerSums
+pub mod TwoPointers
+pub mod PointerTests
+pub mod Renewing
+pub mod Anew
+pub mod ScalarSteps
+pub mod Addresses
+pub mod MemorySteps
