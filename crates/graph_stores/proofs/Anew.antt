@@ -2,6 +2,7 @@
 use Rattle.std.proofs.Common.{◌≡◌, ◌≢◌, ℕ, zero, suc, ◌+◌, ◌<◌, ◌≤◌, List, [], ◌∷◌, length, Option, Some, None, Bool, true, false, not, ◌||◌, slice_get, slice_set, refl, sym, ap, ◌∙◌, subst, arith, ℤ, pos}
 use Rattle.std.specs.Prelude.{◌==◌, if◌then◌else◌, option_map, option_and_then}
 use Rattle.std.specs.Option.{option_map_or}
+use Rattle.std.proofs.lemmas.Bool.{eqb-true}
 use Rattle.std.proofs.lemmas.Bool.Decides.{nat_tests}
 use Rattle.word_base.specs.Owners.{Owner, Variable}
 use Rattle.c_tree.specs.declared.object_type.ObjectType.{ObjectType}
@@ -148,6 +149,28 @@ restored_shadows : (other : Option ℕ) (v : Value) (l : Local) → (restored ot
 restored_shadows None v l = refl
 restored_shadows (Some y) v l = refl
 
+restored_same : (other : Option ℕ) (a : Value) (q : Local) (j : ℕ) (u : Value) (i : ℕ) → i == j ≡ false → (restored other a (set_name q j u)).names i ≡ (restored other a q).names i
+restored_same None a q j u i ne = put_elsewhere q.names j i u ne
+restored_same (Some y) a q j u i ne = ap (λ z. if i == y then a else z) (put_elsewhere q.names j i u ne)
+
+-- it stays so where a temporary is written
+pub restored_temporary : (x : Setting) (low : ScalarsFirst x) (s : State) (w : World) (other : Option ℕ) (a : Value) (l : Local) (j : ℕ) (u : Value) → size_in x ≤ j → Fits x None s (restored other a l) w → Fits x None s (restored other a (set_name l j u)) w
+restored_temporary x low s w other a l j u le f =
+    fits_agree x None None s (restored other a l) (restored other a (set_name l j u)) w f (restored_shadows other a (set_name l j u) ∙ sym (restored_shadows other a l))
+    (λ y i is nw. (refl, restored_same other a l j u i (less_other i j (let less = low y i is in omega (arith, less, le)))))
+
+-- but for that name all is kept
+pub restored_fits : (x : Setting) (s : State) (w : World) (other : Option ℕ) (a : Value) (l : Local) → Fits x None s (restored other a l) w → Fits x other s l w
+restored_fits x s w other a l f = fits_agree x None other s (restored other a l) l w f (sym (restored_shadows other a l)) (λ y i is nw. (refl, sym (restored_names other a l i nw)))
+
+-- a name that is put back is as it was
+pub put_back : (names : ℕ → Value) (y i : ℕ) (a : Value) → (put (put names y a) y (names y)) i ≡ names i
+put_back names y i a = go (i == y) refl
+  where
+    go : (b : Bool) → i == y ≡ b → (if b then names y else put names y a i) ≡ names i
+    go true e = ap names (sym (eqb-true i y e))
+    go false e = put_elsewhere names y i a e
+
 -- the new value of a name is what is noted
 noted_names : (other : Option ℕ) (v : Value) (l : Local) (k : ℕ) (u : Value) → (set_name (restored other v l) k u).names k ≡ u
 noted_names other v l k u = put_here (restored other v l).names k u
@@ -172,8 +195,7 @@ module _ (x : Setting) (low : ScalarsFirst x) (apart : ScalarsApart x) (v k : �
   anew_cases t free b old by m other before_it n s l w vo vb le size le2 size2 below apart_k sound f o ho hb same_o same_b F R undefined unwritten go_on None e = undefined
   anew_cases t free b old by m other before_it n s l w vo vb le size le2 size2 below apart_k sound f o ho hb same_o same_b F R undefined unwritten go_on (Some new) e =
       let P : Local → Type 0 = λ q. Fits x None s (restored other before_it q) w in
-      let h = changes.renews P (λ q j u above p. fits_agree x None None s (restored other before_it q) (restored other before_it (set_name q j u)) w p (restored_shadows other before_it (set_name q j u) ∙ sym (restored_shadows other before_it q))
-      (λ y i is nw. (refl, restored_same other before_it q j u i (less_other i j (let less = low y i is in omega (arith, less, above)))))) k t free old by (note k m) s None (restored other before_it l) l w vo vb new size size2 below sound f f ho hb same_o same_b e in
+      let h = changes.renews P (λ q j u above p. restored_temporary x low s w other before_it q j u above p) k t free old by (note k m) s None (restored other before_it l) l w vo vb new size size2 below sound f f ho hb same_o same_b e in
       let made = h.1 in
       let ghost = set_name (restored other before_it made.local) k h.0 in
       let real = set_name made.local k h.0 in
@@ -195,10 +217,6 @@ module _ (x : Setting) (low : ScalarsFirst x) (apart : ScalarsApart x) (v k : �
     where
       turned : (y : ℕ) → k == y ≡ false → y == k ≡ false
       turned y h = grind (arith, nat_tests)
-
-      restored_same : (other : Option ℕ) (a : Value) (q : Local) (j : ℕ) (u : Value) (i : ℕ) → i == j ≡ false → (restored other a (set_name q j u)).names i ≡ (restored other a q).names i
-      restored_same None a q j u i ne = put_elsewhere q.names j i u ne
-      restored_same (Some y) a q j u i ne = ap (λ z. if i == y then a else z) (put_elsewhere q.names j i u ne)
 
       names_same : (other : Option ℕ) (q : Local) (u : Value) (i : ℕ) → is_want other i ≡ false → (set_name q k u).names i ≡ (set_name (restored other before_it q) k u).names i
       names_same other q u i ne = ap (λ z. if i == k then u else z) (sym (restored_names other before_it q i ne))

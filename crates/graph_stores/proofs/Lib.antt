@@ -12,3 +12,4 @@ pub mod Anew
 pub mod ScalarSteps
 pub mod Addresses
 pub mod MemorySteps
+pub mod PointerTypes

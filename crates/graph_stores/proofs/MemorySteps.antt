@@ -75,6 +75,7 @@ use Rattle.graph_stores.proofs.Holding.{IsPlaceAside, IsPlaceBelow, hold_place, 
 use Rattle.graph_stores.proofs.Assigning.{PlaceBelow, PlaceFresh, GrowsPlace, AimsPlace, none_aside, place_aside, spare_want}
 use Rattle.graph_stores.proofs.PointerSums.{below_later}
 use Rattle.graph_stores.proofs.Renewing.{Changes}
+use Rattle.graph_stores.proofs.Anew.{fits_agree, restored, restored_temporary, restored_fits, put_back}
 
 -- What is designated is read, and what follows works with both.
 pub located_with : (r : Evaluated) (k : source-value.Value → source-value.Value → State → Evaluated) → with r (λ p s. with (load p s) (λ old u. k p old u)) ≡ on_both (located r) k
@@ -157,28 +158,28 @@ fits_target : (x : Setting) (g : Goal) (own : ℕ) (s : State) (l : Local) (w : 
 fits_target x (To None m) own s l w v low size f = fits_temporary x s l w own v low f size
 fits_target x (To (Some k) m) own s l w v low size f = fits_wanted x s l w k v f
 fits_target x (Unused m) own s l w v low size f = fits_temporary x s l w own v low f size
-fits_target x (Either one other inner) own s l w v low size f = fits_temporary x s l w own v low f size
+fits_target x (Either first_way other inner) own s l w v low size f = fits_temporary x s l w own v low f size
 
 -- no other name is the target
 target_apart : (x : Setting) (g : Goal) (own y : ℕ) → y == own ≡ false → is_want (want_by g) y ≡ false → y == target g own ≡ false
 target_apart x (To None m) own y ne nw = ne
 target_apart x (To (Some k) m) own y ne nw = nw
 target_apart x (Unused m) own y ne nw = ne
-target_apart x (Either one other inner) own y ne nw = ne
+target_apart x (Either first_way other inner) own y ne nw = ne
 
 target_in : (g : Goal) (own : ℕ) → operand_in (want_by g) (Name own) ≡ Name (target g own)
 target_in (To None m) own = refl
 target_in (To (Some k) m) own = refl
 target_in (Unused m) own = refl
-target_in (Either one other inner) own = refl
+target_in (Either first_way other inner) own = refl
 
 place_below_later : (t k : ℕ) (loc : Location) → t ≤ k → IsPlaceBelow t loc → IsPlaceBelow k loc
 place_below_later t k (At a) le is = below_later t k a le is
 place_below_later t k (Automatic o j) le is = tt
 place_below_later t k (StaticPlace o) le is = tt
 
-of_later_pointer : {sc : Scalar} (memory after : SourceMemory) → Later memory after → (p : source-value.Value) → IsPointerTo memory sc p → IsPointerTo after sc p
-of_later_pointer {sc = sc} memory after later p is = of_later memory after later (PointerType (of-object.Scalar sc)) p is
+of_later_pointer : (sc : Scalar) (memory after : SourceMemory) → Later memory after → (p : source-value.Value) → IsPointerTo memory sc p → IsPointerTo after sc p
+of_later_pointer sc memory after later p is = of_later memory after later (PointerType (of-object.Scalar sc)) p is
 
 -- What is in memory changes: it is loaded, a new value is made of it, and stored.
 module _ (x : Setting) (calls : Calls) (low : ScalarsFirst x) (sc : Scalar) (lv : LvalueTree) (of : object_type lv ≡ of-object.Scalar sc) (typed_lv : TypedPlace x calls lv) (lays_lv : PlaceLays x lv) (below_lv : PlaceBelow x lv) (fresh_lv : PlaceFresh x lv) (grows_lv : GrowsPlace x lv) (does_lv : DoesPlace x calls lv)
@@ -245,21 +246,21 @@ module _ (x : Setting) (calls : Calls) (low : ScalarsFirst x) (sc : Scalar) (lv 
 
   -- the value that is there is loaded
   loaded_then : (t : ℕ) (g : Goal) (a : Operand) (f : ℕ → Bool) (m : Made) (p : source-value.Value) (s : State) (l : Local) (w : World) → size_in x ≤ t → Sound x.program s → Fits x None s l w → IsPointerTo s.memory sc p → SameValue x.program s.memory w.memory p (pointed_in x l w (place_in x lv t))
-      → (then : source-value.Value → State → Evaluated)
-      → ((vo : source-value.Value) (l2 : Local) → Fits x None s l2 w → SameValue x.program s.memory w.memory vo (l2.names (next_of t)) → IsOf s.memory target_type vo → SameValue x.program s.memory w.memory p (pointed_in x l2 w (place_in x lv t)) → Result x g a t f m.ops m.end l2 w (then vo s))
-      → Result x g a t f (unit.Load (next_of t) el (place_in x lv t) ∷ m.ops) m.end l w (with (load p s) then)
-  loaded_then t g a f m p s l w size sound fits is pointer then go_on =
+      → (onward : source-value.Value → State → Evaluated)
+      → ((vo : source-value.Value) (l2 : Local) → Fits x None s l2 w → SameValue x.program s.memory w.memory vo (l2.names (next_of t)) → IsOf s.memory target_type vo → SameValue x.program s.memory w.memory p (pointed_in x l2 w (place_in x lv t)) → Result x g a t f m.ops m.end l2 w (onward vo s))
+      → Result x g a t f (unit.Load (next_of t) el (place_in x lv t) ∷ m.ops) m.end l w (with (load p s) onward)
+  loaded_then t g a f m p s l w size sound fits is pointer onward go_on =
       let le = lays_lv t size in
       let k = next_of t in
       let i = unit.Load k el (place_in x lv t) in
-      load_cases x None s l w sc p (pointed_in x l w (place_in x lv t)) sound fits is pointer (λ r. Result x g a t f (i ∷ m.ops) m.end l w (with r then))
+      load_cases x None s l w sc p (pointed_in x l w (place_in x lv t)) sound fits is pointer (λ r. Result x g a t f (i ∷ m.ops) m.end l w (with r onward))
       (ended_result x g a t f (i ∷ m.ops) m.end l w ending.Undefined s (stuck_now x None (i ∷ m.ops) m.end s l w fits))
       (λ v u reads same typed.
       (let l2 = set_name l k u in
       let place = place_agrees x l l2 w (place_in x lv t)
       (place_names (λ y. l2.names y ≡ l.names y) k None (place_in x lv t) (below_lv t size) (none_aside (place_in x lv t)) (λ y lt nw. put_elsewhere l.names k y u (less_other y k lt))) in
       result_after x t t f f (i ∷ m.ops) m.ops m.end m.end l l2 w w
-      (goes (load_step x k el (place_in x lv t) m.ops m.end l w u (ap (λ z. read w.memory z (pointed_in x l w (place_in x lv t))) element_is ∙ reads)) stays) (λ y lt nf. (lt, nf, put_elsewhere l.names k y u (less_other y k (omega (arith, lt, le))))) (others_refl w.memory) g a (then v s)
+      (goes (load_step x k el (place_in x lv t) m.ops m.end l w u (ap (λ z. read w.memory z (pointed_in x l w (place_in x lv t))) element_is ∙ reads)) stays) (λ y lt nf. (lt, nf, put_elsewhere l.names k y u (less_other y k (omega (arith, lt, le))))) (others_refl w.memory) g a (onward v s)
       (go_on v l2 (fits_temporary x s l w k u low fits (omega (arith, size, le))) (subst (SameValue x.program s.memory w.memory v) (sym (put_here l.names k u)) same) (subst (λ q. IsOf s.memory q v) type_is typed)
       (subst (SameValue x.program s.memory w.memory p) (sym place) pointer))))
 
@@ -354,7 +355,119 @@ module _ (x : Setting) (calls : Calls) (low : ScalarsFirst x) (sc : Scalar) (lv 
             let place = place_stays x None (λ y. writes (names_in x) y e) (place_in x lv t) (next_of t + 1) h.local h2.reached.local w1 h2.reached.world below (spares_e (next_of t + 1) (omega (arith, size, le))) refl (none_aside (place_in x lv t)) (λ y lt nw nf. h2.reached.kept y lt nw nf) h2.reached.later known in
             let old_is : h2.reached.local.names (next_of t) ≡ l2.names (next_of t) = h2.reached.kept (next_of t) (omega (arith, up)) refl (spares_e (next_of t) (omega (arith, size, le))) ∙ h.kept (next_of t) (omega arith) in
             renews (moved_by_e t) t (by_of t) g p vo b s2 h2.reached.local h2.reached.world size (λ now. (let is_from = ap (λ q. behind_move q (next_of t + 1)) now in omega (arith, next_le, is_from))) (omega (arith, up, next_le)) aims gave.sound h2.reached.fits
-            (of_later_pointer s1.memory s2.memory gave.later p is)
+            (of_later_pointer sc s1.memory s2.memory gave.later p is)
             (subst (SameValue x.program s2.memory h2.reached.world.memory p) (sym place) (value_later x.program s1.memory s2.memory w1.memory h2.reached.world.memory gave.later h2.reached.later p (pointed_in x h.local w1 (held_of (moved_by_e t) t (by_of t) g)) pointer_held))
             (of_later s1.memory s2.memory gave.later target_type vo ho) (by_is s2.memory b gave.is)
             (subst (SameValue x.program s2.memory h2.reached.world.memory vo) (sym old_is) (value_later x.program s1.memory s2.memory w1.memory h2.reached.world.memory gave.later h2.reached.later vo (l2.names (next_of t)) same_o)) h2.same (next s2.memory vo b) refl)))
+
+  -- a place that an operand finds, used behind what is stored
+  followed_done : (g : Goal) (k t : ℕ) (v : source-value.Value) (s : State) (l : Local) (w : World) → Fits x (want_by g) s l w → SameValue x.program s.memory w.memory v (l.names (target g k)) → HasWord v → Result x g (Name k) t (λ y. false) (follow g (target g k)).ops (follow g (target g k)).end l w (Gives v s)
+  followed_done (To want m) k t v s l w f same word = record {
+    reached = record { local = l; world = w; leads = stays; fits = f; kept = λ y lt nw nf. refl; later = others_refl w.memory };
+    same = subst (λ a. SameValue x.program s.memory w.memory v (value x.unit.statics l.names a)) (sym (target_in (To want m) k)) same;
+  }
+  followed_done (Unused m) k t v s l w f same word = record { local = l; world = w; leads = stays; fits = f; kept = λ y lt nw nf. refl; later = others_refl w.memory }
+  followed_done (Either first_way other inner) k t v s l w f same word = leaf_done x (Either first_way other inner) (Name k) t (λ y. false) v s l w f same word
+
+  -- the names as they were, but for temporaries
+  start_fits : (g : Goal) (k t : ℕ) (s : State) (l : Local) (w : World) (u : Value) → size_in x ≤ k → Fits x None s l w → Fits x None s (restored (want_by g) (l.names (target g k)) (set_name l (target g k) u)) w
+  start_fits (To None m) k t s l w u size f = fits_temporary x s l w k u low f size
+  start_fits (To (Some y) m) k t s l w u size f = fits_agree x None None s l (restored (Some y) (l.names y) (set_name l y u)) w f refl (λ z i is nw. (refl, put_back l.names y i u))
+  start_fits (Unused m) k t s l w u size f = fits_temporary x s l w k u low f size
+  start_fits (Either first_way other inner) k t s l w u size f = fits_temporary x s l w k u low f size
+
+  -- the name of the old value is older than the free ones
+  target_less : (g : Goal) (t k : ℕ) → AimsPlace x g lv t → t ≤ k → target g k < left_free (use_of g) k
+  target_less (To None m) t k aims le = omega arith
+  target_less (To (Some y) m) t k aims le = let lt = aims.0 in omega (arith, lt, le)
+  target_less (Unused m) t k aims le = omega arith
+  target_less (Either first_way other inner) t k aims le = omega arith
+
+  free_above : (g : Goal) (k : ℕ) → k ≤ left_free (use_of g) k
+  free_above (To None m) k = omega arith
+  free_above (To (Some y) m) k = omega arith
+  free_above (Unused m) k = omega arith
+  free_above (Either first_way other inner) k = omega arith
+
+  -- `++` and `--` behind what is in memory
+  module _ (t : ℕ) (g : Goal) where
+    abbrev old_of : ℕ
+    old_of = target g (next_of t)
+
+    abbrev free_of : ℕ
+    free_of = left_free (use_of g) (next_of t)
+
+    abbrev new_of : ℕ
+    new_of = behind_move (takes_more c (Constant 1)) free_of
+
+    abbrev stores_of : Made
+    stores_of = before (Store el (place_in x lv t) (Name new_of)) (follow g old_of)
+
+    abbrev changes_of : Made
+    changes_of = changed c new_of free_of free_of (Name old_of) (Constant 1) stores_of
+
+    -- the new value is stored, and the old one is used
+    leaves : (p vo : source-value.Value) (s : State) (l l2 : Local) (w : World) (u : Value) → size_in x ≤ t → AimsPlace x g lv t → HasBy one → Sound x.program s → Fits x None s l w → l2 ≡ set_name l old_of u → IsPointerTo s.memory sc p → SameValue x.program s.memory w.memory p (pointed_in x l w (place_in x lv t)) → IsOf s.memory target_type vo
+        → SameValue x.program s.memory w.memory vo u → (r : Option source-value.Value) → next s.memory vo one ≡ r
+        → Result x g (Name (next_of t)) t (λ y. false) changes_of.ops changes_of.end (set_name l old_of u) w (replace_if r Old p vo s)
+    leaves p vo s l l2 w u size aims one_is sound f is_l2 is pointer ho same_o None e =
+        undefined_now p vo s l w u f
+      where
+        undefined_now : (p vo : source-value.Value) (s : State) (l : Local) (w : World) (u : Value) → Fits x None s l w → Result x g (Name (next_of t)) t (λ y. false) changes_of.ops changes_of.end (set_name l old_of u) w (Ends ending.Undefined s)
+        undefined_now p vo s l w u f =
+            ended_result x g (Name (next_of t)) t (λ y. false) changes_of.ops changes_of.end (set_name l old_of u) w ending.Undefined s
+            (record { configuration = at x changes_of.ops changes_of.end (set_name l old_of u) w; seen = w.seen; leads = stays; ends = f.events })
+    leaves p vo s l l2 w u size aims one_is sound f is_l2 is pointer ho same_o (Some new) e =
+        let le = lays_lv t size in
+        let free_le = free_above g (next_of t) in
+        let less = target_less g t (next_of t) aims le in
+        let more_le = behind_le (takes_more c (Constant 1)) free_of in
+        let start = set_name l old_of u in
+        let before_it = l.names old_of in
+        let start_is = start_fits g (next_of t) t s l w u (omega (arith, size, le)) f in
+        let old_is : start.names old_of ≡ u = put_here l.names old_of u in
+        let h = changes.renews (λ q. Fits x None s (restored (want_by g) before_it q) w) (λ q j a above q_fits. restored_temporary x low s w (want_by g) before_it q j a above q_fits) new_of free_of free_of (Name old_of) (Constant 1) stores_of s None (restored (want_by g) before_it start) start w vo one new
+        (omega (arith, size, le, free_le)) (omega (arith, size, le, free_le)) less sound start_is start_is ho one_is (subst (SameValue x.program s.memory w.memory vo) (sym old_is) same_o) refl e in
+        let made = h.1 in
+        let l3 = set_name made.local new_of h.0 in
+        let fits3 = restored_fits x s w (want_by g) before_it l3 (restored_temporary x low s w (want_by g) before_it made.local new_of h.0 (omega (arith, size, le, free_le, more_le)) made.holds) in
+        let names_kept : (y : ℕ) → y < free_of → l3.names y ≡ start.names y = λ y lt. put_elsewhere made.local.names new_of y h.0 (less_other y new_of (omega (arith, lt, more_le))) ∙ made.kept y lt (less_other y free_of lt) in
+        let place = place_agrees x l l3 w (place_in x lv t)
+        (place_names (λ y. l3.names y ≡ l.names y) (next_of t) (want_by g) (place_in x lv t) (below_lv t size) (place_aside x g lv t fresh_lv size aims)
+        (λ y lt nw. names_kept y (omega (arith, lt, free_le)) ∙ put_elsewhere l.names old_of y u (target_apart x g (next_of t) y (less_other y (next_of t) lt) nw))) in
+        let typed_new = changes.typed s.memory vo one new ho one_is e in
+        let is_new : l3.names new_of ≡ h.0 = put_here made.local.names new_of h.0 in
+        let same_new : SameValue x.program s.memory w.memory new (l3.names new_of) = subst (SameValue x.program s.memory w.memory new) (sym is_new) h.2 in
+        let undefined = ended_result x g (Name (next_of t)) t (λ y. false) stores_of.ops stores_of.end l3 w ending.Undefined s (stuck_now x (want_by g) stores_of.ops stores_of.end s l3 w fits3) in
+        result_behind x t t (λ y. false) (λ y. false) changes_of.ops stores_of.ops changes_of.end stores_of.end start l3 w w made.leads (others_refl w.memory) g (λ y lt nw nf. (lt, refl, names_kept y (omega (arith, lt, le, free_le))))
+        (Name (next_of t)) (with (store p new s) (λ z q. Gives vo q))
+        (store_cases x (want_by g) s l3 w sc p (pointed_in x l3 w (place_in x lv t)) new (l3.names new_of) sound fits3 is (subst (SameValue x.program s.memory w.memory p) (sym place) pointer) (subst (λ q. IsOf s.memory q new) (sym type_is) typed_new) same_new
+        (λ r. Result x g (Name (next_of t)) t (λ y. false) stores_of.ops stores_of.end l3 w (with r (λ z q. Gives vo q))) undefined
+        (λ after q.
+        (let w1 : World = record w { memory = q.memory } in
+        let m = follow g old_of in
+        let s1 : State = record s { memory = after } in
+        let still : l3.names old_of ≡ u = names_kept old_of less ∙ old_is in
+        let same_after : SameValue x.program after q.memory vo (l3.names old_of) = subst (SameValue x.program after q.memory vo) (sym still) (value_later x.program s.memory after w.memory q.memory q.later q.others_later vo u same_o) in
+        result_behind x t t (λ y. false) (λ y. false) stores_of.ops m.ops stores_of.end m.end l3 l3 w w1
+        (goes (store_step x el (place_in x lv t) (Name new_of) m.ops m.end l3 w q.memory (known_value x.program s.memory w.memory new (l3.names new_of) same_new) (ap (λ z. write w.memory z (pointed_in x l3 w (place_in x lv t)) (l3.names new_of)) element_is ∙ q.writes)) stays)
+        q.others_later g (λ y lt nw nf. (lt, refl, refl)) (Name (next_of t)) (Gives vo s1) (followed_done g (next_of t) t vo s1 l3 w1 q.fits same_after (of_word s.memory target_type vo ho)))))
+
+    pub memory_stepped_old : (s : State) (l : Local) (w : World) → size_in x ≤ t → AimsPlace x g lv t → HasBy one → Stands x.graph x.top (placing x lv t (left_memory c (place_laid (names_in x) lv t) g)).inner → Sound x.program s → Fits x None s l w
+        → Result x g (Name (next_of t)) t (within_written x lv) (placing x lv t (left_memory c (place_laid (names_in x) lv t) g)).ops (placing x lv t (left_memory c (place_laid (names_in x) lv t) g)).end l w
+        (on_both (located (designate calls (depth_in x) lv s)) (λ p old u. replace_if (next u.memory old one) Old p old u))
+    memory_stepped_old s l w size aims one_is st sound fits =
+        let a = Name (next_of t) in
+        let m = left_memory c (place_laid (names_in x) lv t) g in
+        let k : source-value.Value → source-value.Value → State → Evaluated = λ p old u. replace_if (next u.memory old one) Old p old u in
+        placed_then t g a (within_written x lv) (λ y. false) m s l w k size st sound fits (λ y lt nf. (nf, refl))
+        (λ p s1 l1 w1 sound1 fits1 is pointer.
+        (load_cases x None s1 l1 w1 sc p (pointed_in x l1 w1 (place_in x lv t)) sound1 fits1 is pointer (λ r. Result x g a t (λ y. false) m.ops m.end l1 w1 (with r (λ old u. k p old u)))
+        (ended_result x g a t (λ y. false) m.ops m.end l1 w1 ending.Undefined s1 (stuck_now x None m.ops m.end s1 l1 w1 fits1))
+        (λ v u reads same typed.
+        (let start = set_name l1 old_of u in
+        let le = lays_lv t size in
+        result_behind x t t (λ y. false) (λ y. false) m.ops changes_of.ops m.end changes_of.end l1 start w1 w1
+        (goes (load_step x old_of el (place_in x lv t) changes_of.ops changes_of.end l1 w1 u (ap (λ z. read w1.memory z (pointed_in x l1 w1 (place_in x lv t))) element_is ∙ reads)) stays) (others_refl w1.memory) g
+        (λ y lt nw nf. (lt, refl, put_elsewhere l1.names old_of y u (target_apart x g (next_of t) y (less_other y (next_of t) (omega (arith, lt, le))) nw))) a (k p v s1)
+        (leaves p v s1 l1 start w1 u size aims one_is sound1 fits1 refl is pointer (subst (λ q. IsOf s1.memory q v) type_is typed) same (next s1.memory v one) refl)))))

@@ -45,7 +45,7 @@ use Rattle.graph_values.proofs.Operands.{Does, code_in, value_in, written_by, Is
 use Rattle.graph_stores.proofs.Holding.{result_behind}
 use Rattle.graph_stores.proofs.PointerSums.{held_below, below_later}
 use Rattle.graph_stores.proofs.Renewing.{Changes}
-use Rattle.graph_stores.proofs.Anew.{fits_agree, ScalarObject, scalar_later, located_cases, by_new, restored, Anew, anew_cases}
+use Rattle.graph_stores.proofs.Anew.{fits_agree, ScalarObject, scalar_later, located_cases, by_new, restored, put_back, Anew, anew_cases}
 
 replaced_new : (r : Option source-value.Value) (p old : source-value.Value) (s : State) → by_new (λ new q. q) r p s ≡ replace_if r New p old s
 replaced_new None p old s = refl
@@ -165,13 +165,6 @@ module _ (x : Setting) (calls : Calls) (low : ScalarsFirst x) (apart : ScalarsAp
     where
       turned : y == k ≡ false → k == y ≡ false
       turned h = grind (arith, nat_tests)
-
-      put_back : (names : ℕ → Value) (y i : ℕ) (a : Value) → (put (put names y a) y (names y)) i ≡ names i
-      put_back names y i a = go (i == y) refl
-        where
-          go : (b : Bool) → i == y ≡ b → (if b then names y else put names y a i) ≡ names i
-          go true e = ap names (sym (eqb-true i y e))
-          go false e = put_elsewhere names y i a e
 
   by_same : (t y : ℕ) (m : Made) (n : ℕ) (s : State) (l : Local) (w : World) (vo : source-value.Value) → y < t → size_in x ≤ t → Sound x.program s → Fits x None s l w → ScalarObject x v s.memory n → IsOf s.memory target vo → HasBy one → SameValue x.program s.memory w.memory vo (l.names k) → (b : Bool) → y == k ≡ b
       → Result x (To (Some y) m) (Name t) t (λ i. k == i) (if b then before (Move t (Name k)) (left_of t (if b then t + 1 else t) (if b then before (Move k (Name t)) m else m)) else before (Move y (Name k)) (left_of t (if b then t + 1 else t) (if b then before (Move k (Name t)) m else m))).ops
