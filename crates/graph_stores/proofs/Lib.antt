@@ -13,3 +13,4 @@ pub mod ScalarSteps
 pub mod Addresses
 pub mod MemorySteps
 pub mod PointerTypes
+pub mod ValuesStand
