@@ -91,8 +91,8 @@ module _ (n : Names) (size : ℕ) (low : (v k : ℕ) → scalar_of n v ≡ Some 
   compared_fresh : (u : Use) → NotIn u → (two : Bool) (t : ℕ) (q : Pair) → t ≤ q.next → IsFresh size t (compared_laid n u two t q).value
   compared_fresh (In x) no_in two t q le = absurd no_in
   compared_fresh Tested no_in two t q le = word_fresh t 0
-  compared_fresh Anywhere no_in two t q le = operation_fresh Anywhere tt t t (behind_move two q.next) _ (omega arith) (let k = behind_le two q.next in omega (arith, le, k))
-  compared_fresh Nothing no_in two t q le = operation_fresh Nothing tt t t (behind_move two q.next) _ (omega arith) (let k = behind_le two q.next in omega (arith, le, k))
+  compared_fresh Anywhere no_in two t q le = operation_fresh Anywhere tt t t (behind_move two q.next) 0 (omega arith) (let k = behind_le two q.next in omega (arith, le, k))
+  compared_fresh Nothing no_in two t q le = operation_fresh Nothing tt t t (behind_move two q.next) 0 (omega arith) (let k = behind_le two q.next in omega (arith, le, k))
 
   truth_fresh : (u : Use) → NotIn u → (t top : ℕ) → IsFresh size t (truth_laid n u t top).value
   truth_fresh (In x) no_in t top = absurd no_in
@@ -187,8 +187,8 @@ module _ (n : Names) (size : ℕ) (low : (v k : ℕ) → scalar_of n v ≡ Some 
     fresh (Arithmetic o ty a b) u no_in t le = operation_fresh u no_in t t _ _ (omega arith) (two_above a b t le)
     fresh (Compare o ty a b) u no_in t le = compared_fresh u no_in (is_two o) t _ (two_above a b t le)
     fresh (ComparePointers o a b) u no_in t le = compared_fresh u no_in (is_two_pointers o) t _ (two_above a b t le)
-    fresh (Move d of p i) u no_in t le = moved_fresh u no_in (object_size of) _ t _ (two_above p i t le)
-    fresh (MoveFrom i of p) u no_in t le = moved_fresh u no_in (object_size of) _ t _ (two_above i p t le)
+    fresh (Move d of p i) u no_in t le = let q = (pair (λ y. writes n y i) (laid n p Anywhere t) (laid n i Anywhere)) in moved_fresh u no_in (object_size of) q.right t q (two_above p i t le)
+    fresh (MoveFrom i of p) u no_in t le = let q = (pair (λ y. writes n y p) (laid n i Anywhere t) (laid n p Anywhere)) in moved_fresh u no_in (object_size of) q.left t q (two_above i p t le)
     fresh (Difference of a b) u no_in t le =
         let q = pair (λ y. writes n y b) (laid n a Anywhere t) (laid n b Anywhere) in
         operation_fresh u no_in t t (behind_move (not (object_size of == 1)) q.next) _ (omega arith) (let k = behind_le (not (object_size of == 1)) q.next in let h = two_above a b t le in omega (arith, h, k))
@@ -227,8 +227,8 @@ module _ (n : Names) (size : ℕ) (low : (v k : ℕ) → scalar_of n v ≡ Some 
     address_is_fresh (Named (object.Literal i) of) u no_in t le = standing_fresh u no_in t t _ (address_fresh t (n.statics + i) 0)
     address_is_fresh (Named (object.Automatic v) of) u no_in t le = object_fresh u no_in (object_of n v) t
     address_is_fresh (Target of p) u no_in t le = fresh p (worked u) (worked_not u no_in) t le
-    address_is_fresh (Element of p i) u no_in t le = moved_fresh u no_in (object_size of) _ t _ (two_above p i t le)
-    address_is_fresh (ElementFrom of i p) u no_in t le = moved_fresh u no_in (object_size of) _ t _ (two_above i p t le)
+    address_is_fresh (Element of p i) u no_in t le = let q = (pair (λ y. writes n y i) (laid n p Anywhere t) (laid n i Anywhere)) in moved_fresh u no_in (object_size of) q.right t q (two_above p i t le)
+    address_is_fresh (ElementFrom of i p) u no_in t le = let q = (pair (λ y. writes n y p) (laid n i Anywhere t) (laid n p Anywhere)) in moved_fresh u no_in (object_size of) q.left t q (two_above i p t le)
 
 -- A place is found by no older temporary.
 pub place_fresh : (x : Setting) → ScalarsFirst x → (lv : LvalueTree) → PlaceFresh x lv
@@ -243,11 +243,13 @@ place_fresh x low (Target of p) t k size above lt e = fresh (names_in x) (size_i
   where
     same_at : {a b : Operand} → At a ≡ At b → a ≡ b
     same_at h = cc
-place_fresh x low (Element of p i) t k size above lt e = moved_fresh (names_in x) (size_in x) low Anywhere tt (object_size of) _ t _ (two_above (names_in x) (size_in x) low p i t size) k above lt (same_at e)
+place_fresh x low (Element of p i) t k size above lt e =
+    let q = (pair (λ y. writes (names_in x) y i) (laid (names_in x) p Anywhere t) (laid (names_in x) i Anywhere)) in moved_fresh (names_in x) (size_in x) low Anywhere tt (object_size of) q.right t q (two_above (names_in x) (size_in x) low p i t size) k above lt (same_at e)
   where
     same_at : {a b : Operand} → At a ≡ At b → a ≡ b
     same_at h = cc
-place_fresh x low (ElementFrom of i p) t k size above lt e = moved_fresh (names_in x) (size_in x) low Anywhere tt (object_size of) _ t _ (two_above (names_in x) (size_in x) low i p t size) k above lt (same_at e)
+place_fresh x low (ElementFrom of i p) t k size above lt e =
+    let q = (pair (λ y. writes (names_in x) y p) (laid (names_in x) i Anywhere t) (laid (names_in x) p Anywhere)) in moved_fresh (names_in x) (size_in x) low Anywhere tt (object_size of) q.left t q (two_above (names_in x) (size_in x) low i p t size) k above lt (same_at e)
   where
     same_at : {a b : Operand} → At a ≡ At b → a ≡ b
     same_at h = cc

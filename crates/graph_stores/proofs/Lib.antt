@@ -14,3 +14,9 @@ pub mod Addresses
 pub mod MemorySteps
 pub mod PointerTypes
 pub mod ValuesStand
+pub mod Fresh
+pub mod Remaining
+pub mod Complements
+pub mod VoidChoices
+pub mod Updates
+pub mod UpdatesDo

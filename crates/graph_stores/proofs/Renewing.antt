@@ -40,7 +40,7 @@ use Rattle.graph_values.proofs.Operands.{IsBelow}
 use Rattle.graph_values.proofs.Arithmetic.{IsRight, Computes}
 use Rattle.graph_values.proofs.Converting.{kept_word, truncated_word}
 use Rattle.graph_values.proofs.Wrapping.{wrapped_holds}
-use Rattle.graph_values.proofs.Fragment.{Stays}
+use Rattle.graph_stores.proofs.Remaining.{Remains}
 use Rattle.graph_stores.proofs.Scaling.{scale_done}
 use Rattle.graph_stores.proofs.Moving.{AreSmall, pointer_moves, moved_typed}
 
@@ -68,7 +68,7 @@ promoted_wide UnsignedLong p = refl
 wide_kept : (t u : IntegerType) (z : ℤ) → is_narrow u ≡ false → holds (integer t) z ≡ true → word_of (wrapped u z) ≡ word_of z
 wide_kept t u z e h = kept_word t u z (ap (λ b. not b || is_within t u) e) h
 
-module _ (x : Setting) (P : Local → Type 0) (temporary : (l : Local) (j : ℕ) (v : Value) → size_in x ≤ j → P l → P (set_name l j v)) (o : declared-arithmetic.Arithmetic) (ty v : IntegerType) (promoted : is_promoted v ≡ true) (computes : Computes o v) (stays_in : Stays o v) where
+module _ (x : Setting) (P : Local → Type 0) (temporary : (l : Local) (j : ℕ) (v : Value) → size_in x ≤ j → P l → P (set_name l j v)) (o : declared-arithmetic.Arithmetic) (ty v : IntegerType) (promoted : is_promoted v ≡ true) (computes : Computes o v) (remains : Remains o v) where
   -- A new integer: the operation's result, truncated where its type is narrow.
   pub renew_integer : (k t free : ℕ) (old by : Operand) (m : Made) (l : Local) (w : World) (zo zb z : ℤ) → size_in x ≤ t → P l → holds (integer ty) zo ≡ true → IsRight o v zb → value x.unit.statics l.names old ≡ Number (word_of zo) → value x.unit.statics l.names by ≡ Number (word_of zb)
       → calculated o v (wrapped v zo) zb ≡ Some z → Renewed x P k t free (renew ty k t (λ y. Operate y (operation_for o v) old by) m) m l w (Number (word_of (wrapped ty z)))
@@ -95,7 +95,7 @@ module _ (x : Setting) (P : Local → Type 0) (temporary : (l : Local) (j : ℕ)
             shadows = refl;
           }
       by_width false e =
-          let wide : word_of z ≡ word_of (wrapped ty z) = sym (wide_kept v ty z e (stays_in (wrapped v zo) zb z gives)) in
+          let wide : word_of z ≡ word_of (wrapped ty z) = sym (wide_kept v ty z e (remains (wrapped v zo) zb z (wrapped_holds v zo) hb gives)) in
           record {
             local = l;
             leads = goes (ap (λ a. Goes (at x m.ops m.end (set_name l k a) w)) (first ∙ ap Number wide)) stays;
@@ -147,9 +147,9 @@ IsNumber source.Null = ⊥
 IsNumber (source.Pointer n offset) = ⊥
 
 -- an operator on integers, its result converted to a type
-pub integer_changes : (x : Setting) (o : declared-arithmetic.Arithmetic) (ty v : IntegerType) → is_promoted v ≡ true → Computes o v → Stays o v
+pub integer_changes : (x : Setting) (o : declared-arithmetic.Arithmetic) (ty v : IntegerType) → is_promoted v ≡ true → Computes o v → Remains o v
     → Changes x (change.Integer o ty v) (Integer ty) (IsRightValue o v) (λ memory a b. updated o ty v a b)
-integer_changes x o ty v promoted computes stays_in = record {
+integer_changes x o ty v promoted computes remains = record {
   renews = λ P temporary k t free old by m s want f l w vo vb new size size2 below sound fits p ho hb same_o same_b gives.
       go P temporary k t free old by m s w l vo vb new size p ho hb same_o same_b gives;
   typed = λ memory vo vb new ho hb gives. is_typed memory vo vb new ho hb gives;
@@ -176,7 +176,7 @@ integer_changes x o ty v promoted computes stays_in = record {
         by_result None e h = cc
         by_result (Some z) e h =
             let same : source.Number (wrapped ty z) ≡ new = some_same h in
-            (Number (word_of (wrapped ty z)), renew_integer x P temporary o ty v promoted computes stays_in k t free old by m l w zo zb z size p ho hb same_o same_b e, subst (λ a. SameValue x.program s.memory w.memory a (Number (word_of (wrapped ty z)))) same refl)
+            (Number (word_of (wrapped ty z)), renew_integer x P temporary o ty v promoted computes remains k t free old by m l w zo zb z size p ho hb same_o same_b e, subst (λ a. SameValue x.program s.memory w.memory a (Number (word_of (wrapped ty z)))) same refl)
     go P temporary k t free old by m s w l (source.Number zo) source.Null new size p ho hb same_o same_b gives = absurd hb
     go P temporary k t free old by m s w l (source.Number zo) (source.Pointer n i) new size p ho hb same_o same_b gives = absurd hb
     go P temporary k t free old by m s w l source.Null vb new size p ho hb same_o same_b gives = absurd ho

@@ -59,6 +59,13 @@ stored_new : (r : Option source-value.Value) (p : source-value.Value) (s : State
 stored_new None p s = refl
 stored_new (Some new) p s = refl
 
+-- what is wanted is older
+abbrev pub Older : Goal → ℕ → Type 0
+Older (To None m) t = Unit {0}
+Older (To (Some y) m) t = y < t
+Older (Unused m) t = Unit {0}
+Older (Either left right inner) t = Unit {0}
+
 -- The scalar of a variable changes.
 module _ (x : Setting) (calls : Calls) (low : ScalarsFirst x) (apart : ScalarsApart x) (v k : ℕ) (named_by : scalar_of (names_in x) v ≡ Some k) (of : ObjectType) (c : declared-change.Change) (target : ValueType) (HasBy : source-value.Value → Type 0)
     (next : SourceMemory → source-value.Value → source-value.Value → Option source-value.Value) (changes : Changes x c target HasBy next)
@@ -174,13 +181,6 @@ module _ (x : Setting) (calls : Calls) (low : ScalarsFirst x) (apart : ScalarsAp
       subst (λ i. Result x (To (Some i) m) (Name t) t (λ i. k == i) (Move t (Name k) ∷ (left_of t (t + 1) (before (Move k (Name t)) m)).ops) (left_of t (t + 1) (before (Move k (Name t)) m)).end l w (replace_if (next s.memory vo one) Old (source.Pointer n 0) vo s)) (sym is_k)
       (kept_old t (To (Some k) m) n s l w vo size sound fits o ho one_is same)
   by_same t y m n s l w vo older size sound fits o ho one_is same false e = wanted_old t y m n s l w vo older e size sound fits o ho one_is same
-
-  -- what is wanted is older
-  abbrev Older : Goal → ℕ → Type 0
-  Older (To None m) t = Unit {0}
-  Older (To (Some y) m) t = y < t
-  Older (Unused m) t = Unit {0}
-  Older (Either left right inner) t = Unit {0}
 
   lefts : (g : Goal) (t : ℕ) (n : ℕ) (s : State) (l : Local) (w : World) (vo : source-value.Value) → size_in x ≤ t → Older g t → Sound x.program s → Fits x None s l w → ScalarObject x v s.memory n → IsOf s.memory target vo → HasBy one → SameValue x.program s.memory w.memory vo (l.names k)
       → Result x g (Name t) t (λ y. k == y) (left_scalar c k t g).ops (left_scalar c k t g).end l w (replace_if (next s.memory vo one) Old (source.Pointer n 0) vo s)
