@@ -20,3 +20,4 @@ pub mod Complements
 pub mod VoidChoices
 pub mod Updates
 pub mod UpdatesDo
+pub mod Expressions
