@@ -1,19 +1,15 @@
 -- Memory as a function and as the machine's lists of bytes: what is loaded and what is stored.
-use Rattle.std.proofs.Common.{◌≡◌, ◌≢◌, ℕ, zero, suc, ◌+◌, ◌-◌, ◌*◌, ◌/◌, ◌%◌, ◌<◌, ◌≤◌, ◌⊎◌, ⊎_elim, inl, inr, sym, ap, ◌∙◌, subst, arith, refl, List, length, Bool, true, false, cond, Option, Some, None}
-use Rattle.std.specs.Prelude.{slice_index, slice_set, nat_lt}
-use Rattle.std.proofs.Math.Path.{fun_ext}
-use Rattle.std.proofs.lemmas.List.{get_or-set_same, get_or-set_other}
-use Rattle.std.proofs.Math.ListN.{length-set}
-use Rattle.std.proofs.lemmas.Bool.{le-ltb, lt-ltb, cases_lt}
+use Rattle.std.proofs.Common.{◌≡◌, ℕ, ◌+◌, ◌-◌, ◌*◌, ◌<◌, ◌≤◌, inl, inr, sym, ap, ◌∙◌, arith, List, length, true, false, Some}
+use Rattle.std.specs.Prelude.{slice_index, nat_lt}
+use Rattle.std.proofs.lemmas.Bool.{le-ltb, lt-ltb}
 use Rattle.rv_code.specs.declared.instruction.LoadOperation.{LoadOperation}
 use Rattle.rv_code.specs.declared.instruction.LoadOperation.TheVariants.{Lb, Lh, Lw, Lbu, Lhu}
 use Rattle.rv_code.specs.declared.instruction.StoreOperation.{StoreOperation}
 use Rattle.rv_code.specs.declared.instruction.StoreOperation.TheVariants.{Sb, Sh, Sw}
 use Rattle.rv_machine.specs.State.{State}
-use Rattle.rv_machine.specs.Memory.{half_in, word_in, with_half, with_word}
-use Rattle.rv_machine.specs.Table.{signed_byte, signed_half, location_of, loaded, stored, loaded_from, stored_in, load_size, store_size}
-use Rattle.rv_machine.proofs.Laws.{length_stored_in}
-use Rattle.machine_steps.specs.Holding.{memory_of, byte_of, with_bytes, half_at, word_at, loaded_at, IsDataAt}
+use Rattle.rv_machine.specs.Memory.{half_in, word_in}
+use Rattle.rv_machine.specs.Table.{signed_byte, signed_half, location_of, loaded, loaded_from, load_size, store_size}
+use Rattle.machine_steps.specs.Holding.{memory_of, loaded_at, IsDataAt}
 
 -- ---- One byte, by its region
 

@@ -1,15 +1,12 @@
 -- Stretches of a run, one behind the other.
-use Rattle.std.proofs.Common.{◌≡◌, ℕ, zero, suc, ◌+◌, sym, ap, ◌∙◌, arith, refl, append_assoc, List, [], ◌∷◌, ◌++◌, Bool, true, false, cond}
+use Rattle.std.proofs.Common.{◌≡◌, ℕ, suc, ◌+◌, sym, ap, ◌∙◌, arith, refl, append_assoc, List, [], ◌∷◌, ◌++◌, Bool, true, false, cond}
 use Rattle.std.specs.Prelude.{ℤ}
 use Rattle.event_runs.specs.Following.{Shows}
-use Rattle.rv_machine.specs.declared.event.Event.{Event}
 use Rattle.rv_machine.specs.declared.event.Event.TheVariants.{Went, Out, Exited, Depth}
 use Rattle.rv_machine.specs.State.{State}
 use Rattle.rv_machine.specs.Table.{Effect, effect}
-use Rattle.rv_machine.specs.Run.{MachineEvent, Byte, Arrival, Exit, TooDeep, run, is_stop, goes_on, arrival}
-use Rattle.machine_steps.specs.Holding.{Holding}
-use Rattle.machine_steps.specs.Programs.{Program, Stands}
-use Rattle.machine_steps.specs.Points.{Point, events, Leads, Ends, Reaches}
+use Rattle.rv_machine.specs.Run.{MachineEvent, Byte, Arrival, Exit, TooDeep, run, is_stop, goes_on}
+use Rattle.machine_steps.specs.Points.{Point, events, Leads, Ends}
 
 -- No instruction leads from a point to itself.
 pub leads_nowhere : (stops : List ℕ) (p : Point) → Leads stops 0 p [] p

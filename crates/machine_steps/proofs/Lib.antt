@@ -6,3 +6,7 @@ pub mod Apart
 pub mod Operating
 pub mod Standing
 pub mod Straight
+pub mod Jumping
+pub mod Calling
+pub mod Placing
+pub mod Reading

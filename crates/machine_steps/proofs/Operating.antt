@@ -1,7 +1,6 @@
 -- What operations compute of words is a word.
-use Rattle.std.proofs.Common.{◌≡◌, ℕ, zero, suc, ◌+◌, ◌-◌, ◌*◌, ◌/◌, ◌%◌, ◌^◌, ◌<◌, ◌≤◌, arith, refl, inl, inr, Bool, true, false, cond}
-use Rattle.std.specs.Prelude.{ℤ, pos, negsuc, ◌*ℤ◌, ◌==◌, nat_lt, int_lt, int_div, int_rem, unsigned_abs, bit_and, bit_or, bit_xor}
-use Rattle.std.specs.Int.{cast_unsigned, w64}
+use Rattle.std.proofs.Common.{◌≡◌, ℕ, zero, suc, ◌-◌, ◌*◌, ◌/◌, ◌%◌, ◌^◌, ◌<◌, ◌≤◌, arith, refl, inl, inr, Bool, true, false, cond}
+use Rattle.std.specs.Prelude.{ℤ, pos, negsuc, ◌*ℤ◌, ◌==◌, nat_lt, int_lt, int_div, int_rem, unsigned_abs}
 use Rattle.std.proofs.Math.Nat.{div-le_self, mod-le, mul-le-mul}
 use borrow.Author.Tests.{ltb-false}
 use mir.Val.{sel}

@@ -1,19 +1,18 @@
 -- What one instruction comes to, by where it goes.
-use Rattle.std.proofs.Common.{◌≡◌, ℕ, zero, suc, ◌+◌, ◌-◌, ◌*◌, ◌/◌, ◌%◌, ◌<◌, ◌≤◌, sym, ap, ◌∙◌, subst, arith, refl, List, [], ◌∷◌, ◌++◌, length, Bool, true, false, Option, Some, None}
+use Rattle.std.proofs.Common.{◌≡◌, ℕ, ◌+◌, ◌-◌, ◌*◌, ◌/◌, ◌%◌, ◌<◌, ◌≤◌, sym, ap, ◌∙◌, subst, arith, refl, List, [], length, Bool, false}
 use Rattle.std.specs.Prelude.{slice_get, nat_lt}
 use Rattle.std.proofs.lemmas.Bool.{le-ltb}
 use Rattle.std.proofs.lemmas.Option.{slice_get_within}
 use Rattle.rv_code.specs.declared.instruction.Instruction.{Instruction}
 use Rattle.rv_code.specs.Encoding.{encoded}
 use Rattle.rv_code.proofs.RoundTrip.{decoded_encoded}
-use Rattle.rv_machine.specs.declared.event.Event.TheVariants.{Went}
-use Rattle.rv_machine.specs.State.{State, reg, with_reg, word}
-use Rattle.rv_machine.specs.Table.{Effect, effect, effect_of_word, effect_of_instruction, acted, fetched, goes, next}
+use Rattle.rv_machine.specs.State.{State, reg, with_reg}
+use Rattle.rv_machine.specs.Table.{effect, effect_of_word, effect_of_instruction, acted, fetched, goes, next}
 use Rattle.rv_machine.specs.Run.{is_stop}
-use Rattle.machine_steps.specs.Holding.{Holding, held, AreInRange, memory_of, with_register}
+use Rattle.machine_steps.specs.Holding.{Holding, held, AreInRange, memory_of}
 use Rattle.machine_steps.specs.Doing.{writing}
-use Rattle.machine_steps.specs.Programs.{Program, address_of, IsAt, CodeAt, behind, Stands}
-use Rattle.machine_steps.specs.Points.{Point, Leads, Reaches}
+use Rattle.machine_steps.specs.Programs.{Program, address_of, IsAt, Stands}
+use Rattle.machine_steps.specs.Points.{Reaches}
 use Rattle.machine_steps.proofs.Leading.{one_goes}
 use Rattle.machine_steps.proofs.Registers.{registers_written, length_written, register_none, registers_in_range}
 

@@ -1,5 +1,5 @@
 -- Stores into the machine's lists of bytes, as writes to memory as a function.
-use Rattle.std.proofs.Common.{◌≡◌, ◌≢◌, ℕ, zero, suc, ◌+◌, ◌-◌, ◌*◌, ◌/◌, ◌%◌, ◌<◌, ◌≤◌, ◌⊎◌, ⊎_elim, inl, inr, sym, ap, ◌∙◌, subst, arith, refl, List, length, Bool, true, false, Option, Some, None}
+use Rattle.std.proofs.Common.{◌≡◌, ℕ, zero, suc, ◌+◌, ◌-◌, ◌*◌, ◌/◌, ◌%◌, ◌<◌, ◌≤◌, ◌⊎◌, ⊎_elim, inl, inr, sym, ap, ◌∙◌, arith, refl, List, length, true, false, Some}
 use Rattle.std.specs.Prelude.{slice_index, slice_set, nat_lt}
 use Rattle.std.proofs.lemmas.List.{get_or-set_same, get_or-set_other}
 use Rattle.std.proofs.Math.ListN.{length-set}

@@ -1,16 +1,15 @@
 -- Code that goes straight on: it does to what the machine holds what its instructions do, one behind the other.
-use Rattle.std.proofs.Common.{◌≡◌, ℕ, zero, suc, ◌+◌, ◌*◌, ◌<◌, ◌≤◌, ◌⊎◌, inl, inr, sym, ap, ◌∙◌, subst, arith, refl, List, [], ◌∷◌, ◌++◌, length, Bool, true, false, Option, Some, None}
+use Rattle.std.proofs.Common.{◌≡◌, ℕ, ◌+◌, ◌*◌, ◌<◌, ap, ◌∙◌, subst, arith, refl, List, [], ◌∷◌, length, Bool, false}
 use Rattle.rv_code.specs.declared.instruction.LoadOperation.{LoadOperation}
 use Rattle.rv_code.specs.declared.instruction.StoreOperation.{StoreOperation}
 use Rattle.rv_code.specs.declared.instruction.Instruction.{Instruction}
 use Rattle.rv_code.specs.declared.instruction.Instruction.TheVariants.{Lui, Auipc, Jal, Jalr, Branch, Load, Store, Immediate, Register, Fence, Ecall, Ebreak}
-use Rattle.rv_machine.specs.declared.event.Event.TheVariants.{Went}
 use Rattle.rv_machine.specs.State.{State, reg, word}
-use Rattle.rv_machine.specs.Table.{Effect, effect, acted, next, on_load, on_store, load_size, store_size, operated, operated_immediate}
-use Rattle.machine_steps.specs.Holding.{Holding, held, AreInRange, memory_of, loaded_at, IsDataAt, with_bytes}
+use Rattle.rv_machine.specs.Table.{acted, next, on_load, on_store, load_size, store_size, operated, operated_immediate}
+use Rattle.machine_steps.specs.Holding.{Holding, held, memory_of, loaded_at, IsDataAt, with_bytes}
 use Rattle.machine_steps.specs.Doing.{writing, storing, done_by, CanDo, done_by_all, CanDoAll}
-use Rattle.machine_steps.specs.Programs.{Program, address_of, IsAt, CodeAt, behind, Stands}
-use Rattle.machine_steps.specs.Points.{Point, Leads, Reaches}
+use Rattle.machine_steps.specs.Programs.{Program, IsAt, CodeAt, behind, Stands}
+use Rattle.machine_steps.specs.Points.{Leads, Reaches}
 use Rattle.machine_steps.proofs.Leading.{leads_nowhere, leads_then, one_goes}
 use Rattle.machine_steps.proofs.Bytes.{loads}
 use Rattle.machine_steps.proofs.Storing.{Stored, stores}

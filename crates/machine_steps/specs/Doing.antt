@@ -1,10 +1,5 @@
 -- What instructions do that go on to the next one: they compute, load and store.
-use Rattle.std.specs.Prelude.{◌≡◌, ℕ, ◌+◌, ◌*◌, List, [], ◌∷◌}
-use Rattle.rv_code.specs.declared.instruction.BranchOperation.{BranchOperation}
-use Rattle.rv_code.specs.declared.instruction.LoadOperation.{LoadOperation}
-use Rattle.rv_code.specs.declared.instruction.StoreOperation.{StoreOperation}
-use Rattle.rv_code.specs.declared.instruction.ImmediateOperation.{ImmediateOperation}
-use Rattle.rv_code.specs.declared.instruction.RegisterOperation.{RegisterOperation}
+use Rattle.std.specs.Prelude.{ℕ, ◌+◌, ◌*◌, List, [], ◌∷◌}
 use Rattle.rv_code.specs.declared.instruction.Instruction.{Instruction}
 use Rattle.rv_code.specs.declared.instruction.Instruction.TheVariants.{Lui, Auipc, Jal, Jalr, Branch, Load, Store, Immediate, Register, Fence, Ecall, Ebreak}
 use Rattle.rv_machine.specs.State.{word}

@@ -1,5 +1,5 @@
 -- Code as it lies in memory, and what stands where in it.
-use Rattle.std.specs.Prelude.{◌≡◌, ℕ, ◌+◌, ◌-◌, ◌*◌, ◌≤◌, Bool, true, false, Option, Some, List, [], ◌∷◌, length, slice_get}
+use Rattle.std.specs.Prelude.{◌≡◌, ℕ, ◌+◌, ◌-◌, ◌*◌, ◌≤◌, Bool, false, Some, List, [], ◌∷◌, length, slice_get}
 use Rattle.rv_code.specs.declared.instruction.Instruction.{Instruction}
 use Rattle.rv_code.specs.InForm.{IsInForm}
 use Rattle.rv_code.specs.Encoding.{encoded}
