@@ -32,25 +32,25 @@ pub struct Storage<'a> {
 }
 
 impl<'a> Storage<'a> {
-    ghost use Rattle.emit_storage.specs.Storages.{array_bytes_at, ground, home_at, object_at, slot_at, source_of, static_object_at};
+    ghost use Rattle.emit_storage.specs.Storages.{array_bytes_at, storage_view, home_at, object_at, slot_at, source_of, static_object_at};
 
     /// The home of a name.
     pub fn home(&self, name: Name) -> Home
-        ensures { result ≡ home_at (ground self.now) name.0 }
+        ensures { result ≡ home_at (storage_view self.now) name.0 }
     {
         home_of(self.homes, name)
     }
 
     /// The offset of a slot in the frame.
     pub fn slot(&self, slot: u32) -> u32
-        ensures { result ≡ slot_at (ground self.now) slot }
+        ensures { result ≡ slot_at (storage_view self.now) slot }
     {
         self.frame.slots.wrapping_add(slot.wrapping_mul(4))
     }
 
     /// The offset of a memory object in the frame.
     pub fn object(&self, object: u32) -> u32
-        ensures { result ≡ object_at (ground self.now) object }
+        ensures { result ≡ object_at (storage_view self.now) object }
     {
         match self.frame.objects.get(object as usize) {
             Some(offset) => *offset,
@@ -60,7 +60,7 @@ impl<'a> Storage<'a> {
 
     /// The address of a static object.
     pub fn static_object(&self, object: u32) -> u32
-        ensures { result ≡ static_object_at (ground self.now) object }
+        ensures { result ≡ static_object_at (storage_view self.now) object }
     {
         match self.statics.objects.get(object as usize) {
             Some(address) => *address,
@@ -70,7 +70,7 @@ impl<'a> Storage<'a> {
 
     /// The address of bytes that initialise an automatic array.
     pub fn array_bytes(&self, bytes: u32) -> u32
-        ensures { result ≡ array_bytes_at (ground self.now) bytes }
+        ensures { result ≡ array_bytes_at (storage_view self.now) bytes }
     {
         match self.statics.array_bytes.get(bytes as usize) {
             Some(address) => *address,
@@ -80,7 +80,7 @@ impl<'a> Storage<'a> {
 
     /// What reading an operand reads.
     pub fn source(&self, operand: Operand) -> Source
-        ensures { result ≡ source_of (ground self.now) (operand_view operand) }
+        ensures { result ≡ source_of (storage_view self.now) (operand_view operand) }
     {
         match operand {
             Operand::Name(name) => Source::Home(self.home(name)),
