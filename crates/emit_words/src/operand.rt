@@ -94,6 +94,7 @@ impl Code {
         ensures few { OnOk result (words_in self.new.pieces.items ≤ words_in self.old.pieces.items + most_words_of_source source) }
         ensures stops { OnOk result (shown self.new ≡ shown self.old) }
         ensures grown { OnOk result (code_state self.new ≡ with_code (fetched_source (storage_view storage.now) self.old.held.items source scratch) (code_state self.old)) }
+        ensures kept { OnOk result (self.new.held.items ≡ self.old.held.items) }
         ensures found { IfOk result (λ r. r ≡ source_register (storage_view storage.now) self.old.held.items source scratch) }
     {
         match source {
@@ -112,6 +113,7 @@ impl Code {
         ensures few { OnOk result (words_in self.new.pieces.items ≤ words_in self.old.pieces.items + 3) }
         ensures stops { OnOk result (shown self.new ≡ shown self.old) }
         ensures grown { OnOk result (code_state self.new ≡ with_code (fetched_source (storage_view storage.now) self.old.held.items (source_of (storage_view storage.now) (operand_view operand)) scratch) (code_state self.old)) }
+        ensures kept { OnOk result (self.new.held.items ≡ self.old.held.items) }
         ensures found { IfOk result (λ r. r ≡ source_register (storage_view storage.now) self.old.held.items (source_of (storage_view storage.now) (operand_view operand)) scratch) }
     {
         self.fetch_source(storage, storage.source(operand), scratch)

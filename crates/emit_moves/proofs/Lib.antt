@@ -1,0 +1,4 @@
+pub mod Constants
+pub mod Fetching
+pub mod Parts
+pub mod Slots
