@@ -10,7 +10,7 @@ use Rattle.rv_machine.specs.State.{word}
 use Rattle.rv_machine.specs.Table.{operated}
 use Rattle.emit_words.specs.Constants.{low_part, high_part}
 use Rattle.emit_words.specs.Operands.{load_slot_code, store_slot_code}
-use Rattle.machine_steps.specs.Holding.{Holding, word_at, with_bytes, IsDataAt}
+use Rattle.machine_steps.specs.Holding.{Holding, with_register, word_at, with_bytes, IsDataAt}
 use Rattle.machine_steps.proofs.Registers.{register_same, register_other}
 use Rattle.emit_moves.specs.Doing.{Brings, Stores, HasSlot}
 use Rattle.emit_moves.proofs.Parts.{parts_reach}
@@ -48,12 +48,16 @@ slot_brings h r offset some slot = by_test (nat_lt offset 2048)
           input = refl;
         }
     by_test false =
+        let v1 : ℕ = high_part offset * 4096 in
+        let f1 : ℕ → ℕ = with_register 5 v1 h.registers in
+        let v2 : ℕ = word (v1 + h.registers 2) in
+        let f2 : ℕ → ℕ = with_register 5 v2 f1 in
         let a : ℕ = word (word (high_part offset * 4096 + h.registers 2) + low_part offset) in
         let at : a ≡ h.registers 2 + offset = far_address h offset slot in
         record {
           can = (tt, (tt, (slot_data h offset a slot at, tt)));
-          value = register_same r (word_at h.memory a) _ some ∙ ap (word_at h.memory) at;
-          kept = λ q other scratch. register_other r (word_at h.memory a) q _ other ∙ register_other 5 _ q _ scratch ∙ register_other 5 _ q _ scratch;
+          value = register_same r (word_at h.memory a) f2 some ∙ ap (word_at h.memory) at;
+          kept = λ q other scratch. register_other r (word_at h.memory a) q f2 other ∙ register_other 5 v2 q f1 scratch ∙ register_other 5 v1 q h.registers scratch;
           memory = refl;
           input = refl;
         }
@@ -76,11 +80,15 @@ slot_stored h r offset apart slot = by_test (nat_lt offset 2048)
           input = refl;
         }
     by_test false =
+        let v1 : ℕ = high_part offset * 4096 in
+        let f1 : ℕ → ℕ = with_register 5 v1 h.registers in
+        let v2 : ℕ = word (v1 + h.registers 2) in
+        let f2 : ℕ → ℕ = with_register 5 v2 f1 in
         let a : ℕ = word (word (high_part offset * 4096 + h.registers 2) + low_part offset) in
         let at : a ≡ h.registers 2 + offset = far_address h offset slot in
         record {
           can = (tt, (tt, (slot_data h offset a slot at, tt)));
-          kept = λ q scratch. register_other 5 _ q _ scratch ∙ register_other 5 _ q _ scratch;
-          memory = ap (λ v. with_bytes 4 a v h.memory) (register_other 5 _ r _ apart ∙ register_other 5 _ r _ apart) ∙ ap (λ x. with_bytes 4 x (h.registers r) h.memory) at;
+          kept = λ q scratch. register_other 5 v2 q f1 scratch ∙ register_other 5 v1 q h.registers scratch;
+          memory = ap (λ v. with_bytes 4 a v h.memory) (register_other 5 v2 r f1 apart ∙ register_other 5 v1 r h.registers apart) ∙ ap (λ x. with_bytes 4 x (h.registers r) h.memory) at;
           input = refl;
         }
