@@ -1,5 +1,5 @@
 -- The words that bring a constant into a register do so.
-use Rattle.std.proofs.Common.{◌≡◌, ◌≢◌, ℕ, zero, suc, ◌+◌, ◌*◌, ◌%◌, ◌<◌, ◌≤◌, sym, ap, ◌∙◌, arith, refl, Bool, true, false, cond, ◌||◌, ◌&&◌, not, List, [], ◌∷◌}
+use Rattle.std.proofs.Common.{◌≡◌, ℕ, ◌+◌, ◌*◌, ◌<◌, ap, ◌∙◌, arith, refl, Bool, true, false, cond, ◌||◌, ◌&&◌, not, List, [], ◌∷◌}
 use Rattle.std.specs.Prelude.{◌==◌}
 use Rattle.std.proofs.lemmas.Bool.{eqb-true}
 use Rattle.rv_code.specs.declared.instruction.Instruction.{Instruction}
@@ -8,14 +8,14 @@ use Rattle.rv_code.specs.declared.instruction.ImmediateOperation.TheVariants.{Ad
 use Rattle.rv_machine.specs.State.{word}
 use Rattle.rv_machine.specs.Table.{operated_immediate}
 use Rattle.word_base.specs.Arithmetic.{subtracted}
-use Rattle.emit_words.specs.Constants.{is_small, low_part, high_part, is_near_base, constant_code}
+use Rattle.emit_words.specs.Constants.{is_small, low_part, high_part, constant_code}
 use Rattle.machine_steps.specs.Holding.{Holding}
 use Rattle.machine_steps.proofs.Registers.{register_same, register_other}
 use Rattle.emit_moves.specs.Doing.{Brings}
 use Rattle.emit_moves.proofs.Parts.{parts_make, high_part_alone, difference_adds}
 
 -- An ADDI to a register that holds a number.
-addi_brings : (h : Holding) (r a n v : ℕ) → 0 < r → word (h.registers a + n) ≡ v → Brings (Immediate Addi r a n ∷ []) h r r v
+pub addi_brings : (h : Holding) (r a n v : ℕ) → 0 < r → word (h.registers a + n) ≡ v → Brings (Immediate Addi r a n ∷ []) h r r v
 unfolding operated_immediate
 addi_brings h r a n v some e = record {
   can = (tt, tt);

@@ -1,10 +1,8 @@
 -- The words that fetch what is read do so.
-use Rattle.std.proofs.Common.{◌≡◌, ◌≢◌, ℕ, zero, suc, ◌+◌, ◌<◌, ◌≤◌, sym, ap, ◌∙◌, subst, arith, refl, Bool, true, false, cond, Option, Some, None, List, [], ◌∷◌}
+use Rattle.std.proofs.Common.{◌≡◌, ℕ, ◌<◌, sym, ap, ◌∙◌, arith, refl, Bool, true, false, cond, Option, Some, None, List, [], ◌∷◌}
 use Rattle.std.specs.Prelude.{◌==◌}
 use Rattle.std.specs.Option.{option_map_or}
 use Rattle.std.proofs.lemmas.Bool.{eqb-true}
-use Rattle.rv_code.specs.declared.instruction.Instruction.{Instruction}
-use Rattle.graph_homes.specs.declared.home.Home.{Home}
 use Rattle.graph_homes.specs.declared.home.Home.TheVariants.{Register, Slot}
 use Rattle.emit_pieces.specs.declared.piece.Held.{Held}
 use Rattle.emit_storage.specs.declared.storage.Source.{Source}
@@ -14,7 +12,7 @@ use Rattle.emit_words.specs.Growing.{holder_of}
 use Rattle.emit_words.specs.Constants.{constant_code, constant_register, fetched_constant}
 use Rattle.emit_words.specs.Operands.{source_register, fetched_source}
 use Rattle.machine_steps.specs.Holding.{Holding}
-use Rattle.emit_moves.specs.Doing.{Brings, HasSlot, HoldsAll, value_of, CanRead}
+use Rattle.emit_moves.specs.Doing.{Brings, HoldsAll, value_of, CanRead}
 use Rattle.emit_moves.proofs.Constants.{constant_brings}
 use Rattle.emit_moves.proofs.Slots.{slot_brings}
 

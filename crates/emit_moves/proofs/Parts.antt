@@ -1,12 +1,11 @@
 -- The two parts of a word make it up.
-use Rattle.std.proofs.Common.{◌≡◌, ℕ, ◌+◌, ◌-◌, ◌*◌, ◌/◌, ◌%◌, ◌<◌, ◌≤◌, ◌⊎◌, ⊎_elim, inl, inr, arith, refl, Bool, true, false, cond, ◌||◌}
-use Rattle.std.specs.Prelude.{nat_lt, nat_le}
+use Rattle.std.proofs.Common.{◌≡◌, ℕ, ◌+◌, ◌*◌, ◌%◌, ◌<◌, ◌≤◌, ◌⊎◌, ⊎_elim, inl, inr, arith, true, false}
+use Rattle.std.specs.Prelude.{nat_lt}
 use Rattle.std.proofs.lemmas.Bool.{cases_lt, le-ltb, lt-ltb}
-use borrow.Author.Tests.{ltb-true, ltb-false}
 use Rattle.rv_code.specs.InForm.{IsSigned12}
 use Rattle.rv_machine.specs.State.{word}
 use Rattle.word_base.specs.Arithmetic.{subtracted}
-use Rattle.emit_words.specs.Constants.{is_small, low_part, high_part}
+use Rattle.emit_words.specs.Constants.{low_part, high_part}
 
 -- What the low part of a word is, by its lowest 12 bits.
 low_part_by : (w : ℕ) → ((w % 4096 < 2048) × (low_part w ≡ w % 4096)) ⊎ ((2048 ≤ w % 4096) × (low_part w ≡ w % 4096 + 4294963200))
