@@ -1,9 +1,10 @@
 -- Words that are appended.
-use Rattle.std.proofs.Common.{◌≡◌, ◌<◌, ℕ, zero, suc, ◌+◌, List, [], ◌∷◌, ◌++◌, slice_set, slice_index_or, length, sym, subst, refl, ap, ◌∙◌, arith, append_assoc}
+use Rattle.std.proofs.Common.{◌≡◌, ◌<◌, ℕ, zero, suc, ◌+◌, List, [], ◌∷◌, ◌++◌, slice_set, slice_index_or, length, sym, subst, refl, ap, ◌∙◌, arith, append_assoc, Some}
 use Rattle.emit_pieces.specs.declared.piece.Piece.{Piece}
 use Rattle.emit_pieces.specs.declared.piece.PlacedPiece.{PlacedPiece}
 use Rattle.emit_pieces.specs.Words.{words_of_piece, words_in}
 use Rattle.emit_words.specs.Shown.{stop_if, stops_of}
+use Rattle.emit_words.specs.Growing.{marked}
 
 pub words_append : (xs : List PlacedPiece) (p : PlacedPiece) → words_in (xs ++ p ∷ []) ≡ words_in xs + words_of_piece p.piece
 words_append [] p = omega arith
@@ -39,3 +40,11 @@ stops_set (z ∷ zs) (suc i) x y e s o lt = ap (λ l. stop_if z.is_stop z.owner 
 
 pub shown_set : (xs : List PlacedPiece) (i : ℕ) (x y : PlacedPiece) (more : List ℕ) → x ≡ slice_index_or xs i x → y.is_stop ≡ x.is_stop → y.owner ≡ x.owner → i < length xs → stops_of (slice_set xs i y) ++ more ≡ stops_of xs ++ more
 shown_set xs i x y more e s o lt = ap (λ l. l ++ more) (stops_set xs i x y e s o lt)
+
+-- Marking the last piece.
+pub marked_last : (xs : List PlacedPiece) (i : ℕ) (x : PlacedPiece) (n : ℕ) → i + 1 ≡ length xs → x ≡ slice_index_or xs i x → slice_set xs i (record { piece = x.piece; owner = x.owner; is_stop = x.is_stop; writes = Some n }) ≡ marked n xs
+marked_last [] i x n e is = absurd (omega (arith, e))
+marked_last (p ∷ []) zero x n e is = ap (λ (y : PlacedPiece). record { piece = y.piece; owner = y.owner; is_stop = y.is_stop; writes = Some n } ∷ []) is
+marked_last (p ∷ []) (suc i) x n e is = absurd (omega (arith, e))
+marked_last (p ∷ q ∷ more) zero x n e is = absurd (omega (arith, e))
+marked_last (p ∷ q ∷ more) (suc i) x n e is = ap (λ l. p ∷ l) (marked_last (q ∷ more) i x n (omega (arith, e)) is)

@@ -1,2 +1,5 @@
+pub mod Constants
 pub mod Fetching
+pub mod Growing
+pub mod Operands
 pub mod Shown

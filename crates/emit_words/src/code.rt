@@ -1,6 +1,6 @@
 //! Code as it grows.
 
-ghost use Rattle.std.specs.Prelude.{◌≡◌, ◌≤◌, ◌+◌, ◌++◌, [], false, OnOk, IfOk};
+ghost use Rattle.std.specs.Prelude.{◌≡◌, ◌≤◌, ◌+◌, ◌++◌, ◌∷◌, [], false, OnOk, IfOk};
 ghost use Rattle.emit_words.specs.Shown.{shown, stop_if};
 ghost use Rattle.emit_pieces.specs.Words.{words_in, words_of_piece};
 
@@ -23,10 +23,15 @@ pub struct Code {
 }
 
 impl Code {
+    ghost use Rattle.emit_words.specs.Growing.{code_state, marked, settled, with_code, with_piece};
+    ghost use Rattle.rv_code.specs.declared.instruction.Instruction.TheVariants.{Immediate};
+    ghost use Rattle.rv_code.specs.declared.instruction.ImmediateOperation.TheVariants.{Addi};
+
     /// No code yet, of a place or of none, which is 0.
     pub fn new(alloc: Global, owner: u32) -> Code
         ensures few { words_in result.pieces.items ≡ 0 }
         ensures stops { shown result ≡ [] }
+        ensures grown { code_state result ≡ record { pieces = []; held = []; owner = owner; begins = false } }
     {
         Code {
             pieces: Vec::new(alloc),
@@ -41,6 +46,7 @@ impl Code {
     pub fn knowing(alloc: Global, owner: u32, known: &[Held]) -> Result<Code, AllocError>
         ensures few { IfOk result (λ code. words_in code.pieces.items ≡ 0) }
         ensures stops { IfOk result (λ code. shown code ≡ []) }
+        ensures grown { IfOk result (λ code. code_state code ≡ record { pieces = []; held = known.now; owner = owner; begins = false }) }
     {
         Ok(Code {
             pieces: Vec::new(alloc),
@@ -55,6 +61,7 @@ impl Code {
     pub fn put_piece(&mut self, piece: Piece) -> Result<(), AllocError>
         ensures few { OnOk result (words_in self.new.pieces.items ≤ words_in self.old.pieces.items + words_of_piece piece) }
         ensures stops { OnOk result (shown self.new ≡ shown self.old) }
+        ensures grown { OnOk result (code_state self.new ≡ with_piece piece (code_state self.old)) }
         ensures begun { OnOk result (self.new.begins ≡ false) }
     {
         let is_stop = self.begins;
@@ -72,6 +79,7 @@ impl Code {
     pub fn put(&mut self, instruction: Instruction) -> Result<(), AllocError>
         ensures few { OnOk result (words_in self.new.pieces.items ≤ words_in self.old.pieces.items + 1) }
         ensures stops { OnOk result (shown self.new ≡ shown self.old) }
+        ensures grown { OnOk result (code_state self.new ≡ with_code (instruction ∷ []) (code_state self.old)) }
         ensures begun { OnOk result (self.new.begins ≡ false) }
     {
         self.put_piece(Piece::Word(instruction))
@@ -87,6 +95,7 @@ impl Code {
     ) -> Result<(), AllocError>
         ensures few { OnOk result (words_in self.new.pieces.items ≤ words_in self.old.pieces.items + 1) }
         ensures stops { OnOk result (shown self.new ≡ shown self.old) }
+        ensures grown { OnOk result (code_state self.new ≡ with_code (Immediate operation rd source immediate ∷ []) (code_state self.old)) }
         ensures begun { OnOk result (self.new.begins ≡ false) }
     {
         self.put(Instruction::Immediate(operation, rd, source, immediate))
@@ -96,6 +105,7 @@ impl Code {
     pub fn put_sum(&mut self, rd: u8, source: u8, immediate: u32) -> Result<(), AllocError>
         ensures few { OnOk result (words_in self.new.pieces.items ≤ words_in self.old.pieces.items + 1) }
         ensures stops { OnOk result (shown self.new ≡ shown self.old) }
+        ensures grown { OnOk result (code_state self.new ≡ with_code (Immediate Addi rd source immediate ∷ []) (code_state self.old)) }
         ensures begun { OnOk result (self.new.begins ≡ false) }
     {
         self.put_immediate(ImmediateOperation::Addi, rd, source, immediate)
@@ -105,6 +115,7 @@ impl Code {
     pub fn settle(&mut self) -> Result<(), AllocError>
         ensures few { OnOk result (words_in self.new.pieces.items ≤ words_in self.old.pieces.items + 1) }
         ensures stops { OnOk result (shown self.new ≡ shown self.old) }
+        ensures grown { OnOk result (code_state self.new ≡ settled (code_state self.old)) }
         ensures begun { OnOk result (self.new.begins ≡ false) }
     {
         if self.begins {
@@ -118,6 +129,7 @@ impl Code {
     pub fn begin(&mut self, place: u32, is_stop: bool) -> Result<(), AllocError>
         ensures few { OnOk result (words_in self.new.pieces.items ≤ words_in self.old.pieces.items + 1) }
         ensures stops { OnOk result (shown self.new ≡ shown self.old ++ stop_if is_stop place) }
+        ensures grown { OnOk result (code_state self.new ≡ record (settled (code_state self.old)) { owner = place; begins = is_stop }) }
     {
         self.settle()?;
         self.owner = place;
@@ -129,6 +141,7 @@ impl Code {
     pub fn leave_place(&mut self)
         ensures few { words_in self.new.pieces.items ≡ words_in self.old.pieces.items }
         ensures stops { self.old.begins ≡ false → shown self.new ≡ shown self.old }
+        ensures grown { code_state self.new ≡ record (code_state self.old) { owner = 0 } }
         ensures begun { self.new.begins ≡ self.old.begins }
     {
         self.owner = 0;
@@ -138,6 +151,7 @@ impl Code {
     pub fn mark_writer(&mut self, number: u32)
         ensures few { words_in self.new.pieces.items ≡ words_in self.old.pieces.items }
         ensures stops { shown self.new ≡ shown self.old }
+        ensures grown { code_state self.new ≡ record (code_state self.old) { pieces = marked number self.old.pieces.items } }
         ensures begun { self.new.begins ≡ self.old.begins }
     {
         if let Some(last) = self.pieces.last_mut() {

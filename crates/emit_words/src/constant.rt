@@ -1,8 +1,10 @@
 //! Constants.
 
-ghost use Rattle.std.specs.Prelude.{◌≡◌, ◌≤◌, ◌+◌, OnOk};
+ghost use Rattle.std.specs.Prelude.{◌≡◌, ◌≤◌, ◌+◌, [], ◌∷◌, OnOk, IfOk};
 ghost use Rattle.emit_words.specs.Shown.{shown};
 ghost use Rattle.emit_pieces.specs.Words.{words_in};
+ghost use Rattle.emit_words.specs.Constants.{constant_by, constant_code, constant_register, fetched_constant, high_part, holding, is_near_base, is_small, low_part, one_word_constant, set_constant_by, set_constant_code, words_of_constant};
+ghost use Rattle.emit_words.specs.Growing.{code_state, forgotten, holder_of, with_code};
 
 use crate::code::Code;
 use emit_pieces::{Held, register};
@@ -10,29 +12,38 @@ use rv_code::Instruction;
 use std::alloc::AllocError;
 
 /// Whether a word is that of a number of 12 bits, -2048 to 2047.
-pub fn is_small(word: u32) -> bool {
+pub fn is_small(word: u32) -> bool
+    ensures { result ≡ is_small word }
+{
     word < 2048 || word >= 4294965248
 }
 
 /// The lowest 12 bits of a word, with their sign.
-pub fn low_part(word: u32) -> u32 {
+pub fn low_part(word: u32) -> u32
+    ensures { result ≡ low_part word }
+{
     let low = word % 4096;
     if low < 2048 { low } else { low + 4294963200 }
 }
 
 /// What the upper 20 bits have to be so that the low part added to them gives a word.
-pub fn high_part(word: u32) -> u32 {
+pub fn high_part(word: u32) -> u32
+    ensures { result ≡ high_part word }
+{
     word.wrapping_sub(low_part(word)) / 4096
 }
 
 /// Whether a word is made best from the address that `gp` holds: it would take two words else.
-fn is_near_base(word: u32, base: u32) -> bool {
+fn is_near_base(word: u32, base: u32) -> bool
+    ensures { result ≡ is_near_base word base }
+{
     !is_small(word) && low_part(word) != 0 && is_small(word.wrapping_sub(base))
 }
 
 /// How many words bring a constant into a register, where `gp` holds this address.
 pub fn words_of_constant(word: u32, base: u32) -> u32
-    ensures { (1 ≤ result) × (result ≤ 2) }
+    ensures few { (1 ≤ result) × (result ≤ 2) }
+    ensures words { result ≡ words_of_constant word base }
 {
     if is_small(word) || low_part(word) == 0 || is_near_base(word, base) {
         1
@@ -46,6 +57,7 @@ impl Code {
     fn load_by_one(&mut self, register: u8, word: u32, base: u32) -> Result<(), AllocError>
         ensures few { OnOk result (words_in self.new.pieces.items ≤ words_in self.old.pieces.items + 1) }
         ensures stops { OnOk result (shown self.new ≡ shown self.old) }
+        ensures grown { OnOk result (code_state self.new ≡ with_code (one_word_constant register word base ∷ []) (code_state self.old)) }
     {
         if is_small(word) {
             return self.put_sum(register, register::ZERO, word);
@@ -61,6 +73,7 @@ impl Code {
         requires { 1 ≤ words }
         ensures few { OnOk result (words_in self.new.pieces.items ≤ words_in self.old.pieces.items + words) }
         ensures stops { OnOk result (shown self.new ≡ shown self.old) }
+        ensures grown { OnOk result (code_state self.new ≡ with_code (constant_by words register word base) (code_state self.old)) }
     {
         if words == 1 {
             return self.load_by_one(register, word, base);
@@ -73,17 +86,22 @@ impl Code {
     pub fn load_constant(&mut self, register: u8, word: u32, base: u32) -> Result<(), AllocError>
         ensures few { OnOk result (words_in self.new.pieces.items ≤ words_in self.old.pieces.items + 2) }
         ensures stops { OnOk result (shown self.new ≡ shown self.old) }
+        ensures grown { OnOk result (code_state self.new ≡ with_code (constant_code register word base) (code_state self.old)) }
     {
         let words = words_of_constant(word, base);
         self.load_by(register, word, base, words)
     }
 
     /// The register that holds a constant, if one does.
-    pub fn holder(&self, word: u32) -> Option<u8> {
-        for held in &self.held {
-            if held.word == word {
-                return Some(held.register);
+    pub fn holder(&self, word: u32) -> Option<u8>
+        ensures { result ≡ holder_of word self.now.held.items }
+    {
+        let mut left: &[Held] = &self.held;
+        while let [first, rest @ ..] = left {
+            if first.word == word {
+                return Some(first.register);
             }
+            left = rest;
         }
         None
     }
@@ -92,6 +110,8 @@ impl Code {
     pub fn fetch_constant(&mut self, word: u32, base: u32, scratch: u8) -> Result<u8, AllocError>
         ensures few { OnOk result (words_in self.new.pieces.items ≤ words_in self.old.pieces.items + 2) }
         ensures stops { OnOk result (shown self.new ≡ shown self.old) }
+        ensures grown { OnOk result (code_state self.new ≡ with_code (fetched_constant word base scratch self.old.held.items) (code_state self.old)) }
+        ensures found { IfOk result (λ r. r ≡ constant_register word base scratch self.old.held.items) }
     {
         if word == 0 {
             return Ok(register::ZERO);
@@ -118,6 +138,7 @@ impl Code {
         requires { 1 ≤ words }
         ensures few { OnOk result (words_in self.new.pieces.items ≤ words_in self.old.pieces.items + words) }
         ensures stops { OnOk result (shown self.new ≡ shown self.old) }
+        ensures grown { OnOk result (code_state self.new ≡ with_code (set_constant_by words register word base self.old.held.items) (code_state self.old)) }
     {
         if !is_small(word) {
             if let Some(holder) = self.holder(word) {
@@ -131,6 +152,7 @@ impl Code {
     pub fn set_constant(&mut self, register: u8, word: u32, base: u32) -> Result<(), AllocError>
         ensures few { OnOk result (words_in self.new.pieces.items ≤ words_in self.old.pieces.items + 2) }
         ensures stops { OnOk result (shown self.new ≡ shown self.old) }
+        ensures grown { OnOk result (code_state self.new ≡ with_code (set_constant_code register word base self.old.held.items) (code_state self.old)) }
     {
         let words = words_of_constant(word, base);
         self.set_by(register, word, base, words)
@@ -140,21 +162,16 @@ impl Code {
     pub fn forget(&mut self, register: u8)
         ensures few { words_in self.new.pieces.items ≡ words_in self.old.pieces.items }
         ensures stops { shown self.new ≡ shown self.old }
+        ensures grown { code_state self.new ≡ record (code_state self.old) { held = forgotten register self.old.held.items } }
     {
-        for held in self.held.iter_mut() {
-            if held.register == register {
-                *held = Held {
-                    register: register::ZERO,
-                    word: 0,
-                };
-            }
-        }
+        self.held.retain(|held| held.register != register);
     }
 
     /// Nothing more is known of any scratch register.
     pub fn forget_all(&mut self)
         ensures few { words_in self.new.pieces.items ≡ words_in self.old.pieces.items }
         ensures stops { shown self.new ≡ shown self.old }
+        ensures grown { code_state self.new ≡ record (code_state self.old) { held = [] } }
     {
         self.held.clear();
     }
@@ -164,6 +181,7 @@ impl Code {
         requires { 1 ≤ words }
         ensures few { OnOk result (words_in self.new.pieces.items ≤ words_in self.old.pieces.items + words) }
         ensures stops { OnOk result (shown self.new ≡ shown self.old) }
+        ensures grown { OnOk result (code_state self.new ≡ holding held base words (code_state self.old)) }
     {
         match self.holder(held.word) {
             Some(register) => {

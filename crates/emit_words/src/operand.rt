@@ -1,9 +1,16 @@
 //! Operands and results.
 
-ghost use Rattle.std.specs.Prelude.{◌≡◌, ◌≤◌, ◌+◌, OnOk};
+ghost use Rattle.std.specs.Prelude.{◌≡◌, ◌≤◌, ◌+◌, [], ◌∷◌, OnOk, IfOk};
 ghost use Rattle.emit_words.specs.Shown.{shown};
 ghost use Rattle.emit_pieces.specs.Words.{words_in};
 ghost use Rattle.emit_words.specs.Fetching.{most_words_of_home, most_words_of_source, most_words_to_bring};
+ghost use Rattle.graph_core.specs.Graphs.{operand_view};
+ghost use Rattle.rv_code.specs.declared.instruction.Instruction.TheVariants as instruction;
+ghost use Rattle.rv_code.specs.declared.instruction.RegisterOperation.TheVariants as register_operation;
+ghost use Rattle.emit_storage.specs.Storages.{source_of, storage_view};
+ghost use Rattle.emit_words.specs.Constants.{high_part};
+ghost use Rattle.emit_words.specs.Growing.{code_state, with_code};
+ghost use Rattle.emit_words.specs.Operands.{address_code, bringing, fetched_home, fetched_source, finishing, home_register, home_written, load_slot_code, result_register, source_register, store_slot_code};
 
 use crate::code::Code;
 use crate::constant::{high_part, low_part};
@@ -19,6 +26,7 @@ impl Code {
     fn put_far_base(&mut self, offset: u32) -> Result<(), AllocError>
         ensures few { OnOk result (words_in self.new.pieces.items ≤ words_in self.old.pieces.items + 2) }
         ensures stops { OnOk result (shown self.new ≡ shown self.old) }
+        ensures grown { OnOk result (code_state self.new ≡ with_code (instruction.Lui 5 (high_part offset) ∷ instruction.Register register_operation.Add 5 5 2 ∷ []) (code_state self.old)) }
     {
         self.put(Instruction::Lui(register::T0, high_part(offset)))?;
         self.put(Instruction::Register(
@@ -33,6 +41,7 @@ impl Code {
     pub fn load_slot(&mut self, rd: u8, offset: u32) -> Result<(), AllocError>
         ensures few { OnOk result (words_in self.new.pieces.items ≤ words_in self.old.pieces.items + 3) }
         ensures stops { OnOk result (shown self.new ≡ shown self.old) }
+        ensures grown { OnOk result (code_state self.new ≡ with_code (load_slot_code rd offset) (code_state self.old)) }
     {
         if offset < 2048 {
             return self.put(Instruction::Load(LoadOperation::Lw, rd, register::SP, offset));
@@ -45,6 +54,7 @@ impl Code {
     pub fn store_slot(&mut self, value: u8, offset: u32) -> Result<(), AllocError>
         ensures few { OnOk result (words_in self.new.pieces.items ≤ words_in self.old.pieces.items + 3) }
         ensures stops { OnOk result (shown self.new ≡ shown self.old) }
+        ensures grown { OnOk result (code_state self.new ≡ with_code (store_slot_code value offset) (code_state self.old)) }
     {
         if offset < 2048 {
             return self.put(Instruction::Store(StoreOperation::Sw, value, register::SP, offset));
@@ -62,6 +72,8 @@ impl Code {
     ) -> Result<u8, AllocError>
         ensures few { OnOk result (words_in self.new.pieces.items ≤ words_in self.old.pieces.items + most_words_of_home home) }
         ensures stops { OnOk result (shown self.new ≡ shown self.old) }
+        ensures grown { OnOk result (code_state self.new ≡ with_code (fetched_home (storage_view storage.now) home scratch) (code_state self.old)) }
+        ensures found { IfOk result (λ r. r ≡ home_register home scratch) }
     {
         match home {
             Home::Register(register) => Ok(register),
@@ -81,6 +93,9 @@ impl Code {
     ) -> Result<u8, AllocError>
         ensures few { OnOk result (words_in self.new.pieces.items ≤ words_in self.old.pieces.items + most_words_of_source source) }
         ensures stops { OnOk result (shown self.new ≡ shown self.old) }
+        ensures grown { OnOk result (code_state self.new ≡ with_code (fetched_source (storage_view storage.now) self.old.held.items source scratch) (code_state self.old)) }
+        ensures kept { OnOk result (self.new.held.items ≡ self.old.held.items) }
+        ensures found { IfOk result (λ r. r ≡ source_register (storage_view storage.now) self.old.held.items source scratch) }
     {
         match source {
             Source::Home(home) => self.fetch_home(storage, home, scratch),
@@ -97,6 +112,9 @@ impl Code {
     ) -> Result<u8, AllocError>
         ensures few { OnOk result (words_in self.new.pieces.items ≤ words_in self.old.pieces.items + 3) }
         ensures stops { OnOk result (shown self.new ≡ shown self.old) }
+        ensures grown { OnOk result (code_state self.new ≡ with_code (fetched_source (storage_view storage.now) self.old.held.items (source_of (storage_view storage.now) (operand_view operand)) scratch) (code_state self.old)) }
+        ensures kept { OnOk result (self.new.held.items ≡ self.old.held.items) }
+        ensures found { IfOk result (λ r. r ≡ source_register (storage_view storage.now) self.old.held.items (source_of (storage_view storage.now) (operand_view operand)) scratch) }
     {
         self.fetch_source(storage, storage.source(operand), scratch)
     }
@@ -105,6 +123,7 @@ impl Code {
     pub fn bring(&mut self, storage: &Storage<'_>, rd: u8, source: Source) -> Result<(), AllocError>
         ensures few { OnOk result (words_in self.new.pieces.items ≤ words_in self.old.pieces.items + most_words_to_bring source) }
         ensures stops { OnOk result (shown self.new ≡ shown self.old) }
+        ensures grown { OnOk result (code_state self.new ≡ with_code (bringing (storage_view storage.now) self.old.held.items rd source) (code_state self.old)) }
     {
         match source {
             Source::Word(word) => self.set_constant(rd, word, storage.base),
@@ -128,6 +147,7 @@ impl Code {
     ) -> Result<(), AllocError>
         ensures few { OnOk result (words_in self.new.pieces.items ≤ words_in self.old.pieces.items + 3) }
         ensures stops { OnOk result (shown self.new ≡ shown self.old) }
+        ensures grown { OnOk result (code_state self.new ≡ with_code (finishing (storage_view storage.now) target register) (code_state self.old)) }
     {
         match target {
             Home::Register(_) => Ok(()),
@@ -144,6 +164,7 @@ impl Code {
     ) -> Result<(), AllocError>
         ensures few { OnOk result (words_in self.new.pieces.items ≤ words_in self.old.pieces.items + 3) }
         ensures stops { OnOk result (shown self.new ≡ shown self.old) }
+        ensures grown { OnOk result (code_state self.new ≡ with_code (home_written (storage_view storage.now) target register) (code_state self.old)) }
     {
         match target {
             Home::Register(home) => self.put_sum(home, register, 0),
@@ -155,6 +176,7 @@ impl Code {
     pub fn put_address(&mut self, rd: u8, scratch: u8, offset: u32) -> Result<(), AllocError>
         ensures few { OnOk result (words_in self.new.pieces.items ≤ words_in self.old.pieces.items + 3) }
         ensures stops { OnOk result (shown self.new ≡ shown self.old) }
+        ensures grown { OnOk result (code_state self.new ≡ with_code (address_code rd scratch offset) (code_state self.old)) }
     {
         if offset < 2048 {
             return self.put_sum(rd, register::SP, offset);
@@ -170,7 +192,9 @@ impl Code {
 }
 
 /// The register in which the result of an instruction is made: the target's home, or `t1` on the way to a slot.
-pub fn result_register(target: Home) -> u8 {
+pub fn result_register(target: Home) -> u8
+    ensures { result ≡ result_register target }
+{
     match target {
         Home::Register(register) => register,
         Home::Slot(_) => register::T1,

@@ -1,0 +1,6 @@
+pub mod Computing
+pub mod Constants
+pub mod Fetching
+pub mod Parts
+pub mod Slots
+pub mod Writing

@@ -1,0 +1,2 @@
+//! What the words do that fetch operands and write results.
+#![tactic(auto)]

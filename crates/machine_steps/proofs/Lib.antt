@@ -1,0 +1,12 @@
+pub mod Leading
+pub mod Registers
+pub mod Bytes
+pub mod Storing
+pub mod Apart
+pub mod Operating
+pub mod Standing
+pub mod Straight
+pub mod Jumping
+pub mod Calling
+pub mod Placing
+pub mod Reading

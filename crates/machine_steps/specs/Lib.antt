@@ -1,0 +1,4 @@
+pub mod Holding
+pub mod Doing
+pub mod Programs
+pub mod Points
