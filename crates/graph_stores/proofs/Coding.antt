@@ -46,17 +46,8 @@ use Rattle.graph_values.proofs.Calling.{CallsOk}
 use Rattle.graph_values.proofs.Places.{StaticsThere}
 use Rattle.graph_stores.proofs.Renewing.{IsRightValue, IsNumber}
 use Rattle.graph_stores.proofs.ValuesStand.{IsWhole}
-use Rattle.graph_stores.proofs.Shapes.{fits_of, kind_by, integer_kind, typed_of, any_integer, counted, counted_typed, scalar_typed, two_true, three_true, four_true, Shape, joined_shape, joined_typed, left_joined, right_joined, pointer_kinds, shape, scalar_by, loaded_scalar, whole_of}
+use Rattle.graph_stores.proofs.Shapes.{fits_of, kind_by, integer_kind, typed_of, any_integer, counted, counted_typed, scalar_typed, two_true, three_true, four_true, Shape, joined_shape, joined_typed, left_joined, right_joined, pointer_kinds, shape, scalar_by, loaded_scalar, whole_of, array_of, pointer_object, if_typed}
 use Rattle.graph_stores.proofs.Expressions.{IsRightBy, IsNumberBy, CallKeeps, Coded, constant, null, scalar, load, decay, address, convert, discarded, signed, negated, operated, compared, pointers, moved, moved_from, conjunction, disjunction, chosen, nothing_chosen, sequence, assigned, stored, updated, updated_there, advanced, advanced_there, stepped, stepped_there, walked, walked_there, called, run, got, put_out, left, CodedPlace, variable, static, literal, target, element, element_from, CodedAll, no_more, one_more}
-
--- an array's type, and that of a pointer's object
-array_of : (o : ObjectType) → is_array o ≡ true → (el : Scalar) × (count : ℕ) × (o ≡ of-object.Array el count)
-array_of (of-object.Scalar s) h = cc
-array_of (of-object.Array el count) h = (el, count, refl)
-
-pointer_object : (o el : ObjectType) → holds_pointer o el ≡ true → (s : Scalar) × (o ≡ of-object.Scalar s) × (loaded s ≡ Pointer el)
-pointer_object (of-object.Scalar s) el h = (s, refl, value_is (loaded s) (Pointer el) h)
-pointer_object (of-object.Array s count) el h = cc
 
 word_of_pointer : (base : IntegerType) (stars : ℕ) (el : ObjectType) → loaded (record { base = base; stars = stars }) ≡ Pointer el → rule.element_of (record { base = base; stars = stars }) ≡ Word
 word_of_pointer base zero el h = cc
@@ -157,10 +148,6 @@ operand_typed arithmetic-is.BitOr t k h = typed_of k (Integer t) h
 
 number_by : (k : Kind) → is_counted k ≡ true → (memory : SourceMemory) (u : source-value.Value) → HasKind memory k u → IsNumber u
 number_by k h memory u is = let c = counted_right k h memory u is in subst IsNumber (sym c.1) tt
-
-if_typed : (b : Bool) (k : Kind) → is_typed (if b then k else Wrong) ≡ true → (b ≡ true) × (is_typed k ≡ true)
-if_typed true k h = (refl, h)
-if_typed false k h = cc
 
 pointer_typed : (k : Kind) → is_pointer_kind k ≡ true → is_typed k ≡ true
 pointer_typed Wrong h = cc

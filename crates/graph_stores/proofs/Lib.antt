@@ -23,3 +23,5 @@ pub mod UpdatesDo
 pub mod Expressions
 pub mod Shapes
 pub mod Coding
+pub mod NamedPlaces
+pub mod Apartness

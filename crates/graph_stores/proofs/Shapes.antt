@@ -1,9 +1,10 @@
 -- What the kinds of expressions tell of their trees.
-use Rattle.std.proofs.Common.{◌≡◌, Bool, true, false, ◌&&◌, refl, sym, ap, ◌∙◌, subst}
+use Rattle.std.proofs.Common.{◌≡◌, ℕ, Bool, true, false, ◌&&◌, refl, sym, ap, ◌∙◌, subst}
 use Rattle.std.specs.Prelude.{◌==◌, if◌then◌else◌}
 use Rattle.c_tree.specs.declared.types.IntegerType.{IntegerType}
 use Rattle.c_tree.specs.declared.types.IntegerType.TheVariants.{Int}
 use Rattle.c_tree.specs.declared.object_type.Scalar.{Scalar}
+use Rattle.c_tree.specs.declared.object_type.ObjectType.{ObjectType}
 use Rattle.c_tree.specs.declared.object_type.ObjectType.TheVariants as of-object
 use Rattle.c_tree.specs.declared.object_type.ValueType.{ValueType}
 use Rattle.c_tree.specs.declared.object_type.ValueType.TheVariants.{Void, Integer, Pointer}
@@ -12,7 +13,7 @@ use Rattle.c_type_rules.specs.Types.{loaded, pointed_to, same_value}
 use Rattle.c_value_types.specs.ValueTypes.{object_type, decayed, results_of, type_of, given_by, is_void, is_pointer}
 use Rattle.c_law_types.specs.declared.kind.Kind.{Kind}
 use Rattle.c_law_types.specs.declared.kind.Kind.TheVariants.{Wrong, NullPointer, Of}
-use Rattle.c_law_types.specs.Kinds.{of_if, is_scalar_type, is_promoted, is_of, is_typed, is_scalar, is_pointer as is_pointer_kind, is_integer, is_counted, joined, holds_scalar, is_array, is_callee, taken_by}
+use Rattle.c_law_types.specs.Kinds.{of_if, is_scalar_type, is_promoted, is_of, is_typed, is_scalar, is_pointer as is_pointer_kind, is_integer, is_counted, joined, holds_scalar, holds_pointer, is_array, is_callee, taken_by}
 use Rattle.c_law_types.specs.Expressions.{kind_of, is_place, are_passed}
 use Rattle.c_memory.specs.declared.value.Value as source-value
 use Rattle.c_memory.specs.declared.value.Value.TheVariants as source
@@ -23,6 +24,19 @@ use Rattle.graph_values.proofs.Typing.{HasKind}
 use Rattle.graph_values.proofs.Types.{value_is}
 use Rattle.graph_stores.proofs.TwoPointers.{IsPointer}
 use Rattle.graph_stores.proofs.ValuesStand.{IsWhole, IsWholeIn}
+
+-- an array's type, and that of a pointer's object
+pub array_of : (o : ObjectType) → is_array o ≡ true → (el : Scalar) × (count : ℕ) × (o ≡ of-object.Array el count)
+array_of (of-object.Scalar s) h = cc
+array_of (of-object.Array el count) h = (el, count, refl)
+
+pub pointer_object : (o el : ObjectType) → holds_pointer o el ≡ true → (s : Scalar) × (o ≡ of-object.Scalar s) × (loaded s ≡ Pointer el)
+pointer_object (of-object.Scalar s) el h = (s, refl, value_is (loaded s) (Pointer el) h)
+pointer_object (of-object.Array s count) el h = cc
+
+pub if_typed : (b : Bool) (k : Kind) → is_typed (if b then k else Wrong) ≡ true → (b ≡ true) × (is_typed k ≡ true)
+if_typed true k h = (refl, h)
+if_typed false k h = cc
 
 -- kinds that fit
 pub fits_of : (b : Bool) (t : ValueType) → is_typed (of_if b t) ≡ true → b ≡ true
