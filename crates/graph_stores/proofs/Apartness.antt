@@ -1,5 +1,5 @@
 -- A variable is not of the type of what it points to: what a scalar is assigned stores nothing where that scalar points.
-use Rattle.std.proofs.Common.{◌≡◌, ℕ, Option, Some, Bool, true, false, refl, sym, ap, ◌∙◌, subst, slice_get}
+use Rattle.std.proofs.Common.{◌≡◌, ℕ, Option, Some, None, Bool, true, false, refl, sym, ap, ◌∙◌, subst, slice_get}
 use Rattle.std.specs.Prelude.{◌&&◌, if◌then◌else◌}
 use Rattle.c_tree.specs.declared.types.IntegerType.{IntegerType}
 use Rattle.c_tree.specs.declared.object_type.Scalar.{Scalar}
@@ -7,6 +7,7 @@ use Rattle.c_tree.specs.declared.object_type.ObjectType.{ObjectType}
 use Rattle.c_tree.specs.declared.object_type.ObjectType.TheVariants as of-object
 use Rattle.c_tree.specs.declared.object_type.ValueType.{ValueType}
 use Rattle.c_tree.specs.declared.object_type.ValueType.TheVariants.{Void, Integer, Pointer}
+use Rattle.c_tree.specs.declared.object_type.Object.TheVariants as object
 use Rattle.c_tree.specs.TypedExpressions.{RvalueTree, LvalueTree, Constant, Null, Load, Decay, AddressOf, Convert, Discard, Signed, Not, Arithmetic, Compare, ComparePointers, Move, MoveFrom, Difference, And, Or, Conditional, Comma, Assign, Update, UpdatePointer, Step, StepPointer, Call, Named, Target, Element, ElementFrom}
 use Rattle.c_tree.specs.Programs.{AutomaticTree}
 use Rattle.c_type_rules.specs.Integers.{promoted}
@@ -14,9 +15,9 @@ use Rattle.c_type_rules.specs.Types.{loaded, same_integer}
 use Rattle.c_value_types.specs.ValueTypes.{object_type, decayed}
 use Rattle.c_law_types.specs.declared.kind.Kind.{Kind}
 use Rattle.c_law_types.specs.declared.kind.Kind.TheVariants.{Wrong, NullPointer, Of}
-use Rattle.c_law_types.specs.Kinds.{of_if, is_promoted, is_of, is_typed, is_scalar_type, is_integer, is_counted, is_operand, holds_scalar, holds_integer, holds_pointer, is_array}
+use Rattle.c_law_types.specs.Kinds.{of_if, is_promoted, is_of, is_typed, is_scalar_type, is_integer, is_counted, is_operand, holds_scalar, holds_integer, holds_pointer, is_array, automatic_is, is_variable}
 use Rattle.c_law_types.specs.Expressions.{kind_of, is_place}
-use Rattle.graph_layout.specs.Names.{scalar_of}
+use Rattle.graph_layout.specs.Names.{scalar_of, scalar_named}
 use Rattle.graph_values.proofs.Leads.{Setting, names_in, size_in}
 use Rattle.graph_values.proofs.Kept.{ScalarsFirst}
 use Rattle.graph_values.proofs.Noting.{ScalarsApart}
@@ -153,3 +154,16 @@ module _ (x : Setting) (low : ScalarsFirst x) (scalars : ScalarsApart x) (v k : 
       by Void at q = let no : is_scalar_type Void ≡ true = subst (λ z. is_scalar_type z ≡ true) at (loaded_scalar x own) in cc
       by (Integer t) at q = number t at
       by (Pointer of) at q = pointer of at q
+
+-- What a scalar is assigned that an lvalue names stores nothing where that scalar points.
+pub place_apart : (x : Setting) → ScalarsFirst x → ScalarsApart x → (l : LvalueTree) (s : Scalar) (e : RvalueTree) → is_place x.program x.tree l ≡ true → object_type l ≡ of-object.Scalar s → is_of (kind_of x.program x.tree e) (loaded s) ≡ true → (k : ℕ) → scalar_named (names_in x) l ≡ Some k → Apart x k e
+place_apart x low scalars (Named (object.Automatic v) o) s e h one fits k named = by (slice_get x.program.automatics v) refl (two_true (is_variable x.tree v) (automatic_is (slice_get x.program.automatics v) o) h).1
+  where
+    by : (r : Option AutomaticTree) → slice_get x.program.automatics v ≡ r → automatic_is r o ≡ true → Apart x k e
+    by None at q = cc
+    by (Some a) at q = assigned_apart x low scalars v k named a at s (object_is a.of o q ∙ one) e fits
+place_apart x low scalars (Named (object.Static i) o) s e h one fits k named = cc
+place_apart x low scalars (Named (object.Literal i) o) s e h one fits k named = cc
+place_apart x low scalars (Target o p) s e h one fits k named = cc
+place_apart x low scalars (Element o p i) s e h one fits k named = cc
+place_apart x low scalars (ElementFrom o i p) s e h one fits k named = cc

@@ -40,6 +40,9 @@ use Rattle.graph_values.proofs.Later.{some_same}
 use Rattle.graph_values.proofs.Typing.{HasKind}
 use Rattle.graph_values.proofs.Types.{integer_is, object_is, value_is, kind_is_of}
 use Rattle.graph_values.proofs.Operands.{Apart}
+use Rattle.graph_values.proofs.Kept.{ScalarsFirst}
+use Rattle.graph_values.proofs.Noting.{ScalarsApart}
+use Rattle.graph_stores.proofs.Apartness.{place_apart}
 use Rattle.graph_values.proofs.Elements.{word_element}
 use Rattle.graph_values.proofs.Negations.{IsPointerBy}
 use Rattle.graph_values.proofs.Calling.{CallsOk}
@@ -181,7 +184,7 @@ InMemory x (Element of p i) = Unit {0}
 InMemory x (ElementFrom of i p) = Unit {0}
 
 abbrev mutual
-  -- What has its address taken is in memory, what a scalar is assigned stores nothing where that scalar points, and no pointers are subtracted.
+  -- What has its address taken is in memory, and no pointers are subtracted.
   pub IsLaid : Setting → RvalueTree → Type 0
   IsLaid x (Constant z t) = Unit {0}
   IsLaid x Null = Unit {0}
@@ -202,7 +205,7 @@ abbrev mutual
   IsLaid x (Or a b) = IsLaid x a × IsLaid x b
   IsLaid x (Conditional c a b) = IsLaid x c × IsLaid x a × IsLaid x b
   IsLaid x (Comma a b) = IsLaid x a × IsLaid x b
-  IsLaid x (Assign s l e) = IsLaidPlace x l × IsLaid x e × ((k : ℕ) → scalar_named (names_in x) l ≡ Some k → Apart x k e)
+  IsLaid x (Assign s l e) = IsLaidPlace x l × IsLaid x e
   IsLaid x (Update o t u l e) = IsLaidPlace x l × IsLaid x e
   IsLaid x (UpdatePointer d of l e) = IsLaidPlace x l × IsLaid x e
   IsLaid x (Step d g t u l) = IsLaidPlace x l
@@ -256,7 +259,7 @@ walk_view x calls d g of s (Named (object.Automatic v) o) (as_name k is fits) on
 walk_view x calls d g of s l (as_place p) one type_is kind = walked_there one type_is (word_of_pointer s.base s.stars of type_is) kind p
 
 -- what an operator or a choice asks of its operands
-module _ (x : Setting) (calls : Calls) (out : LaidOut x) (are : CallsAre x calls) where
+module _ (x : Setting) (calls : Calls) (low : ScalarsFirst x) (scalars : ScalarsApart x) (out : LaidOut x) (are : CallsAre x calls) where
   abbrev K : RvalueTree → Kind
   K e = kind_of x.program x.tree e
 
@@ -375,7 +378,7 @@ module _ (x : Setting) (calls : Calls) (out : LaidOut x) (are : CallsAre x calls
     coded (Assign s l e) h laid =
         let f = fits_of (holds_scalar (object_type l) s && P l && is_of (K e) (loaded s)) (loaded s) h in
         let c = three_true (holds_scalar (object_type l) s) (P l) (is_of (K e) (loaded s)) f in
-        assign_view x calls s l e (view l c.1 laid.0) (object_is (object_type l) (of-object.Scalar s) c.0) (kind_by (holds_scalar (object_type l) s && P l && is_of (K e) (loaded s)) (loaded s) f) c.2 (whole_of x e (scalar_by x (K e) (loaded s) c.2 (loaded_scalar x s))) laid.2
+        assign_view x calls s l e (view l c.1 laid.0) (object_is (object_type l) (of-object.Scalar s) c.0) (kind_by (holds_scalar (object_type l) s && P l && is_of (K e) (loaded s)) (loaded s) f) c.2 (whole_of x e (scalar_by x (K e) (loaded s) c.2 (loaded_scalar x s))) (place_apart x low scalars l s e c.1 (object_is (object_type l) (of-object.Scalar s) c.0) c.2)
         (coded e (typed_of (K e) (loaded s) c.2) laid.1)
     coded (Update o t u l e) h laid =
         let f = fits_of (holds_integer (object_type l) t && is_promoted u && P l && is_operand o u (K e)) (Integer t) h in
