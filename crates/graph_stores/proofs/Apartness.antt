@@ -1,5 +1,5 @@
 -- A variable is not of the type of what it points to: what a scalar is assigned stores nothing where that scalar points.
-use Rattle.std.proofs.Common.{◌≡◌, ℕ, Option, Some, None, Bool, true, false, refl, sym, ap, ◌∙◌, subst, slice_get}
+use Rattle.std.proofs.Common.{◌≡◌, ℕ, Option, Some, None, Bool, true, refl, sym, ap, ◌∙◌, subst, slice_get}
 use Rattle.std.specs.Prelude.{◌&&◌, if◌then◌else◌}
 use Rattle.c_tree.specs.declared.types.IntegerType.{IntegerType}
 use Rattle.c_tree.specs.declared.object_type.Scalar.{Scalar}
@@ -14,11 +14,11 @@ use Rattle.c_type_rules.specs.Integers.{promoted}
 use Rattle.c_type_rules.specs.Types.{loaded, same_integer}
 use Rattle.c_value_types.specs.ValueTypes.{object_type, decayed}
 use Rattle.c_law_types.specs.declared.kind.Kind.{Kind}
-use Rattle.c_law_types.specs.declared.kind.Kind.TheVariants.{Wrong, NullPointer, Of}
+use Rattle.c_law_types.specs.declared.kind.Kind.TheVariants.{Wrong, Of}
 use Rattle.c_law_types.specs.Kinds.{of_if, is_promoted, is_of, is_typed, is_scalar_type, is_integer, is_counted, is_operand, holds_scalar, holds_integer, holds_pointer, is_array, automatic_is, is_variable}
 use Rattle.c_law_types.specs.Expressions.{kind_of, is_place}
 use Rattle.graph_layout.specs.Names.{scalar_of, scalar_named}
-use Rattle.graph_values.proofs.Leads.{Setting, names_in, size_in}
+use Rattle.graph_values.proofs.Leads.{Setting, names_in}
 use Rattle.graph_values.proofs.Kept.{ScalarsFirst}
 use Rattle.graph_values.proofs.Noting.{ScalarsApart}
 use Rattle.graph_values.proofs.Later.{some_same}

@@ -38,7 +38,7 @@ use Rattle.graph_values.proofs.Words.{InWord, in_word}
 use Rattle.graph_values.proofs.Leads.{Setting, names_in}
 use Rattle.graph_values.proofs.Later.{some_same}
 use Rattle.graph_values.proofs.Typing.{HasKind}
-use Rattle.graph_values.proofs.Types.{integer_is, object_is, value_is, kind_is_of}
+use Rattle.graph_values.proofs.Types.{integer_is, object_is, kind_is_of}
 use Rattle.graph_values.proofs.Operands.{Apart}
 use Rattle.graph_values.proofs.Kept.{ScalarsFirst}
 use Rattle.graph_values.proofs.Noting.{ScalarsApart}

@@ -1,5 +1,5 @@
 -- A place in memory that is found by a scalar's name is of the type that the scalar points to.
-use Rattle.std.proofs.Common.{◌≡◌, ◌≢◌, ℕ, zero, suc, ◌+◌, ◌<◌, ◌≤◌, Option, Some, None, Bool, true, false, refl, sym, ap, ◌∙◌, subst, slice_get, arith}
+use Rattle.std.proofs.Common.{◌≡◌, ℕ, zero, suc, ◌+◌, ◌<◌, ◌≤◌, Option, Some, None, Bool, true, false, refl, sym, ap, ◌∙◌, subst, slice_get, arith}
 use Rattle.std.proofs.lemmas.Bool.Decides.{nat_tests}
 use Rattle.std.specs.Prelude.{◌==◌, ◌-◌, ◌&&◌, if◌then◌else◌}
 use Rattle.c_tree.specs.declared.types.IntegerType.{IntegerType}
@@ -13,29 +13,27 @@ use Rattle.c_tree.specs.declared.object_type.Object.TheVariants as object
 use Rattle.c_tree.specs.declared.typed_expression.Given.TheVariants.{New, Old}
 use Rattle.c_tree.specs.TypedExpressions.{RvalueTree, LvalueTree, Constant, Null, Load, Decay, AddressOf, Convert, Discard, Signed, Not, Arithmetic, Compare, ComparePointers, Move, MoveFrom, Difference, And, Or, Conditional, Comma, Assign, Update, UpdatePointer, Step, StepPointer, Call, Named, Target, Element, ElementFrom}
 use Rattle.c_tree.specs.Programs.{AutomaticTree}
-use Rattle.c_type_rules.specs.Integers.{object_size, fits as number_fits, promoted}
-use Rattle.c_type_rules.specs.Types.{loaded, pointed_to, same_integer, same_value}
-use Rattle.c_value_types.specs.ValueTypes.{object_type, decayed, type_of, given_by, is_void, results_of}
+use Rattle.c_type_rules.specs.Integers.{object_size, promoted}
+use Rattle.c_type_rules.specs.Types.{loaded, same_integer}
+use Rattle.c_value_types.specs.ValueTypes.{object_type, decayed, type_of, given_by, is_void}
 use Rattle.c_law_types.specs.declared.kind.Kind.{Kind}
-use Rattle.c_law_types.specs.declared.kind.Kind.TheVariants.{Wrong, NullPointer, Of}
-use Rattle.c_law_types.specs.Kinds.{of_if, is_promoted, is_of, is_typed, is_scalar, is_pointer, is_integer, is_counted, is_operand, holds_scalar, holds_integer, holds_pointer, is_array, automatic_is, is_variable, is_callee, taken_by}
-use Rattle.c_law_types.specs.Expressions.{kind_of, is_place, are_passed}
-use Rattle.graph_core.specs.Graphs as unit
+use Rattle.c_law_types.specs.declared.kind.Kind.TheVariants.{Wrong}
+use Rattle.c_law_types.specs.Kinds.{of_if, is_promoted, is_of, is_typed, is_scalar, is_integer, is_counted, is_operand, holds_scalar, holds_integer, holds_pointer, is_array, automatic_is, is_variable}
+use Rattle.c_law_types.specs.Expressions.{kind_of, is_place}
 use Rattle.graph_core.specs.Graphs.{Operand, Name, At}
 use Rattle.graph_layout.specs.declared.laid.Use.TheVariants.{Anywhere, In, Nothing, Tested}
 use Rattle.graph_layout.specs.Names.{Names, scalar_of, scalar_named, object_of, object_location, pick}
-use Rattle.graph_layout.specs.Writes.{writes, is_location_moved}
+use Rattle.graph_layout.specs.Writes.{writes}
 use Rattle.graph_layout.specs.Laid.{Laid, PlaceLaid, pair, behind_move, use_for, begun_at, begun_behind, void_arms_laid, arms_laid, assigned_laid, updated_laid, step_laid, called_laid, loaded_laid, object_laid}
 use Rattle.graph_layout.specs.Layout.{laid, place_laid, address_laid, passed_laid, scales}
 use Rattle.graph_scale.specs.Scales.{is_scaled}
 use Rattle.graph_values.proofs.Leads.{Setting, names_in, size_in}
 use Rattle.graph_values.proofs.Kept.{ScalarsFirst}
-use Rattle.graph_values.proofs.Later.{some_same}
 use Rattle.graph_values.proofs.Types.{object_is, value_is}
-use Rattle.graph_values.proofs.Operands.{IsFreeOf, Apart, ApartIn, behind_le}
+use Rattle.graph_values.proofs.Operands.{behind_le}
 use Rattle.graph_values.proofs.Arithmetic.{pick_between}
 use Rattle.graph_values.proofs.Lays.{lays, place_lays, passed_lays}
-use Rattle.graph_stores.proofs.Shapes.{fits_of, kind_by, two_true, three_true, array_of, pointer_object}
+use Rattle.graph_stores.proofs.Shapes.{two_true, three_true, array_of, pointer_object}
 use Rattle.graph_stores.proofs.Fresh.{two_above, begun_above, behind_above}
 
 -- a pointer to an array is in no variable
