@@ -1,13 +1,13 @@
 -- Addresses of objects, and arrays that decay.
-use Rattle.std.proofs.Common.{◌≡◌, ◌≢◌, ℕ, zero, suc, ◌+◌, ◌<◌, ◌≤◌, ◌⊎◌, inl, inr, List, [], ◌∷◌, Option, Some, None, Bool, true, false, not, slice_get, refl, sym, ap, ◌∙◌, subst, arith}
-use Rattle.std.specs.Prelude.{◌==◌, if◌then◌else◌, nat_le, option_map}
+use Rattle.std.proofs.Common.{◌≡◌, ℕ, ◌+◌, ◌≤◌, ◌⊎◌, inl, inr, List, Option, Some, None, Bool, true, false, slice_get, refl, sym, ap, ◌∙◌, subst, arith}
+use Rattle.std.specs.Prelude.{if◌then◌else◌, nat_le, option_map}
 use Rattle.std.specs.Option.{option_map_or}
 use Rattle.std.proofs.lemmas.Bool.Decides.{nat_tests}
 use Rattle.word_base.specs.Owners.{Static, Literal, Variable}
 use Rattle.c_tree.specs.declared.object_type.ObjectType.{ObjectType}
 use Rattle.c_tree.specs.declared.object_type.Object as designator
 use Rattle.c_tree.specs.declared.object_type.Object.TheVariants as object
-use Rattle.c_tree.specs.TypedExpressions.{RvalueTree, LvalueTree, Decay, AddressOf, Named, Target}
+use Rattle.c_tree.specs.TypedExpressions.{RvalueTree, Decay, AddressOf, Named, Target}
 use Rattle.c_law_types.specs.Expressions.{kind_of}
 use Rattle.c_memory.specs.declared.value.Value as source-value
 use Rattle.c_memory.specs.declared.value.Value.TheVariants as source
@@ -16,7 +16,6 @@ use Rattle.c_states.specs.declared.event.Ending.TheVariants as ending
 use Rattle.c_states.specs.States.{State, Evaluated, Gives, Leaves, Ends, given, with, usable}
 use Rattle.c_meaning.specs.Expressions.{Calls, evaluate, designate}
 use Rattle.c_states.specs.Steps.{named, decayed}
-use Rattle.graph_core.specs.declared.value.Value.{Value}
 use Rattle.graph_core.specs.declared.value.Value.TheVariants.{Pointer, Odd}
 use Rattle.graph_core.specs.Graphs.{Operand, Name, StaticAddress, Static as StaticPlace, Instruction, Address, End}
 use Rattle.graph_core.specs.Memory.{Object, Memory, bytes_of, address_of, address_in}
@@ -35,7 +34,7 @@ use Rattle.graph_values.proofs.Results.{ToR, UnusedR, Result, stuck_now, ended_r
 use Rattle.graph_values.proofs.Leaves.{leaf_done, operated_done, with_then, left_stuck}
 use Rattle.graph_values.proofs.Typing.{Typed, gave_by, kind_word}
 use Rattle.graph_values.proofs.Standing.{Stands}
-use Rattle.graph_values.proofs.Operands.{Apart, Aims, Does, code_in, value_in, written_by}
+use Rattle.graph_values.proofs.Operands.{Aims, Does, code_in, value_in, written_by}
 use Rattle.graph_values.proofs.Arithmetic.{pick_between}
 use Rattle.graph_values.proofs.Places.{place_in, pointed_in, DoesPlace, StaticsThere, variable_place, static_place, literal_place}
 use Rattle.graph_stores.proofs.Holding.{place_next}

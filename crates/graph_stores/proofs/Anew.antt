@@ -1,21 +1,21 @@
 -- A scalar's value changes, and is noted.
-use Rattle.std.proofs.Common.{◌≡◌, ◌≢◌, ℕ, zero, suc, ◌+◌, ◌<◌, ◌≤◌, List, [], ◌∷◌, length, Option, Some, None, Bool, true, false, not, ◌||◌, slice_get, slice_set, refl, sym, ap, ◌∙◌, subst, arith, ℤ, pos}
+use Rattle.std.proofs.Common.{◌≡◌, ◌≢◌, ℕ, ◌<◌, ◌≤◌, List, ◌∷◌, length, Option, Some, None, Bool, true, false, slice_get, slice_set, refl, sym, ap, ◌∙◌, subst, arith}
 use Rattle.std.specs.Prelude.{◌==◌, if◌then◌else◌, option_map, option_and_then}
 use Rattle.std.specs.Option.{option_map_or}
 use Rattle.std.proofs.lemmas.Bool.{eqb-true}
 use Rattle.std.proofs.lemmas.Bool.Decides.{nat_tests}
-use Rattle.word_base.specs.Owners.{Owner, Variable}
+use Rattle.word_base.specs.Owners.{Variable}
 use Rattle.c_tree.specs.declared.object_type.ObjectType.{ObjectType}
 use Rattle.c_tree.specs.declared.object_type.ValueType.{ValueType}
 use Rattle.c_tree.specs.declared.object_type.Object.TheVariants as object
-use Rattle.c_tree.specs.TypedExpressions.{LvalueTree, Named}
+use Rattle.c_tree.specs.TypedExpressions.{Named}
 use Rattle.c_type_rules.specs.Types.{loaded}
 use Rattle.c_memory.specs.declared.value.Value as source-value
 use Rattle.c_memory.specs.declared.value.Value.TheVariants as source
 use Rattle.c_memory.specs.declared.value.Phase.TheVariants.{Ended}
 use Rattle.c_memory.specs.Memory.{Object as SourceObject, Memory as SourceMemory, is_usable, is_begun, is_writable, object_of, value_in as value_at, written_in, index_at, set_value, with_value}
 use Rattle.c_states.specs.declared.event.Ending.TheVariants as ending
-use Rattle.c_states.specs.States.{State, Evaluated, Gives, Leaves, Ends, given, with, usable, Both, Pair, NoPair}
+use Rattle.c_states.specs.States.{State, Evaluated, Gives, Ends, given, with, usable, Both, Pair, NoPair}
 use Rattle.c_meaning.specs.Expressions.{Calls, designate}
 use Rattle.c_states.specs.Steps.{store, stored, located, read_by}
 use Rattle.graph_core.specs.declared.value.Value.{Value}

@@ -1,73 +1,50 @@
 -- Assignments to memory do what they mean.
-use Rattle.std.proofs.Common.{◌≡◌, ◌≢◌, ℕ, zero, suc, ◌+◌, ◌-◌, ◌*◌, ◌/◌, ◌%◌, ◌<◌, ◌≤◌, ◌⊎◌, inl, inr, List, [], ◌∷◌, ◌++◌, length, Option, Some, None, Bool, true, false, not, ◌&&◌, ◌||◌, slice_get, slice_set, refl, sym, ap, ◌∙◌, subst, arith, ℤ, pos, negsuc}
-use Rattle.std.specs.Prelude.{◌==◌, if◌then◌else◌, nat_le, nat_lt, option_map, option_and_then}
-use Rattle.std.specs.Option.{option_map_or}
-use Rattle.std.proofs.lemmas.Option.{slice_get_within}
+use Rattle.std.proofs.Common.{◌≡◌, ◌≢◌, ℕ, ◌<◌, ◌≤◌, Option, Some, None, Bool, true, false, ◌||◌, refl, sym, ap, subst, arith}
+use Rattle.std.specs.Prelude.{nat_lt}
 use Rattle.std.proofs.lemmas.Bool.Decides.{nat_tests}
-use Rattle.word_base.specs.Owners.{Owner, Static, Literal, Variable}
-use Rattle.c_tree.specs.declared.types.IntegerType.{IntegerType}
 use Rattle.c_tree.specs.declared.object_type.Scalar.{Scalar}
-use Rattle.c_tree.specs.declared.object_type.ObjectType.{ObjectType}
 use Rattle.c_tree.specs.declared.object_type.ObjectType.TheVariants as of-object
-use Rattle.c_tree.specs.declared.object_type.ValueType.{ValueType}
-use Rattle.c_tree.specs.declared.object_type.ValueType.TheVariants.{Void, Integer, Pointer as PointerType}
-use Rattle.c_tree.specs.declared.object_type.Object.TheVariants as object
-use Rattle.c_tree.specs.TypedExpressions.{RvalueTree, LvalueTree, Assign, Named, Target, Element, ElementFrom}
-use Rattle.c_tree.specs.Programs.{AutomaticTree, ProgramTree}
+use Rattle.c_tree.specs.declared.object_type.ValueType.TheVariants.{Pointer as PointerType}
+use Rattle.c_tree.specs.TypedExpressions.{RvalueTree, LvalueTree, Assign}
 use Rattle.c_type_rules.specs.Types.{loaded}
 use Rattle.c_value_types.specs.ValueTypes.{object_type}
-use Rattle.c_law_types.specs.declared.kind.Kind.{Kind}
 use Rattle.c_law_types.specs.declared.kind.Kind.TheVariants.{Of}
 use Rattle.c_law_types.specs.Kinds.{is_of}
 use Rattle.c_law_types.specs.Expressions.{kind_of}
 use Rattle.c_memory.specs.declared.value.Value as source-value
-use Rattle.c_memory.specs.declared.value.Value.TheVariants as source
-use Rattle.c_memory.specs.declared.value.Phase.TheVariants.{Live, Ended}
-use Rattle.c_states.specs.declared.event.Ending.{Ending}
 use Rattle.c_states.specs.declared.event.Ending.TheVariants as ending
-use Rattle.c_memory.specs.Types.{scalar_size, element_of}
-use Rattle.c_memory.specs.Memory.{Object as SourceObject, Memory as SourceMemory, is_over, is_literal, is_writable, index_at, set_value, with_value, written_in as written_there}
-use Rattle.c_states.specs.States.{State, Evaluated, Gives, Leaves, Ends, given, with, both, on_both}
+use Rattle.c_memory.specs.Types.{element_of}
+use Rattle.c_states.specs.States.{State, with}
 use Rattle.c_meaning.specs.Expressions.{Calls, evaluate, designate}
-use Rattle.c_states.specs.Steps.{store, stored as kept_in}
+use Rattle.c_states.specs.Steps.{store}
 use Rattle.graph_core.specs.declared.value.Value.{Value}
-use Rattle.graph_core.specs.declared.value.Value.TheVariants.{Number, Pointer, Odd}
-use Rattle.graph_core.specs.declared.instruction.Element as declared-element
-use Rattle.graph_core.specs.Graphs as unit
-use Rattle.graph_core.specs.Graphs.{Operand, Name, Constant, StaticAddress, Location, Automatic, Static as StaticPlace, At, Instruction, Store, End, StaticObject}
-use Rattle.graph_core.specs.Memory.{Object, Memory, bytes_of, write, write_in, written_in, index_in, address_in}
-use Rattle.graph_core.specs.Runs.{Stepped, Goes, Wild, step, value, pointed, with_memory}
-use Rattle.graph_core.specs.Values.{is_odd, as_element, pointer_at}
-use Rattle.graph_scale.specs.Operands.{held, operand_at, located}
-use Rattle.graph_layout.specs.declared.laid.Use.TheVariants.{Anywhere, In, Nothing, Tested}
-use Rattle.graph_layout.specs.Names.{scalar_named, pick}
-use Rattle.graph_layout.specs.Laid.{Laid, PlaceLaid, behind_move, use_for, assigned_laid, begun_at}
+use Rattle.graph_core.specs.Graphs.{Operand, Name, Constant, StaticAddress, Location, Automatic, Static as StaticPlace, At}
+use Rattle.graph_core.specs.Runs.{value}
+use Rattle.graph_scale.specs.Operands.{operand_at}
+use Rattle.graph_layout.specs.declared.laid.Use.TheVariants.{Anywhere, In}
+use Rattle.graph_layout.specs.Names.{scalar_named}
+use Rattle.graph_layout.specs.Laid.{behind_move, use_for, assigned_laid, begun_at}
 use Rattle.graph_layout.specs.Layout.{laid, place_laid}
-use Rattle.graph_layout.specs.Writes.{writes, writes_within, is_that, is_moved, is_location_moved}
+use Rattle.graph_layout.specs.Writes.{writes, writes_within, is_that, is_location_moved}
 use Rattle.graph_drafts.specs.Rules as rule
-use Rattle.graph_drafts.specs.Drafts.{Made, Goal, To, Unused, Either, before, leaf, use_of, noted, move_if, hold_location, held_location, stored}
-use Rattle.graph_code.specs.Code.{code, code_place}
+use Rattle.graph_drafts.specs.Drafts.{Made, Goal, To, Unused, Either, use_of, noted, hold_location, held_location, stored}
+use Rattle.graph_code.specs.Code.{code_place}
 use Rattle.graph_code.specs.Steps.{assigned_memory}
-use Rattle.graph_values.specs.Typed.{PointsInto, IsOf, IsPointerTo}
-use Rattle.graph_values.specs.Correspondence.{IsInMemory, SameObject, SamePointer, SameValue, SameValues}
-use Rattle.graph_values.proofs.Words.{both_true}
-use Rattle.graph_values.proofs.Tests.{HasWord}
-use Rattle.graph_values.proofs.Leads.{Setting, names_in, size_in, depth_in, Local, World, here_at, at, Leads, stays, goes, then_leads, less_other}
-use Rattle.graph_values.proofs.Later.{Later, later_refl, later_set, OthersLater, others_refl, others_set, others_trans, value_later, same_bytes}
+use Rattle.graph_values.specs.Typed.{IsOf, IsPointerTo}
+use Rattle.graph_values.specs.Correspondence.{SameValue}
+use Rattle.graph_values.proofs.Leads.{Setting, names_in, size_in, depth_in, Local, World}
+use Rattle.graph_values.proofs.Later.{others_refl, value_later}
 use Rattle.graph_values.proofs.Kept.{is_want, Sound, Fits, ScalarsFirst}
-use Rattle.graph_values.proofs.Results.{Kept, Reached, Passes, to_made, operand_in, Stuck, Valued, ToR, Result, stuck_now, ended_result, result_after, stuck_after}
-use Rattle.graph_values.proofs.Leaves.{leaf_done, left_stuck, both_with}
+use Rattle.graph_values.proofs.Results.{operand_in, Result, stuck_now, ended_result, result_after}
+use Rattle.graph_values.proofs.Leaves.{both_with}
 use Rattle.graph_values.proofs.Noting.{known_value, other_number}
-use Rattle.graph_values.proofs.Typing.{Keeps, Gave, Typed, gave_by, of_later, of_word}
+use Rattle.graph_values.proofs.Typing.{Keeps, Typed, gave_by, of_later, of_word}
 use Rattle.graph_values.proofs.Types.{kind_is_of}
 use Rattle.graph_values.proofs.Standing.{Stands, hold_inner}
-use Rattle.graph_values.proofs.Operands.{IsFreeOf, Apart, Aims, Does, code_in, value_in, written_by, IsBelow, Spares, or_false, hold_done, behind_le}
-use Rattle.graph_values.proofs.Elements.{reaches, element_keeps}
-use Rattle.graph_values.proofs.Access.{leads_to, index_is}
-use Rattle.graph_values.proofs.Storing.{fits_stored}
+use Rattle.graph_values.proofs.Operands.{IsFreeOf, Aims, Does, code_in, value_in, written_by, Spares, or_false, behind_le}
 use Rattle.graph_values.proofs.Meant.{TypedPlace}
-use Rattle.graph_values.proofs.Places.{place_in, placing, within_written, pointed_in, Located, PlaceR, DoesPlace}
-use Rattle.graph_values.proofs.Loading.{pointed_same, PlaceLays}
+use Rattle.graph_values.proofs.Places.{place_in, placing, within_written, pointed_in, DoesPlace}
+use Rattle.graph_values.proofs.Loading.{PlaceLays}
 use Rattle.graph_stores.proofs.Writing.{store_cases, want_by, stored_done}
 use Rattle.graph_stores.proofs.Holding.{IsPlaceAside, IsPlaceBelow, hold_place, place_stays, with_wanted, place_next}
 

@@ -1,5 +1,5 @@
 -- The induction over all expressions but differences of pointers: each construct is a lemma of its own, and the induction only names them.
-use Rattle.std.proofs.Common.{◌≡◌, ℕ, ◌+◌, ◌-◌, ◌%◌, ◌<◌, ◌≤◌, List, [], ◌∷◌, Option, Some, None, Bool, true, false, slice_get, refl, sym, subst, arith, ℤ, pos, negsuc}
+use Rattle.std.proofs.Common.{◌≡◌, ℕ, ◌+◌, ◌-◌, ◌%◌, ◌<◌, List, [], ◌∷◌, Option, Some, None, true, false, slice_get, refl, sym, subst, arith, ℤ, pos, negsuc}
 use Rattle.std.specs.Prelude.{option_map}
 use Rattle.std.proofs.lemmas.Bool.Decides.{nat_tests}
 use Rattle.word_base.specs.Types.{holds, char_type, converted}
@@ -14,7 +14,7 @@ use Rattle.c_tree.specs.declared.object_type.Object.TheVariants as object
 use Rattle.c_tree.specs.declared.typed_expression.Arithmetic as declared-arithmetic
 use Rattle.c_tree.specs.declared.typed_expression.Comparison as declared-comparison
 use Rattle.c_tree.specs.declared.typed_expression.Direction.{Direction}
-use Rattle.c_tree.specs.declared.typed_expression.Direction.TheVariants.{Up, Down}
+use Rattle.c_tree.specs.declared.typed_expression.Direction.TheVariants.{Up}
 use Rattle.c_tree.specs.declared.typed_expression.Given.{Given}
 use Rattle.c_tree.specs.declared.typed_expression.Sign as declared-sign
 use Rattle.c_tree.specs.declared.typed_expression.Sign.TheVariants as sign

@@ -145,15 +145,15 @@ module _ (n : Names) (size : ℕ) (low : (v k : ℕ) → scalar_of n v ≡ Some 
   moved_fresh : (u : Use) → NotIn u → (bytes : ℕ) (index : Operand) (t : ℕ) (q : Pair) → t ≤ q.next → IsFresh size t (moved_laid n u t bytes index q).value
   moved_fresh u no_in bytes index t q le = operation_fresh u no_in t t (behind_move (is_scaled bytes index) q.next) q.top (omega arith) (let k = behind_le (is_scaled bytes index) q.next in omega (arith, le, k))
 
-  begun_above : (o : Option ℕ) (t : ℕ) (written : ℕ → Bool) (place : PlaceLaid) → t ≤ place.next → t ≤ begun_at o t written place
+  pub begun_above : (o : Option ℕ) (t : ℕ) (written : ℕ → Bool) (place : PlaceLaid) → t ≤ place.next → t ≤ begun_at o t written place
   begun_above (Some y) t written place le = omega arith
   begun_above None t written place le = let k = behind_le (is_location_moved written place.location) place.next in omega (arith, le, k)
 
-  behind_above : (o : Option ℕ) (t : ℕ) (written : ℕ → Bool) (place : PlaceLaid) → t ≤ place.next → t ≤ begun_behind o t written place
+  pub behind_above : (o : Option ℕ) (t : ℕ) (written : ℕ → Bool) (place : PlaceLaid) → t ≤ place.next → t ≤ begun_behind o t written place
   behind_above (Some y) t written place le = behind_le (written y) t
   behind_above None t written place le = let k = behind_le (is_location_moved written place.location) (place.next + 1) in omega (arith, le, k)
 
-  two_above : (a b : RvalueTree) (t : ℕ) → size ≤ t → t ≤ (pair (λ y. writes n y b) (laid n a Anywhere t) (laid n b Anywhere)).next
+  pub two_above : (a b : RvalueTree) (t : ℕ) → size ≤ t → t ≤ (pair (λ y. writes n y b) (laid n a Anywhere t) (laid n b Anywhere)).next
   two_above a b t le =
       let first = (lays n size low a Anywhere t le).next in
       let held = behind_le (is_moved (λ y. writes n y b) (laid n a Anywhere t).value) (laid n a Anywhere t).next in

@@ -21,3 +21,7 @@ pub mod VoidChoices
 pub mod Updates
 pub mod UpdatesDo
 pub mod Expressions
+pub mod Shapes
+pub mod Coding
+pub mod NamedPlaces
+pub mod Apartness

@@ -1,15 +1,13 @@
 -- Pointers move in the unit as in the source.
-use Rattle.std.proofs.Common.{◌≡◌, ◌≢◌, ℕ, zero, suc, ◌+◌, ◌-◌, ◌*◌, ◌/◌, ◌%◌, ◌^◌, ◌<◌, ◌≤◌, ◌⊎◌, inl, inr, List, [], ◌∷◌, ◌++◌, length, Option, Some, None, Bool, true, false, not, ◌&&◌, ◌||◌, slice_get, slice_set, refl, sym, ap, ◌∙◌, subst, arith, ℤ, pos, negsuc, ◌+ℤ◌, ◌-ℤ◌, ◌*ℤ◌, neg_ℤ}
-use Rattle.std.specs.Prelude.{◌==◌, if◌then◌else◌, nat_le, nat_lt, option_map, option_and_then}
-use Rattle.std.specs.Option.{option_map_or}
-use Rattle.std.proofs.lemmas.Bool.{eqb-true, leb-true}
+use Rattle.std.proofs.Common.{◌≡◌, ◌≢◌, ℕ, zero, suc, ◌+◌, ◌*◌, ◌/◌, ◌<◌, ◌≤◌, ◌⊎◌, inl, inr, length, Option, Some, None, Bool, true, false, not, slice_get, refl, sym, ap, ◌∙◌, subst, arith, ℤ, pos, negsuc, ◌+ℤ◌, ◌*ℤ◌, neg_ℤ}
+use Rattle.std.specs.Prelude.{◌==◌, if◌then◌else◌, nat_le, option_map, option_and_then}
+use Rattle.std.proofs.lemmas.Bool.{leb-true}
 use Rattle.std.proofs.lemmas.Bool.Decides.{nat_tests}
 use Rattle.std.proofs.lemmas.Int.{ints}
 use Rattle.std.proofs.Math.Nat.{mul_comm, mul_assoc}
 use Rattle.word_base.specs.Owners.{Owner}
 use Rattle.c_tree.specs.declared.types.IntegerType.{IntegerType}
 use Rattle.c_tree.specs.declared.types.IntegerType.TheVariants.{Char, SignedChar, UnsignedChar, Short, UnsignedShort, Int, UnsignedInt, Long, UnsignedLong}
-use Rattle.c_tree.specs.declared.object_type.Scalar.{Scalar}
 use Rattle.c_tree.specs.declared.object_type.ObjectType.{ObjectType}
 use Rattle.c_tree.specs.declared.object_type.ObjectType.TheVariants as of-object
 use Rattle.c_tree.specs.declared.typed_expression.Direction.{Direction}
@@ -26,11 +24,11 @@ use Rattle.c_memory.specs.Operations.{distance, moved_by}
 use Rattle.c_states.specs.States.{State}
 use Rattle.graph_core.specs.declared.value.Value.{Value}
 use Rattle.graph_core.specs.declared.value.Value.TheVariants.{Number, Pointer, Odd}
-use Rattle.graph_core.specs.Memory.{Object, Memory, bytes_of}
+use Rattle.graph_core.specs.Memory.{Object, bytes_of}
 use Rattle.graph_core.specs.Values.{operate, pointer_at, size_of}
 use Rattle.graph_scale.specs.Conversions.{word_of}
 use Rattle.graph_drafts.specs.Rules.{move_by}
-use Rattle.graph_values.specs.Typed.{PointsInto, IsPointerTo}
+use Rattle.graph_values.specs.Typed.{IsPointerTo}
 use Rattle.graph_values.specs.Correspondence.{SameObject, points, SameValue}
 use Rattle.graph_values.proofs.Words.{word_sum, word_difference, word_below}
 use Rattle.graph_values.proofs.Tests.{HasWord}

@@ -1,15 +1,15 @@
 -- Sums and differences of pointers and indices, and the elements where they point.
-use Rattle.std.proofs.Common.{◌≡◌, ◌≢◌, ℕ, zero, suc, ◌+◌, ◌-◌, ◌*◌, ◌<◌, ◌≤◌, ◌⊎◌, inl, inr, List, [], ◌∷◌, Option, Some, None, Bool, true, false, not, ◌||◌, refl, sym, ap, ◌∙◌, subst, arith, ℤ, pos, ◌*ℤ◌}
-use Rattle.std.specs.Prelude.{◌==◌, if◌then◌else◌}
+use Rattle.std.proofs.Common.{◌≡◌, ℕ, ◌≤◌, ◌⊎◌, inl, inr, List, Option, Some, None, Bool, true, false, ◌||◌, refl, sym, ap, ◌∙◌, subst, arith, ℤ, pos, ◌*ℤ◌}
+use Rattle.std.specs.Prelude.{◌==◌}
 use Rattle.word_base.specs.declared.operation.Operation.TheVariants as operation
 use Rattle.c_tree.specs.declared.object_type.ObjectType.{ObjectType}
 use Rattle.c_tree.specs.declared.typed_expression.Direction.{Direction}
-use Rattle.c_tree.specs.declared.typed_expression.Direction.TheVariants.{Up, Down}
+use Rattle.c_tree.specs.declared.typed_expression.Direction.TheVariants.{Up}
 use Rattle.c_tree.specs.TypedExpressions.{RvalueTree, LvalueTree, AddressOf, Decay, Move, MoveFrom, Element, ElementFrom}
 use Rattle.c_type_rules.specs.Integers.{object_size}
 use Rattle.c_memory.specs.declared.value.Value as source-value
 use Rattle.c_memory.specs.declared.value.Value.TheVariants as source
-use Rattle.c_memory.specs.Memory.{Memory as SourceMemory, read}
+use Rattle.c_memory.specs.Memory.{read}
 use Rattle.c_states.specs.Steps.{decayed, if_read}
 use Rattle.graph_layout.specs.Writes.{writes}
 use Rattle.graph_code.specs.Steps.{in_turn}
@@ -17,7 +17,6 @@ use Rattle.c_memory.specs.Operations.{moved_by}
 use Rattle.c_states.specs.declared.event.Ending.TheVariants as ending
 use Rattle.c_states.specs.States.{State, Evaluated, Gives, Leaves, Ends, given, with, Both, Pair, NoPair, both, on_both}
 use Rattle.c_meaning.specs.Expressions.{Calls, evaluate}
-use Rattle.graph_core.specs.declared.value.Value.{Value}
 use Rattle.graph_core.specs.declared.value.Value.TheVariants.{Number}
 use Rattle.graph_core.specs.Graphs.{Operand, Name, Constant, StaticAddress, At, Instruction, Operate, End}
 use Rattle.graph_core.specs.Runs.{Goes, value}
@@ -30,14 +29,13 @@ use Rattle.graph_layout.specs.Laid.{behind_move}
 use Rattle.graph_drafts.specs.Rules.{move_by}
 use Rattle.graph_drafts.specs.Drafts.{Made, Goal, To, Unused, Either, before, target, follow, code_scaled_pair}
 use Rattle.graph_values.specs.Correspondence.{SameValue}
-use Rattle.graph_values.proofs.Tests.{HasWord}
 use Rattle.graph_values.proofs.Leads.{Setting, names_in, size_in, depth_in, Local, World, set_name, at, less_other}
 use Rattle.graph_values.proofs.Later.{others_refl}
 use Rattle.graph_values.proofs.Kept.{Sound, Fits, ScalarsFirst, fits_temporary}
 use Rattle.graph_values.proofs.Results.{ToR, Result, stuck_now, ended_result, result_after}
 use Rattle.graph_values.proofs.Leaves.{operated_done, left_stuck}
 use Rattle.graph_values.proofs.Typing.{Typed}
-use Rattle.graph_values.proofs.Standing.{Stands, Grows}
+use Rattle.graph_values.proofs.Standing.{Grows}
 use Rattle.graph_values.proofs.Operands.{Apart, Aims, Does, code_in, value_in, IsBelow, Low, Spares, behind_le, pair_in, pair_does}
 use Rattle.graph_values.proofs.Arithmetic.{pick_between}
 use Rattle.graph_values.proofs.Places.{place_in, within_written, pointed_in, PlaceR, DoesPlace}

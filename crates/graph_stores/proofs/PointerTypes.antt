@@ -1,5 +1,5 @@
 -- What expressions on pointers and memory come to is of their types.
-use Rattle.std.proofs.Common.{◌≡◌, ℕ, zero, suc, ◌⊎◌, inl, inr, List, Option, Some, None, Bool, true, false, not, ◌&&◌, refl, sym, ap, ◌∙◌, subst, ℤ, pos, negsuc, ◌-ℤ◌}
+use Rattle.std.proofs.Common.{◌≡◌, ℕ, ◌⊎◌, inl, inr, Option, Some, None, Bool, true, false, not, ◌&&◌, refl, sym, ◌∙◌, subst, ℤ, pos, negsuc, ◌-ℤ◌}
 use Rattle.std.specs.Prelude.{◌==◌, if◌then◌else◌, option_map}
 use Rattle.word_base.specs.Owners.{Literal}
 use Rattle.word_base.specs.Types.{holds}
@@ -15,7 +15,7 @@ use Rattle.c_tree.specs.declared.object_type.Object.TheVariants as object
 use Rattle.c_tree.specs.declared.typed_expression.Comparison as declared-comparison
 use Rattle.c_tree.specs.declared.typed_expression.Comparison.TheVariants as comparison
 use Rattle.c_tree.specs.declared.typed_expression.Direction.{Direction}
-use Rattle.c_tree.specs.declared.typed_expression.Direction.TheVariants.{Up, Down}
+use Rattle.c_tree.specs.declared.typed_expression.Direction.TheVariants.{Up}
 use Rattle.c_tree.specs.declared.typed_expression.Given.{Given}
 use Rattle.c_tree.specs.declared.typed_expression.Given.TheVariants.{New, Old}
 use Rattle.c_tree.specs.declared.typed_expression.Sign as declared-sign

@@ -1,5 +1,5 @@
 -- What operators give of numbers of their type is of their type, and each operation of the machine computes it.
-use Rattle.std.proofs.Common.{◌≡◌, ℕ, zero, suc, ◌+◌, ◌*◌, ◌/◌, ◌%◌, ◌^◌, ◌<◌, ◌≤◌, ◌⊎◌, inl, inr, Bool, true, false, not, ◌&&◌, Option, Some, None, refl, sym, ap, ◌∙◌, arith, ℤ, pos, negsuc, ◌+ℤ◌, ◌-ℤ◌, ◌*ℤ◌, bit_and, bit_or, bit_xor}
+use Rattle.std.proofs.Common.{◌≡◌, ℕ, suc, ◌/◌, ◌%◌, ◌^◌, ◌<◌, ◌≤◌, ◌⊎◌, inl, inr, Bool, true, false, not, ◌&&◌, Option, Some, None, refl, sym, ap, ◌∙◌, arith, ℤ, pos, negsuc, ◌+ℤ◌, ◌-ℤ◌, ◌*ℤ◌, bit_and, bit_or, bit_xor}
 use Rattle.std.specs.Prelude.{◌==◌, if◌then◌else◌, int_le, int_lt, nat_le, int_div, int_rem, unsigned_abs}
 use Rattle.std.proofs.lemmas.Int.{ints, rem_below}
 use Rattle.std.proofs.lemmas.Nat.{and_le_l, or_lt, xor_lt, shr_le, mod_below}

@@ -1,5 +1,5 @@
 -- Updates and steps of scalars.
-use Rattle.std.proofs.Common.{◌≡◌, ◌≢◌, ℕ, zero, suc, ◌+◌, ◌<◌, ◌≤◌, List, [], ◌∷◌, Option, Some, None, Bool, true, false, not, ◌||◌, refl, sym, ap, ◌∙◌, subst, arith, ℤ, pos}
+use Rattle.std.proofs.Common.{◌≡◌, ℕ, ◌+◌, ◌<◌, ◌≤◌, ◌∷◌, Option, Some, None, Bool, true, false, ◌||◌, refl, sym, ◌∙◌, subst, arith}
 use Rattle.std.specs.Prelude.{◌==◌, if◌then◌else◌}
 use Rattle.std.proofs.lemmas.Bool.{eqb-true}
 use Rattle.std.proofs.lemmas.Bool.Decides.{nat_tests}
@@ -14,13 +14,13 @@ use Rattle.c_memory.specs.declared.value.Value as source-value
 use Rattle.c_memory.specs.declared.value.Value.TheVariants as source
 use Rattle.c_memory.specs.Memory.{Memory as SourceMemory}
 use Rattle.c_states.specs.declared.event.Ending.TheVariants as ending
-use Rattle.c_states.specs.States.{State, Evaluated, Gives, Ends, with, Both, on_both}
+use Rattle.c_states.specs.States.{State, Evaluated, Gives, Ends, with, on_both}
 use Rattle.c_meaning.specs.Expressions.{Calls, evaluate, designate}
 use Rattle.c_states.specs.Steps.{located, store_if, replace_if, one}
 use Rattle.graph_core.specs.declared.value.Value.{Value}
 use Rattle.graph_core.specs.declared.value.Value.TheVariants.{Number}
 use Rattle.graph_core.specs.Graphs.{Operand, Name, Constant, Move}
-use Rattle.graph_core.specs.Runs.{put, value}
+use Rattle.graph_core.specs.Runs.{value}
 use Rattle.graph_scale.specs.Operands.{held}
 use Rattle.graph_layout.specs.declared.laid.Use.TheVariants.{Anywhere}
 use Rattle.graph_layout.specs.Names.{scalar_of}

@@ -1,23 +1,20 @@
 -- Indices become distances in bytes.
-use Rattle.std.proofs.Common.{◌≡◌, ◌≢◌, ℕ, zero, suc, ◌+◌, ◌-◌, ◌*◌, ◌/◌, ◌%◌, ◌^◌, ◌<◌, ◌≤◌, ◌⊎◌, inl, inr, List, [], ◌∷◌, ◌++◌, length, Option, Some, None, Bool, true, false, not, ◌&&◌, ◌||◌, slice_get, slice_set, refl, sym, ap, ◌∙◌, subst, arith, ℤ, pos, negsuc, ◌+ℤ◌, ◌-ℤ◌, ◌*ℤ◌}
-use Rattle.std.specs.Prelude.{◌==◌, if◌then◌else◌, nat_le, nat_lt, option_map, option_and_then}
-use Rattle.std.specs.Option.{option_map_or}
-use Rattle.std.proofs.lemmas.Bool.{eqb-true, leb-true}
-use Rattle.std.proofs.lemmas.Bool.Decides.{nat_tests}
+use Rattle.std.proofs.Common.{◌≡◌, ℕ, zero, suc, ◌+◌, ◌*◌, ◌%◌, ◌^◌, ◌<◌, ◌≤◌, List, ◌∷◌, Option, Some, None, Bool, true, false, not, refl, sym, ap, ◌∙◌, arith, ℤ, pos, negsuc, ◌*ℤ◌}
+use Rattle.std.specs.Prelude.{◌==◌, if◌then◌else◌}
+use Rattle.std.proofs.lemmas.Bool.{eqb-true}
 use Rattle.std.proofs.lemmas.Int.{ints}
 use Rattle.std.proofs.lemmas.Nat.{mul-mod_second}
 use Rattle.word_base.specs.Types.{unsigned_type, bits_of}
 use Rattle.word_base.specs.WordOperations.{operated as operated_words}
 use Rattle.word_base.specs.declared.operation.Operation.TheVariants as operation
 use Rattle.graph_core.specs.declared.value.Value.{Value}
-use Rattle.graph_core.specs.declared.value.Value.TheVariants.{Number, Pointer, Odd}
-use Rattle.graph_core.specs.Graphs as unit
-use Rattle.graph_core.specs.Graphs.{Operand, Name, Constant, StaticAddress, Instruction, End, StaticObject}
+use Rattle.graph_core.specs.declared.value.Value.TheVariants.{Number}
+use Rattle.graph_core.specs.Graphs.{Operand, Name, Constant, StaticAddress, Instruction, End}
 use Rattle.graph_core.specs.Runs.{Goes, step, value}
 use Rattle.graph_core.specs.Values.{operate}
 use Rattle.graph_scale.specs.Conversions.{word_of}
-use Rattle.graph_scale.specs.Scales.{shift_from, shift_of, is_scaled, scaled}
-use Rattle.graph_drafts.specs.Drafts.{Made, Goal, before, scaling, scale}
+use Rattle.graph_scale.specs.Scales.{shift_from, shift_of, scaled}
+use Rattle.graph_drafts.specs.Drafts.{Made, before, scaling, scale}
 use Rattle.graph_values.proofs.Leads.{Setting, size_in, Local, World, set_name, at, stays, goes, put_here, put_elsewhere}
 use Rattle.graph_values.proofs.Results.{Passes}
 use Rattle.graph_stores.proofs.Products.{word_times}

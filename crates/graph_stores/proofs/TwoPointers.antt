@@ -1,5 +1,5 @@
 -- What the unit tells of two pointers is what the source does.
-use Rattle.std.proofs.Common.{◌≡◌, ◌≢◌, ℕ, zero, suc, ◌+◌, ◌<◌, ◌≤◌, ◌⊎◌, inl, inr, List, Option, Some, None, Bool, true, false, not, ◌&&◌, slice_get, refl, sym, ap, ◌∙◌, subst, arith, ℤ, pos}
+use Rattle.std.proofs.Common.{◌≡◌, ◌≢◌, ℕ, inl, inr, Option, Some, None, Bool, true, false, not, ◌&&◌, slice_get, refl, sym, ap, ◌∙◌, arith}
 use Rattle.std.specs.Prelude.{◌==◌, if◌then◌else◌, nat_lt}
 use Rattle.std.specs.Option.{option_map_or}
 use Rattle.std.proofs.lemmas.Bool.{cases_eq}
@@ -15,7 +15,7 @@ use Rattle.c_memory.specs.Operations.{is_same_pointer}
 use Rattle.c_states.specs.States.{State}
 use Rattle.graph_core.specs.declared.value.Value.{Value}
 use Rattle.graph_core.specs.declared.value.Value.TheVariants.{Number, Pointer, Odd}
-use Rattle.graph_core.specs.Memory.{Object, bytes_of, is_live}
+use Rattle.graph_core.specs.Memory.{bytes_of, is_live}
 use Rattle.graph_core.specs.Values.{operate, between, same, truth as truth_of}
 use Rattle.graph_scale.specs.Conversions.{word_of}
 use Rattle.graph_values.specs.Correspondence.{owner_of, SamePointer, SameValue}

@@ -1,5 +1,5 @@
 -- Updates and steps, of scalars and of what is in memory, as nodes of expressions.
-use Rattle.std.proofs.Common.{◌≡◌, ◌≢◌, ℕ, List, ◌+◌, ◌<◌, ◌≤◌, Option, Some, None, Bool, true, false, ◌||◌, slice_get, refl, sym, ap, ◌∙◌, subst}
+use Rattle.std.proofs.Common.{◌≡◌, ℕ, List, ◌+◌, ◌≤◌, Option, Some, None, Bool, false, ◌||◌, slice_get, refl, sym, ap, ◌∙◌, subst}
 use Rattle.std.specs.Prelude.{◌==◌}
 use Rattle.c_tree.specs.declared.object_type.Scalar.{Scalar}
 use Rattle.c_tree.specs.declared.object_type.ObjectType.{ObjectType}
@@ -24,7 +24,7 @@ use Rattle.graph_layout.specs.declared.laid.Use.TheVariants.{Anywhere}
 use Rattle.graph_layout.specs.Names.{scalar_of, scalar_named, pick}
 use Rattle.graph_layout.specs.Laid.{Laid, behind_move, begun_behind, updated_laid, step_laid}
 use Rattle.graph_layout.specs.Layout.{laid, place_laid}
-use Rattle.graph_layout.specs.Writes.{writes, is_that, is_location_moved}
+use Rattle.graph_layout.specs.Writes.{writes, is_that}
 use Rattle.graph_drafts.specs.Rules as rule
 use Rattle.graph_drafts.specs.Drafts.{Made, Goal, To, Unused, Either}
 use Rattle.graph_code.specs.declared.change.Change as declared-change
@@ -40,7 +40,7 @@ use Rattle.graph_values.proofs.Typing.{HasKind, Typed}
 use Rattle.graph_values.proofs.Standing.{Stands}
 use Rattle.graph_values.proofs.Operands.{IsFreeOf, Apart, Aims, Does, code_in, Low, Spares, or_false}
 use Rattle.graph_values.proofs.Meant.{TypedPlace}
-use Rattle.graph_values.proofs.Places.{place_in, within_written, DoesPlace}
+use Rattle.graph_values.proofs.Places.{within_written, DoesPlace}
 use Rattle.graph_values.proofs.Loading.{PlaceLays}
 use Rattle.graph_stores.proofs.Assigning.{PlaceBelow, PlaceFresh, GrowsPlace, AimsPlace}
 use Rattle.graph_stores.proofs.Renewing.{Changes}

@@ -1,5 +1,5 @@
 -- The code of updates and steps does what they mean.
-use Rattle.std.proofs.Common.{◌≡◌, ℕ, ◌+◌, ◌≤◌, Option, Some, None, Bool, true, false, ◌||◌, slice_get, refl, sym, subst, pos}
+use Rattle.std.proofs.Common.{◌≡◌, ℕ, Some, None, true, false, ◌||◌, slice_get, refl, sym, subst, pos}
 use Rattle.word_base.specs.Types.{holds}
 use Rattle.c_tree.specs.declared.types.IntegerType.{IntegerType}
 use Rattle.c_tree.specs.declared.types.IntegerType.TheVariants.{Char, SignedChar, UnsignedChar, Short, UnsignedShort, Int, UnsignedInt, Long, UnsignedLong}
@@ -37,7 +37,7 @@ use Rattle.graph_drafts.specs.Rules.{steps_by, integer_element}
 use Rattle.graph_code.specs.declared.change.Change.TheVariants as change
 use Rattle.graph_code.specs.Code.{code_place}
 use Rattle.graph_code.specs.Steps.{updated, stepped}
-use Rattle.graph_values.proofs.Leads.{Setting, names_in, size_in, depth_in}
+use Rattle.graph_values.proofs.Leads.{Setting, names_in, depth_in}
 use Rattle.graph_values.proofs.Kept.{ScalarsFirst}
 use Rattle.graph_values.proofs.Results.{Result}
 use Rattle.graph_values.proofs.Noting.{ScalarsApart}

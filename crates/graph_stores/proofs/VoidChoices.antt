@@ -1,5 +1,5 @@
 -- A choice between expressions that have no value.
-use Rattle.std.proofs.Common.{◌≡◌, ℕ, ◌+◌, ◌<◌, ◌≤◌, List, [], ◌∷◌, Option, Some, None, Bool, true, false, not, ◌||◌, slice_get, refl, sym, ap, ◌∙◌, subst, arith}
+use Rattle.std.proofs.Common.{◌≡◌, ℕ, ◌+◌, ◌≤◌, List, [], Some, None, Bool, true, false, not, ◌||◌, slice_get, refl, sym, ap, subst, arith}
 use Rattle.std.specs.Prelude.{if◌then◌else◌}
 use Rattle.c_tree.specs.TypedExpressions.{RvalueTree, Conditional}
 use Rattle.c_law_types.specs.Expressions.{kind_of}
@@ -8,27 +8,22 @@ use Rattle.c_memory.specs.declared.value.Value as source-value
 use Rattle.c_states.specs.States.{State, Evaluated, Gives, Leaves, Ends, Tested, Holds, Fails, NoTest, tested, on_test}
 use Rattle.c_meaning.specs.Expressions.{Calls, evaluate}
 use Rattle.c_value_types.specs.ValueTypes.{type_of, is_void}
-use Rattle.graph_core.specs.Graphs.{Operand, Name, Constant, Instruction, End, Jump, Block}
+use Rattle.graph_core.specs.Graphs.{Constant, Instruction, End, Jump, Block}
 use Rattle.graph_core.specs.Runs.{entered}
-use Rattle.graph_layout.specs.declared.laid.Use.{Use}
 use Rattle.graph_layout.specs.declared.laid.Use.TheVariants.{Anywhere, In, Nothing, Tested as UseTested}
-use Rattle.graph_layout.specs.Names.{Names, pick}
+use Rattle.graph_layout.specs.Names.{pick}
 use Rattle.graph_layout.specs.Laid.{Laid, behind_move, void_arms_laid, arms_laid}
 use Rattle.graph_layout.specs.Layout.{laid}
 use Rattle.graph_layout.specs.Writes.{writes}
-use Rattle.graph_drafts.specs.Drafts.{Made, Goal, To, Unused, Either, ending, zero as zero_operand, leaf, closed, label_of}
+use Rattle.graph_drafts.specs.Drafts.{Made, Goal, Unused, Either, ending, zero as zero_operand, leaf, closed, label_of}
 use Rattle.graph_code.specs.Steps.{arm_use, arm_value, arm_goal}
-use Rattle.graph_values.specs.Correspondence.{SameValue}
-use Rattle.graph_values.proofs.Leads.{Setting, names_in, size_in, depth_in, Local, World, at, Leads, stays, goes, then_leads, less_other}
-use Rattle.graph_values.proofs.Later.{others_refl}
-use Rattle.graph_values.proofs.Kept.{is_want, Sound, Fits, ScalarsFirst, fits_unwanted}
-use Rattle.graph_values.proofs.Results.{UnusedR, Reached, Passes, to_label, to_made, Stuck, Valued, ToR, EitherR, Result, ended_result, result_after, stuck_after}
-use Rattle.graph_values.proofs.Tests.{HasWord}
-use Rattle.graph_values.proofs.Leaves.{leaf_done}
+use Rattle.graph_values.proofs.Leads.{Setting, names_in, size_in, depth_in, Local, World, at, stays, goes, then_leads}
+use Rattle.graph_values.proofs.Kept.{Sound, Fits, ScalarsFirst}
+use Rattle.graph_values.proofs.Results.{UnusedR, Reached, to_label, EitherR, Result, ended_result, result_after}
 use Rattle.graph_values.proofs.Sequences.{left_done}
-use Rattle.graph_values.proofs.Typing.{HasKind, Keeps, Gave, Left, KeepsTest, keeps_tested, kind_word, Typed}
-use Rattle.graph_values.proofs.Standing.{Stands, Grows, inner_of, block_of, closed_inner, closed_block}
-use Rattle.graph_values.proofs.Operands.{Does, code_in, value_in, written_by, or_false}
+use Rattle.graph_values.proofs.Typing.{HasKind, Keeps, Left, KeepsTest, keeps_tested, Typed}
+use Rattle.graph_values.proofs.Standing.{Stands, Grows, block_of, closed_inner, closed_block}
+use Rattle.graph_values.proofs.Operands.{Does, code_in, written_by, or_false}
 use Rattle.graph_values.proofs.Arithmetic.{pick_between}
 use Rattle.graph_values.proofs.Choices.{Tops}
 use Rattle.c_memory.specs.Memory.{Memory}
