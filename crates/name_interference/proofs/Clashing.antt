@@ -1,11 +1,10 @@
 -- A walk finds just the names that clash.
-use Rattle.std.proofs.Common.{◌≡◌, ℕ, suc, ◌+◌, ◌<◌, ◌≤◌, ◌==◌, inl, inr, ◌↔◌, ◌⊎◌, Bool, true, false, true≢false, Option, Some, None, List, [], ◌∷◌, ◌++◌, length, refl, sym, ap, ◌∙◌, subst, arith, append_assoc}
-use Rattle.std.specs.Prelude.{◌||◌, ◌&&◌, ◌≢◌, not, slice_get}
-use Rattle.std.proofs.lemmas.Bool.{and_parts, and_from, not-true, not_from_false, or_cases, or_left, or_right, eq-eqb, eqb-true, false_from_ne_true, cases_eq, cases_lt}
+use Rattle.std.proofs.Common.{◌≡◌, ℕ, ◌+◌, ◌<◌, ◌≤◌, ◌==◌, inl, inr, ◌↔◌, ◌⊎◌, Bool, true, false, true≢false, Some, List, [], ◌∷◌, ◌++◌, length, map, refl, sym, ap, ◌∙◌, subst, arith, append_assoc}
+use Rattle.std.specs.Prelude.{◌||◌, ◌&&◌, not, slice_get}
+use Rattle.std.proofs.lemmas.Bool.{and_parts, and_from, not-true, not_from_false, or_cases, or_left, or_right, eq-eqb, eqb-true, false_from_ne_true, cases_eq}
 use Rattle.std.proofs.lemmas.Option.{same_Some, slice_get_within}
-use Rattle.graph_core.specs.Graphs.{Operand, Name, Constant, StaticAddress, Instruction, Marker, Note, Move, Operate, Truncate, Same, Address, Load, Store, Zero, CopyWords, Call, End, Block, Graph}
+use Rattle.graph_core.specs.Graphs.{Name, Constant, StaticAddress, Instruction, Marker, Note, Move, Operate, Truncate, Same, Address, Load, Store, Zero, CopyWords, Call, End, Block, Graph}
 use Rattle.graph_core.specs.Paths.{writes, is_bound}
-use Rattle.graph_core.specs.Points.{Behind}
 use Rattle.graph_live.specs.Live.{IsReadFirst}
 use Rattle.name_interference.specs.Clashes.{IsNoCopyOf, Clashes, written, bound, copies, ClashesAmong, ClashesIn}
 
@@ -124,6 +123,6 @@ module _ (g : Graph) (x y : ℕ) where
   )
 
 -- the first of some blocks
-pub first_block : (blocks : List Block) → (length blocks ≡ 0 → ⊥) → (b : Block) × (slice_get blocks 0 ≡ Some b)
-first_block [] some = absurd (some refl)
-first_block (b ∷ more) some = (b, refl)
+pub first_block : {A : Type 0} (view : A → Block) (blocks : List A) → (length blocks ≡ 0 → ⊥) → (b : Block) × (slice_get (map view blocks) 0 ≡ Some b)
+first_block view [] some = absurd (some refl)
+first_block view (b ∷ more) some = (view b, refl)

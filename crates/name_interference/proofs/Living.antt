@@ -1,5 +1,5 @@
 -- The names that are live at a point, as a walk finds them.
-use Rattle.std.proofs.Common.{◌≡◌, ℕ, ◌<◌, inl, inr, ◌↔◌, ◌⊎◌, Bool, true, false, Option, Some, None, List, [], ◌∷◌, refl, sym, ap, ◌∙◌, subst}
+use Rattle.std.proofs.Common.{◌≡◌, ℕ, ◌<◌, inl, inr, ◌↔◌, ◌⊎◌, Bool, true, false, Some, List, [], ◌∷◌, sym, ◌∙◌, subst}
 use Rattle.std.specs.Prelude.{◌||◌, ◌&&◌, not, slice_get}
 use Rattle.std.specs.List.{Contains}
 use Rattle.std.proofs.lemmas.Bool.{and_parts, and_from, not-true, not_from_false, or_cases, or_left, or_right}
@@ -7,7 +7,6 @@ use Rattle.std.proofs.lemmas.Option.{same_Some}
 use Rattle.graph_core.specs.Graphs.{Instruction, End, Block, Graph}
 use Rattle.graph_core.specs.Uses.{targets_of}
 use Rattle.graph_core.specs.Paths.{reads, writes}
-use Rattle.std.specs.FinSet.{contains}
 use Rattle.bit_rows.specs.Grid.{is_set, row_at}
 use Rattle.graph_problem.specs.Numbers.{Numbers}
 use Rattle.graph_solve.specs.Rows.{set_at}

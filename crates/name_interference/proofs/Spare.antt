@@ -1,7 +1,6 @@
 -- What rows to work with leave, and what it says that rows have a bit in common.
-use Rattle.std.proofs.Common.{◌≡◌, ℕ, ◌+◌, ◌<◌, ◌≤◌, ◌||◌, ◌&&◌, Bool, true, false, true≢false, List, length, get_or, refl, sym, ap, ◌∙◌, inl, inr, ◌↔◌, subst, arith}
-use Rattle.std.specs.Prelude.{not}
-use Rattle.std.proofs.lemmas.Bool.{and_cases, and_left, and_right, or_parts, or_from, cases_Bool, cases_lt, false_from_ne_true}
+use Rattle.std.proofs.Common.{◌≡◌, ℕ, ◌+◌, ◌<◌, ◌||◌, ◌&&◌, Bool, true, false, true≢false, List, length, get_or, refl, sym, ap, ◌∙◌, inl, inr, ◌↔◌, subst, arith}
+use Rattle.std.proofs.lemmas.Bool.{and_cases, and_left, and_right, or_parts, or_from, cases_Bool, cases_lt}
 use Rattle.bit_rows.specs.Grid.{is_set, row_at, met_bit}
 use Rattle.graph_solve.specs.Rows.{AreSameElsewhere}
 use Rattle.name_interference.specs.Table.{AreWide}

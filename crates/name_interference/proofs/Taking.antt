@@ -1,6 +1,6 @@
 -- A name that has a register from now on.
-use Rattle.std.proofs.Common.{◌≡◌, ℕ, ◌+◌, ◌<◌, ◌≤◌, ◌==◌, ◌||◌, ◌&&◌, Bool, true, false, true≢false, cond, List, length, get_or, refl, sym, ap, ◌∙◌, inl, inr, subst, arith}
-use Rattle.std.proofs.lemmas.Bool.{or_left, or_right, or_from, cases_eq, cases_lt, cases_Bool, eq-eqb, ne_eqb, cond-true, cond-false}
+use Rattle.std.proofs.Common.{◌≡◌, ℕ, ◌+◌, ◌<◌, ◌==◌, ◌||◌, ◌&&◌, Bool, true, false, true≢false, cond, List, length, refl, sym, ap, ◌∙◌, inl, inr, subst, arith}
+use Rattle.std.proofs.lemmas.Bool.{or_left, or_right, or_from, cases_eq, cases_lt, eq-eqb, ne_eqb, cond-false}
 use Rattle.std.proofs.lemmas.Bool.Decides.{eqb_tells}
 use Rattle.bit_rows.specs.Grid.{is_set, row_at, met_bit}
 use Rattle.graph_solve.specs.Rows.{AreSameElsewhere}

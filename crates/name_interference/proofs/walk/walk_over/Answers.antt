@@ -1,4 +1,4 @@
-use Rattle.std.proofs.Common.{◌∙◌, arith}
+use Rattle.std.proofs.Common.{arith}
 use Rattle.name_interference.proofs.walk.walk_over.Goals as goal
 
 pub returns-clause-written : goal.returns-clause-written

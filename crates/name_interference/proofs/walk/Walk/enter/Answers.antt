@@ -1,7 +1,5 @@
-use Rattle.std.proofs.Common.{◌≡◌, ℕ, ◌<◌, ◌&&◌, ◌||◌, ◌↔◌, true, Some, length, vec_len, map, sym, ap, ◌∙◌, subst, arith}
-use Rattle.std.specs.Prelude.{slice_get}
+use Rattle.std.proofs.Common.{◌≡◌, ◌&&◌, ◌||◌, ◌↔◌, true, length, vec_len, map, sym, ap, ◌∙◌, subst, arith}
 use Rattle.std.proofs.lemmas.Bool.{eqb-false}
-use Rattle.std.proofs.lemmas.List.{length-map}
 use Rattle.bit_rows.specs.Grid.{is_set}
 use Rattle.graph_core.specs.Graphs.{binding_view, block_view, graph_view}
 use Rattle.graph_core.specs.Paths.{is_bound}
@@ -21,7 +19,7 @@ returns-then-not-is_empty-clause-written c =
     let same : c.begin_at_start.new.self.names ≡ names = c.begin_at_start.ensures.names in
     let count : vec_len c.args.graph.now.blocks ≡ length c.args.graph.now.blocks.items = omega arith in
     let some : length c.args.graph.now.blocks.items ≡ 0 → ⊥ = λ e. eqb-false (vec_len c.args.graph.now.blocks) 0 (sym c.is_empty.ensures ∙ c.if-not-is_empty.true) (count ∙ e) in
-    let first = first_block g.blocks (λ e. some (sym (length-map block_view c.args.graph.now.blocks.items) ∙ e)) in
+    let first = first_block block_view c.args.graph.now.blocks.items some in
     λ x y p q.
     let row : is_set begun x y ≡ is_set c.args.self.now.rows x y = bit_same c.args.self.now.rows begun x (c.begin_at_start.ensures.others x (λ e. omega (arith, p, e))) y in
     let is : is_set new x y ≡ (is_set c.args.self.now.rows x y || (is_bound x g.parameters && is_set begun names y)) =
