@@ -113,7 +113,8 @@ impl Choice {
         match self.chosen(interference, name, joined) {
             Some(register) => {
                 interference.take(register, name);
-                put_home(&mut self.homes, Home::Register(home_register(register)))
+                put_home(&mut self.homes, Home::Register(home_register(register)))?;
+                Ok(())
             }
             None => {
                 put_home(&mut self.homes, Home::Slot(self.slots))?;
