@@ -28,7 +28,7 @@ use Rattle.currency.specs.Sound.{AreFunctionsTold, AreHome, AreRecovered, AreSo}
 -- slots of the first of what is told
 abbrev pub AreSlottedTo : List declared-variable.ToldVariable → List ℕ → (count : ℕ) → Type 0
 AreSlottedTo told slots count =
-    (j : ℕ) (t : declared-variable.ToldVariable) → j < count → slice_get told j ≡ Some t → (k : ℕ) (one : declared-variable.ToldVariable) × (get_or slots t.var.0 0 ≡ k + 1) × (slice_get told k ≡ Some one) × (one.var.0 ≡ t.var.0)
+    (j : ℕ) (t : declared-variable.ToldVariable) → j < count → slice_get told j ≡ Some t → (k : ℕ) × (one : declared-variable.ToldVariable) × (get_or slots t.var.0 0 ≡ k + 1) × (slice_get told k ≡ Some one) × (one.var.0 ≡ t.var.0)
 
 pub slot_next : (told : List declared-variable.ToldVariable) (slots : List ℕ) (k : ℕ) (here : declared-variable.ToldVariable) → slice_get told k ≡ Some here → here.var.0 < length slots → AreSlottedTo told slots k → AreSlottedTo told (slice_set slots here.var.0 (k + 1)) (k + 1)
 slot_next told slots k here is lt before j t small at = elim (eqb_tells t.var.0 here.var.0) [
@@ -38,6 +38,10 @@ slot_next told slots k here is lt before j t small at = elim (eqb_tells t.var.0 
     | inr q ↦ (let f = before j t (omega (arith, small, q.1)) at in (f.0, f.1, get_or-set_other slots here.var.0 t.var.0 (k + 1) 0 e.1 ∙ f.2, f.3, f.4))
   ]
 ]
+
+-- the same, read with any default
+pub slot_next_any : (told : List declared-variable.ToldVariable) (slots : List ℕ) (k : ℕ) (d : declared-variable.ToldVariable) → k < length told → (get_or told k d).var.0 < length slots → AreSlottedTo told slots k → AreSlottedTo told (slice_set slots (get_or told k d).var.0 (k + 1)) (k + 1)
+slot_next_any told slots k d lt small before = slot_next told slots k (get_or told k d) (slice_get-get_or told k d lt) small before
 
 pub slots_all : (told : List declared-variable.ToldVariable) (slots : List ℕ) (count : ℕ) → length told ≤ count → AreSlottedTo told slots count → AreSlotted told slots
 slots_all told slots count le each t among = (let f = among_at told among in (let lt = slice_get_within told f.0 t f.1 in each f.0 t (omega (arith, le, lt)) f.1))

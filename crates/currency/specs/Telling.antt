@@ -1,7 +1,7 @@
 -- What is told of variables at places.
 use Rattle.std.specs.Prelude.{◌≡◌, ◌≢◌, ℕ, ◌+◌, ◌⊎◌, MatchOption, Option, Some, None, List, [], slice_get, get_or}
 use Rattle.std.specs.Option.{option_map_or}
-use Rattle.std.specs.Vec.{Vec}
+use Rattle.std.specs.Global.{Vec}
 use Rattle.debug_records.specs.declared.change.Var as declared-var
 use Rattle.places.specs.declared.table.PlaceTable as declared-table
 use Rattle.graph_homes.specs.declared.home.Home.{Home}
@@ -104,7 +104,7 @@ IsToldOf told v t = Among t told × (t.var.0 ≡ v.0)
 
 -- For each variable of which something is told the number of such a thing, from 1 on, is in its slot.
 abbrev pub AreSlotted : List declared-variable.ToldVariable → List ℕ → Type 0
-AreSlotted told slots = (t : declared-variable.ToldVariable) → Among t told → (k : ℕ) (one : declared-variable.ToldVariable) × (get_or slots t.var.0 0 ≡ k + 1) × (slice_get told k ≡ Some one) × (one.var.0 ≡ t.var.0)
+AreSlotted told slots = (t : declared-variable.ToldVariable) → Among t told → (k : ℕ) × (one : declared-variable.ToldVariable) × (get_or slots t.var.0 0 ≡ k + 1) × (slice_get told k ≡ Some one) × (one.var.0 ≡ t.var.0)
 
 -- A verdict on a variable tells what is told of it.
 pub record IsRowTold (told : List declared-variable.ToldVariable) (w : declared-row.PlaceVerdict) : Type 0 where

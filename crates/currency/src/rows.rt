@@ -152,7 +152,14 @@ fn told_of_all<'a>(
     let mut number = 0u32;
     for f in 0..graphs.len() {
         if number as usize != f
-            || !told.add_function(alloc, &mut teller, places, number, &graphs[f], &homes[f].homes)?
+            || !told.add_function(
+                alloc,
+                &mut teller,
+                places,
+                number,
+                &graphs[f],
+                &homes[f].homes,
+            )?
         {
             return Ok(None);
         }

@@ -4,7 +4,7 @@ use Rattle.std.specs.Option.{option_map_or}
 use Rattle.debug_records.specs.declared.change.Var as declared-var
 use Rattle.places.specs.declared.table.PlaceRow as declared-row
 use Rattle.places.specs.declared.table.PlaceTable as declared-table
-use Rattle.std.specs.Vec.{Vec}
+use Rattle.std.specs.Global.{Vec}
 use Rattle.graph_core.specs.Graphs.{Of, Name, recipe_view}
 use Rattle.graph_core.specs.Paths.{Among}
 use Rattle.note_state.specs.declared.homes.Homes as declared-homes

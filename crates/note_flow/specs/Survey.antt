@@ -1,7 +1,7 @@
 -- What a walk over a function bears out: at each place what is found there, and in each block to which one leads what is so where it begins.
 use Rattle.std.specs.Prelude.{◌≡◌, ℕ, ◌-◌, ◌≤◌, ◌⊎◌, Bool, true, false, Option, Some, None, List, [], ◌∷◌, map, slice_get, get_or}
 use Rattle.std.specs.Option.{option_map_or}
-use Rattle.std.specs.Vec.{Vec}
+use Rattle.std.specs.Global.{Vec}
 use Rattle.places.specs.declared.table.PlaceRow as declared-row
 use Rattle.places.specs.declared.table.PlaceTable as declared-table
 use Rattle.graph_core.specs.declared.block.Block as declared-block

@@ -39,11 +39,7 @@ fn is_shown<'a>(function: &Function<'a>, state: &State<'a>, scalar: u32) -> bool
 }
 
 /// What is last noted of a scalar where this is so, if that shows its value and is not its own.
-fn last_note<'a>(
-    function: &Function<'a>,
-    state: &State<'a>,
-    scalar: u32,
-) -> Option<LastNote<'a>>
+fn last_note<'a>(function: &Function<'a>, state: &State<'a>, scalar: u32) -> Option<LastNote<'a>>
     ensures { Shows function.now.homes state.now scalar result }
 {
     match state.last_of(scalar) {
