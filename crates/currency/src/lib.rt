@@ -8,7 +8,6 @@ mod marks;
 mod rows;
 mod search;
 mod telling;
-mod told;
 mod verdict;
 mod writers;
 

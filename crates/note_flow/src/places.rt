@@ -99,7 +99,7 @@ impl<'a> Found<'a> {
         ensures told { IfOk result (λ b. b ≡ true → (x : ℕ) → scalar_in numbering.now var.0 ≡ Some x → IsTold function.now.homes state.now place.0 self.new.unshown.items x) }
     {
         match numbering.scalar_of(var) {
-            Some(scalar) => self.add(function, state, scalar, place),
+            Some(scalar) => Ok(self.add(function, state, scalar, place)?),
             None => Ok(true),
         }
     }
@@ -144,7 +144,7 @@ impl<'a> Found<'a> {
         if row.function != number || !self.meet(place.0) {
             return Ok(false);
         }
-        self.add_all(function, state, numbering, &row.visible, place)
+        Ok(self.add_all(function, state, numbering, &row.visible, place)?)
     }
 
     /// A place is met. Tells whether it is one, and was not met before.

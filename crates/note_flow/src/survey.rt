@@ -105,14 +105,14 @@ impl<'a> Survey<'a, '_> {
         ensures found { IfOk result (λ b. b ≡ true → (p : ℕ) → instruction_view instruction.now ≡ Marker p → IsFound self.now found.new state.now p) }
     {
         match instruction.marker() {
-            Some(place) => found.add_place(
+            Some(place) => Ok(found.add_place(
                 self.function,
                 state,
                 &self.numbering,
                 self.table,
                 self.number,
                 place,
-            ),
+            )?),
             None => Ok(true),
         }
     }
@@ -180,7 +180,7 @@ impl<'a> Survey<'a, '_> {
         }
         match self.states.at(alloc, chain[0])? {
             Some(mut state) => {
-                self.add_chain(chain, End::Jump(Label(chain[0])), &mut state, found)
+                Ok(self.add_chain(chain, End::Jump(Label(chain[0])), &mut state, found)?)
             }
             None => Ok(true),
         }
