@@ -8,6 +8,7 @@ use Rattle.graph_homes.specs.Homes.{Holds, HoldsOnAllPaths}
 use Rattle.places.specs.declared.table.PlaceRow as declared-row
 use Rattle.debug_records.specs.declared.change.Var as declared-var
 use Rattle.graph_core.specs.declared.graph.Scalar as declared-scalar
+use Rattle.graph_core.specs.declared.block.Block as declared-block
 use Rattle.graph_core.specs.Graphs.{Instruction, Marker, Binding, Scalar, Block, Graph, End, Jump, Branch, Return, Of, Name, block_view, binding_view, graph_view, instruction_view, end_view, recipe_view, scalar_view}
 use Rattle.graph_core.specs.Paths.{Among, History, Passed, Path, Way, path, stays, passes, goes}
 use Rattle.graph_core.specs.Uses.{targets_of}
@@ -45,7 +46,7 @@ module _ (v : declared-survey.Survey) (f : declared-found.Found) (chains : List 
     chained : IsChainSound v f more e last
 
   -- a block of the view
-  one_block : (l : ℕ) (b : Block) → slice_get g.blocks l ≡ Some b → (d : _) → slice_get v.function.now.graph.now.blocks.items l ≡ Some d → block_view d ≡ b
+  one_block : (l : ℕ) (b : Block) → slice_get g.blocks l ≡ Some b → (d : declared-block.Block) → slice_get v.function.now.graph.now.blocks.items l ≡ Some d → block_view d ≡ b
   one_block l b at d is = same_Some (block_view d) b (sym (slice_get-map block_view v.function.now.graph.now.blocks.items l ∙ ap (λ o. option_map block_view o) is) ∙ at)
 
   -- the first block of a chain
@@ -56,26 +57,25 @@ module _ (v : declared-survey.Survey) (f : declared-found.Found) (chains : List 
       at_state None e within = elim within [ ]
       at_state (Some t) e within =
           let c = first l begin.0 in
-          let r = sound c.0 c.1 l c.2.0 c.2.1 t e in
-          let chain : IsChainSound v f (l ∷ c.2.0) (Jump l) r.0 = subst (λ (ls : List ℕ). IsChainSound v f ls (Jump l) r.0) c.2.1 r.2 in
-          let block = chain.1 in
-          let one = one_block l b at block.0 block.1 in
+          let r = sound c.0 c.2 l c.1 c.3 t e in
+          let chain : IsChainSound v f (l ∷ c.1) (Jump l) r.0 = subst (λ (ls : List ℕ). IsChainSound v f ls (Jump l) r.0) c.3 r.2 in
+          let one = one_block l b at chain.1 chain.2 in
           record {
             state = r.0;
-            last = block.2.0;
-            more = c.2.0;
+            last = chain.3;
+            more = c.1;
             is = so_within m g.parameters r.0 t h r.1 (so_within m g.parameters t s h within here);
-            walked = subst (λ (d : Block). IsSound v f d.instructions r.0 block.2.0) one block.2.1;
-            chained = subst (λ (d : Block). IsChainSound v f c.2.0 d.end block.2.0) one block.2.2;
+            walked = subst (λ (d : Block). IsSound v f d.instructions r.0 chain.3) one chain.4;
+            chained = subst (λ (d : Block). IsChainSound v f c.1 d.end chain.3) one chain.5;
           }
 
   at_passed : (h : History) (p : Passed) (i : Instruction) (left : List Instruction) (e : End) → p.instruction ≡ i → IsAt h (i ∷ left) e → IsAt (p ∷ h) left e
   at_passed h p i left e is at = record {
-    state = at.walked.1.0;
+    state = at.walked.1;
     last = at.last;
     more = at.more;
-    is = at.walked.1.1 g.parameters p h is at.is;
-    walked = at.walked.1.2;
+    is = at.walked.2 g.parameters p h is at.is;
+    walked = at.walked.3;
     chained = at.chained;
   }
 
@@ -83,16 +83,15 @@ module _ (v : declared-survey.Survey) (f : declared-found.Found) (chains : List 
   at_next h e l b among at s t [] here same chained = at_start l b t h at (chained l among) (subst (λ (u : declared-state.State). IsSo m g.parameters u h) same here)
   at_next h e l b among at s t (n ∷ more) here same chained =
       let one : l ≡ n = among_one (subst (λ (d : End). Among l (targets_of d)) chained.0 among) in
-      let block = chained.1 in
       let there : slice_get g.blocks n ≡ Some b = subst (λ k. slice_get g.blocks k ≡ Some b) one at in
-      let same_block = one_block n b there block.0 block.1 in
+      let same_block = one_block n b there chained.1 chained.2 in
       record {
         state = t;
-        last = block.2.0;
+        last = chained.3;
         more = more;
         is = subst (λ (u : declared-state.State). IsSo m g.parameters u h) same here;
-        walked = subst (λ (d : Block). IsSound v f d.instructions t block.2.0) same_block block.2.1;
-        chained = subst (λ (d : Block). IsChainSound v f more d.end block.2.0) same_block block.2.2;
+        walked = subst (λ (d : Block). IsSound v f d.instructions t chained.3) same_block chained.4;
+        chained = subst (λ (d : Block). IsChainSound v f more d.end chained.3) same_block chained.5;
       }
 
   on_way : {b : Block} {h : History} {n : ℕ} {rest : List Instruction} {e : End} → slice_get g.blocks 0 ≡ Some b → Way g 0 b.instructions b.end h n rest e → IsAt h rest e

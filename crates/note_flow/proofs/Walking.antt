@@ -23,7 +23,7 @@ none_first (suc n) (suc l) e = none_first n l e
 
 -- one chain more
 pub first_more : (chains : List (Vec ℕ)) (old new : List Bool) (c : Vec ℕ) → Among c chains → AreFirst chains old → ((l : ℕ) → get_or new l false ≡ true → (get_or old l false ≡ true) ⊎ BeginsWith c.items l) → AreFirst chains new
-first_more chains old new c among before one l e = elim (one l e) [ inl f ↦ before l f | inr f ↦ (c, among, f) ]
+first_more chains old new c among before one l e = elim (one l e) [ inl f ↦ before l f | inr f ↦ (c, f.0, among, f.1) ]
 
 -- a flag is put
 pub flag_cases : (xs : List Bool) (i l : ℕ) → get_or (slice_set xs i true) l false ≡ true → (l ≡ i) ⊎ (get_or xs l false ≡ true)

@@ -39,7 +39,7 @@ BeginsWith chain l = (more : List ℕ) × (chain ≡ l ∷ more)
 
 -- what is flagged are first ones of chains
 abbrev pub AreFirst : List (Vec ℕ) → List Bool → Type 0
-AreFirst chains first = (l : ℕ) → get_or first l false ≡ true → (c : Vec ℕ) × Among c chains × BeginsWith c.items l
+AreFirst chains first = (l : ℕ) → get_or first l false ≡ true → (c : Vec ℕ) × (more : List ℕ) × Among c chains × (c.items ≡ l ∷ more)
 
 module _ (table : declared-table.PlaceTable) (number : ℕ) where
   -- each place that is told of was met, and is one of the function

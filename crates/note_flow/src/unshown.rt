@@ -1,8 +1,11 @@
 //! The scalars that their homes do not show.
 
-ghost use Rattle.std.specs.Prelude.{◌≡◌, ℕ, IfOk, IfSome, []};
-ghost use Rattle.graph_core.specs.Graphs.{graph_view};
-ghost use Rattle.note_state.specs.Homes.{home_in};
+ghost use Rattle.std.specs.Prelude.{◌≡◌, ℕ, IfOk, IfSome, [], map, true};
+ghost use Rattle.graph_core.specs.Graphs.{binding_view, graph_view};
+ghost use Rattle.note_state.specs.Homes.{home_by, home_in};
+ghost use Rattle.note_state.specs.Notes.{IsSo};
+ghost use Rattle.note_flow.specs.Numbering.{AreNumbered};
+ghost use Rattle.note_flow.specs.Survey.{AreFirst};
 ghost use Rattle.note_flow.specs.Found.{entries_of};
 ghost use Rattle.note_flow.specs.Shown.{AreDifferent, AreOwn, ArePlaced, AreRecipes, AreTheirs};
 
@@ -30,6 +33,30 @@ fn nothing<'a>(alloc: Global, scalars: usize, places: usize) -> Result<Found<'a>
         met: vec![in alloc; false; places]?,
         unshown,
     })
+}
+
+/// What is found of a function where the walk over all chains bears out what is so where they begin.
+fn borne_out<'a>(
+    alloc: Global,
+    survey: &Survey<'a, '_>,
+    chains: &[Vec<u32>],
+    entered: &State<'a>,
+    found: &mut Found<'a>,
+) -> Result<bool, AllocError>
+    requires first { AreFirst chains.now survey.now.first.items }
+    requires numbered { AreNumbered survey.now.numbering survey.now.function.now.graph.now.scalars.items }
+    requires so { IsSo survey.now.function.now.homes (map binding_view survey.now.function.now.graph.now.parameters.items) entered.now [] }
+    requires none { (x : ℕ) → entries_of found.old.unshown.items x ≡ [] }
+    ensures placed { IfOk result (λ b. b ≡ true → ArePlaced (graph_view survey.now.function.now.graph.now) survey.now.number survey.now.table.now) }
+    ensures theirs { IfOk result (λ b. b ≡ true → AreTheirs found.new.unshown.items survey.now.number survey.now.table.now) }
+    ensures different { IfOk result (λ b. b ≡ true → AreDifferent (graph_view survey.now.function.now.graph.now)) }
+    ensures own { IfOk result (λ b. b ≡ true → AreOwn (home_by survey.now.function.now.homes) (graph_view survey.now.function.now.graph.now) survey.now.table.now found.new.unshown.items) }
+    ensures recipe { IfOk result (λ b. b ≡ true → AreRecipes (home_by survey.now.function.now.homes) (graph_view survey.now.function.now.graph.now) found.new.unshown.items) }
+{
+    if !survey.is_within(0, entered) {
+        return Ok(false);
+    }
+    Ok(survey.add_chains(alloc, chains, found)?)
 }
 
 /// For each scalar of a function the places that some path reaches, where it is visible, and its home does not show its value: where not on all paths the last note
@@ -77,9 +104,8 @@ pub fn not_shown<'a>(
         graph.scalars.len(),
         places.rows.len().saturating_add(1),
     )?;
-    if survey.is_within(0, &entered) && survey.add_chains(alloc, &chains, &mut found)? {
-        Ok(Some(found.unshown))
-    } else {
-        Ok(None)
+    if !borne_out(alloc, &survey, &chains, &entered, &mut found)? {
+        return Ok(None);
     }
+    Ok(Some(found.unshown))
 }
