@@ -59,23 +59,23 @@ module _ (v : declared-survey.Survey) (f : declared-found.Found) (chains : List 
           let c = first l begin.0 in
           let r = sound c.0 c.2 l c.1 c.3 t e in
           let chain : IsChainSound v f (l ∷ c.1) (Jump l) r.0 = subst (λ (ls : List ℕ). IsChainSound v f ls (Jump l) r.0) c.3 r.2 in
-          let one = one_block l b at chain.1 chain.2 in
+          let one = one_block l b at chain.1.0 chain.1.1 in
           record {
             state = r.0;
-            last = chain.3;
+            last = chain.1.2.0;
             more = c.1;
             is = so_within m g.parameters r.0 t h r.1 (so_within m g.parameters t s h within here);
-            walked = subst (λ (d : Block). IsSound v f d.instructions r.0 chain.3) one chain.4;
-            chained = subst (λ (d : Block). IsChainSound v f c.1 d.end chain.3) one chain.5;
+            walked = subst (λ (d : Block). IsSound v f d.instructions r.0 chain.1.2.0) one chain.1.2.1;
+            chained = subst (λ (d : Block). IsChainSound v f c.1 d.end chain.1.2.0) one chain.1.2.2;
           }
 
   at_passed : (h : History) (p : Passed) (i : Instruction) (left : List Instruction) (e : End) → p.instruction ≡ i → IsAt h (i ∷ left) e → IsAt (p ∷ h) left e
   at_passed h p i left e is at = record {
-    state = at.walked.1;
+    state = at.walked.1.0;
     last = at.last;
     more = at.more;
-    is = at.walked.2 g.parameters p h is at.is;
-    walked = at.walked.3;
+    is = at.walked.1.1 g.parameters p h is at.is;
+    walked = at.walked.1.2;
     chained = at.chained;
   }
 
@@ -84,14 +84,14 @@ module _ (v : declared-survey.Survey) (f : declared-found.Found) (chains : List 
   at_next h e l b among at s t (n ∷ more) here same chained =
       let one : l ≡ n = among_one (subst (λ (d : End). Among l (targets_of d)) chained.0 among) in
       let there : slice_get g.blocks n ≡ Some b = subst (λ k. slice_get g.blocks k ≡ Some b) one at in
-      let same_block = one_block n b there chained.1 chained.2 in
+      let same_block = one_block n b there chained.1.0 chained.1.1 in
       record {
         state = t;
-        last = chained.3;
+        last = chained.1.2.0;
         more = more;
         is = subst (λ (u : declared-state.State). IsSo m g.parameters u h) same here;
-        walked = subst (λ (d : Block). IsSound v f d.instructions t chained.3) same_block chained.4;
-        chained = subst (λ (d : Block). IsChainSound v f more d.end chained.3) same_block chained.5;
+        walked = subst (λ (d : Block). IsSound v f d.instructions t chained.1.2.0) same_block chained.1.2.1;
+        chained = subst (λ (d : Block). IsChainSound v f more d.end chained.1.2.0) same_block chained.1.2.2;
       }
 
   on_way : {b : Block} {h : History} {n : ℕ} {rest : List Instruction} {e : End} → slice_get g.blocks 0 ≡ Some b → Way g 0 b.instructions b.end h n rest e → IsAt h rest e

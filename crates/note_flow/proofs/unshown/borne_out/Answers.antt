@@ -8,8 +8,8 @@ use Rattle.note_flow.proofs.OnPaths.{are_different, are_own, are_placed, are_rec
 use Rattle.note_flow.proofs.unshown.borne_out.Goals as goal
 
 -- nothing is told of at first
-pub add_chains-requires : goal.add_chains-requires
-add_chains-requires c = λ x u among. elim (subst (λ (l : List declared-unshown.Unshown). Among u l) (c.requires.none x) among) [ ]
+pub add_chains-requires-clause-met : goal.add_chains-requires-clause-met
+add_chains-requires-clause-met c = λ x u among. elim (subst (λ (l : List declared-unshown.Unshown). Among u l) (c.requires.none x) among) [ ]
 
 pub returns-clause-placed : goal.returns-clause-placed
 returns-clause-placed c = λ e.

@@ -8,7 +8,7 @@ pub loop-number-preserved : goal.loop-number-preserved
 loop-number-preserved c =
     let v = c.args.self.now in
     let i = c.loop-number.number-index in
-    let b = c.index-self-function.result in
+    let b = c.index-block.result.now in
     let inv = c.loop-number.invariant in
     let walked = c.in_ok-add_block.ensures.extended c.if-not-branch.false in
     record {
@@ -16,7 +16,7 @@ loop-number-preserved c =
       sound = λ later more rest.
           inv.sound later (extended_on v.table.now v.number c.loop-number.found c.add_block.new.found later walked more)
           (chain_next v c.args.chain.now i _ later _ c.loop-number.state c.add_block.new.state b c.loop-number-test.true (c.leads_to.ensures c.if-not-leads_to.false)
-          (slice_get-get_or _ _ _ (omega arith) ∙ ap Some (sym c.index-self-function.is)) (c.in_ok-add_block.ensures.sound c.if-not-branch.false later more) rest);
+          (slice_get-get_or _ _ _ (omega arith) ∙ ap Some (sym c.index-block.ensures)) (c.in_ok-add_block.ensures.sound c.if-not-branch.false later more) rest);
     }
 
 pub returns-clause-sound : goal.returns-clause-sound

@@ -1,4 +1,4 @@
-use Rattle.std.proofs.Common.{arith}
+use Rattle.std.proofs.Common.{arith, subst}
 use Rattle.note_state.proofs.Lists.{each_all, each_more_any}
 use Rattle.note_flow.specs.Survey.{IsReachedSound}
 use Rattle.note_flow.proofs.Adding.{extended_on}
@@ -13,7 +13,7 @@ loop-chain-preserved c =
       extended = extended_on v.table.now v.number c.args.found.now c.loop-chain.found c.add_reached.new.found inv.extended walked;
       sound = λ later more.
           each_more_any (λ k. IsReachedSound v later k.items) c.args.chains.now c.loop-chain.chain-index _ c.loop-chain-test.true
-          (inv.sound later (extended_on v.table.now v.number c.loop-chain.found c.add_reached.new.found later walked more)) (c.in_ok-add_reached.ensures.sound c.if-not-branch.false later more);
+          (inv.sound later (extended_on v.table.now v.number c.loop-chain.found c.add_reached.new.found later walked more)) (subst (λ ls. IsReachedSound v later ls) c.deref.ensures.value (c.in_ok-add_reached.ensures.sound c.if-not-branch.false later more));
     }
 
 pub returns-clause-sound : goal.returns-clause-sound
