@@ -7,7 +7,7 @@ use crate::telling::{Teller, ToldVariable};
 use crate::verdict::{PlaceVerdict, Verdict};
 use debug_records::{Place, Var};
 use homed_unit::HomedUnit;
-use note_flow::Removals;
+use note_state::Removals;
 use places::{FlowTable, PlaceTable};
 use std::alloc::{AllocError, Global};
 
@@ -68,7 +68,8 @@ fn rows_of(
 /// The verdict on each variable that is visible at each place, in the order of places and then of variables.
 ///
 /// The places and their flow are the unit's, and its homes are those that are assigned by rule. None where a variable is not shown and nothing hides it, or a recipe
-/// shows its value and no change removed an assignment of it, which no unit that the passes make of a program is known to meet. The only error is want of memory.
+/// shows its value and no change removed an assignment of it, or what was found of paths is not borne out (`not_shown` of `note_flow`), which no unit that the passes make of
+/// a program is known to meet. The only error is want of memory.
 pub fn verdicts(
     alloc: Global,
     homed: &HomedUnit,

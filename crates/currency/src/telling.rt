@@ -10,7 +10,8 @@ use crate::writers::Writers;
 use debug_records::{Change, Kind, Place, Var};
 use graph_core::{Graph, Recipe};
 use graph_homes::Home;
-use note_flow::{Removals, Unshown, not_shown};
+use note_flow::{Unshown, not_shown};
+use note_state::Removals;
 use places::{FlowTable, PlaceTable};
 use std::alloc::{AllocError, Global};
 
@@ -177,14 +178,18 @@ impl<'a> Teller<'a> {
         graph: &'a Graph,
         homes: &'a [Home],
     ) -> Result<bool, AllocError> {
-        let unshown = not_shown(
+        let Some(unshown) = not_shown(
             alloc,
+            number,
             graph,
             homes,
             self.changes.all,
             self.removals,
             self.places,
-        )?;
+        )?
+        else {
+            return Ok(false);
+        };
         let mut function = Function {
             writers: Writers::new(alloc, number, graph, homes)?,
             copies: Copies::new(alloc, graph)?,

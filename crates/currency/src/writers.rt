@@ -4,7 +4,7 @@ use crate::verdict::Writer;
 use debug_records::Place;
 use graph_core::{Binding, Block, Graph};
 use graph_homes::Home;
-use note_flow::{have_one_home, home_count, home_number};
+use note_state::{have_one_home, home_count, home_number};
 use std::alloc::{AllocError, Global};
 
 /// A name is written.
@@ -69,7 +69,7 @@ fn sort_all(lists: &mut [Vec<Write>]) {
 impl<'a> Writers<'a> {
     /// A name is written in a place.
     fn add(&mut self, place: Option<Place>, name: u32, writer: Writer) -> Result<(), AllocError> {
-        let (Some(place), Some(home)) = (place, home_number(self.homes, name)) else {
+        let Some(place) = place else {
             return Ok(());
         };
         let number = self.count;
@@ -79,7 +79,7 @@ impl<'a> Writers<'a> {
             place: place.0,
             number,
         };
-        push_write(&mut self.by_home, home, write)?;
+        push_write(&mut self.by_home, home_number(self.homes, name), write)?;
         push_write(&mut self.by_name, name, write)
     }
 
@@ -147,10 +147,7 @@ impl<'a> Writers<'a> {
 
     /// What writes the home of a name, in order.
     pub fn of_home(&self, name: u32) -> &[Write] {
-        match home_number(self.homes, name) {
-            Some(home) => writes(&self.by_home, home),
-            None => &[],
-        }
+        writes(&self.by_home, home_number(self.homes, name))
     }
 
     /// What writes the home of a scalar for another name, in order: nothing where the name has another home.

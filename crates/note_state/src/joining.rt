@@ -1,8 +1,8 @@
 //! What is so on all paths where paths come together.
 
-use crate::function::Function;
+use crate::noted::Noted;
 use crate::recipes::is_same;
-use crate::state::{Noted, State};
+use crate::state::State;
 
 /// The lesser of two numbers, of those that there are.
 fn lesser(one: Option<u32>, other: Option<u32>) -> Option<u32> {
@@ -13,53 +13,44 @@ fn lesser(one: Option<u32>, other: Option<u32>) -> Option<u32> {
     }
 }
 
-/// Whether the notes that stand at two points have equal recipes.
-fn have_one_recipe(function: &Function<'_>, x: (u32, u32), y: (u32, u32)) -> bool {
-    if x == y {
-        return true;
-    }
-    match (function.recipe_at(x.0, x.1), function.recipe_at(y.0, y.1)) {
-        (Some(one), Some(other)) => is_same(one, other),
-        _ => false,
-    }
-}
-
 /// What is last noted on all paths, where it is this on some, and that on all others.
-fn join(function: &Function<'_>, one: Noted, other: Noted) -> Noted {
+fn join<'a>(one: Noted<'a>, other: Noted<'a>) -> Noted<'a> {
     match (one, other) {
         (Noted::Own, Noted::Own) => Noted::Own,
         (
+            Noted::Recipe { recipe, change },
             Noted::Recipe {
-                block,
-                index,
-                change,
-            },
-            Noted::Recipe {
-                block: other_block,
-                index: other_index,
+                recipe: other_recipe,
                 change: other_change,
             },
-        ) => {
-            if have_one_recipe(function, (block, index), (other_block, other_index)) {
-                Noted::Recipe {
-                    block,
-                    index,
-                    change: lesser(change, other_change),
-                }
-            } else {
-                Noted::Lost
+        ) => if is_same(recipe, other_recipe) {
+            Noted::Recipe {
+                recipe,
+                change: lesser(change, other_change),
             }
-        }
+        } else {
+            Noted::Lost
+        },
         _ => Noted::Lost,
     }
 }
 
+/// Whether what is noted is less than before, of which it is a part.
+fn is_less(old: Noted<'_>, joined: Noted<'_>) -> bool {
+    match (old, joined) {
+        (Noted::Lost, _) => false,
+        (_, Noted::Lost) => true,
+        (Noted::Recipe { change, .. }, Noted::Recipe { change: least, .. }) => change != least,
+        _ => false,
+    }
+}
+
 /// Joins what is noted. Tells whether it changed.
-fn join_noted(function: &Function<'_>, to: &mut [Noted], from: &[Noted]) -> bool {
+fn join_noted<'a>(to: &mut [Noted<'a>], from: &[Noted<'a>]) -> bool {
     let mut is_new = false;
     for (old, other) in to.iter_mut().zip(from.iter()) {
-        let joined = join(function, *old, *other);
-        if joined != *old {
+        let joined = join(*old, *other);
+        if is_less(*old, joined) {
             *old = joined;
             is_new = true;
         }
@@ -79,10 +70,10 @@ fn join_written(to: &mut [Option<u32>], from: &[Option<u32>]) -> bool {
     is_new
 }
 
-impl State {
+impl<'a> State<'a> {
     /// Keeps what is so in another state too. Tells whether that is less than before.
-    pub fn join(&mut self, function: &Function<'_>, other: &State) -> bool {
-        let is_less_noted = join_noted(function, &mut self.noted, &other.noted);
+    pub fn join(&mut self, other: &State<'a>) -> bool {
+        let is_less_noted = join_noted(&mut self.noted, &other.noted);
         let is_less_written = join_written(&mut self.written, &other.written);
         is_less_noted || is_less_written
     }
