@@ -8,6 +8,7 @@ mod marks;
 mod rows;
 mod search;
 mod telling;
+mod told;
 mod verdict;
 mod writers;
 
