@@ -1,5 +1,5 @@
 -- What is told of entries, one after the other.
-use Rattle.std.proofs.Common.{◌≡◌, ◌≢◌, inl, inr, ℕ, zero, suc, ◌+◌, ◌<◌, Bool, true, false, Option, Some, None, List, [], ◌∷◌, ◌++◌, length, get_or, map, take, refl, sym, ap, subst, ◌∙◌, arith}
+use Rattle.std.proofs.Common.{◌≡◌, ◌≢◌, inl, inr, ℕ, zero, suc, ◌+◌, ◌<◌, ◌≤◌, Bool, true, false, Option, Some, None, List, [], ◌∷◌, ◌++◌, length, get_or, map, take, refl, sym, ap, subst, ◌∙◌, arith}
 use Rattle.std.specs.Prelude.{slice_get, option_map, ◌⊎◌}
 use Rattle.std.specs.Global.{Vec}
 use Rattle.std.proofs.lemmas.Bool.Decides.{eqb_tells}
@@ -13,8 +13,8 @@ use Rattle.graph_core.specs.declared.graph.Graph as declared-graph
 use Rattle.graph_core.specs.Graphs.{Graph, Scalar, Of, Name, Recipe, graph_view, recipe_view, scalar_view}
 use Rattle.graph_core.specs.Paths.{Among, front, behind}
 use Rattle.graph_core.specs.WellMarked.{IsVariable}
-use Rattle.note_state.proofs.Lists.{get_among, each_more}
-use Rattle.note_flow.specs.declared.places.Unshown as declared-unshown
+use Rattle.note_state.proofs.Lists.{get_among, get_any, each_all, each_more}
+use Rattle.note_flow.specs.declared.found.Unshown as declared-unshown
 use Rattle.note_flow.specs.Found.{entries_of, IsPlaceOf}
 use Rattle.note_flow.specs.Shown.{AreDifferent, AreOwn, ArePlaced, AreRecipes, AreTheirs, IsNoEntry, IsVisible}
 use Rattle.currency.specs.declared.telling.Told as declared-told
@@ -39,6 +39,25 @@ entry_next old new more var entries k u what lt is before one recipe = record {
   ];
   told = each_more (λ w. (t : declared-variable.ToldVariable) × Among t (told_at more w.place.0) × (t.var ≡ var)) entries k u lt is
       (λ w among. (let f = before.told w among in (f.0, one.kept w.place.0 f.0 f.1, f.2))) one.told;
+}
+
+-- the same, of the entry that was read
+pub entry_next_any : (old new more : declared-places.ToldPlaces) (var : declared-var.Var) (entries : List declared-unshown.Unshown) (k : ℕ) (d : declared-unshown.Unshown) (what : declared-told.Told) → k < length entries
+    → AreToldSoFar old new var entries k → IsToldOne new more (get_or entries k d).place.0 var what → IsRecipeOf what (get_or entries k d).last → AreToldSoFar old more var entries (k + 1)
+entry_next_any old new more var entries k d what lt before one recipe = entry_next old new more var entries k (get_or entries k d) what lt (get_any entries k d (get_or entries k d) lt) before one recipe
+
+pub entries_first : (old : declared-places.ToldPlaces) (var : declared-var.Var) (entries : List declared-unshown.Unshown) → AreToldSoFar old old var entries 0
+entries_first old var entries = record { kept = λ p t there. there; only = λ p t there. inl there; told = λ u among. absurd (none entries u among) }
+  where
+    none : (all : List declared-unshown.Unshown) (u : declared-unshown.Unshown) → Among u (take 0 all) → ⊥
+    none [] u among = elim among [ ]
+    none (v ∷ all) u among = elim among [ ]
+
+pub entries_done : (old new : declared-places.ToldPlaces) (var : declared-var.Var) (entries : List declared-unshown.Unshown) (k : ℕ) → length entries ≤ k → AreToldSoFar old new var entries k → AreToldOf old new var entries
+entries_done old new var entries k le all = record {
+  kept = all.kept;
+  only = all.only;
+  told = each_all (λ (u : declared-unshown.Unshown). (t : declared-variable.ToldVariable) × Among t (told_at new u.place.0) × (t.var ≡ var)) entries k le all.told;
 }
 
 -- what is told of the first scalars
@@ -67,6 +86,16 @@ scalar_next old new more scalars found x s entries is of before one = record {
         let there : Among u entries = subst (λ es. Among u es) of (subst (λ k. Among u (entries_of found k)) e among) in
         let f = one.told u there in
         (f.0, f.1, f.2 ∙ ap (λ (z : declared-scalar.Scalar). z.var) same)
+
+pub scalars_first : (old : declared-places.ToldPlaces) (scalars : List declared-scalar.Scalar) (found : List (Vec declared-unshown.Unshown)) → AreScalarsTold old old scalars found 0
+scalars_first old scalars found = record { kept = λ p t there. there; only = λ p t there. inl there; told = λ x s u lt. absurd (omega (arith, lt)) }
+
+pub scalars_done : (old new : declared-places.ToldPlaces) (scalars : List declared-scalar.Scalar) (found : List (Vec declared-unshown.Unshown)) (k : ℕ) → length scalars ≤ k → AreScalarsTold old new scalars found k → AreToldAll old new scalars found
+scalars_done old new scalars found k le all = record {
+  kept = all.kept;
+  only = all.only;
+  told = λ x s u at among. (let lt = slice_get_within scalars x s at in all.told x s u (omega (arith, le, lt)) at among);
+}
 
 -- an entry of a place, or none
 find_entry : (entries : List declared-unshown.Unshown) (p : ℕ) → ((u : declared-unshown.Unshown) × Among u entries × (u.place.0 ≡ p)) ⊎ ((u : declared-unshown.Unshown) → Among u entries → u.place.0 ≡ p → ⊥)

@@ -1,3 +1,4 @@
+mod Adding
 mod Entries
 mod OfFunctions
 mod OnRows

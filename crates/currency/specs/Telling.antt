@@ -10,10 +10,12 @@ use Rattle.graph_core.specs.declared.graph.Scalar as declared-scalar
 use Rattle.graph_core.specs.Graphs.{Graph, Of, Name, recipe_view}
 use Rattle.graph_core.specs.Paths.{Among}
 use Rattle.graph_core.specs.WellMarked.{IsVariable}
-use Rattle.note_flow.specs.declared.places.LastNote as declared-last
-use Rattle.note_flow.specs.declared.places.Unshown as declared-unshown
+use Rattle.note_flow.specs.declared.found.LastNote as declared-last
+use Rattle.note_flow.specs.declared.found.Unshown as declared-unshown
 use Rattle.note_flow.specs.Found.{entries_of, IsPlaceOf}
 use Rattle.note_flow.specs.Shown.{ArePlaced, IsVisible}
+use Rattle.hiding_changes.specs.declared.causes.Cause as declared-cause
+use Rattle.hiding_changes.specs.declared.causes.Cause.TheVariants as cause
 use Rattle.currency.specs.declared.telling.Told as declared-told
 use Rattle.currency.specs.declared.telling.Told.TheVariants as told
 use Rattle.currency.specs.declared.telling.ToldVariable as declared-variable
@@ -31,12 +33,20 @@ abbrev pub IsRecipeOf : declared-told.Told → Option declared-last.LastNote →
 IsRecipeOf (told.Recovered r c) last = (l : declared-last.LastNote) × (last ≡ Some l) × (recipe_view r.now ≡ recipe_view l.recipe.now)
 IsRecipeOf (told.Hidden cause) last = Unit {0}
 
+-- a verdict tells what hides a scalar
+abbrev pub IsCauseOf : declared-cause.Cause → declared-verdict.Verdict → Type 0
+IsCauseOf (cause.Removed c start) v = v ≡ verdict.Noncurrent c (record { 0 = start }) None
+IsCauseOf (cause.Moved c start w) v = v ≡ verdict.Noncurrent c (record { 0 = start }) (Some w)
+IsCauseOf (cause.Reused c start w) v = v ≡ verdict.Nonresident c (record { 0 = start }) w
+
 -- a verdict tells what is told
 abbrev pub IsVerdictOf : declared-told.Told → declared-verdict.Verdict → Type 0
 IsVerdictOf t verdict.Home = ⊥
 IsVerdictOf (told.Recovered r c) (verdict.Recovered s d) = recipe_view r.now ≡ recipe_view s
 IsVerdictOf (told.Hidden cause) (verdict.Recovered s d) = ⊥
-IsVerdictOf t _ = Unit {0}
+IsVerdictOf (told.Hidden cause) (verdict.Noncurrent c p w) = IsCauseOf cause (verdict.Noncurrent c p w)
+IsVerdictOf (told.Hidden cause) (verdict.Nonresident c p w) = IsCauseOf cause (verdict.Nonresident c p w)
+IsVerdictOf (told.Recovered r c) _ = ⊥
 
 -- a verdict tells what is told, or that the home shows the variable where nothing is
 abbrev pub IsVerdictOn : Option declared-variable.ToldVariable → declared-verdict.Verdict → Type 0

@@ -6,10 +6,11 @@ ghost use Rattle.currency.specs.Telling.{AreRowsTold, AreSlotted, AreTold, IsNon
 ghost use Rattle.currency.specs.Sound.{AreHome, AreRecovered, AreSo};
 ghost use Rattle.currency.specs.Visible.{sight, sights_at, sights_from};
 
-use crate::telling::{Teller, ToldVariable};
-use crate::told::ToldPlaces;
+use crate::telling::ToldVariable;
+use crate::told::{Surroundings, ToldPlaces};
 use crate::verdict::{PlaceVerdict, Verdict};
 use debug_records::{Place, Var};
+use hiding_changes::Teller;
 use homed_unit::HomedUnit;
 use note_state::Removals;
 use places::{FlowTable, PlaceTable};
@@ -140,10 +141,15 @@ fn told_of_all<'a>(
 ) -> Result<Option<ToldPlaces<'a>>, AllocError>
     ensures { IfOk result (λ o. IfSome o (λ told. AreSo (homed_view homed.now) places.now told)) }
 {
-    let count = places.rows.len();
+    let count = places.rows.len().saturating_add(1);
     let changes = homed.unit.log.changes();
-    let mut teller = Teller::new(alloc, changes, removals, count, flow)?;
-    let mut told = ToldPlaces::new(alloc, count.saturating_add(1))?;
+    let mut teller = Teller::new(alloc, changes, flow, count)?;
+    let mut told = ToldPlaces::new(alloc, count)?;
+    let unit = Surroundings {
+        changes,
+        removals,
+        places,
+    };
     let graphs = &homed.unit.graphs;
     let homes = &homed.homes;
     if graphs.len() > homes.len() {
@@ -155,7 +161,7 @@ fn told_of_all<'a>(
             || !told.add_function(
                 alloc,
                 &mut teller,
-                places,
+                &unit,
                 number,
                 &graphs[f],
                 &homes[f].homes,

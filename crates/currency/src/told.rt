@@ -5,16 +5,13 @@ ghost use Rattle.graph_core.specs.Graphs.{graph_view};
 ghost use Rattle.note_state.specs.Homes.{home_in};
 ghost use Rattle.currency.specs.Telling.{AreToldOf, AreToldAll, IsFunctionTold, IsRecipeOf, IsToldOne, told_at};
 
-use crate::causes::{Causes, Function};
-use crate::copies::Copies;
-use crate::marks::Marks;
-use crate::search::Search;
-use crate::telling::{Teller, Told, ToldVariable};
-use crate::writers::Writers;
-use debug_records::{Place, Var};
+use crate::telling::{Told, ToldVariable};
+use debug_records::{Change, Place, Var};
 use graph_core::{Graph, Scalar};
 use graph_homes::Home;
+use hiding_changes::{Function, Teller};
 use note_flow::{Unshown, not_shown};
+use note_state::Removals;
 use places::PlaceTable;
 use std::alloc::{AllocError, Global};
 
@@ -28,8 +25,8 @@ fn is_hidden_somewhere(unshown: &[Unshown<'_>]) -> bool {
     false
 }
 
-/// What is told of a scalar that its home does not show at a place.
-fn told_of<'a>(one: &Unshown<'a>, causes: &Causes, search: &Search) -> Option<Told<'a>>
+/// What is told of a scalar that its home does not show at a place, where the questions are on it if it is hidden there.
+fn told_of<'a>(one: &Unshown<'a>, teller: &Teller<'_>) -> Option<Told<'a>>
     ensures { IfSome result (λ told. IsRecipeOf told one.now.last) }
 {
     match one.last {
@@ -41,10 +38,18 @@ fn told_of<'a>(one: &Unshown<'a>, causes: &Causes, search: &Search) -> Option<To
             })
         }
         None => {
-            let cause = causes.at(search, one.place.0)?;
+            let cause = teller.cause_at(one.place)?;
             Some(Told::Hidden(cause))
         }
     }
+}
+
+/// What the functions of a unit are told of with: its changes with those that removed assignments, and the places of its program.
+#[derive(Drop)]
+pub struct Surroundings<'a, 'b> {
+    pub changes: &'b [Change],
+    pub removals: &'a Removals,
+    pub places: &'b PlaceTable,
 }
 
 /// For each place the variables of which something is told there.
@@ -89,15 +94,14 @@ impl<'a> ToldPlaces<'a> {
     /// What is told of a variable at the places where its home does not show it. Tells whether something is at each.
     fn add_entries(
         &mut self,
-        causes: &Causes,
-        search: &Search,
+        teller: &Teller<'_>,
         var: Var,
         unshown: &[Unshown<'a>],
     ) -> Result<bool, AllocError>
         ensures { IfOk result (λ b. b ≡ true → AreToldOf self.old self.new var unshown.now) }
     {
         for one in unshown {
-            match told_of(one, causes, search) {
+            match told_of(one, teller) {
                 Some(told) => if !self.add(one.place, var, told)? {
                     return Ok(false);
                 },
@@ -119,12 +123,10 @@ impl<'a> ToldPlaces<'a> {
     ) -> Result<bool, AllocError>
         ensures { IfOk result (λ b. b ≡ true → AreToldOf self.old self.new var unshown.now) }
     {
-        let causes = if is_hidden_somewhere(unshown) {
-            teller.causes_of(alloc, function, scalar, var)?
-        } else {
-            Causes::new(alloc)
-        };
-        self.add_entries(&causes, &teller.search, var, unshown)
+        if is_hidden_somewhere(unshown) {
+            teller.turn_to(alloc, function, scalar, var)?;
+        }
+        self.add_entries(teller, var, unshown)
     }
 
     /// What is told of each scalar of a function. Tells whether something is at each place where its home does not show it.
@@ -140,7 +142,8 @@ impl<'a> ToldPlaces<'a> {
     {
         let mut number = 0u32;
         for x in 0..scalars.len() {
-            if x >= unshown.len()
+            if number as usize != x
+                || x >= unshown.len()
                 || !self.add_scalar(alloc, teller, function, number, scalars[x].var, &unshown[x])?
             {
                 return Ok(false);
@@ -154,26 +157,21 @@ impl<'a> ToldPlaces<'a> {
     pub fn add_function(
         &mut self,
         alloc: Global,
-        teller: &mut Teller<'a>,
-        places: &PlaceTable,
+        teller: &mut Teller<'_>,
+        unit: &Surroundings<'a, '_>,
         number: u32,
         graph: &'a Graph,
         homes: &'a [Home],
     ) -> Result<bool, AllocError>
-        ensures { IfOk result (λ b. b ≡ true → IsFunctionTold (home_in homes.now) (graph_view graph.now) number places.now self.old self.new) }
+        ensures { IfOk result (λ b. b ≡ true → IsFunctionTold (home_in homes.now) (graph_view graph.now) number unit.now.places.now self.old self.new) }
     {
-        let changes = teller.changes.all;
-        let removals = teller.removals;
+        let (changes, removals, places) = (unit.changes, unit.removals, unit.places);
         let Some(unshown) = not_shown(alloc, number, graph, homes, changes, removals, places)?
         else {
             return Ok(false);
         };
-        let mut function = Function {
-            writers: Writers::new(alloc, number, graph, homes)?,
-            copies: Copies::new(alloc, graph)?,
-            written: Marks::new(alloc, teller.count)?,
-            own: Marks::new(alloc, homes.len())?,
-        };
+        let count = places.rows.len().saturating_add(1);
+        let mut function = Function::new(alloc, number, graph, homes, count)?;
         self.add_scalars(alloc, teller, &mut function, &graph.scalars, &unshown)
     }
 }

@@ -11,8 +11,8 @@ use Rattle.std.specs.Option.{option_map_or}
 use Rattle.note_state.proofs.Lists.{among_left, among_one, among_parts, among_right, get_put_other, get_put_same}
 use Rattle.note_state.specs.declared.homes.Homes as declared-homes
 use Rattle.note_state.specs.declared.state.State as declared-state
-use Rattle.note_flow.specs.declared.places.Unshown as declared-unshown
-use Rattle.note_flow.specs.declared.places.Found as declared-found
+use Rattle.note_flow.specs.declared.found.Unshown as declared-unshown
+use Rattle.note_flow.specs.declared.found.Found as declared-found
 use Rattle.note_flow.specs.declared.survey.Survey as declared-survey
 use Rattle.note_flow.specs.Found.{entries_of, is_met, IsPlaceOf, IsTold, IsAdded, IsNewPlace, Shows}
 use Rattle.note_flow.specs.Survey.{AreMet, IsExtended, IsFound}

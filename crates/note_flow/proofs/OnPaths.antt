@@ -19,9 +19,9 @@ use Rattle.note_state.specs.Notes.{IsSo, IsWithin}
 use Rattle.note_state.specs.Homes.{home_by}
 use Rattle.note_state.proofs.Lists.{among_one}
 use Rattle.note_state.proofs.Steps.{shown_by, so_within}
-use Rattle.note_flow.specs.declared.places.LastNote as declared-last
-use Rattle.note_flow.specs.declared.places.Unshown as declared-unshown
-use Rattle.note_flow.specs.declared.places.Found as declared-found
+use Rattle.note_flow.specs.declared.found.LastNote as declared-last
+use Rattle.note_flow.specs.declared.found.Unshown as declared-unshown
+use Rattle.note_flow.specs.declared.found.Found as declared-found
 use Rattle.note_flow.specs.declared.survey.Survey as declared-survey
 use Rattle.note_flow.specs.Numbering.{AreNumbered, scalar_in}
 use Rattle.note_flow.specs.Found.{entries_of, IsPlaceOf, Shows}

@@ -1,5 +1,5 @@
 -- From state to state over what is left.
-use Rattle.std.proofs.Common.{◌≡◌, inl, inr, ℕ, zero, suc, ◌+◌, ◌<◌, ◌≤◌, Bool, true, false, Option, Some, None, List, [], ◌∷◌, length, get_or, replicate, drop, map, refl, sym, ap, subst, ◌∙◌, arith, true≢false}
+use Rattle.std.proofs.Common.{◌≡◌, inl, inr, ℕ, zero, suc, ◌+◌, ◌<◌, ◌≤◌, Bool, true, false, Option, Some, None, List, [], ◌∷◌, length, get_or, replicate, drop, map, refl, sym, ap, subst, ◌∙◌, arith, true≢false, take, ◌++◌}
 use Rattle.std.specs.Global.{Vec}
 use Rattle.std.proofs.lemmas.Bool.Decides.{eqb_tells}
 use Rattle.std.proofs.lemmas.List.{get_or-set_other}
@@ -11,7 +11,7 @@ use Rattle.graph_core.specs.declared.instruction.Instr as declared-instr
 use Rattle.note_flow.proofs.Adding.{found_on}
 use Rattle.graph_core.specs.Graphs.{Instruction, Marker, End, Jump, instruction_view, end_view}
 use Rattle.note_state.specs.declared.state.State as declared-state
-use Rattle.note_flow.specs.declared.places.Found as declared-found
+use Rattle.note_flow.specs.declared.found.Found as declared-found
 use Rattle.note_flow.specs.declared.survey.Survey as declared-survey
 use Rattle.note_flow.specs.Survey.{comes_to, AreFirst, AreWithinAll, BeginsWith, IsChainSound, IsExtended, IsFound, IsReachedSound, IsSound, IsStep, IsWithinNext}
 
@@ -20,6 +20,15 @@ pub none_first : (n l : ℕ) → get_or (replicate n false) l false ≡ true →
 none_first zero l e = true≢false (sym e)
 none_first (suc n) zero e = true≢false (sym e)
 none_first (suc n) (suc l) e = none_first n l e
+
+take_all_of : {A : Type 0} (xs ys : List A) → take (length xs) (xs ++ ys) ≡ xs
+take_all_of [] [] = refl
+take_all_of [] (y ∷ ys) = refl
+take_all_of (x ∷ xs) ys = ap (λ zs. x ∷ zs) (take_all_of xs ys)
+
+-- so many of two lists, one behind the other, as the first one has
+pub take_back : {A : Type 0} (xs ys : List A) (n : ℕ) → n ≡ length xs → take n (xs ++ ys) ≡ xs
+take_back xs ys n e = subst (λ k. take k (xs ++ ys) ≡ xs) (sym e) (take_all_of xs ys)
 
 -- one chain more
 pub first_more : (chains : List (Vec ℕ)) (old new : List Bool) (c : Vec ℕ) → Among c chains → AreFirst chains old → ((l : ℕ) → get_or new l false ≡ true → (get_or old l false ≡ true) ⊎ BeginsWith c.items l) → AreFirst chains new

@@ -11,9 +11,9 @@ use Rattle.note_state.specs.declared.homes.Homes as declared-homes
 use Rattle.note_state.specs.declared.state.State as declared-state
 use Rattle.note_state.specs.Notes.{recipe_in, AreHeld}
 use Rattle.note_flow.specs.declared.numbering.Numbering as declared-numbering
-use Rattle.note_flow.specs.declared.places.LastNote as declared-last
-use Rattle.note_flow.specs.declared.places.Unshown as declared-unshown
-use Rattle.note_flow.specs.declared.places.Found as declared-found
+use Rattle.note_flow.specs.declared.found.LastNote as declared-last
+use Rattle.note_flow.specs.declared.found.Unshown as declared-unshown
+use Rattle.note_flow.specs.declared.found.Found as declared-found
 use Rattle.note_flow.specs.Numbering.{scalar_in}
 
 -- the places that are told of a scalar

@@ -9,8 +9,8 @@ use Rattle.graph_homes.specs.Homes.{HoldsOnAllPaths}
 use Rattle.graph_core.specs.Graphs.{Instruction, Marker, End, Graph, Of, Name, recipe_view}
 use Rattle.graph_core.specs.Paths.{Among, History, Path}
 use Rattle.graph_core.specs.WellMarked.{IsVariable}
-use Rattle.note_flow.specs.declared.places.LastNote as declared-last
-use Rattle.note_flow.specs.declared.places.Unshown as declared-unshown
+use Rattle.note_flow.specs.declared.found.LastNote as declared-last
+use Rattle.note_flow.specs.declared.found.Unshown as declared-unshown
 use Rattle.note_flow.specs.Found.{entries_of, IsPlaceOf}
 
 -- Each place whose marker some path reaches is one of the function.

@@ -11,8 +11,8 @@ use Rattle.graph_core.specs.Paths.{Among, History, Passed}
 use Rattle.note_state.specs.declared.homes.Homes as declared-homes
 use Rattle.note_state.specs.declared.state.State as declared-state
 use Rattle.note_state.specs.Notes.{IsSo, IsWithin}
-use Rattle.note_flow.specs.declared.places.Unshown as declared-unshown
-use Rattle.note_flow.specs.declared.places.Found as declared-found
+use Rattle.note_flow.specs.declared.found.Unshown as declared-unshown
+use Rattle.note_flow.specs.declared.found.Found as declared-found
 use Rattle.note_flow.specs.declared.states.States as declared-states
 use Rattle.note_flow.specs.declared.survey.Survey as declared-survey
 use Rattle.note_flow.specs.Found.{entries_of, is_met, AreVisibleTold, IsPlaceOf, Shows}

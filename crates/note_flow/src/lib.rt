@@ -2,11 +2,11 @@
 #![tactic(auto)]
 
 mod chains;
+mod found;
 mod numbering;
-mod places;
 mod states;
 mod survey;
 mod unshown;
 
-pub use places::{LastNote, Unshown};
+pub use found::{LastNote, Unshown};
 pub use unshown::not_shown;

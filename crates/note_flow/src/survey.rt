@@ -3,10 +3,10 @@
 ghost use Rattle.std.specs.Prelude.{◌≡◌, ◌⊎◌, ℕ, IfOk, false, get_or, map, true};
 ghost use Rattle.graph_core.specs.Graphs.{Jump, Marker, end_view, instruction_view};
 ghost use Rattle.note_flow.specs.Survey.{AreChainsSound, AreFirst, AreMet, BeginsWith, IsChainSound, IsExtended, IsFound, IsReachedSound, IsSound, IsStartWithin, IsWithinNext};
-ghost use Rattle.note_flow.specs.declared.places.Found as declared-found;
+ghost use Rattle.note_flow.specs.declared.found.Found as declared-found;
 
+use crate::found::Found;
 use crate::numbering::Numbering;
-use crate::places::Found;
 use crate::states::States;
 use debug_records::Place;
 use graph_core::{Block, End, Instr, Label};

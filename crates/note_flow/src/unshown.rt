@@ -10,8 +10,8 @@ ghost use Rattle.note_flow.specs.Found.{entries_of};
 ghost use Rattle.note_flow.specs.Shown.{AreDifferent, AreOwn, ArePlaced, AreRecipes, AreTheirs};
 
 use crate::chains::chains_of;
+use crate::found::{Found, Unshown};
 use crate::numbering::Numbering;
-use crate::places::{Found, Unshown};
 use crate::states::States;
 use crate::survey::{Survey, first_of_chains};
 use debug_records::Change;

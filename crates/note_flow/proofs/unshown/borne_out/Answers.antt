@@ -1,6 +1,6 @@
 use Rattle.std.proofs.Common.{◌≡◌, ℕ, [], List, subst}
 use Rattle.graph_core.specs.Paths.{Among}
-use Rattle.note_flow.specs.declared.places.Unshown as declared-unshown
+use Rattle.note_flow.specs.declared.found.Unshown as declared-unshown
 use Rattle.note_flow.specs.Found.{entries_of}
 use Rattle.note_flow.specs.Survey.{AreMet}
 use Rattle.note_flow.proofs.Adding.{extended_same}
@@ -8,8 +8,8 @@ use Rattle.note_flow.proofs.OnPaths.{are_different, are_own, are_placed, are_rec
 use Rattle.note_flow.proofs.unshown.borne_out.Goals as goal
 
 -- nothing is told of at first
-pub add_chains-requires-clause-met : goal.add_chains-requires-clause-met
-add_chains-requires-clause-met c = λ x u among. elim (subst (λ (l : List declared-unshown.Unshown). Among u l) (c.requires.none x) among) [ ]
+pub add_chains-requires : goal.add_chains-requires
+add_chains-requires c = record { met = λ x u among. elim (subst (λ (l : List declared-unshown.Unshown). Among u l) (c.requires.none x) among) [ ] }
 
 pub returns-clause-placed : goal.returns-clause-placed
 returns-clause-placed c = λ e.

@@ -1,7 +1,7 @@
 use Rattle.std.proofs.Common.{map, drop}
 use Rattle.graph_core.specs.Graphs.{instruction_view}
 use Rattle.note_state.specs.declared.state.State as declared-state
-use Rattle.note_flow.specs.declared.places.Found as declared-found
+use Rattle.note_flow.specs.declared.found.Found as declared-found
 use Rattle.note_flow.specs.Survey.{IsExtended, IsSound}
 use Rattle.note_flow.proofs.survey.Survey.add_block.Given as goal
 

@@ -1,6 +1,6 @@
 use Rattle.std.proofs.Common.{drop}
 use Rattle.graph_core.specs.Graphs.{end_view}
-use Rattle.note_flow.specs.declared.places.Found as declared-found
+use Rattle.note_flow.specs.declared.found.Found as declared-found
 use Rattle.note_flow.specs.Survey.{IsChainSound, IsExtended}
 use Rattle.note_flow.proofs.survey.Survey.add_chain.Given as goal
 

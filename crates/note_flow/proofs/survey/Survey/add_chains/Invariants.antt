@@ -1,5 +1,5 @@
 use Rattle.std.proofs.Common.{take}
-use Rattle.note_flow.specs.declared.places.Found as declared-found
+use Rattle.note_flow.specs.declared.found.Found as declared-found
 use Rattle.note_flow.specs.Survey.{AreChainsSound, IsExtended}
 use Rattle.note_flow.proofs.survey.Survey.add_chains.Given as goal
 
