@@ -2,6 +2,7 @@
 use Rattle.std.proofs.Common.{◌≡◌, ◌≢◌, inl, inr, ℕ, zero, suc, ◌+◌, ◌<◌, ◌≤◌, Bool, true, false, Option, Some, None, List, [], ◌∷◌, ◌++◌, length, get_or, map, take, refl, sym, ap, subst, ◌∙◌, arith}
 use Rattle.std.specs.Prelude.{slice_get, option_map, ◌⊎◌}
 use Rattle.std.specs.Global.{Vec}
+use Rattle.std.specs.Option.{option_map_or}
 use Rattle.std.proofs.lemmas.Bool.Decides.{eqb_tells}
 use Rattle.std.proofs.lemmas.Option.{none-some, same_Some, slice_get-map, slice_get-get_or, slice_get_within}
 use Rattle.debug_records.specs.declared.change.Var as declared-var
@@ -86,6 +87,13 @@ scalar_next old new more scalars found x s entries is of before one = record {
         let there : Among u entries = subst (λ es. Among u es) of (subst (λ k. Among u (entries_of found k)) e among) in
         let f = one.told u there in
         (f.0, f.1, f.2 ∙ ap (λ (z : declared-scalar.Scalar). z.var) same)
+
+-- the same, of the scalar and the entries that were read
+pub scalar_next_any : (old new more : declared-places.ToldPlaces) (scalars : List declared-scalar.Scalar) (found : List (Vec declared-unshown.Unshown)) (x : ℕ) (d : declared-scalar.Scalar) (v : Vec declared-unshown.Unshown) (entries : List declared-unshown.Unshown) → x < length scalars → x < length found
+    → v ≡ get_or found x v → entries ≡ v.items → AreScalarsTold old new scalars found x → AreToldOf new more (get_or scalars x d).var entries → AreScalarsTold old more scalars found (x + 1)
+scalar_next_any old new more scalars found x d v entries lt there is same before one =
+    scalar_next old new more scalars found x (get_or scalars x d) entries (slice_get-get_or scalars x d lt)
+    (ap (λ (o : Option (Vec declared-unshown.Unshown)). option_map_or (λ z. z.items) o []) (slice_get-get_or found x v there ∙ ap Some (sym is)) ∙ sym same) before one
 
 pub scalars_first : (old : declared-places.ToldPlaces) (scalars : List declared-scalar.Scalar) (found : List (Vec declared-unshown.Unshown)) → AreScalarsTold old old scalars found 0
 scalars_first old scalars found = record { kept = λ p t there. there; only = λ p t there. inl there; told = λ x s u lt. absurd (omega (arith, lt)) }

@@ -1,5 +1,5 @@
 -- What is told of functions, one after the other.
-use Rattle.std.proofs.Common.{◌≡◌, ◌≢◌, inl, inr, ℕ, zero, suc, ◌+◌, ◌<◌, Option, Some, None, List, [], length, map, refl, sym, ap, subst, ◌∙◌, arith}
+use Rattle.std.proofs.Common.{◌≡◌, ◌≢◌, inl, inr, ℕ, zero, suc, ◌+◌, ◌<◌, Option, Some, None, List, [], length, get_or, map, refl, sym, ap, subst, ◌∙◌, arith}
 use Rattle.std.specs.Prelude.{slice_get, ◌⊎◌}
 use Rattle.std.proofs.lemmas.Bool.Decides.{eqb_tells}
 use Rattle.std.proofs.lemmas.Option.{none-some, same_Some}
@@ -10,7 +10,16 @@ use Rattle.graph_homes.specs.Homes.{HoldsOnAllPaths}
 use Rattle.graph_core.specs.Graphs.{Graph, Of, Name, Recipe, recipe_view}
 use Rattle.graph_core.specs.Paths.{Among}
 use Rattle.graph_core.specs.WellMarked.{IsVariable}
-use Rattle.homed_unit.specs.Homed.{HomedForm, home_of}
+use Rattle.std.specs.Prelude.{option_map}
+use Rattle.std.specs.Option.{option_map_or}
+use Rattle.std.proofs.lemmas.List.{length-map}
+use Rattle.std.proofs.lemmas.Option.{slice_get-get_or, slice_get-map}
+use Rattle.graph_core.specs.declared.graph.Graph as declared-graph
+use Rattle.graph_core.specs.Graphs.{graph_view}
+use Rattle.note_state.specs.Homes.{home_in}
+use Rattle.homed_unit.specs.declared.homed.FunctionHomes as declared-homes
+use Rattle.homed_unit.specs.declared.homed.HomedUnit as declared-homed
+use Rattle.homed_unit.specs.Homed.{HomedForm, home_of, homed_view, homes_in}
 use Rattle.note_flow.specs.Found.{IsPlaceOf}
 use Rattle.note_flow.specs.Shown.{ArePlaced}
 use Rattle.currency.specs.declared.telling.Told as declared-told
@@ -18,7 +27,7 @@ use Rattle.currency.specs.declared.telling.Told.TheVariants as told
 use Rattle.currency.specs.declared.telling.ToldVariable as declared-variable
 use Rattle.currency.specs.declared.told.ToldPlaces as declared-places
 use Rattle.currency.specs.Telling.{told_at, IsFunctionTold, IsSomethingTold, IsToldRight}
-use Rattle.currency.specs.Sound.{AreFunctionsTold}
+use Rattle.currency.specs.Sound.{AreFunctionsTold, AreSo}
 
 -- one place is of one function
 one_function : (table : declared-table.PlaceTable) (f k p : ℕ) → IsPlaceOf table f p → IsPlaceOf table k p → f ≡ k
@@ -81,3 +90,20 @@ module _ (u : HomedForm) (table : declared-table.PlaceTable) where
       placed_here f d e there =
           let same : g ≡ d = same_Some g d (sym at ∙ sym (ap (λ k. slice_get u.unit.graphs k) e) ∙ there) in
           subst (λ k. ArePlaced d k table) (sym e) (subst (λ (c : Graph). ArePlaced c count table) same next.placed)
+
+-- the homes of a function
+names_at : (h : declared-homed.HomedUnit) (f : ℕ) (one : declared-homes.FunctionHomes) → slice_get h.homes.items f ≡ Some one → homes_in (homed_view h) f ≡ one.homes.items
+names_at h f one e =
+    ap (λ (o : Option (List Home)). option_map_or (λ (homes : List Home). homes) o []) (slice_get-map (λ (z : declared-homes.FunctionHomes). z.homes.items) h.homes.items f ∙ ap (λ o. option_map (λ (z : declared-homes.FunctionHomes). z.homes.items) o) e)
+
+-- one more function, as it was read
+pub told_next_any : (h : declared-homed.HomedUnit) (table : declared-table.PlaceTable) (old new : declared-places.ToldPlaces) (f number : ℕ) (g : declared-graph.Graph) (one : declared-homes.FunctionHomes) (names : List Home) → number ≡ f → f < length h.unit.graphs.items → g ≡ get_or h.unit.graphs.items f g
+    → f < length h.homes.items → one ≡ get_or h.homes.items f one → names ≡ one.homes.items → AreFunctionsTold (homed_view h) table f old → IsFunctionTold (home_in names) (graph_view g) number table old new → AreFunctionsTold (homed_view h) table (f + 1) new
+told_next_any h table old new f number g one names same lt is small kept of before next =
+    let at : slice_get (homed_view h).unit.graphs f ≡ Some (graph_view g) = slice_get-map graph_view h.unit.graphs.items f ∙ ap (λ o. option_map graph_view o) (slice_get-get_or h.unit.graphs.items f g lt ∙ ap Some (sym is)) in
+    let homes : homes_in (homed_view h) f ≡ names = names_at h f one (slice_get-get_or h.homes.items f one small ∙ ap Some (sym kept)) ∙ sym of in
+    told_next (homed_view h) table old new f (graph_view g) (home_in names) at (ap (λ (all : List Home). home_in all) homes) before (subst (λ n. IsFunctionTold (home_in names) (graph_view g) n table old new) same next)
+
+-- all functions
+pub told_all : (h : declared-homed.HomedUnit) (table : declared-table.PlaceTable) (told : declared-places.ToldPlaces) (f : ℕ) → f ≡ length h.unit.graphs.items → AreFunctionsTold (homed_view h) table f told → AreSo (homed_view h) table told
+told_all h table told f e all = subst (λ n. AreFunctionsTold (homed_view h) table n told) (e ∙ sym (length-map h.unit.graphs.items graph_view)) all

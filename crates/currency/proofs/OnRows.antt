@@ -1,5 +1,5 @@
 -- What verdicts say, row by row.
-use Rattle.std.proofs.Common.{◌≡◌, ◌≢◌, inl, inr, ℕ, zero, suc, ◌+◌, ◌-◌, ◌<◌, ◌≤◌, Option, Some, None, List, [], ◌∷◌, ◌++◌, length, get_or, map, refl, sym, ap, subst, ◌∙◌, arith}
+use Rattle.std.proofs.Common.{◌≡◌, ◌≢◌, inl, inr, ℕ, zero, suc, ◌+◌, ◌-◌, ◌<◌, ◌≤◌, Option, Some, None, List, [], ◌∷◌, ◌++◌, length, get_or, map, take, drop, refl, sym, ap, subst, ◌∙◌, arith}
 use Rattle.std.specs.Prelude.{slice_get, slice_set, MatchOption, ◌⊎◌}
 use Rattle.std.proofs.lemmas.Bool.Decides.{eqb_tells}
 use Rattle.std.proofs.lemmas.List.{get_or-set_same, get_or-set_other}
@@ -13,7 +13,9 @@ use Rattle.graph_core.specs.Graphs.{Graph, Of, Name, Recipe, recipe_view}
 use Rattle.graph_core.specs.Paths.{Among}
 use Rattle.graph_core.specs.WellMarked.{IsVariable}
 use Rattle.homed_unit.specs.Homed.{HomedForm, home_of}
-use Rattle.note_state.proofs.Lists.{among_at, at_among, among_parts, among_one}
+use Rattle.note_state.proofs.Lists.{among_at, at_among, among_parts, among_one, drop_end, drop_more, get_among, get_any}
+use Rattle.std.proofs.lemmas.List.{take_more}
+use Rattle.currency.specs.Visible.{Sight, next, sight, sights_at, sights_from}
 use Rattle.note_flow.specs.Shown.{IsVisible}
 use Rattle.currency.specs.declared.telling.Told as declared-told
 use Rattle.currency.specs.declared.telling.Told.TheVariants as told
@@ -58,6 +60,55 @@ told_more told p visible old rows w at among row before z there = elim (among_pa
   | inl a ↦ before z a
   | inr b ↦ inr (subst (λ (r : declared-row.PlaceVerdict). (r.place.0 ≡ p) × Among r.var visible × IsRowTold told r) (sym (among_one b)) (at, among, row))
 ]
+
+map_more : {A B : Type 0} (f : A → B) (xs : List A) (y : A) → map f (xs ++ (y ∷ [])) ≡ map f xs ++ (f y ∷ [])
+map_more f [] y = refl
+map_more f (x ∷ xs) y = ap (λ ys. f x ∷ ys) (map_more f xs y)
+
+more_more : {A : Type 0} (xs ys zs : List A) → (xs ++ ys) ++ zs ≡ xs ++ (ys ++ zs)
+more_more [] ys zs = refl
+more_more (x ∷ xs) ys zs = ap (λ all. x ∷ all) (more_more xs ys zs)
+
+more_none : {A : Type 0} (xs : List A) → xs ++ [] ≡ xs
+more_none [] = refl
+more_none (x ∷ xs) = ap (λ all. x ∷ all) (more_none xs)
+
+-- one more verdict at a place, on the variable that was read
+module _ (told : List declared-variable.ToldVariable) (p : ℕ) (visible : List declared-var.Var) (first rows new : List declared-row.PlaceVerdict) (k : ℕ) (d : declared-var.Var) (v : declared-verdict.Verdict) (lt : k < length visible)
+    (put : new ≡ rows ++ (record { place = record { 0 = p }; var = get_or visible k d; verdict = v } ∷ [])) where
+  pub told_next : (what : Option declared-variable.ToldVariable) → MatchOption what (IsNoneTold told (get_or visible k d)) (λ t. IsToldOf told (get_or visible k d) t) → IsVerdictOn what v → AreTold told p visible first rows → AreTold told p visible first new
+  told_next what is verdict before =
+      subst (λ (all : List declared-row.PlaceVerdict). AreTold told p visible first all) (sym put)
+      (told_more told p visible first rows (record { place = record { 0 = p }; var = get_or visible k d; verdict = v }) refl (get_among visible k (get_or visible k d) lt (get_any visible k d (get_or visible k d) lt)) (record { what = what; is = is; verdict = verdict }) before)
+
+  pub sights_next : (before : List Sight) → map sight rows ≡ before ++ sights_at p (take k visible) → map sight new ≡ before ++ sights_at p (take (k + 1) visible)
+  sights_next before e =
+      ap (map sight) put ∙ map_more sight rows (record { place = record { 0 = p }; var = get_or visible k d; verdict = v }) ∙ ap (λ (all : List Sight). all ++ (record { place = p; variable = (get_or visible k d).0 } ∷ [])) e
+      ∙ more_more before (sights_at p (take k visible)) (record { place = p; variable = (get_or visible k d).0 } ∷ [])
+      ∙ ap (λ (all : List Sight). before ++ all) (sym (map_more (λ (w : declared-var.Var). record { place = p; variable = w.0 }) (take k visible) (get_or visible k d)))
+      ∙ ap (λ vars. before ++ sights_at p vars) (sym (take_more visible k d lt))
+
+-- the variables of one more place
+pub sights_more : (p q : ℕ) (rows new : List declared-row.PlaceVerdict) (all : List declared-place.PlaceRow) (k : ℕ) (row : declared-place.PlaceRow) (visible : List declared-var.Var) (whole : List Sight) → k < length all → row ≡ get_or all k row → visible ≡ row.visible.items
+    → map sight new ≡ map sight rows ++ sights_at p visible → q ≡ next p → map sight rows ++ sights_from p (drop k all) ≡ whole → map sight new ++ sights_from q (drop (k + 1) all) ≡ whole
+sights_more p q rows new all k row visible whole lt is same more number before =
+    ap (λ l. l ++ sights_from q (drop (k + 1) all)) more ∙ ap (λ n. (map sight rows ++ sights_at p visible) ++ sights_from n (drop (k + 1) all)) number
+    ∙ ap (λ vars. (map sight rows ++ sights_at p vars) ++ sights_from (next p) (drop (k + 1) all)) same
+    ∙ more_more (map sight rows) (sights_at p row.visible.items) (sights_from (next p) (drop (k + 1) all)) ∙ ap (λ (l : List declared-place.PlaceRow). map sight rows ++ sights_from p l) (sym (drop_more all k row lt is)) ∙ before
+
+pub sights_done : (p : ℕ) (rows : List declared-row.PlaceVerdict) (all : List declared-place.PlaceRow) (k : ℕ) (whole : List Sight) → length all ≤ k → map sight rows ++ sights_from p (drop k all) ≡ whole → map sight rows ≡ whole
+sights_done p rows all k whole le e = sym (more_none (map sight rows)) ∙ sym (ap (λ (l : List declared-place.PlaceRow). map sight rows ++ sights_from p l) (drop_end all k le)) ∙ e
+
+-- what is told of a variable by its slot
+pub none_by_slot : (told : List declared-variable.ToldVariable) (slots : List ℕ) (v : declared-var.Var) (number : ℕ) → AreSlotted told slots → number ≡ get_or slots v.0 0 → (number ≡ 0) ⊎ (length told < number) → IsNoneTold told v
+none_by_slot told slots v number slotted is none = none_told told slots v slotted (λ k one e at of.
+    (let lt = slice_get_within told k one at in
+    elim none [ inl z ↦ omega (arith, is, e, z) | inr z ↦ omega (arith, is, e, z, lt) ]))
+
+pub other_by_slot : (told : List declared-variable.ToldVariable) (slots : List ℕ) (v : declared-var.Var) (number : ℕ) (one : declared-variable.ToldVariable) → AreSlotted told slots → number ≡ get_or slots v.0 0 → slice_get told (number - 1) ≡ Some one → (one.var.0 ≡ v.0 → ⊥) → IsNoneTold told v
+other_by_slot told slots v number one slotted is at other = none_told told slots v slotted (λ k two e there of.
+    (let same : number - 1 ≡ k = omega (arith, is, e) in
+    other (ap (λ (z : declared-variable.ToldVariable). z.var.0) (same_Some one two (sym at ∙ ap (λ n. slice_get told n) same ∙ there)) ∙ of)))
 
 -- the verdicts of one more place
 pub rows_more : (table : declared-table.PlaceTable) (told : declared-places.ToldPlaces) (p : ℕ) (row : declared-place.PlaceRow) (old new : List declared-row.PlaceVerdict) → slice_get table.rows.items p ≡ Some row → AreRowsTold table told old

@@ -157,16 +157,12 @@ fn told_of_all<'a>(
     }
     let mut number = 0u32;
     for f in 0..graphs.len() {
-        if number as usize != f
-            || !told.add_function(
-                alloc,
-                &mut teller,
-                &unit,
-                number,
-                &graphs[f],
-                &homes[f].homes,
-            )?
-        {
+        if number as usize != f {
+            return Ok(None);
+        }
+        let graph = &graphs[f];
+        let names = &homes[f];
+        if !told.add_function(alloc, &mut teller, &unit, number, graph, &names.homes)? {
             return Ok(None);
         }
         number = number.saturating_add(1);
@@ -194,5 +190,8 @@ pub fn verdicts(
     let Some(told) = told_of_all(alloc, homed, &removals, places, flow)? else {
         return Ok(None);
     };
-    rows_of(alloc, places, &told, variable_count(homed))
+    let Some(rows) = rows_of(alloc, places, &told, variable_count(homed))? else {
+        return Ok(None);
+    };
+    Ok(Some(rows))
 }

@@ -126,7 +126,7 @@ impl<'a> ToldPlaces<'a> {
         if is_hidden_somewhere(unshown) {
             teller.turn_to(alloc, function, scalar, var)?;
         }
-        self.add_entries(teller, var, unshown)
+        Ok(self.add_entries(teller, var, unshown)?)
     }
 
     /// What is told of each scalar of a function. Tells whether something is at each place where its home does not show it.
@@ -142,10 +142,11 @@ impl<'a> ToldPlaces<'a> {
     {
         let mut number = 0u32;
         for x in 0..scalars.len() {
-            if number as usize != x
-                || x >= unshown.len()
-                || !self.add_scalar(alloc, teller, function, number, scalars[x].var, &unshown[x])?
-            {
+            if number as usize != x || x >= unshown.len() {
+                return Ok(false);
+            }
+            let entries = &unshown[x];
+            if !self.add_scalar(alloc, teller, function, number, scalars[x].var, entries)? {
                 return Ok(false);
             }
             number = number.saturating_add(1);
@@ -172,6 +173,6 @@ impl<'a> ToldPlaces<'a> {
         };
         let count = places.rows.len().saturating_add(1);
         let mut function = Function::new(alloc, number, graph, homes, count)?;
-        self.add_scalars(alloc, teller, &mut function, &graph.scalars, &unshown)
+        Ok(self.add_scalars(alloc, teller, &mut function, &graph.scalars, &unshown)?)
     }
 }
