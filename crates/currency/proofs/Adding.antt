@@ -8,6 +8,7 @@ use Rattle.debug_records.specs.declared.change.Var as declared-var
 use Rattle.graph_core.specs.Paths.{Among, front}
 use Rattle.note_state.proofs.Lists.{among_left, among_one, among_parts, among_right, get_put_other, get_put_same}
 use Rattle.hiding_changes.specs.declared.causes.Cause as declared-cause
+use Rattle.hiding_changes.specs.declared.writers.Writer as declared-writer
 use Rattle.currency.specs.declared.telling.Told as declared-told
 use Rattle.currency.specs.declared.telling.Told.TheVariants as told
 use Rattle.currency.specs.declared.telling.ToldVariable as declared-variable
@@ -16,6 +17,15 @@ use Rattle.currency.specs.declared.verdict.Verdict as declared-verdict
 use Rattle.currency.specs.declared.verdict.Verdict.TheVariants as verdict
 use Rattle.currency.specs.Telling.{told_at, IsCauseOf, IsToldOne, IsVerdictOf}
 use Rattle.hiding_changes.specs.declared.causes.Cause.TheVariants as cause
+
+pub cause_removed : (z : declared-cause.Cause) (n start : ℕ) → z ≡ cause.Removed n start → IsCauseOf z (verdict.Noncurrent n (record { 0 = start }) None)
+cause_removed z n start e = subst (λ (y : declared-cause.Cause). IsCauseOf y (verdict.Noncurrent n (record { 0 = start }) None)) (sym e) refl
+
+pub cause_moved : (z : declared-cause.Cause) (n start : ℕ) (w : declared-writer.Writer) → z ≡ cause.Moved n start w → IsCauseOf z (verdict.Noncurrent n (record { 0 = start }) (Some w))
+cause_moved z n start w e = subst (λ (y : declared-cause.Cause). IsCauseOf y (verdict.Noncurrent n (record { 0 = start }) (Some w))) (sym e) refl
+
+pub cause_reused : (z : declared-cause.Cause) (n start : ℕ) (w : declared-writer.Writer) → z ≡ cause.Reused n start w → IsCauseOf z (verdict.Nonresident n (record { 0 = start }) w)
+cause_reused z n start w e = subst (λ (y : declared-cause.Cause). IsCauseOf y (verdict.Nonresident n (record { 0 = start }) w)) (sym e) refl
 
 -- one more place of which nothing is told
 pub none_more : (all : List (Vec declared-variable.ToldVariable)) (v : Vec declared-variable.ToldVariable) → v.items ≡ [] → ((p : ℕ) → option_map_or (λ (z : Vec declared-variable.ToldVariable). z.items) (slice_get all p) [] ≡ [])

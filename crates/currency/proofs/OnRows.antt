@@ -13,7 +13,7 @@ use Rattle.graph_core.specs.Graphs.{Graph, Of, Name, Recipe, recipe_view}
 use Rattle.graph_core.specs.Paths.{Among}
 use Rattle.graph_core.specs.WellMarked.{IsVariable}
 use Rattle.homed_unit.specs.Homed.{HomedForm, home_of}
-use Rattle.note_state.proofs.Lists.{among_at, at_among, among_parts, among_one, drop_end, drop_more, get_among, get_any}
+use Rattle.note_state.proofs.Lists.{among_at, at_among, among_parts, among_one, drop_end, drop_more, get_among, get_any, take_whole}
 use Rattle.std.proofs.lemmas.List.{take_more}
 use Rattle.currency.specs.Visible.{Sight, next, sight, sights_at, sights_from}
 use Rattle.note_flow.specs.Shown.{IsVisible}
@@ -87,6 +87,26 @@ module _ (told : List declared-variable.ToldVariable) (p : ℕ) (visible : List 
       ∙ more_more before (sights_at p (take k visible)) (record { place = p; variable = (get_or visible k d).0 } ∷ [])
       ∙ ap (λ (all : List Sight). before ++ all) (sym (map_more (λ (w : declared-var.Var). record { place = p; variable = w.0 }) (take k visible) (get_or visible k d)))
       ∙ ap (λ vars. before ++ sights_at p vars) (sym (take_more visible k d lt))
+
+take_none : {A : Type 0} (xs : List A) → take 0 xs ≡ []
+take_none [] = refl
+take_none (x ∷ xs) = refl
+
+pub sights_first : (p : ℕ) (visible : List declared-var.Var) (rows : List declared-row.PlaceVerdict) → map sight rows ≡ map sight rows ++ sights_at p (take 0 visible)
+sights_first p visible rows = sym (ap (λ vars. map sight rows ++ sights_at p vars) (take_none visible) ∙ more_none (map sight rows))
+
+pub sights_all : (p : ℕ) (visible : List declared-var.Var) (k : ℕ) (before after : List Sight) → length visible ≤ k → after ≡ before ++ sights_at p (take k visible) → after ≡ before ++ sights_at p visible
+sights_all p visible k before after le e = e ∙ ap (λ vars. before ++ sights_at p vars) (take_whole visible k le)
+
+pub rows_none : (table : declared-table.PlaceTable) (told : declared-places.ToldPlaces) (rows : List declared-row.PlaceVerdict) → rows ≡ [] → AreRowsTold table told rows
+rows_none table told rows e w among = absurd (nothing w (subst (λ l. Among w l) e among))
+  where
+    nothing : (w : declared-row.PlaceVerdict) → Among w [] → ⊥
+    nothing w among = elim among [ ]
+
+pub sights_none : (rows : List declared-row.PlaceVerdict) (all : List declared-place.PlaceRow) → rows ≡ [] → map sight rows ++ sights_from 1 (drop 0 all) ≡ sights_from 1 all
+sights_none rows [] e = ap (λ l. map sight l ++ sights_from 1 []) e
+sights_none rows (r ∷ all) e = ap (λ l. map sight l ++ sights_from 1 (r ∷ all)) e
 
 -- the variables of one more place
 pub sights_more : (p q : ℕ) (rows new : List declared-row.PlaceVerdict) (all : List declared-place.PlaceRow) (k : ℕ) (row : declared-place.PlaceRow) (visible : List declared-var.Var) (whole : List Sight) → k < length all → row ≡ get_or all k row → visible ≡ row.visible.items

@@ -29,5 +29,8 @@ loop-row-preserved c =
       told = rows_more table told k row rows new (slice_get-get_or all k row c.loop-row-test.true ∙ ap Some (sym c.row-item.is)) inv.told more;
     }
 
+pub returns-clause-told : goal.returns-clause-told
+returns-clause-told c = c.loop-row.invariant.told
+
 pub returns-clause-sights : goal.returns-clause-sights
 returns-clause-sights c = sights_done c.loop-row.place c.loop-row.rows.items c.args.places.now.rows.items c.loop-row.row-index (sights_from 1 c.args.places.now.rows.items) (omega arith) c.loop-row.invariant.sights
