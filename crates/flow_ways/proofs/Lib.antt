@@ -1,6 +1,0 @@
-mod Pushing
-mod Numbers
-mod Going
-mod Marking
-mod Telling
-pub mod Routes
