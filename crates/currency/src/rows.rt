@@ -102,7 +102,7 @@ fn rows_of(
     let mut rows = Vec::new(alloc);
     let mut place = 1u32;
     for row in &places.rows {
-        if place == u32::MAX {
+        if place == u32::MAX || place as usize >= told.count() {
             return Ok(None);
         }
         if !push_place(

@@ -1,6 +1,6 @@
 //! What is told at places.
 
-ghost use Rattle.std.specs.Prelude.{◌≡◌, ℕ, IfOk, IfSome, [], true};
+ghost use Rattle.std.specs.Prelude.{◌≡◌, ◌<◌, ℕ, IfOk, IfSome, [], length, true};
 ghost use Rattle.graph_core.specs.Graphs.{graph_view};
 ghost use Rattle.note_state.specs.Homes.{home_in};
 ghost use Rattle.currency.specs.Telling.{AreToldOf, AreToldAll, IsFunctionTold, IsRecipeOf, IsToldOne, told_at};
@@ -72,12 +72,17 @@ impl<'a> ToldPlaces<'a> {
 
     /// What is told at a place.
     pub fn at(&self, place: u32) -> &[ToldVariable<'a>]
+        requires { place < length self.now.by_place.items }
         ensures { result.now ≡ told_at self.now place }
     {
-        match self.by_place.get(place as usize) {
-            Some(found) => found.as_slice(),
-            None => &[],
-        }
+        &self.by_place[place as usize]
+    }
+
+    /// At so many places something may be told.
+    pub fn count(&self) -> usize
+        ensures { result ≡ length self.now.by_place.items }
+    {
+        self.by_place.len()
     }
 
     /// This is told of a variable at a place. Tells whether there is such a place.
