@@ -1,74 +1,180 @@
 //! The verdicts on all variables at all places.
 
-ghost use Rattle.std.specs.Prelude.{◌≡◌, ◌++◌, IfOk, IfSome, OnOk, map};
+ghost use Rattle.std.specs.Prelude.{◌≡◌, ◌++◌, ℕ, IfOk, IfSome, MatchOption, get_or, map, true};
+ghost use Rattle.homed_unit.specs.Homed.{homed_view};
+ghost use Rattle.currency.specs.Telling.{AreRowsTold, AreSlotted, AreTold, IsNoneTold, IsToldOf, IsVerdictOn, told_at};
+ghost use Rattle.currency.specs.Sound.{AreHome, AreRecovered, AreSo};
 ghost use Rattle.currency.specs.Visible.{sight, sights_at, sights_from};
 
-use crate::telling::{Teller, ToldVariable};
+use crate::telling::ToldVariable;
+use crate::told::{Surroundings, ToldPlaces};
 use crate::verdict::{PlaceVerdict, Verdict};
 use debug_records::{Place, Var};
+use hiding_changes::Teller;
 use homed_unit::HomedUnit;
-use note_flow::Removals;
+use note_state::Removals;
 use places::{FlowTable, PlaceTable};
 use std::alloc::{AllocError, Global};
 
-/// The verdict on a variable: what is told of it, where it is the next one of which something is told.
-fn verdict_on(
-    alloc: Global,
-    var: Var,
-    next: Option<ToldVariable<'_>>,
-) -> Result<(Verdict, bool), AllocError> {
-    match next {
-        Some(told) if told.var.0 == var.0 => Ok((told.told.verdict(alloc)?, true)),
-        _ => Ok((Verdict::Home, false)),
+/// Puts for each variable of which something is told at a place the number of what is told, from 1 on. Tells whether each has a slot.
+fn put_slots(told: &[ToldVariable<'_>], slots: &mut [u32]) -> bool
+    ensures { result ≡ true → AreSlotted told.now slots.new }
+{
+    for k in 0..told.len() {
+        if told[k].var.0 as usize >= slots.len() || k >= 0xffff_ffff {
+            return false;
+        }
+        slots[told[k].var.0 as usize] = k as u32 + 1;
+    }
+    true
+}
+
+/// The number in the slot of a variable; 0 where it has none.
+fn slot_of(slots: &[u32], var: Var) -> usize
+    ensures { result ≡ get_or slots.now var.0 0 }
+{
+    match slots.get(var.0 as usize) {
+        Some(number) => *number as usize,
+        None => 0,
     }
 }
 
-/// Appends the verdicts on the variables that are visible at a place.
+/// What is told of a variable at a place, if something is.
+fn told_on<'a>(told: &[ToldVariable<'a>], slots: &[u32], var: Var) -> Option<ToldVariable<'a>>
+    requires slots { AreSlotted told.now slots.now }
+    ensures { MatchOption result (IsNoneTold told.now var) (λ one. IsToldOf told.now var one) }
+{
+    let number = slot_of(slots, var);
+    if number == 0 || number > told.len() {
+        return None;
+    }
+    let one = told[number - 1];
+    if one.var.0 == var.0 { Some(one) } else { None }
+}
+
+/// The verdict on a variable, of which this is told, or nothing.
+fn verdict_on(alloc: Global, told: Option<ToldVariable<'_>>) -> Result<Verdict, AllocError>
+    ensures { IfOk result (λ v. IsVerdictOn told.entry v) }
+{
+    match told {
+        Some(one) => one.told.verdict(alloc),
+        None => Ok(Verdict::Home),
+    }
+}
+
+/// Appends the verdicts on the variables that are visible at a place, at which this is told. Tells whether each variable of which something is told has a slot.
 fn push_place(
     alloc: Global,
     place: u32,
     visible: &[Var],
-    teller: &Teller<'_>,
+    told: &[ToldVariable<'_>],
+    slots: &mut [u32],
     rows: &mut Vec<PlaceVerdict>,
-) -> Result<(), AllocError>
-    ensures { OnOk result (map sight rows.new.items ≡ map sight rows.old.items ++ sights_at place visible.now) }
+) -> Result<bool, AllocError>
+    ensures sights { IfOk result (λ b. b ≡ true → map sight rows.new.items ≡ map sight rows.old.items ++ sights_at place visible.now) }
+    ensures told { IfOk result (λ b. b ≡ true → AreTold told.now place visible.now rows.old.items rows.new.items) }
 {
-    let mut number = 0usize;
+    if !put_slots(told, slots) {
+        return Ok(false);
+    }
     for var in visible {
-        let (verdict, is_next) = verdict_on(alloc, *var, teller.at(place, number))?;
-        if is_next {
-            number = number.saturating_add(1);
-        }
+        let verdict = verdict_on(alloc, told_on(told, slots, *var))?;
         rows.push(PlaceVerdict {
             place: Place(place),
             var: *var,
             verdict,
         })?;
     }
-    Ok(())
+    Ok(true)
 }
 
-/// The verdicts at all places.
+/// The verdicts at all places, for variables below a number.
 fn rows_of(
     alloc: Global,
     places: &PlaceTable,
-    teller: &Teller<'_>,
-) -> Result<Vec<PlaceVerdict>, AllocError>
-    ensures { IfOk result (λ v. map sight v.items ≡ sights_from 1 places.now.rows.items) }
+    told: &ToldPlaces<'_>,
+    variables: usize,
+) -> Result<Option<Vec<PlaceVerdict>>, AllocError>
+    ensures sights { IfOk result (λ o. IfSome o (λ v. map sight v.items ≡ sights_from 1 places.now.rows.items)) }
+    ensures told { IfOk result (λ o. IfSome o (λ v. AreRowsTold places.now told.now v.items)) }
 {
+    let mut slots = vec![in alloc; 0u32; variables]?;
     let mut rows = Vec::new(alloc);
     let mut place = 1u32;
     for row in &places.rows {
-        push_place(alloc, place, &row.visible, teller, &mut rows)?;
+        if place == u32::MAX || place as usize >= told.count() {
+            return Ok(None);
+        }
+        if !push_place(
+            alloc,
+            place,
+            &row.visible,
+            told.at(place),
+            &mut slots,
+            &mut rows,
+        )? {
+            return Ok(None);
+        }
         place = place.saturating_add(1);
     }
-    Ok(rows)
+    Ok(Some(rows))
+}
+
+/// Above the numbers of all variables that are scalars of a unit.
+fn variable_count(homed: &HomedUnit) -> usize {
+    let mut count = 0usize;
+    for graph in &homed.unit.graphs {
+        if let Some(last) = graph.scalars.last() {
+            count = count.max((last.var.0 as usize).saturating_add(1));
+        }
+    }
+    count
+}
+
+/// What is told of the scalars of each function. None where of one nothing is at a place where its home does not show it.
+fn told_of_all<'a>(
+    alloc: Global,
+    homed: &'a HomedUnit,
+    removals: &'a Removals,
+    places: &PlaceTable,
+    flow: &FlowTable,
+) -> Result<Option<ToldPlaces<'a>>, AllocError>
+    ensures { IfOk result (λ o. IfSome o (λ told. AreSo (homed_view homed.now) places.now told)) }
+{
+    let count = places.rows.len().saturating_add(1);
+    let changes = homed.unit.log.changes();
+    let mut teller = Teller::new(alloc, changes, flow, count)?;
+    let mut told = ToldPlaces::new(alloc, count)?;
+    let unit = Surroundings {
+        changes,
+        removals,
+        places,
+    };
+    let graphs = &homed.unit.graphs;
+    let homes = &homed.homes;
+    if graphs.len() > homes.len() {
+        return Ok(None);
+    }
+    let mut number = 0u32;
+    for f in 0..graphs.len() {
+        if number as usize != f {
+            return Ok(None);
+        }
+        let graph = &graphs[f];
+        let names = &homes[f];
+        if !told.add_function(alloc, &mut teller, &unit, number, graph, &names.homes)? {
+            return Ok(None);
+        }
+        number = number.saturating_add(1);
+    }
+    Ok(Some(told))
 }
 
 /// The verdict on each variable that is visible at each place, in the order of places and then of variables.
 ///
 /// The places and their flow are the unit's, and its homes are those that are assigned by rule. None where a variable is not shown and nothing hides it, or a recipe
-/// shows its value and no change removed an assignment of it, which no unit that the passes make of a program is known to meet. The only error is want of memory.
+/// shows its value and no change removed an assignment of it, or what was found of paths is not borne out (`not_shown` of `note_flow`), which no unit that the passes make of
+/// a program is known to meet. The only error is want of memory.
 pub fn verdicts(
     alloc: Global,
     homed: &HomedUnit,
@@ -76,17 +182,16 @@ pub fn verdicts(
     flow: &FlowTable,
 ) -> Result<Option<Vec<PlaceVerdict>>, AllocError>
     ensures visible { IfOk result (λ o. IfSome o (λ v. map sight v.items ≡ sights_from 1 places.now.rows.items)) }
+    ensures home { IfOk result (λ o. IfSome o (λ v. AreHome (homed_view homed.now) v.items)) }
+    ensures recovered { IfOk result (λ o. IfSome o (λ v. AreRecovered (homed_view homed.now) v.items)) }
 {
     let changes = homed.unit.log.changes();
     let removals = Removals::new(alloc, changes)?;
-    let mut teller = Teller::new(alloc, changes, &removals, places, flow)?;
-    let mut number = 0u32;
-    for (graph, homes) in homed.unit.graphs.iter().zip(homed.homes.iter()) {
-        if !teller.add_function(alloc, number, graph, &homes.homes)? {
-            return Ok(None);
-        }
-        number = number.saturating_add(1);
-    }
-    let rows = rows_of(alloc, places, &teller)?;
+    let Some(told) = told_of_all(alloc, homed, &removals, places, flow)? else {
+        return Ok(None);
+    };
+    let Some(rows) = rows_of(alloc, places, &told, variable_count(homed))? else {
+        return Ok(None);
+    };
     Ok(Some(rows))
 }

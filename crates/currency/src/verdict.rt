@@ -2,22 +2,7 @@
 
 use debug_records::{Place, Var};
 use graph_core::Recipe;
-
-/// What writes the home of a name.
-#[derive(Clone, Copy, PartialEq, Eq)]
-pub enum Writer {
-    /// An instruction, by its function, its block there and how many instructions stand before it in the block.
-    Instruction {
-        function: u32,
-        block: u32,
-        index: u32,
-    },
-    /// The binding of a parameter as its function is called.
-    Binding {
-        function: u32,
-        parameter: u32,
-    },
-}
+use hiding_changes::Writer;
 
 /// What can be told of a variable at a place (Hennessy 1982: current, recovered, noncurrent; Adl-Tabatabai and Gross 1996: nonresident).
 #[derive(Drop)]

@@ -2,16 +2,11 @@
 #![tactic(auto)]
 
 mod chains;
-mod function;
-mod homes;
-mod joining;
+mod found;
 mod numbering;
-mod recipes;
-mod removals;
-mod state;
 mod states;
+mod survey;
 mod unshown;
 
-pub use homes::{have_one_home, home_count, home_number};
-pub use removals::Removals;
-pub use unshown::{LastNote, Unshown, not_shown};
+pub use found::{LastNote, Unshown};
+pub use unshown::not_shown;

@@ -1,5 +1,8 @@
 //! The scalars of a function by their variables.
 
+ghost use Rattle.std.specs.Prelude.{◌≡◌, IfOk, IfSome, true};
+ghost use Rattle.note_flow.specs.Numbering.{AreNumbered, scalar_in};
+
 use debug_records::Var;
 use graph_core::Scalar;
 use std::alloc::{AllocError, Global};
@@ -30,8 +33,10 @@ fn variable_count(scalars: &[Scalar]) -> usize {
 }
 
 impl Numbering {
-    /// The numbers of scalars, which stand by position.
-    pub fn new(alloc: Global, scalars: &[Scalar]) -> Result<Numbering, AllocError> {
+    /// The numbers of scalars, which stand by position. None where two are one variable, or a variable is not between the first and the last.
+    pub fn new(alloc: Global, scalars: &[Scalar]) -> Result<Option<Numbering>, AllocError>
+        ensures { IfOk result (λ o. IfSome o (λ made. AreNumbered made scalars.now)) }
+    {
         let first = first_variable(scalars);
         let mut names = vec![in alloc; None; variable_count(scalars)]?;
         let mut name = 0u32;
@@ -42,11 +47,18 @@ impl Numbering {
             }
             name = name.saturating_add(1);
         }
-        Ok(Numbering { first, names })
+        let made = Numbering { first, names };
+        if made.has_all(scalars) {
+            Ok(Some(made))
+        } else {
+            Ok(None)
+        }
     }
 
     /// The scalar that a variable is, if it is one of the function.
-    pub fn scalar_of(&self, var: Var) -> Option<u32> {
+    pub fn scalar_of(&self, var: Var) -> Option<u32>
+        ensures { result ≡ scalar_in self.now var.0 }
+    {
         if var.0 < self.first {
             return None;
         }
@@ -54,5 +66,20 @@ impl Numbering {
             Some(found) => *found,
             None => None,
         }
+    }
+
+    /// Whether each scalar is that of its variable.
+    fn has_all(&self, scalars: &[Scalar]) -> bool
+        ensures { result ≡ true → AreNumbered self.now scalars.now }
+    {
+        for number in 0..scalars.len() {
+            match self.scalar_of(scalars[number].var) {
+                Some(found) => if found as usize != number {
+                    return false;
+                },
+                None => return false,
+            }
+        }
+        true
     }
 }

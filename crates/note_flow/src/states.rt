@@ -1,22 +1,24 @@
 //! What is so where chains of blocks begin.
 
-use crate::function::Function;
-use crate::state::State;
+ghost use Rattle.std.specs.Prelude.{◌≡◌, IfOk, true};
+ghost use Rattle.note_flow.specs.Survey.{AreWithinAll, IsWithinSome, comes_to};
+
 use graph_core::Block;
 use graph_paths::{flag, put_flag, successor};
+use note_state::{Function, State};
 use std::alloc::{AllocError, Global};
 
 /// For each block that begins a chain what is so there.
 #[derive(Drop)]
-pub struct States {
+pub struct States<'a> {
     /// By block; none where no path comes as far as was looked.
-    arrived: Vec<Option<State>>,
+    arrived: Vec<Option<State<'a>>>,
     /// Which blocks are still to be left with what is so there now.
     waiting: Vec<bool>,
 }
 
 /// Nothing has come to so many blocks.
-fn nothing(alloc: Global, count: usize) -> Result<Vec<Option<State>>, AllocError> {
+fn nothing<'a>(alloc: Global, count: usize) -> Result<Vec<Option<State<'a>>>, AllocError> {
     let mut arrived = Vec::new(alloc);
     for _ in 0..count {
         arrived.push(None)?;
@@ -25,28 +27,28 @@ fn nothing(alloc: Global, count: usize) -> Result<Vec<Option<State>>, AllocError
 }
 
 /// Steps over the blocks of a chain.
-fn walk(function: &Function<'_>, chain: &[u32], state: &mut State) {
+fn walk<'a>(function: &Function<'a>, chain: &[u32], state: &mut State<'a>) {
     for number in chain {
         if let Some(block) = function.graph.blocks.get(*number as usize) {
-            state.walk(function, *number, block);
+            state.walk(function, block);
         }
     }
 }
 
-impl States {
+impl<'a> States<'a> {
     /// A state comes to a block.
     fn arrive(
         &mut self,
         alloc: Global,
-        function: &Function<'_>,
+        function: &Function<'a>,
         to: u32,
-        state: &State,
+        state: &State<'a>,
     ) -> Result<(), AllocError> {
         let Some(found) = self.arrived.get_mut(to as usize) else {
             return Ok(());
         };
         let is_new = match found {
-            Some(old) => old.join(function, state),
+            Some(old) => old.join(state),
             None => {
                 *found = Some(state.duplicate(alloc)?);
                 true
@@ -59,10 +61,22 @@ impl States {
     }
 
     /// What is so where a chain begins that a path comes to.
-    pub fn at(&self, alloc: Global, block: u32) -> Result<Option<State>, AllocError> {
+    pub fn at(&self, alloc: Global, block: u32) -> Result<Option<State<'a>>, AllocError>
+        ensures { IfOk result (λ o. AreWithinAll o (comes_to self.now block)) }
+    {
         match self.arrived.get(block as usize) {
             Some(Some(state)) => Ok(Some(state.duplicate(alloc)?)),
             _ => Ok(None),
+        }
+    }
+
+    /// Whether a state is no less than what is so where a chain begins that a path comes to.
+    pub fn is_within(&self, block: u32, state: &State<'a>) -> bool
+        ensures { result ≡ true → IsWithinSome (comes_to self.now block) state.now }
+    {
+        match self.arrived.get(block as usize) {
+            Some(Some(found)) => found.is_within(state),
+            _ => false,
         }
     }
 
@@ -70,9 +84,9 @@ impl States {
     fn go_on(
         &mut self,
         alloc: Global,
-        function: &Function<'_>,
+        function: &Function<'a>,
         block: &Block,
-        state: &State,
+        state: &State<'a>,
     ) -> Result<(), AllocError> {
         for which in 0..2u32 {
             if let Some(to) = successor(&block.end, which) {
@@ -86,7 +100,7 @@ impl States {
     fn leave(
         &mut self,
         alloc: Global,
-        function: &Function<'_>,
+        function: &Function<'a>,
         chain: &[u32],
     ) -> Result<(), AllocError> {
         let (Some(first), Some(last)) = (chain.first(), chain.last()) else {
@@ -106,7 +120,7 @@ impl States {
     fn round(
         &mut self,
         alloc: Global,
-        function: &Function<'_>,
+        function: &Function<'a>,
         chains: &[Vec<u32>],
     ) -> Result<bool, AllocError> {
         let mut is_new = false;
@@ -126,10 +140,10 @@ impl States {
     /// lesser change.
     pub fn new(
         alloc: Global,
-        function: &Function<'_>,
+        function: &Function<'a>,
         chains: &[Vec<u32>],
         changes: usize,
-    ) -> Result<States, AllocError> {
+    ) -> Result<States<'a>, AllocError> {
         let count = function.graph.blocks.len();
         let mut states = States {
             arrived: nothing(alloc, count)?,

@@ -1,197 +1,111 @@
 //! The scalars that their homes do not show.
 
+ghost use Rattle.std.specs.Prelude.{◌≡◌, ℕ, IfOk, IfSome, [], map, true};
+ghost use Rattle.graph_core.specs.Graphs.{binding_view, graph_view};
+ghost use Rattle.note_state.specs.Homes.{home_by, home_in};
+ghost use Rattle.note_state.specs.Notes.{IsSo};
+ghost use Rattle.note_flow.specs.Numbering.{AreNumbered};
+ghost use Rattle.note_flow.specs.Survey.{AreFirst};
+ghost use Rattle.note_flow.specs.Found.{entries_of};
+ghost use Rattle.note_flow.specs.Shown.{AreDifferent, AreOwn, ArePlaced, AreRecipes, AreTheirs};
+
 use crate::chains::chains_of;
-use crate::function::{Function, Spot};
-use crate::homes::Homes;
+use crate::found::{Found, Unshown};
 use crate::numbering::Numbering;
-use crate::removals::Removals;
-use crate::state::{Noted, State};
 use crate::states::States;
-use debug_records::{Change, Place};
-use graph_core::{Block, Graph, Recipe};
+use crate::survey::{Survey, first_of_chains};
+use debug_records::Change;
+use graph_core::Graph;
 use graph_homes::Home;
+use note_state::{Function, Homes, Removals, State};
 use places::PlaceTable;
 use std::alloc::{AllocError, Global};
 
-/// What is last noted of a scalar on all paths to a place, where no home that it reads was written since on any, and each was last written for the name
-/// that is read.
-#[derive(Clone, Copy)]
-pub struct LastNote<'a> {
-    pub recipe: &'a Recipe,
-    /// The least number of the changes that removed an assignment of the scalar at a place where such a note stands that reaches; none where no change did.
-    pub change: Option<u32>,
-}
-
-/// A place where a scalar is visible, and its home does not show its value.
-#[derive(Clone, Copy)]
-pub struct Unshown<'a> {
-    pub place: Place,
-    /// What is last noted of it, if that shows its value.
-    pub last: Option<LastNote<'a>>,
-}
-
-/// What shows a scalar where this is so: its home, or what is last noted of it, if anything does.
-fn shown<'a>(function: &Function<'a>, state: &State, scalar: u32) -> (bool, Option<LastNote<'a>>) {
-    match state.last_of(scalar) {
-        Noted::Lost => (false, None),
-        Noted::Own => (state.holds(function, scalar), None),
-        Noted::Recipe {
-            block,
-            index,
-            change,
-        } => match function.recipe_at(block, index) {
-            Some(recipe) => {
-                if state.holds_all(function, recipe) {
-                    (false, Some(LastNote { recipe, change }))
-                } else {
-                    (false, None)
-                }
-            }
-            None => (false, None),
-        },
-    }
-}
-
-/// For so many scalars no places.
-fn no_places<'a>(alloc: Global, scalars: usize) -> Result<Vec<Vec<Unshown<'a>>>, AllocError> {
-    let mut found = Vec::new(alloc);
+/// Nothing is found yet of so many scalars and places.
+fn nothing<'a>(alloc: Global, scalars: usize, places: usize) -> Result<Found<'a>, AllocError>
+    ensures { IfOk result (λ found. (x : ℕ) → entries_of found.unshown.items x ≡ []) }
+{
+    let mut unshown = Vec::new(alloc);
     for _ in 0..scalars {
-        found.push(Vec::new(alloc))?;
+        unshown.push(Vec::new(alloc))?;
     }
-    Ok(found)
+    Ok(Found {
+        met: vec![in alloc; false; places]?,
+        unshown,
+    })
 }
 
-/// What the places of a function say, as far as they are looked at.
-#[derive(Drop)]
-struct Survey<'a, 'b> {
-    places: &'b PlaceTable,
-    numbering: Numbering,
-    /// By scalar.
-    found: Vec<Vec<Unshown<'a>>>,
-}
-
-impl<'a> Survey<'a, '_> {
-    /// A scalar is visible at a place, where this is so.
-    fn add(
-        &mut self,
-        function: &Function<'a>,
-        state: &State,
-        scalar: u32,
-        place: Place,
-    ) -> Result<(), AllocError> {
-        let (by_home, last) = shown(function, state, scalar);
-        if !by_home {
-            if let Some(found) = self.found.get_mut(scalar as usize) {
-                found.push(Unshown { place, last })?;
-            }
-        }
-        Ok(())
+/// What is found of a function where the walk over all chains bears out what is so where they begin.
+fn borne_out<'a>(
+    alloc: Global,
+    survey: &Survey<'a, '_>,
+    chains: &[Vec<u32>],
+    entered: &State<'a>,
+    found: &mut Found<'a>,
+) -> Result<bool, AllocError>
+    requires first { AreFirst chains.now survey.now.first.items }
+    requires numbered { AreNumbered survey.now.numbering survey.now.function.now.graph.now.scalars.items }
+    requires so { IsSo survey.now.function.now.homes (map binding_view survey.now.function.now.graph.now.parameters.items) entered.now [] }
+    requires none { (x : ℕ) → entries_of found.old.unshown.items x ≡ [] }
+    ensures placed { IfOk result (λ b. b ≡ true → ArePlaced (graph_view survey.now.function.now.graph.now) survey.now.number survey.now.table.now) }
+    ensures theirs { IfOk result (λ b. b ≡ true → AreTheirs found.new.unshown.items survey.now.number survey.now.table.now) }
+    ensures different { IfOk result (λ b. b ≡ true → AreDifferent (graph_view survey.now.function.now.graph.now)) }
+    ensures own { IfOk result (λ b. b ≡ true → AreOwn (home_by survey.now.function.now.homes) (graph_view survey.now.function.now.graph.now) survey.now.table.now found.new.unshown.items) }
+    ensures recipe { IfOk result (λ b. b ≡ true → AreRecipes (home_by survey.now.function.now.homes) (graph_view survey.now.function.now.graph.now) found.new.unshown.items) }
+{
+    if !survey.is_within(0, entered) {
+        return Ok(false);
     }
-
-    /// A place begins, where this is so.
-    fn add_place(
-        &mut self,
-        function: &Function<'a>,
-        state: &State,
-        place: Place,
-    ) -> Result<(), AllocError> {
-        if place.0 == 0 {
-            return Ok(());
-        }
-        let Some(row) = self.places.rows.get(place.0 as usize - 1) else {
-            return Ok(());
-        };
-        for var in &row.visible {
-            if let Some(scalar) = self.numbering.scalar_of(*var) {
-                self.add(function, state, scalar, place)?;
-            }
-        }
-        Ok(())
-    }
-
-    /// Walks over a block, and looks at its places.
-    fn add_block(
-        &mut self,
-        function: &Function<'a>,
-        number: u32,
-        block: &Block,
-        state: &mut State,
-    ) -> Result<(), AllocError> {
-        let mut spot = Spot {
-            block: number,
-            index: 0,
-            place: block.place,
-        };
-        for instruction in &block.instructions {
-            if let Some(place) = instruction.marker() {
-                spot.place = Some(place);
-                self.add_place(function, state, place)?;
-            }
-            state.step(function, instruction, spot);
-            spot.index = spot.index.saturating_add(1);
-        }
-        Ok(())
-    }
-
-    /// Walks over the blocks of a chain.
-    fn add_chain(
-        &mut self,
-        function: &Function<'a>,
-        chain: &[u32],
-        state: &mut State,
-    ) -> Result<(), AllocError> {
-        for number in chain {
-            if let Some(block) = function.graph.blocks.get(*number as usize) {
-                self.add_block(function, *number, block, state)?;
-            }
-        }
-        Ok(())
-    }
-
-    /// Walks over all chains.
-    fn add_chains(
-        &mut self,
-        alloc: Global,
-        function: &Function<'a>,
-        chains: &[Vec<u32>],
-        states: &States,
-    ) -> Result<(), AllocError> {
-        for chain in chains {
-            if let Some(first) = chain.first() {
-                if let Some(mut state) = states.at(alloc, *first)? {
-                    self.add_chain(function, chain, &mut state)?;
-                }
-            }
-        }
-        Ok(())
-    }
+    Ok(survey.add_chains(alloc, chains, found)?)
 }
 
 /// For each scalar of a function the places that some path reaches, where it is visible, and its home does not show its value: where not on all paths the last note
 /// of it says that its value is its own, its home is not written behind the note on any, and was last written for it. A home that was never written holds no
 /// name's value; parameters are written as the function is called.
 ///
-/// The homes are those of the function's names, the changes those of its unit with their removals, and the places those of its program. The only error is want of memory.
+/// The homes are those of the function's names, the changes those of its unit with their removals, and the places those of its program, in which the function has this
+/// number. None where what was found of paths is not borne out by a walk over all blocks that they reach, where two scalars are one variable, or where a place is not one of
+/// the function's or has two markers. The only error is want of memory.
 pub fn not_shown<'a>(
     alloc: Global,
+    number: u32,
     graph: &'a Graph,
     homes: &'a [Home],
     changes: &[Change],
     removals: &'a Removals,
     places: &PlaceTable,
-) -> Result<Vec<Vec<Unshown<'a>>>, AllocError> {
+) -> Result<Option<Vec<Vec<Unshown<'a>>>>, AllocError>
+    ensures placed { IfOk result (λ o. IfSome o (λ found. ArePlaced (graph_view graph.now) number places.now)) }
+    ensures theirs { IfOk result (λ o. IfSome o (λ found. AreTheirs found.items number places.now)) }
+    ensures different { IfOk result (λ o. IfSome o (λ found. AreDifferent (graph_view graph.now))) }
+    ensures own { IfOk result (λ o. IfSome o (λ found. AreOwn (home_in homes.now) (graph_view graph.now) places.now found.items)) }
+    ensures recipe { IfOk result (λ o. IfSome o (λ found. AreRecipes (home_in homes.now) (graph_view graph.now) found.items)) }
+{
+    let Some(numbering) = Numbering::new(alloc, &graph.scalars)? else {
+        return Ok(None);
+    };
     let function = Function {
         graph,
         homes: Homes::new(alloc, graph, homes)?,
         removals,
     };
     let chains = chains_of(alloc, &graph.blocks)?;
-    let states = States::new(alloc, &function, &chains, changes.len())?;
-    let mut survey = Survey {
-        places,
-        numbering: Numbering::new(alloc, &graph.scalars)?,
-        found: no_places(alloc, graph.scalars.len())?,
+    let survey = Survey {
+        function: &function,
+        number,
+        table: places,
+        numbering,
+        first: first_of_chains(alloc, &chains, graph.blocks.len())?,
+        states: States::new(alloc, &function, &chains, changes.len())?,
     };
-    survey.add_chains(alloc, &function, &chains, &states)?;
-    Ok(survey.found)
+    let entered = State::entered(alloc, &function)?;
+    let mut found = nothing(
+        alloc,
+        graph.scalars.len(),
+        places.rows.len().saturating_add(1),
+    )?;
+    if !borne_out(alloc, &survey, &chains, &entered, &mut found)? {
+        return Ok(None);
+    }
+    Ok(Some(found.unshown))
 }

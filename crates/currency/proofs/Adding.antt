@@ -1,0 +1,93 @@
+-- One thing more is told.
+use Rattle.std.proofs.Common.{◌≡◌, ◌≢◌, inl, inr, ℕ, zero, suc, ◌<◌, Option, Some, None, List, [], ◌∷◌, ◌++◌, length, refl, sym, ap, subst, ◌∙◌}
+use Rattle.std.specs.Prelude.{slice_get, slice_set, ◌⊎◌}
+use Rattle.std.specs.Option.{option_map_or}
+use Rattle.std.specs.Global.{Vec}
+use Rattle.std.proofs.lemmas.Bool.Decides.{eqb_tells}
+use Rattle.debug_records.specs.declared.change.Var as declared-var
+use Rattle.graph_core.specs.Paths.{Among, front}
+use Rattle.note_state.proofs.Lists.{among_left, among_one, among_parts, among_right, get_put_other, get_put_same}
+use Rattle.hiding_changes.specs.declared.causes.Cause as declared-cause
+use Rattle.hiding_changes.specs.declared.writers.Writer as declared-writer
+use Rattle.currency.specs.declared.telling.Told as declared-told
+use Rattle.currency.specs.declared.telling.Told.TheVariants as told
+use Rattle.currency.specs.declared.telling.ToldVariable as declared-variable
+use Rattle.currency.specs.declared.told.ToldPlaces as declared-places
+use Rattle.currency.specs.declared.verdict.Verdict as declared-verdict
+use Rattle.currency.specs.declared.verdict.Verdict.TheVariants as verdict
+use Rattle.currency.specs.Telling.{told_at, IsCauseOf, IsToldOne, IsVerdictOf}
+use Rattle.hiding_changes.specs.declared.causes.Cause.TheVariants as cause
+
+pub cause_removed : (z : declared-cause.Cause) (n start : ℕ) → z ≡ cause.Removed n start → IsCauseOf z (verdict.Noncurrent n (record { 0 = start }) None)
+cause_removed z n start e = subst (λ (y : declared-cause.Cause). IsCauseOf y (verdict.Noncurrent n (record { 0 = start }) None)) (sym e) refl
+
+pub cause_moved : (z : declared-cause.Cause) (n start : ℕ) (w : declared-writer.Writer) → z ≡ cause.Moved n start w → IsCauseOf z (verdict.Noncurrent n (record { 0 = start }) (Some w))
+cause_moved z n start w e = subst (λ (y : declared-cause.Cause). IsCauseOf y (verdict.Noncurrent n (record { 0 = start }) (Some w))) (sym e) refl
+
+pub cause_reused : (z : declared-cause.Cause) (n start : ℕ) (w : declared-writer.Writer) → z ≡ cause.Reused n start w → IsCauseOf z (verdict.Nonresident n (record { 0 = start }) w)
+cause_reused z n start w e = subst (λ (y : declared-cause.Cause). IsCauseOf y (verdict.Nonresident n (record { 0 = start }) w)) (sym e) refl
+
+-- one more place of which nothing is told
+pub none_more : (all : List (Vec declared-variable.ToldVariable)) (v : Vec declared-variable.ToldVariable) → v.items ≡ [] → ((p : ℕ) → option_map_or (λ (z : Vec declared-variable.ToldVariable). z.items) (slice_get all p) [] ≡ [])
+    → (p : ℕ) → option_map_or (λ (z : Vec declared-variable.ToldVariable). z.items) (slice_get (all ++ (v ∷ [])) p) [] ≡ []
+none_more [] v e none zero = e
+none_more [] v e none (suc p) = refl
+none_more (w ∷ all) v e none zero = none 0
+none_more (w ∷ all) v e none (suc p) = none_more all v e (λ q. none (suc q)) p
+
+module _ (old new : declared-places.ToldPlaces) (place : ℕ) (var : declared-var.Var) (what : declared-told.Told) (v w : Vec declared-variable.ToldVariable) (lt : place < length old.by_place.items) (is : slice_get old.by_place.items place ≡ Some v)
+    (put : new.by_place.items ≡ slice_set old.by_place.items place w) (more : w.items ≡ v.items ++ (record { var = var; told = what } ∷ [])) where
+  abbrev one : declared-variable.ToldVariable
+  one = record { var = var; told = what }
+
+  told_there : told_at new place ≡ v.items ++ (one ∷ [])
+  told_there =
+      ap (λ (all : List (Vec declared-variable.ToldVariable)). option_map_or (λ (z : Vec declared-variable.ToldVariable). z.items) (slice_get all place) []) put
+      ∙ ap (λ (o : Option (Vec declared-variable.ToldVariable)). option_map_or (λ (z : Vec declared-variable.ToldVariable). z.items) o []) (get_put_same old.by_place.items place w lt) ∙ more
+
+  told_before : told_at old place ≡ v.items
+  told_before = ap (λ (o : Option (Vec declared-variable.ToldVariable)). option_map_or (λ (z : Vec declared-variable.ToldVariable). z.items) o []) is
+
+  told_other : (p : ℕ) → p ≢ place → told_at new p ≡ told_at old p
+  told_other p other =
+      ap (λ (all : List (Vec declared-variable.ToldVariable)). option_map_or (λ (z : Vec declared-variable.ToldVariable). z.items) (slice_get all p) []) put
+      ∙ ap (λ (o : Option (Vec declared-variable.ToldVariable)). option_map_or (λ (z : Vec declared-variable.ToldVariable). z.items) o []) (get_put_other old.by_place.items place w p other)
+
+  kept_there : (t : declared-variable.ToldVariable) → Among t (told_at old place) → Among t (told_at new place)
+  kept_there t there = subst (λ l. Among t l) (sym told_there) (among_left v.items (one ∷ []) (subst (λ l. Among t l) told_before there))
+
+  only_there : (t : declared-variable.ToldVariable) → Among t (told_at new place) → Among t (told_at old place) ⊎ (t ≡ one)
+  only_there t there = elim (among_parts v.items (one ∷ []) (subst (λ l. Among t l) told_there there)) [ inl f ↦ inl (subst (λ l. Among t l) (sym told_before) f) | inr f ↦ inr (among_one f) ]
+
+  pub told_one : IsToldOne old new place var what
+  told_one = record {
+    kept = λ p t there. elim (eqb_tells p place) [
+      | inl e ↦ subst (λ k. Among t (told_at new k)) (sym e.1) (kept_there t (subst (λ k. Among t (told_at old k)) e.1 there))
+      | inr e ↦ subst (λ l. Among t l) (sym (told_other p e.1)) there
+    ];
+    only = λ p t there. elim (eqb_tells p place) [
+      | inl e ↦ elim (only_there t (subst (λ k. Among t (told_at new k)) e.1 there)) [
+        | inl f ↦ inl (subst (λ k. Among t (told_at old k)) (sym e.1) f)
+        | inr f ↦ inr (e.1, ap (λ (z : declared-variable.ToldVariable). z.var) f, ap (λ (z : declared-variable.ToldVariable). z.told) f)
+      ]
+      | inr e ↦ inl (subst (λ l. Among t l) (told_other p e.1) there)
+    ];
+    told = (one, subst (λ l. Among one l) (sym told_there) (among_right v.items (one ∷ []) front), refl);
+  }
+
+not_home : (c : declared-cause.Cause) → IsCauseOf c verdict.Home → ⊥
+not_home (cause.Removed n start) e = cc
+not_home (cause.Moved n start w) e = cc
+not_home (cause.Reused n start w) e = cc
+
+not_recovered : (c : declared-cause.Cause) (v : declared-verdict.Verdict) → IsCauseOf c v → IsVerdictOf (told.Hidden c) v
+not_recovered c verdict.Home e = not_home c e
+not_recovered (cause.Removed n start) (verdict.Recovered r d) e = absurd (cc)
+not_recovered (cause.Moved n start w) (verdict.Recovered r d) e = absurd (cc)
+not_recovered (cause.Reused n start w) (verdict.Recovered r d) e = absurd (cc)
+not_recovered c (verdict.Noncurrent d p w) e = e
+not_recovered c (verdict.Nonresident d p w) e = e
+
+-- the verdict that tells a cause tells what is told
+pub hidden_verdict : (c : declared-cause.Cause) (v : declared-verdict.Verdict) → IsCauseOf c v → IsVerdictOf (told.Hidden c) v
+hidden_verdict c v e = not_recovered c v e

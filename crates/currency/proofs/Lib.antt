@@ -1,0 +1,4 @@
+mod Adding
+mod Entries
+mod OfFunctions
+mod OnRows

@@ -1,0 +1,40 @@
+-- What verdicts say on all paths.
+use Rattle.std.specs.Prelude.{◌≡◌, ℕ, ◌<◌, ◌⊎◌, Option, Some, List, length, slice_get}
+use Rattle.places.specs.declared.table.PlaceTable as declared-table
+use Rattle.graph_homes.specs.Homes.{HoldsOnAllPaths}
+use Rattle.graph_core.specs.declared.recipe.Recipe as declared-recipe
+use Rattle.graph_core.specs.Graphs.{Graph, Of, Name, recipe_view}
+use Rattle.graph_core.specs.Paths.{Among}
+use Rattle.graph_core.specs.WellMarked.{IsVariable}
+use Rattle.homed_unit.specs.Homed.{HomedForm, home_of}
+use Rattle.note_flow.specs.Found.{IsPlaceOf}
+use Rattle.note_flow.specs.Shown.{ArePlaced, IsVisible}
+use Rattle.currency.specs.declared.telling.ToldVariable as declared-variable
+use Rattle.currency.specs.declared.told.ToldPlaces as declared-places
+use Rattle.currency.specs.declared.verdict.Verdict.TheVariants as verdict
+use Rattle.currency.specs.declared.verdict.PlaceVerdict as declared-row
+use Rattle.currency.specs.Telling.{told_at, IsSomethingTold, IsToldRight}
+
+module _ (u : HomedForm) where
+  -- What is told of the first functions of a unit.
+  pub record AreFunctionsTold (table : declared-table.PlaceTable) (count : ℕ) (told : declared-places.ToldPlaces) : Type 0 where
+    pub placed : (f : ℕ) (g : Graph) → f < count → slice_get u.unit.graphs f ≡ Some g → ArePlaced g f table
+    pub own : (f : ℕ) (g : Graph) (p x variable : ℕ) → f < count → slice_get u.unit.graphs f ≡ Some g → IsVariable g x variable → IsVisible table p variable → HoldsOnAllPaths (home_of u f) g p x (Of (Name x)) ⊎ IsSomethingTold told p variable
+    pub right : (p : ℕ) (t : declared-variable.ToldVariable) (f : ℕ) (g : Graph) → Among t (told_at told p) → f < count → slice_get u.unit.graphs f ≡ Some g → IsToldRight (home_of u f) g p t t.told
+    pub of : (p : ℕ) (t : declared-variable.ToldVariable) → Among t (told_at told p) → (f : ℕ) × (f < count) × IsPlaceOf table f p
+
+  -- What is told of all its functions.
+  abbrev pub AreSo : declared-table.PlaceTable → declared-places.ToldPlaces → Type 0
+  AreSo table told = AreFunctionsTold table (length u.unit.graphs) told
+
+  -- Where a verdict says that the home of a variable shows it, and the variable is a scalar of a function, on each path of the function to the place its last note is
+  -- its own value, its home was last written for it, and was not written behind the note. Of a variable in memory nothing is said: no home is read for it.
+  abbrev pub AreHome : List declared-row.PlaceVerdict → Type 0
+  AreHome rows =
+      (w : declared-row.PlaceVerdict) → Among w rows → w.verdict ≡ verdict.Home → (f x : ℕ) (g : Graph) → slice_get u.unit.graphs f ≡ Some g → IsVariable g x w.var.0 → HoldsOnAllPaths (home_of u f) g w.place.0 x (Of (Name x))
+
+  -- Where a verdict gives a recipe for a variable, that holds so.
+  abbrev pub AreRecovered : List declared-row.PlaceVerdict → Type 0
+  AreRecovered rows =
+      (w : declared-row.PlaceVerdict) (r : declared-recipe.Recipe) (change : ℕ) → Among w rows → w.verdict ≡ verdict.Recovered r change → (f x : ℕ) (g : Graph) → slice_get u.unit.graphs f ≡ Some g → IsVariable g x w.var.0
+      → HoldsOnAllPaths (home_of u f) g w.place.0 x (recipe_view r)

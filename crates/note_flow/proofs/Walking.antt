@@ -1,0 +1,90 @@
+-- From state to state over what is left.
+use Rattle.std.proofs.Common.{◌≡◌, inl, inr, ℕ, zero, suc, ◌+◌, ◌<◌, ◌≤◌, Bool, true, false, Option, Some, None, List, [], ◌∷◌, length, get_or, replicate, drop, map, refl, sym, ap, subst, ◌∙◌, arith, true≢false, take, ◌++◌}
+use Rattle.std.specs.Global.{Vec}
+use Rattle.std.proofs.lemmas.Bool.Decides.{eqb_tells}
+use Rattle.std.proofs.lemmas.List.{get_or-set_other}
+use Rattle.graph_core.specs.Paths.{Among, front, behind}
+use Rattle.note_state.proofs.Lists.{among_one, drop_end, drop_more_any}
+use Rattle.std.specs.Prelude.{slice_get, slice_set, ◌⊎◌}
+use Rattle.graph_core.specs.declared.block.Block as declared-block
+use Rattle.graph_core.specs.declared.instruction.Instr as declared-instr
+use Rattle.note_flow.proofs.Adding.{found_on}
+use Rattle.graph_core.specs.Graphs.{Instruction, Marker, End, Jump, instruction_view, end_view}
+use Rattle.note_state.specs.declared.state.State as declared-state
+use Rattle.note_flow.specs.declared.found.Found as declared-found
+use Rattle.note_flow.specs.declared.survey.Survey as declared-survey
+use Rattle.note_flow.specs.Survey.{comes_to, AreFirst, AreWithinAll, BeginsWith, IsChainSound, IsExtended, IsFound, IsReachedSound, IsSound, IsStep, IsWithinNext}
+
+-- at first no block is flagged
+pub none_first : (n l : ℕ) → get_or (replicate n false) l false ≡ true → ⊥
+none_first zero l e = true≢false (sym e)
+none_first (suc n) zero e = true≢false (sym e)
+none_first (suc n) (suc l) e = none_first n l e
+
+take_all_of : {A : Type 0} (xs ys : List A) → take (length xs) (xs ++ ys) ≡ xs
+take_all_of [] [] = refl
+take_all_of [] (y ∷ ys) = refl
+take_all_of (x ∷ xs) ys = ap (λ zs. x ∷ zs) (take_all_of xs ys)
+
+-- so many of two lists, one behind the other, as the first one has
+pub take_back : {A : Type 0} (xs ys : List A) (n : ℕ) → n ≡ length xs → take n (xs ++ ys) ≡ xs
+take_back xs ys n e = subst (λ k. take k (xs ++ ys) ≡ xs) (sym e) (take_all_of xs ys)
+
+-- one chain more
+pub first_more : (chains : List (Vec ℕ)) (old new : List Bool) (c : Vec ℕ) → Among c chains → AreFirst chains old → ((l : ℕ) → get_or new l false ≡ true → (get_or old l false ≡ true) ⊎ BeginsWith c.items l) → AreFirst chains new
+first_more chains old new c among before one l e = elim (one l e) [ inl f ↦ before l f | inr f ↦ (c, f.0, among, f.1) ]
+
+-- a flag is put
+pub flag_cases : (xs : List Bool) (i l : ℕ) → get_or (slice_set xs i true) l false ≡ true → (l ≡ i) ⊎ (get_or xs l false ≡ true)
+flag_cases xs i l e = elim (eqb_tells l i) [ inl f ↦ inl f.1 | inr f ↦ inr (sym (get_or-set_other xs i l true false f.1) ∙ e) ]
+
+-- a list that is not empty begins with its first one
+pub begins_with : (chain : List ℕ) (l d : ℕ) → 0 < length chain → l ≡ get_or chain 0 d → BeginsWith chain l
+begins_with [] l d lt e = absurd (omega (arith, lt))
+begins_with (n ∷ more) l d lt e = (more, ap (λ k. k ∷ more) (sym e))
+
+pub among_two : {l a b : ℕ} → Among l (a ∷ b ∷ []) → (l ≡ a) ⊎ (l ≡ b)
+among_two front = inl refl
+among_two (behind there) = inr (among_one there)
+
+module _ (v : declared-survey.Survey) (f : declared-found.Found) where
+  -- one instruction before what is left
+  pub sound_before : (i : Instruction) (rest all : List Instruction) (s t u : declared-state.State) → all ≡ i ∷ rest → ((p : ℕ) → i ≡ Marker p → IsFound v f s p) → IsStep (v.function.now.homes) s t i → IsSound v f rest t u → IsSound v f all s u
+  sound_before i rest all s t u e here step later = subst (λ (is : List Instruction). IsSound v f is s u) (sym e) (here, (t, step, later))
+
+  -- one block before what is left of a chain
+  pub chain_before : (l : ℕ) (b : declared-block.Block) (rest all : List ℕ) (e : End) (s t : declared-state.State) → all ≡ l ∷ rest → e ≡ Jump l → slice_get v.function.now.graph.now.blocks.items l ≡ Some b
+      → IsSound v f (map instruction_view b.instructions.items) s t → IsChainSound v f rest (end_view b.end) t → IsChainSound v f all e s
+  chain_before l b rest all e s t q leads is sound later = subst (λ (ls : List ℕ). IsChainSound v f ls e s) (sym q) (leads, (b, is, (t, sound, later)))
+
+-- the next instruction of a list
+pub sound_next : (v : declared-survey.Survey) (items : List declared-instr.Instr) (i : ℕ) (d : declared-instr.Instr) (f later : declared-found.Found) (s t u : declared-state.State) → i < length items → ((p : ℕ) → instruction_view (get_or items i d) ≡ Marker p → IsFound v f s p)
+    → IsExtended v.table.now v.number f later → IsStep v.function.now.homes s t (instruction_view (get_or items i d)) → IsSound v later (map instruction_view (drop (i + 1) items)) t u → IsSound v later (map instruction_view (drop i items)) s u
+sound_next v items i d f later s t u lt look more step rest =
+    sound_before v later (instruction_view (get_or items i d)) (map instruction_view (drop (i + 1) items)) (map instruction_view (drop i items)) s t u (ap (map instruction_view) (drop_more_any items i d lt)) (λ p e. found_on v f later s p more (look p e)) step rest
+
+pub sound_end : (v : declared-survey.Survey) (items : List declared-instr.Instr) (i : ℕ) (later : declared-found.Found) (s : declared-state.State) → length items ≤ i → IsSound v later (map instruction_view (drop i items)) s s
+sound_end v items i later s le = subst (λ (is : List declared-instr.Instr). IsSound v later (map instruction_view is) s s) (sym (drop_end items i le)) refl
+
+-- the next block of a chain
+pub chain_next : (v : declared-survey.Survey) (chain : List ℕ) (i d : ℕ) (later : declared-found.Found) (e : End) (s t : declared-state.State) (b : declared-block.Block) → i < length chain → e ≡ Jump (get_or chain i d) → slice_get v.function.now.graph.now.blocks.items (get_or chain i d) ≡ Some b
+    → IsSound v later (map instruction_view b.instructions.items) s t → IsChainSound v later (drop (i + 1) chain) (end_view b.end) t → IsChainSound v later (drop i chain) e s
+chain_next v chain i d later e s t b lt leads is sound rest = chain_before v later (get_or chain i d) b (drop (i + 1) chain) (drop i chain) e s t (drop_more_any chain i d lt) leads is sound rest
+
+pub chain_end : (v : declared-survey.Survey) (chain : List ℕ) (i : ℕ) (later : declared-found.Found) (e : End) (s : declared-state.State) → length chain ≤ i → IsWithinNext v e s → IsChainSound v later (drop i chain) e s
+chain_end v chain i later e s le next = subst (λ ls. IsChainSound v later ls e s) (sym (drop_end chain i le)) next
+
+-- a chain that a path comes to, or none does
+pub reached_by : (v : declared-survey.Survey) (chain : List ℕ) (d : ℕ) (later : declared-found.Found) (s : declared-state.State) → AreWithinAll (Some s) (comes_to v.states (get_or chain 0 d)) → IsChainSound v later chain (Jump (get_or chain 0 d)) s → IsReachedSound v later chain
+reached_by v chain d later s within sound l more e t comes =
+    let one : get_or chain 0 d ≡ l = ap (λ c. get_or c 0 d) e in
+    (s, subst (λ o. AreWithinAll (Some s) o) (ap (λ k. comes_to v.states k) one ∙ comes) within, subst (λ k. IsChainSound v later chain (Jump k) s) one sound)
+
+pub reached_not : (v : declared-survey.Survey) (chain : List ℕ) (d : ℕ) (later : declared-found.Found) → AreWithinAll None (comes_to v.states (get_or chain 0 d)) → IsReachedSound v later chain
+reached_not v chain d later none l more e t comes =
+    let one : get_or chain 0 d ≡ l = ap (λ c. get_or c 0 d) e in
+    absurd (subst (λ o. AreWithinAll None o) (ap (λ k. comes_to v.states k) one ∙ comes) none)
+
+pub reached_empty : (v : declared-survey.Survey) (chain : List ℕ) (later : declared-found.Found) → length chain ≡ 0 → IsReachedSound v later chain
+reached_empty v [] later none l more e t comes = absurd (omega (arith, ap (λ c. length c) e))
+reached_empty v (n ∷ chain) later none l more e t comes = absurd (omega (arith, none))

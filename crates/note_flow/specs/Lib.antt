@@ -1,0 +1,4 @@
+pub mod Numbering
+pub mod Found
+pub mod Survey
+pub mod Shown

@@ -1,0 +1,4 @@
+pub mod Lists
+pub mod ReadNames
+pub mod Steps
+mod Losing

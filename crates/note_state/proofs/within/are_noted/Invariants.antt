@@ -1,0 +1,7 @@
+use Rattle.std.proofs.Common.{◌≡◌, ℕ, ◌<◌, Some}
+use Rattle.graph_core.specs.Graphs.{Recipe}
+use Rattle.note_state.specs.Notes.{recipe_in}
+use Rattle.note_state.proofs.within.are_noted.Given as goal
+
+abbrev pub invariant-loop-k : goal.invariant-loop-k
+invariant-loop-k l = (x : ℕ) (r : Recipe) → x < l.k → recipe_in l.less x ≡ Some r → recipe_in l.more x ≡ Some r

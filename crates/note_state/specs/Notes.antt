@@ -1,0 +1,60 @@
+-- What a state says of the notes and the homes behind a history.
+use Rattle.std.specs.Prelude.{◌≡◌, ℕ, Option, Some, None, List, [], ◌∷◌, false, slice_get, slice_set}
+use Rattle.std.specs.Option.{option_map_or}
+use Rattle.graph_core.specs.Graphs.{Recipe, Of, Name, Is, Binding, ToScalar, ToObject, recipe_view}
+use Rattle.graph_core.specs.Uses.{names_in}
+use Rattle.graph_core.specs.Paths.{History, Among, last_note}
+use Rattle.graph_homes.specs.Homes.{last_writer, written_since}
+use Rattle.note_state.specs.declared.homes.Homes as declared-homes
+use Rattle.note_state.specs.declared.noted.Noted as declared-noted
+use Rattle.note_state.specs.declared.noted.Noted.TheVariants as noted
+use Rattle.note_state.specs.declared.state.State as declared-state
+use Rattle.note_state.specs.Homes.{home_by, number_in, readers_of, AreReadBy, IsUnread}
+
+-- the recipe that is noted of a scalar
+abbrev pub recipe_of : (x : ℕ) → declared-noted.Noted → Option Recipe
+recipe_of x noted.Lost = None
+recipe_of x noted.Own = Some (Of (Name x))
+recipe_of x (noted.Recipe r change) = Some (recipe_view r.now)
+
+-- what is noted of a scalar
+abbrev pub noted_in : List declared-noted.Noted → (x : ℕ) → declared-noted.Noted
+noted_in all x = option_map_or (λ (n : declared-noted.Noted). n) (slice_get all x) noted.Lost
+
+-- the recipe that is noted of a scalar, if one is
+abbrev pub recipe_in : List declared-noted.Noted → (x : ℕ) → Option Recipe
+recipe_in all x = recipe_of x (noted_in all x)
+
+-- No more is so in a state than in another one.
+pub record IsWithin (less more : declared-state.State) : Type 0 where
+  pub noted : (x : ℕ) (r : Recipe) → recipe_in less.noted.items x ≡ Some r → recipe_in more.noted.items x ≡ Some r
+  pub written : (k y : ℕ) → slice_get less.written.items k ≡ Some (Some y) → slice_get more.written.items k ≡ Some (Some y)
+
+module _ (m : declared-homes.Homes) where
+  -- The home of a name was last written for it.
+  abbrev pub IsHeld : declared-state.State → (y : ℕ) → Type 0
+  IsHeld s y = (k : ℕ) × (number_in m y ≡ Some k) × (slice_get s.written.items k ≡ Some (Some y))
+
+  -- The home of each name of a recipe was last written for it.
+  abbrev pub AreHeld : declared-state.State → Recipe → Type 0
+  AreHeld s r = (y : ℕ) → Among y (names_in r) → IsHeld s y
+
+  -- A state is so behind a history: what is noted of a scalar is its last note, and no home with a new number that it reads was written behind it; and a home
+  -- was last written for the name that is written down for it.
+  pub record IsSo (parameters : List Binding) (s : declared-state.State) (h : History) : Type 0 where
+    pub note : (x : ℕ) (r : Recipe) → recipe_in s.noted.items x ≡ Some r → last_note x h ≡ Some (Is r)
+    pub read : (x : ℕ) (r : Recipe) → recipe_in s.noted.items x ≡ Some r → AreReadBy m r x
+    pub untouched : (x : ℕ) (r : Recipe) → recipe_in s.noted.items x ≡ Some r → (y : ℕ) → Among y (names_in r) → (k : ℕ) → number_in m y ≡ Some k → written_since (home_by m) x (home_by m y) h ≡ false
+    pub written : (y : ℕ) → IsHeld s y → last_writer (home_by m) parameters (home_by m y) h ≡ Some y
+
+  -- The home of a name is written for it: what was noted is lost where it reads it.
+  pub record IsWritten (z : ℕ) (old new : declared-state.State) : Type 0 where
+    pub less : (x : ℕ) (r : Recipe) → recipe_in new.noted.items x ≡ Some r → recipe_in old.noted.items x ≡ Some r
+    pub unread : (x : ℕ) (r : Recipe) → recipe_in new.noted.items x ≡ Some r → (k : ℕ) → number_in m z ≡ Some k → Among x (readers_of m k) → IsUnread m r z
+    pub none : number_in m z ≡ None → new.written.items ≡ old.written.items
+    pub put : (k : ℕ) → number_in m z ≡ Some k → new.written.items ≡ slice_set old.written.items k (Some z)
+
+  -- A parameter is bound: a scalar's home is written for it.
+  abbrev pub IsBound : Binding → (old new : declared-state.State) → Type 0
+  IsBound (ToScalar z) old new = IsWritten z old new
+  IsBound (ToObject object) old new = new ≡ old

@@ -1,0 +1,38 @@
+//! What shows the value of a scalar.
+
+ghost use Rattle.std.specs.Prelude.{◌≡◌, ℕ, true};
+ghost use Rattle.graph_core.specs.Graphs.{recipe_view};
+ghost use Rattle.note_state.specs.Notes.{AreHeld, IsHeld};
+
+use crate::function::Function;
+use crate::state::State;
+use graph_core::{Operand, Recipe};
+
+impl<'a> State<'a> {
+    /// Whether the home of a name was last written for it.
+    pub fn holds(&self, function: &Function<'a>, name: u32) -> bool
+        ensures { result ≡ true → IsHeld function.now.homes self.now name }
+    {
+        match function.homes.number(name) {
+            Some(number) => match self.written.get(number as usize) {
+                Some(Some(written)) => *written == name,
+                _ => false,
+            },
+            None => false,
+        }
+    }
+
+    /// Whether the homes of all names that a recipe reads were last written for them.
+    pub fn holds_all(&self, function: &Function<'a>, recipe: &Recipe) -> bool
+        ensures { result ≡ true → AreHeld function.now.homes self.now (recipe_view recipe.now) }
+    {
+        match recipe {
+            Recipe::Operand(Operand::Name(name)) => self.holds(function, name.0),
+            Recipe::Operand(_) => true,
+            Recipe::Truncated(_, of) => self.holds_all(function, of),
+            Recipe::Operated(_, left, right) => {
+                self.holds_all(function, left) && self.holds_all(function, right)
+            }
+        }
+    }
+}

@@ -1,0 +1,162 @@
+//! What is so of the scalars and homes of a function on all paths to a point.
+
+ghost use Rattle.std.specs.Prelude.{◌≡◌, ◌≢◌, ℕ, IfOk, List, [], ◌∷◌, Some, None, map, slice_get, slice_set, false};
+ghost use Rattle.graph_core.specs.Graphs.{Binding as BindingForm, Recipe as RecipeForm, binding_view, instruction_view};
+ghost use Rattle.graph_core.specs.Paths.{Among, History, Passed};
+ghost use Rattle.note_state.specs.Homes.{IsUnread, readers_of};
+ghost use Rattle.note_state.specs.Notes.{IsBound, IsSo, IsWithin, IsWritten, noted_in, recipe_in, recipe_of};
+
+use crate::function::Function;
+use crate::noted::{Noted, read_note};
+use crate::recipes::reads_home;
+use debug_records::Place;
+use graph_core::{Binding, Block, Instr};
+use std::alloc::{AllocError, Global};
+
+/// What is so at a point.
+#[derive(Drop)]
+pub struct State<'a> {
+    /// By scalar.
+    pub noted: Vec<Noted<'a>>,
+    /// For each home that has a new number the name that it was last written for on all paths, if there is one.
+    pub written: Vec<Option<u32>>,
+}
+
+impl<'a> State<'a> {
+    /// Nothing was noted and nothing was written.
+    fn new(alloc: Global, function: &Function<'a>) -> Result<State<'a>, AllocError>
+        ensures noted { IfOk result (λ s. (x : ℕ) → recipe_in s.noted.items x ≡ None) }
+        ensures written { IfOk result (λ s. (k y : ℕ) → slice_get s.written.items k ≢ Some (Some y)) }
+    {
+        Ok(State {
+            noted: vec![in alloc; Noted::Lost; function.graph.scalars.len()]?,
+            written: vec![in alloc; None; function.homes.count()]?,
+        })
+    }
+
+    /// The function begins: its parameters are bound, all others were never written.
+    pub fn entered(alloc: Global, function: &Function<'a>) -> Result<State<'a>, AllocError>
+        ensures { IfOk result (λ s. IsSo function.now.homes (map binding_view function.now.graph.now.parameters.items) s []) }
+    {
+        let mut state = State::new(alloc, function)?;
+        for binding in &function.graph.parameters {
+            state.bind(function, binding);
+        }
+        Ok(state)
+    }
+
+    /// An equal state.
+    pub fn duplicate(&self, alloc: Global) -> Result<State<'a>, AllocError>
+        ensures { IfOk result (λ s. IsWithin s self.now) }
+    {
+        let noted = Vec::from_slice(alloc, &self.noted)?;
+        let written = Vec::from_slice(alloc, &self.written)?;
+        Ok(State { noted, written })
+    }
+
+    /// What is last noted of a scalar.
+    pub fn last_of(&self, scalar: u32) -> Noted<'a>
+        ensures { result ≡ noted_in self.now.noted.items scalar }
+    {
+        match self.noted.get(scalar as usize) {
+            Some(noted) => *noted,
+            None => Noted::Lost,
+        }
+    }
+
+    /// This is noted of a scalar.
+    fn put_note(&mut self, scalar: u32, noted: Noted<'a>)
+        ensures noted { self.new.noted.items ≡ slice_set self.old.noted.items scalar noted.entry }
+        ensures written { self.new.written.items ≡ self.old.written.items }
+    {
+        if (scalar as usize) < self.noted.len() {
+            self.noted[scalar as usize] = noted;
+        }
+    }
+
+    /// Whether what is last noted of a scalar reads the home of a name.
+    fn reads(&self, function: &Function<'a>, scalar: u32, name: u32) -> bool
+        ensures { result ≡ false → (r : RecipeForm) → recipe_in self.now.noted.items scalar ≡ Some r → IsUnread function.now.homes r name }
+    {
+        match self.last_of(scalar) {
+            Noted::Lost => false,
+            Noted::Own => function.homes.have_one(scalar, name),
+            Noted::Recipe { recipe, .. } => reads_home(&function.homes, recipe, name),
+        }
+    }
+
+    /// What was noted of a scalar is lost where it reads the home of a name.
+    fn lose_one(&mut self, function: &Function<'a>, scalar: u32, name: u32)
+        ensures written { self.new.written.items ≡ self.old.written.items }
+        ensures less { (x : ℕ) (r : RecipeForm) → recipe_in self.new.noted.items x ≡ Some r → recipe_in self.old.noted.items x ≡ Some r }
+        ensures unread { (r : RecipeForm) → recipe_in self.new.noted.items scalar ≡ Some r → IsUnread function.now.homes r name }
+    {
+        if self.reads(function, scalar, name) {
+            self.put_note(scalar, Noted::Lost);
+        }
+    }
+
+    /// What was noted is lost where it reads the home of a name, of these scalars.
+    fn lose(&mut self, function: &Function<'a>, readers: &[u32], name: u32)
+        ensures written { self.new.written.items ≡ self.old.written.items }
+        ensures less { (x : ℕ) (r : RecipeForm) → recipe_in self.new.noted.items x ≡ Some r → recipe_in self.old.noted.items x ≡ Some r }
+        ensures unread { (x : ℕ) (r : RecipeForm) → recipe_in self.new.noted.items x ≡ Some r → Among x readers.now → IsUnread function.now.homes r name }
+    {
+        for scalar in readers {
+            self.lose_one(function, *scalar, name);
+        }
+    }
+
+    /// A home was last written for a name.
+    fn put_name(&mut self, number: u32, name: u32)
+        ensures noted { self.new.noted.items ≡ self.old.noted.items }
+        ensures written { self.new.written.items ≡ slice_set self.old.written.items number (Some name) }
+    {
+        if (number as usize) < self.written.len() {
+            self.written[number as usize] = Some(name);
+        }
+    }
+
+    /// The home of a name is written for it.
+    fn write(&mut self, function: &Function<'a>, name: u32)
+        ensures { IsWritten function.now.homes name self.old self.new }
+    {
+        let Some(number) = function.homes.number(name) else {
+            return;
+        };
+        self.put_name(number, name);
+        self.lose(function, function.homes.readers(number), name);
+    }
+
+    /// A parameter is bound.
+    fn bind(&mut self, function: &Function<'a>, binding: &Binding)
+        ensures { IsBound function.now.homes (binding_view binding.now) self.old self.new }
+    {
+        match binding {
+            Binding::Scalar(name) => self.write(function, name.0),
+            Binding::Object(_) => {}
+        }
+    }
+
+    /// Steps over an instruction in a place.
+    pub fn step(&mut self, function: &Function<'a>, instruction: &'a Instr, place: Option<Place>)
+        ensures { (ps : List BindingForm) (p : Passed) (h : History) → p.instruction ≡ instruction_view instruction.now → IsSo function.now.homes ps self.old h → IsSo function.now.homes ps self.new (p ∷ h) }
+    {
+        if let Instr::Note { of, value } = instruction {
+            self.put_note(of.0, read_note(function, *of, value, place));
+        } else if let Some(target) = instruction.target() {
+            self.write(function, target.0);
+        }
+    }
+
+    /// Steps over the instructions of a block.
+    pub fn walk(&mut self, function: &Function<'a>, block: &'a Block) {
+        let mut place = block.place;
+        for instruction in &block.instructions {
+            if let Some(begun) = instruction.marker() {
+                place = Some(begun);
+            }
+            self.step(function, instruction, place);
+        }
+    }
+}

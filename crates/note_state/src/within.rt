@@ -1,0 +1,61 @@
+//! Whether less is so in one state than in another.
+
+ghost use Rattle.std.specs.Prelude.{◌≡◌, ℕ, Some, slice_get, true};
+ghost use Rattle.graph_core.specs.Graphs.{Recipe as RecipeForm};
+ghost use Rattle.note_state.specs.Notes.{IsWithin, recipe_in, recipe_of};
+
+use crate::noted::Noted;
+use crate::recipes::is_same;
+use crate::state::State;
+
+/// Whether what is noted is as in another state, or nothing.
+fn is_noted(one: Noted<'_>, other: Noted<'_>) -> bool
+    ensures { result ≡ true → (x : ℕ) (r : RecipeForm) → recipe_of x one.entry ≡ Some r → recipe_of x other.entry ≡ Some r }
+{
+    match (one, other) {
+        (Noted::Lost, _) | (Noted::Own, Noted::Own) => true,
+        (Noted::Recipe { recipe, .. }, Noted::Recipe { recipe: other, .. }) => {
+            is_same(recipe, other)
+        }
+        _ => false,
+    }
+}
+
+/// Whether what is noted of each scalar is as in another state, or nothing.
+fn are_noted(less: &[Noted<'_>], more: &[Noted<'_>]) -> bool
+    ensures { result ≡ true → (x : ℕ) (r : RecipeForm) → recipe_in less.now x ≡ Some r → recipe_in more.now x ≡ Some r }
+{
+    if less.len() > more.len() {
+        return false;
+    }
+    for k in 0..less.len() {
+        if !is_noted(less[k], more[k]) {
+            return false;
+        }
+    }
+    true
+}
+
+/// Whether each home was last written for the name as in another state, or nothing is known of it.
+fn are_written(less: &[Option<u32>], more: &[Option<u32>]) -> bool
+    ensures { result ≡ true → (k y : ℕ) → slice_get less.now k ≡ Some (Some y) → slice_get more.now k ≡ Some (Some y) }
+{
+    if less.len() > more.len() {
+        return false;
+    }
+    for k in 0..less.len() {
+        if less[k].is_some() && less[k] != more[k] {
+            return false;
+        }
+    }
+    true
+}
+
+impl<'a> State<'a> {
+    /// Whether no more is so than in another state.
+    pub fn is_within(&self, other: &State<'a>) -> bool
+        ensures { result ≡ true → IsWithin self.now other.now }
+    {
+        are_noted(&self.noted, &other.noted) && are_written(&self.written, &other.written)
+    }
+}
