@@ -21,7 +21,10 @@ use Rattle.graph_layout.specs.Names.{Names, names_of, scalar_of, object_of}
 use Rattle.graph_drafts.specs.Rules.{element_of}
 use Rattle.graph_drafts.specs.Drafts.{Made, ending, note}
 use Rattle.graph_code.specs.Steps.{or_zero}
-use Rattle.graph_counts.specs.Forms.{Coding, Part, going, placed_at, add_all, statements_reached, object_type_of}
+use Rattle.graph_coding.specs.Coding.{Coding, Part, going, placed_at}
+use Rattle.graph_coding.specs.Reached.{statements_reached}
+use Rattle.graph_declarators.specs.Declaring.{object_type_of}
+use Rattle.graph_forms.specs.Forms.{add_all}
 
 -- the number of an automatic variable among all variables
 abbrev pub variable_of : ProgramTree → (variable : ℕ) → ℕ
@@ -97,16 +100,20 @@ module _ (p : ProgramTree) where
   abbrev pub memory_object : (variable : ℕ) → MemoryObject
   memory_object x = record { var = record { 0 = variable_of p x }; element = object_element (object_type_of p x); count = object_count (object_type_of p x) }
 
-  -- what the code of a function stands on, where names are used again or not, in a graph of so many blocks
-  abbrev pub coding_of : TypedFunctionTree → (again : Bool) → (top : ℕ) → Coding
-  coding_of f again top = record {
-    names = names_of p f again;
+  -- what the code of a function with these names stands on, in a graph of so many blocks
+  abbrev pub coding_with : TypedFunctionTree → Names → (top : ℕ) → Coding
+  coding_with f n top = record {
+    names = n;
     program = p;
     places = places_of_program p;
     entry = number_at (places_of_program p) f.spot.at;
-    scalars = length (scalars_among (names_of p f again) (variables_in f));
+    scalars = length (scalars_among n (variables_in f));
     top = top;
   }
+
+  -- the same, where names are used again or not
+  abbrev pub coding_of : TypedFunctionTree → (again : Bool) → (top : ℕ) → Coding
+  coding_of f again top = coding_with f (names_of p f again) top
 
 -- the closing brace, where flow reaches it: `main` returns 0
 module _ (c : Coding) where
@@ -143,10 +150,10 @@ module _ (p : ProgramTree) where
   abbrev pub function_coding : TypedFunctionTree → (is_main : Bool) → Coding
   function_coding f is_main = coding_of p f (is_again f) (block_count f is_main)
 
-  -- the graph of a function
-  abbrev pub graph_of : TypedFunctionTree → (is_main : Bool) → Graph
-  graph_of f is_main =
-      let c = function_coding f is_main in let scalars = scalars_among c.names (variables_in f) in record {
+  -- the graph of a function whose code stands on this
+  abbrev pub graph_in : Coding → TypedFunctionTree → (is_main : Bool) → Graph
+  graph_in c f is_main =
+      let scalars = scalars_among c.names (variables_in f) in record {
         entry = c.entry;
         parameters = map (binding_of c.names) (parameters_of f);
         scalars = map (scalar_record p f c.entry scalars) scalars;
@@ -155,6 +162,10 @@ module _ (p : ProgramTree) where
         first_moved = names_used c f;
         blocks = blocks_in c (function_part c f is_main);
       }
+
+  -- the graph of a function
+  abbrev pub graph_of : TypedFunctionTree → (is_main : Bool) → Graph
+  graph_of f is_main = graph_in (function_coding f is_main) f is_main
 
   -- the graphs of functions, the first of which has this number
   abbrev pub graphs_from : (number : ℕ) → List TypedFunctionTree → List Graph

@@ -1,19 +1,32 @@
 //! What declarators write.
 
-use crate::form::{Form, Part, begun, coded, going, narrow, placed_at, site_of};
-use crate::reached::{bare, initial_reached};
+ghost use Rattle.std.specs.Prelude.{◌≡◌, ◌*◌, IfOk, map};
+ghost use Rattle.c_tree.specs.Programs.{program_view};
+ghost use Rattle.c_tree.specs.TypedExpressions.{rvalue_view};
+ghost use Rattle.c_tree.specs.TypedStatements.{declared_view, initial_view};
+ghost use Rattle.c_type_rules.specs.Integers.{scalar_size};
+ghost use Rattle.graph_core.specs.Graphs as unit;
+ghost use Rattle.graph_core.specs.Graphs.{location_view};
+ghost use Rattle.graph_drafts.specs.Drafts.{made_of};
+ghost use Rattle.graph_coding.specs.Coding.{coding_view, part_view};
+ghost use Rattle.graph_declarators.specs.Declaring.{add_declared, cleared, copied_words, declare, declare_array, declare_kept, declare_scalar, declare_single, object_type_of, store_elements, words_of};
+
 use c_flow::start_of_declarators;
-use c_tree::{Declared, Initial, ObjectType, Rvalue, Scalar};
+use c_tree::{Declared, Initial, ObjectType, Program, Rvalue, Scalar};
 use c_type_rules::{object_size, scalar_size};
-use graph_code::code;
+use graph_coding::{
+    Form, Part, bare, begun, coded, coded_from, going, initial_reached, narrow, placed_at,
+};
 use graph_core::{Location, Name, Operand};
 use graph_drafts::{Computation, Draft, Goal, clear, compute, copy, element_of, note, store};
 use graph_layout::{Use, following, object_of, pick, scalar_of, value_laid};
 use std::alloc::{AllocError, Global};
 
 /// The type of an automatic variable; an array of nothing where there is none of that number.
-pub fn object_type_of(form: &Form<'_>, variable: u32) -> ObjectType {
-    match form.program.automatics.get(variable as usize) {
+pub fn object_type_of(program: &Program, variable: u32) -> ObjectType
+    ensures { result ≡ object_type_of (program_view program.now) variable }
+{
+    match program.automatics.get(variable as usize) {
         None => ObjectType::Array {
             element: Scalar {
                 base: c_tree::IntegerType::Char,
@@ -26,21 +39,33 @@ pub fn object_type_of(form: &Form<'_>, variable: u32) -> ObjectType {
 }
 
 /// How many words so many bytes fill.
-pub fn words_of(bytes: u64) -> u32 {
-    narrow(bytes.saturating_add(3) / 4)
+fn words_of(bytes: u64) -> Result<u32, AllocError>
+    ensures { IfOk result (λ n. n ≡ words_of bytes) }
+{
+    match bytes.checked_add(3) {
+        None => Err(AllocError),
+        Some(more) => narrow(more / 4),
+    }
 }
 
 /// How many words of a literal are copied into an object of so many bytes.
-fn copied_words(form: &Form<'_>, literal: u32, bytes: u64) -> u32 {
-    match form.program.array_literals.get(literal as usize) {
-        None => 0,
-        Some(found) => words_of(bytes).min(words_of(found.bytes.len() as u64)),
+fn copied_words(form: &Form<'_>, literal: u32, bytes: u64) -> Result<u32, AllocError>
+    ensures { IfOk result (λ n. n ≡ copied_words (coding_view form.now) literal bytes) }
+{
+    match form.source.program.array_literals.get(literal as usize) {
+        None => Ok(0),
+        Some(found) => {
+            let words = words_of(bytes)?;
+            Ok(words.min(words_of(found.bytes.len() as u64)?))
+        }
     }
 }
 
 /// An array is set to zero first, unless so many words of it are covered by a literal and these are all.
-fn cleared(object: u32, bytes: u64, covered: u32, draft: Draft) -> Result<Draft, AllocError> {
-    let words = words_of(bytes);
+fn cleared(object: u32, bytes: u64, covered: u32, draft: Draft) -> Result<Draft, AllocError>
+    ensures { IfOk result (λ d. made_of d ≡ cleared object bytes covered (made_of draft)) }
+{
+    let words = words_of(bytes)?;
     if words <= covered {
         Ok(draft)
     } else {
@@ -49,12 +74,11 @@ fn cleared(object: u32, bytes: u64, covered: u32, draft: Draft) -> Result<Draft,
 }
 
 /// Where an element of an array stands.
-fn element_at(object: u32, scalar: Scalar, index: u32) -> Location {
-    let offset = u64::from(index) * u64::from(scalar_size(scalar));
-    Location::Automatic {
-        object,
-        offset: narrow(offset),
-    }
+fn element_at(object: u32, scalar: Scalar, index: u32) -> Result<Location, AllocError>
+    ensures { IfOk result (λ l. location_view l ≡ unit.Automatic object (index * scalar_size scalar)) }
+{
+    let offset = narrow(u64::from(index) * u64::from(scalar_size(scalar)))?;
+    Ok(Location::Automatic { object, offset })
 }
 
 /// An array's elements from an index on: each is stored where it stands.
@@ -68,7 +92,9 @@ fn store_elements(
     all: &[Rvalue],
     free: u32,
     draft: Draft,
-) -> Result<Draft, AllocError> {
+) -> Result<Draft, AllocError>
+    ensures { IfOk result (λ d. made_of d ≡ store_elements (coding_view form.now) at scalar object index (map rvalue_view all.now) free (made_of draft)) }
+{
     match all.split_first() {
         None => Ok(draft),
         Some((first, rest)) => {
@@ -77,9 +103,9 @@ fn store_elements(
             let next = pick(form.names, free, value.top);
             let behind = following(index)?;
             let later = store_elements(alloc, form, at, scalar, object, behind, rest, next, draft)?;
-            let to = element_at(object, scalar, index);
+            let to = element_at(object, scalar, index)?;
             let stored = store(element_of(scalar), to, value.value, later)?;
-            code(alloc, &site_of(form, at), e, free, Goal::To(None, stored))
+            coded_from(alloc, form, at, e, free, Goal::To(None, stored))
         }
     }
 }
@@ -94,7 +120,9 @@ fn declare_single(
     initial: &Initial,
     free: u32,
     draft: Draft,
-) -> Result<Draft, AllocError> {
+) -> Result<Draft, AllocError>
+    ensures { IfOk result (λ d. made_of d ≡ declare_single (coding_view form.now) at object scalar (initial_view initial.now) free (made_of draft)) }
+{
     let to = Location::Automatic { object, offset: 0 };
     let element = element_of(scalar);
     match initial {
@@ -108,7 +136,7 @@ fn declare_single(
     }
 }
 
-/// What a declarator writes into an array.
+/// What a declarator writes into an array of so many bytes.
 fn declare_array(
     alloc: Global,
     form: &Form<'_>,
@@ -119,7 +147,9 @@ fn declare_array(
     initial: &Initial,
     free: u32,
     draft: Draft,
-) -> Result<Draft, AllocError> {
+) -> Result<Draft, AllocError>
+    ensures { IfOk result (λ d. made_of d ≡ declare_array (coding_view form.now) at object element bytes (initial_view initial.now) free (made_of draft)) }
+{
     match initial {
         Initial::Elements(all) => {
             let first = begun(form, free);
@@ -127,7 +157,7 @@ fn declare_array(
             cleared(object, bytes, 0, draft)
         }
         Initial::Literal(literal) => {
-            let words = copied_words(form, *literal, bytes);
+            let words = copied_words(form, *literal, bytes)?;
             let draft = copy(object, *literal, words, draft)?;
             cleared(object, bytes, words, draft)
         }
@@ -135,18 +165,19 @@ fn declare_array(
     }
 }
 
-/// What a declarator writes into an object in memory.
+/// What a declarator writes into an object in memory of this type.
 fn declare_kept(
     alloc: Global,
     form: &Form<'_>,
-    declared: &Declared,
+    at: u32,
     object: u32,
+    of: ObjectType,
+    initial: &Initial,
     free: u32,
     draft: Draft,
-) -> Result<Draft, AllocError> {
-    let of = object_type_of(form, declared.variable);
-    let at = declared.spot.at;
-    let initial = &declared.initial;
+) -> Result<Draft, AllocError>
+    ensures { IfOk result (λ d. made_of d ≡ declare_kept (coding_view form.now) at object of (initial_view initial.now) free (made_of draft)) }
+{
     match of {
         ObjectType::Scalar(scalar) => {
             declare_single(alloc, form, at, object, scalar, initial, free, draft)
@@ -169,7 +200,9 @@ fn declare_scalar(
     initial: &Initial,
     free: u32,
     draft: Draft,
-) -> Result<Draft, AllocError> {
+) -> Result<Draft, AllocError>
+    ensures { IfOk result (λ d. made_of d ≡ declare_scalar (coding_view form.now) at name (initial_view initial.now) free (made_of draft)) }
+{
     let draft = note(Name(name), draft)?;
     match initial {
         Initial::Scalar(e) => { coded(alloc, form, at, e, free, Goal::To(Some(Name(name)), draft)) }
@@ -184,15 +217,17 @@ fn declare(
     declared: &Declared,
     free: u32,
     draft: Draft,
-) -> Result<Draft, AllocError> {
+) -> Result<Draft, AllocError>
+    ensures { IfOk result (λ d. made_of d ≡ declare (coding_view form.now) (declared_view declared.now) free (made_of draft)) }
+{
+    let at = declared.spot.at;
+    let initial = &declared.initial;
     match scalar_of(form.names, declared.variable) {
-        Some(name) => {
-            let at = declared.spot.at;
-            declare_scalar(alloc, form, at, name, &declared.initial, free, draft)
-        }
+        Some(name) => declare_scalar(alloc, form, at, name, initial, free, draft),
         None => {
             let object = object_of(form.names, declared.variable).unwrap_or(0);
-            declare_kept(alloc, form, declared, object, free, draft)
+            let of = object_type_of(form.source.program, declared.variable);
+            declare_kept(alloc, form, at, object, of, initial, free, draft)
         }
     }
 }
@@ -205,7 +240,9 @@ pub fn add_declared(
     free: u32,
     next: Option<u32>,
     part: Part,
-) -> Result<Part, AllocError> {
+) -> Result<Part, AllocError>
+    ensures { IfOk result (λ p. part_view p ≡ add_declared (coding_view form.now) (map declared_view all.now) free next (part_view part)) }
+{
     match all.split_first() {
         None => Ok(part),
         Some((first, rest)) => {
