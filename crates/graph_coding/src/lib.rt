@@ -2,14 +2,14 @@
 #![tactic(auto)]
 
 mod form;
-mod reached;
+mod names;
 mod source;
 
 pub use form::{
     Form, Part, begun, block_of, branching, coded, coded_from, going, label_for, place_of,
     placed_at, with_end,
 };
-pub use reached::{
+pub use names::{
     bare, condition_reached, initial_reached, reached, start_reached, statement_reached,
     statements_reached,
 };

@@ -2,7 +2,7 @@ use Rattle.std.proofs.Common.{◌≡◌, max, map, drop}
 use Rattle.c_tree.specs.TypedExpressions.{rvalue_view}
 use Rattle.graph_coding.specs.Coding.{coding_view}
 use Rattle.graph_coding.specs.Reached.{elements_reached}
-use Rattle.graph_coding.proofs.reached.elements_reached.Given as goal
+use Rattle.graph_coding.proofs.names.elements_reached.Given as goal
 
 abbrev pub invariant-loop-e : goal.invariant-loop-e
 invariant-loop-e l =

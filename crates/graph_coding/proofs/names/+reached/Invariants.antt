@@ -3,7 +3,7 @@ use Rattle.c_tree.specs.declared.typed_statement.TypedStatements.{size-TypedStat
 use Rattle.c_tree.specs.TypedStatements.{statements_view}
 use Rattle.graph_coding.specs.Coding.{coding_view}
 use Rattle.graph_coding.specs.Reached.{statements_reached}
-use Rattle.graph_coding.proofs.reached.+reached.Given as goal
+use Rattle.graph_coding.proofs.names.+reached.Given as goal
 
 abbrev pub invariant-statements_reached-loop-left : goal.invariant-statements_reached-loop-left
 invariant-statements_reached-loop-left l = record {
