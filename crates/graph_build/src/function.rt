@@ -1,6 +1,6 @@
 //! The graph of a function.
 
-ghost use Rattle.std.specs.Prelude.{◌≡◌, ◌++◌, IfOk, map, reverse};
+ghost use Rattle.std.specs.Prelude.{◌≡◌, ◌++◌, IfOk, length, map, reverse};
 ghost use Rattle.c_tree.specs.Programs.{function_view, program_view};
 ghost use Rattle.graph_core.specs.Graphs.{block_view, graph_view};
 ghost use Rattle.graph_layout.specs.Names as names;
@@ -8,10 +8,7 @@ ghost use Rattle.graph_layout.specs.Names.{names_view};
 ghost use Rattle.graph_coding.specs.Coding.{coding_view, part_view};
 ghost use Rattle.graph_build.specs.Units.{add_close, blocks_in, coding_with, function_part, graph_in, graph_of, is_again, names_used};
 
-use crate::variables::{
-    bindings_of, graph_objects, graph_scalars, kept_among, note_parameters, parameters_of,
-    scalars_among, variables_in,
-};
+use crate::variables::{bindings_of, graph_objects, graph_scalars, note_all, scalars_of};
 use c_flow::{start_of_all, ways_of_body};
 use c_tree::TypedFunction;
 use debug_records::Place;
@@ -58,7 +55,6 @@ fn function_part(
     ensures { IfOk result (λ p. part_view p ≡ function_part (coding_view form.now) (function_view function.now) is_main) }
 {
     let ways = ways_of_body(function);
-    let parameters = parameters_of(alloc, function)?;
     let empty = Part {
         placed: Vec::new(alloc),
         inner: Vec::new(alloc),
@@ -67,11 +63,12 @@ fn function_part(
     let body = add_all(alloc, form, &function.body, form.scalars, ways, closing)?;
     let first = start_of_all(&function.body, ways.next);
     let draft = going(alloc, form, first, body.inner);
-    let draft = note_parameters(form.names, &parameters, draft)?;
+    let draft = note_all(alloc, form.names, function, draft)?;
     placed_at(form, function.spot.at, draft, body.placed)
 }
 
 /// The places' blocks in the order of the text, and behind them the inner ones in order of evaluation.
+#[tactic(auto, using(crate::proofs::Ordering::seen_in_order))]
 fn in_order(part: Part) -> Result<Vec<Block>, AllocError>
     ensures { IfOk result (λ v. map block_view v.items ≡ (part_view part).placed ++ reverse (part_view part).inner) }
 {
@@ -96,6 +93,13 @@ fn blocks_of(
     in_order(part)
 }
 
+/// How many blocks these are.
+fn counted(blocks: &[Block]) -> Result<u32, AllocError>
+    ensures { IfOk result (λ n. n ≡ length (map block_view blocks.now)) }
+{
+    narrow(blocks.len() as u64)
+}
+
 /// How many names the code of a function uses.
 fn names_used(form: &Form<'_>, function: &TypedFunction) -> Result<u32, AllocError>
     ensures { IfOk result (λ n. n ≡ names_used (coding_view form.now) (function_view function.now)) }
@@ -113,8 +117,7 @@ fn form_with<'a>(
 ) -> Result<Form<'a>, AllocError>
     ensures { IfOk result (λ c. coding_view c ≡ coding_with (program_view source.now.program.now) (function_view function.now) (names_view names.now) top) }
 {
-    let variables = variables_in(alloc, function)?;
-    let scalars = scalars_among(alloc, names, &variables)?;
+    let scalars = scalars_of(alloc, names, function)?;
     Ok(Form {
         names,
         source: *source,
@@ -162,18 +165,15 @@ fn graph_in(
     function: &TypedFunction,
     is_main: bool,
 ) -> Result<Graph, AllocError>
-    ensures { IfOk result (λ g. graph_view g ≡ graph_in (program_view form.now.source.program.now) (coding_view form.now) (function_view function.now) is_main) }
+    ensures { IfOk result (λ g. graph_view g ≡ graph_in (coding_view form.now).program (coding_view form.now) (function_view function.now) is_main) }
 {
-    let variables = variables_in(alloc, function)?;
-    let parameters = parameters_of(alloc, function)?;
-    let scalars = scalars_among(alloc, form.names, &variables)?;
-    let kept = kept_among(alloc, form.names, &variables)?;
+    let names = form.names;
     let used = names_used(form, function)?;
     Ok(Graph {
         entry: Place(form.entry),
-        parameters: bindings_of(alloc, form.names, &parameters)?,
-        scalars: graph_scalars(alloc, &form.source, function, form.entry, &scalars)?,
-        objects: graph_objects(alloc, form.source.program, &kept)?,
+        parameters: bindings_of(alloc, names, function)?,
+        scalars: graph_scalars(alloc, &form.source, names, function, form.entry)?,
+        objects: graph_objects(alloc, form.source.program, names, function)?,
         name_count: used,
         first_moved: used,
         blocks: blocks_of(alloc, form, function, is_main)?,
@@ -192,7 +192,8 @@ pub fn graph_of(
     let names = names_for(alloc, source, function)?;
     let form = form_with(alloc, source, &names, function, 0)?;
     let blocks = blocks_of(alloc, &form, function, is_main)?;
-    let count = narrow(blocks.len() as u64)?;
+    let count = counted(&blocks)?;
     let form = form_with(alloc, source, &names, function, count)?;
-    graph_in(alloc, &form, function, is_main)
+    let graph = graph_in(alloc, &form, function, is_main)?;
+    Ok(graph)
 }

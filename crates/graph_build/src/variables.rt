@@ -25,31 +25,28 @@ fn numbers_from(alloc: Global, first: u32, count: u32) -> Result<Vec<u32>, Alloc
 {
     let mut found = Vec::new(alloc);
     for i in 0..count {
-        found.push(narrow(u64::from(first) + u64::from(i))?)?;
+        let number = narrow(u64::from(first) + u64::from(i))?;
+        found.push(number)?;
     }
     Ok(found)
 }
 
 /// The variables of a function.
-pub fn variables_in(alloc: Global, function: &TypedFunction) -> Result<Vec<u32>, AllocError>
+fn variables_in(alloc: Global, function: &TypedFunction) -> Result<Vec<u32>, AllocError>
     ensures { IfOk result (λ v. v.items ≡ variables_in (function_view function.now)) }
 {
     numbers_from(alloc, function.first_variable, function.variables)
 }
 
 /// The parameters of a function, which are its first variables.
-pub fn parameters_of(alloc: Global, function: &TypedFunction) -> Result<Vec<u32>, AllocError>
+fn parameters_of(alloc: Global, function: &TypedFunction) -> Result<Vec<u32>, AllocError>
     ensures { IfOk result (λ v. v.items ≡ places.parameters_of (function_view function.now)) }
 {
     numbers_from(alloc, function.first_variable, function.parameters)
 }
 
 /// The variables that are scalars, in order.
-pub fn scalars_among(
-    alloc: Global,
-    names: &Names,
-    variables: &[u32],
-) -> Result<Vec<u32>, AllocError>
+fn scalars_among(alloc: Global, names: &Names, variables: &[u32]) -> Result<Vec<u32>, AllocError>
     ensures { IfOk result (λ v. v.items ≡ scalars_among (names_view names.now) variables.now) }
 {
     let mut found = Vec::new(alloc);
@@ -62,7 +59,7 @@ pub fn scalars_among(
 }
 
 /// The variables that are kept in memory, in order.
-pub fn kept_among(alloc: Global, names: &Names, variables: &[u32]) -> Result<Vec<u32>, AllocError>
+fn kept_among(alloc: Global, names: &Names, variables: &[u32]) -> Result<Vec<u32>, AllocError>
     ensures { IfOk result (λ v. v.items ≡ kept_among (names_view names.now) variables.now) }
 {
     let mut found = Vec::new(alloc);
@@ -72,6 +69,28 @@ pub fn kept_among(alloc: Global, names: &Names, variables: &[u32]) -> Result<Vec
         }
     }
     Ok(found)
+}
+
+/// The variables of a function that are scalars.
+pub fn scalars_of(
+    alloc: Global,
+    names: &Names,
+    function: &TypedFunction,
+) -> Result<Vec<u32>, AllocError>
+    ensures { IfOk result (λ v. v.items ≡ scalars_among (names_view names.now) (variables_in (function_view function.now))) }
+{
+    let variables = variables_in(alloc, function)?;
+    let scalars = scalars_among(alloc, names, &variables)?;
+    Ok(scalars)
+}
+
+/// The variables of a function that are kept in memory.
+fn kept_of(alloc: Global, names: &Names, function: &TypedFunction) -> Result<Vec<u32>, AllocError>
+    ensures { IfOk result (λ v. v.items ≡ kept_among (names_view names.now) (variables_in (function_view function.now))) }
+{
+    let variables = variables_in(alloc, function)?;
+    let kept = kept_among(alloc, names, &variables)?;
+    Ok(kept)
 }
 
 /// The number of an automatic variable among all variables.
@@ -140,8 +159,8 @@ fn scalar_record(
     })
 }
 
-/// The scalars of a function's graph.
-pub fn graph_scalars(
+/// The scalars of a function's graph, where the function has these.
+fn scalar_records(
     alloc: Global,
     source: &Source<'_>,
     function: &TypedFunction,
@@ -157,6 +176,21 @@ pub fn graph_scalars(
     Ok(found)
 }
 
+/// The scalars of a function's graph.
+pub fn graph_scalars(
+    alloc: Global,
+    source: &Source<'_>,
+    names: &Names,
+    function: &TypedFunction,
+    entry: u32,
+) -> Result<Vec<Scalar>, AllocError>
+    ensures { IfOk result (λ v. map scalar_view v.items ≡ map (scalar_record (program_view source.now.program.now) (function_view function.now) entry (scalars_among (names_view names.now) (variables_in (function_view function.now)))) (scalars_among (names_view names.now) (variables_in (function_view function.now)))) }
+{
+    let scalars = scalars_of(alloc, names, function)?;
+    let records = scalar_records(alloc, source, function, entry, &scalars)?;
+    Ok(records)
+}
+
 /// An object in memory of a function's graph.
 fn memory_object(program: &Program, variable: u32) -> Result<MemoryObject, AllocError>
     ensures { IfOk result (λ o. o ≡ memory_object (program_view program.now) variable) }
@@ -169,8 +203,8 @@ fn memory_object(program: &Program, variable: u32) -> Result<MemoryObject, Alloc
     })
 }
 
-/// The objects in memory of a function's graph.
-pub fn graph_objects(
+/// The objects of these variables, which are kept in memory.
+fn memory_objects(
     alloc: Global,
     program: &Program,
     kept: &[u32],
@@ -184,6 +218,20 @@ pub fn graph_objects(
     Ok(found)
 }
 
+/// The objects in memory of a function's graph.
+pub fn graph_objects(
+    alloc: Global,
+    program: &Program,
+    names: &Names,
+    function: &TypedFunction,
+) -> Result<Vec<MemoryObject>, AllocError>
+    ensures { IfOk result (λ v. v.items ≡ map (memory_object (program_view program.now)) (kept_among (names_view names.now) (variables_in (function_view function.now)))) }
+{
+    let kept = kept_of(alloc, names, function)?;
+    let objects = memory_objects(alloc, program, &kept)?;
+    Ok(objects)
+}
+
 /// What an argument is bound to.
 fn binding_of(names: &Names, variable: u32) -> Binding
     ensures { binding_view result ≡ binding_of (names_view names.now) variable }
@@ -194,8 +242,8 @@ fn binding_of(names: &Names, variable: u32) -> Binding
     }
 }
 
-/// What a function's arguments are bound to.
-pub fn bindings_of(
+/// What the arguments for these parameters are bound to.
+fn bindings_among(
     alloc: Global,
     names: &Names,
     parameters: &[u32],
@@ -209,8 +257,21 @@ pub fn bindings_of(
     Ok(found)
 }
 
-/// The notes of the scalars that are parameters, before what follows.
-pub fn note_parameters(names: &Names, parameters: &[u32], draft: Draft) -> Result<Draft, AllocError>
+/// What a function's arguments are bound to.
+pub fn bindings_of(
+    alloc: Global,
+    names: &Names,
+    function: &TypedFunction,
+) -> Result<Vec<Binding>, AllocError>
+    ensures { IfOk result (λ v. map binding_view v.items ≡ map (binding_of (names_view names.now)) (places.parameters_of (function_view function.now))) }
+{
+    let parameters = parameters_of(alloc, function)?;
+    let bindings = bindings_among(alloc, names, &parameters)?;
+    Ok(bindings)
+}
+
+/// The notes of the scalars among these parameters, before what follows.
+fn note_parameters(names: &Names, parameters: &[u32], draft: Draft) -> Result<Draft, AllocError>
     ensures { IfOk result (λ d. made_of d ≡ note_parameters (names_view names.now) parameters.now (made_of draft)) }
 {
     match parameters.split_first() {
@@ -223,4 +284,18 @@ pub fn note_parameters(names: &Names, parameters: &[u32], draft: Draft) -> Resul
             }
         }
     }
+}
+
+/// The notes of the scalars that are parameters of a function, before what follows.
+pub fn note_all(
+    alloc: Global,
+    names: &Names,
+    function: &TypedFunction,
+    draft: Draft,
+) -> Result<Draft, AllocError>
+    ensures { IfOk result (λ d. made_of d ≡ note_parameters (names_view names.now) (places.parameters_of (function_view function.now)) (made_of draft)) }
+{
+    let parameters = parameters_of(alloc, function)?;
+    let noted = note_parameters(names, &parameters, draft)?;
+    Ok(noted)
 }

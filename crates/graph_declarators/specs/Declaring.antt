@@ -1,5 +1,5 @@
 -- What declarators write, and their blocks.
-use Rattle.std.specs.Prelude.{ℕ, ◌+◌, ◌*◌, ◌/◌, min, nat_le, Option, Some, None, List, [], ◌∷◌, length, slice_get}
+use Rattle.std.specs.Prelude.{ℕ, ◌+◌, ◌*◌, ◌/◌, min, nat_le, Option, Some, None, List, [], ◌∷◌, length, slice_get, if◌then◌else◌}
 use Rattle.std.specs.Option.{option_map_or}
 use Rattle.c_tree.specs.declared.types.IntegerType.TheVariants.{Char}
 use Rattle.c_tree.specs.declared.object_type.Scalar.{Scalar}

@@ -1,13 +1,13 @@
 //! What declarators write.
 
-ghost use Rattle.std.specs.Prelude.{◌≡◌, ◌*◌, IfOk, map};
+ghost use Rattle.std.specs.Prelude.{◌≡◌, ◌*◌, IfOk, if◌then◌else◌, map, nat_le};
 ghost use Rattle.c_tree.specs.Programs.{program_view};
 ghost use Rattle.c_tree.specs.TypedExpressions.{rvalue_view};
 ghost use Rattle.c_tree.specs.TypedStatements.{declared_view, initial_view};
 ghost use Rattle.c_type_rules.specs.Integers.{scalar_size};
 ghost use Rattle.graph_core.specs.Graphs as unit;
 ghost use Rattle.graph_core.specs.Graphs.{location_view};
-ghost use Rattle.graph_drafts.specs.Drafts.{made_of};
+ghost use Rattle.graph_drafts.specs.Drafts.{before, made_of};
 ghost use Rattle.graph_coding.specs.Coding.{coding_view, part_view};
 ghost use Rattle.graph_declarators.specs.Declaring.{add_declared, cleared, copied_words, declare, declare_array, declare_kept, declare_scalar, declare_single, object_type_of, store_elements, words_of};
 
@@ -61,16 +61,23 @@ fn copied_words(form: &Form<'_>, literal: u32, bytes: u64) -> Result<u32, AllocE
     }
 }
 
-/// An array is set to zero first, unless so many words of it are covered by a literal and these are all.
-fn cleared(object: u32, bytes: u64, covered: u32, draft: Draft) -> Result<Draft, AllocError>
-    ensures { IfOk result (λ d. made_of d ≡ cleared object bytes covered (made_of draft)) }
+/// An object of so many words is set to zero first, unless so many of them are covered by a literal and these are all.
+fn cleared_words(object: u32, words: u32, covered: u32, draft: Draft) -> Result<Draft, AllocError>
+    ensures { IfOk result (λ d. made_of d ≡ (if nat_le words covered then made_of draft else before (unit.Zero object words) (made_of draft))) }
 {
-    let words = words_of(bytes)?;
     if words <= covered {
         Ok(draft)
     } else {
         clear(object, words, draft)
     }
+}
+
+/// The same of an object of so many bytes.
+fn cleared(object: u32, bytes: u64, covered: u32, draft: Draft) -> Result<Draft, AllocError>
+    ensures { IfOk result (λ d. made_of d ≡ cleared object bytes covered (made_of draft)) }
+{
+    let words = words_of(bytes)?;
+    cleared_words(object, words, covered, draft)
 }
 
 /// Where an element of an array stands.

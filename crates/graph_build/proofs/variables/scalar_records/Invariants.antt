@@ -2,7 +2,7 @@ use Rattle.std.proofs.Common.{◌≡◌, map, take}
 use Rattle.c_tree.specs.Programs.{function_view, program_view}
 use Rattle.graph_core.specs.Graphs.{scalar_view}
 use Rattle.graph_build.specs.Units.{scalar_record}
-use Rattle.graph_build.proofs.variables.graph_scalars.Given as goal
+use Rattle.graph_build.proofs.variables.scalar_records.Given as goal
 
 abbrev pub invariant-loop-variable : goal.invariant-loop-variable
 invariant-loop-variable l =
