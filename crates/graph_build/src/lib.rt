@@ -4,5 +4,6 @@
 mod function;
 mod statics;
 mod unit;
+mod variables;
 
 pub use unit::build;

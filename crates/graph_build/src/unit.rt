@@ -1,6 +1,6 @@
 //! The unit of a program.
 
-ghost use Rattle.std.specs.Prelude.{◌≡◌, ◌↔◌, [], IfOk, IfSome};
+ghost use Rattle.std.specs.Prelude.{◌≡◌, ◌↔◌, [], IfNone, IfOk, IfSome, map};
 ghost use Rattle.std.specs.List.{Contains};
 ghost use Rattle.places.specs.declared.flow.Assignment.{Assignment};
 ghost use Rattle.places.specs.declared.flow.FlowStep.{FlowStep};
@@ -8,52 +8,78 @@ ghost use Rattle.c_tree.specs.Programs.{program_view};
 ghost use Rattle.c_flow.specs.Assigns.{assignments_of_program};
 ghost use Rattle.c_flow.specs.Flow.{steps_of_program};
 ghost use Rattle.c_flow.specs.Tables.{Fits32};
-ghost use Rattle.graph_core.specs.Graphs.{unit_view};
+ghost use Rattle.graph_core.specs.Graphs.{UnitForm, graph_view, unit_view};
 ghost use Rattle.graph_core.specs.Validity.{IsValid};
+ghost use Rattle.graph_coding.specs.Numbering.{AreNumbered};
+ghost use Rattle.graph_build.specs.Units.{IsUnitOf, graphs_from};
 
-use crate::function::{Source, graph_of};
+use crate::function::graph_of;
 use crate::statics::{array_bytes_of, statics_of};
 use c_flow::{flow_table, positions_of};
 use c_places::places_of_program;
 use c_tree::Program;
 use debug_records::ChangeLog;
+use graph_coding::Source;
 use graph_core::{Graph, Unit};
 use std::alloc::{AllocError, Global};
 
-/// The graphs of a program's functions, in their order.
-fn graphs_of(alloc: Global, program: &Program) -> Result<Vec<Graph>, AllocError> {
+/// The positions of a program's places, in order.
+fn positions_in(alloc: Global, program: &Program) -> Result<Vec<u32>, AllocError>
+    requires { Fits32 (program_view program.now) }
+    ensures { IfOk result (λ v. AreNumbered (program_view program.now) v.items) }
+{
     let places = places_of_program(alloc, program)?;
     let positions = positions_of(alloc, &places)?;
-    let source = Source {
-        program,
-        positions: positions.as_slice(),
-    };
+    Ok(positions)
+}
+
+/// The graphs of a program's functions, in their order.
+fn graphs_of(alloc: Global, source: &Source<'_>) -> Result<Vec<Graph>, AllocError>
+    ensures { IfOk result (λ v. map graph_view v.items ≡ graphs_from (program_view source.now.program.now) 0 (program_view source.now.program.now).functions) }
+{
     let mut graphs = Vec::new(alloc);
-    for (number, function) in program.functions.iter().enumerate() {
-        let is_main = number == program.main as usize;
-        graphs.push(graph_of(alloc, &source, function, is_main)?)?;
+    for (number, function) in source.program.functions.iter().enumerate() {
+        let is_main = number == source.program.main as usize;
+        graphs.push(graph_of(alloc, source, function, is_main)?)?;
     }
     Ok(graphs)
 }
 
-/// The unit of a program; none where it would not be valid, which is known of no program. The only error is want of memory.
-pub fn build(alloc: Global, program: &Program) -> Result<Option<Unit>, AllocError>
+/// The unit of a program, valid or not.
+fn unit_of(alloc: Global, program: &Program) -> Result<Unit, AllocError>
     requires { Fits32 (program_view program.now) }
-    ensures valid { IfOk result (λ o. IfSome o (λ u. IsValid (unit_view u))) }
-    ensures main { IfOk result (λ o. IfSome o (λ u. (unit_view u).main ≡ (program_view program.now).main)) }
-    ensures unchanged { IfOk result (λ o. IfSome o (λ u. (unit_view u).log ≡ [])) }
-    ensures steps { IfOk result (λ o. IfSome o (λ u. (s : FlowStep) → Contains (unit_view u).steps s ↔ Contains (steps_of_program (program_view program.now)) s)) }
-    ensures assignments { IfOk result (λ o. IfSome o (λ u. (a : Assignment) → Contains (unit_view u).assignments a ↔ Contains (assignments_of_program (program_view program.now)) a)) }
+    ensures forms { IfOk result (λ u. IsUnitOf (program_view program.now) (unit_view u)) }
+    ensures steps { IfOk result (λ u. (s : FlowStep) → Contains (unit_view u).steps s ↔ Contains (steps_of_program (program_view program.now)) s) }
+    ensures assignments { IfOk result (λ u. (a : Assignment) → Contains (unit_view u).assignments a ↔ Contains (assignments_of_program (program_view program.now)) a) }
 {
     let flow = flow_table(alloc, program)?;
-    let unit = Unit {
-        graphs: graphs_of(alloc, program)?,
+    let positions = positions_in(alloc, program)?;
+    let source = Source {
+        program,
+        positions: positions.as_slice(),
+    };
+    Ok(Unit {
+        graphs: graphs_of(alloc, &source)?,
         main: program.main,
         statics: statics_of(alloc, program)?,
         array_bytes: array_bytes_of(alloc, program)?,
         flow,
         log: ChangeLog::new(alloc),
-    };
+    })
+}
+
+/// The unit of a program; none where it is not valid, which is known of no program. The only error is want of memory.
+pub fn build(alloc: Global, program: &Program) -> Result<Option<Unit>, AllocError>
+    requires { Fits32 (program_view program.now) }
+    ensures forms { IfOk result (λ o. IfSome o (λ u. IsUnitOf (program_view program.now) (unit_view u))) }
+    ensures valid { IfOk result (λ o. IfSome o (λ u. IsValid (unit_view u))) }
+    ensures left_out { IfOk result (λ o. IfNone o ((u : UnitForm) × IsUnitOf (program_view program.now) u × (IsValid u → ⊥))) }
+    ensures main { IfOk result (λ o. IfSome o (λ u. (unit_view u).main ≡ (program_view program.now).main)) }
+    ensures unchanged { IfOk result (λ o. IfSome o (λ u. (unit_view u).log ≡ [])) }
+    ensures steps { IfOk result (λ o. IfSome o (λ u. (s : FlowStep) → Contains (unit_view u).steps s ↔ Contains (steps_of_program (program_view program.now)) s)) }
+    ensures assignments { IfOk result (λ o. IfSome o (λ u. (a : Assignment) → Contains (unit_view u).assignments a ↔ Contains (assignments_of_program (program_view program.now)) a)) }
+{
+    let unit = unit_of(alloc, program)?;
     if unit.is_valid() {
         Ok(Some(unit))
     } else {

@@ -9,8 +9,8 @@ use Rattle.graph_core.specs.Graphs as unit
 use Rattle.graph_core.specs.Graphs.{Block}
 use Rattle.graph_layout.specs.Names.{Names, scalar_of}
 use Rattle.graph_drafts.specs.Drafts.{Made}
-use Rattle.graph_counts.specs.Forms.{Coding, Part, going, placed_at}
-use Rattle.graph_counts.specs.Units.{note_if, note_parameters, add_close, body_part, function_part, blocks_in, coding_of, is_again, block_count, function_coding, graph_of}
+use Rattle.graph_coding.specs.Coding.{Coding, Part, going, placed_at}
+use Rattle.graph_build.specs.Units.{note_if, note_parameters, add_close, body_part, function_part, blocks_in, coding_of, is_again, block_count, function_coding, graph_of}
 use Rattle.graph_counts.proofs.BlockCounts.{part_blocks, statements_blocks}
 use Rattle.graph_counts.proofs.SameSizes.{in_graph_of, SameSize, statements_size}
 

@@ -8,8 +8,8 @@ use Rattle.graph_core.specs.Graphs.{Block}
 use Rattle.graph_core.specs.Validity.{total, arguments_in, arguments_of}
 use Rattle.graph_layout.specs.Names.{Names, scalar_of}
 use Rattle.graph_drafts.specs.Drafts.{Made}
-use Rattle.graph_counts.specs.Forms.{Coding, Part, going}
-use Rattle.graph_counts.specs.Units.{note_if, note_parameters, add_close, body_part, function_part, blocks_in, function_coding, graph_of}
+use Rattle.graph_coding.specs.Coding.{Coding, Part, going}
+use Rattle.graph_build.specs.Units.{note_if, note_parameters, add_close, body_part, function_part, blocks_in, function_coding, graph_of}
 use Rattle.graph_counts.proofs.Functions.{total_both, total_reversed}
 use Rattle.graph_counts.proofs.ArgumentPieces.{passed_in, made_arguments}
 use Rattle.graph_counts.proofs.ArgumentCounts.{part_arguments, statements_arguments}

@@ -11,8 +11,8 @@ use Rattle.graph_layout.specs.Names.{Names, scalar_of}
 use Rattle.graph_drafts.specs.Drafts.{Made, ending}
 use Rattle.graph_counts.specs.Sizes.{counted, made_counts}
 use Rattle.graph_counts.specs.Weighing.{weighed_statements, IsWeighed}
-use Rattle.graph_counts.specs.Forms.{Coding, Part, going, placed_at}
-use Rattle.graph_counts.specs.Units.{note_if, note_parameters, add_close, body_part, function_part, blocks_in, coding_of, is_again, block_count, function_coding, graph_of}
+use Rattle.graph_coding.specs.Coding.{Coding, Part, going, placed_at}
+use Rattle.graph_build.specs.Units.{note_if, note_parameters, add_close, body_part, function_part, blocks_in, coding_of, is_again, block_count, function_coding, graph_of}
 use Rattle.graph_counts.proofs.Written.{NamesFew}
 use Rattle.graph_counts.proofs.Pieces.{total_append}
 use Rattle.graph_counts.proofs.Statements.{part_counts, statements_most}

@@ -8,7 +8,7 @@ use Rattle.graph_core.specs.Graphs.{Graph, UnitForm}
 use Rattle.graph_core.specs.Validity.{instructions_of, arguments_of, total}
 use Rattle.graph_counts.specs.Weighing.{IsWeighed}
 use Rattle.graph_counts.specs.Keeping.{AreWeighed, KeepsWeight, KeepWeights, KeepsBounds, KeepBounds}
-use Rattle.graph_counts.specs.Units.{IsUnitOf, graphs_from, graph_of, binding_of, function_coding, scalars_among, variables_in, scalar_record, names_used}
+use Rattle.graph_build.specs.Units.{IsUnitOf, graphs_from, graph_of, binding_of, function_coding, scalars_among, variables_in, scalar_record, names_used}
 use Rattle.graph_counts.proofs.Statements.{statements_more}
 use Rattle.graph_counts.proofs.Functions.{instructions_within}
 use Rattle.graph_counts.proofs.Blocks.{blocks_within}

@@ -14,8 +14,9 @@ use Rattle.graph_layout.specs.declared.laid.Use.{Use}
 use Rattle.graph_layout.specs.declared.laid.Use.TheVariants.{Anywhere, In, Nothing as Unused, Tested}
 use Rattle.graph_layout.specs.Names.{Names, names_of, scalar_of, pick}
 use Rattle.graph_layout.specs.Layout.{laid}
-use Rattle.graph_counts.specs.Forms.{Coding, bare, begun, reached, elements_reached, initial_reached, declared_reached, start_reached, condition_reached, step_reached, result_reached, statement_reached, statements_reached}
-use Rattle.graph_counts.specs.Units.{scalars_among, add_if_some, variables_in, names_used, coding_of, is_again, block_count, function_coding, graph_of}
+use Rattle.graph_coding.specs.Coding.{Coding, begun}
+use Rattle.graph_coding.specs.Reached.{bare, reached, elements_reached, initial_reached, declared_reached, start_reached, condition_reached, step_reached, result_reached, statement_reached, statements_reached}
+use Rattle.graph_build.specs.Units.{scalars_among, add_if_some, variables_in, names_used, coding_of, is_again, block_count, function_coding, graph_of}
 use Rattle.graph_counts.proofs.Written.{NamesFew}
 use Rattle.graph_counts.proofs.Scalars.{names_few}
 use Rattle.graph_counts.proofs.NamesAgain.{top_most}

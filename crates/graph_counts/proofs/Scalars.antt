@@ -9,7 +9,7 @@ use Rattle.c_places.specs.Places.{numbers_from}
 use Rattle.graph_layout.specs.declared.names.Home.{Home}
 use Rattle.graph_layout.specs.declared.names.Home.TheVariants as home
 use Rattle.graph_layout.specs.Names.{Names, homes_from, names_of, scalar_in, object_in, home_of, scalar_of, scalar_named}
-use Rattle.graph_counts.specs.Units.{scalars_among, add_if_some, variables_in}
+use Rattle.graph_build.specs.Units.{scalars_among, add_if_some, variables_in}
 use Rattle.graph_counts.proofs.Written.{NamesFew}
 
 -- how many homes are scalars

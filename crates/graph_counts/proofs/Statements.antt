@@ -21,7 +21,10 @@ use Rattle.graph_drafts.specs.Drafts.{Made, Goal, To, Unused, Either, before, en
 use Rattle.graph_code.specs.Steps.{or_zero}
 use Rattle.graph_counts.specs.Sizes.{counted, made_counts, goal_counts}
 use Rattle.graph_counts.specs.Weighing.{weighed, weighed_elements, weighed_initial, weighed_declared, weighed_start, weighed_option, weighed_step, weighed_statement, weighed_statements}
-use Rattle.graph_counts.specs.Forms.{Coding, Part, bare, object_type_of, words_of, cleared, default_start, place_of, begun, going, label_for, with_end, placed_at, coded, branching, reached, store_elements, copied_words, declare_single, declare_array, declare_kept, declare_scalar, declare_as, declare, initial_reached, declared_reached, start_reached, condition_reached, step_reached, result_reached, statement_reached, statements_reached, tests, add_run, add_going, add_branching, add_declared, add_start, add_step, add_head, add_result, add_switch, add, add_all, elements_reached}
+use Rattle.graph_coding.specs.Coding.{Coding, Part, place_of, begun, going, label_for, with_end, placed_at, coded, branching}
+use Rattle.graph_coding.specs.Reached.{bare, reached, initial_reached, declared_reached, start_reached, condition_reached, step_reached, result_reached, statement_reached, statements_reached, elements_reached}
+use Rattle.graph_declarators.specs.Declaring.{object_type_of, words_of, cleared, store_elements, copied_words, declare_single, declare_array, declare_kept, declare_scalar, declare_as, declare, add_declared}
+use Rattle.graph_forms.specs.Forms.{default_start, tests, add_run, add_going, add_branching, add_start, add_step, add_head, add_result, add_switch, add, add_all}
 use Rattle.graph_counts.proofs.Temporaries.{behind, pick_least}
 use Rattle.graph_counts.proofs.Written.{NamesFew}
 use Rattle.graph_counts.proofs.Pieces.{closed_counts, note_most}

@@ -11,7 +11,7 @@ use Rattle.c_tree.specs.TypedStatements.{Return, none, first}
 use Rattle.c_tree.specs.Programs.{StaticTree, TypedFunctionTree, ProgramTree}
 use Rattle.c_laws.specs.Laws.{IsWellFormed}
 use Rattle.graph_core.specs.Validity.{instructions_of}
-use Rattle.graph_counts.specs.Units.{graph_of}
+use Rattle.graph_build.specs.Units.{graph_of}
 
 abbrev pub spot : ℕ → Spot
 spot at = record { at = at; line = 1 }

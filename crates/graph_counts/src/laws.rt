@@ -4,7 +4,7 @@ ghost use Rattle.c_tree.specs.Programs.{ProgramTree};
 ghost use Rattle.c_laws.specs.Laws.{IsWellFormed};
 ghost use Rattle.graph_core.specs.Graphs.{UnitForm};
 ghost use Rattle.graph_counts.specs.Keeping.{AreWeighed, KeepBounds, KeepWeights};
-ghost use Rattle.graph_counts.specs.Units.{IsUnitOf};
+ghost use Rattle.graph_build.specs.Units.{IsUnitOf};
 ghost use Rattle.graph_counts.specs.Worked.{IsConverting};
 
 /// A law: each graph of a well-formed program's unit, whose functions weigh as much as the conversions that were written, keeps the weight of its function.

@@ -1,13 +1,22 @@
 //! The blocks of statements, the last places first, before those that stand.
 
-use crate::declaring::add_declared;
-use crate::form::{
-    Form, Part, begun, block_of, branching, coded, going, label_for, place_of, placed_at, with_end,
-};
-use crate::reached::{condition_reached, reached, start_reached, statement_reached};
+ghost use Rattle.std.specs.Prelude.{◌≡◌, IfOk, map, option_map};
+ghost use Rattle.c_tree.specs.TypedExpressions.{rvalue_view};
+ghost use Rattle.c_tree.specs.TypedStatements.{start_view, statement_view, statements_view, step_view};
+ghost use Rattle.graph_core.specs.Graphs.{block_view, operand_view};
+ghost use Rattle.graph_drafts.specs.Drafts.{made_of};
+ghost use Rattle.graph_coding.specs.Coding.{coding_view, part_view};
+ghost use Rattle.graph_coding.specs.Reached as definition;
+ghost use Rattle.graph_forms.specs.Forms.{add, add_all, add_branching, add_going, add_head, add_result, add_run, add_start, add_step, add_switch, default_start, tests};
+
 use c_flow::{Ways, round_of, start, start_of_all, within_loop};
 use c_tree::{Rvalue, TypedStart, TypedStatement, TypedStatements, TypedStep};
+use graph_coding::{
+    Form, Part, begun, branching, coded, condition_reached, going, label_for, place_of, placed_at,
+    reached, start_reached, statement_reached, with_end,
+};
 use graph_core::{Block, Comparison, End, Operand};
+use graph_declarators::add_declared;
 use graph_drafts::{Draft, Goal, closed, ending, next_label};
 use graph_layout::{Use, value_laid};
 use graph_scale::word_of;
@@ -24,7 +33,9 @@ macro_rules! given {
 }
 
 /// Where `default` leads, or what follows the `switch`.
-fn default_start(all: &TypedStatements, next: Option<u32>) -> Option<u32> {
+fn default_start(all: &TypedStatements, next: Option<u32>) -> Option<u32>
+    ensures { result ≡ default_start (statements_view all.now) next }
+{
     let mut left = all;
     loop {
         match left {
@@ -45,7 +56,9 @@ fn tests(
     next: Option<u32>,
     other: Option<u32>,
     inner: Vec<Block>,
-) -> Result<Draft, AllocError> {
+) -> Result<Draft, AllocError>
+    ensures { IfOk result (λ d. made_of d ≡ tests (coding_view form.now) at (operand_view value) (statements_view all.now) next other (map block_view inner.items)) }
+{
     match all {
         TypedStatements::End => Ok(going(alloc, form, other, inner)),
         TypedStatements::More(_, rest) | TypedStatements::Default(rest) => {
@@ -78,7 +91,9 @@ fn add_run(
     free: u32,
     next: Option<u32>,
     part: Part,
-) -> Result<Part, AllocError> {
+) -> Result<Part, AllocError>
+    ensures { IfOk result (λ p. part_view p ≡ add_run (coding_view form.now) at (rvalue_view e.now) free next (part_view part)) }
+{
     let draft = going(alloc, form, next, part.inner);
     let draft = coded(alloc, form, at, e, free, Goal::Unused(draft))?;
     placed_at(form, at, draft, part.placed)
@@ -91,7 +106,9 @@ fn add_going(
     at: u32,
     next: Option<u32>,
     part: Part,
-) -> Result<Part, AllocError> {
+) -> Result<Part, AllocError>
+    ensures { IfOk result (λ p. part_view p ≡ add_going (coding_view form.now) at next (part_view part)) }
+{
     let draft = going(alloc, form, next, part.inner);
     placed_at(form, at, draft, part.placed)
 }
@@ -106,7 +123,9 @@ fn add_branching(
     one: Option<u32>,
     other: Option<u32>,
     part: Part,
-) -> Result<Part, AllocError> {
+) -> Result<Part, AllocError>
+    ensures { IfOk result (λ p. part_view p ≡ add_branching (coding_view form.now) at (rvalue_view e.now) free one other (part_view part)) }
+{
     let draft = branching(alloc, form, at, e, free, one, other, part.inner)?;
     placed_at(form, at, draft, part.placed)
 }
@@ -119,7 +138,9 @@ fn add_start(
     free: u32,
     head: u32,
     part: Part,
-) -> Result<Part, AllocError> {
+) -> Result<Part, AllocError>
+    ensures { IfOk result (λ p. part_view p ≡ add_start (coding_view form.now) (start_view begin.now) free head (part_view part)) }
+{
     match begin {
         TypedStart::Nothing => Ok(part),
         TypedStart::Expression { spot, value } => {
@@ -137,7 +158,9 @@ fn add_step(
     free: u32,
     head: u32,
     part: Part,
-) -> Result<Part, AllocError> {
+) -> Result<Part, AllocError>
+    ensures { IfOk result (λ p. part_view p ≡ add_step (coding_view form.now) (option_map step_view step.now) free head (part_view part)) }
+{
     match step {
         None => Ok(part),
         Some(step) => add_run(
@@ -163,7 +186,9 @@ fn add_head(
     inside: Option<u32>,
     next: Option<u32>,
     part: Part,
-) -> Result<Part, AllocError> {
+) -> Result<Part, AllocError>
+    ensures { IfOk result (λ p. part_view p ≡ add_head (coding_view form.now) (start_view begin.now) free at (option_map rvalue_view condition.now) inside next (part_view part)) }
+{
     match condition {
         None => {
             let later = add_start(alloc, form, begin, free, at, part)?;
@@ -185,7 +210,9 @@ fn add_result(
     value: &Option<Rvalue>,
     free: u32,
     part: Part,
-) -> Result<Part, AllocError> {
+) -> Result<Part, AllocError>
+    ensures { IfOk result (λ p. part_view p ≡ add_result (coding_view form.now) at (option_map rvalue_view value.now) free (part_view part)) }
+{
     match value {
         None => {
             let draft = ending(alloc, End::Return(None), part.inner);
@@ -210,7 +237,9 @@ fn add_switch(
     free: u32,
     next: Option<u32>,
     part: Part,
-) -> Result<Part, AllocError> {
+) -> Result<Part, AllocError>
+    ensures { IfOk result (λ p. part_view p ≡ add_switch (coding_view form.now) at (rvalue_view e.now) (statements_view all.now) free next (part_view part)) }
+{
     let value = value_laid(form.names, e, Use::Anywhere, begun(form, free))?.value;
     let other = default_start(all, next);
     let draft = tests(alloc, form, at, value, all, next, other, part.inner)?;
@@ -224,7 +253,9 @@ fn behind_head(
     begin: &TypedStart,
     condition: &Option<Rvalue>,
     free: u32,
-) -> Result<u32, AllocError> {
+) -> Result<u32, AllocError>
+    ensures { IfOk result (λ n. n ≡ definition.condition_reached (coding_view form.now) (option_map rvalue_view condition.now) (definition.start_reached (coding_view form.now) (start_view begin.now) free)) }
+{
     let head = start_reached(form, begin, free)?;
     condition_reached(form, condition, head)
 }
@@ -238,7 +269,9 @@ pub fn add(
     free: u32,
     ways: Ways,
     part: Part,
-) -> Result<Part, AllocError> {
+) -> Result<Part, AllocError>
+    ensures { IfOk result (λ p. part_view p ≡ add (coding_view form.now) (statement_view statement.now) free ways (part_view part)) }
+{
     match statement {
         TypedStatement::Block(all) => add_all(alloc, form, all, free, ways, part),
         TypedStatement::Declaration(all) => {
@@ -341,7 +374,9 @@ pub fn add_all(
     free: u32,
     ways: Ways,
     part: Part,
-) -> Result<Part, AllocError> {
+) -> Result<Part, AllocError>
+    ensures { IfOk result (λ p. part_view p ≡ add_all (coding_view form.now) (statements_view all.now) free ways (part_view part)) }
+{
     match all {
         TypedStatements::End => Ok(part),
         TypedStatements::More(first, rest) => {

@@ -5,8 +5,8 @@ use Rattle.c_places.specs.Places.{places_of_program}
 use Rattle.graph_core.specs.Graphs.{Block, Graph}
 use Rattle.graph_core.specs.Uses.{targets_of}
 use Rattle.graph_core.specs.Paths.{Among, front, behind}
-use Rattle.graph_counts.specs.Units.{function_part, block_count, function_coding, graph_of}
-use Rattle.graph_counts.specs.Forms.{Coding, Part}
+use Rattle.graph_build.specs.Units.{function_part, block_count, function_coding, graph_of}
+use Rattle.graph_coding.specs.Coding.{Coding, Part}
 use Rattle.graph_marking.specs.Passing.{Grows}
 use Rattle.graph_marking.specs.Points.{StandIn}
 use Rattle.graph_marking.proofs.Statements.{Holds}

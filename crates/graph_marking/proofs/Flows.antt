@@ -11,8 +11,8 @@ use Rattle.graph_core.specs.Paths.{History, Among, front, behind, Path, place_of
 use Rattle.graph_core.specs.WellMarked as marked
 use Rattle.graph_core.specs.WellMarked.{ComesToMarker}
 use Rattle.graph_drafts.specs.Drafts.{Made}
-use Rattle.graph_counts.specs.Forms.{Coding, Part, place_of, block_of}
-use Rattle.graph_counts.specs.Units.{function_part, block_count, function_coding, graph_of}
+use Rattle.graph_coding.specs.Coding.{Coding, Part, place_of, block_of}
+use Rattle.graph_build.specs.Units.{function_part, block_count, function_coding, graph_of}
 use Rattle.graph_marking.specs.Points.{AtLabel, GoesBack, StandIn, here, IsLed}
 use Rattle.graph_marking.proofs.Marked.{led_back, led_on, led_here}
 use Rattle.graph_marking.proofs.Instances.{Each, HasBack, LeadsBack, StandBack, grown_stand, back_passes, NoMarkers, NoneMarked, HasNone, LeadsNone, none_passes}

@@ -12,7 +12,7 @@ use Rattle.c_laws.specs.Orders.{ascends, ascends_behind}
 use Rattle.c_laws.specs.Laws.{IsWellFormed}
 use Rattle.graph_core.specs.Graphs.{Graph, UnitForm}
 use Rattle.graph_core.specs.Paths.{Among, front, behind}
-use Rattle.graph_counts.specs.Units.{IsUnitOf, graphs_from}
+use Rattle.graph_build.specs.Units.{IsUnitOf, graphs_from}
 use Rattle.graph_counts.proofs.Blocks.{blocks_counted}
 use Rattle.graph_counts.proofs.WellFormed.{and_both, laws_of}
 use Rattle.graph_counts.proofs.Keeping.{OfFunction}

@@ -8,8 +8,8 @@ use Rattle.graph_core.specs.Graphs as unit
 use Rattle.graph_core.specs.Graphs.{Instruction}
 use Rattle.graph_layout.specs.Names.{scalar_of}
 use Rattle.graph_drafts.specs.Drafts.{Made, ending}
-use Rattle.graph_counts.specs.Forms.{Coding, Part, place_of, going}
-use Rattle.graph_counts.specs.Units.{note_if, note_parameters, add_close, body_part, function_part}
+use Rattle.graph_coding.specs.Coding.{Coding, Part, place_of, going}
+use Rattle.graph_build.specs.Units.{note_if, note_parameters, add_close, body_part, function_part}
 use Rattle.graph_marking.specs.Passing.{IsPassing}
 use Rattle.graph_marking.proofs.Pieces.{grows_on, grows_none}
 use Rattle.graph_marking.proofs.Statements.{Adds, Holds, HoldAlong, Brings', adds_on, no_part, one_step, no_step, steps_on, going_has, going_grows, place_adds, parts, statements_add}

@@ -12,7 +12,10 @@ use Rattle.graph_core.specs.Graphs as unit
 use Rattle.graph_core.specs.Graphs.{Instruction, Marker}
 use Rattle.graph_layout.specs.declared.laid.Use.TheVariants.{Anywhere, Tested}
 use Rattle.graph_layout.specs.Names.{scalar_of}
-use Rattle.graph_counts.specs.Forms.{Coding, Part, place_of, reached, initial_reached, start_reached, condition_reached, statement_reached, add_branching, add_declared, add_start, add_step, add_head, add_result, add, add_all}
+use Rattle.graph_coding.specs.Coding.{Coding, Part, place_of}
+use Rattle.graph_coding.specs.Reached.{reached, initial_reached, start_reached, condition_reached, statement_reached}
+use Rattle.graph_declarators.specs.Declaring.{add_declared}
+use Rattle.graph_forms.specs.Forms.{add_branching, add_start, add_step, add_head, add_result, add, add_all}
 
 -- the place whose marker comes first, or 0
 abbrev pub head_marker : List Instruction → ℕ

@@ -23,7 +23,10 @@ use Rattle.graph_drafts.specs.Rules.{element_of}
 use Rattle.graph_drafts.specs.Drafts.{Made, Goal, To, Unused, Either, before, ending, note, closed, label_of}
 use Rattle.graph_code.specs.Steps.{or_zero}
 use Rattle.graph_code.specs.Code.{code}
-use Rattle.graph_counts.specs.Forms.{Coding, Part, bare, object_type_of, words_of, cleared, default_start, place_of, block_of, begun, going, label_for, with_end, placed_at, coded, reached, store_elements, copied_words, declare_single, declare_array, declare_kept, declare_scalar, declare_as, declare, initial_reached, start_reached, condition_reached, statement_reached, tests, add_run, add_going, add_branching, add_declared, add_start, add_step, add_head, add_result, add_switch, add, add_all}
+use Rattle.graph_coding.specs.Coding.{Coding, Part, place_of, block_of, begun, going, label_for, with_end, placed_at, coded}
+use Rattle.graph_coding.specs.Reached.{bare, reached, initial_reached, start_reached, condition_reached, statement_reached}
+use Rattle.graph_declarators.specs.Declaring.{object_type_of, words_of, cleared, store_elements, copied_words, declare_single, declare_array, declare_kept, declare_scalar, declare_as, declare, add_declared}
+use Rattle.graph_forms.specs.Forms.{default_start, tests, add_run, add_going, add_branching, add_start, add_step, add_head, add_result, add_switch, add, add_all}
 use Rattle.graph_marking.specs.Passing.{Grows, IsPassing}
 use Rattle.graph_marking.proofs.Pieces.{grows_on, grows_none, closed_grows, Carried, Before, leads_on, before_leads, stays}
 use Rattle.graph_marking.proofs.Passes.{code_passes}

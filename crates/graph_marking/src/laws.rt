@@ -3,7 +3,7 @@
 ghost use Rattle.c_tree.specs.Programs.{ProgramTree};
 ghost use Rattle.c_laws.specs.Laws.{IsWellFormed};
 ghost use Rattle.graph_core.specs.Graphs.{UnitForm};
-ghost use Rattle.graph_counts.specs.Units.{IsUnitOf};
+ghost use Rattle.graph_build.specs.Units.{IsUnitOf};
 ghost use Rattle.graph_marking.specs.Following.{FollowFlow, HasSteps};
 ghost use Rattle.graph_marking.specs.Worked.{ComputesBetween};
 

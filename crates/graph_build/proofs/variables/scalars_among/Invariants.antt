@@ -1,0 +1,8 @@
+use Rattle.std.proofs.Common.{◌≡◌, ◌++◌, drop}
+use Rattle.graph_layout.specs.Names.{names_view}
+use Rattle.graph_build.specs.Units.{scalars_among}
+use Rattle.graph_build.proofs.variables.scalars_among.Given as goal
+
+abbrev pub invariant-loop-variable : goal.invariant-loop-variable
+invariant-loop-variable l =
+    l.found.items ++ scalars_among (names_view l.names) (drop l.variable-index l.variables) ≡ scalars_among (names_view l.names) l.variables
