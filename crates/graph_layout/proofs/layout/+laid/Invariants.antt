@@ -6,6 +6,9 @@ use Rattle.graph_layout.proofs.layout.+laid.Given as goal
 abbrev pub decreases-value_laid : goal.decreases-value_laid
 decreases-value_laid l = extent (rvalue_view l.e.now)
 
+abbrev pub decreases-pair_behind : goal.decreases-pair_behind
+decreases-pair_behind l = extent (rvalue_view l.b.now) + 1
+
 abbrev pub decreases-pair_laid : goal.decreases-pair_laid
 decreases-pair_laid l = extent (rvalue_view l.a.now) + extent (rvalue_view l.b.now) + 1
 
