@@ -12,14 +12,9 @@ ghost use Rattle.graph_layout.specs.declared.laid.Use.TheVariants.{Anywhere, Tes
 ghost use Rattle.graph_core.specs.Graphs as unit;
 ghost use Rattle.graph_core.specs.Graphs.{operand_view};
 ghost use Rattle.graph_drafts.specs.Drafts.{closed, ending, goal_of, label_of, made_of, use_of};
-ghost use Rattle.graph_code.specs.Steps.{arm_goal, arm_use, arm_value, object_address};
+ghost use Rattle.graph_steps.specs.Steps.{arm_goal, arm_use, arm_value, object_address};
 ghost use Rattle.graph_code.specs.Code.{code, code_address, code_all, code_place, code_stepped, code_two, code_updated};
 
-use crate::change::{
-    Change, assigned_memory, left_memory, left_scalar, loaded_first, one_at, renewed_memory,
-    renewed_scalar,
-};
-use crate::site::{Site, Two, finished, label_of, narrowed, negated, signed};
 use c_tree::{
     Arguments, Callee, Direction, Given, IntegerType, Lvalue, Object, Rvalue, Scalar, Sign,
 };
@@ -27,14 +22,19 @@ use c_type_rules::object_size;
 use c_value_types::{given_by, integer_in, is_pointer, is_void, type_of};
 use graph_core::{End, Label, Name, Operand};
 use graph_drafts::{
-    Computation, Draft, Goal, called_by, callee_for, closed, element_of, ending, forked,
-    hold_location, leaf, move_if, noted, operated, steps_by, use_of, used, valued,
+    Computation, Draft, Goal, callee_for, closed, element_of, ending, leaf, move_if, noted,
+    steps_by, use_of, used, valued,
 };
 use graph_layout::{
     Laid, Use, behind_move, is_location_moved, is_moved_before, lefts_laid, object_of, pair_behind,
     passed_laid, pick, place_laid, scalar_named, use_for, value_laid, writes,
 };
+use graph_operations::{called_by, forked, hold_location, operated};
 use graph_scale::{held, keeps_bits, word_of};
+use graph_steps::{
+    Change, Site, Two, assigned_memory, finished, label_of, left_memory, left_scalar, loaded_first,
+    narrowed, negated, one_at, renewed_memory, renewed_scalar, signed,
+};
 use std::alloc::{AllocError, Global};
 
 // What a call gives; its failure is the function's own.
@@ -79,7 +79,7 @@ fn code_two_known(
     goal: Goal,
 ) -> Result<Draft, AllocError>
     requires one { laid_view one ≡ laid (names_view site.now.names.now) (rvalue_view first.now) Anywhere begun }
-    requires known { reverse (map laid_view known.now) ≡ lefts (names_view site.now.names.now) (rvalue_view first.now) Anywhere begun }
+    requires known { map laid_view (reverse known.now) ≡ lefts (names_view site.now.names.now) (rvalue_view first.now) Anywhere begun }
     ensures { IfOk result (λ d. made_of d ≡ code_two (names_view site.now.names.now) site.now.place.0 site.now.top (rvalue_view first.now) (rvalue_view second.now) two begun (goal_of goal)) }
 {
     let pair = given!(pair_behind(site.names, one, second));
@@ -99,7 +99,7 @@ fn code_known(
     begun: u32,
     goal: Goal,
 ) -> Result<Draft, AllocError>
-    requires { reverse (map laid_view known.now) ≡ lefts (names_view site.now.names.now) (rvalue_view e.now) (use_of (goal_of goal)) begun }
+    requires { map laid_view (reverse known.now) ≡ lefts (names_view site.now.names.now) (rvalue_view e.now) (use_of (goal_of goal)) begun }
     ensures { IfOk result (λ d. made_of d ≡ code (names_view site.now.names.now) site.now.place.0 site.now.top (rvalue_view e.now) begun (goal_of goal)) }
 {
     let [rest @ .., one] = known else {
@@ -366,7 +366,7 @@ fn code_both_known(
     goal: Goal,
 ) -> Result<Draft, AllocError>
     requires one { laid_view one ≡ laid (names_view site.now.names.now) (rvalue_view left.now) Tested (behind_own (use_of (goal_of goal)) begun) }
-    requires known { reverse (map laid_view known.now) ≡ lefts (names_view site.now.names.now) (rvalue_view left.now) Tested (behind_own (use_of (goal_of goal)) begun) }
+    requires known { map laid_view (reverse known.now) ≡ lefts (names_view site.now.names.now) (rvalue_view left.now) Tested (behind_own (use_of (goal_of goal)) begun) }
     ensures { IfOk result (λ d. made_of d ≡ code (names_view site.now.names.now) site.now.place.0 site.now.top (if is_and then tree.And (rvalue_view left.now) (rvalue_view right.now) else tree.Or (rvalue_view left.now) (rvalue_view right.now)) begun (goal_of goal)) }
 {
     let at = given!(behind_move(!matches!(use_of(&goal), Use::Tested), begun));

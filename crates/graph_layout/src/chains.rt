@@ -33,7 +33,7 @@ pub fn lefts_laid(
     known: &mut Vec<Laid>,
 ) -> Result<Laid, AllocError>
     ensures laid { IfOk result (λ r. laid_view r ≡ laid (names_view names.now) (rvalue_view e.now) wanted begun) }
-    ensures known { OnOk result (reverse (map laid_view known.new.items) ≡ lefts (names_view names.now) (rvalue_view e.now) wanted begun ++ reverse (map laid_view known.old.items)) }
+    ensures known { OnOk result (map laid_view (reverse known.new.items) ≡ lefts (names_view names.now) (rvalue_view e.now) wanted begun ++ map laid_view (reverse known.old.items)) }
 {
     match e {
         Rvalue::Arithmetic { left, right, .. } => {
