@@ -82,7 +82,7 @@ fn code_two_known(
     requires known { map laid_view (reverse known.now) ≡ lefts (names_view site.now.names.now) (rvalue_view first.now) Anywhere begun }
     ensures { IfOk result (λ d. made_of d ≡ code_two (names_view site.now.names.now) site.now.place.0 site.now.top (rvalue_view first.now) (rvalue_view second.now) two begun (goal_of goal)) }
 {
-    let pair = given!(pair_behind(site.names, one, second));
+    let pair = given!(pair_behind(site.names, first, one, second, begun));
     let last = given!(finished(alloc, site, two, pair, begun, goal));
     let second = given!(code(alloc, site, second, pair.from, Goal::To(None, last)));
     let moved = given!(move_if(pair.moved, Name(pair.moved_to), pair.first, second));

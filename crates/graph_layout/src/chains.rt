@@ -39,7 +39,7 @@ pub fn lefts_laid(
         Rvalue::Arithmetic { left, right, .. } => {
             let one = given!(lefts_laid(names, left, Use::Anywhere, begun, known));
             known.push(one)?;
-            let pair = given!(pair_behind(names, one, right));
+            let pair = given!(pair_behind(names, left, one, right, begun));
             after_pair(names, wanted, begun, pair)
         }
         Rvalue::And(left, right) | Rvalue::Or(left, right) => {

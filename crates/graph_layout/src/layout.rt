@@ -57,8 +57,15 @@ struct Arms {
 
 /// Where two values stand that are computed in turn, from where the first one stands.
 #[cycle(laid)]
-pub fn pair_behind(names: &Names, one: Laid, b: &Rvalue) -> Result<Pair, AllocError>
-    ensures { IfOk result (λ q. pair_view q ≡ pair (λ y. writes (names_view names.now) y (rvalue_view b.now)) (laid_view one) (laid (names_view names.now) (rvalue_view b.now) Anywhere)) }
+pub fn pair_behind(
+    names: &Names,
+    _a: &Rvalue,
+    one: Laid,
+    b: &Rvalue,
+    _begun: u32,
+) -> Result<Pair, AllocError>
+    requires { laid_view one ≡ laid (names_view names.now) (rvalue_view _a.now) Anywhere _begun }
+    ensures { IfOk result (λ q. pair_view q ≡ pair (λ y. writes (names_view names.now) y (rvalue_view b.now)) (laid (names_view names.now) (rvalue_view _a.now) Anywhere _begun) (laid (names_view names.now) (rvalue_view b.now) Anywhere)) }
 {
     let moved = is_moved(names, one.value, b);
     let from = given!(behind_move(moved, one.next));
@@ -81,7 +88,7 @@ fn pair_laid(names: &Names, a: &Rvalue, b: &Rvalue, begun: u32) -> Result<Pair, 
     ensures { IfOk result (λ q. pair_view q ≡ pair (λ y. writes (names_view names.now) y (rvalue_view b.now)) (laid (names_view names.now) (rvalue_view a.now) Anywhere begun) (laid (names_view names.now) (rvalue_view b.now) Anywhere)) }
 {
     let one = given!(value_laid(names, a, Use::Anywhere, begun));
-    pair_behind(names, one, b)
+    pair_behind(names, a, one, b, begun)
 }
 
 /// Where an element stands whose pointer comes first, or its index.
