@@ -37,9 +37,10 @@ pub fn lefts_laid(
 {
     match e {
         Rvalue::Arithmetic { left, right, .. } => {
-            let one = given!(lefts_laid(names, left, Use::Anywhere, begun, known));
+            let first: &Rvalue = left;
+            let one = given!(lefts_laid(names, first, Use::Anywhere, begun, known));
             known.push(one)?;
-            let pair = given!(pair_behind(names, left, one, right, begun));
+            let pair = given!(pair_behind(names, first, one, right, begun));
             after_pair(names, wanted, begun, pair)
         }
         Rvalue::And(left, right) | Rvalue::Or(left, right) => {
