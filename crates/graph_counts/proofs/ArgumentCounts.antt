@@ -18,7 +18,7 @@ use Rattle.graph_layout.specs.Names.{scalar_of, object_of, pick}
 use Rattle.graph_layout.specs.Layout.{laid}
 use Rattle.graph_drafts.specs.Rules.{element_of}
 use Rattle.graph_drafts.specs.Drafts.{Made, Goal, To, Unused, Either, before, ending, note}
-use Rattle.graph_code.specs.Steps.{or_zero}
+use Rattle.graph_steps.specs.Steps.{or_zero}
 use Rattle.graph_code.specs.Code.{code}
 use Rattle.graph_counts.specs.Forms.{Coding, Part, bare, object_type_of, words_of, cleared, default_start, place_of, begun, going, label_for, with_end, placed_at, coded, reached, store_elements, copied_words, declare_single, declare_array, declare_kept, declare_scalar, declare_as, initial_reached, start_reached, condition_reached, statement_reached, tests, add_run, add_going, add_branching, add_declared, add_start, add_step, add_head, add_result, add_switch, add, add_all}
 use Rattle.graph_counts.proofs.ArgumentPieces.{passed_in, made_arguments, goal_arguments, closed_arguments}

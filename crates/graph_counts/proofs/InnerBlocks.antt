@@ -25,11 +25,11 @@ use Rattle.graph_layout.specs.Layout.{laid, place_laid, passed_laid}
 use Rattle.graph_drafts.specs.Rules.{element_of, truncation_to, callee_for, steps_by}
 use Rattle.graph_drafts.specs.Drafts.{Made, Goal, To, Unused, Either, use_of, ending, leaf, label_of, closed, forked, valued, used, operated, move_if, hold_location, held_location, stored, noted, called_by}
 use Rattle.graph_drafts.specs.Drafts as drafts
-use Rattle.graph_code.specs.declared.site.Two as declared-two
-use Rattle.graph_code.specs.declared.site.Two.TheVariants as two
-use Rattle.graph_code.specs.declared.change.Change as declared-change
-use Rattle.graph_code.specs.declared.change.Change.TheVariants as change
-use Rattle.graph_code.specs.Steps.{in_turn, signed, finished, arm_use, arm_value, arm_goal, assigned_memory, updated, stepped, renewed_scalar, renewed_memory, loaded_first, left_memory, one_at}
+use Rattle.graph_steps.specs.declared.site.Two as declared-two
+use Rattle.graph_steps.specs.declared.site.Two.TheVariants as two
+use Rattle.graph_steps.specs.declared.change.Change as declared-change
+use Rattle.graph_steps.specs.declared.change.Change.TheVariants as change
+use Rattle.graph_steps.specs.Steps.{in_turn, signed, finished, arm_use, arm_value, arm_goal, assigned_memory, updated, stepped, renewed_scalar, renewed_memory, loaded_first, left_memory, one_at}
 use Rattle.graph_code.specs.Code.{code, code_place, code_address, code_all}
 use Rattle.graph_counts.proofs.InnerPieces.{goal_inner, is_tested, closed_length, leaf_inner, valued_inner, used_inner, move_inner, stored_inner, called_inner, forked_inner, operated_inner, finished_inner, renewed_inner, memory_inner, loaded_inner, left_scalar_inner, left_memory_inner, object_inner}
 

@@ -18,7 +18,7 @@ use Rattle.graph_layout.specs.Names.{scalar_of, object_of, pick}
 use Rattle.graph_layout.specs.Layout.{laid}
 use Rattle.graph_drafts.specs.Rules.{element_of}
 use Rattle.graph_drafts.specs.Drafts.{Made, Goal, To, Unused, Either, before, ending, note}
-use Rattle.graph_code.specs.Steps.{or_zero}
+use Rattle.graph_steps.specs.Steps.{or_zero}
 use Rattle.graph_counts.specs.Sizes.{counted, made_counts, goal_counts}
 use Rattle.graph_counts.specs.Weighing.{weighed, weighed_elements, weighed_initial, weighed_declared, weighed_start, weighed_option, weighed_step, weighed_statement, weighed_statements}
 use Rattle.graph_counts.specs.Forms.{Coding, Part, bare, object_type_of, words_of, cleared, default_start, place_of, begun, going, label_for, with_end, placed_at, coded, branching, reached, store_elements, copied_words, declare_single, declare_array, declare_kept, declare_scalar, declare_as, declare, initial_reached, declared_reached, start_reached, condition_reached, step_reached, result_reached, statement_reached, statements_reached, tests, add_run, add_going, add_branching, add_declared, add_start, add_step, add_head, add_result, add_switch, add, add_all, elements_reached}

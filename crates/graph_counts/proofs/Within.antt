@@ -25,11 +25,11 @@ use Rattle.graph_layout.specs.Laid.{Laid, Pair, PlaceLaid, pair, behind_move, be
 use Rattle.graph_layout.specs.Layout.{laid, place_laid, address_laid, passed_laid}
 use Rattle.graph_drafts.specs.Rules.{element_of, truncation_to, callee_for, steps_by}
 use Rattle.graph_drafts.specs.Drafts.{Made, Goal, Fork, To, Unused, Either, use_of, before, ending, zero, leaf, label_of, closed, forked, valued, used, operated, move_if, hold_location, held_location, stored, noted, assign_goal, called_by}
-use Rattle.graph_code.specs.declared.site.Two as declared-two
-use Rattle.graph_code.specs.declared.site.Two.TheVariants as two
-use Rattle.graph_code.specs.declared.change.Change as declared-change
-use Rattle.graph_code.specs.declared.change.Change.TheVariants as change
-use Rattle.graph_code.specs.Steps.{in_turn, signed, finished, arm_use, arm_value, arm_goal, assigned_memory, updated, stepped, object_address, renewed_scalar, renewed_memory, loaded_first, one_at, changed_element, takes_more}
+use Rattle.graph_steps.specs.declared.site.Two as declared-two
+use Rattle.graph_steps.specs.declared.site.Two.TheVariants as two
+use Rattle.graph_steps.specs.declared.change.Change as declared-change
+use Rattle.graph_steps.specs.declared.change.Change.TheVariants as change
+use Rattle.graph_steps.specs.Steps.{in_turn, signed, finished, arm_use, arm_value, arm_goal, assigned_memory, updated, stepped, object_address, renewed_scalar, renewed_memory, loaded_first, one_at, changed_element, takes_more}
 use Rattle.graph_code.specs.Code.{code, code_place, code_address, code_all}
 use Rattle.graph_counts.specs.Sizes.{counted, made_counts, goal_counts}
 use Rattle.graph_counts.specs.Weighing.{weighed, weighed_place, weighed_all, conversion}

@@ -24,7 +24,7 @@ use Rattle.graph_layout.specs.Names.{Names, scalar_of, object_of, pick}
 use Rattle.graph_layout.specs.Layout.{laid}
 use Rattle.graph_drafts.specs.Rules.{element_of}
 use Rattle.graph_drafts.specs.Drafts.{Made, Goal, To, Unused, Either, before, ending, note, closed, label_of, next_label}
-use Rattle.graph_code.specs.Steps.{or_zero}
+use Rattle.graph_steps.specs.Steps.{or_zero}
 use Rattle.graph_code.specs.Code.{code}
 
 -- What the code of a function stands on: its names, the program with its places, the place of its entry, how many scalars it has, and how many blocks its graph has.

@@ -20,7 +20,7 @@ use Rattle.graph_core.specs.Graphs.{Binding, ToScalar, ToObject, Scalar, Graph, 
 use Rattle.graph_layout.specs.Names.{Names, names_of, scalar_of, object_of}
 use Rattle.graph_drafts.specs.Rules.{element_of}
 use Rattle.graph_drafts.specs.Drafts.{Made, ending, note}
-use Rattle.graph_code.specs.Steps.{or_zero}
+use Rattle.graph_steps.specs.Steps.{or_zero}
 use Rattle.graph_counts.specs.Forms.{Coding, Part, going, placed_at, add_all, statements_reached, object_type_of}
 
 -- the number of an automatic variable among all variables

@@ -16,7 +16,7 @@ use Rattle.graph_drafts.specs.declared.draft.Computation as declared-computation
 use Rattle.graph_drafts.specs.declared.draft.Computation.TheVariants as computation
 use Rattle.graph_drafts.specs.declared.goal.Goal as declared-goal
 use Rattle.graph_drafts.specs.declared.goal.Goal.TheVariants as goal
-use Rattle.graph_drafts.specs.declared.operations.Fork as declared-fork
+use Rattle.graph_drafts.specs.declared.draft.Fork as declared-fork
 use Rattle.graph_drafts.specs.Rules.{less_by, truncation_to}
 use Rattle.graph_scale.specs.Conversions.{is_narrow}
 use Rattle.graph_scale.specs.Operands.{is_two_pointers, operand_at, located}

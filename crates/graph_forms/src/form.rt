@@ -2,10 +2,11 @@
 
 use c_tree::{Program, Rvalue};
 use debug_records::Place;
-use graph_code::{Site, code};
+use graph_code::code;
 use graph_core::{Block, End, Label};
 use graph_drafts::{Draft, Goal, closed, ending, marked, next_label};
 use graph_layout::{Names, pick};
+use graph_steps::Site;
 use std::alloc::{AllocError, Global};
 
 /// What the code of a function stands on.

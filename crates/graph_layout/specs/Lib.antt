@@ -2,4 +2,5 @@ pub mod Names
 pub mod Laid
 pub mod Writes
 pub mod Layout
+pub mod Chains
 pub mod Inner

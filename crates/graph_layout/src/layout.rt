@@ -55,12 +55,18 @@ struct Arms {
     arms: u32,
 }
 
-/// Where two values stand that are computed in turn.
+/// Where two values stand that are computed in turn, from where the first one stands.
 #[cycle(laid)]
-pub fn pair_laid(names: &Names, a: &Rvalue, b: &Rvalue, begun: u32) -> Result<Pair, AllocError>
-    ensures { IfOk result (λ q. pair_view q ≡ pair (λ y. writes (names_view names.now) y (rvalue_view b.now)) (laid (names_view names.now) (rvalue_view a.now) Anywhere begun) (laid (names_view names.now) (rvalue_view b.now) Anywhere)) }
+pub fn pair_behind(
+    names: &Names,
+    _a: &Rvalue,
+    one: Laid,
+    b: &Rvalue,
+    _begun: u32,
+) -> Result<Pair, AllocError>
+    requires { laid_view one ≡ laid (names_view names.now) (rvalue_view _a.now) Anywhere _begun }
+    ensures { IfOk result (λ q. pair_view q ≡ pair (λ y. writes (names_view names.now) y (rvalue_view b.now)) (laid (names_view names.now) (rvalue_view _a.now) Anywhere _begun) (laid (names_view names.now) (rvalue_view b.now) Anywhere)) }
 {
-    let one = given!(value_laid(names, a, Use::Anywhere, begun));
     let moved = is_moved(names, one.value, b);
     let from = given!(behind_move(moved, one.next));
     let other = given!(value_laid(names, b, Use::Anywhere, from));
@@ -74,6 +80,15 @@ pub fn pair_laid(names: &Names, a: &Rvalue, b: &Rvalue, begun: u32) -> Result<Pa
         next: other.next,
         top: greater(one.top, greater(from, other.top)),
     })
+}
+
+/// Where two values stand that are computed in turn.
+#[cycle(laid)]
+fn pair_laid(names: &Names, a: &Rvalue, b: &Rvalue, begun: u32) -> Result<Pair, AllocError>
+    ensures { IfOk result (λ q. pair_view q ≡ pair (λ y. writes (names_view names.now) y (rvalue_view b.now)) (laid (names_view names.now) (rvalue_view a.now) Anywhere begun) (laid (names_view names.now) (rvalue_view b.now) Anywhere)) }
+{
+    let one = given!(value_laid(names, a, Use::Anywhere, begun));
+    pair_behind(names, a, one, b, begun)
 }
 
 /// Where an element stands whose pointer comes first, or its index.

@@ -17,7 +17,7 @@ use Rattle.graph_layout.specs.Laid.{Laid, behind_move, void_arms_laid, arms_laid
 use Rattle.graph_layout.specs.Layout.{laid}
 use Rattle.graph_layout.specs.Writes.{writes}
 use Rattle.graph_drafts.specs.Drafts.{Made, Goal, To, Unused, Either, ending, leaf, closed, label_of}
-use Rattle.graph_code.specs.Steps.{arm_use, arm_value, arm_goal}
+use Rattle.graph_steps.specs.Steps.{arm_use, arm_value, arm_goal}
 use Rattle.graph_values.specs.Correspondence.{SameValue}
 use Rattle.graph_values.proofs.Leads.{Setting, names_in, size_in, depth_in, Local, World, at, Leads, stays, goes, then_leads, less_other}
 use Rattle.graph_values.proofs.Later.{others_refl}

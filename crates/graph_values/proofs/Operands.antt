@@ -16,7 +16,7 @@ use Rattle.graph_layout.specs.Layout.{laid, place_laid}
 use Rattle.graph_layout.specs.Writes.{writes, is_moved}
 use Rattle.graph_drafts.specs.Drafts.{Made, Goal, To, Unused, Either, move_if}
 use Rattle.graph_code.specs.Code.{code}
-use Rattle.graph_code.specs.Steps.{in_turn}
+use Rattle.graph_steps.specs.Steps.{in_turn}
 use Rattle.graph_values.specs.Correspondence.{SameValue}
 use Rattle.graph_values.proofs.Leads.{Setting, names_in, size_in, depth_in, Local, World, set_name, at, Leads, stays, goes, put_here, put_elsewhere, less_other}
 use Rattle.graph_values.proofs.Later.{others_refl, value_later}

@@ -36,7 +36,7 @@ use Rattle.graph_layout.specs.Writes.{writes, is_that, is_location_moved}
 use Rattle.graph_drafts.specs.Drafts.{Made, Goal, To, Unused, Either, before, zero as zero_operand, leaf, note, noted, operated, hold_location, use_of}
 use Rattle.graph_drafts.specs.Rules.{element_of}
 use Rattle.graph_code.specs.Code.{code, code_place}
-use Rattle.graph_code.specs.Steps.{assigned_memory}
+use Rattle.graph_steps.specs.Steps.{assigned_memory}
 use Rattle.graph_layout.specs.Laid.{behind_move}
 use Rattle.graph_values.specs.Typed.{IsOf}
 use Rattle.graph_values.specs.Correspondence.{SameValue}

@@ -12,10 +12,10 @@ use Rattle.graph_core.specs.Graphs as unit
 use Rattle.graph_core.specs.Graphs.{Operand, Instruction, Operate, Store, Address, Block}
 use Rattle.c_tree.specs.declared.object_type.Object as declared-object
 use Rattle.c_tree.specs.declared.object_type.Object.TheVariants as object
-use Rattle.graph_code.specs.declared.site.Two as declared-two
-use Rattle.graph_code.specs.declared.site.Two.TheVariants as two
-use Rattle.graph_code.specs.declared.change.Change as declared-change
-use Rattle.graph_code.specs.declared.change.Change.TheVariants as change
+use Rattle.graph_steps.specs.declared.site.Two as declared-two
+use Rattle.graph_steps.specs.declared.site.Two.TheVariants as two
+use Rattle.graph_steps.specs.declared.change.Change as declared-change
+use Rattle.graph_steps.specs.declared.change.Change.TheVariants as change
 use Rattle.graph_scale.specs.Conversions.{is_narrow}
 use Rattle.graph_scale.specs.Operands.{held, is_two}
 use Rattle.graph_scale.specs.Scales.{is_scaled, scaled, shift_of}
