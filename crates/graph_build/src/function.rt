@@ -9,7 +9,7 @@ use graph_drafts::{Draft, ending, note};
 use graph_forms::{
     Form, Part, add_all, going, narrow, object_type_of, place_number, placed_at, statements_reached,
 };
-use graph_layout::{Names, names_of, object_of, scalar_of};
+use graph_names::{Names, names_of, object_of, scalar_of};
 use std::alloc::{AllocError, Global};
 
 /// The program that is built, with the positions of its places in order.

@@ -5,10 +5,10 @@ ghost use Rattle.c_tree.specs.declared.types.IntegerType.{IntegerType};
 ghost use Rattle.c_tree.specs.TypedExpressions as tree;
 ghost use Rattle.c_tree.specs.TypedExpressions.{arguments_view, lvalue_view, rvalue_view};
 ghost use Rattle.graph_layout.specs.Chains.{lefts};
-ghost use Rattle.graph_layout.specs.Laid.{behind_own, laid_view};
+ghost use Rattle.graph_laid.specs.Laid.{behind_own, laid_view};
 ghost use Rattle.graph_layout.specs.Layout.{laid};
-ghost use Rattle.graph_layout.specs.Names.{names_view};
-ghost use Rattle.graph_layout.specs.declared.laid.Use.TheVariants.{Anywhere, Tested};
+ghost use Rattle.graph_names.specs.Names.{names_view};
+ghost use Rattle.graph_laid.specs.declared.laid.Use.TheVariants.{Anywhere, Tested};
 ghost use Rattle.graph_core.specs.Graphs as unit;
 ghost use Rattle.graph_core.specs.Graphs.{operand_view};
 ghost use Rattle.graph_drafts.specs.Drafts.{closed, ending, goal_of, label_of, made_of, use_of};
@@ -25,10 +25,9 @@ use graph_drafts::{
     Computation, Draft, Goal, callee_for, closed, element_of, ending, leaf, move_if, noted,
     steps_by, use_of, used, valued,
 };
-use graph_layout::{
-    Laid, Use, behind_move, is_location_moved, is_moved_before, lefts_laid, object_of, pair_behind,
-    passed_laid, pick, place_laid, scalar_named, use_for, value_laid, writes,
-};
+use graph_laid::{Laid, Use, behind_move, use_for};
+use graph_layout::{lefts_laid, pair_behind, passed_laid, place_laid, value_laid};
+use graph_names::{is_location_moved, is_moved_before, object_of, pick, scalar_named, writes};
 use graph_operations::{called_by, forked, hold_location, operated};
 use graph_scale::{held, keeps_bits, word_of};
 use graph_steps::{

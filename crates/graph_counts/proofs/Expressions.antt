@@ -16,11 +16,11 @@ use Rattle.graph_core.specs.Graphs as unit
 use Rattle.graph_core.specs.Graphs.{Operand, Instruction}
 use Rattle.graph_scale.specs.Conversions.{word_of, is_narrow}
 use Rattle.graph_scale.specs.Operands.{operand_at, held as held_operand}
-use Rattle.graph_layout.specs.declared.laid.Use.{Use}
-use Rattle.graph_layout.specs.declared.laid.Use.TheVariants.{Anywhere, In, Nothing, Tested}
-use Rattle.graph_layout.specs.Names.{Names, scalar_named, pick}
-use Rattle.graph_layout.specs.Writes.{writes, writes_any, is_moved, is_location_moved}
-use Rattle.graph_layout.specs.Laid.{Laid, PlaceLaid, pair, behind_move, use_for, updated_laid, called_laid, begun_behind}
+use Rattle.graph_laid.specs.declared.laid.Use.{Use}
+use Rattle.graph_laid.specs.declared.laid.Use.TheVariants.{Anywhere, In, Nothing, Tested}
+use Rattle.graph_names.specs.Names.{Names, scalar_named, pick}
+use Rattle.graph_names.specs.Writes.{writes, writes_any, is_moved, is_location_moved}
+use Rattle.graph_laid.specs.Laid.{Laid, PlaceLaid, pair, behind_move, use_for, updated_laid, called_laid, begun_behind}
 use Rattle.graph_layout.specs.Layout.{laid, place_laid, address_laid, passed_laid, scales}
 use Rattle.graph_drafts.specs.Rules.{element_of, callee_for, steps_by}
 use Rattle.graph_drafts.specs.Drafts.{Made, Goal, To, Unused, Either, use_of, zero, leaf, label_of, valued, used, move_if, hold_location, held_location, stored, noted, assign_goal, called_by, Fork}

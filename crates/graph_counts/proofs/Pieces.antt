@@ -14,10 +14,10 @@ use Rattle.graph_core.specs.Validity.{total, counts}
 use Rattle.graph_scale.specs.Conversions.{is_narrow}
 use Rattle.graph_scale.specs.Operands.{is_two, is_two_pointers}
 use Rattle.graph_scale.specs.Scales.{is_scaled, shift_of}
-use Rattle.graph_layout.specs.declared.laid.Use.{Use}
-use Rattle.graph_layout.specs.declared.laid.Use.TheVariants.{Anywhere, In, Nothing, Tested}
-use Rattle.graph_layout.specs.Names.{Names, pick, object_of}
-use Rattle.graph_layout.specs.Laid.{Laid, Pair, PlaceLaid, behind_move}
+use Rattle.graph_laid.specs.declared.laid.Use.{Use}
+use Rattle.graph_laid.specs.declared.laid.Use.TheVariants.{Anywhere, In, Nothing, Tested}
+use Rattle.graph_names.specs.Names.{Names, pick, object_of}
+use Rattle.graph_laid.specs.Laid.{Laid, Pair, PlaceLaid, behind_move}
 use Rattle.graph_drafts.specs.Drafts.{Made, Goal, To, Unused, Either, Fork, before, ending, leaf, target, follow, tested, scale, scaling, unscaling, move_if, note, noted, compare_by, compare_pointers_by, closed, arm, forked, valued, used, hold_location, stored, keep_old, use_old, assign_goal, called_by, renew, operated, code_scaled_pair, compared, compared_value, compared_pointers, compared_pointers_value, label_of, next_label}
 use Rattle.graph_steps.specs.declared.site.Two as declared-two
 use Rattle.graph_steps.specs.declared.site.Two.TheVariants as two

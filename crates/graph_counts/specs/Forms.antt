@@ -17,10 +17,10 @@ use Rattle.graph_core.specs.declared.block.Comparison.TheVariants as branch
 use Rattle.graph_core.specs.Graphs as unit
 use Rattle.graph_core.specs.Graphs.{Operand, Automatic, Marker, Store, CopyWords, Jump, Branch}
 use Rattle.graph_scale.specs.Conversions.{word_of}
-use Rattle.graph_layout.specs.declared.laid.Use as declared-use
-use Rattle.graph_layout.specs.declared.laid.Use.TheVariants.{Anywhere, In, Tested}
-use Rattle.graph_layout.specs.declared.laid.Use.TheVariants as use-of
-use Rattle.graph_layout.specs.Names.{Names, scalar_of, object_of, pick}
+use Rattle.graph_laid.specs.declared.laid.Use as declared-use
+use Rattle.graph_laid.specs.declared.laid.Use.TheVariants.{Anywhere, In, Tested}
+use Rattle.graph_laid.specs.declared.laid.Use.TheVariants as use-of
+use Rattle.graph_names.specs.Names.{Names, scalar_of, object_of, pick}
 use Rattle.graph_layout.specs.Layout.{laid}
 use Rattle.graph_drafts.specs.Rules.{element_of}
 use Rattle.graph_drafts.specs.Drafts.{Made, Goal, To, Unused, Either, before, ending, note, closed, label_of, next_label}

@@ -5,7 +5,7 @@ use debug_records::Place;
 use graph_code::code;
 use graph_core::{Block, End, Label};
 use graph_drafts::{Draft, Goal, closed, ending, marked, next_label};
-use graph_layout::{Names, pick};
+use graph_names::{Names, pick};
 use graph_steps::Site;
 use std::alloc::{AllocError, Global};
 

@@ -9,7 +9,8 @@ use c_flow::{Ways, round_of, start, start_of_all, within_loop};
 use c_tree::{Rvalue, TypedStart, TypedStatement, TypedStatements, TypedStep};
 use graph_core::{Block, Comparison, End, Operand};
 use graph_drafts::{Draft, Goal, closed, ending, next_label};
-use graph_layout::{Use, value_laid};
+use graph_laid::Use;
+use graph_layout::value_laid;
 use graph_scale::word_of;
 use std::alloc::{AllocError, Global};
 

@@ -10,8 +10,8 @@ use Rattle.c_flow.specs.declared.edge.Ways.{Ways}
 use Rattle.c_flow.specs.Flow.{start, round_of, within_loop, within_switch, before as with_rest}
 use Rattle.graph_core.specs.Graphs as unit
 use Rattle.graph_core.specs.Graphs.{Instruction, Marker}
-use Rattle.graph_layout.specs.declared.laid.Use.TheVariants.{Anywhere, Tested}
-use Rattle.graph_layout.specs.Names.{scalar_of}
+use Rattle.graph_laid.specs.declared.laid.Use.TheVariants.{Anywhere, Tested}
+use Rattle.graph_names.specs.Names.{scalar_of}
 use Rattle.graph_counts.specs.Forms.{Coding, Part, place_of, reached, initial_reached, start_reached, condition_reached, statement_reached, add_branching, add_declared, add_start, add_step, add_head, add_result, add, add_all}
 
 -- the place whose marker comes first, or 0

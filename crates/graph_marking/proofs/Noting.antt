@@ -16,10 +16,10 @@ use Rattle.graph_core.specs.Graphs as unit
 use Rattle.graph_core.specs.Graphs.{Operand, Instruction, Operate, Truncate, Same, Note, Is, Of, Block, End, Jump, Branch, Return}
 use Rattle.graph_scale.specs.Conversions.{keeps_bits, is_kept_constant}
 use Rattle.graph_scale.specs.Operands.{held, operand_at}
-use Rattle.graph_layout.specs.declared.laid.Use.TheVariants.{Anywhere, Nothing, Tested}
-use Rattle.graph_layout.specs.Names.{Names, scalar_named, pick}
-use Rattle.graph_layout.specs.Writes.{writes, writes_within, writes_any, names_it, is_that, is_moved, is_location_moved}
-use Rattle.graph_layout.specs.Laid.{Laid, Pair, pair, behind_move, behind_own, use_for}
+use Rattle.graph_laid.specs.declared.laid.Use.TheVariants.{Anywhere, Nothing, Tested}
+use Rattle.graph_names.specs.Names.{Names, scalar_named, pick}
+use Rattle.graph_names.specs.Writes.{writes, writes_within, writes_any, names_it, is_that, is_moved, is_location_moved}
+use Rattle.graph_laid.specs.Laid.{Laid, Pair, pair, behind_move, behind_own, use_for}
 use Rattle.graph_layout.specs.Layout.{laid, place_laid, passed_laid}
 use Rattle.graph_drafts.specs.Rules.{element_of, truncation_to, steps_by}
 use Rattle.graph_drafts.specs.Drafts.{Made, Goal, To, Unused, Either, use_of, before, ending, leaf, label_of, closed, forked, valued, used, operated, move_if, hold_location, noted, note, use_old, behind_old}

@@ -17,10 +17,10 @@ use Rattle.graph_core.specs.Graphs.{Operand, Instruction, Operate, Truncate, Sam
 use Rattle.graph_core.specs.Paths.{is_marker}
 use Rattle.graph_scale.specs.Conversions.{word_of, keeps_bits, is_kept_constant}
 use Rattle.graph_scale.specs.Operands.{held, operand_at}
-use Rattle.graph_layout.specs.declared.laid.Use.TheVariants.{Anywhere, Nothing, Tested}
-use Rattle.graph_layout.specs.Names.{Names, scalar_named, pick}
-use Rattle.graph_layout.specs.Writes.{writes, writes_any, is_moved, is_location_moved}
-use Rattle.graph_layout.specs.Laid.{Pair, PlaceLaid, pair, behind_move, behind_own, use_for}
+use Rattle.graph_laid.specs.declared.laid.Use.TheVariants.{Anywhere, Nothing, Tested}
+use Rattle.graph_names.specs.Names.{Names, scalar_named, pick}
+use Rattle.graph_names.specs.Writes.{writes, writes_any, is_moved, is_location_moved}
+use Rattle.graph_laid.specs.Laid.{Pair, PlaceLaid, pair, behind_move, behind_own, use_for}
 use Rattle.graph_layout.specs.Layout.{laid, place_laid, passed_laid}
 use Rattle.graph_drafts.specs.Rules.{element_of, truncation_to, callee_for, steps_by}
 use Rattle.graph_drafts.specs.Drafts.{Made, Goal, To, Unused, Either, use_of, ending, leaf, label_of, closed, forked, valued, used, operated, move_if, hold_location, held_location, stored, noted, called_by}

@@ -19,10 +19,10 @@ use Rattle.graph_core.specs.Paths.{is_marker}
 use Rattle.graph_scale.specs.Conversions.{is_narrow}
 use Rattle.graph_scale.specs.Operands.{is_two, is_two_pointers, operand_at}
 use Rattle.graph_scale.specs.Scales.{is_scaled, shift_of, scaled}
-use Rattle.graph_layout.specs.declared.laid.Use.{Use}
-use Rattle.graph_layout.specs.declared.laid.Use.TheVariants.{Anywhere, In, Nothing, Tested}
-use Rattle.graph_layout.specs.Names.{Names, pick, object_of}
-use Rattle.graph_layout.specs.Laid.{Laid, Pair, PlaceLaid, behind_move}
+use Rattle.graph_laid.specs.declared.laid.Use.{Use}
+use Rattle.graph_laid.specs.declared.laid.Use.TheVariants.{Anywhere, In, Nothing, Tested}
+use Rattle.graph_names.specs.Names.{Names, pick, object_of}
+use Rattle.graph_laid.specs.Laid.{Laid, Pair, PlaceLaid, behind_move}
 use Rattle.graph_drafts.specs.Rules.{truncation_to, operation_for, move_by}
 use Rattle.graph_drafts.specs.Drafts.{Made, Goal, To, Unused, Either, Fork, use_of, before, ending, leaf, target, follow, tested, scale, scaling, unscaling, move_if, note, noted, compare_by, compare_pointers_by, closed, arm, forked, valued, used, stored, keep_old, use_old, behind_old, left_free, called_by, renew, operated, code_scaled_pair, compared, compared_value, compared_pointers, compared_pointers_value, label_of, held_location, branch_by}
 use Rattle.graph_drafts.specs.Drafts as drafts

@@ -3,8 +3,8 @@
 ghost use Rattle.std.specs.Prelude.{◌≡◌, ℕ, IfOk, map};
 ghost use Rattle.graph_core.specs.Graphs as form;
 ghost use Rattle.graph_core.specs.Graphs.{block_view, location_view, operand_view};
-ghost use Rattle.graph_layout.specs.Names.{names_view};
-ghost use Rattle.graph_layout.specs.Laid.{pair_view};
+ghost use Rattle.graph_names.specs.Names.{names_view};
+ghost use Rattle.graph_laid.specs.Laid.{pair_view};
 ghost use Rattle.graph_scale.specs.Operands.{is_two};
 ghost use Rattle.graph_scale.specs.Scales.{shift_of};
 ghost use Rattle.graph_drafts.specs.Drafts.{arm, called_by, code_scaled_pair, compared, compared_pointers, compared_pointers_value, compared_value, computing, fork_view, forked, goal_of, held_location, hold_location, made_of, operated, renew, scale, unscaling};
@@ -17,7 +17,8 @@ use graph_drafts::{
     Computation, Draft, Fork, Goal, call, closed, compute, ending, follow, leaf, move_if,
     next_label, target, tested, truncation_to,
 };
-use graph_layout::{Names, Pair, behind_move, pick};
+use graph_laid::{Pair, behind_move};
+use graph_names::{Names, pick};
 use graph_scale::{
     is_narrow, is_scaled, is_two, is_two_pointers, located, operand_at, scaled, shift_of,
 };

@@ -2,8 +2,8 @@
 
 ghost use Rattle.std.specs.Prelude.{◌≡◌, IfOk};
 ghost use Rattle.graph_core.specs.Graphs.{location_view, operand_view};
-ghost use Rattle.graph_layout.specs.Names.{names_view};
-ghost use Rattle.graph_layout.specs.Laid.{laid_view, place_view};
+ghost use Rattle.graph_names.specs.Names.{names_view};
+ghost use Rattle.graph_laid.specs.Laid.{laid_view, place_view};
 ghost use Rattle.graph_drafts.specs.Drafts.{goal_of, made_of};
 ghost use Rattle.graph_steps.specs.Steps.{assigned_memory, changed, changed_element, left_memory, left_scalar, loaded_first, one_at, renewed_memory, renewed_scalar, takes_more};
 
@@ -13,7 +13,8 @@ use graph_drafts::{
     Computation, Draft, Goal, assign_goal, behind_old, compute, follow, integer_element, keep_old,
     left_free, move_by, note, noted, operation_for, store, stored, target, use_of, use_old,
 };
-use graph_layout::{Laid, Names, PlaceLaid, behind_move, pick};
+use graph_laid::{Laid, PlaceLaid, behind_move};
+use graph_names::{Names, pick};
 use graph_operations::{held_location, hold_location, renew, scale};
 use graph_scale::{is_narrow, is_scaled, scaled};
 use std::alloc::{AllocError, Global};

@@ -21,11 +21,11 @@ use Rattle.graph_scale.specs.Conversions.{keeps_bits, is_kept_constant, is_narro
 use Rattle.graph_scale.specs.Operands.{operand_at}
 use Rattle.graph_scale.specs.Scales.{is_scaled, scaled, shift_of}
 use Rattle.word_base.specs.declared.operation.Operation.TheVariants as operation
-use Rattle.graph_layout.specs.declared.laid.Use.{Use}
-use Rattle.graph_layout.specs.declared.laid.Use.TheVariants.{Anywhere, In, Nothing, Tested}
-use Rattle.graph_layout.specs.Names.{Names, scalar_named, pick}
-use Rattle.graph_layout.specs.Writes.{writes, writes_any, is_moved, is_location_moved}
-use Rattle.graph_layout.specs.Laid.{Laid, Pair, PlaceLaid, pair, behind_move, behind_own, use_for}
+use Rattle.graph_laid.specs.declared.laid.Use.{Use}
+use Rattle.graph_laid.specs.declared.laid.Use.TheVariants.{Anywhere, In, Nothing, Tested}
+use Rattle.graph_names.specs.Names.{Names, scalar_named, pick}
+use Rattle.graph_names.specs.Writes.{writes, writes_any, is_moved, is_location_moved}
+use Rattle.graph_laid.specs.Laid.{Laid, Pair, PlaceLaid, pair, behind_move, behind_own, use_for}
 use Rattle.graph_layout.specs.Layout.{laid, place_laid, passed_laid}
 use Rattle.graph_drafts.specs.Rules.{element_of, steps_by, truncation_to, operation_for, move_by, callee_for}
 use Rattle.graph_drafts.specs.Drafts.{Made, Goal, To, Unused, Either, use_of, before, ending, zero as zero_operand, leaf, target, follow, label_of, closed, forked, valued, operated, move_if, hold_location, stored, note, noted, keep_old, use_old, behind_old, used, called_by, scale, scaling, renew, compare_by, compare_pointers_by, compared, compared_pointers}

@@ -1,6 +1,6 @@
 use Rattle.std.proofs.Common.{◌+◌}
 use Rattle.c_tree.specs.TypedExpressions.{arguments_view, lvalue_view, rvalue_view}
-use Rattle.graph_layout.proofs.Extents.{extent, extent_of_arguments, extent_of_place}
+use Rattle.graph_names.proofs.Extents.{extent, extent_of_arguments, extent_of_place}
 use Rattle.graph_code.proofs.expression.+code.Given as goal
 
 abbrev pub decreases-code : goal.decreases-code
