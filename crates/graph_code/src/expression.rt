@@ -1,6 +1,6 @@
 //! The code of expressions, from their ends: each function puts the code of a tree before what follows.
 
-ghost use Rattle.std.specs.Prelude.{◌≡◌, ◌+◌, IfOk, if◌then◌else◌, map, reverse};
+ghost use Rattle.std.specs.Prelude.{◌≡◌, ◌+◌, IfOk, if◌then◌else◌, map};
 ghost use Rattle.c_tree.specs.declared.types.IntegerType.{IntegerType};
 ghost use Rattle.c_tree.specs.TypedExpressions as tree;
 ghost use Rattle.c_tree.specs.TypedExpressions.{arguments_view, lvalue_view, rvalue_view};
@@ -8,7 +8,7 @@ ghost use Rattle.graph_layout.specs.Chains.{lefts};
 ghost use Rattle.graph_laid.specs.Laid.{behind_own, laid_view};
 ghost use Rattle.graph_layout.specs.Layout.{laid};
 ghost use Rattle.graph_names.specs.Names.{names_view};
-ghost use Rattle.graph_laid.specs.declared.laid.Use.TheVariants.{Anywhere, Tested};
+ghost use Rattle.graph_laid.specs.declared.laid.Use.TheVariants.{Anywhere, Nothing, Tested};
 ghost use Rattle.graph_core.specs.Graphs as unit;
 ghost use Rattle.graph_core.specs.Graphs.{operand_view};
 ghost use Rattle.graph_drafts.specs.Drafts.{closed, ending, goal_of, label_of, made_of, use_of};
@@ -61,6 +61,7 @@ fn code_two(
 {
     let mut known = Vec::new(alloc);
     let one = given!(lefts_laid(site.names, first, Use::Anywhere, begun, &mut known));
+    known.reverse();
     code_two_known(alloc, site, first, second, two, one, &known, begun, goal)
 }
 
@@ -78,7 +79,7 @@ fn code_two_known(
     goal: Goal,
 ) -> Result<Draft, AllocError>
     requires one { laid_view one ≡ laid (names_view site.now.names.now) (rvalue_view first.now) Anywhere begun }
-    requires known { map laid_view (reverse known.now) ≡ lefts (names_view site.now.names.now) (rvalue_view first.now) Anywhere begun }
+    requires known { map laid_view known.now ≡ lefts (names_view site.now.names.now) (rvalue_view first.now) Anywhere begun }
     ensures { IfOk result (λ d. made_of d ≡ code_two (names_view site.now.names.now) site.now.place.0 site.now.top (rvalue_view first.now) (rvalue_view second.now) two begun (goal_of goal)) }
 {
     let pair = given!(pair_behind(site.names, first, one, second, begun));
@@ -98,10 +99,10 @@ fn code_known(
     begun: u32,
     goal: Goal,
 ) -> Result<Draft, AllocError>
-    requires { map laid_view (reverse known.now) ≡ lefts (names_view site.now.names.now) (rvalue_view e.now) (use_of (goal_of goal)) begun }
+    requires { map laid_view known.now ≡ lefts (names_view site.now.names.now) (rvalue_view e.now) (use_of (goal_of goal)) begun }
     ensures { IfOk result (λ d. made_of d ≡ code (names_view site.now.names.now) site.now.place.0 site.now.top (rvalue_view e.now) begun (goal_of goal)) }
 {
-    let [rest @ .., one] = known else {
+    let [one, rest @ ..] = known else {
         return code(alloc, site, e, begun, goal);
     };
     match e {
@@ -114,14 +115,74 @@ fn code_known(
             let two = Two::Arithmetic(*operator, *integer_type);
             code_two_known(alloc, site, left, right, two, *one, rest, begun, goal)
         }
+        Rvalue::Compare {
+            operator,
+            integer_type,
+            left,
+            right,
+        } => {
+            let two = Two::Compare(*operator, *integer_type);
+            code_two_known(alloc, site, left, right, two, *one, rest, begun, goal)
+        }
+        Rvalue::Move {
+            direction,
+            element,
+            pointer,
+            by,
+        } => {
+            let two = Two::Move(*direction, object_size(*element));
+            code_two_known(alloc, site, pointer, by, two, *one, rest, begun, goal)
+        }
         Rvalue::And(left, right) => {
             code_both_known(alloc, site, true, left, right, *one, rest, begun, goal)
         }
         Rvalue::Or(left, right) => {
             code_both_known(alloc, site, false, left, right, *one, rest, begun, goal)
         }
+        Rvalue::Comma(left, right) => {
+            code_comma_known(alloc, site, left, right, *one, rest, begun, goal)
+        }
         _ => code(alloc, site, e, begun, goal),
     }
+}
+
+/// The comma operator, where it is known where the first operand stands and the left operands within it.
+#[cycle(code)]
+fn code_comma_known(
+    alloc: Global,
+    site: &Site<'_>,
+    left: &Rvalue,
+    right: &Rvalue,
+    one: Laid,
+    known: &[Laid],
+    begun: u32,
+    goal: Goal,
+) -> Result<Draft, AllocError>
+    requires one { laid_view one ≡ laid (names_view site.now.names.now) (rvalue_view left.now) Nothing begun }
+    requires known { map laid_view known.now ≡ lefts (names_view site.now.names.now) (rvalue_view left.now) Nothing begun }
+    ensures { IfOk result (λ d. made_of d ≡ code (names_view site.now.names.now) site.now.place.0 site.now.top (tree.Comma (rvalue_view left.now) (rvalue_view right.now)) begun (goal_of goal)) }
+{
+    let at = pick(site.names, begun, one.top);
+    let draft = given!(code(alloc, site, right, at, goal));
+    code_known(alloc, site, left, known, begun, Goal::Unused(draft))
+}
+
+/// The comma operator.
+#[cycle(code)]
+fn code_comma(
+    alloc: Global,
+    site: &Site<'_>,
+    left: &Rvalue,
+    right: &Rvalue,
+    begun: u32,
+    goal: Goal,
+) -> Result<Draft, AllocError>
+    ensures { IfOk result (λ d. made_of d ≡ code (names_view site.now.names.now) site.now.place.0 site.now.top (tree.Comma (rvalue_view left.now) (rvalue_view right.now)) begun (goal_of goal)) }
+{
+    let mut known = Vec::new(alloc);
+    let one = given!(lefts_laid(site.names, left, Use::Nothing, begun, &mut known));
+    known.reverse();
+    code_comma_known(alloc, site, left, right, one, &known, begun, goal)
 }
 
 /// What comes before the location of an lvalue in memory.
@@ -348,6 +409,7 @@ fn code_both(
     let at = given!(behind_move(!matches!(use_of(&goal), Use::Tested), begun));
     let mut known = Vec::new(alloc);
     let one = given!(lefts_laid(site.names, left, Use::Tested, at, &mut known));
+    known.reverse();
     code_both_known(alloc, site, is_and, left, right, one, &known, begun, goal)
 }
 
@@ -365,7 +427,7 @@ fn code_both_known(
     goal: Goal,
 ) -> Result<Draft, AllocError>
     requires one { laid_view one ≡ laid (names_view site.now.names.now) (rvalue_view left.now) Tested (behind_own (use_of (goal_of goal)) begun) }
-    requires known { map laid_view (reverse known.now) ≡ lefts (names_view site.now.names.now) (rvalue_view left.now) Tested (behind_own (use_of (goal_of goal)) begun) }
+    requires known { map laid_view known.now ≡ lefts (names_view site.now.names.now) (rvalue_view left.now) Tested (behind_own (use_of (goal_of goal)) begun) }
     ensures { IfOk result (λ d. made_of d ≡ code (names_view site.now.names.now) site.now.place.0 site.now.top (if is_and then tree.And (rvalue_view left.now) (rvalue_view right.now) else tree.Or (rvalue_view left.now) (rvalue_view right.now)) begun (goal_of goal)) }
 {
     let at = given!(behind_move(!matches!(use_of(&goal), Use::Tested), begun));
@@ -704,12 +766,7 @@ pub fn code(
             then,
             otherwise,
         } => { code_conditional(alloc, site, condition, then, otherwise, begun, goal) }
-        Rvalue::Comma(left, right) => {
-            let behind = given!(value_laid(site.names, left, Use::Nothing, begun)).top;
-            let at = pick(site.names, begun, behind);
-            let draft = given!(code(alloc, site, right, at, goal));
-            code(alloc, site, left, begun, Goal::Unused(draft))
-        }
+        Rvalue::Comma(left, right) => code_comma(alloc, site, left, right, begun, goal),
         Rvalue::Assign {
             scalar,
             target,
