@@ -2,6 +2,7 @@
 
 ghost use Rattle.std.specs.Prelude.{◌≡◌, ◌∷◌, ◌++◌, IfOk, OnOk, map, reverse};
 ghost use Rattle.c_tree.specs.TypedExpressions.{rvalue_view};
+ghost use Rattle.c_type_rules.specs.Integers.{object_size};
 ghost use Rattle.graph_laid.specs.Laid as spec;
 ghost use Rattle.graph_laid.specs.Laid.{laid_view, pair, pair_view};
 ghost use Rattle.graph_laid.specs.declared.laid.Use.TheVariants.{Anywhere, Nothing, Tested};
@@ -11,7 +12,7 @@ ghost use Rattle.graph_names.specs.Names.{names_view, pick};
 ghost use Rattle.graph_names.specs.Writes.{writes};
 
 use crate::layout::{pair_behind, value_laid};
-use c_tree::Rvalue;
+use c_tree::{ObjectType, Rvalue};
 use c_type_rules::object_size;
 use graph_laid::{
     Laid, Pair, Use, after_pair, behind_own, behind_top, compared_laid, greater, moved_laid,
@@ -62,6 +63,41 @@ fn pair_lefts_laid(
 {
     let one = given!(left_laid(names, left, Use::Anywhere, begun, known));
     pair_behind(names, left, one, right, begun)
+}
+
+/// Integer arithmetic, with the left operands of the first operand.
+#[cycle(lefts)]
+fn arithmetic_lefts_laid(
+    names: &Names,
+    left: &Rvalue,
+    right: &Rvalue,
+    wanted: Use,
+    begun: u32,
+    known: &mut Vec<Laid>,
+) -> Result<Laid, AllocError>
+    ensures laid { IfOk result (λ r. laid_view r ≡ spec.after_pair (names_view names.now) wanted begun (pair (λ y. writes (names_view names.now) y (rvalue_view right.now)) (laid (names_view names.now) (rvalue_view left.now) Anywhere begun) (laid (names_view names.now) (rvalue_view right.now) Anywhere))) }
+    ensures known { OnOk result (map laid_view (reverse known.new.items) ≡ (laid (names_view names.now) (rvalue_view left.now) Anywhere begun ∷ lefts (names_view names.now) (rvalue_view left.now) Anywhere begun) ++ map laid_view (reverse known.old.items)) }
+{
+    let pair = given!(pair_lefts_laid(names, left, right, begun, known));
+    after_pair(names, wanted, begun, pair)
+}
+
+/// A pointer that is moved by an index, with the left operands of the pointer.
+#[cycle(lefts)]
+fn moved_lefts_laid(
+    names: &Names,
+    of: ObjectType,
+    pointer: &Rvalue,
+    by: &Rvalue,
+    wanted: Use,
+    begun: u32,
+    known: &mut Vec<Laid>,
+) -> Result<Laid, AllocError>
+    ensures laid { let q = pair (λ y. writes (names_view names.now) y (rvalue_view by.now)) (laid (names_view names.now) (rvalue_view pointer.now) Anywhere begun) (laid (names_view names.now) (rvalue_view by.now) Anywhere) in IfOk result (λ r. laid_view r ≡ spec.moved_laid (names_view names.now) wanted begun (object_size of) q.right q) }
+    ensures known { OnOk result (map laid_view (reverse known.new.items) ≡ (laid (names_view names.now) (rvalue_view pointer.now) Anywhere begun ∷ lefts (names_view names.now) (rvalue_view pointer.now) Anywhere begun) ++ map laid_view (reverse known.old.items)) }
+{
+    let pair = given!(pair_lefts_laid(names, pointer, by, begun, known));
+    moved_laid(names, wanted, begun, object_size(of), pair.right, pair)
 }
 
 /// `&&` and `||`, with the left operands of the first operand.
@@ -115,8 +151,7 @@ pub fn lefts_laid(
 {
     match e {
         Rvalue::Arithmetic { left, right, .. } => {
-            let pair = given!(pair_lefts_laid(names, left, right, begun, known));
-            after_pair(names, wanted, begun, pair)
+            arithmetic_lefts_laid(names, left, right, wanted, begun, known)
         }
         Rvalue::Compare {
             operator,
@@ -132,11 +167,7 @@ pub fn lefts_laid(
             pointer,
             by,
             ..
-        } => {
-            let pair = given!(pair_lefts_laid(names, pointer, by, begun, known));
-            let size = object_size(*element);
-            moved_laid(names, wanted, begun, size, pair.right, pair)
-        }
+        } => { moved_lefts_laid(names, *element, pointer, by, wanted, begun, known) }
         Rvalue::And(left, right) | Rvalue::Or(left, right) => {
             both_lefts_laid(names, left, right, wanted, begun, known)
         }

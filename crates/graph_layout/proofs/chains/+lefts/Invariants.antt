@@ -17,3 +17,9 @@ decreases-both_lefts_laid l = extent (rvalue_view l.left.now) + 2
 
 abbrev pub decreases-comma_lefts_laid : goal.decreases-comma_lefts_laid
 decreases-comma_lefts_laid l = extent (rvalue_view l.left.now) + 2
+
+abbrev pub decreases-arithmetic_lefts_laid : goal.decreases-arithmetic_lefts_laid
+decreases-arithmetic_lefts_laid l = extent (rvalue_view l.left.now) + 3
+
+abbrev pub decreases-moved_lefts_laid : goal.decreases-moved_lefts_laid
+decreases-moved_lefts_laid l = extent (rvalue_view l.pointer.now) + 3
