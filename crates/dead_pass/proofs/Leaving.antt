@@ -1,11 +1,11 @@
--- Instructions, blocks and graphs of which something is left, one by one.
-use Rattle.std.proofs.Common.{◌≡◌, ◌-◌, ◌<◌, ◌≤◌, ℕ, Option, Some, None, List, [], ◌∷◌, ◌++◌, length, map, refl, sym, ap, ◌∙◌, subst, arith, append_assoc, get_or, take, drop}
+-- Instructions and blocks of which something is left, one by one.
+use Rattle.std.proofs.Common.{◌≡◌, ◌+◌, ◌-◌, ◌<◌, ◌≤◌, ℕ, zero, suc, Bool, List, [], ◌∷◌, ◌++◌, length, map, refl, sym, ap, ◌∙◌, subst, arith, append_assoc, get_or, take, drop}
+use Rattle.std.proofs.lemmas.List.{length-map}
+use Rattle.std.specs.List.{AllByRecursion}
 use Rattle.std.proofs.Math.Seq.{take-length}
-use Rattle.graph_core.specs.declared.instruction.Callee.{Callee}
-use Rattle.graph_core.specs.Graphs.{Operand, NoteValue, Instruction, Note, Call, Block, Graph}
-use Rattle.graph_edits.specs.Kept.{EachFunction, KeepsAllButBlocks}
-use Rattle.graph_edits.proofs.Functions.{keeps_itself}
-use Rattle.dead_pass.specs.Left.{IsLeftAs, stays, AreLeft, none, kept, gone, IsLeftBlock, AreLeftBlocks, IsLeftGraph, IsPushed, pushed, passed, IsNoteOf, notes, noted, untargeted}
+use Rattle.graph_core.specs.Graphs.{NoteValue, Instruction, Note, Block}
+use Rattle.idle_rule.specs.Removing.{without}
+use Rattle.dead_pass.specs.LeftBy.{IsKeptAs, noted, IsPushed, went, stayed, AreLeftBy, none, gone, kept, IsLeftBlockBy, AreLeftBlocksBy, IsNoteOf, notes}
 
 append_nil : {A : Type 0} (xs : List A) → xs ++ [] ≡ xs
 append_nil [] = refl
@@ -15,79 +15,70 @@ rest_is : {A : Type 0} (y : A) (left : List A) → take (length (y ∷ left) - 1
 rest_is y left = (let count : length (y ∷ left) - 1 ≡ length left = omega arith in ap (λ n. take n left) count ∙ take-length left)
 
 -- a note of the same scalar
-pub left_note : (x : ℕ) (v : NoteValue) (j : Instruction) → IsNoteOf x j → IsLeftAs (Note x v) (Some j)
-left_note x v _ notes = noted
+pub kept_note : (x : ℕ) (v : NoteValue) (j : Instruction) → IsNoteOf x j → IsKeptAs (Note x v) j
+kept_note x v _ notes = noted
 
--- a call without its target
-pub left_call : (x : Option ℕ) (f : Callee) (all : List Operand) (j : Instruction) → j ≡ Call None f all → IsLeftAs (Call x f all) (Some j)
-left_call x f all j e = subst (λ (k : Instruction). IsLeftAs (Call x f all) (Some k)) (sym e) untargeted
+module _ (goes : ℕ → Bool) where
+  -- What is still to be gone over, behind what is left so far.
+  pub data IsAhead (all ahead left : List Instruction) : Type 0 where
+    goes_on : ((later : List Instruction) → AreLeftBy goes ahead later → AreLeftBy goes all (left ++ later)) → IsAhead all ahead left
 
--- What is still to be gone over, behind what is left so far.
-pub data IsAhead (all ahead left : List Instruction) : Type 0 where
-  goes_on : ((later : List Instruction) → AreLeft ahead later → AreLeft all (left ++ later)) → IsAhead all ahead left
+  pub ahead_first : (all : List Instruction) → IsAhead all all []
+  ahead_first all = goes_on (λ later is. is)
 
-pub ahead_first : (all : List Instruction) → IsAhead all all []
-ahead_first all = goes_on (λ later is. is)
+  ahead_next : (all ahead left longer : List Instruction) (i : Instruction) → IsPushed (goes (length ahead)) i left longer → IsAhead all (i ∷ ahead) left → IsAhead all ahead longer
+  ahead_next all ahead left longer i (went is grown) (goes_on go) =
+      goes_on (λ later are. (let P : List Instruction → Type 0 = λ l. AreLeftBy goes all l in subst P (sym (append_assoc left (without i) later) ∙ ap (λ l. l ++ later) (sym grown)) (go (without i ++ later) (gone is are))))
+  ahead_next all ahead left longer i (stayed {j} is is_kept grown) (goes_on go) =
+      goes_on (λ later are. (let P : List Instruction → Type 0 = λ l. AreLeftBy goes all l in subst P (sym (append_assoc left (j ∷ []) later) ∙ ap (λ l. l ++ later) (sym grown)) (go (j ∷ later) (kept is is_kept are))))
 
-ahead_next : (all ahead left longer : List Instruction) (i : Instruction) → IsPushed i left longer → IsAhead all (i ∷ ahead) left → IsAhead all ahead longer
-ahead_next all ahead left longer i (pushed {j} is grown) (goes_on go) =
-    goes_on (λ later are. (let P : List Instruction → Type 0 = λ l. AreLeft all l in subst P (sym (append_assoc left (j ∷ []) later) ∙ ap (λ l. l ++ later) (sym grown)) (go (j ∷ later) (kept is are))))
-ahead_next all ahead left longer i (passed is same) (goes_on go) =
-    goes_on (λ later are. (let P : List Instruction → Type 0 = λ l. AreLeft all l in subst P (ap (λ l. l ++ later) (sym same)) (go later (gone is are))))
+  pub ahead_step : {A : Type 0} (view : A → Instruction) (all left longer : List Instruction) (ahead : List A) (x : A) (count : ℕ) (going : Bool) → 1 ≤ length ahead → x ≡ get_or ahead 0 x → count ≡ length (take (length ahead - 1) (drop 1 ahead)) → going ≡ goes count
+      → IsPushed going (view x) left longer → IsAhead all (map view ahead) left → IsAhead all (map view (take (length ahead - 1) (drop 1 ahead))) longer
+  ahead_step view all left longer [] x count going le e counts is_going pushed old = absurd (omega (arith, le))
+  ahead_step view all left longer (y ∷ ahead) x count going le e counts is_going pushed old =
+      let here : IsPushed going (view y) left longer = subst (λ z. IsPushed going (view z) left longer) e pushed in
+      let counted : going ≡ goes (length (map view ahead)) = is_going ∙ ap goes (counts ∙ ap (λ l. length l) (rest_is y ahead) ∙ sym (length-map ahead view)) in
+      subst (λ zs. IsAhead all (map view zs) longer) (sym (rest_is y ahead)) (ahead_next all (map view ahead) left longer (view y) (subst (λ b. IsPushed b (view y) left longer) counted here) old)
 
-pub ahead_step : {A : Type 0} (view : A → Instruction) (all left longer : List Instruction) (ahead : List A) (x d : A) → 1 ≤ length ahead → x ≡ get_or ahead 0 d → IsPushed (view x) left longer → IsAhead all (map view ahead) left
-    → IsAhead all (map view (take (length ahead - 1) (drop 1 ahead))) longer
-ahead_step view all left longer [] x d le e is old = absurd (omega arith)
-ahead_step view all left longer (y ∷ ahead) x d le e is old =
-    subst (λ zs. IsAhead all (map view zs) longer) (sym (rest_is y ahead)) (ahead_next all (map view ahead) left longer (view y) (subst (λ z. IsPushed (view z) left longer) e is) old)
+  pub ahead_done : {A : Type 0} (view : A → Instruction) (all left : List Instruction) (ahead : List A) → length ahead < 1 → IsAhead all (map view ahead) left → AreLeftBy goes all left
+  ahead_done view all left [] lt (goes_on go) = (let P : List Instruction → Type 0 = λ l. AreLeftBy goes all l in subst P (append_nil left) (go [] none))
+  ahead_done view all left (y ∷ ahead) lt old = absurd (omega (arith, lt))
 
-pub ahead_done : {A : Type 0} (view : A → Instruction) (all left : List Instruction) (ahead : List A) → length ahead < 1 → IsAhead all (map view ahead) left → AreLeft all left
-ahead_done view all left [] lt (goes_on go) = (let P : List Instruction → Type 0 = λ l. AreLeft all l in subst P (append_nil left) (go [] none))
-ahead_done view all left (y ∷ ahead) lt old = absurd (omega arith)
+-- The same of blocks, the first of which has this number.
+module _ (goes : (block left : ℕ) → Bool) (led : ℕ → Bool) where
+  pub data AreAhead (all ahead : List Block) (number : ℕ) (left : List Block) : Type 0 where
+    go_on : ((later : List Block) → AreLeftBlocksBy goes led number ahead later → AreLeftBlocksBy goes led 0 all (left ++ later)) → AreAhead all ahead number left
 
--- The same of blocks.
-pub data AreAhead (all ahead left : List Block) : Type 0 where
-  go_on : ((later : List Block) → AreLeftBlocks ahead later → AreLeftBlocks all (left ++ later)) → AreAhead all ahead left
+  pub blocks_first : (all : List Block) → AreAhead all all 0 []
+  blocks_first all = go_on (λ later is. is)
 
-pub blocks_first : (all : List Block) → AreAhead all all []
-blocks_first all = go_on (λ later is. is)
+  pub blocks_step : {A : Type 0} (view : A → Block) (all left longer : List Block) (ahead : List A) (number : ℕ) (x : A) (made : Block) → 1 ≤ length ahead → x ≡ get_or ahead 0 x → longer ≡ left ++ made ∷ [] → IsLeftBlockBy goes led number (view x) made → AreAhead all (map view ahead) number left
+      → AreAhead all (map view (take (length ahead - 1) (drop 1 ahead))) (number + 1) longer
+  blocks_step view all left longer [] number x made le e grown is old = absurd (omega (arith, le))
+  blocks_step view all left longer (y ∷ ahead) number x made le e grown is (go_on go) =
+      let here : IsLeftBlockBy goes led number (view y) made = subst (λ z. IsLeftBlockBy goes led number (view z) made) e is in
+      subst (λ zs. AreAhead all (map view zs) (number + 1) longer) (sym (rest_is y ahead))
+      (go_on (λ later are. (let P : List Block → Type 0 = λ l. AreLeftBlocksBy goes led 0 all l in subst P (sym (append_assoc left (made ∷ []) later) ∙ ap (λ l. l ++ later) (sym grown)) (go (made ∷ later) (here, are)))))
 
-pub blocks_step : {A : Type 0} (view : A → Block) (all left longer : List Block) (ahead : List A) (x d : A) (made : Block) → 1 ≤ length ahead → x ≡ get_or ahead 0 d → longer ≡ left ++ made ∷ [] → IsLeftBlock (view x) made → AreAhead all (map view ahead) left
-    → AreAhead all (map view (take (length ahead - 1) (drop 1 ahead))) longer
-blocks_step view all left longer [] x d made le e grown is old = absurd (omega arith)
-blocks_step view all left longer (y ∷ ahead) x d made le e grown is (go_on go) =
-    let here : IsLeftBlock (view y) made = subst (λ z. IsLeftBlock (view z) made) e is in
-    subst (λ zs. AreAhead all (map view zs) longer) (sym (rest_is y ahead))
-    (go_on (λ later are. (let P : List Block → Type 0 = λ l. AreLeftBlocks all l in subst P (sym (append_assoc left (made ∷ []) later) ∙ ap (λ l. l ++ later) (sym grown)) (go (made ∷ later) (here, are)))))
+  pub blocks_done : {A : Type 0} (view : A → Block) (all left : List Block) (ahead : List A) (number : ℕ) → length ahead < 1 → AreAhead all (map view ahead) number left → AreLeftBlocksBy goes led 0 all left
+  blocks_done view all left [] number lt (go_on go) = (let P : List Block → Type 0 = λ l. AreLeftBlocksBy goes led 0 all l in subst P (append_nil left) (go [] tt))
+  blocks_done view all left (y ∷ ahead) number lt old = absurd (omega (arith, lt))
 
-pub blocks_done : {A : Type 0} (view : A → Block) (all left : List Block) (ahead : List A) → length ahead < 1 → AreAhead all (map view ahead) left → AreLeftBlocks all left
-blocks_done view all left [] lt (go_on go) = (let P : List Block → Type 0 = λ l. AreLeftBlocks all l in subst P (append_nil left) (go [] tt))
-blocks_done view all left (y ∷ ahead) lt old = absurd (omega arith)
+-- one block less is ahead
+pub rest_count : {A : Type 0} (ahead : List A) → 1 ≤ length ahead → length (take (length ahead - 1) (drop 1 ahead)) + 1 ≡ length ahead
+rest_count [] le = absurd (omega (arith, le))
+rest_count (y ∷ ahead) le = (let e = ap (λ l. length l) (rest_is y ahead) in omega (arith, e))
 
--- what stays is left of itself
-same_instructions : (all : List Instruction) → AreLeft all all
-same_instructions [] = none
-same_instructions (i ∷ all) = kept stays (same_instructions all)
+-- what is so of all that is ahead
+pub first_of_all : {A : Type 0} (P : A → Type 0) (ahead : List A) (x : A) → 1 ≤ length ahead → x ≡ get_or ahead 0 x → AllByRecursion P ahead → P x
+first_of_all P [] x le e all = absurd (omega (arith, le))
+first_of_all P (y ∷ ahead) x le e all = subst P (sym e) all.0
 
-pub same_block : (b : Block) → IsLeftBlock b b
-same_block b = record { place = refl; end = refl; instructions = same_instructions b.instructions }
+pub all_behind : {A : Type 0} (P : A → Type 0) (ahead : List A) → 1 ≤ length ahead → AllByRecursion P ahead → AllByRecursion P (take (length ahead - 1) (drop 1 ahead))
+all_behind P [] le all = absurd (omega (arith, le))
+all_behind {A} P (y ∷ ahead) le all = (let Q : List A → Type 0 = λ zs. AllByRecursion P zs in subst Q (sym (rest_is y ahead)) all.1)
 
-same_blocks : (all : List Block) → AreLeftBlocks all all
-same_blocks [] = tt
-same_blocks (b ∷ all) = (same_block b, same_blocks all)
-
-pub same_graph : (g : Graph) → IsLeftGraph g g
-same_graph g = record { keeps = keeps_itself g; blocks = same_blocks g.blocks }
-
-pub blocks_count : (before after : List Block) → AreLeftBlocks before after → length after ≡ length before
-blocks_count [] [] all = refl
-blocks_count [] (c ∷ after) all = absurd all
-blocks_count (b ∷ before) [] all = absurd all
-blocks_count (b ∷ before) (c ∷ after) all = (let h = blocks_count before after all.1 in omega (arith, h))
-
--- functions of which something is left keep all but their blocks
-pub each_keeps : (gs hs : List Graph) → EachFunction IsLeftGraph gs hs → EachFunction KeepsAllButBlocks gs hs
-each_keeps [] [] all = tt
-each_keeps [] (h ∷ hs) all = absurd all
-each_keeps (g ∷ gs) [] all = absurd all
-each_keeps (g ∷ gs) (h ∷ hs) all = (all.0.keeps, each_keeps gs hs all.1)
+pub one_of_all : {A : Type 0} (P : A → Type 0) (all : List A) (k : ℕ) (x : A) → k < length all → x ≡ get_or all k x → AllByRecursion P all → P x
+one_of_all P [] k x lt e all = absurd (omega (arith, lt))
+one_of_all P (y ∷ more) zero x lt e all = subst P (sym e) all.0
+one_of_all P (y ∷ more) (suc k) x lt e all = one_of_all P more k x (omega (arith, lt)) e all.1

@@ -1,5 +1,5 @@
 -- What the removal of dead assignments may leave of a graph.
-use Rattle.std.specs.Prelude.{◌≡◌, ℕ, true, Option, Some, None, List, [], ◌∷◌, ◌++◌, ⊤}
+use Rattle.std.specs.Prelude.{◌≡◌, ℕ, true, Option, Some, None, List, [], ◌∷◌, ⊤}
 use Rattle.graph_core.specs.declared.instruction.Callee.{Callee}
 use Rattle.graph_core.specs.Graphs.{Operand, NoteValue, Instruction, Note, Call, Block, Graph}
 use Rattle.graph_core.specs.Uses.{is_computation}
@@ -11,10 +11,6 @@ pub data IsLeftAs : Instruction → Option Instruction → Type 0 where
   goes : {i : Instruction} → is_computation i ≡ true → IsLeftAs i None
   untargeted : {x : Option ℕ} {f : Callee} {all : List Operand} → IsLeftAs (Call x f all) (Some (Call None f all))
   noted : {x : ℕ} {v w : NoteValue} → IsLeftAs (Note x v) (Some (Note x w))
-
--- it is a note of this scalar
-pub data IsNoteOf (x : ℕ) : Instruction → Type 0 where
-  notes : {v : NoteValue} → IsNoteOf x (Note x v)
 
 -- What is left of instructions, in their order.
 pub data AreLeft : List Instruction → List Instruction → Type 0 where
@@ -39,8 +35,3 @@ AreLeftBlocks (b ∷ before) (c ∷ after) = IsLeftBlock b c × AreLeftBlocks be
 pub record IsLeftGraph (g h : Graph) : Type 0 where
   pub keeps : KeepsAllButBlocks g h
   pub blocks : AreLeftBlocks g.blocks h.blocks
-
--- one instruction more is left behind others, or nothing of it
-pub data IsPushed (i : Instruction) (old new : List Instruction) : Type 0 where
-  pushed : {j : Instruction} → IsLeftAs i (Some j) → new ≡ old ++ j ∷ [] → IsPushed i old new
-  passed : IsLeftAs i None → new ≡ old → IsPushed i old new

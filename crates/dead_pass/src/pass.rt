@@ -1,20 +1,24 @@
 //! The pass.
 
 ghost use Rattle.std.specs.Prelude.{◌≡◌, ◌<◌, ◌^◌, IfOk, IfSome, codes, length, map};
+ghost use Rattle.std.specs.List.{AllByRecursion};
 ghost use Rattle.debug_records.specs.Change.{pass_name};
 ghost use Rattle.debug_records.specs.declared.change.Kind.TheVariants.{Removed};
-ghost use Rattle.dead_pass.specs.Idle.{graph_of};
+ghost use Rattle.removal_notes.specs.Idle.{IsBorneOut, graph_of};
 ghost use Rattle.dead_pass.specs.Left.{IsLeftGraph};
 ghost use Rattle.graph_core.specs.Graphs.{graph_view, unit_view};
 ghost use Rattle.graph_core.specs.Validity.{IsValid};
+ghost use Rattle.idle_rule.specs.Removing.{IsReduced};
+ghost use Rattle.graph_edits.specs.Changes.{AddsChangesOf, AreCasesOf};
 ghost use Rattle.graph_edits.specs.Kept.{AddsChanges, EachFunction, KeepsAllButBlocks, ShareTheSame};
+ghost use Rattle.removed_writes.specs.Writes.{IsRemovedWrite};
 
-use crate::idle_graph::IdleGraph;
 use crate::notes::graph_left;
-use crate::removed::RemovedChanges;
 use debug_records::{Kind, PassName};
 use graph_core::{Graph, Unit};
-use graph_edits::log_cases;
+use graph_edits::{Case, log_cases};
+use removal_notes::{IdleGraph, RemovedChanges};
+use removed_writes::removed_writes;
 use std::alloc::{AllocError, Global};
 
 /// The name of the pass.
@@ -28,14 +32,33 @@ fn dead_name() -> PassName
 }
 
 /// What goes of each graph.
-fn idle_graphs(alloc: Global, graphs: &[Graph]) -> Result<Vec<IdleGraph<'_>>, AllocError>
-    ensures { IfOk result (λ all. map graph_of all.items ≡ map graph_view graphs.now) }
+fn idle_graphs(alloc: Global, graphs: &[Graph]) -> Result<Option<Vec<IdleGraph<'_>>>, AllocError>
+    ensures graphs { IfOk result (λ o. IfSome o (λ all. map graph_of all.items ≡ map graph_view graphs.now)) }
+    ensures borne_out { IfOk result (λ o. IfSome o (λ all. AllByRecursion IsBorneOut all.items)) }
 {
     let mut all = Vec::new(alloc);
     for graph in graphs {
-        all.push(IdleGraph::new(alloc, graph)?)?;
+        let Some(idle) = IdleGraph::new(alloc, graph)? else {
+            return Ok(None);
+        };
+        all.push(idle)?;
     }
-    Ok(all)
+    Ok(Some(all))
+}
+
+/// The assignments of scalars that go, function by function. None where their numbers are too large.
+fn removed_cases(alloc: Global, idle: &[IdleGraph<'_>]) -> Result<Option<Vec<Case>>, AllocError>
+    requires { AllByRecursion IsBorneOut idle.now }
+    ensures { IfOk result (λ o. IfSome o (λ cases. AreCasesOf (λ before after. IsRemovedWrite before) (map graph_of idle.now) (map graph_of idle.now) cases.items)) }
+{
+    let mut cases = Vec::new(alloc);
+    for number in 0..idle.len() {
+        let one = &idle[number];
+        if !removed_writes(one.graph, &one.turns, &mut cases)? {
+            return Ok(None);
+        }
+    }
+    Ok(Some(cases))
 }
 
 /// What is left of each graph.
@@ -44,7 +67,8 @@ fn graphs_left(
     idle: &[IdleGraph<'_>],
     removed: &RemovedChanges,
 ) -> Result<Vec<Graph>, AllocError>
-    ensures { IfOk result (λ left. EachFunction IsLeftGraph (map graph_of idle.now) (map graph_view left.items)) }
+    requires { AllByRecursion IsBorneOut idle.now }
+    ensures { IfOk result (λ left. EachFunction IsReduced (map graph_of idle.now) (map graph_view left.items)) }
 {
     let mut left = Vec::new(alloc);
     let mut ahead = idle;
@@ -57,25 +81,29 @@ fn graphs_left(
 }
 
 /// A unit without its dead assignments (Kennedy 1981; notes by Hennessy 1982). In code that some path reaches a computation goes, or a call's target, where what it
-/// writes is a temporary, or a scalar that nothing else assigns in its place, and each read that it reaches is by a computation that goes. Each assignment
-/// that goes is a change in the log. Its note gives the recipe of its right side, where there is one, or else that the value is gone by the change;
+/// writes is a temporary, or a scalar that nothing else assigns in its place, and each read that it reaches is by a computation that goes. The log tells each
+/// assignment of a scalar that goes by a change `Removed` of the pass `dead`: of its place and variable; in order of place, then of block and instruction. Its note gives the recipe of its right side, where there is one, or else that the value is gone by the change;
 /// earlier notes become so where a name of their recipe is no longer written.
 ///
-/// None where what is left is not valid, or there are 2^31 changes. `AllocError` where memory was refused.
+/// None where the search told others to go than those that do by this rule, what is left is not valid, or a number of its blocks, instructions or changes is too large for the log, which no
+/// unit is known to meet. `AllocError` where memory was refused.
 pub fn remove_dead(alloc: Global, unit: &Unit) -> Result<Option<Unit>, AllocError>
     requires valid { IsValid (unit_view unit.now) }
     requires room { length (unit_view unit.now).log < 2 ^ 31 }
     ensures valid { IfOk result (λ o. IfSome o (λ v. IsValid (unit_view v))) }
     ensures shared { IfOk result (λ o. IfSome o (λ v. ShareTheSame (unit_view unit.now) (unit_view v))) }
     ensures log { IfOk result (λ o. IfSome o (λ v. AddsChanges (pass_name (codes "dead")) Removed (unit_view unit.now) (unit_view v))) }
+    ensures changes { IfOk result (λ o. IfSome o (λ v. AddsChangesOf (pass_name (codes "dead")) Removed (λ before after. IsRemovedWrite before) (unit_view unit.now) (unit_view v))) }
     ensures functions { IfOk result (λ o. IfSome o (λ v. EachFunction KeepsAllButBlocks (unit_view unit.now).graphs (unit_view v).graphs)) }
     ensures left { IfOk result (λ o. IfSome o (λ v. EachFunction IsLeftGraph (unit_view unit.now).graphs (unit_view v).graphs)) }
+    ensures exact { IfOk result (λ o. IfSome o (λ v. EachFunction IsReduced (unit_view unit.now).graphs (unit_view v).graphs)) }
 {
-    let idle = idle_graphs(alloc, &unit.graphs)?;
-    let mut cases = Vec::new(alloc);
-    for graph in &idle {
-        graph.add_cases(&mut cases)?;
-    }
+    let Some(idle) = idle_graphs(alloc, &unit.graphs)? else {
+        return Ok(None);
+    };
+    let Some(mut cases) = removed_cases(alloc, &idle)? else {
+        return Ok(None);
+    };
     let mut left = unit.duplicate(alloc)?;
     if !log_cases(&mut left.log, dead_name(), Kind::Removed, &mut cases)? {
         return Ok(None);

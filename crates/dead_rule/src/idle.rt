@@ -1,12 +1,13 @@
 //! The writes that go.
 
 use crate::flow_rows::FlowRows;
+use crate::heights::{Found, found_by};
 use crate::live_names::{begin_at_end, live_names, step_back};
 use crate::points::{Point, Points};
 use crate::readers::Readers;
 use crate::writes::Writes;
 use graph_core::Graph;
-use graph_paths::{flag, put_flag, reached_in_order};
+use graph_paths::{flag, put_entry, reached_in_order};
 use std::alloc::{AllocError, Global};
 
 /// Whether a write may go, if nothing reads it: it is of a temporary, or the only one of its scalar in its place.
@@ -102,42 +103,46 @@ fn go(
     }
 }
 
-/// The least set of writes: one goes where each point that reads it is a computation that goes. A call reads its arguments even where its target goes.
+/// The least set of writes, by the turns in which they go: for each point its turn from 1 on, or 0 where it stays. One goes where each point that reads it is a computation that
+/// went. A call reads its arguments even where its target goes.
 fn least(
     alloc: Global,
     points: &Points,
     readers: &mut Readers,
     faint: &[u32],
-) -> Result<Vec<bool>, AllocError> {
-    let mut goes = vec![in alloc; false; points.count() as usize]?;
+) -> Result<Vec<u32>, AllocError> {
+    let mut turns = vec![in alloc; 0u32; points.count() as usize]?;
     let mut unread = Vec::new(alloc);
     for write in faint {
         if readers.left(*write) == 0 {
             unread.push(*write)?;
         }
     }
+    let mut turn = 0u32;
     for at in 0..faint.len() {
         let Some(write) = unread.get(at).copied() else {
             break;
         };
-        put_flag(&mut goes, write, true);
+        turn = turn.saturating_add(1);
+        put_entry(&mut turns, write, turn);
         go(points, readers, write, &mut unread)?;
     }
-    Ok(goes)
+    Ok(turns)
 }
 
-/// For each point of a graph whether what it writes goes: some path comes to it, it writes a temporary, or is the only write of its scalar in its place, and each
-/// read that it reaches is by a computation that goes itself (Kennedy 1981, removed one by one: what keeps itself alive, as `i = i + 1` in a loop, stays).
+/// The writes of a graph that go, in turn: some path comes to each, it writes a temporary, or is the only write of its scalar in its place, and each read that it
+/// reaches is by a computation that goes before (Kennedy 1981, removed one by one: what keeps itself alive, as `i = i + 1` in a loop, stays).
 pub fn idle_writes(
     alloc: Global,
     graph: &Graph,
     points: &Points,
     writes: &Writes,
-) -> Result<Vec<bool>, AllocError> {
+) -> Result<Found, AllocError> {
     let mut backward = reached_in_order(alloc, &graph.blocks)?;
     backward.reverse();
     let may_go = all_that_may_go(alloc, graph, points, writes)?;
     let faint = faint_writes(alloc, graph, points, &backward, &may_go)?;
     let mut readers = readers_of(alloc, graph, points, &backward, &faint)?;
-    least(alloc, points, &mut readers, &faint)
+    let turns = least(alloc, points, &mut readers, &faint)?;
+    found_by(alloc, graph, points, &backward, &turns)
 }

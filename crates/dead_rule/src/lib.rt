@@ -2,6 +2,7 @@
 #![tactic(auto)]
 
 mod flow_rows;
+mod heights;
 mod idle;
 mod live_names;
 mod points;
@@ -9,6 +10,7 @@ mod readers;
 mod writes;
 
 pub use flow_rows::FlowRows;
+pub use heights::Found;
 pub use idle::idle_writes;
 pub use points::{Point, Points};
 pub use writes::Writes;

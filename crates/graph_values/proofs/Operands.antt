@@ -1,7 +1,7 @@
 -- Two operands in turn.
 use Rattle.std.proofs.Common.{◌≡◌, ◌≢◌, ℕ, ◌+◌, ◌<◌, ◌≤◌, List, [], ◌∷◌, Option, Some, None, Bool, true, false, refl, sym, ap, ◌∙◌, subst, arith}
 use Rattle.std.specs.Prelude.{if◌then◌else◌, ◌||◌}
-use Rattle.c_tree.specs.TypedExpressions.{RvalueTree, LvalueTree, Constant, Null, Load, Decay, AddressOf, Convert, Discard, Signed, Not, Arithmetic, Compare, ComparePointers, Move, MoveFrom, Difference, And, Or, Conditional, Comma, Assign, Update, UpdatePointer, Step, StepPointer, Call}
+use Rattle.c_tree.specs.TypedExpressions.{RvalueTree, LvalueTree, Constant, Null, Load, Decay, AddressOf, Convert, Discard, Signed, Not, Arithmetic, Compare, ComparePointers, Move, MoveFrom, Difference, And, Or, Conditional, Comma, Assign, Update, UpdatePointer, Step, StepPointer, Call, Named, Target, Element, ElementFrom}
 use Rattle.c_law_types.specs.Expressions.{kind_of}
 use Rattle.c_memory.specs.declared.value.Value as source-value
 use Rattle.c_states.specs.States.{State, Evaluated, Gives, with, both, on_both}
@@ -40,33 +40,41 @@ written_by x e y = writes (names_in x) y e
 abbrev pub IsFreeOf : Setting → (name : ℕ) → LvalueTree → Type 0
 IsFreeOf x k l = (t : ℕ) → size_in x ≤ t → (place_laid (names_in x) l t).location ≢ At (Name k)
 
--- What an expression stores once its value stands in a name is not stored where that name points: a variable is not of the type of what it points to.
-abbrev pub Apart : Setting → (name : ℕ) → RvalueTree → Type 0
-Apart x k (Constant z t) = Unit {0}
-Apart x k Null = Unit {0}
-Apart x k (Load s l) = Unit {0}
-Apart x k (Decay l) = Unit {0}
-Apart x k (AddressOf l) = Unit {0}
-Apart x k (Convert t e) = Apart x k e
-Apart x k (Discard e) = Unit {0}
-Apart x k (Signed o t e) = Apart x k e
-Apart x k (Not e) = Unit {0}
-Apart x k (Arithmetic o t a b) = Unit {0}
-Apart x k (Compare o t a b) = Unit {0}
-Apart x k (ComparePointers o a b) = Unit {0}
-Apart x k (Move d of a b) = Unit {0}
-Apart x k (MoveFrom b of a) = Unit {0}
-Apart x k (Difference of a b) = Unit {0}
-Apart x k (And a b) = Unit {0}
-Apart x k (Or a b) = Unit {0}
-Apart x k (Conditional c a b) = Unit {0}
-Apart x k (Comma a b) = Apart x k b
-Apart x k (Assign s l e) = IsFreeOf x k l × Apart x k e
-Apart x k (Update o t u l e) = IsFreeOf x k l
-Apart x k (UpdatePointer d of l e) = IsFreeOf x k l
-Apart x k (Step d g t u l) = IsFreeOf x k l
-Apart x k (StepPointer d g of l) = IsFreeOf x k l
-Apart x k (Call c all) = Unit {0}
+abbrev mutual
+  -- What an expression stores once its value stands in a name is not stored where that name points: a variable is not of the type of what it points to.
+  pub Apart : Setting → (name : ℕ) → RvalueTree → Type 0
+  Apart x k (Constant z t) = Unit {0}
+  Apart x k Null = Unit {0}
+  Apart x k (Load s l) = Unit {0}
+  Apart x k (Decay l) = ApartIn x k l
+  Apart x k (AddressOf l) = ApartIn x k l
+  Apart x k (Convert t e) = Apart x k e
+  Apart x k (Discard e) = Unit {0}
+  Apart x k (Signed o t e) = Apart x k e
+  Apart x k (Not e) = Unit {0}
+  Apart x k (Arithmetic o t a b) = Unit {0}
+  Apart x k (Compare o t a b) = Unit {0}
+  Apart x k (ComparePointers o a b) = Unit {0}
+  Apart x k (Move d of a b) = Unit {0}
+  Apart x k (MoveFrom b of a) = Unit {0}
+  Apart x k (Difference of a b) = Unit {0}
+  Apart x k (And a b) = Unit {0}
+  Apart x k (Or a b) = Unit {0}
+  Apart x k (Conditional c a b) = Unit {0}
+  Apart x k (Comma a b) = Apart x k b
+  Apart x k (Assign s l e) = IsFreeOf x k l × Apart x k e
+  Apart x k (Update o t u l e) = IsFreeOf x k l
+  Apart x k (UpdatePointer d of l e) = IsFreeOf x k l
+  Apart x k (Step d g t u l) = IsFreeOf x k l
+  Apart x k (StepPointer d g of l) = IsFreeOf x k l
+  Apart x k (Call c all) = Unit {0}
+
+  -- so is what the pointer stores that is an lvalue's address
+  pub ApartIn : Setting → (name : ℕ) → LvalueTree → Type 0
+  ApartIn x k (Named o of) = Unit {0}
+  ApartIn x k (Target of p) = Apart x k p
+  ApartIn x k (Element of p i) = Unit {0}
+  ApartIn x k (ElementFrom of i p) = Unit {0}
 
 -- A name that wants the value of an expression is older than the temporaries of the expression, and apart from what it stores where it is a scalar.
 abbrev pub Aims : Setting → Goal → RvalueTree → ℕ → Type 0

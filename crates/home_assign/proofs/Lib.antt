@@ -1,3 +1,5 @@
-pub mod Tables
 pub mod Among
+pub mod Numbers
+pub mod Choices
+pub mod Apart
 pub mod Units

@@ -1,2 +1,4 @@
-pub mod Table
 pub mod Homes
+pub mod Rule
+pub mod Choosing
+pub mod Units

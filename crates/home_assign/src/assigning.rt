@@ -1,15 +1,16 @@
 //! Homes for the names of a unit.
 
-ghost use Rattle.std.specs.Prelude.{◌≡◌, ◌≤◌, IfOk, length, map};
+ghost use Rattle.std.specs.Prelude.{◌≡◌, ◌<◌, ◌≤◌, ℕ, IfOk, length, map, slice_get};
 ghost use Rattle.std.specs.List.{AllByRecursion};
 ghost use Rattle.graph_core.specs.Graphs.{graph_view, unit_view};
 ghost use Rattle.graph_core.specs.Validity.{IsValid};
-ghost use Rattle.homed_unit.specs.Homed.{AreHomesOf, HaveHomes, homed_view};
-ghost use Rattle.home_assign.specs.Homes.{AreHomesFor, MayHaveHomes, homes_listed};
+ghost use Rattle.homed_unit.specs.Homed.{HaveHomes, homed_view};
+ghost use Rattle.home_assign.specs.Homes.{AreHomesFor, homes_listed};
+ghost use Rattle.home_assign.specs.Rule.{AreHomes, HaveHomesApart, HaveRegisters, HaveSlots};
+ghost use Rattle.home_assign.specs.Units.{AreHomesOfEach};
+ghost use Rattle.name_interference.specs.Clashes.{MayHaveHomes};
 
 use crate::choosing::registers;
-use crate::interference::interference_of;
-use crate::joins::first_joined;
 use debug_records::{ChangeLog, Mode, PassName};
 use graph_core::{Graph, Unit};
 use graph_homes::Home;
@@ -20,7 +21,9 @@ use std::alloc::{AllocError, Global};
 /// A slot for each name.
 #[tactic(auto, using(crate::proofs::Among::among_put))]
 fn slots(alloc: Global, graph: &Graph) -> Result<Vec<Home>, AllocError>
-    ensures { IfOk result (λ v. AreHomesFor graph.now.name_count v.items) }
+    requires { graph.now.name_count ≤ 3000 }
+    ensures homes { IfOk result (λ v. AreHomesFor graph.now.name_count v.items) }
+    ensures slots { IfOk result (λ v. AreHomes Mode.Slots (graph_view graph.now) v.items) }
 {
     let mut homes = Vec::new(alloc);
     for name in 0..graph.name_count {
@@ -32,15 +35,12 @@ fn slots(alloc: Global, graph: &Graph) -> Result<Vec<Home>, AllocError>
 /// The homes of a graph's names.
 fn homes_of(alloc: Global, graph: &Graph, mode: Mode) -> Result<Vec<Home>, AllocError>
     requires { MayHaveHomes (graph_view graph.now) }
-    ensures { IfOk result (λ v. AreHomesFor graph.now.name_count v.items) }
+    ensures homes { IfOk result (λ v. AreHomesFor graph.now.name_count v.items) }
+    ensures rule { IfOk result (λ v. AreHomes mode (graph_view graph.now) v.items) }
 {
     match mode {
         Mode::Slots => slots(alloc, graph),
-        Mode::Registers => {
-            let mut interference = interference_of(alloc, graph)?;
-            let joined = first_joined(alloc, graph)?;
-            registers(alloc, &mut interference, &joined)
-        }
+        Mode::Registers => registers(alloc, graph),
     }
 }
 
@@ -60,7 +60,7 @@ fn homes_of_all(
     log: &mut ChangeLog,
 ) -> Result<Vec<FunctionHomes>, AllocError>
     requires { AllByRecursion MayHaveHomes (map graph_view graphs.now) }
-    ensures { IfOk result (λ v. AreHomesOf (map graph_view graphs.now) (homes_listed v.items)) }
+    ensures { IfOk result (λ v. AreHomesOfEach mode (map graph_view graphs.now) (homes_listed v.items)) }
 {
     let moved = moved_by(alloc, log.changes())?;
     let mut homes = Vec::new(alloc);
@@ -75,10 +75,12 @@ fn homes_of_all(
 }
 
 /// A unit with homes for its names. Its log tells of each scalar whose register other names have too.
-#[tactic(auto, using(crate::proofs::Units::valid_may))]
 pub fn assign(alloc: Global, unit: &Unit, mode: Mode) -> Result<HomedUnit, AllocError>
     requires { IsValid (unit_view unit.now) }
     ensures homes { IfOk result (λ h. HaveHomes (homed_view h)) }
+    ensures slots { IfOk result (λ h. mode ≡ Mode.Slots → HaveSlots (homed_view h)) }
+    ensures rule { IfOk result (λ h. mode ≡ Mode.Registers → HaveRegisters (homed_view h)) }
+    ensures apart { IfOk result (λ h. HaveHomesApart (homed_view h)) }
     ensures graphs { IfOk result (λ h. (homed_view h).unit.graphs ≡ (unit_view unit.now).graphs) }
     ensures mode { IfOk result (λ h. h.mode ≡ mode) }
 {

@@ -3,7 +3,5 @@
 
 mod assigning;
 mod choosing;
-mod interference;
-mod joins;
 
 pub use assigning::assign;

@@ -1,29 +1,30 @@
-use Rattle.std.proofs.Common.{ap, map, refl, subst, sym, ◌∙◌}
-use Rattle.graph_core.specs.Graphs.{Graph, binding_view, block_view, scalar_view}
-use Rattle.dead_pass.specs.Idle.{graph_of}
-use Rattle.dead_pass.specs.Left.{AreLeftBlocks, IsLeftGraph}
-use Rattle.dead_pass.proofs.Leaving.{blocks_count, same_graph}
+use Rattle.std.proofs.Common.{List, ap, map, subst, sym, ◌∙◌}
+use Rattle.graph_core.specs.declared.graph.MemoryObject.{MemoryObject}
+use Rattle.graph_core.specs.Graphs.{Binding, Block, Graph, Scalar, binding_view, block_view, graph_view, scalar_view}
+use Rattle.path_marks.specs.Table.{bits_of}
+use Rattle.idle_rule.specs.Asking.{is_going}
+use Rattle.idle_rule.specs.Removing.{IsReduced}
+use Rattle.idle_rule.specs.Walks.{turn_of}
+use Rattle.removal_notes.specs.Idle.{graph_of}
+use Rattle.dead_pass.specs.LeftBy.{AreLeftBlocksBy}
+use Rattle.dead_pass.proofs.ByRule.{graph_reduced, graph_stays}
 use Rattle.dead_pass.proofs.notes.graph_left.Goals as goal
 
 pub returns-then-stays : goal.returns-then-stays
-returns-then-stays c = subst (λ (g : Graph). IsLeftGraph (graph_of c.args.idle.now) g) (sym c.in_ok-same.ensures) (same_graph (graph_of c.args.idle.now))
+returns-then-stays c =
+    let idle = c.args.idle.now in
+    subst (λ (g : Graph). IsReduced (graph_of idle) g) (sym c.in_ok-same.ensures) (graph_stays (graph_of idle) (is_going (turn_of idle.turns.items)) c.requires.goes (bits_of idle.reached 0) c.requires.led (c.stays.ensures c.if-stays.true))
 
 pub returns : goal.returns
 returns c =
-    let before = map block_view c.args.idle.now.graph.now.blocks.items in
-    let after = map block_view c.in_ok-blocks.blocks.items in
-    let are = subst (λ xs. AreLeftBlocks (map block_view xs) after) c.deref.ensures.value c.in_ok-blocks.ensures in
-    record {
-      keeps = record {
-        function = record {
-          entry = refl;
-          parameters = ap (λ x. map binding_view x) (c.in_ok-from_slice.ensures.items ∙ c.deref-2.ensures.value);
-          scalars = ap (λ x. map scalar_view x) (c.in_ok-from_slice-2.ensures.items ∙ c.deref-3.ensures.value);
-          objects = c.in_ok-from_slice-3.ensures.items ∙ c.deref-4.ensures.value;
-          first_moved = refl;
-        };
-        names = refl;
-        blocks = blocks_count before after are;
-      };
-      blocks = are;
-    }
+    let idle = c.args.idle.now in
+    let g = idle.graph.now in
+    let after : List Block = map block_view c.in_ok-blocks.blocks.items in
+    let all = subst (λ xs. AreLeftBlocksBy (is_going (turn_of idle.turns.items)) (bits_of idle.reached 0) 0 (map block_view xs) after) c.deref.ensures.value c.in_ok-blocks.ensures in
+    let made : List Binding → List Scalar → List MemoryObject → Graph =
+    λ (bindings : List Binding) (scalars : List Scalar) (objects : List MemoryObject).
+    record { entry = g.entry.0; parameters = bindings; scalars = scalars; objects = objects; name_count = g.name_count; first_moved = g.first_moved; blocks = after } in
+    let one = ap (λ x. made (map binding_view x) (map scalar_view c.in_ok-from_slice-2.field-0.items) c.in_ok-from_slice-3.field-0.items) (c.in_ok-from_slice.ensures.items ∙ c.deref-2.ensures.value) in
+    let two = ap (λ x. made (map binding_view g.parameters.items) (map scalar_view x) c.in_ok-from_slice-3.field-0.items) (c.in_ok-from_slice-2.ensures.items ∙ c.deref-3.ensures.value) in
+    let three = ap (λ x. made (map binding_view g.parameters.items) (map scalar_view g.scalars.items) x) (c.in_ok-from_slice-3.ensures.items ∙ c.deref-4.ensures.value) in
+    subst (λ (h : Graph). IsReduced (graph_view g) h) (sym (one ∙ two ∙ three)) (graph_reduced (graph_view g) (is_going (turn_of idle.turns.items)) c.requires.goes (bits_of idle.reached 0) c.requires.led after all)

@@ -1,17 +1,35 @@
-use Rattle.std.proofs.Common.{map, refl, rules}
+use Rattle.std.proofs.Common.{map, refl, rules, subst, sym}
 use Rattle.debug_records.specs.declared.change.Kind.TheVariants.{Removed}
 use Rattle.graph_core.specs.Graphs.{graph_view}
 use Rattle.graph_edits.specs.Kept.{EachFunction}
-use Rattle.graph_edits.proofs.Log.{changes_added}
-use Rattle.dead_pass.specs.Left.{IsLeftGraph}
-use Rattle.dead_pass.proofs.Leaving.{each_keeps}
+use Rattle.graph_edits.specs.Changes.{AreCasesOf}
+use Rattle.graph_edits.proofs.Log.{changes_added, changes_of_cases}
+use Rattle.idle_rule.specs.Removing.{IsReduced}
+use Rattle.removed_writes.specs.Writes.{IsRemovedWrite}
+use Rattle.removed_writes.proofs.OfUnits.{cases_before, each_count}
+use Rattle.dead_pass.proofs.ByRule.{each_keeps, each_left}
 use Rattle.dead_pass.proofs.pass.remove_dead.Goals as goal
 
 pub returns-then-is_valid-clause-log : goal.returns-then-is_valid-clause-log
 returns-then-is_valid-clause-log c =
     changes_added c.dead_name.result _ Removed c.in_ok-left.left _ _ _ _ _ refl (c.in_ok-log_cases.ensures.logged c.if-not-branch.false) c.in_ok-left.ensures c.dead_name.ensures
 
+pub returns-then-is_valid-clause-changes : goal.returns-then-is_valid-clause-changes
+returns-then-is_valid-clause-changes c =
+    let before = map graph_view c.args.unit.now.graphs.items in
+    let after = map graph_view c.in_ok-left-2.field-0.items in
+    let left : EachFunction IsReduced before after = search rules in
+    let are : AreCasesOf (λ g h. IsRemovedWrite g) before before c.in-Some-2.cases.items = search rules in
+    changes_of_cases c.dead_name.result _ Removed (λ g h. IsRemovedWrite g) c.in_ok-left.left _ _ _ _ _ _ refl (c.in_ok-log_cases.ensures.logged c.if-not-branch.false) c.in_ok-left.ensures c.dead_name.ensures
+    (subst (AreCasesOf (λ g h. IsRemovedWrite g) before after) (sym c.deref_mut.ensures.value) (cases_before IsRemovedWrite before after (each_count IsReduced before after left) _ are))
+    (c.in_ok-log_cases.ensures.same c.if-not-branch.false) (c.in_ok-log_cases.ensures.in_order c.if-not-branch.false)
+
 pub returns-then-is_valid-clause-functions : goal.returns-then-is_valid-clause-functions
 returns-then-is_valid-clause-functions c =
-    let left : EachFunction IsLeftGraph (map graph_view c.args.unit.now.graphs.items) (map graph_view c.in_ok-left-2.field-0.items) = search rules in
+    let left : EachFunction IsReduced (map graph_view c.args.unit.now.graphs.items) (map graph_view c.in_ok-left-2.field-0.items) = search rules in
     each_keeps (map graph_view c.args.unit.now.graphs.items) (map graph_view c.in_ok-left-2.field-0.items) left
+
+pub returns-then-is_valid-clause-left : goal.returns-then-is_valid-clause-left
+returns-then-is_valid-clause-left c =
+    let left : EachFunction IsReduced (map graph_view c.args.unit.now.graphs.items) (map graph_view c.in_ok-left-2.field-0.items) = search rules in
+    each_left (map graph_view c.args.unit.now.graphs.items) (map graph_view c.in_ok-left-2.field-0.items) left

@@ -2,7 +2,7 @@ use Rattle.std.proofs.Common.{map, sym, subst}
 use Rattle.std.specs.List.{AllByRecursion}
 use Rattle.graph_core.specs.Graphs.{graph_view, unit_view}
 use Rattle.graph_core.specs.Validity.{IsValid}
-use Rattle.home_assign.specs.Homes.{MayHaveHomes}
+use Rattle.name_interference.specs.Clashes.{MayHaveHomes}
 use Rattle.home_assign.proofs.Units.{valid_may}
 use Rattle.home_assign.proofs.assigning.assign.Goals as goal
 

@@ -1,15 +1,21 @@
-use Rattle.std.proofs.Common.{◌≡◌, ◌+◌, ◌≤◌, length}
+use Rattle.std.proofs.Common.{◌≡◌, ℕ, ◌≤◌, Some, length, take}
+use Rattle.std.specs.Prelude.{slice_get}
 use Rattle.std.specs.List.{AllByRecursion}
+use Rattle.graph_core.specs.Graphs.{graph_view}
+use Rattle.graph_homes.specs.declared.home.Home.{Home}
 use Rattle.homed_unit.specs.Homed.{IsHomeAmong}
+use Rattle.name_interference.specs.Registers.{AreClashesOf}
+use Rattle.home_assign.specs.Choosing.{HaveHomeRegisters}
+use Rattle.home_assign.specs.Rule.{IsHome, slots_in}
 use Rattle.home_assign.proofs.choosing.registers.Given as goal
 
-abbrev pub invariant-loop-left : goal.invariant-loop-left
-invariant-loop-left l = record {
-  named : l.name ≡ length l.choice.homes.items;
-  left : l.name + length l.left ≡ length l.initial.left;
-  slots : l.choice.slots ≤ length l.choice.homes.items;
+abbrev pub invariant-loop-name : goal.invariant-loop-name
+invariant-loop-name l = record {
+  each : length l.choice.homes.items ≡ l.name;
+  within : l.name ≤ length l.joined.items;
+  right : AreClashesOf (graph_view l.graph) l.interference;
+  registers : HaveHomeRegisters l.interference l.choice.homes.items;
+  slots : l.choice.slots ≡ slots_in l.choice.homes.items;
   among : AllByRecursion (IsHomeAmong (length l.choice.homes.items)) l.choice.homes.items;
+  rule : (x : ℕ) (k : Home) → slice_get l.choice.homes.items x ≡ Some k → IsHome (graph_view l.graph) (take x l.choice.homes.items) x k;
 }
-
-abbrev pub decreases-loop-left : goal.decreases-loop-left
-decreases-loop-left l = length l.left

@@ -1,5 +1,0 @@
-use Rattle.dead_pass.specs.Left.{notes}
-use Rattle.dead_pass.proofs.notes.Leaving.left_note.Goals as goal
-
-pub returns : goal.returns
-returns c = notes

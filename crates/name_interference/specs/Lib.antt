@@ -1,0 +1,5 @@
+pub mod Table
+pub mod Clashes
+pub mod Joins
+pub mod Joining
+pub mod Registers

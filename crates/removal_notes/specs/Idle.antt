@@ -1,0 +1,17 @@
+-- Graphs of which something goes.
+use Rattle.removal_notes.specs.declared.idle_graph.IdleGraph.{IdleGraph}
+use Rattle.graph_core.specs.Graphs.{Graph, graph_view}
+use Rattle.idle_rule.specs.Asking.{is_going}
+use Rattle.idle_rule.specs.Certified.{AreIdle}
+use Rattle.idle_rule.specs.Walks.{turn_of}
+use Rattle.path_marks.specs.Reached.{AreLed}
+use Rattle.path_marks.specs.Table.{bits_of}
+
+-- the graph as it was
+abbrev pub graph_of : IdleGraph → Graph
+graph_of idle = graph_view idle.graph.now
+
+-- What is told of a graph is so: just the writes go which shall, and of each block it is told whether some way leads to it.
+pub record IsBorneOut (idle : IdleGraph) : Type 0 where
+  pub goes : AreIdle (graph_of idle) (is_going (turn_of idle.turns.items))
+  pub led : AreLed (graph_of idle).blocks (bits_of idle.reached 0)

@@ -1,0 +1,13 @@
+//! What notes say where assignments go.
+#![tactic(auto)]
+
+mod idle_graph;
+mod notes;
+mod recipes;
+mod removed;
+mod stale;
+mod ways;
+
+pub use idle_graph::IdleGraph;
+pub use notes::Notes;
+pub use removed::RemovedChanges;

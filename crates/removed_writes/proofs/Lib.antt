@@ -1,0 +1,4 @@
+mod Instructions
+mod OfBlocks
+pub mod OfUnits
+mod Points
