@@ -3,7 +3,7 @@ use Rattle.std.proofs.Common.{◌≡◌, ℕ, Bool, false, List, length, ap, ◌
 use Rattle.std.specs.Prelude.{nat_lt}
 use Rattle.c_tree.specs.Programs.{TypedFunctionTree, ProgramTree}
 use Rattle.graph_core.specs.Graphs.{Block, Graph}
-use Rattle.graph_layout.specs.Names.{Names, names_of}
+use Rattle.graph_names.specs.Names.{Names, names_of}
 use Rattle.graph_coding.specs.Coding.{Coding}
 use Rattle.graph_build.specs.Units.{names_used, blocks_in, function_part, coding_with, coding_of, is_again, block_count, function_coding, graph_in, graph_of}
 

@@ -17,10 +17,10 @@ use Rattle.graph_core.specs.declared.graph.MemoryObject.{MemoryObject}
 use Rattle.graph_core.specs.declared.unit.Relocation.{Relocation}
 use Rattle.graph_core.specs.Graphs as unit
 use Rattle.graph_core.specs.Graphs.{Binding, ToScalar, ToObject, Scalar, Graph, StaticObject, UnitForm}
-use Rattle.graph_layout.specs.Names.{Names, names_of, scalar_of, object_of}
+use Rattle.graph_names.specs.Names.{Names, names_of, scalar_of, object_of}
 use Rattle.graph_drafts.specs.Rules.{element_of}
 use Rattle.graph_drafts.specs.Drafts.{Made, ending, note}
-use Rattle.graph_code.specs.Steps.{or_zero}
+use Rattle.graph_steps.specs.Steps.{or_zero}
 use Rattle.graph_coding.specs.Coding.{Coding, Part, going, placed_at}
 use Rattle.graph_coding.specs.Reached.{statements_reached}
 use Rattle.graph_declarators.specs.Declaring.{object_type_of}

@@ -3,8 +3,8 @@
 ghost use Rattle.std.specs.Prelude.{◌≡◌, ◌++◌, IfOk, length, map, reverse};
 ghost use Rattle.c_tree.specs.Programs.{function_view, program_view};
 ghost use Rattle.graph_core.specs.Graphs.{block_view, graph_view};
-ghost use Rattle.graph_layout.specs.Names as names;
-ghost use Rattle.graph_layout.specs.Names.{names_view};
+ghost use Rattle.graph_names.specs.Names as names;
+ghost use Rattle.graph_names.specs.Names.{names_view};
 ghost use Rattle.graph_coding.specs.Coding.{coding_view, part_view};
 ghost use Rattle.graph_build.specs.Units.{add_close, blocks_in, coding_with, function_part, graph_in, graph_of, is_again, names_used};
 
@@ -18,7 +18,7 @@ use graph_coding::{
 use graph_core::{Block, End, Graph, Operand};
 use graph_drafts::ending;
 use graph_forms::add_all;
-use graph_layout::{Names, names_of};
+use graph_names::{Names, names_of};
 use std::alloc::{AllocError, Global};
 
 /// The closing brace, where flow reaches it: `main` returns 0.

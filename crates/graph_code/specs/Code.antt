@@ -12,19 +12,19 @@ use Rattle.graph_core.specs.Graphs.{Operand, Location, Instruction, Operate, Tru
 use Rattle.c_value_types.specs.ValueTypes.{type_of, given_by, integer_in, is_void, is_pointer}
 use Rattle.graph_scale.specs.Conversions.{word_of, keeps_bits, is_kept_constant}
 use Rattle.graph_scale.specs.Operands.{held}
-use Rattle.graph_layout.specs.declared.laid.Use.{Use}
-use Rattle.graph_layout.specs.declared.laid.Use.TheVariants.{Anywhere, In, Nothing, Tested}
-use Rattle.graph_layout.specs.Names.{Names, scalar_named, object_of, pick}
-use Rattle.graph_layout.specs.Writes.{writes, writes_any, is_moved, is_location_moved}
-use Rattle.graph_layout.specs.Laid.{Laid, PlaceLaid, Pair, pair, behind_move, behind_own, use_for}
+use Rattle.graph_laid.specs.declared.laid.Use.{Use}
+use Rattle.graph_laid.specs.declared.laid.Use.TheVariants.{Anywhere, In, Nothing, Tested}
+use Rattle.graph_names.specs.Names.{Names, scalar_named, object_of, pick}
+use Rattle.graph_names.specs.Writes.{writes, writes_any, is_moved, is_location_moved}
+use Rattle.graph_laid.specs.Laid.{Laid, PlaceLaid, Pair, pair, behind_move, behind_own, use_for}
 use Rattle.graph_layout.specs.Layout.{laid, place_laid, passed_laid}
 use Rattle.graph_drafts.specs.Rules.{element_of, callee_for, truncation_to, steps_by}
 use Rattle.graph_drafts.specs.Drafts.{Made, Goal, To, Unused, Either, use_of, before, ending, zero, leaf, target, follow, label_of, closed, forked, valued, operated, move_if, hold_location, held_location, stored, note, noted, keep_old, use_old, behind_old, assign_goal, left_free, used, called_by}
-use Rattle.graph_code.specs.declared.site.Two.TheVariants as two
-use Rattle.graph_code.specs.declared.change.Change as declared-change
-use Rattle.graph_code.specs.declared.change.Change.TheVariants as change
-use Rattle.graph_code.specs.declared.site.Two as declared-two
-use Rattle.graph_code.specs.Steps.{in_turn, signed, finished, arm_use, arm_value, arm_goal, assigned_memory, updated, stepped, object_address}
+use Rattle.graph_steps.specs.declared.site.Two.TheVariants as two
+use Rattle.graph_steps.specs.declared.change.Change as declared-change
+use Rattle.graph_steps.specs.declared.change.Change.TheVariants as change
+use Rattle.graph_steps.specs.declared.site.Two as declared-two
+use Rattle.graph_steps.specs.Steps.{in_turn, signed, finished, arm_use, arm_value, arm_goal, assigned_memory, updated, stepped, object_address}
 
 module _ (n : Names) (place top : ℕ) where
   abbrev mutual

@@ -1,21 +1,20 @@
 //! The code of expressions, from their ends: each function puts the code of a tree before what follows.
 
-ghost use Rattle.std.specs.Prelude.{◌≡◌, ◌+◌, IfOk, if◌then◌else◌};
+ghost use Rattle.std.specs.Prelude.{◌≡◌, ◌+◌, IfOk, if◌then◌else◌, map};
 ghost use Rattle.c_tree.specs.declared.types.IntegerType.{IntegerType};
 ghost use Rattle.c_tree.specs.TypedExpressions as tree;
 ghost use Rattle.c_tree.specs.TypedExpressions.{arguments_view, lvalue_view, rvalue_view};
-ghost use Rattle.graph_layout.specs.Names.{names_view};
+ghost use Rattle.graph_layout.specs.Chains.{lefts};
+ghost use Rattle.graph_laid.specs.Laid.{behind_own, laid_view};
+ghost use Rattle.graph_layout.specs.Layout.{laid};
+ghost use Rattle.graph_names.specs.Names.{names_view};
+ghost use Rattle.graph_laid.specs.declared.laid.Use.TheVariants.{Anywhere, Nothing, Tested};
 ghost use Rattle.graph_core.specs.Graphs as unit;
 ghost use Rattle.graph_core.specs.Graphs.{operand_view};
-ghost use Rattle.graph_drafts.specs.Drafts.{closed, ending, goal_of, label_of, made_of};
-ghost use Rattle.graph_code.specs.Steps.{arm_goal, arm_use, arm_value, object_address};
+ghost use Rattle.graph_drafts.specs.Drafts.{closed, ending, goal_of, label_of, made_of, use_of};
+ghost use Rattle.graph_steps.specs.Steps.{arm_goal, arm_use, arm_value, object_address};
 ghost use Rattle.graph_code.specs.Code.{code, code_address, code_all, code_place, code_stepped, code_two, code_updated};
 
-use crate::change::{
-    Change, assigned_memory, left_memory, left_scalar, loaded_first, one_at, renewed_memory,
-    renewed_scalar,
-};
-use crate::site::{Site, Two, finished, label_of, narrowed, negated, signed};
 use c_tree::{
     Arguments, Callee, Direction, Given, IntegerType, Lvalue, Object, Rvalue, Scalar, Sign,
 };
@@ -23,14 +22,18 @@ use c_type_rules::object_size;
 use c_value_types::{given_by, integer_in, is_pointer, is_void, type_of};
 use graph_core::{End, Label, Name, Operand};
 use graph_drafts::{
-    Computation, Draft, Goal, called_by, callee_for, closed, element_of, ending, forked,
-    hold_location, leaf, move_if, noted, operated, steps_by, use_of, used, valued,
+    Computation, Draft, Goal, callee_for, closed, element_of, ending, leaf, move_if, noted,
+    steps_by, use_of, used, valued,
 };
-use graph_layout::{
-    Use, behind_move, is_location_moved, is_moved_before, object_of, pair_laid, passed_laid, pick,
-    place_laid, scalar_named, use_for, value_laid, writes,
-};
+use graph_laid::{Laid, Use, behind_move, use_for};
+use graph_layout::{lefts_laid, pair_behind, passed_laid, place_laid, value_laid};
+use graph_names::{is_location_moved, is_moved_before, object_of, pick, scalar_named, writes};
+use graph_operations::{called_by, forked, hold_location, operated};
 use graph_scale::{held, keeps_bits, word_of};
+use graph_steps::{
+    Change, Site, Two, assigned_memory, finished, label_of, left_memory, left_scalar, loaded_first,
+    narrowed, negated, one_at, renewed_memory, renewed_scalar, signed,
+};
 use std::alloc::{AllocError, Global};
 
 // What a call gives; its failure is the function's own.
@@ -56,11 +59,130 @@ fn code_two(
 ) -> Result<Draft, AllocError>
     ensures { IfOk result (λ d. made_of d ≡ code_two (names_view site.now.names.now) site.now.place.0 site.now.top (rvalue_view first.now) (rvalue_view second.now) two begun (goal_of goal)) }
 {
-    let pair = given!(pair_laid(site.names, first, second, begun));
+    let mut known = Vec::new(alloc);
+    let one = given!(lefts_laid(site.names, first, Use::Anywhere, begun, &mut known));
+    known.reverse();
+    code_two_known(alloc, site, first, second, two, one, &known, begun, goal)
+}
+
+/// Two values in turn, where it is known where the first one stands and the left operands within it.
+#[cycle(code)]
+fn code_two_known(
+    alloc: Global,
+    site: &Site<'_>,
+    first: &Rvalue,
+    second: &Rvalue,
+    two: Two,
+    one: Laid,
+    known: &[Laid],
+    begun: u32,
+    goal: Goal,
+) -> Result<Draft, AllocError>
+    requires one { laid_view one ≡ laid (names_view site.now.names.now) (rvalue_view first.now) Anywhere begun }
+    requires known { map laid_view known.now ≡ lefts (names_view site.now.names.now) (rvalue_view first.now) Anywhere begun }
+    ensures { IfOk result (λ d. made_of d ≡ code_two (names_view site.now.names.now) site.now.place.0 site.now.top (rvalue_view first.now) (rvalue_view second.now) two begun (goal_of goal)) }
+{
+    let pair = given!(pair_behind(site.names, first, one, second, begun));
     let last = given!(finished(alloc, site, two, pair, begun, goal));
     let second = given!(code(alloc, site, second, pair.from, Goal::To(None, last)));
     let moved = given!(move_if(pair.moved, Name(pair.moved_to), pair.first, second));
-    code(alloc, site, first, begun, Goal::To(None, moved))
+    code_known(alloc, site, first, known, begun, Goal::To(None, moved))
+}
+
+/// The code of an expression, where it is known where its left operands stand.
+#[cycle(code)]
+fn code_known(
+    alloc: Global,
+    site: &Site<'_>,
+    e: &Rvalue,
+    known: &[Laid],
+    begun: u32,
+    goal: Goal,
+) -> Result<Draft, AllocError>
+    requires { map laid_view known.now ≡ lefts (names_view site.now.names.now) (rvalue_view e.now) (use_of (goal_of goal)) begun }
+    ensures { IfOk result (λ d. made_of d ≡ code (names_view site.now.names.now) site.now.place.0 site.now.top (rvalue_view e.now) begun (goal_of goal)) }
+{
+    let [one, rest @ ..] = known else {
+        return code(alloc, site, e, begun, goal);
+    };
+    match e {
+        Rvalue::Arithmetic {
+            operator,
+            integer_type,
+            left,
+            right,
+        } => {
+            let two = Two::Arithmetic(*operator, *integer_type);
+            code_two_known(alloc, site, left, right, two, *one, rest, begun, goal)
+        }
+        Rvalue::Compare {
+            operator,
+            integer_type,
+            left,
+            right,
+        } => {
+            let two = Two::Compare(*operator, *integer_type);
+            code_two_known(alloc, site, left, right, two, *one, rest, begun, goal)
+        }
+        Rvalue::Move {
+            direction,
+            element,
+            pointer,
+            by,
+        } => {
+            let two = Two::Move(*direction, object_size(*element));
+            code_two_known(alloc, site, pointer, by, two, *one, rest, begun, goal)
+        }
+        Rvalue::And(left, right) => {
+            code_both_known(alloc, site, true, left, right, *one, rest, begun, goal)
+        }
+        Rvalue::Or(left, right) => {
+            code_both_known(alloc, site, false, left, right, *one, rest, begun, goal)
+        }
+        Rvalue::Comma(left, right) => {
+            code_comma_known(alloc, site, left, right, *one, rest, begun, goal)
+        }
+        _ => code(alloc, site, e, begun, goal),
+    }
+}
+
+/// The comma operator, where it is known where the first operand stands and the left operands within it.
+#[cycle(code)]
+fn code_comma_known(
+    alloc: Global,
+    site: &Site<'_>,
+    left: &Rvalue,
+    right: &Rvalue,
+    one: Laid,
+    known: &[Laid],
+    begun: u32,
+    goal: Goal,
+) -> Result<Draft, AllocError>
+    requires one { laid_view one ≡ laid (names_view site.now.names.now) (rvalue_view left.now) Nothing begun }
+    requires known { map laid_view known.now ≡ lefts (names_view site.now.names.now) (rvalue_view left.now) Nothing begun }
+    ensures { IfOk result (λ d. made_of d ≡ code (names_view site.now.names.now) site.now.place.0 site.now.top (tree.Comma (rvalue_view left.now) (rvalue_view right.now)) begun (goal_of goal)) }
+{
+    let at = pick(site.names, begun, one.top);
+    let draft = given!(code(alloc, site, right, at, goal));
+    code_known(alloc, site, left, known, begun, Goal::Unused(draft))
+}
+
+/// The comma operator.
+#[cycle(code)]
+fn code_comma(
+    alloc: Global,
+    site: &Site<'_>,
+    left: &Rvalue,
+    right: &Rvalue,
+    begun: u32,
+    goal: Goal,
+) -> Result<Draft, AllocError>
+    ensures { IfOk result (λ d. made_of d ≡ code (names_view site.now.names.now) site.now.place.0 site.now.top (tree.Comma (rvalue_view left.now) (rvalue_view right.now)) begun (goal_of goal)) }
+{
+    let mut known = Vec::new(alloc);
+    let one = given!(lefts_laid(site.names, left, Use::Nothing, begun, &mut known));
+    known.reverse();
+    code_comma_known(alloc, site, left, right, one, &known, begun, goal)
 }
 
 /// What comes before the location of an lvalue in memory.
@@ -285,8 +407,31 @@ fn code_both(
     ensures { IfOk result (λ d. made_of d ≡ code (names_view site.now.names.now) site.now.place.0 site.now.top (if is_and then tree.And (rvalue_view left.now) (rvalue_view right.now) else tree.Or (rvalue_view left.now) (rvalue_view right.now)) begun (goal_of goal)) }
 {
     let at = given!(behind_move(!matches!(use_of(&goal), Use::Tested), begun));
-    let left_laid = given!(value_laid(site.names, left, Use::Tested, at));
-    let behind = pick(site.names, at, left_laid.top);
+    let mut known = Vec::new(alloc);
+    let one = given!(lefts_laid(site.names, left, Use::Tested, at, &mut known));
+    known.reverse();
+    code_both_known(alloc, site, is_and, left, right, one, &known, begun, goal)
+}
+
+/// `&&` and `||`, where it is known where the first operand stands and the left operands within it.
+#[cycle(code)]
+fn code_both_known(
+    alloc: Global,
+    site: &Site<'_>,
+    is_and: bool,
+    left: &Rvalue,
+    right: &Rvalue,
+    one: Laid,
+    known: &[Laid],
+    begun: u32,
+    goal: Goal,
+) -> Result<Draft, AllocError>
+    requires one { laid_view one ≡ laid (names_view site.now.names.now) (rvalue_view left.now) Tested (behind_own (use_of (goal_of goal)) begun) }
+    requires known { map laid_view known.now ≡ lefts (names_view site.now.names.now) (rvalue_view left.now) Tested (behind_own (use_of (goal_of goal)) begun) }
+    ensures { IfOk result (λ d. made_of d ≡ code (names_view site.now.names.now) site.now.place.0 site.now.top (if is_and then tree.And (rvalue_view left.now) (rvalue_view right.now) else tree.Or (rvalue_view left.now) (rvalue_view right.now)) begun (goal_of goal)) }
+{
+    let at = given!(behind_move(!matches!(use_of(&goal), Use::Tested), begun));
+    let behind = pick(site.names, at, one.top);
     let way = given!(forked(alloc, site.place, site.top, goal, Name(begun)));
     let (one, other) = (way.one, way.other);
     let second = given!(code(
@@ -303,7 +448,7 @@ fn code_both(
     } else {
         Goal::Either(one, label, inner)
     };
-    code(alloc, site, left, at, goal)
+    code_known(alloc, site, left, known, at, goal)
 }
 
 /// What an arm of `?:` is for, whose value stands in a name, or which has none.
@@ -621,12 +766,7 @@ pub fn code(
             then,
             otherwise,
         } => { code_conditional(alloc, site, condition, then, otherwise, begun, goal) }
-        Rvalue::Comma(left, right) => {
-            let behind = given!(value_laid(site.names, left, Use::Nothing, begun)).top;
-            let at = pick(site.names, begun, behind);
-            let draft = given!(code(alloc, site, right, at, goal));
-            code(alloc, site, left, begun, Goal::Unused(draft))
-        }
+        Rvalue::Comma(left, right) => code_comma(alloc, site, left, right, begun, goal),
         Rvalue::Assign {
             scalar,
             target,

@@ -5,7 +5,7 @@ use Rattle.c_tree.specs.Programs.{ProgramTree, program_view}
 use Rattle.c_places.specs.Places.{Place, number_at, places_of_program}
 use Rattle.graph_core.specs.Graphs as unit
 use Rattle.graph_core.specs.Graphs.{Marker, Jump, block_view}
-use Rattle.graph_layout.specs.Names.{Names, pick, names_view}
+use Rattle.graph_names.specs.Names.{Names, pick, names_view}
 use Rattle.graph_drafts.specs.Drafts.{Made, Goal, Either, ending, closed, next_label}
 use Rattle.graph_code.specs.Code.{code}
 use Rattle.graph_coding.specs.declared.form.Form as declared-form

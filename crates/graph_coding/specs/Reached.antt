@@ -3,10 +3,10 @@ use Rattle.std.specs.Prelude.{ℕ, max, Option, Some, None, List, [], ◌∷◌}
 use Rattle.c_tree.specs.TypedExpressions.{RvalueTree, Convert}
 use Rattle.c_tree.specs.TypedStatements as statement
 use Rattle.c_tree.specs.TypedStatements.{InitialTree, Zero, Scalar as scalar-initial, Elements, Literal, DeclaredTree, TypedStartTree, Nothing, Value, Declares, StepTree, TypedStatementTree, Block, Declaration, Empty, Run, If, IfElse, While, DoWhile, For, Switch, Break, Continue, Return, TypedStatementTrees, case, default}
-use Rattle.graph_layout.specs.declared.laid.Use as declared-use
-use Rattle.graph_layout.specs.declared.laid.Use.TheVariants.{Anywhere, In, Tested}
-use Rattle.graph_layout.specs.declared.laid.Use.TheVariants as use-of
-use Rattle.graph_layout.specs.Names.{scalar_of, pick}
+use Rattle.graph_laid.specs.declared.laid.Use as declared-use
+use Rattle.graph_laid.specs.declared.laid.Use.TheVariants.{Anywhere, In, Tested}
+use Rattle.graph_laid.specs.declared.laid.Use.TheVariants as use-of
+use Rattle.graph_names.specs.Names.{scalar_of, pick}
 use Rattle.graph_layout.specs.Layout.{laid}
 use Rattle.graph_coding.specs.Coding.{Coding, begun}
 

@@ -3,7 +3,7 @@
 ghost use Rattle.std.specs.Prelude.{◌≡◌, IfOk, map, reverse};
 ghost use Rattle.c_tree.specs.TypedExpressions.{rvalue_view};
 ghost use Rattle.graph_core.specs.Graphs.{block_view};
-ghost use Rattle.graph_layout.specs.Names.{names_view};
+ghost use Rattle.graph_names.specs.Names.{names_view};
 ghost use Rattle.graph_drafts.specs.Drafts.{goal_of, made_of};
 ghost use Rattle.graph_code.specs.Code as definition;
 ghost use Rattle.graph_coding.specs.Coding.{begun, block_of, branching, coded, coding_view, going, label_for, part_view, place_of, placed_at, with_end};
@@ -11,10 +11,11 @@ ghost use Rattle.graph_coding.specs.Coding.{begun, block_of, branching, coded, c
 use crate::source::{Source, place_number};
 use c_tree::Rvalue;
 use debug_records::Place;
-use graph_code::{Site, code};
+use graph_code::code;
 use graph_core::{Block, End, Label};
 use graph_drafts::{Draft, Goal, closed, ending, marked, next_label};
-use graph_layout::{Names, pick};
+use graph_names::{Names, pick};
+use graph_steps::Site;
 use std::alloc::{AllocError, Global};
 
 /// What the code of a function stands on.

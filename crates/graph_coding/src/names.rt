@@ -8,7 +8,9 @@ ghost use Rattle.graph_coding.specs.Reached.{bare, condition_reached, declared_r
 
 use crate::form::{Form, begun};
 use c_tree::{Declared, Initial, Rvalue, TypedStart, TypedStatement, TypedStatements, TypedStep};
-use graph_layout::{Use, pick, scalar_of, value_laid};
+use graph_laid::Use;
+use graph_layout::value_laid;
+use graph_names::{pick, scalar_of};
 use std::alloc::AllocError;
 
 // What a call gives; its failure is the function's own.

@@ -18,19 +18,19 @@ use Rattle.graph_core.specs.Graphs.{Operand, Instruction, Operate, Truncate, Sam
 use Rattle.graph_core.specs.Validity.{arguments_in}
 use Rattle.graph_scale.specs.Conversions.{word_of, keeps_bits, is_kept_constant}
 use Rattle.graph_scale.specs.Operands.{held, operand_at}
-use Rattle.graph_layout.specs.declared.laid.Use.TheVariants.{Anywhere, Nothing, Tested}
-use Rattle.graph_layout.specs.Names.{Names, scalar_named, pick}
-use Rattle.graph_layout.specs.Writes.{writes, writes_any, is_moved, is_location_moved}
-use Rattle.graph_layout.specs.Laid.{Pair, PlaceLaid, pair, behind_move, behind_own, use_for}
+use Rattle.graph_laid.specs.declared.laid.Use.TheVariants.{Anywhere, Nothing, Tested}
+use Rattle.graph_names.specs.Names.{Names, scalar_named, pick}
+use Rattle.graph_names.specs.Writes.{writes, writes_any, is_moved, is_location_moved}
+use Rattle.graph_laid.specs.Laid.{Pair, PlaceLaid, pair, behind_move, behind_own, use_for}
 use Rattle.graph_layout.specs.Layout.{laid, place_laid, passed_laid}
 use Rattle.graph_drafts.specs.Rules.{element_of, truncation_to, callee_for, steps_by}
 use Rattle.graph_drafts.specs.Drafts.{Made, Goal, To, Unused, Either, use_of, ending, leaf, label_of, closed, forked, valued, used, operated, move_if, hold_location, held_location, stored, noted, called_by}
 use Rattle.graph_drafts.specs.Drafts as drafts
-use Rattle.graph_code.specs.declared.site.Two as declared-two
-use Rattle.graph_code.specs.declared.site.Two.TheVariants as two
-use Rattle.graph_code.specs.declared.change.Change as declared-change
-use Rattle.graph_code.specs.declared.change.Change.TheVariants as change
-use Rattle.graph_code.specs.Steps.{in_turn, signed, finished, arm_use, arm_value, arm_goal, assigned_memory, updated, stepped, renewed_scalar, renewed_memory, loaded_first, left_memory, one_at}
+use Rattle.graph_steps.specs.declared.site.Two as declared-two
+use Rattle.graph_steps.specs.declared.site.Two.TheVariants as two
+use Rattle.graph_steps.specs.declared.change.Change as declared-change
+use Rattle.graph_steps.specs.declared.change.Change.TheVariants as change
+use Rattle.graph_steps.specs.Steps.{in_turn, signed, finished, arm_use, arm_value, arm_goal, assigned_memory, updated, stepped, renewed_scalar, renewed_memory, loaded_first, left_memory, one_at}
 use Rattle.graph_code.specs.Code.{code, code_place, code_address, code_all}
 use Rattle.graph_counts.proofs.ArgumentPieces.{passed_in, made_arguments, goal_arguments, closed_arguments, leaf_arguments, valued_arguments, used_arguments, move_arguments, stored_arguments, called_arguments, forked_arguments, operated_arguments, finished_arguments, renewed_arguments, memory_arguments, loaded_arguments, left_scalar_arguments, left_memory_arguments, object_arguments}
 use Rattle.graph_counts.proofs.NamesAgain.{least_nodes, least_place}

@@ -13,13 +13,13 @@ use Rattle.c_flow.specs.declared.edge.Ways.{Ways}
 use Rattle.c_flow.specs.Flow.{start, start_of_all, start_of_declarators, round_of, within_loop, within_switch, before as with_rest}
 use Rattle.graph_core.specs.Graphs as unit
 use Rattle.graph_core.specs.Graphs.{Operand, Automatic, Store, CopyWords}
-use Rattle.graph_layout.specs.declared.laid.Use.TheVariants.{Anywhere, Tested}
-use Rattle.graph_layout.specs.Inner.{inner}
-use Rattle.graph_layout.specs.Names.{scalar_of, object_of, pick}
+use Rattle.graph_laid.specs.declared.laid.Use.TheVariants.{Anywhere, Tested}
+use Rattle.graph_names.specs.Inner.{inner}
+use Rattle.graph_names.specs.Names.{scalar_of, object_of, pick}
 use Rattle.graph_layout.specs.Layout.{laid}
 use Rattle.graph_drafts.specs.Rules.{element_of}
 use Rattle.graph_drafts.specs.Drafts.{Made, Goal, To, Unused, Either, before, ending, note}
-use Rattle.graph_code.specs.Steps.{or_zero}
+use Rattle.graph_steps.specs.Steps.{or_zero}
 use Rattle.graph_code.specs.Code.{code}
 use Rattle.graph_coding.specs.Coding.{Coding, Part, place_of, begun, going, label_for, with_end, placed_at, coded}
 use Rattle.graph_coding.specs.Reached.{bare, reached, initial_reached, start_reached, condition_reached, statement_reached}

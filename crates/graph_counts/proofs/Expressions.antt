@@ -16,18 +16,18 @@ use Rattle.graph_core.specs.Graphs as unit
 use Rattle.graph_core.specs.Graphs.{Operand, Instruction}
 use Rattle.graph_scale.specs.Conversions.{word_of, is_narrow}
 use Rattle.graph_scale.specs.Operands.{operand_at, held as held_operand}
-use Rattle.graph_layout.specs.declared.laid.Use.{Use}
-use Rattle.graph_layout.specs.declared.laid.Use.TheVariants.{Anywhere, In, Nothing, Tested}
-use Rattle.graph_layout.specs.Names.{Names, scalar_named, pick}
-use Rattle.graph_layout.specs.Writes.{writes, writes_any, is_moved, is_location_moved}
-use Rattle.graph_layout.specs.Laid.{Laid, PlaceLaid, pair, behind_move, use_for, updated_laid, called_laid, begun_behind}
+use Rattle.graph_laid.specs.declared.laid.Use.{Use}
+use Rattle.graph_laid.specs.declared.laid.Use.TheVariants.{Anywhere, In, Nothing, Tested}
+use Rattle.graph_names.specs.Names.{Names, scalar_named, pick}
+use Rattle.graph_names.specs.Writes.{writes, writes_any, is_moved, is_location_moved}
+use Rattle.graph_laid.specs.Laid.{Laid, PlaceLaid, pair, behind_move, use_for, updated_laid, called_laid, begun_behind}
 use Rattle.graph_layout.specs.Layout.{laid, place_laid, address_laid, passed_laid, scales}
 use Rattle.graph_drafts.specs.Rules.{element_of, callee_for, steps_by}
 use Rattle.graph_drafts.specs.Drafts.{Made, Goal, To, Unused, Either, use_of, zero, leaf, label_of, valued, used, move_if, hold_location, held_location, stored, noted, assign_goal, called_by, Fork}
-use Rattle.graph_code.specs.declared.site.Two.TheVariants as two
-use Rattle.graph_code.specs.declared.change.Change as declared-change
-use Rattle.graph_code.specs.declared.change.Change.TheVariants as change
-use Rattle.graph_code.specs.Steps.{assigned_memory, updated, stepped, renewed_scalar, renewed_memory, loaded_first, left_scalar, left_memory, one_at}
+use Rattle.graph_steps.specs.declared.site.Two.TheVariants as two
+use Rattle.graph_steps.specs.declared.change.Change as declared-change
+use Rattle.graph_steps.specs.declared.change.Change.TheVariants as change
+use Rattle.graph_steps.specs.Steps.{assigned_memory, updated, stepped, renewed_scalar, renewed_memory, loaded_first, left_scalar, left_memory, one_at}
 use Rattle.graph_code.specs.Code.{code, code_place, code_address, code_all}
 use Rattle.graph_counts.specs.Sizes.{made_counts, goal_counts}
 use Rattle.graph_counts.specs.Weighing.{weighed, weighed_place, weighed_all}
@@ -196,7 +196,7 @@ module _ (n : Names) (place top scalars : ℕ) (few : NamesFew n scalars) where
         k (behind_move moved r.next) m (omega (arith, p, (behind n e Anywhere t).0, (moved_behind moved r.next).0)),
       )
 
-  finished_two : (k : Rattle.graph_code.specs.declared.site.Two.Two) (a b f : RvalueTree) → In' a → In' b → weighed true f ≡ weighed false f → weighed false f ≡ weighed false a + weighed false b + 1 →
+  finished_two : (k : Rattle.graph_steps.specs.declared.site.Two.Two) (a b f : RvalueTree) → In' a → In' b → weighed true f ≡ weighed false f → weighed false f ≡ weighed false a + weighed false b + 1 →
       ((t : ℕ) (g : Goal) → made_counts (code n place top f t g) ≤ made_counts (Rattle.graph_code.specs.Code.code_two n place top a b k t g)) → In' f
   finished_two k a b f ha hb same one c = loose n place top scalars few f same (λ t g p. omega (arith, c t g, finished_pair n place top scalars few k a b ha hb t g p, one))
 

@@ -6,7 +6,7 @@ use Rattle.c_places.specs.Places.{parameters_of}
 use Rattle.c_flow.specs.Flow.{start_of_all, ways_of_body}
 use Rattle.graph_core.specs.Graphs.{Block}
 use Rattle.graph_core.specs.Validity.{total, arguments_in, arguments_of}
-use Rattle.graph_layout.specs.Names.{Names, scalar_of}
+use Rattle.graph_names.specs.Names.{Names, scalar_of}
 use Rattle.graph_drafts.specs.Drafts.{Made}
 use Rattle.graph_coding.specs.Coding.{Coding, Part, going}
 use Rattle.graph_build.specs.Units.{note_if, note_parameters, add_close, body_part, function_part, blocks_in, function_coding, graph_of}

@@ -7,7 +7,7 @@ use Rattle.c_flow.specs.Flow.{start_of_all, ways_of_body}
 use Rattle.graph_core.specs.Graphs as unit
 use Rattle.graph_core.specs.Graphs.{Block}
 use Rattle.graph_core.specs.Validity.{total, counts, instructions_of}
-use Rattle.graph_layout.specs.Names.{Names, scalar_of}
+use Rattle.graph_names.specs.Names.{Names, scalar_of}
 use Rattle.graph_drafts.specs.Drafts.{Made, ending}
 use Rattle.graph_counts.specs.Sizes.{counted, made_counts}
 use Rattle.graph_counts.specs.Weighing.{weighed_statements, IsWeighed}

@@ -4,10 +4,10 @@ use Rattle.c_tree.specs.declared.object_type.Object.{Object}
 use Rattle.c_tree.specs.declared.object_type.Object.TheVariants as object
 use Rattle.graph_core.specs.Graphs as unit
 use Rattle.graph_core.specs.Graphs.{Operand}
-use Rattle.graph_layout.specs.declared.laid.Use.TheVariants.{Anywhere}
-use Rattle.graph_layout.specs.Names.{Names, pick, object_of, object_location}
-use Rattle.graph_layout.specs.Writes.{is_moved, is_location_moved}
-use Rattle.graph_layout.specs.Laid.{operation_laid, leaf_laid, object_laid}
+use Rattle.graph_laid.specs.declared.laid.Use.TheVariants.{Anywhere}
+use Rattle.graph_names.specs.Names.{Names, pick, object_of, object_location}
+use Rattle.graph_names.specs.Writes.{is_moved, is_location_moved}
+use Rattle.graph_laid.specs.Laid.{operation_laid, leaf_laid, object_laid}
 use Rattle.graph_layout.specs.Layout.{named_location, named_address}
 use Rattle.graph_counts.proofs.Temporaries.{pick_least}
 use Rattle.graph_counts.proofs.Written.{Few}

@@ -16,20 +16,20 @@ use Rattle.graph_core.specs.Graphs as unit
 use Rattle.graph_core.specs.Graphs.{Operand, Instruction, Operate, Truncate, Same, Block, Jump}
 use Rattle.graph_scale.specs.Conversions.{word_of, keeps_bits, is_kept_constant}
 use Rattle.graph_scale.specs.Operands.{held, operand_at}
-use Rattle.graph_layout.specs.declared.laid.Use.TheVariants.{Anywhere, Nothing, Tested}
-use Rattle.graph_layout.specs.Inner.{inner, inner_within, inner_of, for_truth}
-use Rattle.graph_layout.specs.Names.{Names, scalar_named, pick}
-use Rattle.graph_layout.specs.Writes.{writes, writes_any, is_moved, is_location_moved}
-use Rattle.graph_layout.specs.Laid.{Pair, PlaceLaid, pair, behind_move, behind_own, use_for}
+use Rattle.graph_laid.specs.declared.laid.Use.TheVariants.{Anywhere, Nothing, Tested}
+use Rattle.graph_names.specs.Inner.{inner, inner_within, inner_of, for_truth}
+use Rattle.graph_names.specs.Names.{Names, scalar_named, pick}
+use Rattle.graph_names.specs.Writes.{writes, writes_any, is_moved, is_location_moved}
+use Rattle.graph_laid.specs.Laid.{Pair, PlaceLaid, pair, behind_move, behind_own, use_for}
 use Rattle.graph_layout.specs.Layout.{laid, place_laid, passed_laid}
 use Rattle.graph_drafts.specs.Rules.{element_of, truncation_to, callee_for, steps_by}
 use Rattle.graph_drafts.specs.Drafts.{Made, Goal, To, Unused, Either, use_of, ending, leaf, label_of, closed, forked, valued, used, operated, move_if, hold_location, held_location, stored, noted, called_by}
 use Rattle.graph_drafts.specs.Drafts as drafts
-use Rattle.graph_code.specs.declared.site.Two as declared-two
-use Rattle.graph_code.specs.declared.site.Two.TheVariants as two
-use Rattle.graph_code.specs.declared.change.Change as declared-change
-use Rattle.graph_code.specs.declared.change.Change.TheVariants as change
-use Rattle.graph_code.specs.Steps.{in_turn, signed, finished, arm_use, arm_value, arm_goal, assigned_memory, updated, stepped, renewed_scalar, renewed_memory, loaded_first, left_memory, one_at}
+use Rattle.graph_steps.specs.declared.site.Two as declared-two
+use Rattle.graph_steps.specs.declared.site.Two.TheVariants as two
+use Rattle.graph_steps.specs.declared.change.Change as declared-change
+use Rattle.graph_steps.specs.declared.change.Change.TheVariants as change
+use Rattle.graph_steps.specs.Steps.{in_turn, signed, finished, arm_use, arm_value, arm_goal, assigned_memory, updated, stepped, renewed_scalar, renewed_memory, loaded_first, left_memory, one_at}
 use Rattle.graph_code.specs.Code.{code, code_place, code_address, code_all}
 use Rattle.graph_counts.proofs.InnerPieces.{goal_inner, is_tested, closed_length, leaf_inner, valued_inner, used_inner, move_inner, stored_inner, called_inner, forked_inner, operated_inner, finished_inner, renewed_inner, memory_inner, loaded_inner, left_scalar_inner, left_memory_inner, object_inner}
 

@@ -10,9 +10,9 @@ use Rattle.c_tree.specs.Programs.{TypedFunctionTree, ProgramTree}
 use Rattle.c_law_counts.specs.Nodes.{nodes, element_nodes, initial_nodes, declared_nodes, start_nodes, option_nodes, step_nodes, statement_nodes, statements_nodes}
 use Rattle.c_laws.specs.Declarations.{declared_by, declared_by_start, declared_in, declared_in_all}
 use Rattle.c_places.specs.Places.{numbers_from}
-use Rattle.graph_layout.specs.declared.laid.Use.{Use}
-use Rattle.graph_layout.specs.declared.laid.Use.TheVariants.{Anywhere, In, Nothing as Unused, Tested}
-use Rattle.graph_layout.specs.Names.{Names, names_of, scalar_of, pick}
+use Rattle.graph_laid.specs.declared.laid.Use.{Use}
+use Rattle.graph_laid.specs.declared.laid.Use.TheVariants.{Anywhere, In, Nothing as Unused, Tested}
+use Rattle.graph_names.specs.Names.{Names, names_of, scalar_of, pick}
 use Rattle.graph_layout.specs.Layout.{laid}
 use Rattle.graph_coding.specs.Coding.{Coding, begun}
 use Rattle.graph_coding.specs.Reached.{bare, reached, elements_reached, initial_reached, declared_reached, start_reached, condition_reached, step_reached, result_reached, statement_reached, statements_reached}

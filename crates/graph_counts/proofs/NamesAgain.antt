@@ -16,11 +16,11 @@ use Rattle.graph_core.specs.Graphs.{Operand}
 use Rattle.graph_scale.specs.Scales.{is_scaled}
 use Rattle.graph_scale.specs.Conversions.{keeps_bits, is_narrow, is_kept_constant, word_of}
 use Rattle.graph_scale.specs.Operands.{is_two, is_two_pointers}
-use Rattle.graph_layout.specs.declared.laid.Use.{Use}
-use Rattle.graph_layout.specs.declared.laid.Use.TheVariants.{Anywhere, In, Nothing, Tested}
-use Rattle.graph_layout.specs.Names.{Names, scalar_named, object_of, pick}
-use Rattle.graph_layout.specs.Writes.{writes, writes_any, is_moved, is_location_moved}
-use Rattle.graph_layout.specs.Laid.{Laid, Pair, PlaceLaid, PassedLaid, behind_move, pair, as_value, worked, use_for, operation_laid, standing, leaf_laid, moved_laid, steps_laid, compared_laid, converted_laid, joined_laid, both_laid, behind_own, void_arms_laid, arms_laid, begun_at, assigned_laid, begun_behind, updated_laid, step_laid, old_laid, called_laid, loaded_laid, object_laid}
+use Rattle.graph_laid.specs.declared.laid.Use.{Use}
+use Rattle.graph_laid.specs.declared.laid.Use.TheVariants.{Anywhere, In, Nothing, Tested}
+use Rattle.graph_names.specs.Names.{Names, scalar_named, object_of, pick}
+use Rattle.graph_names.specs.Writes.{writes, writes_any, is_moved, is_location_moved}
+use Rattle.graph_laid.specs.Laid.{Laid, Pair, PlaceLaid, PassedLaid, behind_move, pair, as_value, worked, use_for, operation_laid, standing, leaf_laid, moved_laid, steps_laid, compared_laid, converted_laid, joined_laid, both_laid, behind_own, void_arms_laid, arms_laid, begun_at, assigned_laid, begun_behind, updated_laid, step_laid, old_laid, called_laid, loaded_laid, object_laid}
 use Rattle.graph_layout.specs.Layout.{laid, place_laid, address_laid, passed_laid, named_address}
 use Rattle.graph_counts.proofs.Temporaries.{behind, place_behind, passed_is_behind, moved_behind, both_of, pair_behind}
 use Rattle.graph_counts.proofs.Written.{NamesFew, Few, written_few, all_few}
@@ -264,7 +264,7 @@ module _ (n : Names) (again : n.again ≡ true) (scalars : ℕ) (few : NamesFew 
       go true = (omega arith, omega arith)
       go false = (omega arith, omega arith)
 
-  left_spare : (u : Use) (narrow : Bool) (k pn : ℕ) (q : PlaceLaid) → q.next ≤ k + pn → q.top ≤ k + pn + 1 → Spare k (pn + 2) (Rattle.graph_layout.specs.Laid.left_memory_laid n u narrow k q)
+  left_spare : (u : Use) (narrow : Bool) (k pn : ℕ) (q : PlaceLaid) → q.next ≤ k + pn → q.top ≤ k + pn + 1 → Spare k (pn + 2) (Rattle.graph_laid.specs.Laid.left_memory_laid n u narrow k q)
   left_spare (In y) narrow k pn q h g = let m = move_more narrow (q.next + 1) in (omega (arith, picks k (behind_move narrow (q.next + 1))), omega (arith, m.0))
   left_spare Anywhere narrow k pn q h g = let m = move_more narrow (q.next + 2) in (omega (arith, picks (q.next + 1) (behind_move narrow (q.next + 2))), omega (arith, m.0))
   left_spare Nothing narrow k pn q h g = let m = move_more narrow (q.next + 2) in (omega (arith, picks (q.next + 1) (behind_move narrow (q.next + 2))), omega (arith, m.0))
@@ -323,7 +323,7 @@ module _ (n : Names) (again : n.again ≡ true) (scalars : ℕ) (few : NamesFew 
       go (Some y) = fresh_steady w fw k 1 k k k p (omega arith)
 
   light_element : (a b : RvalueTree) (l : LvalueTree) (size : ℕ) (i : ℕ → Operand) → Light a → Light b → place_nodes l ≡ nodes a + nodes b + 1 →
-      ((k : ℕ) → place_laid n l k ≡ Rattle.graph_layout.specs.Laid.at_laid (moved_laid n Anywhere k size (i k) (both_of n a b k))) →
+      ((k : ℕ) → place_laid n l k ≡ Rattle.graph_laid.specs.Laid.at_laid (moved_laid n Anywhere k size (i k) (both_of n a b k))) →
       ((u : Use) (k : ℕ) → address_laid n l u k ≡ moved_laid n u k size (i k) (both_of n a b k)) → LightPlace l
   light_element a b l size i ha hb one is_place is_address =
       let m = nodes a + nodes b + 1 in

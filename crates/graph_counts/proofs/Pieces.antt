@@ -14,16 +14,16 @@ use Rattle.graph_core.specs.Validity.{total, counts}
 use Rattle.graph_scale.specs.Conversions.{is_narrow}
 use Rattle.graph_scale.specs.Operands.{is_two, is_two_pointers}
 use Rattle.graph_scale.specs.Scales.{is_scaled, shift_of}
-use Rattle.graph_layout.specs.declared.laid.Use.{Use}
-use Rattle.graph_layout.specs.declared.laid.Use.TheVariants.{Anywhere, In, Nothing, Tested}
-use Rattle.graph_layout.specs.Names.{Names, pick, object_of}
-use Rattle.graph_layout.specs.Laid.{Laid, Pair, PlaceLaid, behind_move}
+use Rattle.graph_laid.specs.declared.laid.Use.{Use}
+use Rattle.graph_laid.specs.declared.laid.Use.TheVariants.{Anywhere, In, Nothing, Tested}
+use Rattle.graph_names.specs.Names.{Names, pick, object_of}
+use Rattle.graph_laid.specs.Laid.{Laid, Pair, PlaceLaid, behind_move}
 use Rattle.graph_drafts.specs.Drafts.{Made, Goal, To, Unused, Either, Fork, before, ending, leaf, target, follow, tested, scale, scaling, unscaling, move_if, note, noted, compare_by, compare_pointers_by, closed, arm, forked, valued, used, hold_location, stored, keep_old, use_old, assign_goal, called_by, renew, operated, code_scaled_pair, compared, compared_value, compared_pointers, compared_pointers_value, label_of, next_label}
-use Rattle.graph_code.specs.declared.site.Two as declared-two
-use Rattle.graph_code.specs.declared.site.Two.TheVariants as two
-use Rattle.graph_code.specs.declared.change.Change as declared-change
-use Rattle.graph_code.specs.declared.change.Change.TheVariants as change
-use Rattle.graph_code.specs.Steps.{finished, distance, changed, renewed_scalar, loaded_first, renewed_memory, left_scalar, left_memory, object_address, or_zero}
+use Rattle.graph_steps.specs.declared.site.Two as declared-two
+use Rattle.graph_steps.specs.declared.site.Two.TheVariants as two
+use Rattle.graph_steps.specs.declared.change.Change as declared-change
+use Rattle.graph_steps.specs.declared.change.Change.TheVariants as change
+use Rattle.graph_steps.specs.Steps.{finished, distance, changed, renewed_scalar, loaded_first, renewed_memory, left_scalar, left_memory, object_address, or_zero}
 use Rattle.graph_counts.specs.Sizes.{counted, made_counts, goal_counts}
 
 -- a name that wants a value may take one more instruction, a move
@@ -231,9 +231,9 @@ module _ (n : Names) where
 
   pub memory_most : (c : declared-change.Change) (q : PlaceLaid) (moved : Bool) (by : Laid) (g : Goal) → made_counts (renewed_memory n c q moved by g) ≤ goal_counts g + 3
   memory_most c q moved by g =
-      let own = target g (pick n q.next (behind_move (Rattle.graph_code.specs.Steps.takes_more c by.value) by.next)) in
-      let last = stored (Rattle.graph_code.specs.Steps.changed_element c) (Rattle.graph_drafts.specs.Drafts.held_location moved (q.next + 1) q.location) (unit.Name own) g in
-      omega (arith, changed_most c own (pick n q.next by.next) by.next (unit.Name q.next) by.value last, stored_most (Rattle.graph_code.specs.Steps.changed_element c) (Rattle.graph_drafts.specs.Drafts.held_location moved (q.next + 1) q.location) (unit.Name own) g)
+      let own = target g (pick n q.next (behind_move (Rattle.graph_steps.specs.Steps.takes_more c by.value) by.next)) in
+      let last = stored (Rattle.graph_steps.specs.Steps.changed_element c) (Rattle.graph_drafts.specs.Drafts.held_location moved (q.next + 1) q.location) (unit.Name own) g in
+      omega (arith, changed_most c own (pick n q.next by.next) by.next (unit.Name q.next) by.value last, stored_most (Rattle.graph_steps.specs.Steps.changed_element c) (Rattle.graph_drafts.specs.Drafts.held_location moved (q.next + 1) q.location) (unit.Name own) g)
 
   pub loaded_most : (c : declared-change.Change) (q : PlaceLaid) (moved : Bool) (m : Made) → made_counts (loaded_first c q moved m) ≤ made_counts m + 1 + one_if moved
   loaded_most c q moved m = omega (arith, move_most moved (q.next + 1) (Rattle.graph_scale.specs.Operands.operand_at q.location) m)
@@ -247,8 +247,8 @@ module _ (n : Names) where
   pub left_memory_most : (c : declared-change.Change) (q : PlaceLaid) (g : Goal) → made_counts (left_memory c q g) ≤ goal_counts g + 4
   left_memory_most c q g =
       let old = target g q.next in let free = Rattle.graph_drafts.specs.Drafts.left_free (Rattle.graph_drafts.specs.Drafts.use_of g) q.next in
-      let own = behind_move (Rattle.graph_code.specs.Steps.takes_more c (unit.Constant 1)) free in
-      let last = before (Store (Rattle.graph_code.specs.Steps.changed_element c) q.location (unit.Name own)) (follow g old) in
+      let own = behind_move (Rattle.graph_steps.specs.Steps.takes_more c (unit.Constant 1)) free in
+      let last = before (Store (Rattle.graph_steps.specs.Steps.changed_element c) q.location (unit.Name own)) (follow g old) in
       omega (arith, changed_most c own free free (unit.Name old) (unit.Constant 1) last, follow_most g old)
 
   pub object_most : (o : declared-object.Object) (t : ℕ) (g : Goal) → made_counts (object_address n o t g) + 1 ≤ goal_counts g + room g + 2

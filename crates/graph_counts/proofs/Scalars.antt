@@ -6,9 +6,9 @@ use Rattle.c_tree.specs.declared.object_type.Object.TheVariants as object
 use Rattle.c_tree.specs.TypedExpressions.{LvalueTree, Named, Target, Element, ElementFrom}
 use Rattle.c_tree.specs.Programs.{AutomaticTree, TypedFunctionTree, ProgramTree}
 use Rattle.c_places.specs.Places.{numbers_from}
-use Rattle.graph_layout.specs.declared.names.Home.{Home}
-use Rattle.graph_layout.specs.declared.names.Home.TheVariants as home
-use Rattle.graph_layout.specs.Names.{Names, homes_from, names_of, scalar_in, object_in, home_of, scalar_of, scalar_named}
+use Rattle.graph_names.specs.declared.names.Home.{Home}
+use Rattle.graph_names.specs.declared.names.Home.TheVariants as home
+use Rattle.graph_names.specs.Names.{Names, homes_from, names_of, scalar_in, object_in, home_of, scalar_of, scalar_named}
 use Rattle.graph_build.specs.Units.{scalars_among, add_if_some, variables_in}
 use Rattle.graph_counts.proofs.Written.{NamesFew}
 

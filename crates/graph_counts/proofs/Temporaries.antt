@@ -14,11 +14,11 @@ use Rattle.graph_core.specs.Graphs.{Operand}
 use Rattle.graph_scale.specs.Scales.{is_scaled}
 use Rattle.graph_scale.specs.Conversions.{keeps_bits, is_narrow, is_kept_constant}
 use Rattle.graph_scale.specs.Operands.{is_two, is_two_pointers}
-use Rattle.graph_layout.specs.declared.laid.Use.{Use}
-use Rattle.graph_layout.specs.declared.laid.Use.TheVariants.{Anywhere, In, Nothing, Tested}
-use Rattle.graph_layout.specs.Names.{Names, scalar_named, object_of, pick}
-use Rattle.graph_layout.specs.Writes.{writes, writes_any, is_moved, is_location_moved}
-use Rattle.graph_layout.specs.Laid.{Laid, Pair, PlaceLaid, PassedLaid, behind_move, pair, as_value, worked, use_for, behind_top, operation_laid, standing, leaf_laid, after_pair, moved_laid, steps_laid, compared_laid, converted_laid, truth_laid, joined_laid, both_laid, behind_own, void_arms_laid, arms_laid, arms_top, choice_top, begun_at, assigned_laid, begun_behind, renewed_scalar_laid, renewed_memory_laid, updated_laid, stepped_laid, left_scalar_laid, left_memory_laid, left_laid, step_laid, called_laid, loaded_laid, passed_behind, object_laid, unused_laid, old_laid}
+use Rattle.graph_laid.specs.declared.laid.Use.{Use}
+use Rattle.graph_laid.specs.declared.laid.Use.TheVariants.{Anywhere, In, Nothing, Tested}
+use Rattle.graph_names.specs.Names.{Names, scalar_named, object_of, pick}
+use Rattle.graph_names.specs.Writes.{writes, writes_any, is_moved, is_location_moved}
+use Rattle.graph_laid.specs.Laid.{Laid, Pair, PlaceLaid, PassedLaid, behind_move, pair, as_value, worked, use_for, behind_top, operation_laid, standing, leaf_laid, after_pair, moved_laid, steps_laid, compared_laid, converted_laid, truth_laid, joined_laid, both_laid, behind_own, void_arms_laid, arms_laid, arms_top, choice_top, begun_at, assigned_laid, begun_behind, renewed_scalar_laid, renewed_memory_laid, updated_laid, stepped_laid, left_scalar_laid, left_memory_laid, left_laid, step_laid, called_laid, loaded_laid, passed_behind, object_laid, unused_laid, old_laid}
 use Rattle.graph_layout.specs.Layout.{laid, place_laid, address_laid, passed_laid, named_address, scales}
 
 -- The name that is free next comes no earlier than one, and the first one behind all that were used no earlier than that.

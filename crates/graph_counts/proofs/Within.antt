@@ -17,19 +17,19 @@ use Rattle.word_base.specs.declared.operation.Operation.TheVariants as operation
 use Rattle.graph_core.specs.Graphs as unit
 use Rattle.graph_core.specs.Graphs.{Operand, Instruction, Operate, Truncate, Same, Store, Block, Jump}
 use Rattle.graph_scale.specs.Conversions.{keeps_bits, is_narrow, is_kept_constant}
-use Rattle.graph_layout.specs.declared.laid.Use.{Use}
-use Rattle.graph_layout.specs.declared.laid.Use.TheVariants.{Anywhere, In, Nothing, Tested}
-use Rattle.graph_layout.specs.Names.{Names, scalar_named, pick}
-use Rattle.graph_layout.specs.Writes.{writes, writes_any, is_moved, is_location_moved}
-use Rattle.graph_layout.specs.Laid.{Laid, Pair, PlaceLaid, pair, behind_move, behind_own, use_for, converted_laid, updated_laid, called_laid, loaded_laid}
+use Rattle.graph_laid.specs.declared.laid.Use.{Use}
+use Rattle.graph_laid.specs.declared.laid.Use.TheVariants.{Anywhere, In, Nothing, Tested}
+use Rattle.graph_names.specs.Names.{Names, scalar_named, pick}
+use Rattle.graph_names.specs.Writes.{writes, writes_any, is_moved, is_location_moved}
+use Rattle.graph_laid.specs.Laid.{Laid, Pair, PlaceLaid, pair, behind_move, behind_own, use_for, converted_laid, updated_laid, called_laid, loaded_laid}
 use Rattle.graph_layout.specs.Layout.{laid, place_laid, address_laid, passed_laid}
 use Rattle.graph_drafts.specs.Rules.{element_of, truncation_to, callee_for, steps_by}
 use Rattle.graph_drafts.specs.Drafts.{Made, Goal, Fork, To, Unused, Either, use_of, before, ending, zero, leaf, label_of, closed, forked, valued, used, operated, move_if, hold_location, held_location, stored, noted, assign_goal, called_by}
-use Rattle.graph_code.specs.declared.site.Two as declared-two
-use Rattle.graph_code.specs.declared.site.Two.TheVariants as two
-use Rattle.graph_code.specs.declared.change.Change as declared-change
-use Rattle.graph_code.specs.declared.change.Change.TheVariants as change
-use Rattle.graph_code.specs.Steps.{in_turn, signed, finished, arm_use, arm_value, arm_goal, assigned_memory, updated, stepped, object_address, renewed_scalar, renewed_memory, loaded_first, one_at, changed_element, takes_more}
+use Rattle.graph_steps.specs.declared.site.Two as declared-two
+use Rattle.graph_steps.specs.declared.site.Two.TheVariants as two
+use Rattle.graph_steps.specs.declared.change.Change as declared-change
+use Rattle.graph_steps.specs.declared.change.Change.TheVariants as change
+use Rattle.graph_steps.specs.Steps.{in_turn, signed, finished, arm_use, arm_value, arm_goal, assigned_memory, updated, stepped, object_address, renewed_scalar, renewed_memory, loaded_first, one_at, changed_element, takes_more}
 use Rattle.graph_code.specs.Code.{code, code_place, code_address, code_all}
 use Rattle.graph_counts.specs.Sizes.{counted, made_counts, goal_counts}
 use Rattle.graph_counts.specs.Weighing.{weighed, weighed_place, weighed_all, conversion}
@@ -99,7 +99,7 @@ module _ (n : Names) (place top scalars : ℕ) (few : NamesFew n scalars) where
   -- an element's place, and its address
   pub element_placed : (k : declared-two.Two) (a b : RvalueTree) (size : ℕ) (i : Operand) → Within a → Within b → (t : ℕ) (m : Made) (w : ℕ → Bool) → Few scalars w → scalars ≤ t →
       made_counts (in_turn (code n place top a) (code n place top b) t (pair (λ y. writes n y b) (laid n a Anywhere t) (laid n b Anywhere)) (finished n k (To None m) t (pair (λ y. writes n y b) (laid n a Anywhere t) (laid n b Anywhere))))
-      + one_if (is_moved w (Rattle.graph_layout.specs.Laid.moved_laid n Anywhere t size i (pair (λ y. writes n y b) (laid n a Anywhere t) (laid n b Anywhere))).value) + 2 ≤ made_counts m + 2 * (weighed false a + weighed false b + 1)
+      + one_if (is_moved w (Rattle.graph_laid.specs.Laid.moved_laid n Anywhere t size i (pair (λ y. writes n y b) (laid n a Anywhere t) (laid n b Anywhere))).value) + 2 ≤ made_counts m + 2 * (weighed false a + weighed false b + 1)
   element_placed k a b size i ha hb t m w fw p =
       let q = pair (λ y. writes n y b) (laid n a Anywhere t) (laid n b Anywhere) in
       let far = pair_behind n (λ y. writes n y b) t (laid n a Anywhere t) (laid n b Anywhere) (behind n a Anywhere t) (behind n b Anywhere) in
@@ -145,7 +145,7 @@ module _ (n : Names) (place top scalars : ℕ) (few : NamesFew n scalars) where
 
   abbrev converting_laid : IntegerType → RvalueTree → (t : ℕ) → (kept constant : Bool) → Laid
   converting_laid ty e t b c =
-      let r = laid n e Anywhere t in if b then r else (if c then Rattle.graph_layout.specs.Laid.standing n Anywhere t r else Rattle.graph_layout.specs.Laid.operation_laid n Anywhere t r.next r.top)
+      let r = laid n e Anywhere t in if b then r else (if c then Rattle.graph_laid.specs.Laid.standing n Anywhere t r else Rattle.graph_laid.specs.Laid.operation_laid n Anywhere t r.next r.top)
 
   convert_any : (ty : IntegerType) (e : RvalueTree) → Within e → (t : ℕ) (g : Goal) → scalars ≤ t → (b c narrow : Bool) → (b ≡ false → narrow ≡ true) →
       made_counts (converting ty e t g b c) + 1 ≤ goal_counts g + 2 * (weighed false e + conversion false narrow) + room g

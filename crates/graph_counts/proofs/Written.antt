@@ -3,8 +3,8 @@ use Rattle.std.proofs.Common.{◌≡◌, ℕ, ◌≤◌, ◌<◌, Bool, true, fa
 use Rattle.std.specs.Prelude.{◌||◌}
 use Rattle.std.proofs.lemmas.Bool.Decides.{nat_tests}
 use Rattle.c_tree.specs.TypedExpressions.{RvalueTree, LvalueTree, ArgumentTrees, Constant, Null, Load, Decay, AddressOf, Convert, Discard, Signed, Not, Arithmetic, Compare, ComparePointers, Move, MoveFrom, Difference, And, Or, Conditional, Comma, Assign, Update, UpdatePointer, Step, StepPointer, Call, Named, Target, Element, ElementFrom, none, first}
-use Rattle.graph_layout.specs.Names.{Names, scalar_named}
-use Rattle.graph_layout.specs.Writes.{writes, writes_within, writes_any, names_it, is_that}
+use Rattle.graph_names.specs.Names.{Names, scalar_named}
+use Rattle.graph_names.specs.Writes.{writes, writes_within, writes_any, names_it, is_that}
 
 -- the scalars that lvalues name are fewer than a number
 abbrev pub NamesFew : Names → (scalars : ℕ) → Type 0

@@ -12,12 +12,12 @@ use Rattle.c_type_rules.specs.Integers.{scalar_size}
 use Rattle.c_flow.specs.Flow.{start_of_declarators}
 use Rattle.graph_core.specs.Graphs as unit
 use Rattle.graph_core.specs.Graphs.{Automatic, Store, CopyWords}
-use Rattle.graph_layout.specs.declared.laid.Use.TheVariants.{Anywhere}
-use Rattle.graph_layout.specs.Names.{scalar_of, object_of, pick}
+use Rattle.graph_laid.specs.declared.laid.Use.TheVariants.{Anywhere}
+use Rattle.graph_names.specs.Names.{scalar_of, object_of, pick}
 use Rattle.graph_layout.specs.Layout.{laid}
 use Rattle.graph_drafts.specs.Rules.{element_of}
 use Rattle.graph_drafts.specs.Drafts.{Made, To, before, note}
-use Rattle.graph_code.specs.Steps.{or_zero}
+use Rattle.graph_steps.specs.Steps.{or_zero}
 use Rattle.graph_code.specs.Code.{code}
 use Rattle.graph_coding.specs.Coding.{Coding, Part, place_of, begun, going, placed_at, coded}
 use Rattle.graph_coding.specs.Reached.{bare, initial_reached}

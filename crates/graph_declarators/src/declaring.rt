@@ -19,7 +19,9 @@ use graph_coding::{
 };
 use graph_core::{Location, Name, Operand};
 use graph_drafts::{Computation, Draft, Goal, clear, compute, copy, element_of, note, store};
-use graph_layout::{Use, following, object_of, pick, scalar_of, value_laid};
+use graph_laid::Use;
+use graph_layout::value_laid;
+use graph_names::{following, object_of, pick, scalar_of};
 use std::alloc::{AllocError, Global};
 
 /// The type of an automatic variable; an array of nothing where there is none of that number.

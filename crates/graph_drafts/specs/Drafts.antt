@@ -16,15 +16,15 @@ use Rattle.graph_drafts.specs.declared.draft.Computation as declared-computation
 use Rattle.graph_drafts.specs.declared.draft.Computation.TheVariants as computation
 use Rattle.graph_drafts.specs.declared.goal.Goal as declared-goal
 use Rattle.graph_drafts.specs.declared.goal.Goal.TheVariants as goal
-use Rattle.graph_drafts.specs.declared.operations.Fork as declared-fork
+use Rattle.graph_drafts.specs.declared.draft.Fork as declared-fork
 use Rattle.graph_drafts.specs.Rules.{less_by, truncation_to}
 use Rattle.graph_scale.specs.Conversions.{is_narrow}
 use Rattle.graph_scale.specs.Operands.{is_two_pointers, operand_at, located}
 use Rattle.graph_scale.specs.Scales.{is_scaled, scaled, shift_of}
-use Rattle.graph_layout.specs.declared.laid.Use.{Use}
-use Rattle.graph_layout.specs.declared.laid.Use.TheVariants.{Anywhere, In, Nothing, Tested}
-use Rattle.graph_layout.specs.Names.{Names, pick}
-use Rattle.graph_layout.specs.Laid.{Pair, behind_move}
+use Rattle.graph_laid.specs.declared.laid.Use.{Use}
+use Rattle.graph_laid.specs.declared.laid.Use.TheVariants.{Anywhere, In, Nothing, Tested}
+use Rattle.graph_names.specs.Names.{Names, pick}
+use Rattle.graph_laid.specs.Laid.{Pair, behind_move}
 
 -- What follows in a block that is being built, and the inner blocks that stand: the last one in order of evaluation first.
 pub record Made : Type 0 where

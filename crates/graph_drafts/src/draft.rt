@@ -35,6 +35,14 @@ pub enum Computation {
     Load(Element, Location),
 }
 
+/// Two ways to go by a test, and the inner blocks that stand.
+#[derive(Drop)]
+pub struct Fork {
+    pub one: Label,
+    pub other: Label,
+    pub inner: Vec<Block>,
+}
+
 /// A block that has its end alone.
 pub fn ending(alloc: Global, end: End, inner: Vec<Block>) -> Draft
     ensures { made_of result ≡ ending (end_view end) (map block_view inner.items) }

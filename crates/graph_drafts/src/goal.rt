@@ -6,7 +6,7 @@ ghost use Rattle.graph_drafts.specs.Drafts.{assign_goal, behind_old, follow, goa
 
 use crate::draft::{Computation, Draft, compute, ending, note, store};
 use graph_core::{Block, Comparison, Element, End, Label, Location, Name, Operand};
-use graph_layout::{Use, behind_move};
+use graph_laid::{Use, behind_move};
 use std::alloc::{AllocError, Global};
 
 /// What a value is for.

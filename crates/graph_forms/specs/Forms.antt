@@ -9,7 +9,7 @@ use Rattle.graph_core.specs.declared.block.Comparison.TheVariants as branch
 use Rattle.graph_core.specs.Graphs as unit
 use Rattle.graph_core.specs.Graphs.{Operand, Branch}
 use Rattle.graph_scale.specs.Conversions.{word_of}
-use Rattle.graph_layout.specs.declared.laid.Use.TheVariants.{Anywhere, Tested}
+use Rattle.graph_laid.specs.declared.laid.Use.TheVariants.{Anywhere, Tested}
 use Rattle.graph_layout.specs.Layout.{laid}
 use Rattle.graph_drafts.specs.Drafts.{Made, To, Unused, ending, closed, label_of}
 use Rattle.graph_coding.specs.Coding.{Coding, Part, place_of, begun, going, label_for, with_end, placed_at, coded, branching}

@@ -18,7 +18,8 @@ use graph_coding::{
 use graph_core::{Block, Comparison, End, Operand};
 use graph_declarators::add_declared;
 use graph_drafts::{Draft, Goal, closed, ending, next_label};
-use graph_layout::{Use, value_laid};
+use graph_laid::Use;
+use graph_layout::value_laid;
 use graph_scale::word_of;
 use std::alloc::{AllocError, Global};
 

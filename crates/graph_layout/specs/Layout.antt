@@ -11,11 +11,11 @@ use Rattle.graph_core.specs.Graphs.{Operand, Location, Static}
 use Rattle.graph_scale.specs.Scales.{is_scaled}
 use Rattle.graph_scale.specs.Conversions.{word_of, keeps_bits, is_narrow}
 use Rattle.graph_scale.specs.Operands.{is_two, is_two_pointers}
-use Rattle.graph_layout.specs.declared.laid.Use.{Use}
-use Rattle.graph_layout.specs.declared.laid.Use.TheVariants.{Anywhere, In, Nothing, Tested}
-use Rattle.graph_layout.specs.Names.{Names, scalar_named, object_of, object_location, pick}
-use Rattle.graph_layout.specs.Writes.{writes, writes_any}
-use Rattle.graph_layout.specs.Laid.{Laid, PlaceLaid, PassedLaid, pair, as_value, worked, use_for, at_laid, behind_top, operation_laid, leaf_laid, after_pair, moved_laid, steps_laid, compared_laid, converted_laid, both_laid, void_arms_laid, arms_laid, begun_at, assigned_laid, begun_behind, updated_laid, step_laid, called_laid, loaded_laid, passed_behind, object_laid}
+use Rattle.graph_laid.specs.declared.laid.Use.{Use}
+use Rattle.graph_laid.specs.declared.laid.Use.TheVariants.{Anywhere, In, Nothing, Tested}
+use Rattle.graph_names.specs.Names.{Names, scalar_named, object_of, object_location, pick}
+use Rattle.graph_names.specs.Writes.{writes, writes_any}
+use Rattle.graph_laid.specs.Laid.{Laid, PlaceLaid, PassedLaid, pair, as_value, worked, use_for, at_laid, behind_top, operation_laid, leaf_laid, after_pair, moved_laid, steps_laid, compared_laid, converted_laid, both_laid, void_arms_laid, arms_laid, begun_at, assigned_laid, begun_behind, updated_laid, step_laid, called_laid, loaded_laid, passed_behind, object_laid}
 
 -- an operand is an index of elements that is scaled by an instruction, if there are elements
 abbrev pub scales : Option ObjectType → Operand → Bool

@@ -1,5 +1,2 @@
-pub mod Names
-pub mod Laid
-pub mod Writes
 pub mod Layout
-pub mod Inner
+pub mod Chains

@@ -4,29 +4,28 @@ ghost use Rattle.std.specs.Prelude.{◌≡◌, ◌+◌, ◌++◌, IfOk, OnOk, ma
 ghost use Rattle.c_tree.specs.TypedExpressions.{Conditional, Convert, arguments_view, lvalue_view, rvalue_view};
 ghost use Rattle.c_type_rules.specs.Integers.{object_size};
 ghost use Rattle.graph_core.specs.Graphs.{location_view, operand_view};
-ghost use Rattle.graph_layout.specs.Names.{names_view, scalar_named};
-ghost use Rattle.graph_layout.specs.Writes.{writes};
-ghost use Rattle.graph_layout.specs.Laid as spec;
-ghost use Rattle.graph_layout.specs.Laid.{laid_view, pair, pair_view, passed_view, place_view};
-ghost use Rattle.graph_layout.specs.declared.laid.Use.TheVariants.{Anywhere, Tested};
+ghost use Rattle.graph_names.specs.Names.{names_view, scalar_named};
+ghost use Rattle.graph_names.specs.Writes.{writes};
+ghost use Rattle.graph_laid.specs.Laid as spec;
+ghost use Rattle.graph_laid.specs.Laid.{laid_view, pair, pair_view, passed_view, place_view};
+ghost use Rattle.graph_laid.specs.declared.laid.Use.TheVariants.{Anywhere, Tested};
 ghost use Rattle.graph_layout.specs.Layout.{address_laid, laid, named_address, named_location, passed_laid, place_laid, scales};
 
-use crate::joining::{
-    after_pair, as_value, at_laid, behind_move, behind_own, behind_top, compared_laid,
-    converted_laid, greater, joined_laid, leaf_laid, moved_laid, operation_laid, standing,
-    steps_laid, truth_laid, unused_laid, use_for, worked,
-};
-use crate::laid::{Laid, Pair, PassedLaid, PlaceLaid, Use};
-use crate::names::{Names, following, object_location, object_of, pick, scalar_named};
-use crate::renewing::{
-    behind_two, called_laid, left_memory_laid, left_scalar_laid, object_laid, renewed_memory_laid,
-    renewed_scalar_laid,
-};
-use crate::written::{is_location_moved, is_moved, is_moved_before, writes};
 use c_tree::{Arguments, Given, IntegerType, Lvalue, Object, ObjectType, Rvalue, Sign};
 use c_type_rules::object_size;
 use c_value_types::{given_by, integer_in, is_void, type_of};
 use graph_core::{Location, Name, Operand};
+use graph_laid::{
+    Laid, Pair, PassedLaid, PlaceLaid, Use, after_pair, as_value, at_laid, behind_move, behind_own,
+    behind_top, behind_two, called_laid, compared_laid, converted_laid, greater, joined_laid,
+    leaf_laid, left_memory_laid, left_scalar_laid, moved_laid, object_laid, operation_laid,
+    renewed_memory_laid, renewed_scalar_laid, standing, steps_laid, truth_laid, unused_laid,
+    use_for, worked,
+};
+use graph_names::{
+    Names, following, is_location_moved, is_moved, is_moved_before, object_location, object_of,
+    pick, scalar_named, writes,
+};
 use graph_scale::{held, is_narrow, is_scaled, is_two, is_two_pointers, keeps_bits, word_of};
 use smallvec::SmallVec;
 use std::alloc::{AllocError, Global};
@@ -55,12 +54,18 @@ struct Arms {
     arms: u32,
 }
 
-/// Where two values stand that are computed in turn.
+/// Where two values stand that are computed in turn, from where the first one stands.
 #[cycle(laid)]
-pub fn pair_laid(names: &Names, a: &Rvalue, b: &Rvalue, begun: u32) -> Result<Pair, AllocError>
-    ensures { IfOk result (λ q. pair_view q ≡ pair (λ y. writes (names_view names.now) y (rvalue_view b.now)) (laid (names_view names.now) (rvalue_view a.now) Anywhere begun) (laid (names_view names.now) (rvalue_view b.now) Anywhere)) }
+pub fn pair_behind(
+    names: &Names,
+    _a: &Rvalue,
+    one: Laid,
+    b: &Rvalue,
+    _begun: u32,
+) -> Result<Pair, AllocError>
+    requires { laid_view one ≡ laid (names_view names.now) (rvalue_view _a.now) Anywhere _begun }
+    ensures { IfOk result (λ q. pair_view q ≡ pair (λ y. writes (names_view names.now) y (rvalue_view b.now)) (laid (names_view names.now) (rvalue_view _a.now) Anywhere _begun) (laid (names_view names.now) (rvalue_view b.now) Anywhere)) }
 {
-    let one = given!(value_laid(names, a, Use::Anywhere, begun));
     let moved = is_moved(names, one.value, b);
     let from = given!(behind_move(moved, one.next));
     let other = given!(value_laid(names, b, Use::Anywhere, from));
@@ -74,6 +79,15 @@ pub fn pair_laid(names: &Names, a: &Rvalue, b: &Rvalue, begun: u32) -> Result<Pa
         next: other.next,
         top: greater(one.top, greater(from, other.top)),
     })
+}
+
+/// Where two values stand that are computed in turn.
+#[cycle(laid)]
+fn pair_laid(names: &Names, a: &Rvalue, b: &Rvalue, begun: u32) -> Result<Pair, AllocError>
+    ensures { IfOk result (λ q. pair_view q ≡ pair (λ y. writes (names_view names.now) y (rvalue_view b.now)) (laid (names_view names.now) (rvalue_view a.now) Anywhere begun) (laid (names_view names.now) (rvalue_view b.now) Anywhere)) }
+{
+    let one = given!(value_laid(names, a, Use::Anywhere, begun));
+    pair_behind(names, a, one, b, begun)
 }
 
 /// Where an element stands whose pointer comes first, or its index.

@@ -6,7 +6,7 @@ use Rattle.c_places.specs.Places.{Place, stop, brought_by_body, parameters_of, c
 use Rattle.c_flow.specs.Flow.{edge, start_of_all, ways_of_body, flow_of_all, flow_of_function}
 use Rattle.graph_core.specs.Graphs as unit
 use Rattle.graph_core.specs.Graphs.{Instruction}
-use Rattle.graph_layout.specs.Names.{scalar_of}
+use Rattle.graph_names.specs.Names.{scalar_of}
 use Rattle.graph_drafts.specs.Drafts.{Made, ending}
 use Rattle.graph_coding.specs.Coding.{Coding, Part, place_of, going}
 use Rattle.graph_build.specs.Units.{note_if, note_parameters, add_close, body_part, function_part}

@@ -10,8 +10,8 @@ use Rattle.c_flow.specs.declared.edge.Ways.{Ways}
 use Rattle.c_flow.specs.Flow.{start, round_of, within_loop, within_switch, before as with_rest}
 use Rattle.graph_core.specs.Graphs as unit
 use Rattle.graph_core.specs.Graphs.{Instruction, Marker}
-use Rattle.graph_layout.specs.declared.laid.Use.TheVariants.{Anywhere, Tested}
-use Rattle.graph_layout.specs.Names.{scalar_of}
+use Rattle.graph_laid.specs.declared.laid.Use.TheVariants.{Anywhere, Tested}
+use Rattle.graph_names.specs.Names.{scalar_of}
 use Rattle.graph_coding.specs.Coding.{Coding, Part, place_of}
 use Rattle.graph_coding.specs.Reached.{reached, initial_reached, start_reached, condition_reached, statement_reached}
 use Rattle.graph_declarators.specs.Declaring.{add_declared}

@@ -16,19 +16,19 @@ use Rattle.graph_core.specs.Graphs as unit
 use Rattle.graph_core.specs.Graphs.{Operand, Instruction, Operate, Truncate, Same, Note, Is, Of, Block, End, Jump, Branch, Return}
 use Rattle.graph_scale.specs.Conversions.{keeps_bits, is_kept_constant}
 use Rattle.graph_scale.specs.Operands.{held, operand_at}
-use Rattle.graph_layout.specs.declared.laid.Use.TheVariants.{Anywhere, Nothing, Tested}
-use Rattle.graph_layout.specs.Names.{Names, scalar_named, pick}
-use Rattle.graph_layout.specs.Writes.{writes, writes_within, writes_any, names_it, is_that, is_moved, is_location_moved}
-use Rattle.graph_layout.specs.Laid.{Laid, Pair, pair, behind_move, behind_own, use_for}
+use Rattle.graph_laid.specs.declared.laid.Use.TheVariants.{Anywhere, Nothing, Tested}
+use Rattle.graph_names.specs.Names.{Names, scalar_named, pick}
+use Rattle.graph_names.specs.Writes.{writes, writes_within, writes_any, names_it, is_that, is_moved, is_location_moved}
+use Rattle.graph_laid.specs.Laid.{Laid, Pair, pair, behind_move, behind_own, use_for}
 use Rattle.graph_layout.specs.Layout.{laid, place_laid, passed_laid}
 use Rattle.graph_drafts.specs.Rules.{element_of, truncation_to, steps_by}
 use Rattle.graph_drafts.specs.Drafts.{Made, Goal, To, Unused, Either, use_of, before, ending, leaf, label_of, closed, forked, valued, used, operated, move_if, hold_location, noted, note, use_old, behind_old}
 use Rattle.graph_drafts.specs.Drafts as drafts
-use Rattle.graph_code.specs.declared.site.Two as declared-two
-use Rattle.graph_code.specs.declared.site.Two.TheVariants as two
-use Rattle.graph_code.specs.declared.change.Change as declared-change
-use Rattle.graph_code.specs.declared.change.Change.TheVariants as change
-use Rattle.graph_code.specs.Steps.{in_turn, finished, arm_use, arm_goal, arm_value, assigned_memory, updated, stepped, renewed_scalar, renewed_memory, loaded_first, left_memory, one_at, changed}
+use Rattle.graph_steps.specs.declared.site.Two as declared-two
+use Rattle.graph_steps.specs.declared.site.Two.TheVariants as two
+use Rattle.graph_steps.specs.declared.change.Change as declared-change
+use Rattle.graph_steps.specs.declared.change.Change.TheVariants as change
+use Rattle.graph_steps.specs.Steps.{in_turn, finished, arm_use, arm_goal, arm_value, assigned_memory, updated, stepped, renewed_scalar, renewed_memory, loaded_first, left_memory, one_at, changed}
 use Rattle.graph_code.specs.Code.{code, code_place, code_address, code_all}
 use Rattle.graph_marking.specs.Passing.{Grows, IsPassing}
 use Rattle.graph_marking.specs.Points.{AtLabel, GoesBack, StandIn}
@@ -284,8 +284,8 @@ module _ (blocks : List Block) (top x : ℕ) (n : Names) (place : ℕ) where
     code_notes (Convert ty e) t g sure w = convert_notes ty e (code_notes e) t g sure w (keeps_bits (integer_in (type_of n.results e)) ty) (is_kept_constant ty (laid n e Anywhere t).value)
     code_notes (Discard e) t g sure w = code_notes e t (Unused (leaf g (drafts.zero))) sure w
     code_notes (Signed Plus ty e) t g sure w = code_notes e t (valued g (laid n e Anywhere t).value) sure w
-    code_notes (Signed Minus ty e) t g sure w = code_notes e t (To None (operated n g t (laid n e Anywhere t).next (Rattle.graph_code.specs.Steps.signed Minus (laid n e Anywhere t).value))) sure w
-    code_notes (Signed Complement ty e) t g sure w = code_notes e t (To None (operated n g t (laid n e Anywhere t).next (Rattle.graph_code.specs.Steps.signed Complement (laid n e Anywhere t).value))) sure w
+    code_notes (Signed Minus ty e) t g sure w = code_notes e t (To None (operated n g t (laid n e Anywhere t).next (Rattle.graph_steps.specs.Steps.signed Minus (laid n e Anywhere t).value))) sure w
+    code_notes (Signed Complement ty e) t g sure w = code_notes e t (To None (operated n g t (laid n e Anywhere t).next (Rattle.graph_steps.specs.Steps.signed Complement (laid n e Anywhere t).value))) sure w
     code_notes (Not e) t g sure w = not_notes e (code_notes e) t g sure w
     code_notes (Arithmetic o ty a b) t g sure w = element_notes (two.Arithmetic o ty) a b (code_notes a) (code_notes b) t (pair (λ y. writes n y b) (laid n a Anywhere t) (laid n b Anywhere)) g sure w
     code_notes (Compare o ty a b) t g sure w = element_notes (two.Compare o ty) a b (code_notes a) (code_notes b) t (pair (λ y. writes n y b) (laid n a Anywhere t) (laid n b Anywhere)) g sure w

@@ -16,12 +16,12 @@ use Rattle.graph_core.specs.Graphs as unit
 use Rattle.graph_core.specs.Graphs.{Operand, Instruction, Marker, Automatic, Store, CopyWords, End, Jump, Branch}
 use Rattle.graph_core.specs.Paths.{Among, front, behind, is_marker}
 use Rattle.graph_scale.specs.Conversions.{word_of}
-use Rattle.graph_layout.specs.declared.laid.Use.TheVariants.{Anywhere, Tested}
-use Rattle.graph_layout.specs.Names.{scalar_of, object_of, pick}
+use Rattle.graph_laid.specs.declared.laid.Use.TheVariants.{Anywhere, Tested}
+use Rattle.graph_names.specs.Names.{scalar_of, object_of, pick}
 use Rattle.graph_layout.specs.Layout.{laid}
 use Rattle.graph_drafts.specs.Rules.{element_of}
 use Rattle.graph_drafts.specs.Drafts.{Made, Goal, To, Unused, Either, before, ending, note, closed, label_of}
-use Rattle.graph_code.specs.Steps.{or_zero}
+use Rattle.graph_steps.specs.Steps.{or_zero}
 use Rattle.graph_code.specs.Code.{code}
 use Rattle.graph_coding.specs.Coding.{Coding, Part, place_of, block_of, begun, going, label_for, with_end, placed_at, coded}
 use Rattle.graph_coding.specs.Reached.{bare, reached, initial_reached, start_reached, condition_reached, statement_reached}

@@ -4,8 +4,8 @@ use Rattle.c_tree.specs.TypedExpressions.{RvalueTree, LvalueTree, ArgumentTrees,
 use Rattle.graph_core.specs.Graphs.{NoteValue, Instruction, Note, End, Block}
 use Rattle.graph_core.specs.Uses.{targets_of}
 use Rattle.graph_core.specs.Paths.{Among, is_marker}
-use Rattle.graph_layout.specs.Names.{Names}
-use Rattle.graph_layout.specs.Writes.{writes}
+use Rattle.graph_names.specs.Names.{Names}
+use Rattle.graph_names.specs.Writes.{writes}
 
 module _ (n : Names) where
   -- the code of an expression writes no scalar

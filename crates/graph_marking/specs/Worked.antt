@@ -9,8 +9,8 @@ use Rattle.c_tree.specs.TypedExpressions.{RvalueTree, Convert, Assign, Step, Nam
 use Rattle.word_base.specs.declared.operation.Operation.TheVariants.{Add}
 use Rattle.word_base.specs.declared.operation.Truncation.TheVariants.{Unsigned8}
 use Rattle.graph_core.specs.Graphs.{Note, Is, Of, Name, Constant, Move, Operate, Truncate, Return}
-use Rattle.graph_layout.specs.declared.names.Home.TheVariants as home
-use Rattle.graph_layout.specs.Names.{Names}
+use Rattle.graph_names.specs.declared.names.Home.TheVariants as home
+use Rattle.graph_names.specs.Names.{Names}
 use Rattle.graph_drafts.specs.Drafts.{Unused, ending}
 use Rattle.graph_code.specs.Code.{code}
 

@@ -20,12 +20,12 @@ use Rattle.graph_core.specs.declared.value.Value.TheVariants.{Pointer, Odd}
 use Rattle.graph_core.specs.Graphs.{Operand, Name, StaticAddress, Static as StaticPlace, Instruction, Address, End}
 use Rattle.graph_core.specs.Memory.{Object, Memory, bytes_of, address_of, address_in}
 use Rattle.graph_core.specs.Values.{pointer_at}
-use Rattle.graph_layout.specs.declared.laid.Use.TheVariants.{Anywhere}
-use Rattle.graph_layout.specs.Names.{object_of, object_location, pick}
-use Rattle.graph_layout.specs.Laid.{object_laid}
+use Rattle.graph_laid.specs.declared.laid.Use.TheVariants.{Anywhere}
+use Rattle.graph_names.specs.Names.{object_of, object_location, pick}
+use Rattle.graph_laid.specs.Laid.{object_laid}
 use Rattle.graph_drafts.specs.Drafts.{Made, Goal, To, Unused, Either, leaf, operated}
 use Rattle.graph_code.specs.Code.{code_address}
-use Rattle.graph_code.specs.Steps.{or_zero}
+use Rattle.graph_steps.specs.Steps.{or_zero}
 use Rattle.graph_values.specs.Correspondence.{SameValue}
 use Rattle.graph_values.proofs.Tests.{HasWord}
 use Rattle.graph_values.proofs.Leads.{Setting, names_in, size_in, depth_in, Local, World}

@@ -23,10 +23,10 @@ use Rattle.graph_core.specs.declared.value.Shadow.TheVariants.{Known}
 use Rattle.graph_core.specs.Graphs.{Operand, Name, Instruction, Note, Is, Of, End}
 use Rattle.graph_core.specs.Runs.{Goes, Wild, put, step, value}
 use Rattle.graph_core.specs.Values.{is_odd}
-use Rattle.graph_layout.specs.Names.{scalar_of}
+use Rattle.graph_names.specs.Names.{scalar_of}
 use Rattle.graph_drafts.specs.Drafts.{Made, note}
-use Rattle.graph_code.specs.declared.change.Change as declared-change
-use Rattle.graph_code.specs.Steps.{changed}
+use Rattle.graph_steps.specs.declared.change.Change as declared-change
+use Rattle.graph_steps.specs.Steps.{changed}
 use Rattle.graph_values.specs.Typed.{IsOf}
 use Rattle.graph_values.specs.Correspondence.{SameValue}
 use Rattle.graph_values.proofs.Leads.{Setting, names_in, size_in, depth_in, Local, World, set_name, at, stays, goes, then_leads, put_here, put_elsewhere, less_other}

@@ -17,7 +17,7 @@ use Rattle.c_law_types.specs.declared.kind.Kind.{Kind}
 use Rattle.c_law_types.specs.declared.kind.Kind.TheVariants.{Wrong, Of}
 use Rattle.c_law_types.specs.Kinds.{of_if, is_promoted, is_of, is_typed, is_scalar_type, is_integer, is_counted, is_operand, holds_scalar, holds_integer, holds_pointer, is_array, automatic_is, is_variable}
 use Rattle.c_law_types.specs.Expressions.{kind_of, is_place}
-use Rattle.graph_layout.specs.Names.{scalar_of, scalar_named}
+use Rattle.graph_names.specs.Names.{scalar_of, scalar_named}
 use Rattle.graph_values.proofs.Leads.{Setting, names_in}
 use Rattle.graph_values.proofs.Kept.{ScalarsFirst}
 use Rattle.graph_values.proofs.Noting.{ScalarsApart}

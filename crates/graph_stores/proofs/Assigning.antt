@@ -21,15 +21,15 @@ use Rattle.graph_core.specs.declared.value.Value.{Value}
 use Rattle.graph_core.specs.Graphs.{Operand, Name, Constant, StaticAddress, Location, Automatic, Static as StaticPlace, At}
 use Rattle.graph_core.specs.Runs.{value}
 use Rattle.graph_scale.specs.Operands.{operand_at}
-use Rattle.graph_layout.specs.declared.laid.Use.TheVariants.{Anywhere, In}
-use Rattle.graph_layout.specs.Names.{scalar_named}
-use Rattle.graph_layout.specs.Laid.{behind_move, use_for, assigned_laid, begun_at}
+use Rattle.graph_laid.specs.declared.laid.Use.TheVariants.{Anywhere, In}
+use Rattle.graph_names.specs.Names.{scalar_named}
+use Rattle.graph_laid.specs.Laid.{behind_move, use_for, assigned_laid, begun_at}
 use Rattle.graph_layout.specs.Layout.{laid, place_laid}
-use Rattle.graph_layout.specs.Writes.{writes, writes_within, is_that, is_location_moved}
+use Rattle.graph_names.specs.Writes.{writes, writes_within, is_that, is_location_moved}
 use Rattle.graph_drafts.specs.Rules as rule
 use Rattle.graph_drafts.specs.Drafts.{Made, Goal, To, Unused, Either, use_of, noted, hold_location, held_location, stored}
 use Rattle.graph_code.specs.Code.{code_place}
-use Rattle.graph_code.specs.Steps.{assigned_memory}
+use Rattle.graph_steps.specs.Steps.{assigned_memory}
 use Rattle.graph_values.specs.Typed.{IsOf, IsPointerTo}
 use Rattle.graph_values.specs.Correspondence.{SameValue}
 use Rattle.graph_values.proofs.Leads.{Setting, names_in, size_in, depth_in, Local, World}

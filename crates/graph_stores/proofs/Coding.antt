@@ -31,7 +31,7 @@ use Rattle.c_memory.specs.Memory.{Memory as SourceMemory}
 use Rattle.c_states.specs.States.{State, Gives}
 use Rattle.c_meaning.specs.Expressions.{Calls}
 use Rattle.graph_core.specs.declared.instruction.Element.TheVariants.{Word}
-use Rattle.graph_layout.specs.Names.{scalar_of, scalar_named, object_of}
+use Rattle.graph_names.specs.Names.{scalar_of, scalar_named, object_of}
 use Rattle.graph_drafts.specs.Rules as rule
 use Rattle.graph_values.specs.Typed.{IsOf}
 use Rattle.graph_values.proofs.Words.{InWord, in_word}

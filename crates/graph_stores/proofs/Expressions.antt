@@ -38,14 +38,14 @@ use Rattle.c_states.specs.States.{State, Evaluated, Gives, Leaves, Ends, given, 
 use Rattle.c_meaning.specs.Expressions.{Calls, evaluate, evaluate_all, call}
 use Rattle.c_states.specs.Steps.{next_byte, updated as updated_value}
 use Rattle.graph_core.specs.declared.instruction.Element.TheVariants.{Word}
-use Rattle.graph_layout.specs.declared.laid.Use.{Use}
-use Rattle.graph_layout.specs.declared.laid.Use.TheVariants.{Anywhere, In, Nothing, Tested}
-use Rattle.graph_layout.specs.declared.names.Home.{Home}
-use Rattle.graph_layout.specs.declared.names.Home.TheVariants as home
-use Rattle.graph_layout.specs.Names.{scalar_in, scalar_of, scalar_named, object_in, object_of, home_of}
+use Rattle.graph_laid.specs.declared.laid.Use.{Use}
+use Rattle.graph_laid.specs.declared.laid.Use.TheVariants.{Anywhere, In, Nothing, Tested}
+use Rattle.graph_names.specs.declared.names.Home.{Home}
+use Rattle.graph_names.specs.declared.names.Home.TheVariants as home
+use Rattle.graph_names.specs.Names.{scalar_in, scalar_of, scalar_named, object_in, object_of, home_of}
 use Rattle.graph_drafts.specs.Rules as rule
 use Rattle.graph_drafts.specs.Rules.{steps_by}
-use Rattle.graph_code.specs.declared.change.Change.TheVariants as change
+use Rattle.graph_steps.specs.declared.change.Change.TheVariants as change
 use Rattle.graph_values.specs.Typed.{IsOf}
 use Rattle.graph_values.specs.Correspondence.{AreBytes}
 use Rattle.graph_values.proofs.Leads.{Setting, names_in, size_in, depth_in}

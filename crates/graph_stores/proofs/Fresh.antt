@@ -13,11 +13,11 @@ use Rattle.graph_core.specs.Graphs.{Operand, Name, StaticAddress, At}
 use Rattle.graph_scale.specs.Conversions.{word_of, keeps_bits, is_narrow, is_kept_constant}
 use Rattle.graph_scale.specs.Operands.{is_two, is_two_pointers}
 use Rattle.graph_scale.specs.Scales.{is_scaled}
-use Rattle.graph_layout.specs.declared.laid.Use.{Use}
-use Rattle.graph_layout.specs.declared.laid.Use.TheVariants.{Anywhere, In, Nothing, Tested}
-use Rattle.graph_layout.specs.Names.{Names, scalar_of, scalar_named, object_of, object_location, pick}
-use Rattle.graph_layout.specs.Writes.{writes, is_moved, is_location_moved}
-use Rattle.graph_layout.specs.Laid.{Laid, Pair, PlaceLaid, pair, behind_move, as_value, worked, use_for, operation_laid, standing, compared_laid, converted_laid, void_arms_laid, arms_laid, truth_laid, begun_at, assigned_laid, begun_behind, updated_laid, old_laid, left_memory_laid, step_laid, called_laid, loaded_laid, object_laid, moved_laid}
+use Rattle.graph_laid.specs.declared.laid.Use.{Use}
+use Rattle.graph_laid.specs.declared.laid.Use.TheVariants.{Anywhere, In, Nothing, Tested}
+use Rattle.graph_names.specs.Names.{Names, scalar_of, scalar_named, object_of, object_location, pick}
+use Rattle.graph_names.specs.Writes.{writes, is_moved, is_location_moved}
+use Rattle.graph_laid.specs.Laid.{Laid, Pair, PlaceLaid, pair, behind_move, as_value, worked, use_for, operation_laid, standing, compared_laid, converted_laid, void_arms_laid, arms_laid, truth_laid, begun_at, assigned_laid, begun_behind, updated_laid, old_laid, left_memory_laid, step_laid, called_laid, loaded_laid, object_laid, moved_laid}
 use Rattle.graph_layout.specs.Layout.{laid, place_laid, address_laid, passed_laid, scales}
 use Rattle.graph_values.proofs.Leads.{Setting, names_in, size_in}
 use Rattle.graph_values.proofs.Kept.{ScalarsFirst}

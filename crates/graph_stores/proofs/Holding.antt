@@ -11,8 +11,8 @@ use Rattle.graph_core.specs.Memory.{Object, Memory, bytes_of, address_in}
 use Rattle.graph_core.specs.Runs.{value}
 use Rattle.graph_core.specs.Values.{is_odd, pointer_at}
 use Rattle.graph_scale.specs.Operands.{held, operand_at}
-use Rattle.graph_layout.specs.Laid.{behind_move}
-use Rattle.graph_layout.specs.Writes.{is_moved, is_location_moved}
+use Rattle.graph_laid.specs.Laid.{behind_move}
+use Rattle.graph_names.specs.Writes.{is_moved, is_location_moved}
 use Rattle.graph_drafts.specs.Drafts.{Made, Goal, To, Unused, Either, hold_location, held_location}
 use Rattle.graph_values.proofs.Leads.{Setting, size_in, Local, World, then_leads}
 use Rattle.graph_values.proofs.Later.{OthersLater, others_trans, same_bytes}

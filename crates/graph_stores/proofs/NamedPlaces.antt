@@ -21,10 +21,10 @@ use Rattle.c_law_types.specs.declared.kind.Kind.TheVariants.{Wrong}
 use Rattle.c_law_types.specs.Kinds.{of_if, is_promoted, is_of, is_typed, is_scalar, is_integer, is_counted, is_operand, holds_scalar, holds_integer, holds_pointer, is_array, automatic_is, is_variable}
 use Rattle.c_law_types.specs.Expressions.{kind_of, is_place}
 use Rattle.graph_core.specs.Graphs.{Operand, Name, At}
-use Rattle.graph_layout.specs.declared.laid.Use.TheVariants.{Anywhere, In, Nothing, Tested}
-use Rattle.graph_layout.specs.Names.{Names, scalar_of, scalar_named, object_of, object_location, pick}
-use Rattle.graph_layout.specs.Writes.{writes}
-use Rattle.graph_layout.specs.Laid.{Laid, PlaceLaid, pair, behind_move, use_for, begun_at, begun_behind, void_arms_laid, arms_laid, assigned_laid, updated_laid, step_laid, called_laid, loaded_laid, object_laid}
+use Rattle.graph_laid.specs.declared.laid.Use.TheVariants.{Anywhere, In, Nothing, Tested}
+use Rattle.graph_names.specs.Names.{Names, scalar_of, scalar_named, object_of, object_location, pick}
+use Rattle.graph_names.specs.Writes.{writes}
+use Rattle.graph_laid.specs.Laid.{Laid, PlaceLaid, pair, behind_move, use_for, begun_at, begun_behind, void_arms_laid, arms_laid, assigned_laid, updated_laid, step_laid, called_laid, loaded_laid, object_laid}
 use Rattle.graph_layout.specs.Layout.{laid, place_laid, address_laid, passed_laid, scales}
 use Rattle.graph_scale.specs.Scales.{is_scaled}
 use Rattle.graph_values.proofs.Leads.{Setting, names_in, size_in}

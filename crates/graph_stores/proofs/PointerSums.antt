@@ -11,8 +11,8 @@ use Rattle.c_memory.specs.declared.value.Value as source-value
 use Rattle.c_memory.specs.declared.value.Value.TheVariants as source
 use Rattle.c_memory.specs.Memory.{read}
 use Rattle.c_states.specs.Steps.{decayed, if_read}
-use Rattle.graph_layout.specs.Writes.{writes}
-use Rattle.graph_code.specs.Steps.{in_turn}
+use Rattle.graph_names.specs.Writes.{writes}
+use Rattle.graph_steps.specs.Steps.{in_turn}
 use Rattle.c_memory.specs.Operations.{moved_by}
 use Rattle.c_states.specs.declared.event.Ending.TheVariants as ending
 use Rattle.c_states.specs.States.{State, Evaluated, Gives, Leaves, Ends, given, with, Both, Pair, NoPair, both, on_both}
@@ -24,8 +24,8 @@ use Rattle.graph_core.specs.Values.{operate}
 use Rattle.graph_scale.specs.Conversions.{word_of}
 use Rattle.graph_scale.specs.Operands.{held}
 use Rattle.graph_scale.specs.Scales.{is_scaled, scaled}
-use Rattle.graph_layout.specs.Names.{pick}
-use Rattle.graph_layout.specs.Laid.{behind_move}
+use Rattle.graph_names.specs.Names.{pick}
+use Rattle.graph_laid.specs.Laid.{behind_move}
 use Rattle.graph_drafts.specs.Rules.{move_by}
 use Rattle.graph_drafts.specs.Drafts.{Made, Goal, To, Unused, Either, before, target, follow, code_scaled_pair}
 use Rattle.graph_values.specs.Correspondence.{SameValue}

@@ -26,8 +26,8 @@ use Rattle.graph_core.specs.Memory.{is_live}
 use Rattle.graph_core.specs.Runs.{put, step, value, branched}
 use Rattle.graph_core.specs.Values.{operate, same, is_true as is_known}
 use Rattle.graph_scale.specs.Operands.{is_two_pointers}
-use Rattle.graph_layout.specs.Names.{pick}
-use Rattle.graph_layout.specs.Laid.{behind_move}
+use Rattle.graph_names.specs.Names.{pick}
+use Rattle.graph_laid.specs.Laid.{behind_move}
 use Rattle.graph_drafts.specs.Drafts.{Made, Goal, To, Unused, Either, before, target, follow, branch_by, compare_pointers_by, compared_pointers, compared_pointers_value}
 use Rattle.graph_values.specs.Correspondence.{SamePointer, SameValue}
 use Rattle.graph_values.proofs.Leads.{Setting, names_in, size_in, Local, World, at, put_here}

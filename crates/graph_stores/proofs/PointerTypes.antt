@@ -39,7 +39,7 @@ use Rattle.c_states.specs.declared.event.Ending.TheVariants.{Undefined}
 use Rattle.c_states.specs.States.{State, Evaluated, Gives, Leaves, Ends, given, with, usable, both, on_both}
 use Rattle.c_meaning.specs.Expressions.{Calls, evaluate, designate}
 use Rattle.c_states.specs.Steps.{load, store, decayed, located, store_if, replace_if, one}
-use Rattle.graph_code.specs.declared.change.Change as declared-change
+use Rattle.graph_steps.specs.declared.change.Change as declared-change
 use Rattle.graph_values.specs.Typed.{IsOf, IsPointerTo}
 use Rattle.graph_values.proofs.Leads.{Setting, depth_in}
 use Rattle.graph_values.proofs.Later.{some_same, later_refl}

@@ -27,9 +27,9 @@ use Rattle.graph_scale.specs.Conversions.{word_of, is_narrow, is_within}
 use Rattle.graph_scale.specs.Scales.{scaled}
 use Rattle.graph_drafts.specs.Rules.{truncation_to, operation_for, move_by}
 use Rattle.graph_drafts.specs.Drafts.{Made, before, scale, renew}
-use Rattle.graph_code.specs.declared.change.Change as declared-change
-use Rattle.graph_code.specs.declared.change.Change.TheVariants as change
-use Rattle.graph_code.specs.Steps.{changed}
+use Rattle.graph_steps.specs.declared.change.Change as declared-change
+use Rattle.graph_steps.specs.declared.change.Change.TheVariants as change
+use Rattle.graph_steps.specs.Steps.{changed}
 use Rattle.graph_values.specs.Typed.{IsOf}
 use Rattle.graph_values.specs.Correspondence.{SameValue}
 use Rattle.graph_values.proofs.Leads.{Setting, size_in, Local, World, set_name, at, stays, goes, then_leads, put_here, put_elsewhere, less_other}

@@ -22,14 +22,14 @@ use Rattle.graph_core.specs.declared.value.Value.TheVariants.{Number}
 use Rattle.graph_core.specs.Graphs.{Operand, Name, Constant, Move}
 use Rattle.graph_core.specs.Runs.{value}
 use Rattle.graph_scale.specs.Operands.{held}
-use Rattle.graph_layout.specs.declared.laid.Use.TheVariants.{Anywhere}
-use Rattle.graph_layout.specs.Names.{scalar_of}
-use Rattle.graph_layout.specs.Laid.{Laid, behind_move}
+use Rattle.graph_laid.specs.declared.laid.Use.TheVariants.{Anywhere}
+use Rattle.graph_names.specs.Names.{scalar_of}
+use Rattle.graph_laid.specs.Laid.{Laid, behind_move}
 use Rattle.graph_layout.specs.Layout.{laid}
-use Rattle.graph_layout.specs.Writes.{writes}
+use Rattle.graph_names.specs.Writes.{writes}
 use Rattle.graph_drafts.specs.Drafts.{Made, Goal, To, Unused, Either, before, leaf, note, noted, move_if}
-use Rattle.graph_code.specs.declared.change.Change as declared-change
-use Rattle.graph_code.specs.Steps.{changed, renewed_scalar, left_scalar, one_at}
+use Rattle.graph_steps.specs.declared.change.Change as declared-change
+use Rattle.graph_steps.specs.Steps.{changed, renewed_scalar, left_scalar, one_at}
 use Rattle.graph_values.specs.Typed.{IsOf}
 use Rattle.graph_values.specs.Correspondence.{SameValue}
 use Rattle.graph_values.proofs.Tests.{HasWord}

@@ -20,16 +20,16 @@ use Rattle.c_states.specs.States.{State, Evaluated, with, on_both}
 use Rattle.c_meaning.specs.Expressions.{Calls, evaluate, designate}
 use Rattle.c_states.specs.Steps.{located, store_if, replace_if, one}
 use Rattle.graph_core.specs.Graphs.{Operand, Name, Constant, Instruction, End}
-use Rattle.graph_layout.specs.declared.laid.Use.TheVariants.{Anywhere}
-use Rattle.graph_layout.specs.Names.{scalar_of, scalar_named, pick}
-use Rattle.graph_layout.specs.Laid.{Laid, behind_move, begun_behind, updated_laid, step_laid}
+use Rattle.graph_laid.specs.declared.laid.Use.TheVariants.{Anywhere}
+use Rattle.graph_names.specs.Names.{scalar_of, scalar_named, pick}
+use Rattle.graph_laid.specs.Laid.{Laid, behind_move, begun_behind, updated_laid, step_laid}
 use Rattle.graph_layout.specs.Layout.{laid, place_laid}
-use Rattle.graph_layout.specs.Writes.{writes, is_that}
+use Rattle.graph_names.specs.Writes.{writes, is_that}
 use Rattle.graph_drafts.specs.Rules as rule
 use Rattle.graph_drafts.specs.Drafts.{Made, Goal, To, Unused, Either}
 use Rattle.graph_code.specs.declared.change.Change as declared-change
 use Rattle.graph_code.specs.Code.{code_place}
-use Rattle.graph_code.specs.Steps.{changed_element, takes_more, updated, stepped}
+use Rattle.graph_steps.specs.Steps.{changed_element, takes_more, updated, stepped}
 use Rattle.graph_values.specs.Typed.{IsOf}
 use Rattle.graph_values.proofs.Leads.{Setting, names_in, size_in, depth_in, Local, World, stays}
 use Rattle.graph_values.proofs.Later.{others_refl}

@@ -27,16 +27,16 @@ use Rattle.c_states.specs.Steps.{updated as updated_value, one}
 use Rattle.graph_core.specs.declared.instruction.Element.TheVariants.{Word}
 use Rattle.graph_scale.specs.Conversions.{is_narrow}
 use Rattle.graph_scale.specs.Scales.{is_scaled}
-use Rattle.graph_layout.specs.declared.laid.Use.TheVariants.{Anywhere}
-use Rattle.graph_layout.specs.Names.{scalar_of, scalar_named}
-use Rattle.graph_layout.specs.Laid.{begun_behind, updated_laid, step_laid}
+use Rattle.graph_laid.specs.declared.laid.Use.TheVariants.{Anywhere}
+use Rattle.graph_names.specs.Names.{scalar_of, scalar_named}
+use Rattle.graph_laid.specs.Laid.{begun_behind, updated_laid, step_laid}
 use Rattle.graph_layout.specs.Layout.{laid, place_laid}
-use Rattle.graph_layout.specs.Writes.{writes, is_that}
+use Rattle.graph_names.specs.Writes.{writes, is_that}
 use Rattle.graph_drafts.specs.Rules as rule
 use Rattle.graph_drafts.specs.Rules.{steps_by, integer_element}
 use Rattle.graph_code.specs.declared.change.Change.TheVariants as change
 use Rattle.graph_code.specs.Code.{code_place}
-use Rattle.graph_code.specs.Steps.{updated, stepped}
+use Rattle.graph_steps.specs.Steps.{updated, stepped}
 use Rattle.graph_values.proofs.Leads.{Setting, names_in, depth_in}
 use Rattle.graph_values.proofs.Kept.{ScalarsFirst}
 use Rattle.graph_values.proofs.Results.{Result}

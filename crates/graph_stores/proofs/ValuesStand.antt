@@ -9,10 +9,10 @@ use Rattle.c_tree.specs.TypedExpressions.{RvalueTree, LvalueTree, Constant, Null
 use Rattle.c_value_types.specs.ValueTypes.{type_of, given_by, integer_in, is_void}
 use Rattle.graph_core.specs.Graphs.{Name}
 use Rattle.graph_scale.specs.Conversions.{keeps_bits, is_narrow, is_kept_constant}
-use Rattle.graph_layout.specs.declared.laid.Use.TheVariants.{Anywhere, In, Nothing, Tested}
-use Rattle.graph_layout.specs.Names.{Names, scalar_named, object_of, object_location, pick}
-use Rattle.graph_layout.specs.Writes.{writes}
-use Rattle.graph_layout.specs.Laid.{Laid, PlaceLaid, use_for, operation_laid, standing, converted_laid, void_arms_laid, arms_laid, begun_at, assigned_laid, begun_behind, updated_laid, step_laid, called_laid, loaded_laid, object_laid}
+use Rattle.graph_laid.specs.declared.laid.Use.TheVariants.{Anywhere, In, Nothing, Tested}
+use Rattle.graph_names.specs.Names.{Names, scalar_named, object_of, object_location, pick}
+use Rattle.graph_names.specs.Writes.{writes}
+use Rattle.graph_laid.specs.Laid.{Laid, PlaceLaid, use_for, operation_laid, standing, converted_laid, void_arms_laid, arms_laid, begun_at, assigned_laid, begun_behind, updated_laid, step_laid, called_laid, loaded_laid, object_laid}
 use Rattle.graph_layout.specs.Layout.{laid, place_laid, address_laid, passed_laid, scales}
 use Rattle.graph_values.proofs.Leads.{Setting, names_in, size_in}
 use Rattle.graph_values.proofs.Kept.{ScalarsFirst}

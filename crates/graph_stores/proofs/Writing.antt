@@ -19,7 +19,7 @@ use Rattle.graph_core.specs.Graphs.{Operand, Location, Instruction, Store, End}
 use Rattle.graph_core.specs.Memory.{Memory, write, write_in, written_in}
 use Rattle.graph_core.specs.Runs.{Goes, Wild, step, value, pointed, with_memory}
 use Rattle.graph_core.specs.Values.{is_odd, as_element}
-use Rattle.graph_layout.specs.Writes.{writes}
+use Rattle.graph_names.specs.Writes.{writes}
 use Rattle.graph_drafts.specs.Rules as rule
 use Rattle.graph_drafts.specs.Drafts.{Goal, To, Unused, Either, leaf, stored}
 use Rattle.graph_values.specs.Typed.{PointsInto, IsOf, IsPointerTo}

@@ -14,10 +14,10 @@ use Rattle.graph_core.specs.Graphs.{Operand, Instruction, End}
 use Rattle.graph_core.specs.Runs.{value}
 use Rattle.graph_core.specs.Memory.{Memory as UnitMemory}
 use Rattle.graph_scale.specs.Operands.{held}
-use Rattle.graph_layout.specs.declared.laid.Use.TheVariants.{Anywhere}
-use Rattle.graph_layout.specs.Laid.{Laid, behind_move}
+use Rattle.graph_laid.specs.declared.laid.Use.TheVariants.{Anywhere}
+use Rattle.graph_laid.specs.Laid.{Laid, behind_move}
 use Rattle.graph_layout.specs.Layout.{laid, passed_laid}
-use Rattle.graph_layout.specs.Writes.{writes, writes_any, is_moved}
+use Rattle.graph_names.specs.Writes.{writes, writes_any, is_moved}
 use Rattle.graph_drafts.specs.Drafts.{Made, Goal, To, move_if}
 use Rattle.graph_code.specs.Code.{code_all}
 use Rattle.graph_values.specs.Typed.{IsOf}

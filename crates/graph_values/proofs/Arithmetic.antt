@@ -9,7 +9,7 @@ use Rattle.c_tree.specs.declared.types.IntegerType.TheVariants.{Char, SignedChar
 use Rattle.c_tree.specs.declared.typed_expression.Arithmetic.TheVariants as arithmetic-is
 use Rattle.c_law_types.specs.Kinds.{is_promoted}
 use Rattle.c_memory.specs.Memory.{Memory}
-use Rattle.graph_layout.specs.Laid.{Pair}
+use Rattle.graph_laid.specs.Laid.{Pair}
 use Rattle.c_tree.specs.declared.typed_expression.Arithmetic as declared
 use Rattle.c_tree.specs.declared.object_type.ValueType.TheVariants.{Integer}
 use Rattle.c_tree.specs.TypedExpressions.{RvalueTree, Arithmetic}
@@ -30,7 +30,7 @@ use Rattle.graph_core.specs.Graphs.{Operand, Name, Operate}
 use Rattle.graph_core.specs.Runs.{value}
 use Rattle.graph_core.specs.Values.{operate}
 use Rattle.graph_scale.specs.Conversions.{word_of}
-use Rattle.graph_layout.specs.Names.{Names, pick}
+use Rattle.graph_names.specs.Names.{Names, pick}
 use Rattle.graph_drafts.specs.Drafts.{Made, Goal, before, target, follow, operated}
 use Rattle.graph_drafts.specs.Rules.{operation_for}
 use Rattle.graph_values.specs.Correspondence.{SameValue}

@@ -26,9 +26,9 @@ use Rattle.graph_core.specs.Memory.{Memory as UnitMemory}
 use Rattle.graph_core.specs.Runs.{value}
 use Rattle.graph_core.specs.Values.{is_odd}
 use Rattle.graph_scale.specs.Conversions.{word_of}
-use Rattle.graph_layout.specs.declared.laid.Use.TheVariants.{Anywhere}
-use Rattle.graph_layout.specs.Names.{pick}
-use Rattle.graph_layout.specs.Laid.{called_laid}
+use Rattle.graph_laid.specs.declared.laid.Use.TheVariants.{Anywhere}
+use Rattle.graph_names.specs.Names.{pick}
+use Rattle.graph_laid.specs.Laid.{called_laid}
 use Rattle.graph_layout.specs.Layout.{passed_laid}
 use Rattle.graph_drafts.specs.Rules.{callee_for}
 use Rattle.graph_drafts.specs.Drafts.{Made, Goal, To, Unused, Either, before, leaf, zero as zero_operand, target, follow, called_by}

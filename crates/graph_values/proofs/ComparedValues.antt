@@ -35,8 +35,8 @@ use Rattle.graph_core.specs.Runs.{value}
 use Rattle.graph_core.specs.Values.{operate}
 use Rattle.graph_scale.specs.Conversions.{word_of}
 use Rattle.graph_scale.specs.Operands.{is_two}
-use Rattle.graph_layout.specs.Laid.{Pair, behind_move}
-use Rattle.graph_layout.specs.Names.{pick}
+use Rattle.graph_laid.specs.Laid.{Pair, behind_move}
+use Rattle.graph_names.specs.Names.{pick}
 use Rattle.graph_drafts.specs.Drafts.{Made, Goal, To, Unused, Either, before, target, follow, branch_by, compare_by, compared}
 use Rattle.graph_drafts.specs.Rules.{less_by}
 use Rattle.graph_values.specs.Correspondence.{SameValue}

@@ -34,8 +34,8 @@ use Rattle.graph_core.specs.Values.{operate, holds, is_true as is_known}
 use Rattle.graph_core.specs.declared.block.Comparison.TheVariants as branch
 use Rattle.graph_scale.specs.Conversions.{word_of}
 use Rattle.graph_scale.specs.Operands.{is_two}
-use Rattle.graph_layout.specs.Laid.{Pair, behind_move}
-use Rattle.graph_layout.specs.Names.{pick}
+use Rattle.graph_laid.specs.Laid.{Pair, behind_move}
+use Rattle.graph_names.specs.Names.{pick}
 use Rattle.graph_drafts.specs.Drafts.{Made, Goal, To, Unused, Either, before, target, follow, less, not_less, branch_by, compare_by, compared, compared_value}
 use Rattle.graph_drafts.specs.Rules.{less_by}
 use Rattle.graph_values.specs.Correspondence.{SameValue}

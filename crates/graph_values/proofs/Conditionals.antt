@@ -10,14 +10,14 @@ use Rattle.c_meaning.specs.Expressions.{Calls, evaluate}
 use Rattle.c_value_types.specs.ValueTypes.{type_of, is_void}
 use Rattle.graph_core.specs.Graphs.{Operand, Name, Instruction, End, Jump, Block}
 use Rattle.graph_core.specs.Runs.{entered}
-use Rattle.graph_layout.specs.declared.laid.Use.{Use}
-use Rattle.graph_layout.specs.declared.laid.Use.TheVariants.{Anywhere, In, Nothing, Tested as UseTested}
-use Rattle.graph_layout.specs.Names.{Names, pick}
-use Rattle.graph_layout.specs.Laid.{Laid, behind_move, void_arms_laid, arms_laid}
+use Rattle.graph_laid.specs.declared.laid.Use.{Use}
+use Rattle.graph_laid.specs.declared.laid.Use.TheVariants.{Anywhere, In, Nothing, Tested as UseTested}
+use Rattle.graph_names.specs.Names.{Names, pick}
+use Rattle.graph_laid.specs.Laid.{Laid, behind_move, void_arms_laid, arms_laid}
 use Rattle.graph_layout.specs.Layout.{laid}
-use Rattle.graph_layout.specs.Writes.{writes}
+use Rattle.graph_names.specs.Writes.{writes}
 use Rattle.graph_drafts.specs.Drafts.{Made, Goal, To, Unused, Either, ending, leaf, closed, label_of}
-use Rattle.graph_code.specs.Steps.{arm_use, arm_value, arm_goal}
+use Rattle.graph_steps.specs.Steps.{arm_use, arm_value, arm_goal}
 use Rattle.graph_values.specs.Correspondence.{SameValue}
 use Rattle.graph_values.proofs.Leads.{Setting, names_in, size_in, depth_in, Local, World, at, Leads, stays, goes, then_leads, less_other}
 use Rattle.graph_values.proofs.Later.{others_refl}

@@ -13,12 +13,12 @@ use Rattle.graph_core.specs.Graphs as unit
 use Rattle.graph_core.specs.Graphs.{Operand, Name, Instruction, End, Jump, Block}
 use Rattle.graph_core.specs.Runs.{entered}
 use Rattle.graph_scale.specs.Conversions.{word_of}
-use Rattle.graph_layout.specs.declared.laid.Use.{Use}
-use Rattle.graph_layout.specs.declared.laid.Use.TheVariants.{Anywhere, In, Nothing, Tested as UseTested}
-use Rattle.graph_layout.specs.Names.{Names, pick}
-use Rattle.graph_layout.specs.Laid.{behind_own}
+use Rattle.graph_laid.specs.declared.laid.Use.{Use}
+use Rattle.graph_laid.specs.declared.laid.Use.TheVariants.{Anywhere, In, Nothing, Tested as UseTested}
+use Rattle.graph_names.specs.Names.{Names, pick}
+use Rattle.graph_laid.specs.Laid.{behind_own}
 use Rattle.graph_layout.specs.Layout.{laid}
-use Rattle.graph_layout.specs.Writes.{writes}
+use Rattle.graph_names.specs.Writes.{writes}
 use Rattle.graph_drafts.specs.Drafts.{Made, Goal, To, Unused, Either, use_of, leaf, closed, label_of, forked}
 use Rattle.graph_code.specs.Code.{code}
 use Rattle.graph_values.specs.Correspondence.{SameValue}

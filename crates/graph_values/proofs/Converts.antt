@@ -25,9 +25,9 @@ use Rattle.graph_core.specs.Graphs.{Operand, Name, Truncate, Instruction, End}
 use Rattle.graph_core.specs.Runs.{Goes, step, value}
 use Rattle.graph_core.specs.Values.{truncate}
 use Rattle.graph_scale.specs.Conversions.{word_of, is_narrow, is_within, keeps_bits, is_kept_constant}
-use Rattle.graph_layout.specs.declared.laid.Use.TheVariants.{Anywhere}
-use Rattle.graph_layout.specs.Names.{pick}
-use Rattle.graph_layout.specs.Laid.{Laid, as_value, converted_laid, standing, operation_laid}
+use Rattle.graph_laid.specs.declared.laid.Use.TheVariants.{Anywhere}
+use Rattle.graph_names.specs.Names.{pick}
+use Rattle.graph_laid.specs.Laid.{Laid, as_value, converted_laid, standing, operation_laid}
 use Rattle.graph_layout.specs.Layout.{laid}
 use Rattle.graph_drafts.specs.Rules.{truncation_to}
 use Rattle.graph_drafts.specs.Drafts.{Made, Goal, To, Unused, Either, before, leaf, target, follow, valued, operated, tested as tested_code}

@@ -27,9 +27,9 @@ use Rattle.c_memory.specs.Memory.{Memory}
 use Rattle.c_memory.specs.Operations.{arithmetic}
 use Rattle.c_states.specs.States.{State, Evaluated, given}
 use Rattle.c_meaning.specs.Expressions.{Calls, evaluate}
-use Rattle.graph_layout.specs.declared.laid.Use.{Use}
-use Rattle.graph_layout.specs.declared.laid.Use.TheVariants.{Anywhere, Nothing, Tested}
-use Rattle.graph_layout.specs.Names.{scalar_of}
+use Rattle.graph_laid.specs.declared.laid.Use.{Use}
+use Rattle.graph_laid.specs.declared.laid.Use.TheVariants.{Anywhere, Nothing, Tested}
+use Rattle.graph_names.specs.Names.{scalar_of}
 use Rattle.graph_values.proofs.Words.{in_range_is}
 use Rattle.graph_values.proofs.Leads.{Setting, names_in, size_in, depth_in}
 use Rattle.graph_values.proofs.Later.{later_refl}

@@ -16,7 +16,7 @@ use Rattle.graph_core.specs.declared.value.Owner.TheVariants.{Static as UnitStat
 use Rattle.graph_core.specs.Graphs.{StaticObject, UnitForm}
 use Rattle.graph_core.specs.Memory.{Object, Memory}
 use Rattle.graph_core.specs.Runs.{Activation, put}
-use Rattle.graph_layout.specs.Names.{Names, names_of, scalar_of, object_of}
+use Rattle.graph_names.specs.Names.{Names, names_of, scalar_of, object_of}
 use Rattle.graph_drafts.specs.Rules as rule
 use Rattle.event_runs.specs.Agreement.{Pairs}
 use Rattle.graph_values.specs.Typed.{AreTyped, OwnersDiffer}

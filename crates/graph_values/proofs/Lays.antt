@@ -10,11 +10,11 @@ use Rattle.c_value_types.specs.ValueTypes.{type_of, given_by, is_void, integer_i
 use Rattle.graph_core.specs.Graphs as unit
 use Rattle.graph_scale.specs.Conversions.{keeps_bits, is_narrow, word_of}
 use Rattle.graph_scale.specs.Operands.{is_two, is_two_pointers}
-use Rattle.graph_layout.specs.declared.laid.Use.{Use}
-use Rattle.graph_layout.specs.declared.laid.Use.TheVariants.{Anywhere, In, Nothing, Tested}
-use Rattle.graph_layout.specs.Names.{Names, pick, scalar_of, scalar_named, object_of}
-use Rattle.graph_layout.specs.Writes.{writes, writes_any, is_moved, is_location_moved}
-use Rattle.graph_layout.specs.Laid.{Laid, Pair, PlaceLaid, pair, behind_move, as_value, worked, use_for, operation_laid, converted_laid, behind_own, arms_top, choice_top, begun_at, begun_behind}
+use Rattle.graph_laid.specs.declared.laid.Use.{Use}
+use Rattle.graph_laid.specs.declared.laid.Use.TheVariants.{Anywhere, In, Nothing, Tested}
+use Rattle.graph_names.specs.Names.{Names, pick, scalar_of, scalar_named, object_of}
+use Rattle.graph_names.specs.Writes.{writes, writes_any, is_moved, is_location_moved}
+use Rattle.graph_laid.specs.Laid.{Laid, Pair, PlaceLaid, pair, behind_move, as_value, worked, use_for, operation_laid, converted_laid, behind_own, arms_top, choice_top, begun_at, begun_behind}
 use Rattle.graph_layout.specs.Layout.{laid, place_laid, address_laid, passed_laid, named_address, scales}
 use Rattle.graph_values.proofs.Operands.{behind_le}
 use Rattle.graph_values.proofs.Arithmetic.{pick_between}

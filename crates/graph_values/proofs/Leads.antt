@@ -8,7 +8,7 @@ use Rattle.graph_core.specs.declared.value.Shadow.{Shadow}
 use Rattle.graph_core.specs.Graphs.{Instruction, End, Graph, UnitForm}
 use Rattle.graph_core.specs.Memory.{Memory}
 use Rattle.graph_core.specs.Runs.{Activation, Configuration, Event, Stepped, Goes, Shows, put, step}
-use Rattle.graph_layout.specs.Names.{Names, names_of}
+use Rattle.graph_names.specs.Names.{Names, names_of}
 
 -- Where the code of an expression runs: the program and its unit, the function with its number and graph, the place, the activation's first object, the activations that wait, whether
 -- temporaries are used again, and how many blocks the graph has.

@@ -27,11 +27,11 @@ use Rattle.graph_core.specs.Runs.{Event, Put, Exited, Stepped, Goes, Shows, Ends
 use Rattle.graph_core.specs.Runs as run
 use Rattle.graph_core.specs.Values.{is_odd}
 use Rattle.graph_scale.specs.Conversions.{word_of}
-use Rattle.graph_layout.specs.declared.laid.Use.TheVariants.{Anywhere}
-use Rattle.graph_layout.specs.Names.{pick}
-use Rattle.graph_layout.specs.Laid.{called_laid}
+use Rattle.graph_laid.specs.declared.laid.Use.TheVariants.{Anywhere}
+use Rattle.graph_names.specs.Names.{pick}
+use Rattle.graph_laid.specs.Laid.{called_laid}
 use Rattle.graph_layout.specs.Layout.{laid, passed_laid}
-use Rattle.graph_layout.specs.Writes.{writes_any}
+use Rattle.graph_names.specs.Writes.{writes_any}
 use Rattle.graph_drafts.specs.Rules.{callee_for}
 use Rattle.graph_drafts.specs.Drafts.{Made, Goal, To, Unused, Either, before, leaf, zero as zero_operand, target, follow, called_by}
 use Rattle.event_runs.specs.Agreement.{Pairs}

@@ -23,9 +23,9 @@ use Rattle.graph_core.specs.Graphs as unit
 use Rattle.graph_core.specs.Graphs.{Operand, Name, Location, At, Automatic, Static, Instruction, End}
 use Rattle.graph_core.specs.Memory.{read}
 use Rattle.graph_core.specs.Runs.{Goes, step, value, pointed, wrote_some}
-use Rattle.graph_layout.specs.declared.laid.Use.TheVariants.{Anywhere}
-use Rattle.graph_layout.specs.Names.{scalar_named, pick}
-use Rattle.graph_layout.specs.Laid.{loaded_laid}
+use Rattle.graph_laid.specs.declared.laid.Use.TheVariants.{Anywhere}
+use Rattle.graph_names.specs.Names.{scalar_named, pick}
+use Rattle.graph_laid.specs.Laid.{loaded_laid}
 use Rattle.graph_layout.specs.Layout.{laid, place_laid}
 use Rattle.graph_drafts.specs.Rules as rule
 use Rattle.graph_drafts.specs.Drafts.{Made, Goal, leaf, operated}

@@ -27,8 +27,8 @@ use Rattle.graph_core.specs.Memory.{Memory, is_live}
 use Rattle.graph_core.specs.Runs.{Goes, step, value}
 use Rattle.graph_core.specs.Values.{operate, same}
 use Rattle.graph_scale.specs.Conversions.{word_of}
-use Rattle.graph_layout.specs.declared.laid.Use.TheVariants.{Anywhere}
-use Rattle.graph_layout.specs.Names.{pick}
+use Rattle.graph_laid.specs.declared.laid.Use.TheVariants.{Anywhere}
+use Rattle.graph_names.specs.Names.{pick}
 use Rattle.graph_layout.specs.Layout.{laid}
 use Rattle.graph_drafts.specs.Drafts.{Made, Goal, To, Unused, Either, operated, zero as zero_operand}
 use Rattle.graph_values.specs.Correspondence.{SamePointer, points, ended, SameValue}

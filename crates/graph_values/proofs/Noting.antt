@@ -18,7 +18,7 @@ use Rattle.graph_core.specs.declared.value.Shadow.TheVariants.{Known}
 use Rattle.graph_core.specs.Memory.{Memory, bytes_of}
 use Rattle.graph_core.specs.Runs.{Activation, put}
 use Rattle.graph_core.specs.Values.{is_odd}
-use Rattle.graph_layout.specs.Names.{Names, names_of, scalar_of}
+use Rattle.graph_names.specs.Names.{Names, names_of, scalar_of}
 use Rattle.graph_values.specs.Typed.{OwnersDiffer}
 use Rattle.graph_values.specs.Correspondence.{SameObject, SamePointer, points, ended, SameValue, SameValues, IsInMemory}
 use Rattle.graph_values.proofs.Leads.{Setting, names_in, depth_in, Local, World, put_here, put_elsewhere, same_number}

@@ -10,13 +10,13 @@ use Rattle.graph_core.specs.declared.value.Value.{Value}
 use Rattle.graph_core.specs.Graphs.{Operand, Name, Constant as Word, StaticAddress, At, Instruction, End, StaticObject}
 use Rattle.graph_core.specs.Runs.{value}
 use Rattle.graph_scale.specs.Operands.{held}
-use Rattle.graph_layout.specs.declared.laid.Use.TheVariants.{Anywhere}
-use Rattle.graph_layout.specs.Laid.{Pair, pair, behind_move}
+use Rattle.graph_laid.specs.declared.laid.Use.TheVariants.{Anywhere}
+use Rattle.graph_laid.specs.Laid.{Pair, pair, behind_move}
 use Rattle.graph_layout.specs.Layout.{laid, place_laid}
-use Rattle.graph_layout.specs.Writes.{writes, is_moved}
+use Rattle.graph_names.specs.Writes.{writes, is_moved}
 use Rattle.graph_drafts.specs.Drafts.{Made, Goal, To, Unused, Either, move_if}
 use Rattle.graph_code.specs.Code.{code}
-use Rattle.graph_code.specs.Steps.{in_turn}
+use Rattle.graph_steps.specs.Steps.{in_turn}
 use Rattle.graph_values.specs.Correspondence.{SameValue}
 use Rattle.graph_values.proofs.Leads.{Setting, names_in, size_in, depth_in, Local, World, set_name, at, Leads, stays, goes, put_here, put_elsewhere, less_other}
 use Rattle.graph_values.proofs.Later.{others_refl, value_later}

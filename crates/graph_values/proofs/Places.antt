@@ -24,10 +24,10 @@ use Rattle.graph_core.specs.Graphs.{Operand, Location, At, Instruction, End, Sta
 use Rattle.graph_core.specs.Memory.{Object, Memory, bytes_of, static_bytes}
 use Rattle.graph_core.specs.Values.{pointer_at, size_of}
 use Rattle.graph_core.specs.Runs.{value, pointed, static_address}
-use Rattle.graph_layout.specs.declared.laid.Use.TheVariants.{Anywhere}
-use Rattle.graph_layout.specs.Names.{object_of, object_location}
+use Rattle.graph_laid.specs.declared.laid.Use.TheVariants.{Anywhere}
+use Rattle.graph_names.specs.Names.{object_of, object_location}
 use Rattle.graph_layout.specs.Layout.{laid, place_laid}
-use Rattle.graph_layout.specs.Writes.{writes, writes_within}
+use Rattle.graph_names.specs.Writes.{writes, writes_within}
 use Rattle.graph_drafts.specs.Drafts.{Made, Goal, To}
 use Rattle.graph_code.specs.Code.{code_place}
 use Rattle.graph_values.specs.Correspondence.{variable_of, owner_of, IsInMemory, SameObject, SamePointer, points, SameValue}

@@ -28,16 +28,16 @@ use Rattle.graph_core.specs.Runs.{Stepped, Goes, Wild, put, step, at_place}
 use Rattle.graph_core.specs.Values.{is_odd}
 use Rattle.graph_core.specs.declared.value.Shadow.TheVariants.{Known}
 use Rattle.graph_scale.specs.Conversions.{word_of}
-use Rattle.graph_layout.specs.declared.laid.Use.TheVariants.{Anywhere}
-use Rattle.graph_layout.specs.Names.{Names, scalar_of, pick}
-use Rattle.graph_layout.specs.Laid.{loaded_laid, assigned_laid, begun_at, use_for}
+use Rattle.graph_laid.specs.declared.laid.Use.TheVariants.{Anywhere}
+use Rattle.graph_names.specs.Names.{Names, scalar_of, pick}
+use Rattle.graph_laid.specs.Laid.{loaded_laid, assigned_laid, begun_at, use_for}
 use Rattle.graph_layout.specs.Layout.{laid, place_laid}
-use Rattle.graph_layout.specs.Writes.{writes, is_that, is_location_moved}
+use Rattle.graph_names.specs.Writes.{writes, is_that, is_location_moved}
 use Rattle.graph_drafts.specs.Drafts.{Made, Goal, To, Unused, Either, before, zero as zero_operand, leaf, note, noted, operated, hold_location, use_of}
 use Rattle.graph_drafts.specs.Rules.{element_of}
 use Rattle.graph_code.specs.Code.{code, code_place}
-use Rattle.graph_code.specs.Steps.{assigned_memory}
-use Rattle.graph_layout.specs.Laid.{behind_move}
+use Rattle.graph_steps.specs.Steps.{assigned_memory}
+use Rattle.graph_laid.specs.Laid.{behind_move}
 use Rattle.graph_values.specs.Typed.{IsOf}
 use Rattle.graph_values.specs.Correspondence.{SameValue}
 use Rattle.graph_values.proofs.Words.{in_word, both_true}

@@ -11,10 +11,10 @@ use Rattle.c_meaning.specs.Expressions.{Calls, evaluate}
 use Rattle.c_tree.specs.Programs.{ProgramTree}
 use Rattle.graph_core.specs.Graphs.{Operand, Instruction, End}
 use Rattle.graph_core.specs.Runs.{value}
-use Rattle.graph_layout.specs.declared.laid.Use.TheVariants.{Anywhere, Nothing}
-use Rattle.graph_layout.specs.Names.{pick}
+use Rattle.graph_laid.specs.declared.laid.Use.TheVariants.{Anywhere, Nothing}
+use Rattle.graph_names.specs.Names.{pick}
 use Rattle.graph_layout.specs.Layout.{laid}
-use Rattle.graph_layout.specs.Writes.{writes}
+use Rattle.graph_names.specs.Writes.{writes}
 use Rattle.graph_drafts.specs.Drafts.{Made, Goal, To, Unused, Either, leaf, zero as zero_operand}
 use Rattle.graph_values.proofs.Leads.{Setting, names_in, size_in, depth_in, Local, World, set_name, at, stays, goes, put_elsewhere}
 use Rattle.graph_values.proofs.Later.{others_refl}

@@ -28,8 +28,8 @@ use Rattle.graph_core.specs.Graphs.{Operand, Name, Operate, Instruction, End}
 use Rattle.graph_core.specs.Runs.{value}
 use Rattle.graph_core.specs.Values.{operate}
 use Rattle.graph_scale.specs.Conversions.{word_of}
-use Rattle.graph_layout.specs.declared.laid.Use.TheVariants.{Anywhere}
-use Rattle.graph_layout.specs.Names.{pick}
+use Rattle.graph_laid.specs.declared.laid.Use.TheVariants.{Anywhere}
+use Rattle.graph_names.specs.Names.{pick}
 use Rattle.graph_layout.specs.Layout.{laid}
 use Rattle.graph_drafts.specs.Drafts.{Made, Goal, To, Unused, Either, leaf, valued, operated}
 use Rattle.graph_values.specs.Correspondence.{SameValue}

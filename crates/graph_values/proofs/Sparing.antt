@@ -4,8 +4,8 @@ use Rattle.std.specs.Prelude.{◌==◌}
 use Rattle.std.proofs.lemmas.Bool.Decides.{nat_tests}
 use Rattle.c_tree.specs.declared.object_type.Object.TheVariants as object
 use Rattle.c_tree.specs.TypedExpressions.{RvalueTree, LvalueTree, ArgumentTrees, Constant, Null, Load, Decay, AddressOf, Convert, Discard, Signed, Not, Arithmetic, Compare, ComparePointers, Move, MoveFrom, Difference, And, Or, Conditional, Comma, Assign, Update, UpdatePointer, Step, StepPointer, Call, Named, Target, Element, ElementFrom, none, first}
-use Rattle.graph_layout.specs.Names.{Names, scalar_of, scalar_named}
-use Rattle.graph_layout.specs.Writes.{is_that, writes, writes_within, writes_any}
+use Rattle.graph_names.specs.Names.{Names, scalar_of, scalar_named}
+use Rattle.graph_names.specs.Writes.{is_that, writes, writes_within, writes_any}
 
 pub neither : (a b : Bool) → a ≡ false → b ≡ false → a || b ≡ false
 neither false b ha hb = hb

@@ -3,7 +3,7 @@ use Rattle.std.proofs.Common.{◌≡◌, ℕ, zero, suc, ◌+◌, ◌-◌, List,
 use Rattle.std.specs.Prelude.{if◌then◌else◌}
 use Rattle.c_tree.specs.TypedExpressions.{RvalueTree}
 use Rattle.graph_core.specs.Graphs.{Operand, Instruction, Block, Graph}
-use Rattle.graph_layout.specs.Names.{Names, pick}
+use Rattle.graph_names.specs.Names.{Names, pick}
 use Rattle.graph_drafts.specs.Drafts.{Made, Goal, To, Unused, Either, leaf, follow, closed, label_of, move_if, operated}
 use Rattle.graph_code.specs.Code.{code}
 

@@ -18,7 +18,7 @@ use Rattle.graph_core.specs.declared.value.Owner as unit-owner
 use Rattle.graph_core.specs.declared.value.Owner.TheVariants.{Static as UnitStatic, Automatic}
 use Rattle.graph_core.specs.Memory.{Object, Memory, bytes_of, write, write_in, written_in, with_value, index_in}
 use Rattle.graph_core.specs.Values.{as_element}
-use Rattle.graph_layout.specs.Names.{Names, names_of, scalar_of}
+use Rattle.graph_names.specs.Names.{Names, names_of, scalar_of}
 use Rattle.graph_drafts.specs.Rules.{element_of}
 use Rattle.graph_values.specs.Typed.{IsOf, OwnersDiffer}
 use Rattle.graph_values.specs.Correspondence.{variable_of, owner_of, IsInMemory, SameObject, SameValue, SameValues}

@@ -1,16 +1,19 @@
 use Rattle.std.proofs.Common.{◌+◌}
 use Rattle.c_tree.specs.TypedExpressions.{arguments_view, lvalue_view, rvalue_view}
-use Rattle.graph_layout.proofs.Extents.{extent, extent_of_arguments, extent_of_place}
+use Rattle.graph_names.proofs.Extents.{extent, extent_of_arguments, extent_of_place}
 use Rattle.graph_layout.proofs.layout.+laid.Given as goal
 
 abbrev pub decreases-value_laid : goal.decreases-value_laid
 decreases-value_laid l = extent (rvalue_view l.e.now)
 
+abbrev pub decreases-pair_behind : goal.decreases-pair_behind
+decreases-pair_behind l = extent (rvalue_view l.b.now) + 1
+
 abbrev pub decreases-pair_laid : goal.decreases-pair_laid
-decreases-pair_laid l = extent (rvalue_view l.a.now) + extent (rvalue_view l.b.now) + 1
+decreases-pair_laid l = extent (rvalue_view l.a.now) + extent (rvalue_view l.b.now) + 2
 
 abbrev pub decreases-element_laid : goal.decreases-element_laid
-decreases-element_laid l = extent (rvalue_view l.first.now) + extent (rvalue_view l.second.now) + 2
+decreases-element_laid l = extent (rvalue_view l.first.now) + extent (rvalue_view l.second.now) + 3
 
 abbrev pub decreases-place_laid : goal.decreases-place_laid
 decreases-place_laid l = extent_of_place (lvalue_view l.l.now) + 1
@@ -49,7 +52,7 @@ abbrev pub decreases-conversion_laid : goal.decreases-conversion_laid
 decreases-conversion_laid l = extent (rvalue_view l.operand.now) + 1
 
 abbrev pub decreases-arithmetic_laid : goal.decreases-arithmetic_laid
-decreases-arithmetic_laid l = extent (rvalue_view l.left.now) + extent (rvalue_view l.right.now) + 2
+decreases-arithmetic_laid l = extent (rvalue_view l.left.now) + extent (rvalue_view l.right.now) + 3
 
 abbrev pub decreases-difference_laid : goal.decreases-difference_laid
-decreases-difference_laid l = extent (rvalue_view l.left.now) + extent (rvalue_view l.right.now) + 2
+decreases-difference_laid l = extent (rvalue_view l.left.now) + extent (rvalue_view l.right.now) + 3

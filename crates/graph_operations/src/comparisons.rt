@@ -5,10 +5,9 @@ ghost use Rattle.c_tree.specs.declared.typed_expression.Comparison.TheVariants.{
 ghost use Rattle.graph_core.specs.Graphs.{end_view, operand_view};
 ghost use Rattle.graph_drafts.specs.Drafts.{before, branch_by, compare_by, compare_pointers_by, computing, less, made_of, not_less};
 
-use crate::draft::{Computation, Draft, compute};
-use crate::rules::less_by;
 use c_tree::Comparison as SourceComparison;
 use graph_core::{Comparison, End, Label, Name, Operand};
+use graph_drafts::{Computation, Draft, compute, less_by};
 use std::alloc::{AllocError, Global};
 use word_base::Operation;
 

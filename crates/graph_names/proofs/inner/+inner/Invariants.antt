@@ -1,7 +1,7 @@
 use Rattle.std.proofs.Common.{◌+◌}
 use Rattle.c_tree.specs.TypedExpressions.{arguments_view, lvalue_view, rvalue_view}
-use Rattle.graph_layout.proofs.Extents.{extent, extent_of_arguments, extent_of_place}
-use Rattle.graph_layout.proofs.inner.+inner.Given as goal
+use Rattle.graph_names.proofs.Extents.{extent, extent_of_arguments, extent_of_place}
+use Rattle.graph_names.proofs.inner.+inner.Given as goal
 
 abbrev pub decreases-inner_blocks : goal.decreases-inner_blocks
 decreases-inner_blocks l = extent (rvalue_view l.e.now)

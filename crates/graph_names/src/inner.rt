@@ -2,7 +2,7 @@
 
 ghost use Rattle.std.specs.Prelude.{◌≡◌, ◌+◌, IfOk};
 ghost use Rattle.c_tree.specs.TypedExpressions.{arguments_view, lvalue_view, rvalue_view};
-ghost use Rattle.graph_layout.specs.Inner.{for_truth, inner, inner_of, inner_within};
+ghost use Rattle.graph_names.specs.Inner.{for_truth, inner, inner_of, inner_within};
 
 use c_tree::{Arguments, Lvalue, Rvalue};
 use std::alloc::AllocError;

@@ -12,18 +12,18 @@ use Rattle.graph_core.specs.Graphs as unit
 use Rattle.graph_core.specs.Graphs.{Operand, Instruction, Operate, Store, Address, Block}
 use Rattle.c_tree.specs.declared.object_type.Object as declared-object
 use Rattle.c_tree.specs.declared.object_type.Object.TheVariants as object
-use Rattle.graph_code.specs.declared.site.Two as declared-two
-use Rattle.graph_code.specs.declared.site.Two.TheVariants as two
-use Rattle.graph_code.specs.declared.change.Change as declared-change
-use Rattle.graph_code.specs.declared.change.Change.TheVariants as change
+use Rattle.graph_steps.specs.declared.site.Two as declared-two
+use Rattle.graph_steps.specs.declared.site.Two.TheVariants as two
+use Rattle.graph_steps.specs.declared.change.Change as declared-change
+use Rattle.graph_steps.specs.declared.change.Change.TheVariants as change
 use Rattle.graph_scale.specs.Conversions.{is_narrow}
 use Rattle.graph_scale.specs.Operands.{held, is_two}
 use Rattle.graph_scale.specs.Scales.{is_scaled, scaled, shift_of}
-use Rattle.graph_layout.specs.declared.laid.Use.{Use}
-use Rattle.graph_layout.specs.declared.laid.Use.TheVariants.{Anywhere, In, Nothing, Tested}
-use Rattle.graph_layout.specs.Names.{Names, object_of, pick}
-use Rattle.graph_layout.specs.Writes.{is_location_moved}
-use Rattle.graph_layout.specs.Laid.{Laid, Pair, PlaceLaid, behind_move}
+use Rattle.graph_laid.specs.declared.laid.Use.{Use}
+use Rattle.graph_laid.specs.declared.laid.Use.TheVariants.{Anywhere, In, Nothing, Tested}
+use Rattle.graph_names.specs.Names.{Names, object_of, pick}
+use Rattle.graph_names.specs.Writes.{is_location_moved}
+use Rattle.graph_laid.specs.Laid.{Laid, Pair, PlaceLaid, behind_move}
 use Rattle.graph_drafts.specs.Rules.{operation_for, move_by, integer_element}
 use Rattle.graph_drafts.specs.Drafts.{Made, Goal, To, Unused, before, zero, leaf, target, follow, use_of, noted, note, stored, hold_location, held_location, assign_goal, keep_old, use_old, behind_old, left_free, operated, compared, compared_pointers, code_scaled_pair, unscaling, renew, scale, move_if}
 

@@ -8,14 +8,14 @@ use Rattle.graph_core.specs.Graphs.{Operand, Location, At, Automatic, Static, op
 use Rattle.graph_scale.specs.Scales.{is_scaled}
 use Rattle.graph_scale.specs.Conversions.{is_kept_constant}
 use Rattle.graph_scale.specs.Operands.{held}
-use Rattle.graph_layout.specs.declared.laid.Use.{Use}
-use Rattle.graph_layout.specs.declared.laid.Use.TheVariants.{Anywhere, In, Nothing, Tested}
-use Rattle.graph_layout.specs.declared.laid.Laid as declared-laid
-use Rattle.graph_layout.specs.declared.laid.Pair as declared-pair
-use Rattle.graph_layout.specs.declared.laid.PlaceLaid as declared-place
-use Rattle.graph_layout.specs.declared.laid.PassedLaid as declared-passed
-use Rattle.graph_layout.specs.Names.{Names, pick}
-use Rattle.graph_layout.specs.Writes.{is_moved, is_location_moved}
+use Rattle.graph_laid.specs.declared.laid.Use.{Use}
+use Rattle.graph_laid.specs.declared.laid.Use.TheVariants.{Anywhere, In, Nothing, Tested}
+use Rattle.graph_laid.specs.declared.laid.Laid as declared-laid
+use Rattle.graph_laid.specs.declared.laid.Pair as declared-pair
+use Rattle.graph_laid.specs.declared.laid.PlaceLaid as declared-place
+use Rattle.graph_laid.specs.declared.laid.PassedLaid as declared-passed
+use Rattle.graph_names.specs.Names.{Names, pick}
+use Rattle.graph_names.specs.Writes.{is_moved, is_location_moved}
 
 -- Where a value stands; the first name that is free while it is wanted; the first name behind all that were used.
 pub record Laid : Type 0 where

@@ -1,14 +1,14 @@
 //! Where the new and the old values of what is updated stand.
 
 ghost use Rattle.std.specs.Prelude.{◌≡◌, IfOk, max};
-ghost use Rattle.graph_layout.specs.Names.{names_view, pick};
+ghost use Rattle.graph_names.specs.Names.{names_view, pick};
 ghost use Rattle.graph_core.specs.Graphs as form;
-ghost use Rattle.graph_layout.specs.Laid.{behind_move, laid_view, left_memory_laid, left_scalar_laid, old_laid, place_view, renewed_memory_laid, renewed_scalar_laid, called_laid, object_laid};
+ghost use Rattle.graph_laid.specs.Laid.{behind_move, laid_view, left_memory_laid, left_scalar_laid, old_laid, place_view, renewed_memory_laid, renewed_scalar_laid, called_laid, object_laid};
 
 use crate::joining::{behind_move, greater, leaf_laid, operation_laid, standing, unused_laid};
 use crate::laid::{Laid, PlaceLaid, Use};
-use crate::names::{Names, following, pick};
 use graph_core::{Name, Operand};
+use graph_names::{Names, following, pick};
 use std::alloc::AllocError;
 
 // What a call gives; its failure is the function's own.

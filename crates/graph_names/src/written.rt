@@ -3,8 +3,8 @@
 ghost use Rattle.std.specs.Prelude.{◌≡◌};
 ghost use Rattle.c_tree.specs.TypedExpressions.{arguments_view, lvalue_view, rvalue_view};
 ghost use Rattle.graph_core.specs.Graphs.{location_view, operand_view};
-ghost use Rattle.graph_layout.specs.Names.{names_view};
-ghost use Rattle.graph_layout.specs.Writes.{is_location_moved, is_moved, names_it, writes, writes_any, writes_within};
+ghost use Rattle.graph_names.specs.Names.{names_view};
+ghost use Rattle.graph_names.specs.Writes.{is_location_moved, is_moved, names_it, writes, writes_any, writes_within};
 
 use crate::names::{Names, scalar_named};
 use c_tree::{Arguments, Lvalue, Rvalue};

@@ -6,20 +6,22 @@ ghost use Rattle.graph_core.specs.Graphs as unit;
 ghost use Rattle.graph_core.specs.Graphs.{Operate, Same, Truncate};
 ghost use Rattle.graph_scale.specs.Conversions.{is_kept_constant};
 ghost use Rattle.graph_scale.specs.Scales.{shift_of};
-ghost use Rattle.graph_layout.specs.Names.{names_view};
-ghost use Rattle.graph_layout.specs.Laid.{laid_view, pair_view};
+ghost use Rattle.graph_names.specs.Names.{names_view};
+ghost use Rattle.graph_laid.specs.Laid.{laid_view, pair_view};
 ghost use Rattle.graph_drafts.specs.Drafts.{goal_of, label_of, leaf, made_of, operated, unscaling, zero};
 ghost use Rattle.graph_drafts.specs.Rules.{truncation_to};
-ghost use Rattle.graph_code.specs.Steps.{distance, finished, signed};
+ghost use Rattle.graph_steps.specs.Steps.{distance, finished, signed};
 
 use c_tree::{Arithmetic, Comparison, Direction, IntegerType, Sign};
 use debug_records::Place;
 use graph_core::{Label, Name, Operand};
 use graph_drafts::{
-    Computation, Draft, Goal, compared, compared_pointers, compute, is_signed, leaf, move_by,
-    next_label, operated, operation_for, scaled_pair, truncation_to,
+    Computation, Draft, Goal, compute, is_signed, leaf, move_by, next_label, operation_for,
+    truncation_to,
 };
-use graph_layout::{Laid, Names, Pair, behind_move, pick};
+use graph_laid::{Laid, Pair, behind_move};
+use graph_names::{Names, pick};
+use graph_operations::{compared, compared_pointers, operated, scaled_pair};
 use graph_scale::{is_kept_constant, scaled, shift_of};
 use std::alloc::{AllocError, Global};
 use word_base::Operation;

@@ -2,19 +2,20 @@
 
 ghost use Rattle.std.specs.Prelude.{◌≡◌, IfOk};
 ghost use Rattle.graph_core.specs.Graphs.{location_view, operand_view};
-ghost use Rattle.graph_layout.specs.Names.{names_view};
-ghost use Rattle.graph_layout.specs.Laid.{laid_view, place_view};
+ghost use Rattle.graph_names.specs.Names.{names_view};
+ghost use Rattle.graph_laid.specs.Laid.{laid_view, place_view};
 ghost use Rattle.graph_drafts.specs.Drafts.{goal_of, made_of};
-ghost use Rattle.graph_code.specs.Steps.{assigned_memory, changed, changed_element, left_memory, left_scalar, loaded_first, one_at, renewed_memory, renewed_scalar, takes_more};
+ghost use Rattle.graph_steps.specs.Steps.{assigned_memory, changed, changed_element, left_memory, left_scalar, loaded_first, one_at, renewed_memory, renewed_scalar, takes_more};
 
 use c_tree::{Arithmetic, Direction, IntegerType};
 use graph_core::{Element, Name, Operand};
 use graph_drafts::{
-    Computation, Draft, Goal, assign_goal, behind_old, compute, follow, held_location,
-    hold_location, integer_element, keep_old, left_free, move_by, note, noted, operation_for,
-    renew, scale, store, stored, target, use_of, use_old,
+    Computation, Draft, Goal, assign_goal, behind_old, compute, follow, integer_element, keep_old,
+    left_free, move_by, note, noted, operation_for, store, stored, target, use_of, use_old,
 };
-use graph_layout::{Laid, Names, PlaceLaid, behind_move, pick};
+use graph_laid::{Laid, PlaceLaid, behind_move};
+use graph_names::{Names, pick};
+use graph_operations::{held_location, hold_location, renew, scale};
 use graph_scale::{is_narrow, is_scaled, scaled};
 use std::alloc::{AllocError, Global};
 

@@ -3,20 +3,22 @@
 ghost use Rattle.std.specs.Prelude.{◌≡◌, ℕ, IfOk, map};
 ghost use Rattle.graph_core.specs.Graphs as form;
 ghost use Rattle.graph_core.specs.Graphs.{block_view, location_view, operand_view};
-ghost use Rattle.graph_layout.specs.Names.{names_view};
-ghost use Rattle.graph_layout.specs.Laid.{pair_view};
+ghost use Rattle.graph_names.specs.Names.{names_view};
+ghost use Rattle.graph_laid.specs.Laid.{pair_view};
 ghost use Rattle.graph_scale.specs.Operands.{is_two};
 ghost use Rattle.graph_scale.specs.Scales.{shift_of};
 ghost use Rattle.graph_drafts.specs.Drafts.{arm, called_by, code_scaled_pair, compared, compared_pointers, compared_pointers_value, compared_value, computing, fork_view, forked, goal_of, held_location, hold_location, made_of, operated, renew, scale, unscaling};
 
 use crate::comparisons::{branch_by, compare_by, compare_pointers_by};
-use crate::draft::{Computation, Draft, call, closed, compute, ending, move_if, next_label};
-use crate::goal::{Goal, follow, leaf, target, tested};
-use crate::rules::truncation_to;
 use c_tree::{Comparison, IntegerType};
 use debug_records::Place;
 use graph_core::{Block, Callee, End, Label, Location, Name, Operand};
-use graph_layout::{Names, Pair, behind_move, pick};
+use graph_drafts::{
+    Computation, Draft, Fork, Goal, call, closed, compute, ending, follow, leaf, move_if,
+    next_label, target, tested, truncation_to,
+};
+use graph_laid::{Pair, behind_move};
+use graph_names::{Names, pick};
 use graph_scale::{
     is_narrow, is_scaled, is_two, is_two_pointers, located, operand_at, scaled, shift_of,
 };
@@ -216,14 +218,6 @@ pub fn compared_pointers(
             compared_pointers_value(alloc, names, Goal::Unused(draft), operator, begun, pair)
         }
     }
-}
-
-/// Two ways to go by a test, and the inner blocks that stand.
-#[derive(Drop)]
-pub struct Fork {
-    pub one: Label,
-    pub other: Label,
-    pub inner: Vec<Block>,
 }
 
 /// A block that writes a word to a name and goes on, behind those that stand.

@@ -6,9 +6,9 @@ use Rattle.c_tree.specs.TypedExpressions.{LvalueTree, Named}
 use Rattle.c_tree.specs.Programs.{AutomaticTree, TypedFunctionTree, ProgramTree}
 use Rattle.c_value_types.specs.ValueTypes.{results_of}
 use Rattle.graph_core.specs.Graphs.{Location, Automatic, Static}
-use Rattle.graph_layout.specs.declared.names.Home.{Home}
-use Rattle.graph_layout.specs.declared.names.Home.TheVariants as home
-use Rattle.graph_layout.specs.declared.names.Names as declared-names
+use Rattle.graph_names.specs.declared.names.Home.{Home}
+use Rattle.graph_names.specs.declared.names.Home.TheVariants as home
+use Rattle.graph_names.specs.declared.names.Names as declared-names
 
 -- What a function's code names: where each of its variables is kept, from the first one on; how many static variables stand before the literals; and the types of what functions give.
 -- Temporaries are used again only where a fresh one for each result would be more names than the function weighs.

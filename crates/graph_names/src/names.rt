@@ -4,7 +4,7 @@ ghost use Rattle.std.specs.Prelude.{◌≡◌, ◌+◌, IfOk, map, drop, take};
 ghost use Rattle.c_tree.specs.Programs.{automatic_view, function_view, program_view};
 ghost use Rattle.c_tree.specs.TypedExpressions.{lvalue_view};
 ghost use Rattle.graph_core.specs.Graphs.{location_view};
-ghost use Rattle.graph_layout.specs.Names.{home_of, homes_from, homes_of, names_of, names_view, object_location, object_of, pick, scalar_named, scalar_of};
+ghost use Rattle.graph_names.specs.Names.{home_of, homes_from, homes_of, names_of, names_view, object_location, object_of, pick, scalar_named, scalar_of};
 
 use c_tree::{AutomaticVariable, Lvalue, Object, Program, TypedFunction, ValueType};
 use c_value_types::results_of;

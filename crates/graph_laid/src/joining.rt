@@ -2,13 +2,13 @@
 
 ghost use Rattle.std.specs.Prelude.{◌≡◌, IfOk, max};
 ghost use Rattle.graph_core.specs.Graphs.{operand_view};
-ghost use Rattle.graph_layout.specs.Names.{names_view};
-ghost use Rattle.graph_layout.specs.Laid.{after_pair, as_value, at_laid, behind_move, behind_own, behind_top, compared_laid, converted_laid, joined_laid, laid_view, leaf_laid, moved_laid, operation_laid, pair_view, place_view, standing, steps_laid, truth_laid, unused_laid, use_for, worked};
+ghost use Rattle.graph_names.specs.Names.{names_view};
+ghost use Rattle.graph_laid.specs.Laid.{after_pair, as_value, at_laid, behind_move, behind_own, behind_top, compared_laid, converted_laid, joined_laid, laid_view, leaf_laid, moved_laid, operation_laid, pair_view, place_view, standing, steps_laid, truth_laid, unused_laid, use_for, worked};
 
 use crate::laid::{Laid, Pair, PlaceLaid, Use};
-use crate::names::{Names, following, pick};
 use c_tree::IntegerType;
 use graph_core::{Location, Name, Operand};
+use graph_names::{Names, following, pick};
 use graph_scale::{is_kept_constant, is_scaled};
 use std::alloc::AllocError;
 

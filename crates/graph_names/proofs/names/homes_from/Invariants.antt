@@ -1,7 +1,7 @@
 use Rattle.std.proofs.Common.{◌≡◌, ◌++◌, map, drop}
 use Rattle.c_tree.specs.Programs.{automatic_view}
-use Rattle.graph_layout.specs.Names.{homes_from}
-use Rattle.graph_layout.proofs.names.homes_from.Given as goal
+use Rattle.graph_names.specs.Names.{homes_from}
+use Rattle.graph_names.proofs.names.homes_from.Given as goal
 
 abbrev pub invariant-loop-variable : goal.invariant-loop-variable
 invariant-loop-variable l =

@@ -1,0 +1,3 @@
+pub mod Names
+pub mod Writes
+pub mod Inner
