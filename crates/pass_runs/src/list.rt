@@ -5,6 +5,7 @@ ghost use Rattle.debug_records.specs.Change.{letters};
 ghost use Rattle.graph_core.specs.Graphs.{unit_view};
 ghost use Rattle.graph_core.specs.Validity.{IsValid};
 ghost use Rattle.pass_runs.specs.HandedIn.{AreHandedIn, IsHandedIn, IsNoPass};
+ghost use Rattle.pass_runs.specs.Kept.{KeepsShape};
 
 use crate::pass::UnitPass;
 use debug_records::PassName;
@@ -69,7 +70,8 @@ fn apply_one(
 ) -> Result<Option<Unit>, AllocError>
     requires valid { IsValid (unit_view unit.now) }
     requires room { length (unit_view unit.now).log < 2 ^ 31 }
-    ensures { IfOk result (λ made. IfSome made (λ v. IsValid (unit_view v))) }
+    ensures made { IfOk result (λ made. IfSome made (λ v. IsValid (unit_view v))) }
+    ensures kept { IfOk result (λ made. IfSome made (λ v. KeepsShape (unit_view unit.now) (unit_view v))) }
 {
     pass.apply(alloc, unit)
 }
@@ -83,7 +85,8 @@ pub fn run_passes(
     unit: Unit,
 ) -> Result<Option<Unit>, AllocError>
     requires { IsValid (unit_view unit) }
-    ensures { IfOk result (λ made. IfSome made (λ v. IsValid (unit_view v))) }
+    ensures made { IfOk result (λ made. IfSome made (λ v. IsValid (unit_view v))) }
+    ensures kept { IfOk result (λ made. IfSome made (λ v. KeepsShape (unit_view unit) (unit_view v))) }
 {
     let mut last = unit;
     for name in names {

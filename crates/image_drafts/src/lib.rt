@@ -1,0 +1,7 @@
+//! Tables become an image: they are written, and what is read back says the same.
+#![tactic(auto)]
+
+mod fitting;
+mod spelling;
+
+pub use spelling::{SpelledImage, spelled_image};
