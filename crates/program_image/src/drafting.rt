@@ -1,12 +1,14 @@
 //! From a program to what is to be its image, step by step.
 
-ghost use Rattle.std.specs.Prelude.{IfOk, IfSome, IsTrue};
+ghost use Rattle.std.specs.Prelude.{◌≡◌, IfOk, IfSome, IsTrue, length};
 ghost use Rattle.c_tree.specs.Programs.{program_view};
 ghost use Rattle.c_flow.specs.Tables.{Fits32};
 ghost use Rattle.c_laws.specs.Laws.{IsWellFormed};
 ghost use Rattle.graph_core.specs.Graphs.{unit_view};
 ghost use Rattle.graph_core.specs.Validity.{IsValid};
 ghost use Rattle.homed_unit.specs.Homed.{HaveHomes, homed_view};
+ghost use Rattle.image_form.specs.Form.{form};
+ghost use Rattle.program_image.specs.Tables.{HasFlowOf, HasTablesOf};
 
 use c_flow::fits;
 use c_laws::is_well_formed;
@@ -43,12 +45,13 @@ pub fn unit_of(
     names: &[PassName],
 ) -> Result<Option<Unit>, AllocError>
     requires { Fits32 (program_view program.now) }
-    ensures { IfOk result (λ o. IfSome o (λ u. IsValid (unit_view u))) }
+    ensures valid { IfOk result (λ o. IfSome o (λ u. IsValid (unit_view u))) }
+    ensures flow { IfOk result (λ o. IfSome o (λ u. HasFlowOf (program_view program.now) (unit_view u))) }
 {
-    match build(alloc, program)? {
-        Some(unit) => run_passes(alloc, passes, names, unit),
-        None => Ok(None),
-    }
+    let Some(unit) = build(alloc, program)? else {
+        return Ok(None);
+    };
+    run_passes(alloc, passes, names, unit)
 }
 
 /// The unit of a program behind passes, with homes for its names. None where it is not valid.
@@ -56,6 +59,8 @@ pub fn homed_of(alloc: Global, unit: &Unit, mode: Mode) -> Result<Option<HomedUn
     requires { IsValid (unit_view unit.now) }
     ensures valid { IfOk result (λ o. IfSome o (λ h. IsValid (homed_view h).unit)) }
     ensures homes { IfOk result (λ o. IfSome o (λ h. HaveHomes (homed_view h))) }
+    ensures steps { IfOk result (λ o. IfSome o (λ h. (homed_view h).unit.steps ≡ (unit_view unit.now).steps)) }
+    ensures assignments { IfOk result (λ o. IfSome o (λ h. (homed_view h).unit.assignments ≡ (unit_view unit.now).assignments)) }
 {
     let homed = assign(alloc, unit, mode)?;
     if homed.unit.is_valid() {
@@ -74,6 +79,9 @@ pub fn draft_of(
     requires fits { Fits32 (program_view program.now) }
     requires valid { IsValid (homed_view homed.now).unit }
     requires homes { HaveHomes (homed_view homed.now) }
+    requires flow { HasFlowOf (program_view program.now) (homed_view homed.now).unit }
+    ensures owners { IfOk result (λ o. IfSome o (λ m. length m.owners.items ≡ length m.code.items)) }
+    ensures tables { IfOk result (λ o. IfSome o (λ m. HasTablesOf (program_view program.now) (form m))) }
 {
     let places = place_table(alloc, program)?;
     let flow = &homed.unit.flow;

@@ -1,0 +1,37 @@
+-- What the tables of an image say of its program.
+use Rattle.std.specs.Prelude.{◌≡◌, ◌↔◌, ℕ, ◌+◌, List, [], ◌∷◌, ◌++◌, map}
+use Rattle.std.specs.List.{Contains}
+use Rattle.places.specs.declared.flow.Assignment.{Assignment}
+use Rattle.places.specs.declared.flow.FlowStep.{FlowStep}
+use Rattle.c_tree.specs.Programs.{ProgramTree}
+use Rattle.c_flow.specs.Assigns.{assignments_of_program}
+use Rattle.c_flow.specs.Flow.{steps_of_program}
+use Rattle.c_place_table.specs.Rows.{Row, rows_of_program}
+use Rattle.graph_core.specs.Graphs.{UnitForm}
+use Rattle.image_form.specs.Form.{Form}
+use Rattle.image_form.specs.declared.tables.AssignedPair.{AssignedPair}
+use Rattle.image_form.specs.declared.tables.FlowPair.{FlowPair}
+use Rattle.image_tables.specs.Tables.{Sight, Spot, assigned_pair, flow_pair, sight, spot}
+
+-- A unit has the steps and the assignments of its program.
+pub record HasFlowOf (p : ProgramTree) (u : UnitForm) : Type 0 where
+  pub steps : (s : FlowStep) → Contains u.steps s ↔ Contains (steps_of_program p) s
+  pub assignments : (a : Assignment) → Contains u.assignments a ↔ Contains (assignments_of_program p) a
+
+-- where the place of a row stands
+abbrev pub spot_of : Row → Spot
+spot_of r = record { position = r.position; line = r.line; function = r.function }
+
+-- the variables that are visible at places, place by place, where the first of them has this number
+abbrev pub visible_from : (place : ℕ) → List Row → List Sight
+visible_from place [] = []
+visible_from place (r ∷ rows) = map (λ x. record { place = place; variable = x }) r.visible ++ visible_from (place + 1) rows
+
+-- THE TABLES OF AN IMAGE ARE ITS PROGRAM'S. Its places are the program's, in their order, each at its position, on its line, in its function; execution goes from one place directly to
+-- another where that is a step of the program's flow, and a place assigns a variable where the program's does; and a row tells of each variable that is visible at a
+-- place, place by place, and of no other.
+pub record HasTablesOf (p : ProgramTree) (m : Form) : Type 0 where
+  pub places : map spot m.places ≡ map spot_of (rows_of_program p)
+  pub flow : (s : FlowPair) → Contains m.flow s ↔ Contains (map flow_pair (steps_of_program p)) s
+  pub assigned : (a : AssignedPair) → Contains m.assigned a ↔ Contains (map assigned_pair (assignments_of_program p)) a
+  pub visible : map sight m.rows ≡ visible_from 1 (rows_of_program p)
