@@ -1,9 +1,12 @@
 //! From the texts to what is played.
 
-ghost use Rattle.std.specs.Prelude.{IfOk, IfSome, MatchOption, map};
+ghost use Rattle.std.specs.Prelude.{◌≡◌, IfOk, IfSome, MatchOption, Ok, map};
+ghost use Rattle.c_source.specs.Sources.{program_of_source};
+ghost use Rattle.c_tree.specs.Programs.{program_view};
 ghost use Rattle.debug_records.specs.Change.{letters};
 ghost use Rattle.image_form.specs.Form.{form};
 ghost use Rattle.image_form.specs.Rules.{IsImage};
+ghost use Rattle.program_image.specs.Tables.{HasTablesOf};
 ghost use Rattle.session.specs.Front.{IsStraight};
 ghost use Rattle.session.specs.Stages.{CompileEnds, FrontEnds, ImageEnds, ListEnds, MakeEnds, ScriptEnds};
 ghost use Rattle.session.specs.Truth.{IsTruthfulTo};
@@ -53,7 +56,8 @@ fn general_image(
     names: &[PassName],
     mode: Mode,
 ) -> Result<Option<Image>, AllocError>
-    ensures { IfOk result (λ made. IfSome made (λ image. IsImage (form image))) }
+    ensures image { IfOk result (λ made. IfSome made (λ image. IsImage (form image))) }
+    ensures tables { IfOk result (λ made. IfSome made (λ image. HasTablesOf (program_view program) (form image))) }
 {
     match image_of_program(alloc, program, passes, names, mode)? {
         Some(build) => Ok(Some(build.image)),
@@ -61,7 +65,7 @@ fn general_image(
     }
 }
 
-/// The image of a program, whose source this is: a straight-line `main` with slots and no pass is compiled by the way that is proved to be truthful. None
+/// The image of the program of this source: a straight-line `main` with slots and no pass is compiled by the way that is proved to be truthful. None
 /// where the program is not compiled so far.
 fn image_for(
     alloc: Global,
@@ -71,6 +75,7 @@ fn image_for(
     names: &[PassName],
     mode: Mode,
 ) -> Result<Option<Image>, AllocError>
+    requires { program_of_source source.now ≡ Ok (program_view program) }
     ensures { IfOk result (λ made. MatchOption made (¬ IsStraight (map letters names.now) mode source.now) (λ image. IsImage (form image) × IsTruthfulTo source.now (map letters names.now) mode (form image))) }
 {
     let straight = straight_image(alloc, source, names, mode)?;
@@ -85,7 +90,8 @@ fn image_for(
 
 /// The program of a source, which else is refused for the first rule of C that it breaks.
 fn understood(alloc: Global, source: &[u8]) -> Result<Program, Status>
-    ensures { FrontEnds result source.now }
+    ensures ends { FrontEnds result source.now }
+    ensures program { IfOk result (λ program. program_of_source source.now ≡ Ok (program_view program)) }
 {
     match c_source::program(alloc, source) {
         Ok(program) => Ok(program),
