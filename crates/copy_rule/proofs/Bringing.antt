@@ -7,11 +7,11 @@ use Rattle.std.proofs.lemmas.Option.{slice_get-map, slice_get_read, slice_get_wi
 use Rattle.graph_core.specs.Graphs.{Block}
 use Rattle.graph_core.specs.Paths.{Among, front as here, behind as later}
 use Rattle.copy_rule.specs.declared.copies.CopyAt.{CopyAt}
-use Rattle.copy_rule.specs.declared.marks.Marks.{Marks}
+use Rattle.path_marks.specs.declared.marks.Marks.{Marks}
 use Rattle.copy_rule.specs.Flow.{Line, line_of, lines_of, IsLed, entry as first_led, leads, IsMissed, at_entry, behind, IsClosed, AreFound, is_written, missing_along}
 use Rattle.copy_rule.specs.Numbered.{AreOfScalars}
 use Rattle.copy_rule.specs.Rows.{AreRows, AreSameBut, AreSameBelow, AreBrought, IsCarried, HasComeTo, AreClosedTo}
-use Rattle.copy_rule.specs.Table.{bits_of}
+use Rattle.path_marks.specs.Table.{bits_of}
 
 pub among_one : {l a : ℕ} → Among l (a ∷ []) → l ≡ a
 among_one here = refl

@@ -9,7 +9,8 @@ use Rattle.graph_core.specs.Uses.{target_of, targets_of}
 use Rattle.graph_core.specs.Paths.{History}
 use Rattle.pass_law.specs.Earned.{IsCopiedAt, last_write_of}
 use Rattle.copy_rule.specs.declared.copies.CopyAt.{CopyAt}
-use Rattle.copy_rule.specs.Copying.{reading_operand, reading_all, reading_at, reading, reading_end, IsReached, IsCopied, IsReadAs, of_copy, of_none, AreCopied, ends, next, IsCopiedBlock, IsPropagated}
+use Rattle.path_marks.specs.Reached.{IsReached}
+use Rattle.copy_rule.specs.Copying.{reading_operand, reading_all, reading_at, reading, reading_end, IsCopied, IsReadAs, of_copy, of_none, AreCopied, ends, next, IsCopiedBlock, IsPropagated}
 use Rattle.copy_rule.specs.Flow.{Line, line_of, lines_of, missing_behind, missing_where, Bits, AreFound, IsKnown, source_among, AreRead, none, more, missing_in, IsReadBlock, unled, led, AreReadBlocks}
 use Rattle.copy_rule.proofs.Missing.{missing, unheld, where_start, where_step}
 use Rattle.copy_rule.proofs.Points.{AreKnown, IsAt, path_at, Comes, missing_comes, point_reached}

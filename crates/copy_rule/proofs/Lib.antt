@@ -3,5 +3,4 @@ pub mod Points
 pub mod ByRule
 pub mod Bringing
 pub mod Walked
-pub mod Tables
 pub mod Known

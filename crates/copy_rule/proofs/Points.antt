@@ -10,7 +10,8 @@ use Rattle.graph_core.specs.Uses.{target_of, targets_of}
 use Rattle.graph_core.specs.Paths.{Passed, History, Among, Way, stays, passes, goes, Path, path, writes}
 use Rattle.pass_law.specs.Earned.{IsCopiedAt, last_write_of}
 use Rattle.copy_rule.specs.declared.copies.CopyAt.{CopyAt}
-use Rattle.copy_rule.specs.Copying.{AreOfOneType, IsReached}
+use Rattle.path_marks.specs.Reached.{IsReached}
+use Rattle.copy_rule.specs.Copying.{AreOfOneType}
 use Rattle.copy_rule.specs.Flow.{Line, line_of, lines_of, stands_at, missing_behind, missing_along, missing_where, IsLed, entry, leads, IsMissed, at_entry, behind, Bits, AreFound, IsKnown}
 use Rattle.copy_rule.proofs.Missing.{missing, behind_grows, where_start, where_on, where_end, where_step, where_grows}
 

@@ -3,6 +3,7 @@ use Rattle.std.specs.Prelude.{◌≡◌, ◌≢◌, ℕ, Some, None, List, [], �
 use Rattle.graph_core.specs.Graphs.{Operand, Name, Constant, StaticAddress, Location, Automatic, Static, At, Instruction, Marker, Note, Move, Operate, Truncate, Same, Address, Load, Store, Zero, CopyWords, Call, End, Jump, Branch, Return, Block, Scalar, Graph}
 use Rattle.graph_core.specs.Uses.{reads_of, reads_of_end}
 use Rattle.graph_core.specs.Paths.{History, Among, Path}
+use Rattle.path_marks.specs.Reached.{IsReached}
 use Rattle.pass_law.specs.Earned.{IsCopiedAt}
 
 module _ (read_as : ℕ → ℕ) where
@@ -42,11 +43,6 @@ module _ (read_as : ℕ → ℕ) where
   reading_end (Branch c a b l m) = Branch c (reading_operand a) (reading_operand b) l m
   reading_end (Return None) = Return None
   reading_end (Return (Some a)) = Return (Some (reading_operand a))
-
--- Some path from the entry leads to a point.
-pub record IsReached (h : Graph) (n : ℕ) (rest : List Instruction) (e : End) : Type 0 where
-  pub history : History
-  pub path : Path h history n rest e
 
 -- Two names are scalars of one C type, and not the same.
 pub record AreOfOneType (scalars : List Scalar) (x y : ℕ) : Type 0 where

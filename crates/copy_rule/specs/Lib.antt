@@ -1,5 +1,4 @@
 pub mod Copying
-pub mod Table
 pub mod Flow
 pub mod Numbered
 pub mod Rows

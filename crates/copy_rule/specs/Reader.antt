@@ -2,7 +2,7 @@
 use Rattle.std.specs.Prelude.{ℕ}
 use Rattle.copy_rule.specs.declared.reading.Reader.{Reader}
 use Rattle.copy_rule.specs.Flow.{missing_in, source_among}
-use Rattle.copy_rule.specs.Table.{bits_of}
+use Rattle.path_marks.specs.Table.{bits_of}
 
 -- by the copies that are not missing in its row
 abbrev pub read_as : Reader → ℕ → ℕ

@@ -2,9 +2,9 @@
 -- scalars one that tells the copies of which it is a part.
 use Rattle.std.specs.Prelude.{◌≡◌, ◌≢◌, ℕ, suc, ◌+◌, ◌<◌, ◌==◌, ◌||◌, Bool, true, false, Some, List, length, slice_get}
 use Rattle.copy_rule.specs.declared.copies.CopyAt.{CopyAt}
-use Rattle.copy_rule.specs.declared.marks.Marks.{Marks}
+use Rattle.path_marks.specs.declared.marks.Marks.{Marks}
 use Rattle.copy_rule.specs.Flow.{Line, IsLed, IsMissed, IsClosed, missing_along}
-use Rattle.copy_rule.specs.Table.{bits_of}
+use Rattle.path_marks.specs.Table.{bits_of}
 
 pub record AreRows (copies : List CopyAt) (blocks scalars : ℕ) (marks : Marks) : Type 0 where
   pub count : marks.count ≡ blocks + 2 + scalars

@@ -6,11 +6,11 @@ ghost use Rattle.copy_rule.specs.Copying.{AreOfOneType, IsPropagated};
 ghost use Rattle.copy_rule.specs.Flow.{AreRead, AreReadBlocks, IsKnown, IsReadBlock, missing_in};
 ghost use Rattle.copy_rule.specs.Known.{IsNoCopy, type_in};
 ghost use Rattle.copy_rule.specs.Rows.{AreRows, AreSameBut};
-ghost use Rattle.copy_rule.specs.Table.{bits_of};
+ghost use Rattle.path_marks.specs.Table.{bits_of};
 
 use crate::copies::{Copies, CopyAt};
 use crate::flow::{begin, find_missing, step};
-use crate::marks::Marks;
+use path_marks::Marks;
 use crate::reading::Reader;
 use graph_core::{Block, Graph, Instr, Operand, Scalar};
 use std::alloc::{AllocError, Global};

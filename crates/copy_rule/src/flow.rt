@@ -8,10 +8,10 @@ ghost use Rattle.graph_core.specs.Uses.{targets_of};
 ghost use Rattle.copy_rule.specs.declared.copies.CopyAt as declared-copy;
 ghost use Rattle.copy_rule.specs.Flow.{AreFound, IsClosed, Line, is_written, line_of, lines_of, missing_along, missing_behind, stands_at};
 ghost use Rattle.copy_rule.specs.Rows.{AreBrought, AreClosedTo, AreGrown, AreRows, AreSameBelow, AreSameBut, HasComeTo, IsCarried};
-ghost use Rattle.copy_rule.specs.Table.{bits_of};
+ghost use Rattle.path_marks.specs.Table.{bits_of};
 
 use crate::copies::Copies;
-use crate::marks::Marks;
+use path_marks::Marks;
 use graph_core::{Block, End, Instr, Name};
 use std::alloc::{AllocError, Global};
 

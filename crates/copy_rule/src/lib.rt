@@ -4,7 +4,6 @@
 mod blocks;
 mod copies;
 mod flow;
-mod marks;
 mod reading;
 
 pub use blocks::propagated;

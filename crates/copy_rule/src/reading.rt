@@ -3,7 +3,7 @@
 ghost use Rattle.std.specs.Prelude.{◌≡◌, ◌+◌, ◌^◌, ◌<◌, IfOk, length, map, true};
 
 use crate::copies::Copies;
-use crate::marks::Marks;
+use path_marks::Marks;
 use graph_core::{End, Instr, Location, Name, Operand};
 use smallvec::SmallVec;
 use std::alloc::{AllocError, Global};

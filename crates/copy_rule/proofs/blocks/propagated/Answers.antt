@@ -4,7 +4,7 @@ use Rattle.graph_core.specs.declared.graph.MemoryObject.{MemoryObject}
 use Rattle.graph_core.specs.Graphs.{Binding, Block, Graph, Scalar, binding_view, block_view, graph_view, scalar_view}
 use Rattle.copy_rule.specs.Copying.{IsPropagated}
 use Rattle.copy_rule.specs.Flow.{AreFound, AreReadBlocks, lines_of}
-use Rattle.copy_rule.specs.Table.{bits_of}
+use Rattle.path_marks.specs.Table.{bits_of}
 use Rattle.copy_rule.proofs.ByRule as rule
 use Rattle.copy_rule.proofs.blocks.propagated.Goals as goal
 

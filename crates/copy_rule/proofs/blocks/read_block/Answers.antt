@@ -2,7 +2,7 @@ use Rattle.std.proofs.Common.{sym, subst, map, ◌∙◌}
 use Rattle.std.specs.Prelude.{IfSome}
 use Rattle.graph_core.specs.Graphs.{Block, block_view, instruction_view, scalar_view}
 use Rattle.copy_rule.specs.Flow.{AreRead, IsReadBlock, unled, missing_in}
-use Rattle.copy_rule.specs.Table.{bits_of}
+use Rattle.path_marks.specs.Table.{bits_of}
 use Rattle.copy_rule.proofs.Walked.{block_led}
 use Rattle.copy_rule.proofs.blocks.read_block.Goals as goal
 

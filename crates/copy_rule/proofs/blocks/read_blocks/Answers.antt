@@ -3,7 +3,7 @@ use Rattle.std.specs.Prelude.{IfSome}
 use Rattle.std.proofs.lemmas.List.{map-append}
 use Rattle.graph_core.specs.Graphs.{block_view, scalar_view}
 use Rattle.copy_rule.specs.Flow.{IsReadBlock}
-use Rattle.copy_rule.specs.Table.{bits_of}
+use Rattle.path_marks.specs.Table.{bits_of}
 use Rattle.copy_rule.proofs.Walked.{block_same, blocks_all, blocks_step, rest_count}
 use Rattle.copy_rule.proofs.blocks.read_blocks.Goals as goal
 

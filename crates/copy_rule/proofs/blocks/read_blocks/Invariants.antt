@@ -1,7 +1,7 @@
 use Rattle.std.proofs.Common.{◌≡◌, ◌+◌, length, map}
 use Rattle.graph_core.specs.Graphs.{block_view, scalar_view}
 use Rattle.copy_rule.specs.Rows.{AreRows, AreSameBelow}
-use Rattle.copy_rule.specs.Table.{bits_of}
+use Rattle.path_marks.specs.Table.{bits_of}
 use Rattle.copy_rule.proofs.Walked.{AreAhead}
 use Rattle.copy_rule.proofs.blocks.read_blocks.Given as goal
 

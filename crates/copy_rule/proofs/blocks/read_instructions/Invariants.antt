@@ -2,7 +2,7 @@ use Rattle.std.proofs.Common.{length, map}
 use Rattle.graph_core.specs.Graphs.{instruction_view, scalar_view}
 use Rattle.copy_rule.specs.Flow.{missing_in}
 use Rattle.copy_rule.specs.Rows.{AreRows, AreSameBut}
-use Rattle.copy_rule.specs.Table.{bits_of}
+use Rattle.path_marks.specs.Table.{bits_of}
 use Rattle.copy_rule.proofs.Walked.{IsAhead}
 use Rattle.copy_rule.proofs.blocks.read_instructions.Given as goal
 

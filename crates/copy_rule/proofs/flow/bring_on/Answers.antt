@@ -3,7 +3,7 @@ use Rattle.graph_core.specs.declared.block.End.{End}
 use Rattle.graph_core.specs.Graphs.{end_view}
 use Rattle.graph_core.specs.Uses.{targets_of}
 use Rattle.graph_core.specs.Paths.{Among, front, behind}
-use Rattle.copy_rule.specs.Table.{bits_of}
+use Rattle.path_marks.specs.Table.{bits_of}
 use Rattle.copy_rule.proofs.Bringing.{among_two, carried_on}
 use Rattle.copy_rule.proofs.flow.bring_on.Goals as goal
 

@@ -3,7 +3,7 @@ use Rattle.std.specs.Prelude.{slice_get}
 use Rattle.std.proofs.lemmas.Option.{same_Some}
 use Rattle.graph_core.specs.Graphs.{block_view}
 use Rattle.copy_rule.specs.Flow.{IsClosed, Line, line_of, lines_of}
-use Rattle.copy_rule.specs.Table.{bits_of}
+use Rattle.path_marks.specs.Table.{bits_of}
 use Rattle.copy_rule.proofs.Bringing.{brought_same, carried_by, closed_by, line_there}
 use Rattle.copy_rule.proofs.flow.lead.Goals as goal
 

@@ -1,6 +1,6 @@
 use Rattle.std.proofs.Common.{◌≡◌, ℕ, ◌<◌, true}
 use Rattle.copy_rule.specs.Rows.{AreSameBut}
-use Rattle.copy_rule.specs.Table.{bits_of}
+use Rattle.path_marks.specs.Table.{bits_of}
 use Rattle.copy_rule.proofs.flow.put_entry.Given as goal
 
 abbrev pub invariant-loop-bit : goal.invariant-loop-bit

@@ -5,7 +5,7 @@ use Rattle.graph_core.specs.Uses.{target_of}
 use Rattle.copy_rule.specs.declared.copies.CopyAt.{CopyAt}
 use Rattle.copy_rule.specs.Flow.{line_of, missing_along}
 use Rattle.copy_rule.specs.Rows.{AreRows, AreSameBut}
-use Rattle.copy_rule.specs.Table.{bits_of}
+use Rattle.path_marks.specs.Table.{bits_of}
 use Rattle.copy_rule.proofs.flow.walk.Given as goal
 
 abbrev pub invariant-loop-ahead : goal.invariant-loop-ahead

@@ -1,7 +1,7 @@
 use Rattle.std.proofs.Common.{◌≡◌, drop}
 use Rattle.copy_rule.specs.Flow.{missing_in, source_among}
 use Rattle.copy_rule.specs.Reader.{read_as}
-use Rattle.copy_rule.specs.Table.{bits_of}
+use Rattle.path_marks.specs.Table.{bits_of}
 use Rattle.copy_rule.proofs.reading.Reader.read_name.Given as goal
 
 abbrev pub invariant-loop-k : goal.invariant-loop-k
