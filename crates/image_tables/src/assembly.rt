@@ -3,17 +3,14 @@
 ghost use Rattle.std.specs.Prelude.{◌≡◌, IfOk, map};
 ghost use Rattle.image_tables.specs.Tables.{assigned_pair, flow_pair, sight, sight_of_verdict, spot, spot_of_row};
 
-use crate::functions::functions_of;
-use crate::names::names_of;
 use crate::pairs::{assigned_of, changes_of, flow_of};
 use crate::places_table::places_of;
 use crate::rows::{Telling, rows_of};
-use crate::storages::Storages;
-use crate::variables::{variable_count, variables_of};
 use c_tree::Program;
 use currency::PlaceVerdict;
 use emitted::Emitted;
 use homed_unit::HomedUnit;
+use image_declarations::{Storages, functions_of, names_of, variable_count, variables_of};
 use image_form::Image;
 use places::{FlowTable, PlaceTable};
 use std::alloc::{AllocError, Global};

@@ -2,15 +2,9 @@
 #![tactic(auto)]
 
 mod assembly;
-mod element;
-mod functions;
-mod names;
 mod nodes;
-mod numbers;
 mod pairs;
 mod places_table;
 mod rows;
-mod storages;
-mod variables;
 
 pub use assembly::{Parts, image_of};

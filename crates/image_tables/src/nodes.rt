@@ -1,9 +1,9 @@
 //! The table of recipe nodes.
 
-use crate::numbers::entry;
 use emitted::EmittedFunction;
 use graph_core::{Graph, Operand, Recipe};
 use graph_homes::Home;
+use image_declarations::entry;
 use image_form::Node;
 use std::alloc::{AllocError, Global};
 use std::collections::BTreeMap;

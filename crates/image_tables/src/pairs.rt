@@ -3,8 +3,8 @@
 ghost use Rattle.std.specs.Prelude.{◌≡◌, IfOk, map};
 ghost use Rattle.image_tables.specs.Tables.{assigned_pair, flow_pair};
 
-use crate::numbers::number_of;
 use debug_records::Change as Logged;
+use image_declarations::number_of;
 use image_form::{AssignedPair, Change, FlowPair};
 use places::{Assignment, FlowStep};
 use std::alloc::{AllocError, Global};

@@ -3,8 +3,8 @@
 ghost use Rattle.std.specs.Prelude.{◌≡◌, IfOk, map};
 ghost use Rattle.image_tables.specs.Tables.{spot, spot_of_row};
 
-use crate::numbers::{entry, put_entry};
 use emitted::{EmittedFunction, PlacedStop};
+use image_declarations::{entry, put_entry};
 use image_form::Place;
 use places::PlaceRow;
 use std::alloc::{AllocError, Global};

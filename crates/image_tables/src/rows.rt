@@ -4,11 +4,11 @@ ghost use Rattle.std.specs.Prelude.{◌≡◌, IfOk, map};
 ghost use Rattle.image_tables.specs.Tables.{sight, sight_of_verdict};
 
 use crate::nodes::{Naming, Nodes};
-use crate::numbers::{entry, number_of};
 use currency::{PlaceVerdict, Verdict as Told, Writer};
 use emitted::EmittedFunction;
 use graph_core::{Block, Graph, Recipe};
 use homed_unit::FunctionHomes;
+use image_declarations::{entry, number_of};
 use image_form::{Node, Verdict, VisibleRow};
 use places::PlaceRow;
 use std::alloc::{AllocError, Global};

@@ -1,7 +1,12 @@
 //! Numbers of 32 bits.
 
+ghost use Rattle.std.specs.Prelude.{◌≡◌};
+ghost use Rattle.image_declarations.specs.Variables.{counted};
+
 /// A count as a number of 32 bits, the greatest where it is more.
-pub fn number_of(count: usize) -> u32 {
+pub fn number_of(count: usize) -> u32
+    ensures { result ≡ counted count }
+{
     if count < 4294967295 {
         count as u32
     } else {

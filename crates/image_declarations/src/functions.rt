@@ -1,5 +1,9 @@
 //! The table of functions.
 
+ghost use Rattle.std.specs.Prelude.{◌≡◌, IfOk, length, map};
+ghost use Rattle.c_tree.specs.Programs.{function_view};
+ghost use Rattle.image_declarations.specs.Variables.{length_of_name, name_length};
+
 use crate::numbers::number_of;
 use c_tree::TypedFunction;
 use emitted::EmittedFunction;
@@ -8,7 +12,9 @@ use image_form::Function;
 use std::alloc::{AllocError, Global};
 
 /// A function with its code.
-fn function_of(function: &TypedFunction, graph: &Graph, code: &EmittedFunction) -> Function {
+fn function_of(function: &TypedFunction, graph: &Graph, code: &EmittedFunction) -> Function
+    ensures { name_length result ≡ length_of_name (function_view function.now) }
+{
     Function {
         name_length: number_of(function.name.len()),
         first: code.first,
@@ -24,7 +30,11 @@ pub fn functions_of(
     functions: &[TypedFunction],
     graphs: &[Graph],
     code: &[EmittedFunction],
-) -> Result<Vec<Function>, AllocError> {
+) -> Result<Vec<Function>, AllocError>
+    requires graphs { length graphs.now ≡ length functions.now }
+    requires code { length code.now ≡ length functions.now }
+    ensures { IfOk result (λ v. map name_length v.items ≡ map length_of_name (map function_view functions.now)) }
+{
     let mut made = Vec::new(alloc);
     for (number, function) in functions.iter().enumerate() {
         if let (Some(graph), Some(code)) = (graphs.get(number), code.get(number)) {

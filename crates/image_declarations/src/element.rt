@@ -1,10 +1,15 @@
 //! Types of elements.
 
+ghost use Rattle.std.specs.Prelude.{◌≡◌};
+ghost use Rattle.image_declarations.specs.Variables.{count_of, element_by_stars, element_of, element_of_integer};
+
 use c_tree::{IntegerType, ObjectType, Scalar};
 use image_form::ElementType;
 
 /// The element type of an image that an integer type is.
-fn of_integer(integer: IntegerType) -> ElementType {
+fn of_integer(integer: IntegerType) -> ElementType
+    ensures { result ≡ element_of_integer integer }
+{
     match integer {
         IntegerType::Char | IntegerType::UnsignedChar => ElementType::U8,
         IntegerType::SignedChar => ElementType::I8,
@@ -16,7 +21,9 @@ fn of_integer(integer: IntegerType) -> ElementType {
 }
 
 /// The element type of an image that a scalar type is.
-fn of_scalar(scalar: Scalar) -> ElementType {
+fn of_scalar(scalar: Scalar) -> ElementType
+    ensures { result ≡ element_by_stars scalar.base scalar.stars }
+{
     if scalar.stars > 0 {
         ElementType::Pointer
     } else {
@@ -25,7 +32,10 @@ fn of_scalar(scalar: Scalar) -> ElementType {
 }
 
 /// The type of an object's elements, and how many it has; 0 for a scalar.
-pub fn elements_of(of: ObjectType) -> (ElementType, u32) {
+pub fn elements_of(of: ObjectType) -> (ElementType, u32)
+    ensures element { result.0 ≡ element_of of }
+    ensures count { result.1 ≡ count_of of }
+{
     match of {
         ObjectType::Scalar(scalar) => (of_scalar(scalar), 0),
         ObjectType::Array { element, count } => (of_scalar(element), count),

@@ -1,5 +1,9 @@
 //! The table of variables.
 
+ghost use Rattle.std.specs.Prelude.{◌≡◌, ◌++◌, IfOk, OnOk, map};
+ghost use Rattle.c_tree.specs.Programs.{automatic_view, literal_view, program_view, static_view};
+ghost use Rattle.image_declarations.specs.Variables.{automatic_shape, literal_shape, shape, shapes_of, static_shape};
+
 use crate::element::elements_of;
 use crate::numbers::number_of;
 use crate::storages::Storages;
@@ -38,7 +42,9 @@ fn push_statics(
     program: &Program,
     storages: &Storages,
     variables: &mut Vec<Variable>,
-) -> Result<(), AllocError> {
+) -> Result<(), AllocError>
+    ensures { OnOk result (map shape variables.new.items ≡ map shape variables.old.items ++ map static_shape (map static_view program.now.statics.items)) }
+{
     for (number, of) in program.statics.iter().enumerate() {
         let (element, count) = elements_of(of.of);
         variables.push(Variable {
@@ -58,7 +64,9 @@ fn push_literals(
     program: &Program,
     storages: &Storages,
     variables: &mut Vec<Variable>,
-) -> Result<(), AllocError> {
+) -> Result<(), AllocError>
+    ensures { OnOk result (map shape variables.new.items ≡ map shape variables.old.items ++ map literal_shape (map literal_view program.now.literals.items)) }
+{
     let before = program.statics.len();
     for (number, of) in program.literals.iter().enumerate() {
         variables.push(Variable {
@@ -80,7 +88,9 @@ fn push_automatics(
     storages: &Storages,
     before: usize,
     variables: &mut Vec<Variable>,
-) -> Result<(), AllocError> {
+) -> Result<(), AllocError>
+    ensures { OnOk result (map shape variables.new.items ≡ map shape variables.old.items ++ map automatic_shape (map automatic_view automatics.now)) }
+{
     for (number, of) in automatics.iter().enumerate() {
         let (element, count) = elements_of(of.of);
         variables.push(Variable {
@@ -109,7 +119,9 @@ pub fn variables_of(
     alloc: Global,
     program: &Program,
     storages: &Storages,
-) -> Result<Vec<Variable>, AllocError> {
+) -> Result<Vec<Variable>, AllocError>
+    ensures { IfOk result (λ v. map shape v.items ≡ shapes_of (program_view program.now)) }
+{
     let owners = owners_of(alloc, &program.functions, program.automatics.len())?;
     let before = program.statics.len().saturating_add(program.literals.len());
     let mut variables = Vec::new(alloc);

@@ -1,0 +1,78 @@
+-- What an image says of what a program declares.
+use Rattle.std.specs.Prelude.{ℕ, zero, suc, min, List, ◌++◌, length, map}
+use Rattle.std.specs.List.{flat_map}
+use Rattle.c_tree.specs.declared.types.IntegerType.{IntegerType}
+use Rattle.c_tree.specs.declared.types.IntegerType.TheVariants.{Char, SignedChar, UnsignedChar, Short, UnsignedShort, Int, UnsignedInt, Long, UnsignedLong}
+use Rattle.c_tree.specs.declared.object_type.ObjectType.{ObjectType}
+use Rattle.c_tree.specs.declared.object_type.ObjectType.TheVariants as type
+use Rattle.c_tree.specs.Programs.{AutomaticTree, LiteralTree, ProgramTree, StaticTree, TypedFunctionTree}
+use Rattle.image_form.specs.declared.tables.Function.{Function}
+use Rattle.image_form.specs.declared.variables.ElementType.{ElementType}
+use Rattle.image_form.specs.declared.variables.ElementType.TheVariants.{U8, I8, U16, I16, U32, I32, Pointer}
+use Rattle.image_form.specs.declared.variables.Variable.{Variable}
+
+-- the element type of an integer type
+abbrev pub element_of_integer : IntegerType → ElementType
+element_of_integer Char = U8
+element_of_integer SignedChar = I8
+element_of_integer UnsignedChar = U8
+element_of_integer Short = I16
+element_of_integer UnsignedShort = U16
+element_of_integer Int = I32
+element_of_integer UnsignedInt = U32
+element_of_integer Long = I32
+element_of_integer UnsignedLong = U32
+
+-- the element type of a scalar type: a pointer where it has a `*`, else that of its integer type
+abbrev pub element_by_stars : IntegerType → (stars : ℕ) → ElementType
+element_by_stars base zero = element_of_integer base
+element_by_stars base (suc stars) = Pointer
+
+-- the element type of an object's type
+abbrev pub element_of : ObjectType → ElementType
+element_of (type.Scalar s) = element_by_stars s.base s.stars
+element_of (type.Array s count) = element_by_stars s.base s.stars
+
+-- the number of elements of an array; 0 for a scalar
+abbrev pub count_of : ObjectType → ℕ
+count_of (type.Scalar s) = 0
+count_of (type.Array s count) = count
+
+-- how many there are, as far as numbers of 32 bits go
+abbrev pub counted : ℕ → ℕ
+counted n = min n 4294967295
+
+-- What an image says of a variable, but for its function and where it is kept: how long its name is, where it is declared, of what elements it is made and of how many.
+pub record Shape : Type 0 where
+  pub name_length : ℕ
+  pub position : ℕ
+  pub element : ElementType
+  pub count : ℕ
+
+abbrev pub shape : Variable → Shape
+shape v = record { name_length = v.name_length; position = v.position; element = v.element; count = v.count }
+
+abbrev pub static_shape : StaticTree → Shape
+static_shape v = record { name_length = counted (length v.name); position = v.spot.at; element = element_of v.of; count = count_of v.of }
+
+-- a string literal has no name, and is an array of bytes
+abbrev pub literal_shape : LiteralTree → Shape
+literal_shape l = record { name_length = 0; position = l.spot.at; element = U8; count = counted (length l.bytes) }
+
+abbrev pub automatic_shape : AutomaticTree → Shape
+automatic_shape v = record { name_length = counted (length v.name); position = v.spot.at; element = element_of v.of; count = count_of v.of }
+
+-- the variables of a program: the named static ones, the literals, the automatic ones
+abbrev pub shapes_of : ProgramTree → List Shape
+shapes_of p = map static_shape p.statics ++ (map literal_shape p.literals ++ map automatic_shape p.automatics)
+
+-- the names of a program's functions and variables, one after the other
+abbrev pub declared_names : ProgramTree → List ℕ
+declared_names p = flat_map (λ (f : TypedFunctionTree). f.name) p.functions ++ (flat_map (λ (v : StaticTree). v.name) p.statics ++ flat_map (λ (v : AutomaticTree). v.name) p.automatics)
+
+-- how long the name of a function is
+abbrev pub name_length : Function → ℕ
+name_length f = f.name_length
+
+abbrev pub length_of_name : TypedFunctionTree → ℕ
+length_of_name f = counted (length f.name)
