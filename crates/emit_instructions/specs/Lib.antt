@@ -1,2 +1,7 @@
-pub mod Words
+pub mod Calls
+pub mod Code
+pub mod Filling
+pub mod Memory
+pub mod Operations
 pub mod Stops
+pub mod Words

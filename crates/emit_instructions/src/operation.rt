@@ -4,6 +4,11 @@ ghost use Rattle.std.specs.Prelude.{◌≡◌, ◌≤◌, ◌+◌, OnOk};
 ghost use Rattle.emit_words.specs.Shown.{shown};
 ghost use Rattle.emit_pieces.specs.Words.{words_in};
 
+ghost use Rattle.graph_core.specs.Graphs.{operand_view};
+ghost use Rattle.emit_storage.specs.Storages.{home_at, source_of, storage_view};
+ghost use Rattle.emit_words.specs.Growing.{code_state, with_code};
+ghost use Rattle.emit_instructions.specs.Operations.{by_word, compared, comparison_code, constant_written, if_small, immediate_form, is_commutative, move_code, on_immediate, on_registers, operation_code, power_of_two, register_operation, shifted_twice, truncation_code};
+
 use emit_pieces::register;
 use emit_storage::{Source, Storage};
 use emit_words::{Code, is_small, result_register};
@@ -14,7 +19,9 @@ use std::alloc::AllocError;
 use word_base::{Operation, Truncation, operate};
 
 /// Of which number a word is the power of two, if it is one.
-fn power_of_two(word: u32) -> Option<u32> {
+fn power_of_two(word: u32) -> Option<u32>
+    ensures { result ≡ power_of_two word }
+{
     for exponent in 0..32u32 {
         if word == 1 << exponent {
             return Some(exponent);
@@ -24,7 +31,9 @@ fn power_of_two(word: u32) -> Option<u32> {
 }
 
 /// Whether the two operands of an operation may change places.
-fn is_commutative(operation: Operation) -> bool {
+fn is_commutative(operation: Operation) -> bool
+    ensures { result ≡ is_commutative operation }
+{
     match operation {
         Operation::Add | Operation::Mul | Operation::And | Operation::Or | Operation::Xor => true,
         _ => false,
@@ -32,7 +41,9 @@ fn is_commutative(operation: Operation) -> bool {
 }
 
 /// The operation on two registers.
-fn register_operation(operation: Operation) -> RegisterOperation {
+fn register_operation(operation: Operation) -> RegisterOperation
+    ensures { result ≡ register_operation operation }
+{
     match operation {
         Operation::Add => RegisterOperation::Add,
         Operation::Sub => RegisterOperation::Sub,
@@ -87,7 +98,9 @@ fn power_immediate(operation: Operation, word: u32) -> Option<(ImmediateOperatio
 }
 
 /// The operation on a register and an immediate that does what this one does with a word on the right, if there is one.
-fn immediate_form(operation: Operation, word: u32) -> Option<(ImmediateOperation, u32)> {
+fn immediate_form(operation: Operation, word: u32) -> Option<(ImmediateOperation, u32)>
+    ensures { result ≡ immediate_form operation word }
+{
     if let Some(shift) = shift_immediate(operation) {
         return Some((shift, word % 32));
     }
@@ -118,6 +131,7 @@ fn write_constant(
 ) -> Result<(), AllocError>
     ensures few { OnOk result (words_in code.new.pieces.items ≤ words_in code.old.pieces.items + 5) }
     ensures stops { OnOk result (shown code.new ≡ shown code.old) }
+    ensures grown { OnOk result (code_state code.new ≡ with_code (constant_written (storage_view storage.now) code.old.held.items target word) (code_state code.old)) }
 {
     match target {
         Home::Register(register) => code.set_constant(register, word, storage.base),
@@ -139,6 +153,7 @@ fn operate_registers(
 ) -> Result<(), AllocError>
     ensures few { OnOk result (words_in code.new.pieces.items ≤ words_in code.old.pieces.items + 10) }
     ensures stops { OnOk result (shown code.new ≡ shown code.old) }
+    ensures grown { OnOk result (code_state code.new ≡ with_code (on_registers (storage_view storage.now) code.old.held.items target operation left right) (code_state code.old)) }
 {
     let left = code.fetch_source(storage, left, register::T1)?;
     let right = code.fetch_source(storage, right, register::T2)?;
@@ -158,6 +173,7 @@ fn operate_immediate(
 ) -> Result<(), AllocError>
     ensures few { OnOk result (words_in code.new.pieces.items ≤ words_in code.old.pieces.items + 7) }
     ensures stops { OnOk result (shown code.new ≡ shown code.old) }
+    ensures grown { OnOk result (code_state code.new ≡ with_code (on_immediate (storage_view storage.now) code.old.held.items target operation source immediate) (code_state code.old)) }
 {
     let source = code.fetch_source(storage, source, register::T1)?;
     let rd = result_register(target);
@@ -176,6 +192,7 @@ fn operate_by_word(
 ) -> Result<(), AllocError>
     ensures few { OnOk result (words_in code.new.pieces.items ≤ words_in code.old.pieces.items + 10) }
     ensures stops { OnOk result (shown code.new ≡ shown code.old) }
+    ensures grown { OnOk result (code_state code.new ≡ with_code (by_word (storage_view storage.now) code.old.held.items target operation left right) (code_state code.old)) }
 {
     match immediate_form(operation, right) {
         Some((immediate, word)) => {
@@ -203,6 +220,7 @@ pub fn put_operation(
 ) -> Result<(), AllocError>
     ensures few { OnOk result (words_in code.new.pieces.items ≤ words_in code.old.pieces.items + 10) }
     ensures stops { OnOk result (shown code.new ≡ shown code.old) }
+    ensures grown { OnOk result (code_state code.new ≡ with_code (operation_code (storage_view storage.now) code.old.held.items (home_at (storage_view storage.now) target.0) operation (source_of (storage_view storage.now) (operand_view left)) (source_of (storage_view storage.now) (operand_view right))) (code_state code.old)) }
 {
     let target = storage.home(target);
     match (storage.source(left), storage.source(right)) {
@@ -239,6 +257,7 @@ fn shift_twice(
 ) -> Result<(), AllocError>
     ensures few { OnOk result (words_in code.new.pieces.items ≤ words_in code.old.pieces.items + 8) }
     ensures stops { OnOk result (shown code.new ≡ shown code.old) }
+    ensures grown { OnOk result (code_state code.new ≡ with_code (shifted_twice (storage_view storage.now) code.old.held.items target source by back) (code_state code.old)) }
 {
     let source = code.fetch_source(storage, source, register::T1)?;
     code.put_immediate(ImmediateOperation::Slli, register::T1, source, by)?;
@@ -257,6 +276,7 @@ pub fn put_truncation(
 ) -> Result<(), AllocError>
     ensures few { OnOk result (words_in code.new.pieces.items ≤ words_in code.old.pieces.items + 8) }
     ensures stops { OnOk result (shown code.new ≡ shown code.old) }
+    ensures grown { OnOk result (code_state code.new ≡ with_code (truncation_code (storage_view storage.now) code.old.held.items (home_at (storage_view storage.now) target.0) truncation (source_of (storage_view storage.now) (operand_view from))) (code_state code.old)) }
 {
     let target = storage.home(target);
     let from = storage.source(from);
@@ -286,6 +306,7 @@ fn compare_registers(
 ) -> Result<(), AllocError>
     ensures few { OnOk result (words_in code.new.pieces.items ≤ words_in code.old.pieces.items + 11) }
     ensures stops { OnOk result (shown code.new ≡ shown code.old) }
+    ensures grown { OnOk result (code_state code.new ≡ with_code (compared (storage_view storage.now) code.old.held.items target left right) (code_state code.old)) }
 {
     let left = code.fetch_source(storage, left, register::T1)?;
     let right = code.fetch_source(storage, right, register::T2)?;
@@ -305,6 +326,7 @@ pub fn put_comparison(
 ) -> Result<(), AllocError>
     ensures few { OnOk result (words_in code.new.pieces.items ≤ words_in code.old.pieces.items + 11) }
     ensures stops { OnOk result (shown code.new ≡ shown code.old) }
+    ensures grown { OnOk result (code_state code.new ≡ with_code (comparison_code (storage_view storage.now) code.old.held.items (home_at (storage_view storage.now) target.0) (source_of (storage_view storage.now) (operand_view left)) (source_of (storage_view storage.now) (operand_view right))) (code_state code.old)) }
 {
     let target = storage.home(target);
     match (storage.source(left), storage.source(right)) {
@@ -324,6 +346,7 @@ pub fn put_move(
 ) -> Result<(), AllocError>
     ensures few { OnOk result (words_in code.new.pieces.items ≤ words_in code.old.pieces.items + 6) }
     ensures stops { OnOk result (shown code.new ≡ shown code.old) }
+    ensures grown { OnOk result (code_state code.new ≡ with_code (move_code (storage_view storage.now) code.old.held.items (home_at (storage_view storage.now) target.0) (source_of (storage_view storage.now) (operand_view from))) (code_state code.old)) }
 {
     let target = storage.home(target);
     match (target, storage.source(from)) {
