@@ -3,7 +3,7 @@ use Rattle.std.specs.Prelude.{ℕ, ◌==◌, not}
 use Rattle.graph_core.specs.Graphs.{Instruction, Marker, Note, Move, Operate, Truncate, Same, Address, Load, Store, Zero, CopyWords, Call}
 use Rattle.emit_storage.specs.Storages.{StorageForm, home_at, source_of}
 use Rattle.emit_words.specs.Growing.{CodeState, with_code, settled}
-use Rattle.emit_instructions.specs.Operations.{operation_code, truncation_code, comparison_code, move_code}
+use Rattle.emit_operations.specs.Operations.{operation_code, truncation_code, comparison_code, move_code}
 use Rattle.emit_instructions.specs.Memory.{load_code, store_code, object_address_code}
 use Rattle.emit_instructions.specs.Filling.{zero_code, copy_code}
 use Rattle.emit_instructions.specs.Calls.{with_call}

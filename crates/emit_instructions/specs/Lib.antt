@@ -2,6 +2,5 @@ pub mod Calls
 pub mod Code
 pub mod Filling
 pub mod Memory
-pub mod Operations
 pub mod Stops
 pub mod Words

@@ -14,7 +14,7 @@ ghost use Rattle.emit_instructions.specs.Code.{with_instruction};
 use crate::call::put_call;
 use crate::filling::{put_copy, put_zero};
 use crate::memory::{put_address_of, put_load, put_store};
-use crate::operation::{put_comparison, put_move, put_operation, put_truncation};
+use emit_operations::{put_comparison, put_move, put_operation, put_truncation};
 use emit_storage::Storage;
 use emit_words::Code;
 use graph_core::Instr;

@@ -66,7 +66,7 @@ power_from e zero w = None
 power_from e (suc n) w = if w == 2 ^ e then Some e else power_from (e + 1) n w
 
 -- The same of all powers that are words.
-abbrev pub power_of_two : (word : ℕ) → Option ℕ
+unfoldable pub power_of_two : (word : ℕ) → Option ℕ
 power_of_two w = power_from 0 32 w
 
 -- The operation on a register and an immediate that does what an operation does with a word on the right, if there is one:

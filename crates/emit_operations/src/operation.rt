@@ -3,124 +3,20 @@
 ghost use Rattle.std.specs.Prelude.{◌≡◌, ◌≤◌, ◌+◌, OnOk};
 ghost use Rattle.emit_words.specs.Shown.{shown};
 ghost use Rattle.emit_pieces.specs.Words.{words_in};
-
 ghost use Rattle.graph_core.specs.Graphs.{operand_view};
 ghost use Rattle.emit_storage.specs.Storages.{home_at, source_of, storage_view};
 ghost use Rattle.emit_words.specs.Growing.{code_state, with_code};
-ghost use Rattle.emit_instructions.specs.Operations.{by_word, compared, comparison_code, constant_written, if_small, immediate_form, is_commutative, move_code, on_immediate, on_registers, operation_code, power_of_two, register_operation, shifted_twice, truncation_code};
+ghost use Rattle.emit_operations.specs.Operations.{by_word, compared, comparison_code, constant_written, move_code, on_immediate, on_registers, operation_code, shifted_twice, truncation_code};
 
+use crate::form::{immediate_form, is_commutative, register_operation};
 use emit_pieces::register;
 use emit_storage::{Source, Storage};
-use emit_words::{Code, is_small, result_register};
+use emit_words::{Code, result_register};
 use graph_core::{Name, Operand};
 use graph_homes::Home;
 use rv_code::{ImmediateOperation, Instruction, RegisterOperation};
 use std::alloc::AllocError;
 use word_base::{Operation, Truncation, operate};
-
-/// Of which number a word is the power of two, if it is one.
-fn power_of_two(word: u32) -> Option<u32>
-    ensures { result ≡ power_of_two word }
-{
-    for exponent in 0..32u32 {
-        if word == 1 << exponent {
-            return Some(exponent);
-        }
-    }
-    None
-}
-
-/// Whether the two operands of an operation may change places.
-fn is_commutative(operation: Operation) -> bool
-    ensures { result ≡ is_commutative operation }
-{
-    match operation {
-        Operation::Add | Operation::Mul | Operation::And | Operation::Or | Operation::Xor => true,
-        _ => false,
-    }
-}
-
-/// The operation on two registers.
-fn register_operation(operation: Operation) -> RegisterOperation
-    ensures { result ≡ register_operation operation }
-{
-    match operation {
-        Operation::Add => RegisterOperation::Add,
-        Operation::Sub => RegisterOperation::Sub,
-        Operation::Mul => RegisterOperation::Mul,
-        Operation::Div => RegisterOperation::Div,
-        Operation::Divu => RegisterOperation::Divu,
-        Operation::Rem => RegisterOperation::Rem,
-        Operation::Remu => RegisterOperation::Remu,
-        Operation::Sll => RegisterOperation::Sll,
-        Operation::Srl => RegisterOperation::Srl,
-        Operation::Sra => RegisterOperation::Sra,
-        Operation::And => RegisterOperation::And,
-        Operation::Or => RegisterOperation::Or,
-        Operation::Xor => RegisterOperation::Xor,
-        Operation::Slt => RegisterOperation::Slt,
-        Operation::Sltu => RegisterOperation::Sltu,
-    }
-}
-
-/// The operation on a register and a small word that is the same operation with that word on the right.
-fn same_immediate(operation: Operation) -> Option<ImmediateOperation> {
-    match operation {
-        Operation::Add => Some(ImmediateOperation::Addi),
-        Operation::And => Some(ImmediateOperation::Andi),
-        Operation::Or => Some(ImmediateOperation::Ori),
-        Operation::Xor => Some(ImmediateOperation::Xori),
-        Operation::Slt => Some(ImmediateOperation::Slti),
-        Operation::Sltu => Some(ImmediateOperation::Sltiu),
-        _ => None,
-    }
-}
-
-/// The shift by a constant that is a shift of any kind.
-fn shift_immediate(operation: Operation) -> Option<ImmediateOperation> {
-    match operation {
-        Operation::Sll => Some(ImmediateOperation::Slli),
-        Operation::Srl => Some(ImmediateOperation::Srli),
-        Operation::Sra => Some(ImmediateOperation::Srai),
-        _ => None,
-    }
-}
-
-/// The operation on a register and an immediate that does what this one does with a power of two on the right.
-fn power_immediate(operation: Operation, word: u32) -> Option<(ImmediateOperation, u32)> {
-    let exponent = power_of_two(word)?;
-    match operation {
-        Operation::Mul => Some((ImmediateOperation::Slli, exponent)),
-        Operation::Divu => Some((ImmediateOperation::Srli, exponent)),
-        Operation::Remu if exponent <= 11 => Some((ImmediateOperation::Andi, word.wrapping_sub(1))),
-        _ => None,
-    }
-}
-
-/// The operation on a register and an immediate that does what this one does with a word on the right, if there is one.
-fn immediate_form(operation: Operation, word: u32) -> Option<(ImmediateOperation, u32)>
-    ensures { result ≡ immediate_form operation word }
-{
-    if let Some(shift) = shift_immediate(operation) {
-        return Some((shift, word % 32));
-    }
-    if let Operation::Sub = operation {
-        let negative = 0u32.wrapping_sub(word);
-        return if is_small(negative) {
-            Some((ImmediateOperation::Addi, negative))
-        } else {
-            None
-        };
-    }
-    match same_immediate(operation) {
-        Some(same) => if is_small(word) {
-            Some((same, word))
-        } else {
-            None
-        },
-        None => power_immediate(operation, word),
-    }
-}
 
 /// A target becomes a constant.
 fn write_constant(
