@@ -1,5 +1,5 @@
 -- The code that sets objects to zero or to bytes that are known. Registers 0, 2, 5 to 7 and 10 are the one that is 0, sp, t0 to t2 and a0.
-use Rattle.std.specs.Prelude.{ℕ, zero, suc, ◌+◌, ◌-◌, ◌*◌, ◌%◌, ◌==◌, ◌&&◌, ◌||◌, nat_lt, nat_le, if◌then◌else◌, List, [], ◌∷◌, ◌++◌}
+use Rattle.std.specs.Prelude.{ℕ, zero, suc, ◌+◌, ◌*◌, ◌%◌, ◌==◌, ◌&&◌, ◌||◌, nat_lt, nat_le, if◌then◌else◌, List, [], ◌∷◌, ◌++◌}
 use Rattle.word_base.specs.Arithmetic.{subtracted}
 use Rattle.rv_code.specs.declared.instruction.Instruction.{Instruction}
 use Rattle.rv_code.specs.declared.instruction.Instruction.TheVariants.{Branch, Load, Store, Immediate, Register}
@@ -37,4 +37,4 @@ abbrev pub copy_code : StorageForm → List Held → (object bytes words : ℕ) 
 copy_code g held object bytes words =
     if words == 0 then []
     else address_code 6 6 (object_at g object) ++ set_constant_code 7 (array_bytes_at g bytes) g.base held ++ limit_code 10 (words * 4 % 4294967296)
-        ++ Load Lw 5 7 0 ∷ Store Sw 5 6 0 ∷ Immediate Addi 7 7 4 ∷ turn_code 10 16
+    ++ Load Lw 5 7 0 ∷ Store Sw 5 6 0 ∷ Immediate Addi 7 7 4 ∷ turn_code 10 16

@@ -3,7 +3,6 @@
 ghost use Rattle.std.specs.Prelude.{◌≡◌, ◌≤◌, ◌+◌, ◌*◌, OnOk, length};
 ghost use Rattle.emit_words.specs.Shown.{shown};
 ghost use Rattle.emit_pieces.specs.Words.{words_in};
-
 ghost use Rattle.std.specs.Prelude.{map, option_map};
 ghost use Rattle.graph_core.specs.declared.name.Name as declared_name;
 ghost use Rattle.graph_core.specs.Graphs.{operand_view};

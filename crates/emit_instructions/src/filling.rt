@@ -3,7 +3,6 @@
 ghost use Rattle.std.specs.Prelude.{◌≡◌, ◌≤◌, ◌+◌, OnOk};
 ghost use Rattle.emit_words.specs.Shown.{shown};
 ghost use Rattle.emit_pieces.specs.Words.{words_in};
-
 ghost use Rattle.std.specs.Prelude.{[], ◌∷◌};
 ghost use Rattle.rv_code.specs.declared.instruction.Instruction.TheVariants as instruction;
 ghost use Rattle.rv_code.specs.declared.instruction.LoadOperation.TheVariants.{Lw};

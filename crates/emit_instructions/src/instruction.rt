@@ -6,7 +6,6 @@ ghost use Rattle.emit_pieces.specs.Words.{words_in};
 ghost use Rattle.graph_core.specs.Graphs.{instruction_view};
 ghost use Rattle.emit_instructions.specs.Stops.{shown_behind};
 ghost use Rattle.emit_instructions.specs.Words.{most_words_of};
-
 ghost use Rattle.emit_storage.specs.Storages.{storage_view};
 ghost use Rattle.emit_words.specs.Growing.{code_state};
 ghost use Rattle.emit_instructions.specs.Code.{with_instruction};

@@ -3,7 +3,6 @@
 ghost use Rattle.std.specs.Prelude.{◌≡◌, ◌≤◌, ◌+◌, OnOk, IfOk};
 ghost use Rattle.emit_words.specs.Shown.{shown};
 ghost use Rattle.emit_pieces.specs.Words.{words_in};
-
 ghost use Rattle.graph_core.specs.Graphs.{location_view, operand_view};
 ghost use Rattle.emit_storage.specs.Storages.{home_at, object_at, source_of, storage_view};
 ghost use Rattle.emit_words.specs.Growing.{code_state, with_code};

@@ -10,6 +10,7 @@ use Rattle.emit_instructions.proofs.call.pass_all.Given as goal
 abbrev pub invariant-loop-left : goal.invariant-loop-left
 invariant-loop-left l = record {
   few : words_in l.code.pieces.items + 3 * length l.left ≤ words_in l.fn.code.pieces.items + 3 * length l.fn.arguments;
+  small : l.number ≤ 255;
   stops : shown l.code ≡ shown l.fn.code;
   grown : passed_from (storage_view l.fn.storage) l.number (map operand_view l.left) (code_state l.code) ≡ passed_from (storage_view l.fn.storage) 0 (map operand_view l.fn.arguments) (code_state l.fn.code);
 }
