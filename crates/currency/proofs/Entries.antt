@@ -14,7 +14,7 @@ use Rattle.graph_core.specs.declared.graph.Graph as declared-graph
 use Rattle.graph_core.specs.Graphs.{Graph, Scalar, Of, Name, Recipe, graph_view, recipe_view, scalar_view}
 use Rattle.graph_core.specs.Paths.{Among, front, behind}
 use Rattle.graph_core.specs.WellMarked.{IsVariable}
-use Rattle.note_state.proofs.Lists.{get_among, get_any, each_all, each_more}
+use Rattle.note_state.proofs.Lists.{get_among, each_all, each_more}
 use Rattle.note_flow.specs.declared.found.Unshown as declared-unshown
 use Rattle.note_flow.specs.Found.{entries_of, IsPlaceOf}
 use Rattle.note_flow.specs.Shown.{AreDifferent, AreOwn, ArePlaced, AreRecipes, AreTheirs, IsNoEntry, IsVisible}
@@ -41,11 +41,6 @@ entry_next old new more var entries k u what lt is before one recipe = record {
   told = each_more (λ w. (t : declared-variable.ToldVariable) × Among t (told_at more w.place.0) × (t.var ≡ var)) entries k u lt is
       (λ w among. (let f = before.told w among in (f.0, one.kept w.place.0 f.0 f.1, f.2))) one.told;
 }
-
--- the same, of the entry that was read
-pub entry_next_any : (old new more : declared-places.ToldPlaces) (var : declared-var.Var) (entries : List declared-unshown.Unshown) (k : ℕ) (d : declared-unshown.Unshown) (what : declared-told.Told) → k < length entries
-    → AreToldSoFar old new var entries k → IsToldOne new more (get_or entries k d).place.0 var what → IsRecipeOf what (get_or entries k d).last → AreToldSoFar old more var entries (k + 1)
-entry_next_any old new more var entries k d what lt before one recipe = entry_next old new more var entries k (get_or entries k d) what lt (get_any entries k d (get_or entries k d) lt) before one recipe
 
 pub entries_first : (old : declared-places.ToldPlaces) (var : declared-var.Var) (entries : List declared-unshown.Unshown) → AreToldSoFar old old var entries 0
 entries_first old var entries = record { kept = λ p t there. there; only = λ p t there. inl there; told = λ u among. absurd (none entries u among) }

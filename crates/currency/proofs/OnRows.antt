@@ -41,10 +41,6 @@ slot_next told slots k here is lt before j t small at = elim (eqb_tells t.var.0 
   ]
 ]
 
--- the same, read with any default
-pub slot_next_any : (told : List declared-variable.ToldVariable) (slots : List ℕ) (k : ℕ) (d : declared-variable.ToldVariable) → k < length told → (get_or told k d).var.0 < length slots → AreSlottedTo told slots k → AreSlottedTo told (slice_set slots (get_or told k d).var.0 (k + 1)) (k + 1)
-slot_next_any told slots k d lt small before = slot_next told slots k (get_or told k d) (slice_get-get_or told k d lt) small before
-
 pub slots_all : (told : List declared-variable.ToldVariable) (slots : List ℕ) (count : ℕ) → length told ≤ count → AreSlottedTo told slots count → AreSlotted told slots
 slots_all told slots count le each t among = (let f = among_at told among in (let lt = slice_get_within told f.0 t f.1 in each f.0 t (omega (arith, le, lt)) f.1))
 
@@ -142,7 +138,7 @@ rows_more table told p row old new is before more w there = elim (more w there) 
     )
 
 -- What verdicts say is so on all paths.
-module _ (u : HomedForm) (table : declared-table.PlaceTable) (told : declared-places.ToldPlaces) (rows : List declared-row.PlaceVerdict) (so : AreSo u table told) (each : AreRowsTold table told rows) where
+module _ (u : HomedForm) (table : declared-table.PlaceTable) (found : declared-places.ToldPlaces) (rows : List declared-row.PlaceVerdict) (so : AreSo u table found) (each : AreRowsTold table found rows) where
   not_hidden : (what : declared-told.Told) (v : declared-verdict.Verdict) → v ≡ verdict.Home → IsVerdictOf what v → ⊥
   not_hidden (told.Recovered r c) v e of = subst (λ (z : declared-verdict.Verdict). IsVerdictOf (told.Recovered r c) z) e of
   not_hidden (told.Hidden cause) v e of = subst (λ (z : declared-verdict.Verdict). IsVerdictOf (told.Hidden cause) z) e of
@@ -153,10 +149,10 @@ module _ (u : HomedForm) (table : declared-table.PlaceTable) (told : declared-pl
       visible : IsVisible table w.place.0 w.var.0
       visible = (each w among).0
 
-      row : IsRowTold (told_at told w.place.0) w
+      row : IsRowTold (told_at found w.place.0) w
       row = (each w among).1
 
-      at_what : (o : Option declared-variable.ToldVariable) → MatchOption o (IsNoneTold (told_at told w.place.0) w.var) (λ t. IsToldOf (told_at told w.place.0) w.var t) → IsVerdictOn o w.verdict → HoldsOnAllPaths (home_of u f) g w.place.0 x (Of (Name x))
+      at_what : (o : Option declared-variable.ToldVariable) → MatchOption o (IsNoneTold (told_at found w.place.0) w.var) (λ t. IsToldOf (told_at found w.place.0) w.var t) → IsVerdictOn o w.verdict → HoldsOnAllPaths (home_of u f) g w.place.0 x (Of (Name x))
       at_what None none v = elim (so.own f g w.place.0 x w.var.0 (slice_get_within u.unit.graphs f g at) at is visible) [ inl a ↦ a | inr b ↦ absurd (none b.t b.among b.of) ]
       at_what (Some t) of v = absurd (not_hidden t.told w.verdict home v)
 
@@ -168,13 +164,13 @@ module _ (u : HomedForm) (table : declared-table.PlaceTable) (told : declared-pl
   pub are_recovered : AreRecovered u rows
   are_recovered w r c among is f x g at variable = at_what row.what row.is row.verdict
     where
-      row : IsRowTold (told_at told w.place.0) w
+      row : IsRowTold (told_at found w.place.0) w
       row = (each w among).1
 
       home_recovered : verdict.Recovered r c ≡ verdict.Home → ⊥
       home_recovered e = cc
 
-      at_what : (o : Option declared-variable.ToldVariable) → MatchOption o (IsNoneTold (told_at told w.place.0) w.var) (λ t. IsToldOf (told_at told w.place.0) w.var t) → IsVerdictOn o w.verdict → HoldsOnAllPaths (home_of u f) g w.place.0 x (recipe_view r)
+      at_what : (o : Option declared-variable.ToldVariable) → MatchOption o (IsNoneTold (told_at found w.place.0) w.var) (λ t. IsToldOf (told_at found w.place.0) w.var t) → IsVerdictOn o w.verdict → HoldsOnAllPaths (home_of u f) g w.place.0 x (recipe_view r)
       at_what None none v = absurd (home_recovered (sym is ∙ v))
       at_what (Some t) of v =
           is_right t.told r c w.place.0 t f x g (subst (λ (z : declared-verdict.Verdict). IsVerdictOf t.told z) is v) (so.right w.place.0 t f g of.0 (slice_get_within u.unit.graphs f g at) at) (subst (λ k. IsVariable g x k) (sym of.1) variable)

@@ -21,10 +21,11 @@ fn put_slots(told: &[ToldVariable<'_>], slots: &mut [u32]) -> bool
     ensures { result ≡ true → AreSlotted told.now slots.new }
 {
     for k in 0..told.len() {
-        if told[k].var.0 as usize >= slots.len() || k >= 0xffff_ffff {
+        let var = told[k].var;
+        if var.0 as usize >= slots.len() || k >= 0xffff_ffff {
             return false;
         }
-        slots[told[k].var.0 as usize] = k as u32 + 1;
+        slots[var.0 as usize] = k as u32 + 1;
     }
     true
 }

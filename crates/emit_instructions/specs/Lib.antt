@@ -1,2 +1,6 @@
-pub mod Words
+pub mod Calls
+pub mod Code
+pub mod Filling
+pub mod Memory
 pub mod Stops
+pub mod Words

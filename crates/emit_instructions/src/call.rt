@@ -3,6 +3,12 @@
 ghost use Rattle.std.specs.Prelude.{◌≡◌, ◌≤◌, ◌+◌, ◌*◌, OnOk, length};
 ghost use Rattle.emit_words.specs.Shown.{shown};
 ghost use Rattle.emit_pieces.specs.Words.{words_in};
+ghost use Rattle.std.specs.Prelude.{map, option_map};
+ghost use Rattle.graph_core.specs.declared.name.Name as declared_name;
+ghost use Rattle.graph_core.specs.Graphs.{operand_view};
+ghost use Rattle.emit_storage.specs.Storages.{storage_view};
+ghost use Rattle.emit_words.specs.Growing.{code_state};
+ghost use Rattle.emit_instructions.specs.Calls.{argument_register, called, environment_called, passed, passed_from, with_call};
 
 use emit_pieces::{Piece, register};
 use emit_storage::Storage;
@@ -12,7 +18,9 @@ use rv_code::Instruction;
 use std::alloc::AllocError;
 
 /// The number of a register that an argument passes in, the last one for those that have none.
-fn argument_register(number: u8) -> u8 {
+fn argument_register(number: u8) -> u8
+    ensures { result ≡ argument_register number }
+{
     if number < 8 {
         register::A0 + number
     } else {
@@ -29,6 +37,7 @@ fn pass(
 ) -> Result<(), AllocError>
     ensures few { OnOk result (words_in code.new.pieces.items ≤ words_in code.old.pieces.items + 3) }
     ensures stops { OnOk result (shown code.new ≡ shown code.old) }
+    ensures grown { OnOk result (code_state code.new ≡ passed (storage_view storage.now) number (operand_view argument) (code_state code.old)) }
 {
     let register = argument_register(number);
     let source = storage.source(argument);
@@ -41,11 +50,14 @@ fn pass(
 fn pass_all(code: &mut Code, storage: &Storage<'_>, arguments: &[Operand]) -> Result<(), AllocError>
     ensures few { OnOk result (words_in code.new.pieces.items ≤ words_in code.old.pieces.items + 3 * length arguments.now) }
     ensures stops { OnOk result (shown code.new ≡ shown code.old) }
+    ensures grown { OnOk result (code_state code.new ≡ passed_from (storage_view storage.now) 0 (map operand_view arguments.now) (code_state code.old)) }
 {
+    let mut left = arguments;
     let mut number = 0u8;
-    for argument in arguments {
-        pass(code, storage, number, *argument)?;
+    while let [first, rest @ ..] = left {
+        pass(code, storage, number, *first)?;
         number = number.saturating_add(1);
+        left = rest;
     }
     Ok(())
 }
@@ -54,6 +66,7 @@ fn pass_all(code: &mut Code, storage: &Storage<'_>, arguments: &[Operand]) -> Re
 fn call_environment(code: &mut Code, number: u32) -> Result<(), AllocError>
     ensures few { OnOk result (words_in code.new.pieces.items ≤ words_in code.old.pieces.items + 2) }
     ensures stops { OnOk result (shown code.new ≡ shown code.old) }
+    ensures grown { OnOk result (code_state code.new ≡ environment_called number (code_state code.old)) }
 {
     code.put_sum(register::A7, register::ZERO, number)?;
     code.forget(register::A7);
@@ -64,6 +77,7 @@ fn call_environment(code: &mut Code, number: u32) -> Result<(), AllocError>
 fn call_callee(code: &mut Code, callee: Callee) -> Result<(), AllocError>
     ensures few { OnOk result (words_in code.new.pieces.items ≤ words_in code.old.pieces.items + 2) }
     ensures stops { OnOk result (shown code.new ≡ shown code.old) }
+    ensures grown { OnOk result (code_state code.new ≡ called callee (code_state code.old)) }
 {
     match callee {
         Callee::Getchar => call_environment(code, 1),
@@ -86,6 +100,7 @@ pub fn put_call(
 ) -> Result<(), AllocError>
     ensures few { OnOk result (words_in code.new.pieces.items ≤ words_in code.old.pieces.items + (5 + 3 * length arguments.now)) }
     ensures stops { OnOk result (shown code.new ≡ shown code.old) }
+    ensures grown { OnOk result (code_state code.new ≡ with_call (storage_view storage.now) (option_map (λ (n : declared_name.Name). n.0) target) callee (map operand_view arguments.now) (code_state code.old)) }
 {
     pass_all(code, storage, arguments)?;
     call_callee(code, callee)?;

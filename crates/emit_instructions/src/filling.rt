@@ -3,6 +3,14 @@
 ghost use Rattle.std.specs.Prelude.{◌≡◌, ◌≤◌, ◌+◌, OnOk};
 ghost use Rattle.emit_words.specs.Shown.{shown};
 ghost use Rattle.emit_pieces.specs.Words.{words_in};
+ghost use Rattle.std.specs.Prelude.{[], ◌∷◌};
+ghost use Rattle.rv_code.specs.declared.instruction.Instruction.TheVariants as instruction;
+ghost use Rattle.rv_code.specs.declared.instruction.LoadOperation.TheVariants.{Lw};
+ghost use Rattle.rv_code.specs.declared.instruction.StoreOperation.TheVariants.{Sw};
+ghost use Rattle.rv_code.specs.declared.instruction.ImmediateOperation.TheVariants.{Addi};
+ghost use Rattle.emit_storage.specs.Storages.{storage_view};
+ghost use Rattle.emit_words.specs.Growing.{code_state, with_code};
+ghost use Rattle.emit_instructions.specs.Filling.{copy_code, limit_code, turn_code, zero_code, zeros_code};
 
 use emit_pieces::register;
 use emit_storage::Storage;
@@ -17,6 +25,7 @@ const MOST_SINGLE_WORDS: u32 = 4;
 fn put_word(code: &mut Code, value: u8, base: u8, offset: u32) -> Result<(), AllocError>
     ensures few { OnOk result (words_in code.new.pieces.items ≤ words_in code.old.pieces.items + 1) }
     ensures stops { OnOk result (shown code.new ≡ shown code.old) }
+    ensures grown { OnOk result (code_state code.new ≡ with_code (instruction.Store Sw value base offset ∷ []) (code_state code.old)) }
 {
     code.put(Instruction::Store(StoreOperation::Sw, value, base, offset))
 }
@@ -25,6 +34,7 @@ fn put_word(code: &mut Code, value: u8, base: u8, offset: u32) -> Result<(), All
 fn put_limit(code: &mut Code, rd: u8, bytes: u32) -> Result<(), AllocError>
     ensures few { OnOk result (words_in code.new.pieces.items ≤ words_in code.old.pieces.items + 3) }
     ensures stops { OnOk result (shown code.new ≡ shown code.old) }
+    ensures grown { OnOk result (code_state code.new ≡ with_code (limit_code rd bytes) (code_state code.old)) }
 {
     if is_small(bytes) {
         return code.put_sum(rd, register::T1, bytes);
@@ -37,6 +47,7 @@ fn put_limit(code: &mut Code, rd: u8, bytes: u32) -> Result<(), AllocError>
 fn put_turn(code: &mut Code, limit: u8, back: u32) -> Result<(), AllocError>
     ensures few { OnOk result (words_in code.new.pieces.items ≤ words_in code.old.pieces.items + 2) }
     ensures stops { OnOk result (shown code.new ≡ shown code.old) }
+    ensures grown { OnOk result (code_state code.new ≡ with_code (turn_code limit back) (code_state code.old)) }
 {
     code.put_sum(register::T1, register::T1, 4)?;
     code.put(Instruction::Branch(
@@ -51,6 +62,7 @@ fn put_turn(code: &mut Code, limit: u8, back: u32) -> Result<(), AllocError>
 fn put_zeros(code: &mut Code, offset: u32, words: u32) -> Result<(), AllocError>
     ensures few { OnOk result (words_in code.new.pieces.items ≤ words_in code.old.pieces.items + words) }
     ensures stops { OnOk result (shown code.new ≡ shown code.old) }
+    ensures grown { OnOk result (code_state code.new ≡ with_code (zeros_code offset words) (code_state code.old)) }
 {
     for word in 0..words {
         let at = offset.wrapping_add(word.wrapping_mul(4));
@@ -68,6 +80,7 @@ pub fn put_zero(
 ) -> Result<(), AllocError>
     ensures few { OnOk result (words_in code.new.pieces.items ≤ words_in code.old.pieces.items + 9) }
     ensures stops { OnOk result (shown code.new ≡ shown code.old) }
+    ensures grown { OnOk result (code_state code.new ≡ with_code (zero_code (storage_view storage.now) object words) (code_state code.old)) }
 {
     let offset = storage.object(object);
     if words == 0 || (words <= MOST_SINGLE_WORDS && offset < 2032) {
@@ -83,6 +96,7 @@ pub fn put_zero(
 fn put_copied_word(code: &mut Code) -> Result<(), AllocError>
     ensures few { OnOk result (words_in code.new.pieces.items ≤ words_in code.old.pieces.items + 3) }
     ensures stops { OnOk result (shown code.new ≡ shown code.old) }
+    ensures grown { OnOk result (code_state code.new ≡ with_code (instruction.Load Lw 5 7 0 ∷ instruction.Store Sw 5 6 0 ∷ instruction.Immediate Addi 7 7 4 ∷ []) (code_state code.old)) }
 {
     code.put(Instruction::Load(LoadOperation::Lw, register::T0, register::T2, 0))?;
     put_word(code, register::T0, register::T1, 0)?;
@@ -99,6 +113,7 @@ pub fn put_copy(
 ) -> Result<(), AllocError>
     ensures few { OnOk result (words_in code.new.pieces.items ≤ words_in code.old.pieces.items + 13) }
     ensures stops { OnOk result (shown code.new ≡ shown code.old) }
+    ensures grown { OnOk result (code_state code.new ≡ with_code (copy_code (storage_view storage.now) code.old.held.items object bytes words) (code_state code.old)) }
 {
     if words == 0 {
         return Ok(());

@@ -5,7 +5,6 @@ mod call;
 mod filling;
 mod instruction;
 mod memory;
-mod operation;
 
 pub use instruction::put_instruction;
 pub use memory::put_first;

@@ -1,8 +1,12 @@
 //! Loads, stores and addresses.
 
-ghost use Rattle.std.specs.Prelude.{◌≡◌, ◌≤◌, ◌+◌, OnOk};
+ghost use Rattle.std.specs.Prelude.{◌≡◌, ◌≤◌, ◌+◌, OnOk, IfOk};
 ghost use Rattle.emit_words.specs.Shown.{shown};
 ghost use Rattle.emit_pieces.specs.Words.{words_in};
+ghost use Rattle.graph_core.specs.Graphs.{location_view, operand_view};
+ghost use Rattle.emit_storage.specs.Storages.{home_at, object_at, source_of, storage_view};
+ghost use Rattle.emit_words.specs.Growing.{code_state, with_code};
+ghost use Rattle.emit_instructions.specs.Memory.{frame_reach, load_code, load_operation, object_address_code, pointer_reach, reach_of, static_reach, store_code, store_operation, storing};
 
 use emit_pieces::register;
 use emit_storage::{Source, Storage};
@@ -19,7 +23,9 @@ struct Reached {
 }
 
 /// The load of an element.
-fn load_operation(element: Element) -> LoadOperation {
+fn load_operation(element: Element) -> LoadOperation
+    ensures { result ≡ load_operation element }
+{
     match element {
         Element::Unsigned8 => LoadOperation::Lbu,
         Element::Signed8 => LoadOperation::Lb,
@@ -30,7 +36,9 @@ fn load_operation(element: Element) -> LoadOperation {
 }
 
 /// The store of an element.
-fn store_operation(element: Element) -> StoreOperation {
+fn store_operation(element: Element) -> StoreOperation
+    ensures { result ≡ store_operation element }
+{
     match element {
         Element::Unsigned8 | Element::Signed8 => StoreOperation::Sb,
         Element::Unsigned16 | Element::Signed16 => StoreOperation::Sh,
@@ -42,6 +50,9 @@ fn store_operation(element: Element) -> StoreOperation {
 fn reach_static(code: &mut Code, storage: &Storage<'_>, address: u32) -> Result<Reached, AllocError>
     ensures few { OnOk result (words_in code.new.pieces.items ≤ words_in code.old.pieces.items + 2) }
     ensures stops { OnOk result (shown code.new ≡ shown code.old) }
+    ensures grown { OnOk result (code_state code.new ≡ with_code ((static_reach (storage_view storage.now) code.old.held.items address).code) (code_state code.old)) }
+    ensures base { IfOk result (λ r. r.base ≡ (static_reach (storage_view storage.now) code.old.held.items address).base) }
+    ensures offset { IfOk result (λ r. r.offset ≡ (static_reach (storage_view storage.now) code.old.held.items address).offset) }
 {
     let distance = address.wrapping_sub(storage.base);
     if is_small(distance) {
@@ -62,6 +73,9 @@ fn reach_static(code: &mut Code, storage: &Storage<'_>, address: u32) -> Result<
 fn reach_frame(code: &mut Code, offset: u32) -> Result<Reached, AllocError>
     ensures few { OnOk result (words_in code.new.pieces.items ≤ words_in code.old.pieces.items + 2) }
     ensures stops { OnOk result (shown code.new ≡ shown code.old) }
+    ensures grown { OnOk result (code_state code.new ≡ with_code ((frame_reach offset).code) (code_state code.old)) }
+    ensures base { IfOk result (λ r. r.base ≡ (frame_reach offset).base) }
+    ensures offset { IfOk result (λ r. r.offset ≡ (frame_reach offset).offset) }
 {
     if offset < 2048 {
         return Ok(Reached {
@@ -90,6 +104,9 @@ fn reach_pointer(
 ) -> Result<Reached, AllocError>
     ensures few { OnOk result (words_in code.new.pieces.items ≤ words_in code.old.pieces.items + 3) }
     ensures stops { OnOk result (shown code.new ≡ shown code.old) }
+    ensures grown { OnOk result (code_state code.new ≡ with_code ((pointer_reach (storage_view storage.now) code.old.held.items (source_of (storage_view storage.now) (operand_view pointer))).code) (code_state code.old)) }
+    ensures base { IfOk result (λ r. r.base ≡ (pointer_reach (storage_view storage.now) code.old.held.items (source_of (storage_view storage.now) (operand_view pointer))).base) }
+    ensures offset { IfOk result (λ r. r.offset ≡ (pointer_reach (storage_view storage.now) code.old.held.items (source_of (storage_view storage.now) (operand_view pointer))).offset) }
 {
     match storage.source(pointer) {
         Source::Word(address) => reach_static(code, storage, address),
@@ -104,6 +121,9 @@ fn reach_pointer(
 fn reach(code: &mut Code, storage: &Storage<'_>, location: Location) -> Result<Reached, AllocError>
     ensures few { OnOk result (words_in code.new.pieces.items ≤ words_in code.old.pieces.items + 3) }
     ensures stops { OnOk result (shown code.new ≡ shown code.old) }
+    ensures grown { OnOk result (code_state code.new ≡ with_code ((reach_of (storage_view storage.now) code.old.held.items (location_view location)).code) (code_state code.old)) }
+    ensures base { IfOk result (λ r. r.base ≡ (reach_of (storage_view storage.now) code.old.held.items (location_view location)).base) }
+    ensures offset { IfOk result (λ r. r.offset ≡ (reach_of (storage_view storage.now) code.old.held.items (location_view location)).offset) }
 {
     match location {
         Location::Automatic { object, offset } => {
@@ -124,6 +144,7 @@ pub fn put_load(
 ) -> Result<(), AllocError>
     ensures few { OnOk result (words_in code.new.pieces.items ≤ words_in code.old.pieces.items + 7) }
     ensures stops { OnOk result (shown code.new ≡ shown code.old) }
+    ensures grown { OnOk result (code_state code.new ≡ with_code (load_code (storage_view storage.now) code.old.held.items (home_at (storage_view storage.now) target.0) element (location_view from)) (code_state code.old)) }
 {
     let target = storage.home(target);
     let reached = reach(code, storage, from)?;
@@ -142,6 +163,7 @@ pub fn put_store(
 ) -> Result<(), AllocError>
     ensures few { OnOk result (words_in code.new.pieces.items ≤ words_in code.old.pieces.items + 7) }
     ensures stops { OnOk result (shown code.new ≡ shown code.old) }
+    ensures grown { OnOk result (code_state code.new ≡ with_code (store_code (storage_view storage.now) code.old.held.items element (location_view to) (source_of (storage_view storage.now) (operand_view value))) (code_state code.old)) }
 {
     let value = code.fetch(storage, value, register::T1)?;
     let reached = reach(code, storage, to)?;
@@ -163,6 +185,7 @@ pub fn put_first(
 ) -> Result<(), AllocError>
     ensures few { OnOk result (words_in code.new.pieces.items ≤ words_in code.old.pieces.items + 3) }
     ensures stops { OnOk result (shown code.new ≡ shown code.old) }
+    ensures grown { OnOk result (code_state code.new ≡ with_code (storing element (frame_reach (object_at (storage_view storage.now) object)) value) (code_state code.old)) }
 {
     let reached = reach_frame(code, storage.object(object))?;
     code.put(Instruction::Store(
@@ -182,6 +205,7 @@ pub fn put_address_of(
 ) -> Result<(), AllocError>
     ensures few { OnOk result (words_in code.new.pieces.items ≤ words_in code.old.pieces.items + 6) }
     ensures stops { OnOk result (shown code.new ≡ shown code.old) }
+    ensures grown { OnOk result (code_state code.new ≡ with_code (object_address_code (storage_view storage.now) (home_at (storage_view storage.now) target.0) object) (code_state code.old)) }
 {
     let target = storage.home(target);
     let rd = result_register(target);

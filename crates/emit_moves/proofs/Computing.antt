@@ -25,7 +25,7 @@ use Rattle.emit_moves.proofs.Writing.{result_finished}
 
 -- ---- What stays as it was behind a fetch
 
-slot_stays : (h t : Holding) (offset : ℕ) → t.registers 2 ≡ h.registers 2 → HasSlot h offset → HasSlot t offset
+pub slot_stays : (h t : Holding) (offset : ℕ) → t.registers 2 ≡ h.registers 2 → HasSlot h offset → HasSlot t offset
 slot_stays h t offset sp slot =
     let aligned : (h.registers 2 + offset) % 4 ≡ 0 = slot.aligned in
     let low : 16777216 ≤ h.registers 2 = slot.low in
@@ -36,16 +36,16 @@ holding_stays : (held : List Held) (h t : Holding) → ((q : ℕ) → IsLeft q �
 holding_stays [] h t kept left all = tt
 holding_stays (x ∷ more) h t kept left all = (kept x.register left.0 ∙ all.0, holding_stays more h t kept left.1 all.1)
 
-left_0 : IsLeft 0
+pub left_0 : IsLeft 0
 left_0 = record { t0 = λ e. cc; t1 = λ e. cc; t2 = λ e. cc }
 
-left_2 : IsLeft 2
+pub left_2 : IsLeft 2
 left_2 = record { t0 = λ e. cc; t1 = λ e. cc; t2 = λ e. cc }
 
-left_3 : IsLeft 3
+pub left_3 : IsLeft 3
 left_3 = record { t0 = λ e. cc; t1 = λ e. cc; t2 = λ e. cc }
 
-can_fetch_stays : (g : StorageForm) (held : List Held) (h t : Holding) → ((q : ℕ) → IsLeft q → t.registers q ≡ h.registers q) → CanFetch g held h → CanFetch g held t
+pub can_fetch_stays : (g : StorageForm) (held : List Held) (h t : Holding) → ((q : ℕ) → IsLeft q → t.registers q ≡ h.registers q) → CanFetch g held h → CanFetch g held t
 can_fetch_stays g held h t kept can = record {
   fits = can.fits;
   none = kept 0 left_0 ∙ can.none;
@@ -54,21 +54,21 @@ can_fetch_stays g held h t kept can = record {
   left = can.left;
 }
 
-readable_stays : (g : StorageForm) (h t : Holding) (source : Source) → t.registers 2 ≡ h.registers 2 → IsReadable g h source → IsReadable g t source
+pub readable_stays : (g : StorageForm) (h t : Holding) (source : Source) → t.registers 2 ≡ h.registers 2 → IsReadable g h source → IsReadable g t source
 readable_stays g h t (OfHome (Register r)) sp can = can
 readable_stays g h t (OfHome (Slot k)) sp can = slot_stays h t (slot_at g k) sp can
 readable_stays g h t (Word w) sp can = can
 
-value_stays : (g : StorageForm) (h t : Holding) (source : Source) → ((q : ℕ) → IsLeft q → t.registers q ≡ h.registers q) → t.memory ≡ h.memory → IsReadable g h source → value_of g t source ≡ value_of g h source
+pub value_stays : (g : StorageForm) (h t : Holding) (source : Source) → ((q : ℕ) → IsLeft q → t.registers q ≡ h.registers q) → t.memory ≡ h.memory → IsReadable g h source → value_of g t source ≡ value_of g h source
 value_stays g h t (OfHome (Register r)) kept memory can = kept r can
 value_stays g h t (OfHome (Slot k)) kept memory can = ap (λ s. word_at t.memory (s + slot_at g k)) (kept 2 left_2) ∙ ap (λ (m : ℕ → ℕ). word_at m (h.registers 2 + slot_at g k)) memory
 value_stays g h t (Word w) kept memory can = refl
 
-can_write_stays : (g : StorageForm) (h t : Holding) (home : Home) → t.registers 2 ≡ h.registers 2 → CanWrite g h home → CanWrite g t home
+pub can_write_stays : (g : StorageForm) (h t : Holding) (home : Home) → t.registers 2 ≡ h.registers 2 → CanWrite g h home → CanWrite g t home
 can_write_stays g h t (Register r) sp can = can
 can_write_stays g h t (Slot k) sp can = slot_stays h t (slot_at g k) sp can
 
-memory_with_stays : (g : StorageForm) (h t : Holding) (home : Home) (v : ℕ) → t.registers 2 ≡ h.registers 2 → t.memory ≡ h.memory → memory_with g t home v ≡ memory_with g h home v
+pub memory_with_stays : (g : StorageForm) (h t : Holding) (home : Home) (v : ℕ) → t.registers 2 ≡ h.registers 2 → t.memory ≡ h.memory → memory_with g t home v ≡ memory_with g h home v
 memory_with_stays g h t (Register r) v sp memory = memory
 memory_with_stays g h t (Slot k) v sp memory = ap (λ s. with_bytes 4 (s + slot_at g k) v t.memory) sp ∙ ap (λ (m : ℕ → ℕ). with_bytes 4 (h.registers 2 + slot_at g k) v m) memory
 
@@ -178,7 +178,7 @@ registers_compute g held h op left right rd some can readable also =
 
 -- ---- Results
 
-result_some : (g : StorageForm) (h : Holding) (home : Home) → CanWrite g h home → 0 < result_register home
+pub result_some : (g : StorageForm) (h : Holding) (home : Home) → CanWrite g h home → 0 < result_register home
 result_some g h (Register r) can = can.0
 result_some g h (Slot k) can = omega arith
 

@@ -21,7 +21,7 @@ nothing_brings : (h : Holding) (written r v : ℕ) → h.registers r ≡ v → B
 nothing_brings h written r v e = record { can = tt; value = e; kept = λ q other scratch. refl; memory = refl; input = refl }
 
 -- A register that is found to hold a word does.
-holder_holds : (held : List Held) (h : Holding) (w r : ℕ) → HoldsAll held h → holder_of w held ≡ Some r → h.registers r ≡ w
+pub holder_holds : (held : List Held) (h : Holding) (w r : ℕ) → HoldsAll held h → holder_of w held ≡ Some r → h.registers r ≡ w
 holder_holds [] h w r all found = cc
 holder_holds (x ∷ more) h w r all found = by_test (λ is. holder_holds more h w r all.1 is) (x.word == w) refl found
   where

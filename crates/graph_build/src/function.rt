@@ -1,12 +1,12 @@
 //! The graph of a function.
 
-ghost use Rattle.std.specs.Prelude.{◌≡◌, ◌++◌, IfOk, length, map, reverse};
+ghost use Rattle.std.specs.Prelude.{◌≡◌, ◌++◌, IfOk, false, length, map, reverse};
 ghost use Rattle.c_tree.specs.Programs.{function_view, program_view};
 ghost use Rattle.graph_core.specs.Graphs.{block_view, graph_view};
-ghost use Rattle.graph_names.specs.Names as names;
+ghost use Rattle.graph_names.specs.Names as naming;
 ghost use Rattle.graph_names.specs.Names.{names_view};
 ghost use Rattle.graph_coding.specs.Coding.{coding_view, part_view};
-ghost use Rattle.graph_build.specs.Units.{add_close, blocks_in, coding_with, function_part, graph_in, graph_of, is_again, names_used};
+ghost use Rattle.graph_build.specs.Units.{add_close, block_count, blocks_in, coding_with, function_part, graph_in, graph_of, is_again, names_used};
 
 use crate::variables::{bindings_of, graph_objects, graph_scalars, note_all, scalars_of};
 use c_flow::{start_of_all, ways_of_body};
@@ -134,7 +134,7 @@ fn is_again(
     fresh: &Names,
     function: &TypedFunction,
 ) -> Result<bool, AllocError>
-    requires { names_view fresh.now ≡ names.names_of (program_view source.now.program.now) (function_view function.now) false }
+    requires { names_view fresh.now ≡ naming.names_of (program_view source.now.program.now) (function_view function.now) false }
     ensures { IfOk result (λ b. b ≡ is_again (program_view source.now.program.now) (function_view function.now)) }
 {
     let form = form_with(alloc, source, fresh, function, 0)?;
@@ -148,7 +148,7 @@ fn names_for(
     source: &Source<'_>,
     function: &TypedFunction,
 ) -> Result<Names, AllocError>
-    ensures { IfOk result (λ n. names_view n ≡ names.names_of (program_view source.now.program.now) (function_view function.now) (is_again (program_view source.now.program.now) (function_view function.now))) }
+    ensures { IfOk result (λ n. names_view n ≡ naming.names_of (program_view source.now.program.now) (function_view function.now) (is_again (program_view source.now.program.now) (function_view function.now))) }
 {
     let fresh = names_of(alloc, source.program, function, false)?;
     if is_again(alloc, source, &fresh, function)? {
@@ -180,7 +180,41 @@ fn graph_in(
     })
 }
 
-/// The graph of a function: its blocks are counted before they have their labels.
+/// How many blocks a function with its names has, which hangs on no label.
+fn block_count(
+    alloc: Global,
+    source: &Source<'_>,
+    names: &Names,
+    function: &TypedFunction,
+    is_main: bool,
+) -> Result<u32, AllocError>
+    requires { names_view names.now ≡ naming.names_of (program_view source.now.program.now) (function_view function.now) (is_again (program_view source.now.program.now) (function_view function.now)) }
+    ensures { IfOk result (λ n. n ≡ block_count (program_view source.now.program.now) (function_view function.now) is_main) }
+{
+    let form = form_with(alloc, source, names, function, 0)?;
+    let blocks = blocks_of(alloc, &form, function, is_main)?;
+    let count = counted(&blocks)?;
+    Ok(count)
+}
+
+/// The graph of a function with its names: its blocks are counted before they have their labels.
+fn graph_with(
+    alloc: Global,
+    source: &Source<'_>,
+    names: &Names,
+    function: &TypedFunction,
+    is_main: bool,
+) -> Result<Graph, AllocError>
+    requires { names_view names.now ≡ naming.names_of (program_view source.now.program.now) (function_view function.now) (is_again (program_view source.now.program.now) (function_view function.now)) }
+    ensures { IfOk result (λ g. graph_view g ≡ graph_of (program_view source.now.program.now) (function_view function.now) is_main) }
+{
+    let count = block_count(alloc, source, names, function, is_main)?;
+    let form = form_with(alloc, source, names, function, count)?;
+    let graph = graph_in(alloc, &form, function, is_main)?;
+    Ok(graph)
+}
+
+/// The graph of a function.
 pub fn graph_of(
     alloc: Global,
     source: &Source<'_>,
@@ -190,10 +224,6 @@ pub fn graph_of(
     ensures { IfOk result (λ g. graph_view g ≡ graph_of (program_view source.now.program.now) (function_view function.now) is_main) }
 {
     let names = names_for(alloc, source, function)?;
-    let form = form_with(alloc, source, &names, function, 0)?;
-    let blocks = blocks_of(alloc, &form, function, is_main)?;
-    let count = counted(&blocks)?;
-    let form = form_with(alloc, source, &names, function, count)?;
-    let graph = graph_in(alloc, &form, function, is_main)?;
+    let graph = graph_with(alloc, source, &names, function, is_main)?;
     Ok(graph)
 }

@@ -25,7 +25,7 @@ use graph_drafts::{
     Computation, Draft, Goal, callee_for, closed, element_of, ending, leaf, move_if, noted,
     steps_by, use_of, used, valued,
 };
-use graph_laid::{Laid, Use, behind_move, use_for};
+use graph_laid::{Laid, Use, behind_move, behind_own, use_for};
 use graph_layout::{lefts_laid, pair_behind, passed_laid, place_laid, value_laid};
 use graph_names::{is_location_moved, is_moved_before, object_of, pick, scalar_named, writes};
 use graph_operations::{called_by, forked, hold_location, operated};
@@ -406,7 +406,7 @@ fn code_both(
 ) -> Result<Draft, AllocError>
     ensures { IfOk result (λ d. made_of d ≡ code (names_view site.now.names.now) site.now.place.0 site.now.top (if is_and then tree.And (rvalue_view left.now) (rvalue_view right.now) else tree.Or (rvalue_view left.now) (rvalue_view right.now)) begun (goal_of goal)) }
 {
-    let at = given!(behind_move(!matches!(use_of(&goal), Use::Tested), begun));
+    let at = given!(behind_own(use_of(&goal), begun));
     let mut known = Vec::new(alloc);
     let one = given!(lefts_laid(site.names, left, Use::Tested, at, &mut known));
     known.reverse();
@@ -430,7 +430,7 @@ fn code_both_known(
     requires known { map laid_view known.now ≡ lefts (names_view site.now.names.now) (rvalue_view left.now) Tested (behind_own (use_of (goal_of goal)) begun) }
     ensures { IfOk result (λ d. made_of d ≡ code (names_view site.now.names.now) site.now.place.0 site.now.top (if is_and then tree.And (rvalue_view left.now) (rvalue_view right.now) else tree.Or (rvalue_view left.now) (rvalue_view right.now)) begun (goal_of goal)) }
 {
-    let at = given!(behind_move(!matches!(use_of(&goal), Use::Tested), begun));
+    let at = given!(behind_own(use_of(&goal), begun));
     let behind = pick(site.names, at, one.top);
     let way = given!(forked(alloc, site.place, site.top, goal, Name(begun)));
     let (one, other) = (way.one, way.other);
@@ -443,12 +443,15 @@ fn code_both_known(
     ));
     let label = label_of(site, &second);
     let inner = given!(closed(site.place, second));
-    let goal = if is_and {
-        Goal::Either(label, other, inner)
-    } else {
-        Goal::Either(one, label, inner)
-    };
-    code_known(alloc, site, left, known, at, goal)
+    let (one, other) = if is_and { (label, other) } else { (one, label) };
+    code_known(
+        alloc,
+        site,
+        left,
+        known,
+        at,
+        Goal::Either(one, other, inner),
+    )
 }
 
 /// What an arm of `?:` is for, whose value stands in a name, or which has none.

@@ -34,7 +34,7 @@ use Rattle.graph_layout.specs.Layout.{laid, place_laid}
 use Rattle.graph_names.specs.Writes.{writes, is_location_moved}
 use Rattle.graph_drafts.specs.Rules as rule
 use Rattle.graph_drafts.specs.Drafts.{Made, Goal, To, Unused, Either, before, target, follow, use_of, hold_location, held_location, stored, left_free}
-use Rattle.graph_code.specs.declared.change.Change as declared-change
+use Rattle.graph_steps.specs.declared.change.Change as declared-change
 use Rattle.graph_steps.specs.Steps.{changed, changed_element, takes_more, renewed_memory, loaded_first, left_memory, one_at}
 use Rattle.graph_values.specs.Typed.{IsOf, IsPointerTo}
 use Rattle.graph_values.specs.Correspondence.{SameValue}

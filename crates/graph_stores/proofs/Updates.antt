@@ -27,7 +27,7 @@ use Rattle.graph_layout.specs.Layout.{laid, place_laid}
 use Rattle.graph_names.specs.Writes.{writes, is_that}
 use Rattle.graph_drafts.specs.Rules as rule
 use Rattle.graph_drafts.specs.Drafts.{Made, Goal, To, Unused, Either}
-use Rattle.graph_code.specs.declared.change.Change as declared-change
+use Rattle.graph_steps.specs.declared.change.Change as declared-change
 use Rattle.graph_code.specs.Code.{code_place}
 use Rattle.graph_steps.specs.Steps.{changed_element, takes_more, updated, stepped}
 use Rattle.graph_values.specs.Typed.{IsOf}

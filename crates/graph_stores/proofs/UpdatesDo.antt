@@ -34,7 +34,7 @@ use Rattle.graph_layout.specs.Layout.{laid, place_laid}
 use Rattle.graph_names.specs.Writes.{writes, is_that}
 use Rattle.graph_drafts.specs.Rules as rule
 use Rattle.graph_drafts.specs.Rules.{steps_by, integer_element}
-use Rattle.graph_code.specs.declared.change.Change.TheVariants as change
+use Rattle.graph_steps.specs.declared.change.Change.TheVariants as change
 use Rattle.graph_code.specs.Code.{code_place}
 use Rattle.graph_steps.specs.Steps.{updated, stepped}
 use Rattle.graph_values.proofs.Leads.{Setting, names_in, depth_in}

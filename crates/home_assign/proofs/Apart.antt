@@ -1,10 +1,10 @@
 -- Names that interfere have different homes.
-use Rattle.std.proofs.Common.{◌≡◌, ℕ, zero, suc, ◌+◌, ◌<◌, ◌≤◌, ◌==◌, ◌⊎◌, inl, inr, Bool, true, false, Option, Some, None, List, [], ◌∷◌, length, take, sym, ap, ◌∙◌, refl, subst, arith}
+use Rattle.std.proofs.Common.{◌≡◌, ℕ, zero, suc, ◌<◌, ◌==◌, inl, inr, false, Option, Some, List, [], ◌∷◌, length, take, sym, ap, ◌∙◌, refl, arith}
 use Rattle.std.specs.Prelude.{slice_get}
 use Rattle.std.specs.Option.{option_map_or}
 use Rattle.std.proofs.lemmas.Bool.{cases_order, eqb-true, ne_eqb, eq-eqb, false_from_ne_true}
 use Rattle.std.proofs.lemmas.Bool.Decides.{eqb_tells}
-use Rattle.std.proofs.lemmas.Option.{same_Some, none-some, slice_get-get_or, slice_get_within}
+use Rattle.std.proofs.lemmas.Option.{same_Some, slice_get-get_or, slice_get_within}
 use Rattle.debug_records.specs.declared.mode.Mode.{Mode}
 use Rattle.debug_records.specs.declared.mode.Mode.TheVariants.{Slots, Registers}
 use Rattle.graph_core.specs.Graphs.{Graph}
@@ -55,8 +55,8 @@ module _ (g : Graph) where
 
   says : {earlier : List Home} {x : ℕ} {k : Home} → IsHome g earlier x k → Says earlier x k
   says (joined {y} {r} one is free) = free
-  says (first {k} {r} no is free before) = free
-  says (slot no never) = refl
+  says (first {k} {r} never is free before) = free
+  says (slot never all) = refl
 
   differs : (earlier : List Home) (x y : ℕ) (k j : Home) → Says earlier x k → slice_get earlier y ≡ Some j → ((m : ℕ) → j ≡ Slot m → m < slots_in earlier) → Interfere g x y → is_same_home k j ≡ false
   differs earlier x y (Register r) (Register q) free is fewer pair =

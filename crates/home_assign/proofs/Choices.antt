@@ -1,6 +1,6 @@
 -- The home that is chosen is the one by the rule.
-use Rattle.std.proofs.Common.{◌≡◌, ℕ, zero, suc, ◌+◌, ◌<◌, ◌≤◌, ◌==◌, ◌&&◌, ◌||◌, take, length-append, ◌⊎◌, ◌↔◌, inl, inr, Bool, true, false, true≢false, Option, Some, None, List, [], ◌∷◌, ◌++◌, length, sym, ap, ◌∙◌, refl, subst, arith}
-use Rattle.std.specs.Prelude.{◌≢◌, slice_get}
+use Rattle.std.proofs.Common.{◌≡◌, ℕ, zero, suc, ◌+◌, ◌<◌, ◌≤◌, ◌==◌, ◌&&◌, ◌||◌, take, length-append, ◌⊎◌, inl, inr, true, false, true≢false, Option, Some, None, List, [], ◌∷◌, ◌++◌, length, sym, ap, ◌∙◌, refl, subst, arith}
+use Rattle.std.specs.Prelude.{◌≢◌, IfSome, slice_get}
 use Rattle.std.specs.List.{AllByRecursion}
 use Rattle.std.proofs.Math.Seq.{take-length}
 use Rattle.std.proofs.lemmas.Bool.{false_from_ne_true, cases_lt, or_cases, or_left, or_right, and_parts, and_from, eq-eqb, eqb-true}
@@ -12,7 +12,6 @@ use Rattle.graph_homes.specs.declared.home.Home.TheVariants.{Register, Slot}
 use Rattle.homed_unit.specs.Frames.{home_registers}
 use Rattle.homed_unit.specs.Homed.{IsHomeAmong}
 use Rattle.name_interference.specs.declared.registers.Interference.{Interference}
-use Rattle.name_interference.specs.Clashes.{Clashes, Interfere}
 use Rattle.name_interference.specs.Joins.{IsFirst, IsFirstJoined}
 use Rattle.name_interference.specs.Registers.{AreClashesOf, HaveSameClashes, HaveSameRegisters, IsFreeFor, clashes, has}
 use Rattle.name_interference.proofs.Tables.{past_clear}
@@ -76,8 +75,8 @@ module _ (g : Graph) (all : Interference) (homes : List Home) (x : ℕ) (right :
     concluded (wished {k} w f) = λ r at.
         let same : w.2.0 ≡ r = same_Some w.2.0 r (sym w.2.1 ∙ at) in
         joined (first_of w.0 w.1) (subst (λ q. slice_get homes w.0 ≡ Some (Register q)) same w.2.2) (free_there k r at f)
-    concluded (first {k} no f before) = λ r at. rule.first (not_sharable no) at (free_there k r at f) (λ j q lt is free. before j lt (free_back j q is free))
-    concluded (none no never) = slot (not_sharable no) (λ j q is free. never j (slice_get_within home_registers j q is) (free_back j q is free))
+    concluded (first {k} never f before) = λ r at. rule.first (not_sharable never) at (free_there k r at f) (λ j q lt is free. before j lt (free_back j q is free))
+    concluded (none never nowhere) = slot (not_sharable never) (λ j q is free. nowhere j (slice_get_within home_registers j q is) (free_back j q is free))
 
 -- the same names clash
 pub still_clashes : (g : Graph) (a b : Interference) → HaveSameClashes a b → AreClashesOf g a → AreClashesOf g b
@@ -164,8 +163,8 @@ registers_put all new homes number register name told size taken have k r y at =
 
 -- before the first name
 pub registers_none : (all : Interference) → ((k y : ℕ) → k < 15 → has all k y ≡ false) → HaveHomeRegisters all []
-registers_none all none k r y at = (
-  (λ t. absurd (true≢false (sym t ∙ none k y (slice_get_within home_registers k r at)))),
+registers_none all nobody k r y at = (
+  (λ t. absurd (true≢false (sym t ∙ nobody k y (slice_get_within home_registers k r at)))),
   (λ is. absurd (omega (arith, slice_get_within [] y (Register r) is))),
 )
 
@@ -204,3 +203,16 @@ free_same a b k x clash same lt named free y t =
 
 pub registers_then : (a b c : Interference) → HaveSameRegisters a b → HaveSameRegisters b c → HaveSameRegisters a c
 registers_then a b c one two k y lt = two k y lt ∙ one k y lt
+
+-- what is chosen where nothing that is wished is free: the first that is, as it is known after the question for that
+pub chosen_after : (Wished Free After : ℕ → Type 0) → ((k : ℕ) → Wished k → Free k → ⊥) → ((k : ℕ) → k < 15 → Free k → After k) → ((k : ℕ) → k < 15 → After k → Free k) → (o : Option ℕ)
+    → IfSome o (λ k. (k < 15) × After k × ((j : ℕ) → j < k → After j → ⊥)) → (o ≡ None → (j : ℕ) → j < 15 → After j → ⊥) → IsChosen Wished Free o
+chosen_after Wished Free After never there back None some nowhere = none never (λ j lt free. nowhere refl j lt (there j lt free))
+chosen_after Wished Free After never there back (Some k) some nowhere = first never (back k some.0 some.1) (λ j lt free. some.2 j lt (there j (omega (arith, lt, some.0)) free))
+
+-- one name has one register by its number
+pub register_once : (homes : List Home) (y j k : ℕ) → HasRegister homes y j → HasRegister homes y k → j ≡ k
+unfolding register_in
+register_once homes y j k (r, at, is) (q, there, also) =
+    let same : r ≡ q = ap register_in (same_Some (Register r) (Register q) (sym is ∙ also)) in
+    number_same j k q (at ∙ ap (λ n. Some n) same) there

@@ -2,4 +2,5 @@ pub mod Among
 pub mod Numbers
 pub mod Choices
 pub mod Apart
+pub mod Sharings
 pub mod Units

@@ -1,7 +1,7 @@
 -- How the next home is chosen, with registers by their number among those that may be homes.
-use Rattle.std.specs.Prelude.{◌≡◌, ◌↔◌, ℕ, ◌<◌, Bool, true, Option, Some, None, List, [], ◌∷◌, ◌++◌, slice_get}
+use Rattle.std.specs.Prelude.{◌≡◌, ◌↔◌, ℕ, ◌<◌, true, Option, Some, None, List, [], ◌∷◌, ◌++◌, slice_get}
 use Rattle.graph_homes.specs.declared.home.Home.{Home}
-use Rattle.graph_homes.specs.declared.home.Home.TheVariants.{Register, Slot}
+use Rattle.graph_homes.specs.declared.home.Home.TheVariants.{Register}
 use Rattle.graph_core.specs.Graphs.{Graph}
 use Rattle.homed_unit.specs.Frames.{home_registers}
 use Rattle.name_interference.specs.declared.registers.Interference.{Interference}

@@ -1,4 +1,5 @@
 pub mod Homes
 pub mod Rule
+pub mod Changes
 pub mod Choosing
 pub mod Units

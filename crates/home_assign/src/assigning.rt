@@ -2,12 +2,14 @@
 
 ghost use Rattle.std.specs.Prelude.{◌≡◌, ◌<◌, ◌≤◌, ℕ, IfOk, length, map, slice_get};
 ghost use Rattle.std.specs.List.{AllByRecursion};
-ghost use Rattle.graph_core.specs.Graphs.{graph_view, unit_view};
+ghost use Rattle.debug_records.specs.Change.{changes};
+ghost use Rattle.graph_core.specs.Graphs.{graph_view, logged, unit_view};
 ghost use Rattle.graph_core.specs.Validity.{IsValid};
 ghost use Rattle.homed_unit.specs.Homed.{HaveHomes, homed_view};
+ghost use Rattle.home_assign.specs.Changes.{HaveChanges, homes_pass};
 ghost use Rattle.home_assign.specs.Homes.{AreHomesFor, homes_listed};
 ghost use Rattle.home_assign.specs.Rule.{AreHomes, HaveHomesApart, HaveRegisters, HaveSlots};
-ghost use Rattle.home_assign.specs.Units.{AreHomesOfEach};
+ghost use Rattle.home_assign.specs.Units.{AreHomesOfEach, AreLoggedOfEach, IsHomeable};
 ghost use Rattle.name_interference.specs.Clashes.{MayHaveHomes};
 
 use crate::choosing::registers;
@@ -45,7 +47,9 @@ fn homes_of(alloc: Global, graph: &Graph, mode: Mode) -> Result<Vec<Home>, Alloc
 }
 
 /// The name of the pass by which registers are shared.
-fn pass_name() -> PassName {
+fn pass_name() -> PassName
+    ensures { result ≡ homes_pass }
+{
     match PassName::of(b"homes") {
         Some(name) => name,
         None => unreachable!(),
@@ -59,8 +63,9 @@ fn homes_of_all(
     mode: Mode,
     log: &mut ChangeLog,
 ) -> Result<Vec<FunctionHomes>, AllocError>
-    requires { AllByRecursion MayHaveHomes (map graph_view graphs.now) }
-    ensures { IfOk result (λ v. AreHomesOfEach mode (map graph_view graphs.now) (homes_listed v.items)) }
+    requires { AllByRecursion IsHomeable (map graph_view graphs.now) }
+    ensures homes { IfOk result (λ v. AreHomesOfEach mode (map graph_view graphs.now) (homes_listed v.items)) }
+    ensures changes { IfOk result (λ v. AreLoggedOfEach (map logged (changes log.old)) homes_pass (map graph_view graphs.now) (homes_listed v.items) (map logged (changes log.old)) (map logged (changes log.new))) }
 {
     let moved = moved_by(alloc, log.changes())?;
     let mut homes = Vec::new(alloc);
@@ -81,7 +86,8 @@ pub fn assign(alloc: Global, unit: &Unit, mode: Mode) -> Result<HomedUnit, Alloc
     ensures slots { IfOk result (λ h. mode ≡ Mode.Slots → HaveSlots (homed_view h)) }
     ensures rule { IfOk result (λ h. mode ≡ Mode.Registers → HaveRegisters (homed_view h)) }
     ensures apart { IfOk result (λ h. HaveHomesApart (homed_view h)) }
-    ensures graphs { IfOk result (λ h. (homed_view h).unit.graphs ≡ (unit_view unit.now).graphs) }
+    ensures changes { IfOk result (λ h. HaveChanges (unit_view unit.now) (homed_view h)) }
+    ensures unit { IfOk result (λ h. (homed_view h).unit ≡ record (unit_view unit.now) { log = (homed_view h).unit.log }) }
     ensures mode { IfOk result (λ h. h.mode ≡ mode) }
 {
     let mut unit = unit.duplicate(alloc)?;

@@ -1,6 +1,11 @@
 //! Which scalars share their registers with other names.
 #![tactic(auto)]
 
+mod copies;
+mod holders;
+mod moves;
+mod pairs;
 mod sharing;
 
-pub use sharing::{Moved, log_shared, moved_by};
+pub use moves::{Moves, moved_by};
+pub use sharing::log_shared;

@@ -1,4 +1,4 @@
-use Rattle.std.proofs.Common.{◌≡◌, ◌+◌, List, Some, ap, arith, subst, sym, ◌∙◌}
+use Rattle.std.proofs.Common.{◌≡◌, ◌+◌, ◌<◌, List, Some, ap, arith, get_or, length, subst, sym, ◌∙◌}
 use Rattle.std.proofs.lemmas.Option.{slice_get-get_or}
 use Rattle.debug_records.specs.declared.change.Var as declared-var
 use Rattle.currency.specs.declared.telling.ToldVariable as declared-variable
@@ -15,6 +15,8 @@ loop-row-preserved c =
     let k = c.loop-row.row-index in
     let p = c.loop-row.place in
     let row = c.row-item.result in
+    let lt : k < length all = subst (λ xs. k < length xs) c.deref-row-items.ensures.value c.loop-row-test.true in
+    let is : row ≡ get_or all k row = subst (λ xs. row ≡ get_or xs k row) c.deref-row-items.ensures.value c.row-item.is in
     let rows = c.loop-row.rows.items in
     let new = c.push_place.new.rows.items in
     let inv = c.loop-row.invariant in
@@ -25,8 +27,8 @@ loop-row-preserved c =
     (subst (λ (l : List declared-variable.ToldVariable). AreTold l p c.deref.result.now rows new) c.at.ensures (pushed.told c.if-not-branch.false))) in
     record {
       place = omega (arith, inv.place);
-      sights = sights_more p c.saturating_add.result rows new all k row c.deref.result.now (sights_from 1 all) c.loop-row-test.true c.row-item.is c.deref.ensures.value (pushed.sights c.if-not-branch.false) c.saturating_add.ensures inv.sights;
-      told = rows_more table told k row rows new (slice_get-get_or all k row c.loop-row-test.true ∙ ap Some (sym c.row-item.is)) inv.told more;
+      sights = sights_more p c.saturating_add-place.result rows new all k row c.deref.result.now (sights_from 1 all) lt is c.deref.ensures.value (pushed.sights c.if-not-branch.false) c.saturating_add-place.ensures inv.sights;
+      told = rows_more table told k row rows new (slice_get-get_or all k row lt ∙ ap Some (sym is)) inv.told more;
     }
 
 pub returns-clause-told : goal.returns-clause-told

@@ -1,4 +1,4 @@
-use Rattle.std.proofs.Common.{◌≡◌, ℕ, ◌≤◌, Some, length, take}
+use Rattle.std.proofs.Common.{◌≡◌, ℕ, Some, length, take}
 use Rattle.std.specs.Prelude.{slice_get}
 use Rattle.std.specs.List.{AllByRecursion}
 use Rattle.graph_core.specs.Graphs.{graph_view}
@@ -12,7 +12,6 @@ use Rattle.home_assign.proofs.choosing.registers.Given as goal
 abbrev pub invariant-loop-name : goal.invariant-loop-name
 invariant-loop-name l = record {
   each : length l.choice.homes.items ≡ l.name;
-  within : l.name ≤ length l.joined.items;
   right : AreClashesOf (graph_view l.graph) l.interference;
   registers : HaveHomeRegisters l.interference l.choice.homes.items;
   slots : l.choice.slots ≡ slots_in l.choice.homes.items;

@@ -3,111 +3,20 @@
 ghost use Rattle.std.specs.Prelude.{◌≡◌, ◌≤◌, ◌+◌, OnOk};
 ghost use Rattle.emit_words.specs.Shown.{shown};
 ghost use Rattle.emit_pieces.specs.Words.{words_in};
+ghost use Rattle.graph_core.specs.Graphs.{operand_view};
+ghost use Rattle.emit_storage.specs.Storages.{home_at, source_of, storage_view};
+ghost use Rattle.emit_words.specs.Growing.{code_state, with_code};
+ghost use Rattle.emit_operations.specs.Operations.{by_word, compared, comparison_code, constant_written, move_code, on_immediate, on_registers, operation_code, shifted_twice, truncation_code};
 
+use crate::form::{immediate_form, is_commutative, register_operation};
 use emit_pieces::register;
 use emit_storage::{Source, Storage};
-use emit_words::{Code, is_small, result_register};
+use emit_words::{Code, result_register};
 use graph_core::{Name, Operand};
 use graph_homes::Home;
 use rv_code::{ImmediateOperation, Instruction, RegisterOperation};
 use std::alloc::AllocError;
 use word_base::{Operation, Truncation, operate};
-
-/// Of which number a word is the power of two, if it is one.
-fn power_of_two(word: u32) -> Option<u32> {
-    for exponent in 0..32u32 {
-        if word == 1 << exponent {
-            return Some(exponent);
-        }
-    }
-    None
-}
-
-/// Whether the two operands of an operation may change places.
-fn is_commutative(operation: Operation) -> bool {
-    match operation {
-        Operation::Add | Operation::Mul | Operation::And | Operation::Or | Operation::Xor => true,
-        _ => false,
-    }
-}
-
-/// The operation on two registers.
-fn register_operation(operation: Operation) -> RegisterOperation {
-    match operation {
-        Operation::Add => RegisterOperation::Add,
-        Operation::Sub => RegisterOperation::Sub,
-        Operation::Mul => RegisterOperation::Mul,
-        Operation::Div => RegisterOperation::Div,
-        Operation::Divu => RegisterOperation::Divu,
-        Operation::Rem => RegisterOperation::Rem,
-        Operation::Remu => RegisterOperation::Remu,
-        Operation::Sll => RegisterOperation::Sll,
-        Operation::Srl => RegisterOperation::Srl,
-        Operation::Sra => RegisterOperation::Sra,
-        Operation::And => RegisterOperation::And,
-        Operation::Or => RegisterOperation::Or,
-        Operation::Xor => RegisterOperation::Xor,
-        Operation::Slt => RegisterOperation::Slt,
-        Operation::Sltu => RegisterOperation::Sltu,
-    }
-}
-
-/// The operation on a register and a small word that is the same operation with that word on the right.
-fn same_immediate(operation: Operation) -> Option<ImmediateOperation> {
-    match operation {
-        Operation::Add => Some(ImmediateOperation::Addi),
-        Operation::And => Some(ImmediateOperation::Andi),
-        Operation::Or => Some(ImmediateOperation::Ori),
-        Operation::Xor => Some(ImmediateOperation::Xori),
-        Operation::Slt => Some(ImmediateOperation::Slti),
-        Operation::Sltu => Some(ImmediateOperation::Sltiu),
-        _ => None,
-    }
-}
-
-/// The shift by a constant that is a shift of any kind.
-fn shift_immediate(operation: Operation) -> Option<ImmediateOperation> {
-    match operation {
-        Operation::Sll => Some(ImmediateOperation::Slli),
-        Operation::Srl => Some(ImmediateOperation::Srli),
-        Operation::Sra => Some(ImmediateOperation::Srai),
-        _ => None,
-    }
-}
-
-/// The operation on a register and an immediate that does what this one does with a power of two on the right.
-fn power_immediate(operation: Operation, word: u32) -> Option<(ImmediateOperation, u32)> {
-    let exponent = power_of_two(word)?;
-    match operation {
-        Operation::Mul => Some((ImmediateOperation::Slli, exponent)),
-        Operation::Divu => Some((ImmediateOperation::Srli, exponent)),
-        Operation::Remu if exponent <= 11 => Some((ImmediateOperation::Andi, word.wrapping_sub(1))),
-        _ => None,
-    }
-}
-
-/// The operation on a register and an immediate that does what this one does with a word on the right, if there is one.
-fn immediate_form(operation: Operation, word: u32) -> Option<(ImmediateOperation, u32)> {
-    if let Some(shift) = shift_immediate(operation) {
-        return Some((shift, word % 32));
-    }
-    if let Operation::Sub = operation {
-        let negative = 0u32.wrapping_sub(word);
-        return if is_small(negative) {
-            Some((ImmediateOperation::Addi, negative))
-        } else {
-            None
-        };
-    }
-    match same_immediate(operation) {
-        Some(same) => if is_small(word) {
-            Some((same, word))
-        } else {
-            None
-        },
-        None => power_immediate(operation, word),
-    }
-}
 
 /// A target becomes a constant.
 fn write_constant(
@@ -118,6 +27,7 @@ fn write_constant(
 ) -> Result<(), AllocError>
     ensures few { OnOk result (words_in code.new.pieces.items ≤ words_in code.old.pieces.items + 5) }
     ensures stops { OnOk result (shown code.new ≡ shown code.old) }
+    ensures grown { OnOk result (code_state code.new ≡ with_code (constant_written (storage_view storage.now) code.old.held.items target word) (code_state code.old)) }
 {
     match target {
         Home::Register(register) => code.set_constant(register, word, storage.base),
@@ -139,6 +49,7 @@ fn operate_registers(
 ) -> Result<(), AllocError>
     ensures few { OnOk result (words_in code.new.pieces.items ≤ words_in code.old.pieces.items + 10) }
     ensures stops { OnOk result (shown code.new ≡ shown code.old) }
+    ensures grown { OnOk result (code_state code.new ≡ with_code (on_registers (storage_view storage.now) code.old.held.items target operation left right) (code_state code.old)) }
 {
     let left = code.fetch_source(storage, left, register::T1)?;
     let right = code.fetch_source(storage, right, register::T2)?;
@@ -158,6 +69,7 @@ fn operate_immediate(
 ) -> Result<(), AllocError>
     ensures few { OnOk result (words_in code.new.pieces.items ≤ words_in code.old.pieces.items + 7) }
     ensures stops { OnOk result (shown code.new ≡ shown code.old) }
+    ensures grown { OnOk result (code_state code.new ≡ with_code (on_immediate (storage_view storage.now) code.old.held.items target operation source immediate) (code_state code.old)) }
 {
     let source = code.fetch_source(storage, source, register::T1)?;
     let rd = result_register(target);
@@ -176,6 +88,7 @@ fn operate_by_word(
 ) -> Result<(), AllocError>
     ensures few { OnOk result (words_in code.new.pieces.items ≤ words_in code.old.pieces.items + 10) }
     ensures stops { OnOk result (shown code.new ≡ shown code.old) }
+    ensures grown { OnOk result (code_state code.new ≡ with_code (by_word (storage_view storage.now) code.old.held.items target operation left right) (code_state code.old)) }
 {
     match immediate_form(operation, right) {
         Some((immediate, word)) => {
@@ -203,6 +116,7 @@ pub fn put_operation(
 ) -> Result<(), AllocError>
     ensures few { OnOk result (words_in code.new.pieces.items ≤ words_in code.old.pieces.items + 10) }
     ensures stops { OnOk result (shown code.new ≡ shown code.old) }
+    ensures grown { OnOk result (code_state code.new ≡ with_code (operation_code (storage_view storage.now) code.old.held.items (home_at (storage_view storage.now) target.0) operation (source_of (storage_view storage.now) (operand_view left)) (source_of (storage_view storage.now) (operand_view right))) (code_state code.old)) }
 {
     let target = storage.home(target);
     match (storage.source(left), storage.source(right)) {
@@ -239,6 +153,7 @@ fn shift_twice(
 ) -> Result<(), AllocError>
     ensures few { OnOk result (words_in code.new.pieces.items ≤ words_in code.old.pieces.items + 8) }
     ensures stops { OnOk result (shown code.new ≡ shown code.old) }
+    ensures grown { OnOk result (code_state code.new ≡ with_code (shifted_twice (storage_view storage.now) code.old.held.items target source by back) (code_state code.old)) }
 {
     let source = code.fetch_source(storage, source, register::T1)?;
     code.put_immediate(ImmediateOperation::Slli, register::T1, source, by)?;
@@ -257,6 +172,7 @@ pub fn put_truncation(
 ) -> Result<(), AllocError>
     ensures few { OnOk result (words_in code.new.pieces.items ≤ words_in code.old.pieces.items + 8) }
     ensures stops { OnOk result (shown code.new ≡ shown code.old) }
+    ensures grown { OnOk result (code_state code.new ≡ with_code (truncation_code (storage_view storage.now) code.old.held.items (home_at (storage_view storage.now) target.0) truncation (source_of (storage_view storage.now) (operand_view from))) (code_state code.old)) }
 {
     let target = storage.home(target);
     let from = storage.source(from);
@@ -286,6 +202,7 @@ fn compare_registers(
 ) -> Result<(), AllocError>
     ensures few { OnOk result (words_in code.new.pieces.items ≤ words_in code.old.pieces.items + 11) }
     ensures stops { OnOk result (shown code.new ≡ shown code.old) }
+    ensures grown { OnOk result (code_state code.new ≡ with_code (compared (storage_view storage.now) code.old.held.items target left right) (code_state code.old)) }
 {
     let left = code.fetch_source(storage, left, register::T1)?;
     let right = code.fetch_source(storage, right, register::T2)?;
@@ -305,6 +222,7 @@ pub fn put_comparison(
 ) -> Result<(), AllocError>
     ensures few { OnOk result (words_in code.new.pieces.items ≤ words_in code.old.pieces.items + 11) }
     ensures stops { OnOk result (shown code.new ≡ shown code.old) }
+    ensures grown { OnOk result (code_state code.new ≡ with_code (comparison_code (storage_view storage.now) code.old.held.items (home_at (storage_view storage.now) target.0) (source_of (storage_view storage.now) (operand_view left)) (source_of (storage_view storage.now) (operand_view right))) (code_state code.old)) }
 {
     let target = storage.home(target);
     match (storage.source(left), storage.source(right)) {
@@ -324,6 +242,7 @@ pub fn put_move(
 ) -> Result<(), AllocError>
     ensures few { OnOk result (words_in code.new.pieces.items ≤ words_in code.old.pieces.items + 6) }
     ensures stops { OnOk result (shown code.new ≡ shown code.old) }
+    ensures grown { OnOk result (code_state code.new ≡ with_code (move_code (storage_view storage.now) code.old.held.items (home_at (storage_view storage.now) target.0) (source_of (storage_view storage.now) (operand_view from))) (code_state code.old)) }
 {
     let target = storage.home(target);
     match (target, storage.source(from)) {

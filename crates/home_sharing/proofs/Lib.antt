@@ -1,0 +1,5 @@
+pub mod PairsMore
+pub mod Moving
+pub mod FirstCopies
+pub mod Holding
+pub mod Logging

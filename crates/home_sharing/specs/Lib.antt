@@ -1,0 +1,5 @@
+pub mod Pairs
+pub mod Moves
+pub mod Copies
+pub mod Holders
+pub mod Sharing
