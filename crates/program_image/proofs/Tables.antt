@@ -12,6 +12,12 @@ use Rattle.currency.specs.declared.verdict.PlaceVerdict.{PlaceVerdict}
 use Rattle.currency.specs.Visible as told
 use Rattle.currency.specs.Visible.{next, sights_at, sights_from}
 use Rattle.image_tables.specs.Tables.{Sight, sight, sight_of_verdict, spot_of_row}
+use Rattle.image_form.specs.Decoding.{element_of}
+use Rattle.image_form.specs.Numbers.{element_number, variable_numbers}
+use Rattle.image_form.specs.declared.variables.ElementType.{ElementType}
+use Rattle.image_form.specs.declared.variables.ElementType.TheVariants.{U8, I8, U16, I16, U32, I32, Pointer}
+use Rattle.image_form.specs.declared.variables.Variable.{Variable}
+use Rattle.image_declarations.specs.Variables.{Shape, shape}
 use Rattle.program_image.specs.Tables.{spot_of, visible_from}
 
 -- where places stand, as their rows say
@@ -64,3 +70,27 @@ sights_by (r ∷ rows) = let rest = sights_by rows in (λ i. sight r ∷ rest i)
 -- rows of the same numbers tell of the same
 pub sights_same : (xs ys : List VisibleRow) → map row_numbers xs ≡ map row_numbers ys → map sight xs ≡ map sight ys
 sights_same xs ys e = sym (sights_by xs) ∙ ap (map sight_by) e ∙ sights_by ys
+
+element_back : (e : ElementType) → element_of (element_number e) ≡ e
+element_back U8 = refl
+element_back I8 = refl
+element_back U16 = refl
+element_back I16 = refl
+element_back U32 = refl
+element_back I32 = refl
+element_back Pointer = refl
+
+shape_by : List ℕ → Shape
+shape_by numbers = record { name_length = get_or numbers 0 0; position = get_or numbers 2 0; element = element_of (get_or numbers 3 0); count = get_or numbers 6 0 }
+
+one_shape : (v : Variable) → shape_by (variable_numbers v) ≡ shape v
+unfolding shape_by
+one_shape v = ap (λ (e : ElementType). record { name_length = v.name_length; position = v.position; element = e; count = v.count }) (element_back v.element)
+
+shapes_by : (variables : List Variable) → map shape_by (map variable_numbers variables) ≡ map shape variables
+shapes_by [] = refl
+shapes_by (v ∷ variables) = let first = one_shape v in let rest = shapes_by variables in (λ i. first i ∷ rest i)
+
+-- variables of the same numbers are made alike
+pub shapes_same : (xs ys : List Variable) → map variable_numbers xs ≡ map variable_numbers ys → map shape xs ≡ map shape ys
+shapes_same xs ys e = sym (shapes_by xs) ∙ ap (map shape_by) e ∙ shapes_by ys

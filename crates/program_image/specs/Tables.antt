@@ -1,5 +1,5 @@
 -- What the tables of an image say of its program.
-use Rattle.std.specs.Prelude.{◌≡◌, ◌↔◌, ℕ, ◌+◌, List, [], ◌∷◌, ◌++◌, map}
+use Rattle.std.specs.Prelude.{◌≡◌, ◌↔◌, ℕ, ◌+◌, List, [], ◌∷◌, ◌++◌, length, map}
 use Rattle.std.specs.List.{Contains}
 use Rattle.places.specs.declared.flow.Assignment.{Assignment}
 use Rattle.places.specs.declared.flow.FlowStep.{FlowStep}
@@ -11,10 +11,12 @@ use Rattle.graph_core.specs.Graphs.{UnitForm}
 use Rattle.image_form.specs.Form.{Form}
 use Rattle.image_form.specs.declared.tables.AssignedPair.{AssignedPair}
 use Rattle.image_form.specs.declared.tables.FlowPair.{FlowPair}
+use Rattle.image_declarations.specs.Variables.{declared_names, length_of_name, name_length, shape, shapes_of}
 use Rattle.image_tables.specs.Tables.{Sight, Spot, assigned_pair, flow_pair, sight, spot}
 
--- A unit has the steps and the assignments of its program.
-pub record HasFlowOf (p : ProgramTree) (u : UnitForm) : Type 0 where
+-- A unit has a graph for each function of its program, and its steps and assignments.
+pub record HasShapeOf (p : ProgramTree) (u : UnitForm) : Type 0 where
+  pub functions : length u.graphs ≡ length p.functions
   pub steps : (s : FlowStep) → Contains u.steps s ↔ Contains (steps_of_program p) s
   pub assignments : (a : Assignment) → Contains u.assignments a ↔ Contains (assignments_of_program p) a
 
@@ -27,10 +29,14 @@ abbrev pub visible_from : (place : ℕ) → List Row → List Sight
 visible_from place [] = []
 visible_from place (r ∷ rows) = map (λ x. record { place = place; variable = x }) r.visible ++ visible_from (place + 1) rows
 
--- THE TABLES OF AN IMAGE ARE ITS PROGRAM'S. Its places are the program's, in their order, each at its position, on its line, in its function; execution goes from one place directly to
+-- THE TABLES OF AN IMAGE ARE ITS PROGRAM'S. It has the program's functions and variables, with their names: each variable is declared at its position, of its elements and of so many
+-- of them. Its places are the program's, in their order, each at its position, on its line, in its function; execution goes from one place directly to
 -- another where that is a step of the program's flow, and a place assigns a variable where the program's does; and a row tells of each variable that is visible at a
 -- place, place by place, and of no other.
 pub record HasTablesOf (p : ProgramTree) (m : Form) : Type 0 where
+  pub functions : map name_length m.functions ≡ map length_of_name p.functions
+  pub variables : map shape m.variables ≡ shapes_of p
+  pub names : (more : List ℕ) × (m.names ≡ declared_names p ++ more)
   pub places : map spot m.places ≡ map spot_of (rows_of_program p)
   pub flow : (s : FlowPair) → Contains m.flow s ↔ Contains (map flow_pair (steps_of_program p)) s
   pub assigned : (a : AssignedPair) → Contains m.assigned a ↔ Contains (map assigned_pair (assignments_of_program p)) a

@@ -8,7 +8,7 @@ ghost use Rattle.graph_core.specs.Graphs.{unit_view};
 ghost use Rattle.graph_core.specs.Validity.{IsValid};
 ghost use Rattle.homed_unit.specs.Homed.{HaveHomes, homed_view};
 ghost use Rattle.image_form.specs.Form.{form};
-ghost use Rattle.program_image.specs.Tables.{HasFlowOf, HasTablesOf};
+ghost use Rattle.program_image.specs.Tables.{HasShapeOf, HasTablesOf};
 
 use c_flow::fits;
 use c_laws::is_well_formed;
@@ -46,7 +46,7 @@ pub fn unit_of(
 ) -> Result<Option<Unit>, AllocError>
     requires { Fits32 (program_view program.now) }
     ensures valid { IfOk result (λ o. IfSome o (λ u. IsValid (unit_view u))) }
-    ensures flow { IfOk result (λ o. IfSome o (λ u. HasFlowOf (program_view program.now) (unit_view u))) }
+    ensures shape { IfOk result (λ o. IfSome o (λ u. HasShapeOf (program_view program.now) (unit_view u))) }
 {
     let Some(unit) = build(alloc, program)? else {
         return Ok(None);
@@ -59,8 +59,7 @@ pub fn homed_of(alloc: Global, unit: &Unit, mode: Mode) -> Result<Option<HomedUn
     requires { IsValid (unit_view unit.now) }
     ensures valid { IfOk result (λ o. IfSome o (λ h. IsValid (homed_view h).unit)) }
     ensures homes { IfOk result (λ o. IfSome o (λ h. HaveHomes (homed_view h))) }
-    ensures steps { IfOk result (λ o. IfSome o (λ h. (homed_view h).unit.steps ≡ (unit_view unit.now).steps)) }
-    ensures assignments { IfOk result (λ o. IfSome o (λ h. (homed_view h).unit.assignments ≡ (unit_view unit.now).assignments)) }
+    ensures unit { IfOk result (λ o. IfSome o (λ h. (homed_view h).unit ≡ record (unit_view unit.now) { log = (homed_view h).unit.log })) }
 {
     let homed = assign(alloc, unit, mode)?;
     if homed.unit.is_valid() {
@@ -79,7 +78,7 @@ pub fn draft_of(
     requires fits { Fits32 (program_view program.now) }
     requires valid { IsValid (homed_view homed.now).unit }
     requires homes { HaveHomes (homed_view homed.now) }
-    requires flow { HasFlowOf (program_view program.now) (homed_view homed.now).unit }
+    requires shape { HasShapeOf (program_view program.now) (homed_view homed.now).unit }
     ensures owners { IfOk result (λ o. IfSome o (λ m. length m.owners.items ≡ length m.code.items)) }
     ensures tables { IfOk result (λ o. IfSome o (λ m. HasTablesOf (program_view program.now) (form m))) }
 {
