@@ -1,4 +1,5 @@
 mod Adding
 mod Entries
+mod Logged
 mod OfFunctions
 mod OnRows

@@ -1,3 +1,4 @@
 pub mod Visible
 pub mod Telling
 pub mod Sound
+pub mod Named

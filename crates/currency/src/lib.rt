@@ -1,6 +1,7 @@
 //! What can be told of each variable at each place: where its home holds its value, by which recipe it is computed anew, and else which change and which code hide it.
 #![tactic(auto)]
 
+mod named;
 mod rows;
 mod telling;
 mod told;
