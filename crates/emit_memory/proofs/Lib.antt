@@ -1,0 +1,10 @@
+pub mod Accesses
+pub mod Elements
+pub mod Homes
+pub mod Instructions
+pub mod Objects
+pub mod Operands
+pub mod Reaching
+pub mod Steps
+pub mod Stores
+pub mod Values

@@ -1,0 +1,72 @@
+-- Where the words of an instruction that goes straight on stand in the code, the machine does the unit's step.
+use Rattle.std.proofs.Common.{◌≡◌, ℕ, ◌+◌, sym, subst, refl, List, [], ◌∷◌, length, Bool}
+use Rattle.std.specs.Prelude.{option_map}
+use Rattle.rv_machine.specs.State.{State}
+use Rattle.graph_core.specs.Graphs.{Instruction, Marker, Note, Move, Operate, Truncate, Same, Address, Load, Store, Zero, CopyWords, Call}
+use Rattle.graph_core.specs.Runs.{Configuration, Goes, step, step_from}
+use Rattle.graph_core.specs.Uses.{target_of}
+use Rattle.graph_core.specs.Validity.{IsInstruction}
+use Rattle.homed_unit.specs.Homed.{placed_instruction}
+use Rattle.emit_storage.specs.Storages.{StorageForm, home_at}
+use Rattle.emit_words.specs.Growing.{CodeState, with_code}
+use Rattle.emit_instructions.specs.Code.{with_instruction}
+use Rattle.machine_steps.specs.Holding.{Holding, AreInRange}
+use Rattle.machine_steps.specs.Doing.{done_by_all}
+use Rattle.machine_steps.specs.Programs.{Program, CodeAt, behind, Stands}
+use Rattle.machine_steps.specs.Points.{Reaches}
+use Rattle.machine_steps.proofs.Straight.{code_does}
+use Rattle.emit_memory.specs.Frames.{Setting, IsStorage, HoldsFrame, Performs, DoesStep, IsStraight, straight_code}
+use Rattle.emit_memory.proofs.Instructions.{straight_does}
+
+-- The words of such an instruction are those that it becomes.
+pub straight_appended : (g : StorageForm) (entry : ℕ) (x : Instruction) (s : CodeState) → IsStraight x → with_instruction g entry x s ≡ with_code (straight_code g s.held x) s
+straight_appended g entry (Marker p) s straight = absurd straight
+straight_appended g entry (Note x v) s straight = absurd straight
+straight_appended g entry (Move x a) s straight = refl
+straight_appended g entry (Operate x op a b) s straight = refl
+straight_appended g entry (Truncate x t a) s straight = refl
+straight_appended g entry (Same x a b) s straight = refl
+straight_appended g entry (Address x object) s straight = refl
+straight_appended g entry (Load x e l) s straight = refl
+straight_appended g entry (Store e l a) s straight = refl
+straight_appended g entry (Zero object words) s straight = absurd straight
+straight_appended g entry (CopyWords object bytes words) s straight = absurd straight
+straight_appended g entry (Call target f all) s straight = absurd straight
+
+-- What is left of the block is no part of the frame.
+abbrev pub going_on : Configuration → List Instruction → Configuration
+going_on c rest = record c { here = record c.here { rest = rest } }
+
+pub rest_framed : (w : Setting) (c : Configuration) (h : Holding) (rest : List Instruction) → HoldsFrame w c h → HoldsFrame w (going_on c rest) h
+rest_framed w c h rest frame = record {
+  fetch = frame.fetch;
+  scratch = frame.scratch;
+  aligned = frame.aligned;
+  low = frame.low;
+  high = frame.high;
+  homes = frame.homes;
+  objects = frame.objects;
+  laid = frame.laid;
+  free = frame.free;
+  own = frame.own;
+  static = frame.static;
+}
+
+-- The step of the unit over homes.
+pub step_done : (w : Setting) (c : Configuration) (h : Holding) (x : Instruction) (rest : List Instruction) → IsStorage w → HoldsFrame w c h → AreInRange h → c.here.rest ≡ placed_instruction (home_at w.storage) x ∷ rest
+    → IsInstruction w.unit w.graph x → IsStraight x → DoesStep w (going_on c rest) h (option_map (home_at w.storage) (target_of x)) (straight_code w.storage w.held x) (step w.unit c)
+step_done w c h x rest storage frame range is valid straight =
+    subst (λ all. DoesStep w (going_on c rest) h (option_map (home_at w.storage) (target_of x)) (straight_code w.storage w.held x) (step_from w.unit all c)) (sym is)
+    (straight_does w (going_on c rest) h storage (rest_framed w c h rest frame) range x valid straight)
+
+-- The machine comes behind the words, in as many instructions, unseen, and holds the frame of the configuration to which the step leads.
+pub record Arrives (p : Program) (s : State) (index : ℕ) (b : Bool) (w : Setting) (x : Instruction) (h : Holding) (d : Configuration) : Type 0 where
+  pub reaches : Reaches p (length (straight_code w.storage w.held x)) (record { state = s; shown = b }) [] (index + length (straight_code w.storage w.held x)) (behind b (straight_code w.storage w.held x)) (done_by_all (straight_code w.storage w.held x) h)
+  pub frame : HoldsFrame w d (done_by_all (straight_code w.storage w.held x) h)
+
+pub step_arrives : (p : Program) (s : State) (index : ℕ) (b : Bool) (w : Setting) (c d : Configuration) (h : Holding) (x : Instruction) (rest : List Instruction) → IsStorage w → HoldsFrame w c h → Stands p s index h
+    → CodeAt p index b (straight_code w.storage w.held x) → c.here.rest ≡ placed_instruction (home_at w.storage) x ∷ rest → IsInstruction w.unit w.graph x → IsStraight x → step w.unit c ≡ Goes d → Arrives p s index b w x h d
+step_arrives p s index b w c d h x rest storage frame stands there is valid straight goes =
+    let done : Performs w (going_on c rest) h (option_map (home_at w.storage) (target_of x)) (straight_code w.storage w.held x) d =
+    subst (λ q. DoesStep w (going_on c rest) h (option_map (home_at w.storage) (target_of x)) (straight_code w.storage w.held x) q) goes (step_done w c h x rest storage frame stands.in_range is valid straight) in
+    record { reaches = code_does p s index h b (straight_code w.storage w.held x) stands there done.can; frame = done.frame }
