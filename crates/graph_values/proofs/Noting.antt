@@ -1,9 +1,8 @@
 -- A scalar that was written is noted, where the source writes its object.
-use Rattle.std.proofs.Common.{◌≡◌, ◌≢◌, ℕ, zero, suc, ◌+◌, ◌/◌, ◌<◌, ◌≤◌, ◌⊎◌, inl, inr, List, [], ◌∷◌, length, Option, Some, None, Bool, true, false, slice_get, slice_set, refl, sym, ap, ◌∙◌, subst, arith}
-use Rattle.std.specs.Prelude.{◌==◌, if◌then◌else◌}
-use Rattle.std.proofs.lemmas.Bool.{cases_eq}
+use Rattle.std.proofs.Common.{◌≡◌, ◌≢◌, ℕ, ◌+◌, ◌≤◌, inl, inr, List, [], ◌∷◌, length, Option, Some, None, false, slice_get, slice_set, refl, sym, ap, ◌∙◌, subst, arith}
+use Rattle.std.specs.Prelude.{◌==◌}
 use Rattle.std.proofs.lemmas.Bool.Decides.{nat_tests}
-use Rattle.word_base.specs.Owners.{Owner, Variable}
+use Rattle.word_base.specs.Owners.{Variable}
 use Rattle.c_tree.specs.Programs.{AutomaticTree, ProgramTree}
 use Rattle.c_memory.specs.declared.value.Value as source-value
 use Rattle.c_memory.specs.declared.value.Value.TheVariants as source
@@ -15,15 +14,15 @@ use Rattle.graph_core.specs.declared.value.Value.{Value}
 use Rattle.graph_core.specs.declared.value.Value.TheVariants.{Number, Pointer, Odd}
 use Rattle.graph_core.specs.declared.value.Shadow.{Shadow}
 use Rattle.graph_core.specs.declared.value.Shadow.TheVariants.{Known}
-use Rattle.graph_core.specs.Memory.{Memory, bytes_of}
+use Rattle.graph_core.specs.Memory.{Memory}
 use Rattle.graph_core.specs.Runs.{Activation, put}
 use Rattle.graph_core.specs.Values.{is_odd}
 use Rattle.graph_names.specs.Names.{Names, names_of, scalar_of}
 use Rattle.graph_values.specs.Typed.{OwnersDiffer}
-use Rattle.graph_values.specs.Correspondence.{SameObject, SamePointer, points, ended, SameValue, SameValues, IsInMemory}
-use Rattle.graph_values.proofs.Leads.{Setting, names_in, depth_in, Local, World, put_here, put_elsewhere, same_number}
+use Rattle.graph_values.specs.Correspondence.{points, ended, SameValue, IsInMemory}
+use Rattle.graph_values.proofs.Leads.{Setting, names_in, depth_in, Local, World, put_here, put_elsewhere}
 use Rattle.graph_values.proofs.Later.{get_set, Later, later_set, OthersLater, others_refl, value_later, values_later}
-use Rattle.graph_values.proofs.Kept.{is_want, ScalarIs, ObjectIs, Own, Waits, Outer, Placed, ArePlaced, Fits}
+use Rattle.graph_values.proofs.Kept.{ScalarIs, ObjectIs, Own, Outer, Placed, Fits}
 
 -- a value that corresponds to one of the source is known
 pub known_value : (p : ProgramTree) (memory : SourceMemory) (others : Memory) (v : source-value.Value) (w : Value) → SameValue p memory others v w → is_odd w ≡ false
