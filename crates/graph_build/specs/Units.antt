@@ -1,5 +1,5 @@
 -- The unit of a program: a graph for each function, and what stands in static storage.
-use Rattle.std.specs.Prelude.{◌≡◌, ℕ, ◌+◌, ◌==◌, nat_lt, Bool, true, false, Option, Some, None, List, [], ◌∷◌, ◌++◌, length, map, reverse, slice_get, if◌then◌else◌}
+use Rattle.std.specs.Prelude.{◌≡◌, ℕ, ◌+◌, ◌==◌, nat_lt, Bool, false, Option, Some, None, List, [], ◌∷◌, ◌++◌, length, map, reverse, slice_get, if◌then◌else◌}
 use Rattle.std.specs.Option.{option_map_or}
 use Rattle.c_tree.specs.declared.object_type.ObjectType.{ObjectType}
 use Rattle.c_tree.specs.declared.object_type.ObjectType.TheVariants as of-object
@@ -8,8 +8,7 @@ use Rattle.c_tree.specs.declared.object_type.Object.TheVariants as object
 use Rattle.c_tree.specs.declared.program.Relocation as source-relocation
 use Rattle.c_tree.specs.Programs.{AutomaticTree, LiteralTree, StaticTree, TypedFunctionTree, ProgramTree}
 use Rattle.c_type_rules.specs.Types.{same_object}
-use Rattle.c_places.specs.Places.{Place, numbers_from, parameters_of, places_of_program, number_at}
-use Rattle.c_flow.specs.declared.edge.Ways.{Ways}
+use Rattle.c_places.specs.Places.{numbers_from, parameters_of, places_of_program, number_at}
 use Rattle.c_flow.specs.Flow.{start_of_all, ways_of_body}
 use Rattle.graph_core.specs.declared.instruction.Element as declared-element
 use Rattle.graph_core.specs.declared.instruction.Element.TheVariants.{Unsigned8}

@@ -1,4 +1,4 @@
-use Rattle.std.proofs.Common.{◌≡◌, List, map, length, ap, ◌∙◌}
+use Rattle.std.proofs.Common.{List, map, length, ap, ◌∙◌}
 use Rattle.c_tree.specs.Programs.{function_view, program_view}
 use Rattle.graph_core.specs.declared.block.Block.{Block}
 use Rattle.graph_core.specs.Graphs.{block_view}

@@ -1,4 +1,4 @@
-use Rattle.std.proofs.Common.{◌≡◌, ℕ, List, map, ap, ◌∙◌}
+use Rattle.std.proofs.Common.{ℕ, List, map, ap, ◌∙◌}
 use Rattle.c_tree.specs.Programs.{function_view, program_view}
 use Rattle.graph_build.specs.Units.{scalar_record}
 use Rattle.graph_build.proofs.variables.graph_scalars.Goals as goal
