@@ -10,9 +10,9 @@ ghost use Rattle.path_marks.specs.Table.{bits_of};
 
 use crate::copies::{Copies, CopyAt};
 use crate::flow::{begin, find_missing, step};
-use path_marks::Marks;
 use crate::reading::Reader;
 use graph_core::{Block, Graph, Instr, Operand, Scalar};
+use path_marks::Marks;
 use std::alloc::{AllocError, Global};
 
 /// The type of a scalar.

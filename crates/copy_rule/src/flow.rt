@@ -11,8 +11,8 @@ ghost use Rattle.copy_rule.specs.Rows.{AreBrought, AreClosedTo, AreGrown, AreRow
 ghost use Rattle.path_marks.specs.Table.{bits_of};
 
 use crate::copies::Copies;
-use path_marks::Marks;
 use graph_core::{Block, End, Instr, Name};
+use path_marks::Marks;
 use std::alloc::{AllocError, Global};
 
 /// Goes over a write: the copies of which the name is a part are missing behind it.

@@ -3,8 +3,8 @@
 ghost use Rattle.std.specs.Prelude.{◌≡◌, ◌+◌, ◌^◌, ◌<◌, IfOk, length, map, true};
 
 use crate::copies::Copies;
-use path_marks::Marks;
 use graph_core::{End, Instr, Location, Name, Operand};
+use path_marks::Marks;
 use smallvec::SmallVec;
 use std::alloc::{AllocError, Global};
 

@@ -2,6 +2,7 @@ pub mod Accesses
 pub mod Elements
 pub mod Homes
 pub mod Instructions
+pub mod Looping
 pub mod Objects
 pub mod Operands
 pub mod Reaching
