@@ -1,6 +1,7 @@
 //! From the texts to what is played.
 
-ghost use Rattle.std.specs.Prelude.{◌≡◌, IfOk, IfSome, MatchOption, Ok, map};
+ghost use Rattle.std.specs.Prelude.{◌≡◌, [], false, IfOk, IfSome, IsTrue, MatchOption, Ok, map};
+ghost use Rattle.debug_records.specs.declared.mode.Mode.TheVariants.{Slots};
 ghost use Rattle.c_source.specs.Sources.{program_of_source};
 ghost use Rattle.c_tree.specs.Programs.{program_view};
 ghost use Rattle.debug_records.specs.Change.{letters};
@@ -29,6 +30,14 @@ pub struct Made {
     pub bytes: Vec<u8>,
 }
 
+/// Whether no pass is run and variables are kept in slots.
+fn is_plain(names: &[PassName], mode: Mode) -> bool
+    ensures plain { IsTrue result → (map letters names.now ≡ []) × (mode ≡ Slots) }
+    ensures other { result ≡ false → map letters names.now ≡ [] → mode ≡ Slots → ⊥ }
+{
+    names.is_empty() && mode == Mode::Slots
+}
+
 /// The image of a source that is a straight-line `main`, where no pass is run and variables are kept in slots; else none.
 fn straight_image(
     alloc: Global,
@@ -38,7 +47,7 @@ fn straight_image(
 ) -> Result<Option<Image>, AllocError>
     ensures { IfOk result (λ made. MatchOption made (¬ IsStraight (map letters names.now) mode source.now) (λ image. IsImage (form image) × IsTruthfulTo source.now (map letters names.now) mode (form image))) }
 {
-    if !names.is_empty() || mode == Mode::Registers {
+    if !is_plain(names, mode) {
         return Ok(None);
     }
     match thin_form::read(alloc, source) {
