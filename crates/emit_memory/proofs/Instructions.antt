@@ -1,5 +1,5 @@
 -- The words of an instruction that goes straight on do the unit's step.
-use Rattle.std.proofs.Common.{◌≡◌, ◌≢◌, ℕ, ◌+◌, ◌*◌, ◌<◌, ◌≤◌, sym, ap, ◌∙◌, subst, arith, refl, Option, Some, None, Bool, true, false, cond, List, [], ◌∷◌, ◌++◌, append_assoc, length, slice_get, slice_set}
+use Rattle.std.proofs.Common.{⊎_elim, inl, inr, ◌≡◌, ◌≢◌, ℕ, ◌+◌, ◌*◌, ◌<◌, ◌≤◌, sym, ap, ◌∙◌, subst, arith, refl, Option, Some, None, Bool, true, false, cond, List, [], ◌∷◌, ◌++◌, append_assoc, length, slice_get, slice_set}
 use Rattle.std.specs.Option.{option_map_or}
 use Rattle.std.specs.Prelude.{nat_lt, ◌==◌, option_map}
 use Rattle.word_base.specs.declared.operation.Operation.{Operation}
@@ -18,7 +18,7 @@ use Rattle.graph_core.specs.declared.value.Value.TheVariants.{Pointer, Odd}
 use Rattle.graph_core.specs.declared.instruction.Element.{Element}
 use Rattle.graph_core.specs.Graphs.{Operand, Location, Instruction, Move, Operate, Truncate, Same, Address, Load, Store, Marker, Note, Zero, CopyWords, Call}
 use Rattle.graph_core.specs.Values.{size_of, as_element, operate, truncate, same, is_odd}
-use Rattle.graph_core.specs.Memory.{Memory, Object, bytes_of, is_live, address_of, read, write, with_value}
+use Rattle.graph_core.specs.Memory.{Memory, Object, bytes_of, words_of, is_live, address_of, read, write, with_value}
 use Rattle.graph_core.specs.Runs.{Configuration, Wild, value, pointed, wrote, wrote_some, with_memory, unless_odd, execute}
 use Rattle.graph_core.specs.Uses.{target_of}
 use Rattle.graph_core.specs.Validity.{IsOperand, IsLocation, IsInstruction}
@@ -112,7 +112,7 @@ element_stored w c h storage frame front r e rs x p v n o i hits can is stays me
       can = can_do_both front (storing e r rs) h can (can_do_both r.code (s ∷ []) t finds.can (there, tt));
       frame = store_framed w c h storage frame e p v x n o i hits means fits (done_by_all (front ++ storing e r rs) h) kept made;
       kept = λ q none left. kept q left;
-      outside = λ b out. ap (λ (m : ℕ → ℕ). m b) made ∙ byte_apart w c h storage frame e p v x n o i hits means fits b (out.1 n o hits.there hits.live);
+      outside = λ b out. ap (λ (m : ℕ → ℕ). m b) made ∙ byte_apart w c h storage frame e p v x n o i hits means fits b (⊎_elim (λ (low : b < w.addresses n). inl low) (λ (past : w.addresses n + 4 * words_of (bytes_of o) ≤ b). inr (omega (arith, past))) (out.1 n o hits.there hits.live));
       input = ap (λ (y : Holding). y.input) (both ∙ last) ∙ finds.input ∙ input;
     }
 

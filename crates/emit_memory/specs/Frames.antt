@@ -2,7 +2,7 @@
 use Rattle.std.specs.Prelude.{◌≡◌, ℕ, ◌+◌, ◌*◌, ◌%◌, ◌<◌, ◌≤◌, ◌⊎◌, true, Option, Some, None, List, [], ◌∷◌, length, slice_get}
 use Rattle.rv_code.specs.declared.instruction.Instruction.{Instruction as MachineInstruction}
 use Rattle.graph_core.specs.Graphs.{Operand, Name, Constant, StaticAddress, Location, Automatic, Static, At, Instruction, Marker, Note, Move, Operate, Truncate, Same, Address, Load, Store, Zero, CopyWords, Call, Graph, StaticObject, UnitForm}
-use Rattle.graph_core.specs.Memory.{Object, bytes_of, static_bytes}
+use Rattle.graph_core.specs.Memory.{Object, bytes_of, words_of, static_bytes}
 use Rattle.graph_core.specs.Runs.{Configuration, Stepped, Goes, Shows, Ends, Wild}
 use Rattle.graph_homes.specs.declared.home.Home.{Home}
 use Rattle.homed_unit.specs.Homed.{IsHomeAmong, home_number}
@@ -59,11 +59,11 @@ pub record HoldsFrame (w : Setting) (c : Configuration) (h : Holding) : Type 0 w
 
 -- ---- Steps
 
--- A byte lies in no slot of the frame and in no live object.
+-- A byte lies in no slot of the frame and in no word of a live object.
 abbrev pub IsOutside : Setting → Configuration → Holding → (address : ℕ) → Type 0
 IsOutside w c h b =
     ((b < h.registers 2 + w.storage.slots) ⊎ (h.registers 2 + (w.storage.slots + 4 * w.slots) ≤ b))
-    × ((n : ℕ) (o : Object) → slice_get c.memory n ≡ Some o → o.live ≡ true → (b < w.addresses n) ⊎ (w.addresses n + bytes_of o ≤ b))
+    × ((n : ℕ) (o : Object) → slice_get c.memory n ≡ Some o → o.live ≡ true → (b < w.addresses n) ⊎ (w.addresses n + 4 * words_of (bytes_of o) ≤ b))
 
 -- A register is not the home that is written, if one is.
 abbrev pub IsNoTarget : Option Home → (register : ℕ) → Type 0
@@ -71,7 +71,7 @@ IsNoTarget None q = Unit {0}
 IsNoTarget (Some home) q = IsNoHome home q
 
 -- Code leads from one configuration to another: it can be done, and behind it the machine holds the other. It leaves registers, but t0 to t2 and the home that is written, memory
--- outside of the slots and of live objects, and the input.
+-- outside of the slots and of the words of live objects, and the input.
 pub record Performs (w : Setting) (c : Configuration) (h : Holding) (target : Option Home) (code : List MachineInstruction) (d : Configuration) : Type 0 where
   pub can : CanDoAll code h
   pub frame : HoldsFrame w d (done_by_all code h)
