@@ -24,7 +24,7 @@ use Rattle.emit_memory.proofs.Zeros.{Comes, zero_comes}
 -- The words of such an instruction are those that it becomes.
 pub straight_appended : (g : StorageForm) (entry : ℕ) (x : Instruction) (s : CodeState) → IsStraight x → with_instruction g entry x s ≡ with_code (straight_code g s.held x) s
 straight_appended g entry (Marker p) s straight = absurd straight
-straight_appended g entry (Note x v) s straight = absurd straight
+straight_appended g entry (Note x v) s straight = refl
 straight_appended g entry (Move x a) s straight = refl
 straight_appended g entry (Operate x op a b) s straight = refl
 straight_appended g entry (Truncate x t a) s straight = refl

@@ -99,10 +99,10 @@ IsWordIn (Automatic object offset) = Unit {0}
 IsWordIn (Static object) = Unit {0}
 IsWordIn (At a) = IsWord a
 
--- An instruction goes straight on, and its constants are words.
+-- An instruction goes straight on, and its constants are words. A note has no word at all.
 abbrev pub IsStraight : Instruction → Type 0
 IsStraight (Marker p) = ⊥
-IsStraight (Note x v) = ⊥
+IsStraight (Note x v) = Unit {0}
 IsStraight (Move x a) = IsWord a
 IsStraight (Operate x op a b) = IsWord a × IsWord b
 IsStraight (Truncate x t a) = IsWord a
