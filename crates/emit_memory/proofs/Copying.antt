@@ -1,5 +1,5 @@
 -- A loop that copies words from one place of memory to another does so.
-use Rattle.std.proofs.Common.{◌≡◌, ◌≢◌, ℕ, zero, suc, ◌+◌, ◌-◌, ◌*◌, ◌%◌, ◌<◌, ◌≤◌, ◌⊎◌, ⊎_elim, inl, inr, sym, ap, ◌∙◌, subst, arith, refl, List, [], ◌∷◌}
+use Rattle.std.proofs.Common.{◌≡◌, ℕ, zero, suc, ◌+◌, ◌-◌, ◌*◌, ◌<◌, ◌≤◌, ◌⊎◌, ⊎_elim, inl, inr, sym, ap, ◌∙◌, subst, arith, refl, List, [], ◌∷◌}
 use Rattle.std.proofs.lemmas.Bool.{cases_lt}
 use Rattle.rv_code.specs.declared.instruction.Instruction.{Instruction}
 use Rattle.rv_code.specs.declared.instruction.Instruction.TheVariants.{Load, Store, Immediate}
@@ -9,7 +9,7 @@ use Rattle.rv_code.specs.declared.instruction.ImmediateOperation.TheVariants.{Ad
 use Rattle.rv_machine.specs.State.{word}
 use Rattle.rv_machine.specs.Table.{operated_immediate}
 use Rattle.machine_steps.specs.Holding.{Holding, byte_of, with_register, word_at, with_bytes, IsDataAt}
-use Rattle.machine_steps.specs.Doing.{done_by_all, CanDoAll}
+use Rattle.machine_steps.specs.Doing.{done_by_all}
 use Rattle.machine_steps.proofs.Registers.{register_same, register_other}
 use Rattle.machine_steps.proofs.Apart.{byte_within, byte_outside, bytes_in_range}
 use Rattle.emit_moves.specs.Doing.{IsLeft}
