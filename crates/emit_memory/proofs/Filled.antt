@@ -17,6 +17,7 @@ use Rattle.emit_moves.specs.Doing.{IsLeft, value_of_home}
 use Rattle.emit_moves.proofs.Computing.{left_2, can_fetch_stays}
 use Rattle.emit_memory.specs.Meaning.{Means, bits_at, HoldsBits, HoldsObjects}
 use Rattle.emit_memory.specs.Frames.{Setting, IsStorage, HoldsFrame}
+use Rattle.emit_memory.proofs.Arrays.{array_stays, array_apart}
 use Rattle.emit_memory.proofs.Elements.{word_kept, bits_kept}
 use Rattle.emit_memory.proofs.Objects.{AreThose, WasThere, get_set, those_set, means_later, holds_later, laid_later, element_within}
 use Rattle.emit_memory.proofs.Homes.{home_left, slot_is}
@@ -57,7 +58,7 @@ beyond Word j words lt = omega arith
 
 -- Memory behind the words: so many from an address on hold new bits, element by element, and the rest is as it was.
 module _ (w : Setting) (c : Configuration) (h t : Holding) (storage : IsStorage w) (frame : HoldsFrame w c h) (n words : ℕ) (o : Object) (new : List Value) (there : slice_get c.memory n ≡ Some o) (live : o.live ≡ true)
-    (few : words ≤ words_of (bytes_of o)) (all : (j : ℕ) → j * size_of o.element + size_of o.element ≤ 4 * words → j < length new) (kept : (q : ℕ) → IsLeft q → t.registers q ≡ h.registers q)
+    (few : words ≤ words_of (bytes_of o)) (every : (j : ℕ) → j * size_of o.element + size_of o.element ≤ 4 * words → j < length new) (kept : (q : ℕ) → IsLeft q → t.registers q ≡ h.registers q)
     (outside : (b : ℕ) → (b < w.addresses n) ⊎ (w.addresses n + 4 * words ≤ b) → t.memory b ≡ h.memory b)
     (filled : (j : ℕ) (v : Value) → slice_get new j ≡ Some v → HoldsBits w.addresses c.memory (size_of o.element) v (bits_at t.memory (size_of o.element) (w.addresses n + j * size_of o.element))) where
   abbrev pub filled_objects : Memory
@@ -109,7 +110,7 @@ module _ (w : Setting) (c : Configuration) (h t : Holding) (storage : IsStorage 
       behind : (i : ℕ) → length new ≤ i → 4 * words ≤ i * size_of o.element
       behind i le = ⊎_elim
           (λ (lt : 4 * words < i * size_of o.element + size_of o.element). beyond o.element i words lt)
-          (λ (ge : i * size_of o.element + size_of o.element ≤ 4 * words). let few_new = all i ge in absurd (omega (arith, few_new, le)))
+          (λ (ge : i * size_of o.element + size_of o.element ≤ 4 * words). let few_new = every i ge in absurd (omega (arith, few_new, le)))
           (cases_lt (4 * words) (i * size_of o.element + size_of o.element))
 
   filled_hold : HoldsObjects w.addresses filled_objects t.memory
@@ -149,4 +150,9 @@ module _ (w : Setting) (c : Configuration) (h t : Holding) (storage : IsStorage 
             (subst (λ k. (w.addresses m + k ≤ h.registers 2) ⊎ (h.registers 2 + (w.storage.slots + 4 * w.slots) ≤ w.addresses m)) (sym was.bytes) (frame.free m was.object was.is (was.live l)));
         own = λ k lt. frame.own k lt ∙ ap (λ s. s + object_at w.storage k) (sym sp);
         static = λ m s is. (those.kept m _ (frame.static m s is).0, (frame.static m s is).1);
+        arrays = λ m all is.
+            array_stays w c.memory filled_objects h.memory t.memory m all those
+            (λ b lo hi. outside b (⊎_elim (λ (low : b < w.addresses n). inl low) (λ (past : w.addresses n + 4 * words_of (bytes_of o) ≤ b). inr (omega (arith, past, few)))
+            (array_apart w c.memory h.memory m all n o (frame.arrays m all is) there live b lo hi)))
+            (frame.arrays m all is);
       }

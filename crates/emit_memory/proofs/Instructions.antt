@@ -276,6 +276,7 @@ module _ (w : Setting) (c : Configuration) (h : Holding) (storage : IsStorage w)
       free = frame.free;
       own = frame.own;
       static = frame.static;
+      arrays = frame.arrays;
     };
     kept = λ q none left. refl;
     outside = λ b out. refl;

@@ -1,4 +1,5 @@
 pub mod Accesses
+pub mod Arrays
 pub mod Copying
 pub mod Elements
 pub mod Filled

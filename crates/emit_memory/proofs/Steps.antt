@@ -53,6 +53,7 @@ rest_framed w c h rest frame = record {
   free = frame.free;
   own = frame.own;
   static = frame.static;
+  arrays = frame.arrays;
 }
 
 -- The step of the unit over homes.
