@@ -1,24 +1,25 @@
 -- The frame of an activation stands as it is to stand behind words that fetch, and behind those that write a home.
-use Rattle.std.proofs.Common.{◌≡◌, ◌≢◌, ℕ, ◌+◌, ◌*◌, ◌%◌, ◌<◌, ◌≤◌, ◌⊎◌, ⊎_elim, inl, inr, sym, ap, ◌∙◌, subst, arith, refl, Some, Bool, true, false, cond, List, [], ◌∷◌}
+use Rattle.std.proofs.Common.{length, ◌≡◌, ◌≢◌, ℕ, ◌+◌, ◌*◌, ◌%◌, ◌<◌, ◌≤◌, ◌⊎◌, ⊎_elim, inl, inr, sym, ap, ◌∙◌, subst, arith, refl, Some, Bool, true, false, cond, List, [], ◌∷◌}
 use Rattle.std.specs.Prelude.{◌==◌}
 use Rattle.std.proofs.lemmas.Bool.{eqb-true, eq-eqb, ne_eqb, cases_lt}
 use Rattle.rv_code.specs.declared.instruction.Instruction.{Instruction as MachineInstruction}
 use Rattle.graph_core.specs.declared.value.Value.{Value}
-use Rattle.graph_core.specs.Memory.{bytes_of}
+use Rattle.graph_core.specs.Memory.{bytes_of, words_of}
 use Rattle.graph_core.specs.Runs.{Configuration, put, take_value}
 use Rattle.graph_homes.specs.declared.home.Home.{Home}
 use Rattle.graph_homes.specs.declared.home.Home.TheVariants.{Register, Slot}
 use Rattle.homed_unit.specs.Homed.{IsHomeRegister, IsHomeAmong, home_number}
 use Rattle.emit_pieces.specs.declared.piece.Held.{Held}
 use Rattle.emit_storage.specs.declared.storage.Source.TheVariants.{Home as OfHome}
-use Rattle.emit_storage.specs.Storages.{slot_at, object_at}
+use Rattle.emit_storage.specs.Storages.{slot_at, object_at, array_bytes_at}
 use Rattle.machine_steps.specs.Holding.{Holding, word_at, with_bytes}
 use Rattle.machine_steps.specs.Doing.{done_by_all}
 use Rattle.machine_steps.proofs.Apart.{byte_outside}
 use Rattle.emit_moves.specs.Doing.{Makes, CanWrite, HasSlot, HoldsAll, AreLeft, IsLeft, IsReadable, IsNoHome, value_of_home, memory_with}
 use Rattle.emit_moves.proofs.Computing.{left_0, left_2, left_3, can_fetch_stays}
 use Rattle.emit_memory.specs.Meaning.{Means, HoldsObjects}
-use Rattle.emit_memory.specs.Frames.{Setting, IsStorage, IsScratch, AreScratch, HoldsFrame, Performs}
+use Rattle.emit_memory.specs.Frames.{Setting, IsStorage, IsScratch, AreScratch, HasArray, HoldsFrame, Performs}
+use Rattle.emit_memory.proofs.Arrays.{those_same, array_stays}
 use Rattle.emit_memory.proofs.Elements.{word_kept}
 use Rattle.emit_memory.proofs.Objects.{objects_kept}
 
@@ -77,6 +78,7 @@ frame_stays w c h t kept memory frame =
       free = λ n o is live. subst (λ s. (w.addresses n + bytes_of o ≤ s) ⊎ (s + (w.storage.slots + 4 * w.slots) ≤ w.addresses n)) (sym sp) (frame.free n o is live);
       own = λ k lt. frame.own k lt ∙ ap (λ s. s + object_at w.storage k) (sym sp);
       static = frame.static;
+      arrays = λ n all is. subst (λ (m : ℕ → ℕ). HasArray w c.memory m n all) (sym memory) (frame.arrays n all is);
     }
 
 -- ---- Behind a write of a home
@@ -90,7 +92,7 @@ no_home slots (Slot k) q among which = tt
 
 scratch_low : (r : ℕ) → IsScratch r → (r < 9) ⊎ ((10 ≤ r) × (r ≤ 17))
 scratch_low r (inl is) = inl (omega (arith, is))
-scratch_low r (inr both) = inr both
+scratch_low r (inr both) = let low = both.0 in inr (omega (arith, low), both.1)
 
 held_kept : (slots : ℕ) (held : List Held) (h t : Holding) (home : Home) → IsHomeAmong slots home → ((q : ℕ) → IsNoHome home q → IsLeft q → t.registers q ≡ h.registers q) → AreScratch held → AreLeft held → HoldsAll held h → HoldsAll held t
 held_kept slots [] h t home among kept scratch left all = tt
@@ -178,6 +180,11 @@ home_performed w c h home v x code storage frame among made means =
         free = λ n o is live. subst (λ s. (w.addresses n + bytes_of o ≤ s) ⊎ (s + (w.storage.slots + 4 * w.slots) ≤ w.addresses n)) (sym sp) (frame.free n o is live);
         own = λ k lt. frame.own k lt ∙ ap (λ s. s + object_at w.storage k) (sym sp);
         static = frame.static;
+        arrays = λ n all is.
+            let has : HasArray w c.memory h.memory n all = frame.arrays n all is in
+            let sp_low : 16777216 ≤ h.registers 2 = frame.low in
+            let high : array_bytes_at w.storage n + 4 * words_of (length all) ≤ 5242880 = has.high in
+            array_stays w c.memory c.memory h.memory t.memory n all (those_same c.memory) (λ b lo hi. ap (λ (m : ℕ → ℕ). m b) made.memory ∙ kept_outside w c h home x b storage frame among (inl (omega (arith, hi, high, sp_low)))) has;
       };
       kept = made.kept;
       outside = λ b out. ap (λ (m : ℕ → ℕ). m b) made.memory ∙ kept_outside w c h home x b storage frame among out.0;

@@ -1,5 +1,5 @@
 -- The words of an instruction that goes straight on do the unit's step.
-use Rattle.std.proofs.Common.{◌≡◌, ◌≢◌, ℕ, ◌+◌, ◌*◌, ◌<◌, ◌≤◌, sym, ap, ◌∙◌, subst, arith, refl, Option, Some, None, Bool, true, false, cond, List, [], ◌∷◌, ◌++◌, append_assoc, length, slice_get, slice_set}
+use Rattle.std.proofs.Common.{⊎_elim, inl, inr, ◌≡◌, ◌≢◌, ℕ, ◌+◌, ◌*◌, ◌<◌, ◌≤◌, sym, ap, ◌∙◌, subst, arith, refl, Option, Some, None, Bool, true, false, cond, List, [], ◌∷◌, ◌++◌, append_assoc, length, slice_get, slice_set}
 use Rattle.std.specs.Option.{option_map_or}
 use Rattle.std.specs.Prelude.{nat_lt, ◌==◌, option_map}
 use Rattle.word_base.specs.declared.operation.Operation.{Operation}
@@ -16,10 +16,10 @@ use Rattle.emit_moves.proofs.Parts.{high_part_alone, parts_make}
 use Rattle.graph_core.specs.declared.value.Value.{Value}
 use Rattle.graph_core.specs.declared.value.Value.TheVariants.{Pointer, Odd}
 use Rattle.graph_core.specs.declared.instruction.Element.{Element}
-use Rattle.graph_core.specs.Graphs.{Operand, Location, Instruction, Move, Operate, Truncate, Same, Address, Load, Store, Marker, Note, Zero, CopyWords, Call}
+use Rattle.graph_core.specs.Graphs.{Operand, Location, Instruction, Move, Operate, Truncate, Same, Address, Load, Store, Marker, Note, Gone, Zero, CopyWords, Call}
 use Rattle.graph_core.specs.Values.{size_of, as_element, operate, truncate, same, is_odd}
-use Rattle.graph_core.specs.Memory.{Memory, Object, bytes_of, is_live, address_of, read, write, with_value}
-use Rattle.graph_core.specs.Runs.{Configuration, Wild, value, pointed, wrote, wrote_some, with_memory, unless_odd, execute}
+use Rattle.graph_core.specs.Memory.{Memory, Object, bytes_of, words_of, is_live, address_of, read, write, with_value}
+use Rattle.graph_core.specs.Runs.{noted, Configuration, Wild, value, pointed, wrote, wrote_some, with_memory, unless_odd, execute}
 use Rattle.graph_core.specs.Uses.{target_of}
 use Rattle.graph_core.specs.Validity.{IsOperand, IsLocation, IsInstruction}
 use Rattle.graph_homes.specs.declared.home.Home.{Home}
@@ -112,7 +112,7 @@ element_stored w c h storage frame front r e rs x p v n o i hits can is stays me
       can = can_do_both front (storing e r rs) h can (can_do_both r.code (s ∷ []) t finds.can (there, tt));
       frame = store_framed w c h storage frame e p v x n o i hits means fits (done_by_all (front ++ storing e r rs) h) kept made;
       kept = λ q none left. kept q left;
-      outside = λ b out. ap (λ (m : ℕ → ℕ). m b) made ∙ byte_apart w c h storage frame e p v x n o i hits means fits b (out.1 n o hits.there hits.live);
+      outside = λ b out. ap (λ (m : ℕ → ℕ). m b) made ∙ byte_apart w c h storage frame e p v x n o i hits means fits b (⊎_elim (λ (low : b < w.addresses n). inl low) (λ (past : w.addresses n + 4 * words_of (bytes_of o) ≤ b). inr (omega (arith, past))) (out.1 n o hits.there hits.live));
       input = ap (λ (y : Holding). y.input) (both ∙ last) ∙ finds.input ∙ input;
     }
 
@@ -258,13 +258,38 @@ module _ (w : Setting) (c : Configuration) (h : Holding) (storage : IsStorage w)
               element_stored w c h storage frame front (reach_of w.storage w.held l) e rs x _ v n o i hits brings.can (brings.value) stays brings.memory brings.input
               (subst (λ k. Finds (reach_of w.storage w.held l) t (w.addresses n + k)) hits.at finds) apart.0 apart.1 (operand_means w c h a storage frame va) (value_fits w.storage h source range readable)
 
+  -- ---- Notes
+
+  -- A note says nothing of a unit over homes but that a shadow is gone, and shadows are no part of the frame.
+  note_does : (x : ℕ) → DoesStep w c h None [] (noted w.unit.statics c x (Gone 0))
+  note_does x = record {
+    can = tt;
+    frame = record {
+      fetch = frame.fetch;
+      scratch = frame.scratch;
+      aligned = frame.aligned;
+      low = frame.low;
+      high = frame.high;
+      homes = frame.homes;
+      objects = frame.objects;
+      laid = frame.laid;
+      free = frame.free;
+      own = frame.own;
+      static = frame.static;
+      arrays = frame.arrays;
+    };
+    kept = λ q none left. refl;
+    outside = λ b out. refl;
+    input = refl;
+  }
+
   -- ---- All of them
 
   -- The words of an instruction that goes straight on do the step of the unit over homes.
   pub straight_does : (x : Instruction) → IsInstruction w.unit w.graph x → IsStraight x
       → DoesStep w c h (option_map (home_at w.storage) (target_of x)) (straight_code w.storage w.held x) (execute w.unit (placed_instruction (home_at w.storage) x) c)
   straight_does (Marker p) valid straight = absurd straight
-  straight_does (Note x v) valid straight = absurd straight
+  straight_does (Note x v) valid straight = note_does x
   straight_does (Move x a) valid straight = move_does x a valid.0 valid.1 straight
   straight_does (Operate x op a b) valid straight = operation_does x op a b valid.0 valid.1 valid.2 straight.0 straight.1
   straight_does (Truncate x t a) valid straight = truncation_does x t a valid.0 valid.1 straight

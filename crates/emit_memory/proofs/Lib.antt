@@ -1,7 +1,11 @@
 pub mod Accesses
+pub mod Arrays
+pub mod Copying
 pub mod Elements
+pub mod Filled
 pub mod Homes
 pub mod Instructions
+pub mod Limits
 pub mod Looping
 pub mod Objects
 pub mod Operands
@@ -9,3 +13,5 @@ pub mod Reaching
 pub mod Steps
 pub mod Stores
 pub mod Values
+pub mod Zeroing
+pub mod Zeros

@@ -1,5 +1,5 @@
 -- A loop that goes straight on through its body and ends in a branch to its beginning.
-use Rattle.std.proofs.Common.{◌≡◌, ◌≢◌, ℕ, zero, suc, ◌+◌, ◌*◌, ◌%◌, ◌<◌, ◌≤◌, sym, ap, ◌∙◌, subst, arith, refl, List, [], ◌∷◌, ◌++◌, length, Bool, true, false}
+use Rattle.std.proofs.Common.{◌≡◌, ◌≢◌, ℕ, zero, suc, ◌+◌, ◌*◌, ◌<◌, sym, ap, ◌∙◌, subst, arith, refl, List, [], ◌∷◌, ◌++◌, length, true, false}
 use Rattle.std.specs.Prelude.{not, ◌==◌}
 use Rattle.std.proofs.lemmas.Bool.{eq-eqb, ne_eqb}
 use Rattle.std.proofs.Math.Nat.{mul-suc}
@@ -9,7 +9,6 @@ use Rattle.rv_code.specs.declared.instruction.Instruction.TheVariants.{Branch}
 use Rattle.rv_code.specs.declared.instruction.BranchOperation.TheVariants.{Bne}
 use Rattle.rv_machine.specs.State.{State, word}
 use Rattle.rv_machine.specs.Table.{taken}
-use Rattle.rv_machine.specs.Run.{MachineEvent}
 use Rattle.machine_steps.specs.Holding.{Holding}
 use Rattle.machine_steps.specs.Doing.{done_by_all, CanDoAll}
 use Rattle.machine_steps.specs.Programs.{Program, address_of, IsAt, CodeAt, behind, Stands}

@@ -74,7 +74,7 @@ means_later addresses memory later those (Number n) w means = means
 means_later addresses memory later those (Pointer object size offset) w (at, le, is) = (those.kept object size at, le, is)
 means_later addresses memory later those Odd w means = tt
 
-holds_later : (addresses : ℕ → ℕ) (memory later : Memory) → AreThose memory later → (size : ℕ) (v : Value) (bits : ℕ) → HoldsBits addresses memory size v bits → HoldsBits addresses later size v bits
+pub holds_later : (addresses : ℕ → ℕ) (memory later : Memory) → AreThose memory later → (size : ℕ) (v : Value) (bits : ℕ) → HoldsBits addresses memory size v bits → HoldsBits addresses later size v bits
 holds_later addresses memory later those size (Number n) bits holds = holds
 holds_later addresses memory later those size (Pointer object of offset) bits (at, le, is) = (those.kept object of at, le, is)
 holds_later addresses memory later those size Odd bits holds = tt

@@ -1,15 +1,17 @@
 -- Where the words of an instruction that goes straight on stand in the code, the machine does the unit's step.
-use Rattle.std.proofs.Common.{◌≡◌, ℕ, ◌+◌, sym, subst, refl, List, [], ◌∷◌, length, Bool}
+use Rattle.std.proofs.Common.{◌≡◌, ℕ, ◌+◌, ◌*◌, ap, ◌∙◌, Option, Some, None, sym, subst, refl, List, [], ◌∷◌, length, Bool}
 use Rattle.std.specs.Prelude.{option_map}
 use Rattle.rv_machine.specs.State.{State}
 use Rattle.graph_core.specs.Graphs.{Instruction, Marker, Note, Move, Operate, Truncate, Same, Address, Load, Store, Zero, CopyWords, Call}
-use Rattle.graph_core.specs.Runs.{Configuration, Goes, step, step_from}
+use Rattle.graph_core.specs.Memory.{Memory, zeroed}
+use Rattle.graph_core.specs.Runs.{Configuration, Goes, step, step_from, with_memory}
 use Rattle.graph_core.specs.Uses.{target_of}
 use Rattle.graph_core.specs.Validity.{IsInstruction}
 use Rattle.homed_unit.specs.Homed.{placed_instruction}
 use Rattle.emit_storage.specs.Storages.{StorageForm, home_at}
 use Rattle.emit_words.specs.Growing.{CodeState, with_code}
 use Rattle.emit_instructions.specs.Code.{with_instruction}
+use Rattle.emit_instructions.specs.Filling.{zero_code}
 use Rattle.machine_steps.specs.Holding.{Holding, AreInRange}
 use Rattle.machine_steps.specs.Doing.{done_by_all}
 use Rattle.machine_steps.specs.Programs.{Program, CodeAt, behind, Stands}
@@ -17,11 +19,12 @@ use Rattle.machine_steps.specs.Points.{Reaches}
 use Rattle.machine_steps.proofs.Straight.{code_does}
 use Rattle.emit_memory.specs.Frames.{Setting, IsStorage, HoldsFrame, Performs, DoesStep, IsStraight, straight_code}
 use Rattle.emit_memory.proofs.Instructions.{straight_does}
+use Rattle.emit_memory.proofs.Zeros.{Comes, zero_comes}
 
 -- The words of such an instruction are those that it becomes.
 pub straight_appended : (g : StorageForm) (entry : ℕ) (x : Instruction) (s : CodeState) → IsStraight x → with_instruction g entry x s ≡ with_code (straight_code g s.held x) s
 straight_appended g entry (Marker p) s straight = absurd straight
-straight_appended g entry (Note x v) s straight = absurd straight
+straight_appended g entry (Note x v) s straight = refl
 straight_appended g entry (Move x a) s straight = refl
 straight_appended g entry (Operate x op a b) s straight = refl
 straight_appended g entry (Truncate x t a) s straight = refl
@@ -50,6 +53,7 @@ rest_framed w c h rest frame = record {
   free = frame.free;
   own = frame.own;
   static = frame.static;
+  arrays = frame.arrays;
 }
 
 -- The step of the unit over homes.
@@ -70,3 +74,21 @@ step_arrives p s index b w c d h x rest storage frame stands there is valid stra
     let done : Performs w (going_on c rest) h (option_map (home_at w.storage) (target_of x)) (straight_code w.storage w.held x) d =
     subst (λ q. DoesStep w (going_on c rest) h (option_map (home_at w.storage) (target_of x)) (straight_code w.storage w.held x) q) goes (step_done w c h x rest storage frame stands.in_range is valid straight) in
     record { reaches = code_does p s index h b (straight_code w.storage w.held x) stands there done.can; frame = done.frame }
+
+-- Where the words stand that set an object to zero, the machine comes behind them, in at most as many instructions as they are and three for each word, unseen, and holds the frame of the configuration to which the step leads.
+pub zero_arrives : (p : Program) (s : State) (index : ℕ) (b : Bool) (w : Setting) (c d : Configuration) (h : Holding) (object words : ℕ) (rest : List Instruction) → IsStorage w → HoldsFrame w c h → Stands p s index h
+    → CodeAt p index b (zero_code w.storage object words) → c.here.rest ≡ placed_instruction (home_at w.storage) (Zero object words) ∷ rest → IsInstruction w.unit w.graph (Zero object words) → step w.unit c ≡ Goes d
+    → Comes p s index b (length (zero_code w.storage object words) + 3 * words) (zero_code w.storage object words) w h d
+zero_arrives p s index b w c d h object words rest storage frame stands there is valid goes =
+    by_memory (zeroed c.memory (c.here.first_object + object) words) refl (ap (λ all. step_from w.unit all c) (sym is) ∙ goes)
+  where
+    by_memory : (later : Option Memory) → zeroed c.memory (c.here.first_object + object) words ≡ later → with_memory (going_on c rest) later ≡ Goes d
+        → Comes p s index b (length (zero_code w.storage object words) + 3 * words) (zero_code w.storage object words) w h d
+    by_memory None made e = cc
+    by_memory (Some later) made e =
+        let same : record (going_on c rest) { memory = later } ≡ d = cc in
+        subst (λ q. Comes p s index b (length (zero_code w.storage object words) + 3 * words) (zero_code w.storage object words) w h q) same
+        (zero_comes p s index b w (going_on c rest) h storage (rest_framed w c h rest frame) object words later valid stands made there)
+
+pub zero_appended : (g : StorageForm) (entry object words : ℕ) (s : CodeState) → with_instruction g entry (Zero object words) s ≡ with_code (zero_code g object words) s
+zero_appended g entry object words s = refl

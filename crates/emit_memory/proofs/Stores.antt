@@ -3,7 +3,7 @@ use Rattle.std.proofs.Common.{◌≡◌, ℕ, ◌+◌, ◌*◌, ◌%◌, ◌<◌
 use Rattle.graph_core.specs.declared.value.Value.{Value}
 use Rattle.graph_core.specs.declared.instruction.Element.{Element}
 use Rattle.graph_core.specs.Values.{size_of}
-use Rattle.graph_core.specs.Memory.{Memory, Object, bytes_of, with_value}
+use Rattle.graph_core.specs.Memory.{Memory, Object, bytes_of, words_of, with_value}
 use Rattle.graph_core.specs.Runs.{Configuration}
 use Rattle.graph_homes.specs.declared.home.Home.{Home}
 use Rattle.graph_homes.specs.declared.home.Home.TheVariants.{Register, Slot}
@@ -15,6 +15,7 @@ use Rattle.emit_moves.specs.Doing.{IsLeft, value_of_home}
 use Rattle.emit_moves.proofs.Computing.{left_2, can_fetch_stays}
 use Rattle.emit_memory.specs.Meaning.{Means, HoldsObjects}
 use Rattle.emit_memory.specs.Frames.{Setting, IsStorage, HoldsFrame}
+use Rattle.emit_memory.proofs.Arrays.{array_stays, array_apart}
 use Rattle.emit_memory.proofs.Elements.{word_kept}
 use Rattle.emit_memory.proofs.Objects.{AreThose, WasThere, means_later, laid_later, objects_those, object_written, element_within}
 use Rattle.emit_memory.proofs.Homes.{home_left, slot_is}
@@ -81,4 +82,9 @@ module _ (w : Setting) (c : Configuration) (h : Holding) (storage : IsStorage w)
               (subst (λ k. (w.addresses m + k ≤ h.registers 2) ⊎ (h.registers 2 + (w.storage.slots + 4 * w.slots) ≤ w.addresses m)) (sym was.bytes) (frame.free m was.object was.is (was.live live)));
           own = λ k lt. frame.own k lt ∙ ap (λ s. s + object_at w.storage k) (sym sp);
           static = λ m s is. (those.kept m _ (frame.static m s is).0, (frame.static m s is).1);
+          arrays = λ m all is.
+              array_stays w c.memory stored_objects h.memory t.memory m all those
+              (λ b lo hi. ap (λ (f : ℕ → ℕ). f b) memory ∙ byte_apart b (⊎_elim (λ (low : b < w.addresses n). inl low) (λ (past : w.addresses n + 4 * words_of (bytes_of o) ≤ b). inr (omega (arith, past)))
+              (array_apart w c.memory h.memory m all n o (frame.arrays m all is) hits.there hits.live b lo hi)))
+              (frame.arrays m all is);
         }

@@ -1,13 +1,13 @@
 -- What the machine holds while an activation of a unit over homes goes on, and when code does a step of it.
-use Rattle.std.specs.Prelude.{◌≡◌, ℕ, ◌+◌, ◌*◌, ◌%◌, ◌<◌, ◌≤◌, ◌⊎◌, true, Option, Some, None, List, [], ◌∷◌, length, slice_get}
+use Rattle.std.specs.Prelude.{◌≡◌, ℕ, ◌+◌, ◌*◌, ◌%◌, ◌<◌, ◌≤◌, ◌⊎◌, true, Option, Some, None, List, [], ◌∷◌, length, slice_get, slice_index}
 use Rattle.rv_code.specs.declared.instruction.Instruction.{Instruction as MachineInstruction}
 use Rattle.graph_core.specs.Graphs.{Operand, Name, Constant, StaticAddress, Location, Automatic, Static, At, Instruction, Marker, Note, Move, Operate, Truncate, Same, Address, Load, Store, Zero, CopyWords, Call, Graph, StaticObject, UnitForm}
-use Rattle.graph_core.specs.Memory.{Object, bytes_of, static_bytes}
+use Rattle.graph_core.specs.Memory.{Memory, Object, bytes_of, words_of, static_bytes}
 use Rattle.graph_core.specs.Runs.{Configuration, Stepped, Goes, Shows, Ends, Wild}
 use Rattle.graph_homes.specs.declared.home.Home.{Home}
 use Rattle.homed_unit.specs.Homed.{IsHomeAmong, home_number}
 use Rattle.emit_pieces.specs.declared.piece.Held.{Held}
-use Rattle.emit_storage.specs.Storages.{StorageForm, home_at, object_at, static_object_at, source_of}
+use Rattle.emit_storage.specs.Storages.{StorageForm, home_at, object_at, static_object_at, array_bytes_at, source_of}
 use Rattle.emit_operations.specs.Operations.{operation_code, truncation_code, comparison_code, move_code}
 use Rattle.emit_instructions.specs.Memory.{load_code, store_code, object_address_code}
 use Rattle.machine_steps.specs.Holding.{Holding}
@@ -33,16 +33,26 @@ pub record IsStorage (w : Setting) : Type 0 where
   pub room : w.storage.slots + 4 * w.slots ≤ w.size
   pub objects : (k : ℕ) → k < length w.graph.objects → object_at w.storage k ≤ w.size
 
--- Constants are held in s0 and a0 to a7, which are no homes.
+-- Constants are held in s0 and a1 to a7, which are no homes.
 abbrev pub IsScratch : (register : ℕ) → Type 0
-IsScratch r = (r ≡ 8) ⊎ ((10 ≤ r) × (r ≤ 17))
+IsScratch r = (r ≡ 8) ⊎ ((11 ≤ r) × (r ≤ 17))
 
 abbrev pub AreScratch : List Held → Type 0
 AreScratch [] = Unit {0}
 AreScratch (x ∷ more) = IsScratch x.register × AreScratch more
 
+-- The bytes that initialise an array stand in static memory, with zeros behind them up to a whole word, and apart from all live objects.
+pub record HasArray (w : Setting) (memory : Memory) (m : ℕ → ℕ) (n : ℕ) (all : List ℕ) : Type 0 where
+  pub aligned : array_bytes_at w.storage n % 4 ≡ 0
+  pub low : 4194304 ≤ array_bytes_at w.storage n
+  pub high : array_bytes_at w.storage n + 4 * words_of (length all) ≤ 5242880
+  pub bytes : (i : ℕ) → i < 4 * words_of (length all) → m (array_bytes_at w.storage n + i) ≡ slice_index all i
+  pub apart : (k : ℕ) (o : Object) → slice_get memory k ≡ Some o → o.live ≡ true
+      → (w.addresses k + 4 * words_of (bytes_of o) ≤ array_bytes_at w.storage n) ⊎ (array_bytes_at w.storage n + 4 * words_of (length all) ≤ w.addresses k)
+
 -- The machine holds the innermost activation of a configuration: its frame stands at sp, its homes hold words that mean the values of their names, which are their numbers, and the live
 -- objects of all activations what they hold. None of these lies in the part of the frame below its objects.
+-- Static objects and the bytes that initialise arrays stand at their addresses.
 pub record HoldsFrame (w : Setting) (c : Configuration) (h : Holding) : Type 0 where
   pub fetch : CanFetch w.storage w.held h
   pub scratch : AreScratch w.held
@@ -56,14 +66,15 @@ pub record HoldsFrame (w : Setting) (c : Configuration) (h : Holding) : Type 0 w
       → (w.addresses n + bytes_of o ≤ h.registers 2) ⊎ (h.registers 2 + (w.storage.slots + 4 * w.slots) ≤ w.addresses n)
   pub own : (k : ℕ) → k < length w.graph.objects → w.addresses (c.here.first_object + k) ≡ h.registers 2 + object_at w.storage k
   pub static : (n : ℕ) (o : StaticObject) → slice_get w.unit.statics n ≡ Some o → (size_at c.memory n ≡ Some (static_bytes o)) × (w.addresses n ≡ static_object_at w.storage n)
+  pub arrays : (n : ℕ) (all : List ℕ) → slice_get w.unit.array_bytes n ≡ Some all → HasArray w c.memory h.memory n all
 
 -- ---- Steps
 
--- A byte lies in no slot of the frame and in no live object.
+-- A byte lies in no slot of the frame and in no word of a live object.
 abbrev pub IsOutside : Setting → Configuration → Holding → (address : ℕ) → Type 0
 IsOutside w c h b =
     ((b < h.registers 2 + w.storage.slots) ⊎ (h.registers 2 + (w.storage.slots + 4 * w.slots) ≤ b))
-    × ((n : ℕ) (o : Object) → slice_get c.memory n ≡ Some o → o.live ≡ true → (b < w.addresses n) ⊎ (w.addresses n + bytes_of o ≤ b))
+    × ((n : ℕ) (o : Object) → slice_get c.memory n ≡ Some o → o.live ≡ true → (b < w.addresses n) ⊎ (w.addresses n + 4 * words_of (bytes_of o) ≤ b))
 
 -- A register is not the home that is written, if one is.
 abbrev pub IsNoTarget : Option Home → (register : ℕ) → Type 0
@@ -71,7 +82,7 @@ IsNoTarget None q = Unit {0}
 IsNoTarget (Some home) q = IsNoHome home q
 
 -- Code leads from one configuration to another: it can be done, and behind it the machine holds the other. It leaves registers, but t0 to t2 and the home that is written, memory
--- outside of the slots and of live objects, and the input.
+-- outside of the slots and of the words of live objects, and the input.
 pub record Performs (w : Setting) (c : Configuration) (h : Holding) (target : Option Home) (code : List MachineInstruction) (d : Configuration) : Type 0 where
   pub can : CanDoAll code h
   pub frame : HoldsFrame w d (done_by_all code h)
@@ -99,10 +110,10 @@ IsWordIn (Automatic object offset) = Unit {0}
 IsWordIn (Static object) = Unit {0}
 IsWordIn (At a) = IsWord a
 
--- An instruction goes straight on, and its constants are words.
+-- An instruction goes straight on, and its constants are words. A note has no word at all.
 abbrev pub IsStraight : Instruction → Type 0
 IsStraight (Marker p) = ⊥
-IsStraight (Note x v) = ⊥
+IsStraight (Note x v) = Unit {0}
 IsStraight (Move x a) = IsWord a
 IsStraight (Operate x op a b) = IsWord a × IsWord b
 IsStraight (Truncate x t a) = IsWord a

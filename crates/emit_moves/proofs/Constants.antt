@@ -25,7 +25,7 @@ addi_brings h r a n v some e = record {
   input = refl;
 }
 
-lui_brings : (h : Holding) (r n v : ℕ) → 0 < r → n * 4096 ≡ v → Brings (Lui r n ∷ []) h r r v
+pub lui_brings : (h : Holding) (r n v : ℕ) → 0 < r → n * 4096 ≡ v → Brings (Lui r n ∷ []) h r r v
 lui_brings h r n v some e = record {
   can = (tt, tt);
   value = register_same r (n * 4096) h.registers some ∙ e;
@@ -34,7 +34,7 @@ lui_brings h r n v some e = record {
   input = refl;
 }
 
-both_bring : (h : Holding) (r n m v : ℕ) → 0 < r → word (n * 4096 + m) ≡ v → Brings (Lui r n ∷ Immediate Addi r r m ∷ []) h r r v
+pub both_bring : (h : Holding) (r n m v : ℕ) → 0 < r → word (n * 4096 + m) ≡ v → Brings (Lui r n ∷ Immediate Addi r r m ∷ []) h r r v
 unfolding operated_immediate
 both_bring h r n m v some e = record {
   can = (tt, (tt, tt));
