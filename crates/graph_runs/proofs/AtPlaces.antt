@@ -51,7 +51,7 @@ begun_above k t le = pick_between (names_in k.setting) (size_in k.setting) t (si
 -- a jump to a place, or the end that stands for none
 pub going_comes : (k : Activity) (c : Configuration) (es : List Event) (next : Option ℕ) (inner : List Block) (place : ℕ) (l : Local) (u : World)
     → Leads k.setting.unit c es (before_in k place (going (coding_in k) next inner).ops (going (coding_in k) next inner).end l u) u.seen → Comes k c es next place l u
-going_comes k c es (Some to) inner place l u leads b is = then_leads leads (goes (ap (entered (before_in k place [] (Jump (block_of (coding_in k) to)) l u)) is) stays)
+going_comes k c es (Some to) inner place l u leads = λ b is. then_leads leads (goes (ap (entered (before_in k place [] (Jump (block_of (coding_in k) to)) l u)) is) stays)
 going_comes k c es None inner place l u leads = leads
 
 -- the inner blocks stand without the end that stands for none
@@ -131,41 +131,41 @@ module _ (k : Activity) (at : ℕ) (e : RvalueTree) (works : Works k (place_at k
       by (Ends ending s2) keeps h = halted (Unused m) ending s2 before h
 
   -- It is tested.
-  pub test_runs : (one other : ℕ) (blocks : List Block) (yes no : State → Outcome) → Inner (Either one other blocks) → Before (Either one other blocks)
+  pub test_runs : (one other : ℕ) (blocks : List Block) (if_so if_not : State → Outcome) → Inner (Either one other blocks) → Before (Either one other blocks)
       → ((s2 : State) (l2 : Local) (u2 : World) → ((b : Block) → slice_get k.setting.graph.blocks one ≡ Some b → Leads k.setting.unit c es (before_in k (place_at k at) b.instructions b.end l2 u2) u2.seen) → Sound k.setting.program s2.memory s2 → Fits k.setting None s2 l2 u2 → Since s.memory s2.memory
-      → Runs k c es low high brought s2.memory w (yes s2))
+      → Runs k c es low high brought s2.memory w (if_so s2))
       → ((s2 : State) (l2 : Local) (u2 : World) → ((b : Block) → slice_get k.setting.graph.blocks other ≡ Some b → Leads k.setting.unit c es (before_in k (place_at k at) b.instructions b.end l2 u2) u2.seen) → Sound k.setting.program s2.memory s2 → Fits k.setting None s2 l2 u2 → Since s.memory s2.memory
-      → Runs k c es low high brought s2.memory w (no s2))
-      → Runs k c es low high brought s.memory w (choose (tested (evaluate (k.calls (place_at k at)) (depth_of (here_in k)) e s)) yes no)
-  test_runs one other blocks yes no inner before go_yes go_no =
+      → Runs k c es low high brought s2.memory w (if_not s2))
+      → Runs k c es low high brought s.memory w (choose (tested (evaluate (k.calls (place_at k at)) (depth_of (here_in k)) e s)) if_so if_not)
+  test_runs one other blocks if_so if_not inner before go_yes go_no =
       let does = works s.memory ready in
       let r = evaluate (k.calls (place_at k at)) (depth_in k.setting) e s in
-      subst (λ d. Runs k c es low high brought s.memory w (choose (tested (evaluate (k.calls (place_at k at)) d e s)) yes no)) depths
+      subst (λ d. Runs k c es low high brought s.memory w (choose (tested (evaluate (k.calls (place_at k at)) d e s)) if_so if_not)) depths
       (by (tested r) (keeps_tested k.setting.program s.memory s.memory (kind_of k.setting.program k.setting.tree e) r (does.0 s sound))
       (does.1 t (Either one other blocks) s l u size inner sound (fits_placed k (place_at k at) s.memory None s l u fits) tt))
     where
-      by : (r : Tested) → KeepsTest k.setting.program s.memory s.memory r → EitherR X one other t (written_by X e) (made_for (Either one other blocks)).ops (made_for (Either one other blocks)).end l u r → Runs k c es low high brought s.memory w (choose r yes no)
+      by : (r : Tested) → KeepsTest k.setting.program s.memory s.memory r → EitherR X one other t (written_by X e) (made_for (Either one other blocks)).ops (made_for (Either one other blocks)).end l u r → Runs k c es low high brought s.memory w (choose r if_so if_not)
       by (Holds s2) left h =
-          runs_since k c es low high low high brought s.memory s2.memory w (yes s2) (omega arith) (omega arith) (grown_since (depth_in k.setting) low high s.memory s2.memory left.sound.since)
+          runs_since k c es low high low high brought s.memory s2.memory w (if_so s2) (omega arith) (omega arith) (grown_since (depth_in k.setting) low high s.memory s2.memory left.sound.since)
           (go_yes s2 h.local h.world (λ b is. then_leads before (h.leads b is)) (sound_now k.setting.program s.memory s2 left.sound) (fits_anywhere k (place_at k at) s.memory None s2 h.local h.world h.fits) left.sound.since)
       by (Fails s2) left h =
-          runs_since k c es low high low high brought s.memory s2.memory w (no s2) (omega arith) (omega arith) (grown_since (depth_in k.setting) low high s.memory s2.memory left.sound.since)
+          runs_since k c es low high low high brought s.memory s2.memory w (if_not s2) (omega arith) (omega arith) (grown_since (depth_in k.setting) low high s.memory s2.memory left.sound.since)
           (go_no s2 h.local h.world (λ b is. then_leads before (h.leads b is)) (sound_now k.setting.program s.memory s2 left.sound) (fits_anywhere k (place_at k at) s.memory None s2 h.local h.world h.fits) left.sound.since)
       by (NoTest ending s2) keeps h = halted (Either one other blocks) ending s2 before h
 
   -- A condition leads two ways.
-  pub branch_runs : (free : ℕ) → t ≡ begun (coding_in k) free → (one other : Option ℕ) (inner : List Block) (yes no : State → Outcome) → Stands k.setting.graph k.setting.top (branching (coding_in k) at e free one other inner).inner
+  pub branch_runs : (free : ℕ) → t ≡ begun (coding_in k) free → (one other : Option ℕ) (inner : List Block) (if_so if_not : State → Outcome) → Stands k.setting.graph k.setting.top (branching (coding_in k) at e free one other inner).inner
       → Leads k.setting.unit c es (before_in k (place_at k at) (branching (coding_in k) at e free one other inner).ops (branching (coding_in k) at e free one other inner).end l u) u.seen
-      → ((s2 : State) (l2 : Local) (u2 : World) → Comes k c es one (place_at k at) l2 u2 → Sound k.setting.program s2.memory s2 → Fits k.setting None s2 l2 u2 → Since s.memory s2.memory → Runs k c es low high brought s2.memory w (yes s2))
-      → ((s2 : State) (l2 : Local) (u2 : World) → Comes k c es other (place_at k at) l2 u2 → Sound k.setting.program s2.memory s2 → Fits k.setting None s2 l2 u2 → Since s.memory s2.memory → Runs k c es low high brought s2.memory w (no s2))
-      → Runs k c es low high brought s.memory w (choose (tested (evaluate (k.calls (place_at k at)) (depth_of (here_in k)) e s)) yes no)
-  branch_runs free is one other inner yes no st leads go_yes go_no =
+      → ((s2 : State) (l2 : Local) (u2 : World) → Comes k c es one (place_at k at) l2 u2 → Sound k.setting.program s2.memory s2 → Fits k.setting None s2 l2 u2 → Since s.memory s2.memory → Runs k c es low high brought s2.memory w (if_so s2))
+      → ((s2 : State) (l2 : Local) (u2 : World) → Comes k c es other (place_at k at) l2 u2 → Sound k.setting.program s2.memory s2 → Fits k.setting None s2 l2 u2 → Since s.memory s2.memory → Runs k c es low high brought s2.memory w (if_not s2))
+      → Runs k c es low high brought s.memory w (choose (tested (evaluate (k.calls (place_at k at)) (depth_of (here_in k)) e s)) if_so if_not)
+  branch_runs free is one other inner if_so if_not st leads go_yes go_no =
       let ends = with_end (coding_in k) at other inner in
       let all = with_end (coding_in k) at one ends in
       let g = Either (label_for (coding_in k) one ends) (label_for (coding_in k) other inner) all in
       let st_here : Inner g = subst (λ n. Stands k.setting.graph k.setting.top (code (names_in k.setting) (place_at k at) k.setting.top e n g).inner) (sym is) st in
       let before : Before g = subst (λ n. Leads k.setting.unit c es (before_in k (place_at k at) (code (names_in k.setting) (place_at k at) k.setting.top e n g).ops (code (names_in k.setting) (place_at k at) k.setting.top e n g).end l u) u.seen) (sym is) leads in
       let stands : Stands k.setting.graph k.setting.top all = grows (names_in k.setting) (place_at k at) k.setting.top k.setting.graph e t g st_here in
-      test_runs (label_for (coding_in k) one ends) (label_for (coding_in k) other inner) all yes no st_here before
+      test_runs (label_for (coding_in k) one ends) (label_for (coding_in k) other inner) all if_so if_not st_here before
       (λ s2 l2 u2 to sound2 fits2 since. go_yes s2 l2 u2 (label_comes k c es at one ends (place_at k at) l2 u2 stands to) sound2 fits2 since)
       (λ s2 l2 u2 to sound2 fits2 since. go_no s2 l2 u2 (label_comes k c es at other inner (place_at k at) l2 u2 (end_front k at one ends stands) to) sound2 fits2 since)

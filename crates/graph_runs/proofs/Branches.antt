@@ -22,12 +22,12 @@ arrives_at k c es low high next place l u s comes sound fits = record { place = 
 
 module _ (k : Activity) (law : Lawful k) (scope : List ℕ) (low : ℕ) (w : Ways) (spot : Spot) (e : RvalueTree) (works : Works k (place_at k spot.at) e) where
   -- A condition, and what follows it either way.
-  pub chosen_goes : (one other : Option ℕ) (yes no : State → Outcome) → Begins k scope spot.at (λ t i. branching (coding_in k) spot.at e t one other i) → GoesOn k low low [] w scope one yes → GoesOn k low low [] w scope other no
-      → GoesOn k low low [] w scope (Some spot.at) (λ s. activations.at (here_in k) spot s (λ t. choose (test_at k.calls (here_in k) spot e t) yes no))
-  chosen_goes one other yes no b go_yes go_no =
-      place_begins k law scope spot (branching (coding_in k) spot.at e b.free one other b.inner) b.block b.here low low [] w (λ s. choose (test_at k.calls (here_in k) spot e s) yes no)
+  pub chosen_goes : (one other : Option ℕ) (if_so if_not : State → Outcome) → Begins k scope spot.at (λ t i. branching (coding_in k) spot.at e t one other i) → GoesOn k low low [] w scope one if_so → GoesOn k low low [] w scope other if_not
+      → GoesOn k low low [] w scope (Some spot.at) (λ s. activations.at (here_in k) spot s (λ t. choose (test_at k.calls (here_in k) spot e t) if_so if_not))
+  chosen_goes one other if_so if_not b go_yes go_no =
+      place_begins k law scope spot (branching (coding_in k) spot.at e b.free one other b.inner) b.block b.here low low [] w (λ s. choose (test_at k.calls (here_in k) spot e s) if_so if_not)
       (λ c es l u s leads sound fits h ready.
-      branch_runs k spot.at e works c es l u s sound fits ready (begun (coding_in k) b.free) (begun_above k b.free b.size) low low [] w b.free refl one other b.inner yes no b.stands leads
+      branch_runs k spot.at e works c es l u s sound fits ready (begun (coding_in k) b.free) (begun_above k b.free b.size) low low [] w b.free refl one other b.inner if_so if_not b.stands leads
       (λ s2 l2 u2 to sound2 fits2 since. go_yes c es (place_at k spot.at) l2 u2 s2 to sound2 fits2 (holding_since k scope low s.memory s2.memory h since))
       (λ s2 l2 u2 to sound2 fits2 since. go_no c es (place_at k spot.at) l2 u2 s2 to sound2 fits2 (holding_since k scope low s.memory s2.memory h since)))
 

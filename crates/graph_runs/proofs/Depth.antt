@@ -115,7 +115,7 @@ module _ (x : Setting) (f : ℕ) (tree : TypedFunctionTree) (g : Graph) (again :
       let f2 = fits_returned x s s2 l w h.world call h.fits.later h.grown.later h.fits.differ h.fits.placed (here_at x ops end (waiting l target)) tree_is refl refl refl h.fits.outer h.fits.input h.fits.events in
       fits_local x None None (ending_from (length s.memory) s2) l (waiting l target) (behind_world h.world) f2 f2.own
 
-  back_some : (high : ℕ) (v : Option source-value.Value) (s2 : State) → (h : Leaving within calling w.seen 0 high s.memory v s2) → (o : Operand) → h.operand ≡ Some o → Back x target f all ops end l w (ending_from (length s.memory) s2)
+  abbrev back_some : (high : ℕ) (v : Option source-value.Value) (s2 : State) → (h : Leaving within calling w.seen 0 high s.memory v s2) → (o : Operand) → h.operand ≡ Some o → Back x target f all ops end l w (ending_from (length s.memory) s2)
   back_some high v s2 h o e = record {
     world = behind_world h.world;
     given = value x.unit.statics h.local.names o;

@@ -1,5 +1,5 @@
 -- Where a statement does not lead, no run of it goes.
-use Rattle.std.proofs.Common.{◌≡◌, ℕ, zero, suc, List, [], ◌∷◌, length, Option, Some, None, Bool, true, false, ◌||◌, not, refl, sym, ap, ◌∙◌, subst, ℤ}
+use Rattle.std.proofs.Common.{◌≡◌, ℕ, zero, suc, ◌+◌, List, [], ◌∷◌, length, Option, Some, None, Bool, true, false, ◌||◌, not, refl, sym, ap, ◌∙◌, subst, ℤ}
 use Rattle.std.specs.Prelude.{if◌then◌else◌, is_some}
 use Rattle.c_tree.specs.TypedExpressions.{RvalueTree}
 use Rattle.c_tree.specs.TypedStatements as statement
@@ -96,10 +96,10 @@ effect_within values e (Gives v s) go h = h s
 effect_within values e (Leaves s) go h = h s
 effect_within values e (Ends c s) go h = tt
 
-test_within : (values : Bool) (e : Exits) (r : Tested) (yes no : State → Outcome) → ((t : State) → Within values e (yes t)) → ((t : State) → Within values e (no t)) → Within values e (choose r yes no)
-test_within values e (Holds s) yes no h g = h s
-test_within values e (Fails s) yes no h g = g s
-test_within values e (NoTest c s) yes no h g = tt
+test_within : (values : Bool) (e : Exits) (r : Tested) (if_so if_not : State → Outcome) → ((t : State) → Within values e (if_so t)) → ((t : State) → Within values e (if_not t)) → Within values e (choose r if_so if_not)
+test_within values e (Holds s) if_so if_not h g = h s
+test_within values e (Fails s) if_so if_not h g = g s
+test_within values e (NoTest c s) if_so if_not h g = tt
 
 then_within : (values : Bool) (e : Exits) (o : Outcome) (go : State → Outcome) → Onwards o → ((t : State) → Within values e (go t)) → Within values e (then_do o go)
 then_within values e (Next s) go h g = g s
@@ -135,8 +135,8 @@ abbrev switch_exits : Exits → Bool → Exits
 switch_exits e out = record { next = e.next || e.breaks || out; breaks = false; continues = e.continues }
 
 switch_within : (values : Bool) (e : Exits) (out : Bool) (o : Outcome) → Within values e o → Within values (switch_exits e out) (after_switch o)
-switch_within values e out (Next s) h = or_left e.next (e.breaks || out) h
-switch_within values e out (Broken s) h = or_right e.next (e.breaks || out) (or_left e.breaks out h)
+switch_within values e out (Next s) h = or_left (e.next || e.breaks) out (or_left e.next e.breaks h)
+switch_within values e out (Broken s) h = or_left (e.next || e.breaks) out (or_right e.next e.breaks h)
 switch_within values e out (Continued s) h = h
 switch_within values e out (Returned None s) h = tt
 switch_within values e out (Returned (Some v) s) h = h
@@ -166,7 +166,7 @@ all_continues e (default rest) h = all_continues (record { next = true; breaks =
 module _ (calls : ℕ → Calls) (here : Activation) (values : Bool) where
   elements_onwards : (spot : Spot) (n index : ℕ) (all : List RvalueTree) (s : State) → Onwards (initialise_elements calls here spot n index all s)
   elements_onwards spot n index [] s = refl
-  elements_onwards spot n index (e ∷ all) s = value_within false onwards (value_at calls here spot e s) _ (λ v t. elements_onwards spot n (suc index) all _)
+  elements_onwards spot n index (e ∷ all) s = value_within false onwards (value_at calls here spot e s) _ (λ v t. elements_onwards spot n (index + 1) all _)
 
   declare_onwards : (d : DeclaredTree) (s : State) → Onwards (declare calls here d s)
   declare_onwards d s = place_within false onwards here d.spot s (declare_with calls here d.spot d.variable d.initial) (λ t. by d.initial t)
@@ -216,9 +216,9 @@ module _ (calls : ℕ → Calls) (here : Activation) (values : Bool) where
         let a = exits_of q in
         let e = exits_of (DoWhile q spot c) in
         rounds_within values e s.turns (do_round here spot (test_at calls here spot c) (execute calls here q))
-        (λ again h t. body_within values a e (execute calls here q t) _ (within_exits q fit t) (λ b. or_right a.next (a.continues || a.breaks) (or_right a.continues a.breaks b))
-        (λ n t2. place_within values e here spot t2 _ (λ u. test_within values e (test_at calls here spot c u) again Next h (λ z. or_left a.next (a.continues || a.breaks) n)))
-        (λ n t2. place_within values e here spot t2 _ (λ u. test_within values e (test_at calls here spot c u) again Next h (λ z. or_right a.next (a.continues || a.breaks) (or_left a.continues a.breaks n))))) s
+        (λ again h t. body_within values a e (execute calls here q t) _ (within_exits q fit t) (λ b. or_right (a.next || a.continues) a.breaks b)
+        (λ n t2. place_within values e here spot t2 _ (λ u. test_within values e (test_at calls here spot c u) again Next h (λ z. or_left (a.next || a.continues) a.breaks (or_left a.next a.continues n))))
+        (λ n t2. place_within values e here spot t2 _ (λ u. test_within values e (test_at calls here spot c u) again Next h (λ z. or_left (a.next || a.continues) a.breaks (or_right a.next a.continues n))))) s
     within_exits (For begin spot None p q) fit s =
         let a = exits_of q in
         let e = exits_of (For begin spot None p q) in
@@ -237,26 +237,26 @@ module _ (calls : ℕ → Calls) (here : Activation) (values : Bool) where
     within_exits (Switch spot c all) fit s =
         let a = exits_of_all nowhere all in
         let e = switch_exits a (not (has_default all)) in
-        place_within values e here spot s _ (λ t. value_within values e (value_at calls here spot c t) _ (λ v u. numbers e v u (λ z x. labelled all fit z x (has_case z all) refl)))
+        place_within values e here spot s _ (λ t. value_within values e (value_at calls here spot c t) _ (λ v u. numbers e v u _ (λ z x. labelled all fit z x (has_case z all) refl)))
     within_exits (Break spot) fit s = place_within values (exits_of (Break spot)) here spot s Broken (λ t. refl)
     within_exits (Continue spot) fit s = place_within values (exits_of (Continue spot)) here spot s Continued (λ t. refl)
     within_exits (Return spot None) fit s = place_within values nowhere here spot s (result calls here spot None) (λ t. tt)
     within_exits (Return spot (Some c)) fit s = place_within values nowhere here spot s (result calls here spot (Some c)) (λ t. value_within values nowhere (value_at calls here spot c t) _ (λ v z. fit))
 
-    numbers : (e : Exits) (v : source-value.Value) (u : State) {go : ℤ → State → Outcome} → ((z : ℤ) (x : State) → Within values e (go z x)) → Within values e (on_number v u go)
-    numbers e (source.Number z) u h = h z u
-    numbers e source.Null u h = tt
-    numbers e (source.Pointer n k) u h = tt
+    numbers : (e : Exits) (v : source-value.Value) (u : State) (go : ℤ → State → Outcome) → ((z : ℤ) (x : State) → Within values e (go z x)) → Within values e (on_number v u go)
+    numbers e (source.Number z) u go h = h z u
+    numbers e source.Null u go h = tt
+    numbers e (source.Pointer n k) u go h = tt
 
     -- the block of a `switch`, from a label on
     labelled : (all : TypedStatementTrees) → AllReturnsFit values all → (z : ℤ) (x : State) (b : Bool) → has_case z all ≡ b
         → Within values (switch_exits (exits_of_all nowhere all) (not (has_default all))) (after_switch (by_label b (execute_case calls here z all) (execute_default calls here all) x))
     labelled all fit z x true e = switch_within values (exits_of_all nowhere all) (not (has_default all)) (execute_case calls here z all x) (case_within nowhere z all fit e x)
-    labelled all fit z x false e = defaults (has_default all) refl
+    labelled all fit z x false e = defaults (λ d. default_within nowhere all fit d x) (λ d. no_default all d x) (has_default all) refl
       where
-        defaults : (d : Bool) → has_default all ≡ d → Within values (switch_exits (exits_of_all nowhere all) (not d)) (after_switch (execute_default calls here all x))
-        defaults true d = switch_within values (exits_of_all nowhere all) false (execute_default calls here all x) (default_within nowhere all fit d x)
-        defaults false d = subst (λ o. Within values (switch_exits (exits_of_all nowhere all) true) (after_switch o)) (sym (no_default all d x)) (or_right (exits_of_all nowhere all).next ((exits_of_all nowhere all).breaks || true) (or_right (exits_of_all nowhere all).breaks true refl))
+        defaults : (has_default all ≡ true → Within values (exits_of_all nowhere all) (execute_default calls here all x)) → (has_default all ≡ false → execute_default calls here all x ≡ Next x) → (d : Bool) → has_default all ≡ d → Within values (switch_exits (exits_of_all nowhere all) (not d)) (after_switch (execute_default calls here all x))
+        defaults some none true d = switch_within values (exits_of_all nowhere all) false (execute_default calls here all x) (some d)
+        defaults some none false d = subst (λ o. Within values (switch_exits (exits_of_all nowhere all) true) (after_switch o)) (sym (none d)) (or_right ((exits_of_all nowhere all).next || (exits_of_all nowhere all).breaks) true refl)
 
     no_default : (all : TypedStatementTrees) → has_default all ≡ false → (x : State) → execute_default calls here all x ≡ Next x
     no_default statement.none d x = refl
@@ -308,13 +308,13 @@ module _ (calls : ℕ → Calls) (here : Activation) (values : Bool) where
 
 -- A body from which the flow does not reach the end does not come to it, and one that hands back no values hands back none.
 pub never_ends : (calls : ℕ → Calls) (here : Activation) (body : TypedStatementTrees) → AllReturnsFit true body → reaches_end body ≡ false → (s t : State) → execute_all calls here body s ≡ Next t → ⊥
-never_ends calls here body fit ends s t e = no (sym ends ∙ subst (λ o. Within true (exits_of_all onwards body) o) e (all_within calls here true onwards refl body fit s))
+never_ends calls here body fit ends s t e = if_not (sym ends ∙ subst (λ o. Within true (exits_of_all onwards body) o) e (all_within calls here true onwards refl body fit s))
   where
-    no : false ≡ true → ⊥
-    no h = cc
+    if_not : false ≡ true → ⊥
+    if_not h = cc
 
 pub never_gives : (calls : ℕ → Calls) (here : Activation) (body : TypedStatementTrees) → AllReturnsFit false body → (s t : State) (v : source-value.Value) → execute_all calls here body s ≡ Returned (Some v) t → ⊥
-never_gives calls here body fit s t v e = no (subst (λ o. Within false (exits_of_all onwards body) o) e (all_within calls here false onwards refl body fit s))
+never_gives calls here body fit s t v e = if_not (subst (λ o. Within false (exits_of_all onwards body) o) e (all_within calls here false onwards refl body fit s))
   where
-    no : false ≡ true → ⊥
-    no h = cc
+    if_not : false ≡ true → ⊥
+    if_not h = cc

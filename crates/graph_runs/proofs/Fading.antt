@@ -64,19 +64,19 @@ there_still (q ∷ memory) zero i o h = inr (all_ended (q ∷ memory) i o h)
 there_still (q ∷ memory) (suc n) zero o h = inl h
 there_still (q ∷ memory) (suc n) (suc i) o h = there_still memory n i o h
 
-pointer_not_odd : (m size k : ℕ) (w : Value) → w ≡ UnitPointer m size k → w ≢ Odd
+pub pointer_not_odd : (m size k : ℕ) (w : Value) → w ≡ UnitPointer m size k → w ≢ Odd
 pointer_not_odd m size k w e odd = no (sym e ∙ odd)
   where
     no : UnitPointer m size k ≡ Odd → ⊥
     no h = cc
 
-live_not_ended : {A : Type 0} (z o : SourceObject) → z ≡ in_phase Ended o → z.phase ≡ Live → A
+pub live_not_ended : {A : Type 0} (z o : SourceObject) → z ≡ in_phase Ended o → z.phase ≡ Live → A
 live_not_ended z o e live = no (sym (ap (λ q. q.phase) e) ∙ live)
   where
     no : {A : Type 0} → Ended ≡ Live → A
     no h = cc
 
-ended_now : (z o : SourceObject) → z ≡ in_phase Ended o → z.phase ≡ Ended
+pub ended_now : (z o : SourceObject) → z ≡ in_phase Ended o → z.phase ≡ Ended
 ended_now z o e = ap (λ q. q.phase) e
 
 module _ (p : ProgramTree) (memory : SourceMemory) (n : ℕ) (others : Memory) where

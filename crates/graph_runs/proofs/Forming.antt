@@ -344,14 +344,15 @@ module _ (k : Activity) (law : Lawful k) (out : (place : ℕ) (began : SourceMem
         let q = formed true true (within_loop round w) inside s n (behind_start low begin) part le_n ok.3 (places_back k (head ++ steps) body places) fit.4 g.1 in
         (endless_loop f.0 r.0 g.0 fit.3 q.0, q.1)
     formed b c w scope (Switch spot e all) t low part le typed places fit h =
-        by_type (tested_type (K e)) refl typed
+        by_type (λ i n q typed_all stands. all_formed true c (Some i) (within_switch w) scope all n low part q typed_all places.1 fit.2 stands) (tested_type (K e)) refl typed
       where
-        by_type : (o : Option IntegerType) → tested_type (K e) ≡ o → is_switch o && are_statements k.setting.program k.setting.tree true c o all ≡ true → Formed k w scope low (Switch spot e all) × PartStands k part
-        by_type None is ok = cc
-        by_type (Some i) is ok =
+        by_type : ((i : IntegerType) (n : ℕ) → size_in k.setting ≤ n → are_statements k.setting.program k.setting.tree true c (Some i) all ≡ true → PartStands k (add_all (coding_in k) all n (within_switch w) part) → FormedAll k (within_switch w) scope low all × PartStands k part)
+            → (o : Option IntegerType) → tested_type (K e) ≡ o → is_switch o && are_statements k.setting.program k.setting.tree true c o all ≡ true → Formed k w scope low (Switch spot e all) × PartStands k part
+        by_type rest None is ok = cc
+        by_type rest (Some i) is ok =
             let n = reached (coding_in k) e Anywhere t in
             let r = switch_stands scope spot.at e all t w.next (add_all (coding_in k) all n (within_switch w) part) le places.0 h in
-            let q = all_formed true c (Some i) (within_switch w) scope all n low part (later e Anywhere t le) ok places.1 fit.2 r.1 in
+            let q = rest i n (later e Anywhere t le) ok r.1 in
             (switch is (labels_are i true c all ok) (works_of (place_at k spot.at) e (tested_typed (K e) i is) fit.0) r.0 fit.1 q.0, q.1)
     formed b c w scope (Break spot) t low part le typed places fit h = let r = going_stands scope spot.at t w.by_break part le places.0 h in (breaks r.0, r.1)
     formed b c w scope (Continue spot) t low part le typed places fit h = let r = going_stands scope spot.at t w.by_continue part le places.0 h in (continues r.0, r.1)

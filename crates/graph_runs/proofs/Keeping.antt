@@ -167,15 +167,15 @@ module _ (k : Activity) (at : ℕ) (e : RvalueTree) (works : Works k (place_at k
       by (Ends ending s2) h = tt
 
   -- one that is tested
-  pub test_kept : (yes no : State → Outcome) → ((s2 : State) → Sound k.setting.program s2.memory s2 → Since s.memory s2.memory → KeptBy k low high brought s2.memory (yes s2))
-      → ((s2 : State) → Sound k.setting.program s2.memory s2 → Since s.memory s2.memory → KeptBy k low high brought s2.memory (no s2))
-      → KeptBy k low high brought s.memory (choose (tested (evaluate (k.calls (place_at k at)) (depth_of (here_in k)) e s)) yes no)
-  test_kept yes no on off =
+  pub test_kept : (if_so if_not : State → Outcome) → ((s2 : State) → Sound k.setting.program s2.memory s2 → Since s.memory s2.memory → KeptBy k low high brought s2.memory (if_so s2))
+      → ((s2 : State) → Sound k.setting.program s2.memory s2 → Since s.memory s2.memory → KeptBy k low high brought s2.memory (if_not s2))
+      → KeptBy k low high brought s.memory (choose (tested (evaluate (k.calls (place_at k at)) (depth_of (here_in k)) e s)) if_so if_not)
+  test_kept if_so if_not on off =
       let r = evaluate (k.calls (place_at k at)) (depth_in k.setting) e s in
-      subst (λ d. KeptBy k low high brought s.memory (choose (tested (evaluate (k.calls (place_at k at)) d e s)) yes no)) depths
+      subst (λ d. KeptBy k low high brought s.memory (choose (tested (evaluate (k.calls (place_at k at)) d e s)) if_so if_not)) depths
       (by (tested r) (keeps_tested k.setting.program s.memory s.memory (kind_of k.setting.program k.setting.tree e) r ((works s.memory here).0 s sound)))
     where
-      by : (r : Tested) → KeepsTest k.setting.program s.memory s.memory r → KeptBy k low high brought s.memory (choose r yes no)
-      by (Holds s2) left = behind_since s2 (yes s2) left.sound (on s2 (sound_now k.setting.program s.memory s2 left.sound) left.sound.since)
-      by (Fails s2) left = behind_since s2 (no s2) left.sound (off s2 (sound_now k.setting.program s.memory s2 left.sound) left.sound.since)
+      by : (r : Tested) → KeepsTest k.setting.program s.memory s.memory r → KeptBy k low high brought s.memory (choose r if_so if_not)
+      by (Holds s2) left = behind_since s2 (if_so s2) left.sound (on s2 (sound_now k.setting.program s.memory s2 left.sound) left.sound.since)
+      by (Fails s2) left = behind_since s2 (if_not s2) left.sound (off s2 (sound_now k.setting.program s.memory s2 left.sound) left.sound.since)
       by (NoTest ending s2) h = tt

@@ -44,14 +44,14 @@ module _ (k : Activity) where
   run_keeps low scope spot e here works =
       place_kept k scope spot here low low [] (λ s. on_effect (value_at k.calls (here_in k) spot e s) Next) (λ s sound h now. effect_kept k spot.at e works s sound now low low [] Next (λ s2 sound2 since. nothing_kept k low low s2 sound2))
 
-  chosen_keeps : (low : ℕ) (scope : List ℕ) (spot : Spot) (e : RvalueTree) (yes no : State → Outcome) → PlaceIs k scope spot.at → Works k (place_at k spot.at) e → KeepsOn k low low [] scope yes → KeepsOn k low low [] scope no
-      → KeepsOn k low low [] scope (λ s. activations.at (here_in k) spot s (λ t. choose (test_at k.calls (here_in k) spot e t) yes no))
-  chosen_keeps low scope spot e yes no here works on off =
-      place_kept k scope spot here low low [] (λ s. choose (test_at k.calls (here_in k) spot e s) yes no)
-      (λ s sound h now. test_kept k spot.at e works s sound now low low [] yes no (λ s2 sound2 since. on s2 sound2 (holding_since k scope low s.memory s2.memory h since)) (λ s2 sound2 since. off s2 sound2 (holding_since k scope low s.memory s2.memory h since)))
+  chosen_keeps : (low : ℕ) (scope : List ℕ) (spot : Spot) (e : RvalueTree) (if_so if_not : State → Outcome) → PlaceIs k scope spot.at → Works k (place_at k spot.at) e → KeepsOn k low low [] scope if_so → KeepsOn k low low [] scope if_not
+      → KeepsOn k low low [] scope (λ s. activations.at (here_in k) spot s (λ t. choose (test_at k.calls (here_in k) spot e t) if_so if_not))
+  chosen_keeps low scope spot e if_so if_not here works on off =
+      place_kept k scope spot here low low [] (λ s. choose (test_at k.calls (here_in k) spot e s) if_so if_not)
+      (λ s sound h now. test_kept k spot.at e works s sound now low low [] if_so if_not (λ s2 sound2 since. on s2 sound2 (holding_since k scope low s.memory s2.memory h since)) (λ s2 sound2 since. off s2 sound2 (holding_since k scope low s.memory s2.memory h since)))
 
   rounds_keep : (low : ℕ) (scope : List ℕ) (turns : ℕ) (round : (State → Outcome) → State → Outcome) → ((again : State → Outcome) → KeepsOn k low low [] scope again → KeepsOn k low low [] scope (round again)) → KeepsOn k low low [] scope (rounds turns round)
-  rounds_keep low scope zero round does s sound h = tt
+  rounds_keep low scope zero round does = λ s sound h. tt
   rounds_keep low scope (suc turns) round does = does (rounds turns round) (rounds_keep low scope turns round does)
 
   loop_keeps : (low : ℕ) (scope : List ℕ) (round : (State → Outcome) → State → Outcome) → ((again : State → Outcome) → KeepsOn k low low [] scope again → KeepsOn k low low [] scope (round again)) → KeepsOn k low low [] scope (loop round)

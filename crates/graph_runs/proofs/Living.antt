@@ -43,12 +43,12 @@ all_front memory depth (x ∷ xs) ys h = (h.0, all_front memory depth xs ys h.1)
 -- what is visible is in scope
 pub visible_lives : (memory : SourceMemory) (depth : ℕ) (all : List AutomaticTree) (scope : List ℕ) (k v : ℕ) → slice_get (visible all scope) k ≡ Some v → AllLive memory depth scope → LivesAt memory v depth
 visible_lives memory depth all [] k v e h = cc
-visible_lives memory depth all (x ∷ later) k v e h = by (is_hidden all x later) k e
+visible_lives memory depth all (x ∷ later) k v e h = by (λ i f. visible_lives memory depth all later i v f h.1) (is_hidden all x later) k e
   where
-    by : (b : Bool) (k : ℕ) → slice_get (if b then visible all later else x ∷ visible all later) k ≡ Some v → LivesAt memory v depth
-    by true k e = visible_lives memory depth all later k v e h.1
-    by false zero e = let same : x ≡ v = some_same e in subst (λ u. LivesAt memory u depth) same h.0
-    by false (suc k) e = visible_lives memory depth all later k v e h.1
+    by : ((i : ℕ) → slice_get (visible all later) i ≡ Some v → LivesAt memory v depth) → (b : Bool) (k : ℕ) → slice_get (if b then visible all later else x ∷ visible all later) k ≡ Some v → LivesAt memory v depth
+    by rest true k e = rest k e
+    by rest false zero e = let same : x ≡ v = some_same e in subst (λ u. LivesAt memory u depth) same h.0
+    by rest false (suc k) e = rest k e
 
 -- What is visible at a place lives.
 abbrev pub Sees : ProgramTree → SourceMemory → (depth place : ℕ) → Type 0

@@ -25,7 +25,7 @@ module _ (k : Activity) (law : Lawful k) (scope : List ℕ) (low : ℕ) (w : Way
 
   -- a loop, by the number of its rounds
   rounds_go : (turns : ℕ) (round : (State → Outcome) → State → Outcome) (begin : Option ℕ) → There k begin → ((again : State → Outcome) → Round begin again → Round begin (round again)) → Round begin (rounds turns round)
-  rounds_go zero round begin there goes c es place l u s comes sound fits h = halts_there k c es begin place l u s there comes fits
+  rounds_go zero round begin there goes = λ c es place l u s comes sound fits h. halts_there k c es begin place l u s there comes fits
   rounds_go (suc turns) round begin there goes = goes (rounds turns round) (rounds_go turns round begin there goes)
 
   pub loop_goes : (round : (State → Outcome) → State → Outcome) (begin : Option ℕ) → There k begin → ((again : State → Outcome) → Round begin again → Round begin (round again)) → Round begin (loop round)

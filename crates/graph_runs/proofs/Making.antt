@@ -78,7 +78,7 @@ zero_typed memory base (suc stars) = subst (λ b. IsOf memory (if b then Integer
     no_zero : (n : ℕ) → suc n == 0 ≡ false
     no_zero n = grind (arith, nat_tests)
 
-all_alike : (P : source-value.Value → Type 0) (count : ℕ) (v : source-value.Value) → P v → AllByRecursion P (replicate count v)
+pub all_alike : (P : source-value.Value → Type 0) (count : ℕ) (v : source-value.Value) → P v → AllByRecursion P (replicate count v)
 all_alike P zero v h = tt
 all_alike P (suc count) v h = (h, all_alike P count v h)
 
@@ -98,7 +98,7 @@ variable_is h = cc
 depth_is : {a b d e : ℕ} → Variable a d ≡ Variable b e → d ≡ e
 depth_is h = cc
 
-live_open : (phase : Phase) → phase ≢ Ended → Onward phase Live
+pub live_open : (phase : Phase) → phase ≢ Ended → Onward phase Live
 live_open phase alive = record { live = λ e. refl; over = λ e. absurd (alive e); open_before = λ e. no e }
   where
     no : {A : Type 0} → Live ≡ Ended → A

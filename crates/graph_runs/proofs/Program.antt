@@ -139,7 +139,6 @@ module _ (p : ProgramTree) (u : UnitForm) where
       by_turns (suc left2) =
           let tree = main.tree in
           let fn = main.function in
-          let here = record { program = p; places = places_of_program p; function = p.main; waiting = [] } in
           let k = activity_of p u p.main tree fn.graph fn.again fn.top main.first [] (unit_memory u.statics) [] 1023 in
           let bound = main.bound input bytes left2 in
           let entered = main.entered input bytes left2 in

@@ -46,6 +46,7 @@ use Rattle.graph_values.proofs.Typing.{Keeps}
 use Rattle.graph_values.proofs.Arguments.{AreOf}
 use Rattle.graph_values.proofs.Calling.{none_odd, waiting, BackR}
 use Rattle.graph_values.proofs.Library.{call_step}
+use Rattle.graph_stores.proofs.Coding.{CallsAre}
 use Rattle.graph_runs.proofs.Activities.{Activity, here_in, placed, sound_now}
 use Rattle.graph_runs.proofs.Living.{LivesAt, lives_later, FramesAre, frames_length, frames_later, was_there, all_both, Grown, grown_trans, grown_wider}
 use Rattle.graph_runs.proofs.Outcomes.{Arrives, Leaving, Runs, Holding, holding_grown}
@@ -58,7 +59,7 @@ use Rattle.graph_runs.proofs.Calls.{CallsGood, activity_of, FunctionIs, Function
 use Rattle.graph_runs.proofs.Depth.{handed_keeps, back_final}
 
 -- a body's end, from before its parameters were bound
-final_before : (k : Activity) (c : Configuration) (es : List Event) (low high : ℕ) (before between : SourceMemory) (r : Evaluated) → Grown (depth_in k.setting) 0 high before between → Final k c es low high between r → Final k c es 0 high before r
+pub final_before : (k : Activity) (c : Configuration) (es : List Event) (low high : ℕ) (before between : SourceMemory) (r : Evaluated) → Grown (depth_in k.setting) 0 high before between → Final k c es low high between r → Final k c es 0 high before r
 final_before k c es low high before between r g h = by r h
   where
     leaving : (v : Option source-value.Value) (s : State) → Leaving k c es low high between v s → Leaving k c es 0 high before v s
@@ -264,6 +265,16 @@ module _ (p : ProgramTree) (u : UnitForm) (all_are : FunctionsAre p u) where
       is_full : (n : ℕ) → n + 1 + 0 ≡ 1024 → (n + 1 == 1024) ≡ true
       is_full n e = let same : n + 1 ≡ 1024 = omega (arith, e) in ap (λ k. k == 1024) same
 
+  -- one more activation
+  calls_next : (left f : ℕ) (tree : TypedFunctionTree) (is_f : slice_get p.functions f ≡ Some tree) (fn : FunctionIs p u f tree) (first : ℕ) (ws : List Activation) (objects : Memory) (frames : List Frame) (place : ℕ) (began : SourceMemory) (rdy : Ready (activity_of p u f tree fn.graph fn.again fn.top first ws objects frames (suc left)) place began)
+      → ((n : ℕ) (b : TypedFunctionTree) → slice_get p.functions n ≡ Some b → (fb : FunctionIs p u n b) (first2 : ℕ) (a : Activation) (objects2 : Memory) → CallsGood (activity_of p u n b fb.graph fb.again fb.top first2 (a ∷ ws) objects2 (record { function = f; place = place } ∷ frames) left))
+      → length ws + 1 + suc left ≡ 1024 → CallsAre (placed (activity_of p u f tree fn.graph fn.again fn.top first ws objects frames (suc left)) place began) (calls_of p (places_of_program p) (suc left) (record { function = f; place = place } ∷ frames))
+  calls_next left f tree is_f fn first ws objects frames place began rdy below count = record {
+    keeps = λ n there vs s sound are. keeps_call left f tree is_f fn first ws objects frames place began rdy below n vs s sound are;
+    does = λ n there target args vs ops end s l w sound fits are same. does_call left f tree is_f fn first ws objects frames place began rdy below count n target args vs ops end s l w sound fits are same;
+    nothing = λ n void vs s v s2 e. gives_nothing left f tree is_f fn first ws objects frames place began rdy below n void vs s v s2 e;
+  }
+
   -- Calls keep what runs keep and do what they mean.
   pub calls_good : (left f : ℕ) (tree : TypedFunctionTree) → slice_get p.functions f ≡ Some tree → (fn : FunctionIs p u f tree) (first : ℕ) (ws : List Activation) (objects : Memory) (frames : List Frame) → length ws + 1 + left ≡ 1024
       → CallsGood (activity_of p u f tree fn.graph fn.again fn.top first ws objects frames left)
@@ -272,11 +283,5 @@ module _ (p : ProgramTree) (u : UnitForm) (all_are : FunctionsAre p u) where
     does = λ n there target args vs ops end s l w sound fits are same. too_deep f tree fn first ws objects frames place began count n target args vs ops end s l w fits same;
     nothing = λ n void vs s v s2 e. cc;
   }
-  calls_good (suc left) f tree is_f fn first ws objects frames count place began rdy = record {
-    keeps = λ n there vs s sound are. keeps_call left f tree is_f fn first ws objects frames place began rdy below n vs s sound are;
-    does = λ n there target args vs ops end s l w sound fits are same. does_call left f tree is_f fn first ws objects frames place began rdy below count n target args vs ops end s l w sound fits are same;
-    nothing = λ n void vs s v s2 e. gives_nothing left f tree is_f fn first ws objects frames place began rdy below n void vs s v s2 e;
-  }
-    where
-      below : (n : ℕ) (b : TypedFunctionTree) → slice_get p.functions n ≡ Some b → (fb : FunctionIs p u n b) (first2 : ℕ) (a : Activation) (objects2 : Memory) → CallsGood (activity_of p u n b fb.graph fb.again fb.top first2 (a ∷ ws) objects2 (record { function = f; place = place } ∷ frames) left)
-      below n b is fb first2 a objects2 = calls_good left n b is fb first2 (a ∷ ws) objects2 (record { function = f; place = place } ∷ frames) (omega (arith, count))
+  calls_good (suc left) f tree is_f fn first ws objects frames count place began rdy =
+      calls_next left f tree is_f fn first ws objects frames place began rdy (λ n b is fb first2 a objects2. calls_good left n b is fb first2 (a ∷ ws) objects2 (record { function = f; place = place } ∷ frames) (omega (arith, count))) count

@@ -108,7 +108,7 @@ module _ (x : Setting) (s s2 : State) (l : Local) (w w2 : World) (call : Fits x 
       let one : m ≡ c.number = differ m c.number q b.object at b.is same.lives (b.live ∙ c.same.lives) (same.owner ∙ ap (owner_of x.program) z.3 ∙ sym (b.owner ∙ c.same.owner)) in
       let less = slice_get_within w.memory c.number c.object c.is in omega (arith, one, less)
 
-  gone : OthersLater w.memory (ended_from (length w.memory) w2.memory)
+  pub gone : OthersLater w.memory (ended_from (length w.memory) w2.memory)
   gone m q is =
       let c = went m q is in record { object = c.object; is = unit_stays w2.memory (length w.memory) m c.object c.is (slice_get_within w.memory m q is); owner = c.owner; element = c.element; live = c.live; count = c.count }
 

@@ -109,7 +109,7 @@ module _ (k : Activity) (at : ℕ) (a : Operand) where
             later (then_leads leads (goes (goes_by ∙ ap (entered (before_in k (place_at k at) [] end l u)) (closed_block k.setting.graph k.setting.top (place_at k at) m st)) stays))
 
 -- what has a promoted integer type is a number of it
-number_tested : (kind : Kind) (t : IntegerType) → tested_type kind ≡ Some t → (memory : SourceMemory) (v : source-value.Value) → HasKind memory kind v → (is_promoted t ≡ true) × ((z : ℤ) × (v ≡ source.Number z) × (holds (integer t) z ≡ true))
+pub number_tested : (kind : Kind) (t : IntegerType) → tested_type kind ≡ Some t → (memory : SourceMemory) (v : source-value.Value) → HasKind memory kind v → (is_promoted t ≡ true) × ((z : ℤ) × (v ≡ source.Number z) × (holds (integer t) z ≡ true))
 number_tested Wrong t e memory v h = cc
 number_tested NullPointer t e memory v h = cc
 number_tested (Of Void) t e memory v h = cc
