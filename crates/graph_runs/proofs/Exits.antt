@@ -193,6 +193,44 @@ module _ (calls : ℕ → Calls) (here : Activation) (values : Bool) where
   step_onwards None s = refl
   step_onwards (Some p) s = run_onwards p.spot p.value s
 
+  numbers : (e : Exits) (v : source-value.Value) (u : State) (go : ℤ → State → Outcome) → ((z : ℤ) (x : State) → Within values e (go z x)) → Within values e (on_number v u go)
+  numbers e (source.Number z) u go h = h z u
+  numbers e source.Null u go h = tt
+  numbers e (source.Pointer n k) u go h = tt
+
+  no_default : (all : TypedStatementTrees) → has_default all ≡ false → (x : State) → execute_default calls here all x ≡ Next x
+  no_default statement.none d x = refl
+  no_default (statement.first s rest) d x = no_default rest d x
+  no_default (case z rest) d x = no_default rest d x
+  no_default (default rest) d x = cc
+
+  -- the block of a `switch`, from a label on
+  labelled : (all : TypedStatementTrees) (z : ℤ) (x : State) → (has_case z all ≡ true → Within values (exits_of_all nowhere all) (execute_case calls here z all x)) → (has_default all ≡ true → Within values (exits_of_all nowhere all) (execute_default calls here all x)) → (b : Bool) → has_case z all ≡ b
+      → Within values (switch_exits (exits_of_all nowhere all) (not (has_default all))) (after_switch (by_label b (execute_case calls here z all) (execute_default calls here all) x))
+  labelled all z x cases rest true e = switch_within values (exits_of_all nowhere all) (not (has_default all)) (execute_case calls here z all x) (cases e)
+  labelled all z x cases rest false e = defaults rest (λ d. no_default all d x) (has_default all) refl
+    where
+      defaults : (has_default all ≡ true → Within values (exits_of_all nowhere all) (execute_default calls here all x)) → (has_default all ≡ false → execute_default calls here all x ≡ Next x) → (d : Bool) → has_default all ≡ d → Within values (switch_exits (exits_of_all nowhere all) (not d)) (after_switch (execute_default calls here all x))
+      defaults some none true d = switch_within values (exits_of_all nowhere all) false (execute_default calls here all x) (some d)
+      defaults some none false d =
+          subst (λ o. Within values (switch_exits (exits_of_all nowhere all) true) (after_switch o)) (sym (none d)) (or_right ((exits_of_all nowhere all).next || (exits_of_all nowhere all).breaks) true refl)
+
+  -- a statement, and those behind it
+  follows : (e : Exits) → e.next ≡ true → (q : TypedStatementTree) (rest : TypedStatementTrees) (o : Outcome) → Within values (exits_of q) o → ((f : Exits) → f.next ≡ true → (t : State) → Within values (exits_of_all f rest) (execute_all calls here rest t))
+      → Within values (exits_of_all (behind e (exits_of q)) rest) (then_do o (execute_all calls here rest))
+  follows e next q rest o h later = by_entry
+    where
+      by : (o : Outcome) → Within values (exits_of q) o → Within values (exits_of_all (record { next = (exits_of q).next; breaks = e.breaks || (exits_of q).breaks; continues = e.continues || (exits_of q).continues }) rest) (then_do o (execute_all calls here rest))
+      by (Next t) h = later (record { next = (exits_of q).next; breaks = e.breaks || (exits_of q).breaks; continues = e.continues || (exits_of q).continues }) h t
+      by (Broken t) h = all_breaks (record { next = (exits_of q).next; breaks = e.breaks || (exits_of q).breaks; continues = e.continues || (exits_of q).continues }) rest (or_right e.breaks (exits_of q).breaks h)
+      by (Continued t) h = all_continues (record { next = (exits_of q).next; breaks = e.breaks || (exits_of q).breaks; continues = e.continues || (exits_of q).continues }) rest (or_right e.continues (exits_of q).continues h)
+      by (Returned None t) h = tt
+      by (Returned (Some v) t) h = h
+      by (Ended c t) h = tt
+
+      by_entry : Within values (exits_of_all (if e.next then record { next = (exits_of q).next; breaks = e.breaks || (exits_of q).breaks; continues = e.continues || (exits_of q).continues } else e) rest) (then_do o (execute_all calls here rest))
+      by_entry = subst (λ b. Within values (exits_of_all (if b then record { next = (exits_of q).next; breaks = e.breaks || (exits_of q).breaks; continues = e.continues || (exits_of q).continues } else e) rest) (then_do o (execute_all calls here rest))) (sym next) (by o h)
+
   mutual
     -- The outcome of a statement is one of its exits.
     pub within_exits : (q : TypedStatementTree) → ReturnsFit values q → (s : State) → Within values (exits_of q) (execute calls here q s)
@@ -237,32 +275,11 @@ module _ (calls : ℕ → Calls) (here : Activation) (values : Bool) where
     within_exits (Switch spot c all) fit s =
         let a = exits_of_all nowhere all in
         let e = switch_exits a (not (has_default all)) in
-        place_within values e here spot s _ (λ t. value_within values e (value_at calls here spot c t) _ (λ v u. numbers e v u _ (λ z x. labelled all fit z x (has_case z all) refl)))
+        place_within values e here spot s _ (λ t. value_within values e (value_at calls here spot c t) _ (λ v u. numbers e v u _ (λ z x. labelled all z x (λ has. case_within nowhere z all fit has x) (λ has. default_within nowhere all fit has x) (has_case z all) refl)))
     within_exits (Break spot) fit s = place_within values (exits_of (Break spot)) here spot s Broken (λ t. refl)
     within_exits (Continue spot) fit s = place_within values (exits_of (Continue spot)) here spot s Continued (λ t. refl)
     within_exits (Return spot None) fit s = place_within values nowhere here spot s (result calls here spot None) (λ t. tt)
     within_exits (Return spot (Some c)) fit s = place_within values nowhere here spot s (result calls here spot (Some c)) (λ t. value_within values nowhere (value_at calls here spot c t) _ (λ v z. fit))
-
-    numbers : (e : Exits) (v : source-value.Value) (u : State) (go : ℤ → State → Outcome) → ((z : ℤ) (x : State) → Within values e (go z x)) → Within values e (on_number v u go)
-    numbers e (source.Number z) u go h = h z u
-    numbers e source.Null u go h = tt
-    numbers e (source.Pointer n k) u go h = tt
-
-    -- the block of a `switch`, from a label on
-    labelled : (all : TypedStatementTrees) → AllReturnsFit values all → (z : ℤ) (x : State) (b : Bool) → has_case z all ≡ b
-        → Within values (switch_exits (exits_of_all nowhere all) (not (has_default all))) (after_switch (by_label b (execute_case calls here z all) (execute_default calls here all) x))
-    labelled all fit z x true e = switch_within values (exits_of_all nowhere all) (not (has_default all)) (execute_case calls here z all x) (case_within nowhere z all fit e x)
-    labelled all fit z x false e = defaults (λ d. default_within nowhere all fit d x) (λ d. no_default all d x) (has_default all) refl
-      where
-        defaults : (has_default all ≡ true → Within values (exits_of_all nowhere all) (execute_default calls here all x)) → (has_default all ≡ false → execute_default calls here all x ≡ Next x) → (d : Bool) → has_default all ≡ d → Within values (switch_exits (exits_of_all nowhere all) (not d)) (after_switch (execute_default calls here all x))
-        defaults some none true d = switch_within values (exits_of_all nowhere all) false (execute_default calls here all x) (some d)
-        defaults some none false d = subst (λ o. Within values (switch_exits (exits_of_all nowhere all) true) (after_switch o)) (sym (none d)) (or_right ((exits_of_all nowhere all).next || (exits_of_all nowhere all).breaks) true refl)
-
-    no_default : (all : TypedStatementTrees) → has_default all ≡ false → (x : State) → execute_default calls here all x ≡ Next x
-    no_default statement.none d x = refl
-    no_default (statement.first s rest) d x = no_default rest d x
-    no_default (case z rest) d x = no_default rest d x
-    no_default (default rest) d x = cc
 
     -- Statements in order, which are entered.
     pub all_within : (e : Exits) → e.next ≡ true → (all : TypedStatementTrees) → AllReturnsFit values all → (s : State) → Within values (exits_of_all e all) (execute_all calls here all s)
@@ -270,21 +287,6 @@ module _ (calls : ℕ → Calls) (here : Activation) (values : Bool) where
     all_within e next (statement.first q rest) fit s = follows e next q rest (execute calls here q s) (within_exits q fit.0 s) (λ f entered t. all_within f entered rest fit.1 t)
     all_within e next (case z rest) fit s = all_within (record { next = true; breaks = e.breaks; continues = e.continues }) refl rest fit s
     all_within e next (default rest) fit s = all_within (record { next = true; breaks = e.breaks; continues = e.continues }) refl rest fit s
-
-    follows : (e : Exits) → e.next ≡ true → (q : TypedStatementTree) (rest : TypedStatementTrees) (o : Outcome) → Within values (exits_of q) o → ((f : Exits) → f.next ≡ true → (t : State) → Within values (exits_of_all f rest) (execute_all calls here rest t))
-        → Within values (exits_of_all (behind e (exits_of q)) rest) (then_do o (execute_all calls here rest))
-    follows e next q rest o h later = by_entry
-      where
-        by : (o : Outcome) → Within values (exits_of q) o → Within values (exits_of_all (record { next = (exits_of q).next; breaks = e.breaks || (exits_of q).breaks; continues = e.continues || (exits_of q).continues }) rest) (then_do o (execute_all calls here rest))
-        by (Next t) h = later (record { next = (exits_of q).next; breaks = e.breaks || (exits_of q).breaks; continues = e.continues || (exits_of q).continues }) h t
-        by (Broken t) h = all_breaks (record { next = (exits_of q).next; breaks = e.breaks || (exits_of q).breaks; continues = e.continues || (exits_of q).continues }) rest (or_right e.breaks (exits_of q).breaks h)
-        by (Continued t) h = all_continues (record { next = (exits_of q).next; breaks = e.breaks || (exits_of q).breaks; continues = e.continues || (exits_of q).continues }) rest (or_right e.continues (exits_of q).continues h)
-        by (Returned None t) h = tt
-        by (Returned (Some v) t) h = h
-        by (Ended c t) h = tt
-
-        by_entry : Within values (exits_of_all (if e.next then record { next = (exits_of q).next; breaks = e.breaks || (exits_of q).breaks; continues = e.continues || (exits_of q).continues } else e) rest) (then_do o (execute_all calls here rest))
-        by_entry = subst (λ b. Within values (exits_of_all (if b then record { next = (exits_of q).next; breaks = e.breaks || (exits_of q).breaks; continues = e.continues || (exits_of q).continues } else e) rest) (then_do o (execute_all calls here rest))) (sym next) (by o h)
 
     -- From the label of a number on,
     case_within : (e : Exits) (z : ℤ) (all : TypedStatementTrees) → AllReturnsFit values all → has_case z all ≡ true → (s : State) → Within values (exits_of_all e all) (execute_case calls here z all s)
