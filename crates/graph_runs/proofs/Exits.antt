@@ -309,14 +309,14 @@ module _ (calls : ℕ → Calls) (here : Activation) (values : Bool) where
     default_within e (default rest) fit has s = all_within (record { next = true; breaks = e.breaks; continues = e.continues }) refl rest fit s
 
 -- A body from which the flow does not reach the end does not come to it, and one that hands back no values hands back none.
-pub never_ends : (calls : ℕ → Calls) (here : Activation) (body : TypedStatementTrees) → AllReturnsFit true body → reaches_end body ≡ false → (s t : State) → execute_all calls here body s ≡ Next t → ⊥
-never_ends calls here body fit ends s t e = if_not (sym ends ∙ subst (λ o. Within true (exits_of_all onwards body) o) e (all_within calls here true onwards refl body fit s))
+pub never_ends : (values : Bool) (calls : ℕ → Calls) (here : Activation) (body : TypedStatementTrees) → AllReturnsFit values body → reaches_end body ≡ false → (s t : State) → execute_all calls here body s ≡ Next t → ⊥
+never_ends values calls here body fit ends s t e = impossible (sym ends ∙ subst (λ o. Within values (exits_of_all onwards body) o) e (all_within calls here values onwards refl body fit s))
   where
-    if_not : false ≡ true → ⊥
-    if_not h = cc
+    impossible : false ≡ true → ⊥
+    impossible h = cc
 
-pub never_gives : (calls : ℕ → Calls) (here : Activation) (body : TypedStatementTrees) → AllReturnsFit false body → (s t : State) (v : source-value.Value) → execute_all calls here body s ≡ Returned (Some v) t → ⊥
-never_gives calls here body fit s t v e = if_not (subst (λ o. Within false (exits_of_all onwards body) o) e (all_within calls here false onwards refl body fit s))
+pub never_gives : (values : Bool) → values ≡ false → (calls : ℕ → Calls) (here : Activation) (body : TypedStatementTrees) → AllReturnsFit values body → (s t : State) (v : source-value.Value) → execute_all calls here body s ≡ Returned (Some v) t → ⊥
+never_gives values none calls here body fit s t v e = impossible (sym none ∙ subst (λ o. Within values (exits_of_all onwards body) o) e (all_within calls here values onwards refl body fit s))
   where
-    if_not : false ≡ true → ⊥
-    if_not h = cc
+    impossible : false ≡ true → ⊥
+    impossible h = cc

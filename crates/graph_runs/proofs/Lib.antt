@@ -26,3 +26,4 @@ pub mod Declarators
 pub mod Depth
 pub mod Recursion
 pub mod Program
+pub mod Functions
