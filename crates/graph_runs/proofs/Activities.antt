@@ -1,9 +1,9 @@
 -- An activation of a function in both runs, and the settings of its places.
-use Rattle.std.proofs.Common.{◌≡◌, ◌≢◌, ℕ, ◌+◌, List, [], ◌∷◌, length, Option, Some, None, slice_get}
+use Rattle.std.proofs.Common.{ℕ, List, [], Option}
 use Rattle.std.proofs.lemmas.Option.{slice_get_within}
 use Rattle.c_tree.specs.Programs.{ProgramTree}
 use Rattle.c_places.specs.Places.{number_at, places_of_program}
-use Rattle.c_memory.specs.Memory.{Object as SourceObject, Memory as SourceMemory}
+use Rattle.c_memory.specs.Memory.{Memory as SourceMemory}
 use Rattle.c_states.specs.declared.event.Frame.{Frame}
 use Rattle.c_states.specs.States.{State}
 use Rattle.c_activations.specs.Activations.{Activation}

@@ -1,6 +1,5 @@
 -- The code of an expression at a place, and where the ends of blocks lead.
-use Rattle.std.proofs.Common.{◌≡◌, ◌≢◌, ℕ, ◌+◌, ◌<◌, ◌≤◌, List, [], ◌∷◌, ◌++◌, length, Option, Some, None, Bool, true, false, slice_get, refl, sym, ap, ◌∙◌, subst, arith}
-use Rattle.debug_records.specs.declared.source.Spot.{Spot}
+use Rattle.std.proofs.Common.{◌≡◌, ℕ, ◌+◌, ◌≤◌, List, [], length, Option, Some, None, slice_get, sym, ap, subst, arith}
 use Rattle.c_tree.specs.TypedExpressions.{RvalueTree}
 use Rattle.c_law_types.specs.Expressions.{kind_of}
 use Rattle.c_memory.specs.declared.value.Value as source-value
@@ -10,17 +9,16 @@ use Rattle.c_states.specs.declared.event.Ending.TheVariants as ending
 use Rattle.c_states.specs.States.{State, Evaluated, Gives, Leaves, Ends, Tested, Holds, Fails, NoTest, tested, choose, on_value, on_effect, Outcome}
 use Rattle.c_activations.specs.Activations.{depth_of}
 use Rattle.c_meaning.specs.Expressions.{evaluate}
-use Rattle.c_meaning.specs.Statements.{value_at, test_at}
 use Rattle.c_flow.specs.declared.edge.Ways.{Ways}
-use Rattle.graph_core.specs.Graphs.{Operand, Jump, Return, Block}
+use Rattle.graph_core.specs.Graphs.{Jump, Return, Block}
 use Rattle.graph_core.specs.Runs.{Configuration, Event, entered, value}
 use Rattle.graph_drafts.specs.Drafts.{Made, Goal, To, Unused, Either, ending as ends_with}
 use Rattle.graph_code.specs.Code.{code}
-use Rattle.graph_coding.specs.Coding.{block_of, begun, going, label_for, with_end, coded, branching}
+use Rattle.graph_coding.specs.Coding.{block_of, begun, going, label_for, with_end, branching}
 use Rattle.graph_values.specs.Correspondence.{SameValue}
 use Rattle.graph_values.proofs.Leads.{Setting, names_in, size_in, depth_in, Local, World, at, Leads, goes, stays, then_leads}
 use Rattle.graph_values.proofs.Kept.{Since, Sound, Fits}
-use Rattle.graph_values.proofs.Results.{EndsBy, Reached, to_made, to_label, Stuck, operand_in, Valued, ToR, UnusedR, EitherR}
+use Rattle.graph_values.proofs.Results.{EndsBy, Reached, to_made, Stuck, operand_in, ToR, UnusedR, EitherR}
 use Rattle.graph_values.proofs.Typing.{HasKind, Keeps, Typed, KeepsTest, keeps_tested}
 use Rattle.graph_values.proofs.Standing.{Stands, closed_inner, closed_block}
 use Rattle.graph_values.proofs.Operands.{Does, Aims, value_in, written_by}

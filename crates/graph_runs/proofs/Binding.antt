@@ -1,5 +1,5 @@
 -- Parameters are bound to objects of their own: what a program's run keeps of it.
-use Rattle.std.proofs.Common.{◌≡◌, ◌≢◌, ℕ, zero, suc, ◌+◌, ◌<◌, ◌≤◌, List, [], ◌∷◌, ◌++◌, length, map, take, drop, replicate, Option, Some, None, slice_get, slice_set, refl, sym, ap, ◌∙◌, subst, arith}
+use Rattle.std.proofs.Common.{◌≡◌, ℕ, zero, suc, ◌+◌, ◌≤◌, List, [], ◌∷◌, ◌++◌, length, map, take, replicate, Some, slice_get, slice_set, refl, sym, ap, ◌∙◌, subst, arith}
 use Rattle.std.specs.List.{AllByRecursion}
 use Rattle.std.specs.Option.{option_map_or}
 use Rattle.std.proofs.lemmas.List.{length-set, length-replicate}
@@ -7,7 +7,7 @@ use Rattle.word_base.specs.Owners.{Variable}
 use Rattle.c_tree.specs.declared.object_type.ObjectType.{ObjectType}
 use Rattle.c_tree.specs.declared.object_type.ObjectType.TheVariants as of-object
 use Rattle.c_tree.specs.declared.object_type.ValueType.{ValueType}
-use Rattle.c_tree.specs.Programs.{AutomaticTree, ProgramTree}
+use Rattle.c_tree.specs.Programs.{AutomaticTree}
 use Rattle.c_type_rules.specs.Types.{loaded}
 use Rattle.c_law_types.specs.Kinds.{element_type, types_of}
 use Rattle.c_places.specs.Places.{numbers_from}
@@ -26,7 +26,7 @@ use Rattle.graph_values.proofs.Arguments.{AreOf}
 use Rattle.graph_runs.proofs.Activities.{Activity, here_in}
 use Rattle.graph_runs.proofs.Living.{AllLive, lives_later, LivesAt, Under, under_grown, Grown, grown_wider, grown_trans}
 use Rattle.graph_runs.proofs.Outcomes.{grown_none}
-use Rattle.graph_runs.proofs.Making.{later_more, last_is, zero_typed, all_alike, typed_later, sound_more, grown_more}
+use Rattle.graph_runs.proofs.Making.{later_more, last_is, zero_typed, all_alike, sound_more, grown_more}
 
 -- values stay of their type where one becomes another
 all_first : (P : source-value.Value → Type 0) (vs : List source-value.Value) (v : source-value.Value) → AllByRecursion P vs → P v → AllByRecursion P (slice_set vs 0 v)

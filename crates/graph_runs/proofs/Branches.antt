@@ -1,8 +1,7 @@
 -- Statements that are chosen by a condition do what they mean.
-use Rattle.std.proofs.Common.{◌≡◌, ℕ, ◌+◌, ◌≤◌, List, [], ◌∷◌, Option, Some, None, refl, sym, ap, ◌∙◌, subst, arith}
+use Rattle.std.proofs.Common.{ℕ, List, [], Option, Some, None, refl}
 use Rattle.debug_records.specs.declared.source.Spot.{Spot}
 use Rattle.c_tree.specs.TypedExpressions.{RvalueTree}
-use Rattle.c_memory.specs.Memory.{Memory as SourceMemory}
 use Rattle.c_states.specs.States.{State, Outcome, Next, choose}
 use Rattle.c_activations.specs.Activations as activations
 use Rattle.c_meaning.specs.Statements.{test_at}
@@ -10,9 +9,9 @@ use Rattle.c_flow.specs.declared.edge.Ways.{Ways}
 use Rattle.graph_core.specs.Runs.{Configuration, Event}
 use Rattle.graph_coding.specs.Coding.{begun, branching}
 use Rattle.graph_values.proofs.Leads.{Local, World}
-use Rattle.graph_values.proofs.Kept.{Since, Sound, Fits}
+use Rattle.graph_values.proofs.Kept.{Sound, Fits}
 use Rattle.graph_runs.proofs.Activities.{Activity, coding_in, here_in, place_at}
-use Rattle.graph_runs.proofs.Outcomes.{Comes, Arrives, Runs, Holding, holding_since, GoesOn, grown_none}
+use Rattle.graph_runs.proofs.Outcomes.{Comes, Arrives, holding_since, GoesOn, grown_none}
 use Rattle.graph_runs.proofs.Stops.{Lawful, place_begins}
 use Rattle.graph_runs.proofs.AtPlaces.{Works, Begins, begun_above, branch_runs}
 

@@ -1,66 +1,43 @@
 -- Calls do what they mean, by how many activations may still begin, where functions are entered as they should be.
-use Rattle.std.proofs.Common.{◌≡◌, ◌≢◌, ℕ, zero, suc, ◌+◌, ◌≤◌, List, [], ◌∷◌, ◌++◌, length, map, Option, Some, None, Bool, true, false, slice_get, refl, sym, ap, ◌∙◌, subst, arith, pos}
-use Rattle.std.specs.Prelude.{◌==◌, if◌then◌else◌, is_some}
-use Rattle.std.specs.List.{list_any}
-use Rattle.std.proofs.lemmas.Bool.Decides.{nat_tests}
-use Rattle.c_tree.specs.declared.object_type.ValueType.{ValueType}
-use Rattle.c_tree.specs.declared.object_type.ValueType.TheVariants.{Void}
+use Rattle.std.proofs.Common.{◌≡◌, ℕ, ◌+◌, List, [], ◌∷◌, ◌++◌, length, map, Option, Some, None, Bool, true, false, slice_get, pos}
+use Rattle.std.specs.Prelude.{◌==◌}
 use Rattle.c_tree.specs.declared.typed_expression.Callee.TheVariants as called
 use Rattle.c_tree.specs.Programs.{TypedFunctionTree, ProgramTree}
 use Rattle.c_facts.specs.Flow.{reaches_end}
 use Rattle.c_places.specs.Places.{places_of_program, parameters_of, brought_by_body}
-use Rattle.c_value_types.specs.ValueTypes.{results_of, given_by, is_void}
-use Rattle.c_law_types.specs.declared.kind.Kind.TheVariants.{Of}
-use Rattle.c_law_types.specs.Kinds.{is_callee, taken_by}
+use Rattle.c_value_types.specs.ValueTypes.{is_void}
+use Rattle.c_law_types.specs.Kinds.{taken_by}
 use Rattle.c_memory.specs.declared.value.Value as source-value
 use Rattle.c_memory.specs.declared.value.Value.TheVariants as source
 use Rattle.c_memory.specs.Memory.{Memory as SourceMemory}
 use Rattle.c_states.specs.declared.event.Frame.{Frame}
-use Rattle.c_states.specs.declared.event.Ending.TheVariants as ending
-use Rattle.c_states.specs.States.{State, Evaluated, Gives, Leaves, Ends, Outcome, Next, Broken, Continued, Returned, Ended}
+use Rattle.c_states.specs.States.{State, Next, Returned}
 use Rattle.c_activations.specs.Activations.{Activation as SourceActivation}
-use Rattle.c_activations.specs.Lifetimes.{ending_from}
-use Rattle.c_activations.specs.Calls.{bind, enter_turn, on_entry, handed_back, at_close, forgotten}
-use Rattle.c_activations.specs.Calls as entering
-use Rattle.c_activations.specs.Activations as activations
+use Rattle.c_activations.specs.Calls.{bind}
 use Rattle.c_meaning.specs.Expressions.{Calls}
 use Rattle.c_meaning.specs.Statements.{execute_all}
-use Rattle.c_meaning.specs.Runs.{activate, calls_of}
+use Rattle.c_meaning.specs.Runs.{calls_of}
 use Rattle.c_flow.specs.Flow.{start_of_all, ways_of_body}
-use Rattle.graph_core.specs.declared.value.Value.{Value}
-use Rattle.graph_core.specs.declared.value.Value.TheVariants.{Odd}
 use Rattle.graph_core.specs.declared.instruction.Callee.TheVariants as unit-called
 use Rattle.graph_core.specs.Graphs as unit
 use Rattle.graph_core.specs.Graphs.{Graph, UnitForm, Operand, Instruction, End, Return}
-use Rattle.graph_core.specs.Memory.{Memory, ended_from}
-use Rattle.graph_core.specs.Runs.{Activation, Configuration, Event, TooDeep, Stepped, Goes, Ends as StepEnds, step, value}
-use Rattle.graph_core.specs.Runs as run
-use Rattle.graph_core.specs.Values.{is_odd}
+use Rattle.graph_core.specs.Memory.{Memory}
+use Rattle.graph_core.specs.Runs.{Activation, Configuration, Event, value}
 use Rattle.graph_drafts.specs.Drafts.{ending as ends_with}
 use Rattle.graph_values.specs.Typed.{IsOf}
-use Rattle.graph_values.specs.Correspondence.{SameValue, SameValues}
-use Rattle.graph_values.proofs.Leads.{Setting, depth_in, Local, World, here_at, at, Leads, goes, stays, then_leads}
-use Rattle.graph_values.proofs.Later.{Later, later_trans, OthersLater}
-use Rattle.graph_values.proofs.Kept.{Since, Sound, Fits}
-use Rattle.graph_values.proofs.Results.{EndsBy, Stuck}
-use Rattle.graph_values.proofs.Typing.{Keeps, of_word}
+use Rattle.graph_values.specs.Correspondence.{SameValues}
+use Rattle.graph_values.proofs.Leads.{Setting, depth_in, Local, World, here_at, at}
+use Rattle.graph_values.proofs.Kept.{Sound, Fits}
 use Rattle.graph_values.proofs.Arguments.{AreOf}
-use Rattle.graph_values.proofs.Calling.{none_odd, waiting, returned, Back, BackWith, BackR, CallsOk}
-use Rattle.graph_values.proofs.Library.{call_step}
-use Rattle.graph_stores.proofs.Expressions.{CallKeeps}
+use Rattle.graph_values.proofs.Calling.{waiting}
 use Rattle.graph_stores.proofs.Coding.{CallsAre}
-use Rattle.graph_runs.proofs.Activities.{Activity, here_in, placed, before_in, fits_anywhere, fits_placed, sound_now}
-use Rattle.graph_runs.proofs.Living.{Grown, grown_trans, grown_wider}
-use Rattle.graph_runs.proofs.Fading.{sound_closed, since_closed, of_faded}
-use Rattle.graph_runs.proofs.Outcomes.{Comes, Arrives, Leaving, HandsBack, Halts, Runs, Holding, holding_grown}
+use Rattle.graph_runs.proofs.Activities.{Activity, here_in, placed}
+use Rattle.graph_runs.proofs.Living.{Grown}
+use Rattle.graph_runs.proofs.Outcomes.{Comes, Holding}
 use Rattle.graph_runs.proofs.Stops.{Lawful, Ready}
 use Rattle.graph_runs.proofs.AtPlaces.{Begins}
-use Rattle.graph_runs.proofs.Keeping.{Stays, KeptBy}
-use Rattle.graph_runs.proofs.Formed.{behind_all, FormedAll}
-use Rattle.graph_runs.proofs.Statements.{all_above, statements_go}
-use Rattle.graph_runs.proofs.KeptStatements.{statements_keep}
-use Rattle.graph_runs.proofs.Returning.{fits_returned, value_returned}
-use Rattle.graph_runs.proofs.Closing.{Final, closing_operand, body_final}
+use Rattle.graph_runs.proofs.Formed.{FormedAll}
+use Rattle.graph_runs.proofs.Closing.{closing_operand}
 
 -- Calls at each place of an activation keep what runs keep and do what they mean.
 abbrev pub CallsGood : Activity → Type 0

@@ -1,8 +1,7 @@
 -- A function's body and its closing brace, and the return to the activation that waits.
-use Rattle.std.proofs.Common.{◌≡◌, ◌≢◌, ℕ, zero, suc, ◌+◌, ◌≤◌, List, [], ◌∷◌, ◌++◌, length, Option, Some, None, Bool, true, false, slice_get, refl, sym, ap, ◌∙◌, subst, arith, pos}
+use Rattle.std.proofs.Common.{◌≡◌, ℕ, zero, suc, ◌≤◌, List, [], Option, Some, None, Bool, true, false, refl, arith, pos}
 use Rattle.std.specs.Prelude.{if◌then◌else◌}
 use Rattle.debug_records.specs.declared.source.Spot.{Spot}
-use Rattle.c_tree.specs.declared.object_type.ValueType.{ValueType}
 use Rattle.c_memory.specs.declared.value.Value as source-value
 use Rattle.c_memory.specs.declared.value.Value.TheVariants as source
 use Rattle.c_memory.specs.Memory.{Memory as SourceMemory}
@@ -10,27 +9,15 @@ use Rattle.c_states.specs.declared.event.Ending.TheVariants as ending
 use Rattle.c_states.specs.States.{State, Evaluated, Gives, Leaves, Ends, Outcome, Next, Broken, Continued, Returned, Ended}
 use Rattle.c_activations.specs.Activations.{stopped, on_begun}
 use Rattle.c_activations.specs.Activations as activations
-use Rattle.c_activations.specs.Lifetimes.{ending_from}
-use Rattle.c_activations.specs.Calls.{at_close, handed_back, forgotten}
+use Rattle.c_activations.specs.Calls.{at_close, handed_back}
 use Rattle.c_flow.specs.declared.edge.Ways.{Ways}
-use Rattle.graph_core.specs.declared.value.Value.{Value}
-use Rattle.graph_core.specs.declared.value.Value.TheVariants.{Odd}
-use Rattle.graph_core.specs.declared.instruction.Callee.TheVariants as unit-called
-use Rattle.graph_core.specs.Graphs as unit
-use Rattle.graph_core.specs.Graphs.{Operand, Constant, Instruction, End, Return}
-use Rattle.graph_core.specs.Memory.{ended_from}
-use Rattle.graph_core.specs.Runs.{Activation, Configuration, Event, Goes, step, value}
+use Rattle.graph_core.specs.Graphs.{Operand, Constant, Return}
+use Rattle.graph_core.specs.Runs.{Configuration, Event}
 use Rattle.graph_drafts.specs.Drafts.{ending as ends_with}
 use Rattle.graph_values.specs.Typed.{IsOf}
-use Rattle.graph_values.specs.Correspondence.{SameValue}
-use Rattle.graph_values.proofs.Leads.{Setting, depth_in, Local, World, here_at, at, Leads, goes, stays, then_leads}
-use Rattle.graph_values.proofs.Later.{OthersLater}
-use Rattle.graph_values.proofs.Kept.{Sound, Fits, fits_local}
-use Rattle.graph_values.proofs.Results.{EndsBy, Stuck}
-use Rattle.graph_values.proofs.Typing.{of_word}
-use Rattle.graph_values.proofs.Calling.{waiting, returned, Back, BackWith, BackR}
+use Rattle.graph_values.proofs.Leads.{depth_in, Local, World}
 use Rattle.graph_runs.proofs.Activities.{Activity, here_in, before_in}
-use Rattle.graph_runs.proofs.Outcomes.{Arrives, Leaving, HandsBack, Halts, Runs, Holding, holding_grown, GoesOn, grown_none}
+use Rattle.graph_runs.proofs.Outcomes.{Arrives, Leaving, HandsBack, Halts, Runs, Holding, GoesOn, grown_none}
 use Rattle.graph_runs.proofs.Living.{Grown, grown_trans, grown_wider}
 use Rattle.graph_runs.proofs.Stops.{Lawful, place_begins}
 use Rattle.graph_runs.proofs.AtPlaces.{Begins}

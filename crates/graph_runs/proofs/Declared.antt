@@ -1,5 +1,5 @@
 -- Declarators of scalars that are kept in names do what they mean.
-use Rattle.std.proofs.Common.{◌≡◌, ◌≢◌, ℕ, zero, suc, ◌+◌, ◌<◌, ◌≤◌, ◌⊎◌, inl, inr, List, [], ◌∷◌, ◌++◌, length, replicate, Option, Some, None, Bool, true, false, slice_get, slice_set, refl, sym, ap, ◌∙◌, subst, arith}
+use Rattle.std.proofs.Common.{◌≡◌, ◌≢◌, ℕ, zero, suc, ◌+◌, ◌≤◌, inl, List, [], ◌∷◌, ◌++◌, length, replicate, Option, Some, true, slice_get, slice_set, refl, sym, ap, ◌∙◌, subst, arith}
 use Rattle.std.specs.Prelude.{if◌then◌else◌}
 use Rattle.std.specs.Option.{option_map_or}
 use Rattle.std.proofs.lemmas.List.{length-set}
@@ -7,7 +7,7 @@ use Rattle.std.proofs.lemmas.Option.{slice_get_within}
 use Rattle.debug_records.specs.declared.source.Spot.{Spot}
 use Rattle.word_base.specs.Owners.{Variable}
 use Rattle.c_tree.specs.TypedExpressions.{RvalueTree}
-use Rattle.c_tree.specs.TypedStatements.{InitialTree, Zero, Scalar as scalar-initial}
+use Rattle.c_tree.specs.TypedStatements.{Zero, Scalar as scalar-initial}
 use Rattle.c_tree.specs.Programs.{AutomaticTree, ProgramTree}
 use Rattle.c_type_rules.specs.Types.{loaded}
 use Rattle.c_law_types.specs.Kinds.{is_of}
@@ -15,34 +15,31 @@ use Rattle.c_law_types.specs.Expressions.{kind_of}
 use Rattle.c_memory.specs.declared.value.Value as source-value
 use Rattle.c_memory.specs.declared.value.Phase.TheVariants.{Initialising, Live, Ended}
 use Rattle.c_memory.specs.Types.{element_of, count_of, zero_of, zero_by_stars}
-use Rattle.c_memory.specs.Memory.{Object as SourceObject, Memory as SourceMemory, new_object, set_value, with_value, in_phase, begun as begun_in}
+use Rattle.c_memory.specs.Memory.{Object as SourceObject, Memory as SourceMemory, set_value, with_value, in_phase, begun as begun_in}
 use Rattle.c_states.specs.States.{State, Outcome, Next, on_value}
 use Rattle.c_activations.specs.Activations as activations
-use Rattle.c_activations.specs.Lifetimes.{made}
 use Rattle.c_meaning.specs.Statements.{value_at, declare_with}
 use Rattle.c_flow.specs.declared.edge.Ways.{Ways}
-use Rattle.graph_core.specs.declared.value.Value.{Value}
 use Rattle.graph_core.specs.declared.value.Value.TheVariants.{Number}
 use Rattle.graph_core.specs.declared.value.Shadow.TheVariants.{Known}
 use Rattle.graph_core.specs.Graphs as unit
 use Rattle.graph_core.specs.Memory.{Memory}
 use Rattle.graph_core.specs.Runs.{Configuration, Event, Goes, Wild, step, put}
-use Rattle.graph_core.specs.Runs as run
 use Rattle.graph_layout.specs.Names.{scalar_of}
-use Rattle.graph_drafts.specs.Drafts.{Made, To, before, note}
+use Rattle.graph_drafts.specs.Drafts.{To, before, note}
 use Rattle.graph_coding.specs.Coding.{begun, going, coded}
 use Rattle.graph_values.specs.Typed.{IsOf}
 use Rattle.graph_values.specs.Correspondence.{SameValue, IsInMemory}
-use Rattle.graph_values.proofs.Leads.{names_in, size_in, depth_in, Local, World, Leads, goes, stays, then_leads, set_name, put_here}
-use Rattle.graph_values.proofs.Later.{some_same, set_here, Later, later_changed, onward}
+use Rattle.graph_values.proofs.Leads.{names_in, depth_in, Local, World, Leads, goes, stays, then_leads, set_name, put_here}
+use Rattle.graph_values.proofs.Later.{set_here, Later, later_changed}
 use Rattle.graph_values.proofs.Kept.{IsDeclared, Sound, Fits, fits_wanted}
 use Rattle.graph_values.proofs.Noting.{known_value, fits_written}
 use Rattle.graph_values.proofs.Types.{kind_is_of}
 use Rattle.graph_values.proofs.Operands.{Apart}
 use Rattle.graph_values.proofs.Meanings.{sound_set}
-use Rattle.graph_runs.proofs.Activities.{Activity, coding_in, here_in, place_at, placed, before_in, sound_now}
-use Rattle.graph_runs.proofs.Living.{LivesAt, frames_length, Grown, grown_since, grown_trans}
-use Rattle.graph_runs.proofs.Outcomes.{Arrives, Runs, Holding, GoesOn, runs_since}
+use Rattle.graph_runs.proofs.Activities.{Activity, coding_in, here_in, place_at, placed, before_in}
+use Rattle.graph_runs.proofs.Living.{LivesAt, frames_length, Grown}
+use Rattle.graph_runs.proofs.Outcomes.{Arrives, Runs, GoesOn, runs_since}
 use Rattle.graph_runs.proofs.Stops.{Lawful, PlaceIs, place_begins}
 use Rattle.graph_runs.proofs.Keeping.{Stays, KeptBy, KeepsOn, kept_since, place_kept, value_kept}
 use Rattle.graph_runs.proofs.AtPlaces.{Works, Begins, begun_above, going_comes, value_runs}

@@ -1,18 +1,9 @@
 -- The recursion of calls, by how many activations may still begin.
-use Rattle.std.proofs.Common.{◌≡◌, ◌≢◌, ℕ, zero, suc, ◌+◌, ◌<◌, ◌≤◌, List, [], ◌∷◌, ◌++◌, length, map, Option, Some, None, Bool, true, false, slice_get, refl, sym, ap, ◌∙◌, subst, arith, pos}
-use Rattle.std.specs.Prelude.{◌==◌, if◌then◌else◌, is_some, option_map, unwrap_or}
-use Rattle.std.proofs.lemmas.Bool.Decides.{nat_tests}
-use Rattle.std.proofs.lemmas.Option.{slice_get-map}
+use Rattle.std.proofs.Common.{◌≡◌, ℕ, zero, suc, List, [], ◌∷◌, length, Option, Some, None, Bool, true, false, slice_get, refl, subst, arith, pos}
+use Rattle.std.specs.Prelude.{if◌then◌else◌}
 use Rattle.debug_records.specs.declared.source.Spot.{Spot}
-use Rattle.c_tree.specs.declared.object_type.ValueType.{ValueType}
-use Rattle.c_tree.specs.declared.object_type.ValueType.TheVariants.{Void}
-use Rattle.c_tree.specs.declared.typed_expression.Callee.TheVariants as called
-use Rattle.c_tree.specs.Programs.{TypedFunctionTree, ProgramTree}
-use Rattle.c_facts.specs.Flow.{reaches_end}
-use Rattle.c_places.specs.Places.{places_of_program, parameters_of, brought_by_body}
-use Rattle.c_value_types.specs.ValueTypes.{results_of, given_by, is_void}
+use Rattle.c_tree.specs.Programs.{TypedFunctionTree}
 use Rattle.c_law_types.specs.declared.kind.Kind.TheVariants.{Of}
-use Rattle.c_law_types.specs.Kinds.{is_callee, taken_by}
 use Rattle.c_memory.specs.declared.value.Value as source-value
 use Rattle.c_memory.specs.declared.value.Value.TheVariants as source
 use Rattle.c_memory.specs.Memory.{Memory as SourceMemory, ended_from as source_ended}
@@ -23,28 +14,27 @@ use Rattle.c_states.specs.States.{State, Evaluated, Gives, Leaves, Ends, Outcome
 use Rattle.c_activations.specs.Activations.{stopped, on_begun}
 use Rattle.c_activations.specs.Activations as activations
 use Rattle.c_activations.specs.Lifetimes.{ending_from}
-use Rattle.c_activations.specs.Calls.{bind, handed_back, at_close, forgotten}
-use Rattle.c_meaning.specs.Statements.{execute_all}
+use Rattle.c_activations.specs.Calls.{handed_back, at_close, forgotten}
 use Rattle.graph_core.specs.declared.value.Value.{Value}
 use Rattle.graph_core.specs.declared.value.Value.TheVariants.{Odd}
 use Rattle.graph_core.specs.declared.instruction.Callee.TheVariants as unit-called
 use Rattle.graph_core.specs.Graphs as unit
 use Rattle.graph_core.specs.Graphs.{Graph, UnitForm, Operand, Instruction, End, Return}
-use Rattle.graph_core.specs.Memory.{Memory, ended_from}
+use Rattle.graph_core.specs.Memory.{ended_from}
 use Rattle.graph_core.specs.Runs.{Activation, Configuration, Event, Stepped, Goes, step, value}
 use Rattle.graph_core.specs.Runs as run
 use Rattle.graph_values.specs.Typed.{IsOf}
 use Rattle.graph_values.proofs.Leads.{Setting, depth_in, Local, World, here_at, at, Leads, goes, stays, then_leads}
-use Rattle.graph_values.proofs.Later.{Later, later_trans}
+use Rattle.graph_values.proofs.Later.{later_trans}
 use Rattle.graph_values.proofs.Kept.{Since, Sound, Fits, fits_local}
 use Rattle.graph_values.proofs.Results.{Stuck}
 use Rattle.graph_values.proofs.Typing.{Gave, Left, Keeps, of_word}
-use Rattle.graph_values.proofs.Calling.{waiting, returned, Back, BackWith, BackR}
+use Rattle.graph_values.proofs.Calling.{waiting, returned, Back, BackR}
 use Rattle.graph_runs.proofs.Activities.{Activity, here_in, before_in}
 use Rattle.graph_runs.proofs.Living.{Grown, was_there, grown_trans, grown_wider}
 use Rattle.graph_runs.proofs.Fading.{sound_closed, since_closed, of_faded}
-use Rattle.graph_runs.proofs.Outcomes.{Leaving, HandsBack, Halts}
-use Rattle.graph_runs.proofs.Keeping.{Stays, KeptBy}
+use Rattle.graph_runs.proofs.Outcomes.{Leaving, Halts}
+use Rattle.graph_runs.proofs.Keeping.{KeptBy}
 use Rattle.graph_runs.proofs.Returning.{gone, fits_returned, value_returned}
 use Rattle.graph_runs.proofs.Closing.{Final}
 use Rattle.graph_runs.proofs.Calls.{activity_of}

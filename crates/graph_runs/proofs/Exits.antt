@@ -1,6 +1,6 @@
 -- Where a statement does not lead, no run of it goes.
 use Rattle.std.proofs.Common.{◌≡◌, ℕ, zero, suc, ◌+◌, List, [], ◌∷◌, length, Option, Some, None, Bool, true, false, ◌||◌, not, refl, sym, ap, ◌∙◌, subst, ℤ}
-use Rattle.std.specs.Prelude.{if◌then◌else◌, is_some}
+use Rattle.std.specs.Prelude.{if◌then◌else◌}
 use Rattle.c_tree.specs.TypedExpressions.{RvalueTree}
 use Rattle.c_tree.specs.TypedStatements as statement
 use Rattle.c_tree.specs.TypedStatements.{DeclaredTree, TypedStartTree, Nothing, Value, Declares, StepTree, InitialTree, Zero, Scalar, Elements, Literal, TypedStatementTree, Block, Declaration, Empty, Run, If, IfElse, While, DoWhile, For, Switch, Break, Continue, Return, TypedStatementTrees, case, default}
@@ -12,9 +12,9 @@ use Rattle.c_memory.specs.declared.value.Value.TheVariants as source
 use Rattle.c_states.specs.States.{State, Evaluated, Gives, Leaves, Ends, Tested, Holds, Fails, NoTest, choose, on_value, on_effect, Outcome, Next, Broken, Continued, Returned, Ended}
 use Rattle.c_activations.specs.Activations.{Activation, Begun, on_begun, begin}
 use Rattle.c_activations.specs.Activations as activations
-use Rattle.c_activations.specs.Lifetimes.{closed, made}
+use Rattle.c_activations.specs.Lifetimes.{closed}
 use Rattle.c_meaning.specs.Expressions.{Calls}
-use Rattle.c_meaning.specs.Statements.{then_do, after_body, after_switch, rounds, loop, while_round, do_round, for_round, on_number, by_label, has_case, is_same_number, value_at, initialise_elements, declare_with, declare, declare_all, run, begin_loop, test_at, check, step, result, execute, execute_all, execute_case, execute_default}
+use Rattle.c_meaning.specs.Statements.{then_do, after_body, after_switch, rounds, while_round, do_round, for_round, on_number, by_label, has_case, is_same_number, value_at, initialise_elements, declare_with, declare, declare_all, run, begin_loop, test_at, check, step, result, execute, execute_all, execute_case, execute_default}
 
 -- An outcome is one of these exits; a value is handed back where some may be.
 abbrev pub Within : (values : Bool) → Exits → Outcome → Type 0

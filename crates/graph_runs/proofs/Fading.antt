@@ -1,5 +1,5 @@
 -- Objects that end with their block: what is kept without them.
-use Rattle.std.proofs.Common.{◌≡◌, ◌≢◌, ℕ, zero, suc, ◌+◌, ◌<◌, ◌≤◌, ◌⊎◌, inl, inr, List, [], ◌∷◌, ◌++◌, length, map, take, drop, Option, Some, None, Bool, true, false, slice_get, refl, sym, ap, ◌∙◌, subst, arith}
+use Rattle.std.proofs.Common.{◌≡◌, ◌≢◌, ℕ, zero, suc, ◌+◌, ◌<◌, ◌⊎◌, inl, inr, List, [], ◌∷◌, length, map, Option, Some, None, false, slice_get, refl, sym, ap, ◌∙◌, subst, arith}
 use Rattle.std.specs.List.{AllByRecursion}
 use Rattle.std.proofs.lemmas.Option.{slice_get_within}
 use Rattle.word_base.specs.Owners.{Owner, Static, Literal, Variable}
@@ -22,7 +22,7 @@ use Rattle.graph_core.specs.Memory.{Memory}
 use Rattle.graph_core.specs.Runs.{Activation}
 use Rattle.graph_layout.specs.Names.{Names, names_of}
 use Rattle.graph_values.specs.Typed.{PointsInto, IsOf}
-use Rattle.graph_values.specs.Correspondence.{SamePointer, points, ended, SameValue, SameValues}
+use Rattle.graph_values.specs.Correspondence.{points, ended, SameValue, SameValues}
 use Rattle.graph_values.proofs.Leads.{Setting, names_in, depth_in, Local, World}
 use Rattle.graph_values.proofs.Later.{some_same, later_refl}
 use Rattle.graph_values.proofs.Kept.{IsDeclared, Since, Sound, ScalarIs, Own, Outer, Fits}

@@ -1,5 +1,5 @@
 -- Statements whose blocks stand, and whose expressions do what they mean.
-use Rattle.std.proofs.Common.{◌≡◌, ℕ, ◌+◌, ◌≤◌, List, [], ◌∷◌, ◌++◌, map, Option, Some, None, true, refl, sym, ap, ◌∙◌, subst, arith, ℤ}
+use Rattle.std.proofs.Common.{◌≡◌, ℕ, ◌+◌, ◌≤◌, List, [], ◌∷◌, ◌++◌, Option, Some, None, true, ℤ}
 use Rattle.debug_records.specs.declared.source.Spot.{Spot}
 use Rattle.c_tree.specs.declared.types.IntegerType.{IntegerType}
 use Rattle.c_tree.specs.TypedExpressions.{RvalueTree}
@@ -8,8 +8,7 @@ use Rattle.c_tree.specs.TypedStatements.{DeclaredTree, TypedStartTree, Nothing, 
 use Rattle.c_law_types.specs.Kinds.{is_of}
 use Rattle.c_law_types.specs.Expressions.{kind_of}
 use Rattle.c_law_types.specs.Statements.{tested_type}
-use Rattle.c_places.specs.Places.{brought, brought_by_start, brought_by_body}
-use Rattle.c_states.specs.States.{State, Outcome}
+use Rattle.c_places.specs.Places.{brought, brought_by_start}
 use Rattle.c_meaning.specs.Statements.{declare}
 use Rattle.c_flow.specs.declared.edge.Ways.{Ways}
 use Rattle.c_flow.specs.Flow.{start, start_of_declarators, round_of, within_loop, within_switch, before as with_rest}

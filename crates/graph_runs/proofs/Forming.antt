@@ -1,9 +1,6 @@
 -- The blocks of statements stand where their function's do: a well-typed statement is one whose blocks do what it means.
-use Rattle.std.proofs.Common.{◌≡◌, ◌≢◌, ℕ, zero, suc, ◌+◌, ◌-◌, ◌<◌, ◌≤◌, List, [], ◌∷◌, ◌++◌, length, map, Option, Some, None, Bool, true, false, ◌&&◌, not, slice_get, refl, sym, ap, ◌∙◌, subst, arith, ℤ}
-use Rattle.std.specs.Prelude.{◌==◌, if◌then◌else◌, max}
-use Rattle.debug_records.specs.declared.source.Spot.{Spot}
+use Rattle.std.proofs.Common.{◌≡◌, ℕ, ◌+◌, ◌-◌, ◌≤◌, List, [], ◌∷◌, ◌++◌, Option, Some, None, Bool, true, ◌&&◌, not, slice_get, refl, arith}
 use Rattle.c_tree.specs.declared.types.IntegerType.{IntegerType}
-use Rattle.c_tree.specs.declared.object_type.ValueType.TheVariants.{Integer}
 use Rattle.c_tree.specs.TypedExpressions.{RvalueTree}
 use Rattle.c_tree.specs.TypedStatements as statement
 use Rattle.c_tree.specs.TypedStatements.{InitialTree, Zero, Scalar as scalar-initial, Elements, Literal, DeclaredTree, TypedStartTree, Nothing, Value, Declares, StepTree, TypedStatementTree, Block, Declaration, Empty, Run, If, IfElse, While, DoWhile, For, Switch, Break, Continue, Return, TypedStatementTrees, case, default}
@@ -12,12 +9,12 @@ use Rattle.c_law_types.specs.declared.kind.Kind.{Kind}
 use Rattle.c_law_types.specs.declared.kind.Kind.TheVariants.{Wrong, NullPointer, Of}
 use Rattle.c_law_types.specs.Kinds.{is_of, is_typed, is_scalar}
 use Rattle.c_law_types.specs.Expressions.{kind_of}
-use Rattle.c_law_types.specs.Statements.{tested_type, is_label, is_switch, may_stand, is_void, is_declared, are_declared, is_start, is_step, is_condition, is_returned, is_statement, are_statements}
-use Rattle.c_places.specs.Places.{Place, places_of_program, stop, brought, brought_by_start, places_of_declarators, places_of_start, places_of_head, places_of_step, places_of, places_of_all}
+use Rattle.c_law_types.specs.Statements.{tested_type, is_label, is_switch, may_stand, is_void, is_start, is_step, is_statement, are_statements}
+use Rattle.c_places.specs.Places.{Place, stop, brought, brought_by_start, places_of_declarators, places_of_start, places_of_head, places_of_step, places_of, places_of_all}
 use Rattle.c_memory.specs.Memory.{Memory as SourceMemory}
 use Rattle.c_meaning.specs.Statements.{declare}
 use Rattle.c_flow.specs.declared.edge.Ways.{Ways}
-use Rattle.c_flow.specs.Flow.{start, start_of_all, start_of_declarators, round_of, within_loop, within_switch, before as with_rest}
+use Rattle.c_flow.specs.Flow.{start, start_of_declarators, round_of, within_loop, within_switch, before as with_rest}
 use Rattle.graph_core.specs.Graphs as unit
 use Rattle.graph_core.specs.Graphs.{Operand, Instruction, Marker, Return as Returning}
 use Rattle.graph_layout.specs.declared.laid.Use.{Use}
@@ -26,12 +23,11 @@ use Rattle.graph_layout.specs.declared.laid.Use.TheVariants as use-of
 use Rattle.graph_layout.specs.Layout.{laid}
 use Rattle.graph_layout.specs.Names.{scalar_of}
 use Rattle.graph_drafts.specs.Drafts.{Made, Goal, To, Unused, Either, ending}
-use Rattle.graph_coding.specs.Coding.{Part, block_of, begun, going, label_for, with_end, placed_at, coded as coded_at, branching}
+use Rattle.graph_coding.specs.Coding.{Part, begun, going, label_for, with_end, placed_at, coded as coded_at, branching}
 use Rattle.graph_coding.specs.Reached.{reached, initial_reached, declared_reached, start_reached, condition_reached, step_reached, result_reached, statement_reached, statements_reached}
 use Rattle.graph_declarators.specs.Declaring.{declare as declared_made, add_declared}
-use Rattle.graph_forms.specs.Forms.{tests, default_start, add_run, add_going, add_branching, add_start, add_step, add_head, add_result, add_switch, add, add_all}
+use Rattle.graph_forms.specs.Forms.{tests, default_start, add_run, add_going, add_branching, add_start, add_step, add_switch, add, add_all}
 use Rattle.graph_values.proofs.Leads.{names_in, size_in}
-use Rattle.graph_values.proofs.Kept.{ScalarsFirst}
 use Rattle.graph_values.proofs.Noting.{ScalarsApart}
 use Rattle.graph_values.proofs.Standing.{Stands, inner_of}
 use Rattle.graph_values.proofs.Growing.{grows}
@@ -41,11 +37,11 @@ use Rattle.graph_stores.proofs.Coding.{LaidOut, IsLaid, coded}
 use Rattle.graph_stores.proofs.Expressions.{coded_typed, coded_does}
 use Rattle.graph_runs.proofs.Activities.{Activity, coding_in, here_in, place_at, placed}
 use Rattle.graph_runs.proofs.Outcomes.{There, GoesOn}
-use Rattle.graph_runs.proofs.Stops.{Lawful, PlaceIs, place_wider, block_at}
+use Rattle.graph_runs.proofs.Stops.{Lawful, PlaceIs, place_wider}
 use Rattle.graph_runs.proofs.AtPlaces.{Works, Begins, end_front}
 use Rattle.graph_runs.proofs.Switches.{AreLabels, tests_front}
 use Rattle.graph_runs.proofs.Keeping.{KeepsOn}
-use Rattle.graph_runs.proofs.Formed.{IsPlain, ArePlain, behind_declared, behind_start, behind, DeclaresAll, none_declared, declared_first, FormedStart, no_start, value_start, declared_start, FormedStep, no_step, a_step, Formed, block, declaration, empty, runs, chosen, either, while_loop, do_loop, for_loop, endless_loop, switch, breaks, continues, leaves, returns, FormedAll, none_left, first_of, at_case, at_default}
+use Rattle.graph_runs.proofs.Formed.{IsPlain, ArePlain, behind_start, behind, DeclaresAll, none_declared, declared_first, FormedStart, no_start, value_start, declared_start, FormedStep, no_step, a_step, Formed, block, declaration, empty, runs, chosen, either, while_loop, do_loop, for_loop, endless_loop, switch, breaks, continues, leaves, returns, FormedAll, none_left, first_of, at_case, at_default}
 use Rattle.graph_runs.proofs.Calls.{CallsGood}
 
 -- what a `switch` tests is well typed

@@ -1,5 +1,5 @@
 -- A function whose blocks stand is one that can be called, if it is entered and left as it should be.
-use Rattle.std.proofs.Common.{◌≡◌, ◌≢◌, ℕ, zero, suc, ◌+◌, ◌<◌, ◌≤◌, List, [], ◌∷◌, ◌++◌, length, map, take, drop, Option, Some, None, Bool, true, false, ◌&&◌, not, slice_get, refl, sym, ap, ◌∙◌, subst, arith, pos}
+use Rattle.std.proofs.Common.{◌≡◌, ℕ, zero, suc, ◌+◌, ◌≤◌, List, [], ◌∷◌, ◌++◌, length, map, drop, Option, Some, None, Bool, true, false, not, slice_get, refl, ap, ◌∙◌, subst, arith, pos}
 use Rattle.std.specs.Prelude.{◌==◌}
 use Rattle.c_tree.specs.declared.object_type.ValueType.{ValueType}
 use Rattle.c_tree.specs.declared.object_type.ValueType.TheVariants.{Void, Integer, Pointer}
@@ -11,7 +11,7 @@ use Rattle.c_tree.specs.Programs.{TypedFunctionTree, ProgramTree}
 use Rattle.c_facts.specs.Flow.{reaches_end}
 use Rattle.c_places.specs.Places.{places_of_all, parameters_of, brought_by_body}
 use Rattle.c_value_types.specs.ValueTypes as value-types
-use Rattle.c_law_types.specs.Kinds.{is_of, is_scalar, is_typed, taken_by, parameters_in, types_of}
+use Rattle.c_law_types.specs.Kinds.{is_of, is_scalar, taken_by, parameters_in, types_of}
 use Rattle.c_law_types.specs.Expressions.{kind_of}
 use Rattle.c_law_types.specs.Statements.{tested_type, is_label, is_switch, may_stand, is_void, is_start, is_step, is_condition, is_statement, are_statements}
 use Rattle.c_memory.specs.declared.value.Value as source-value
@@ -31,14 +31,14 @@ use Rattle.graph_coding.specs.Coding.{Part}
 use Rattle.graph_forms.specs.Forms.{add_all}
 use Rattle.graph_values.specs.Typed.{IsOf}
 use Rattle.graph_values.specs.Correspondence.{SameValues}
-use Rattle.graph_values.proofs.Leads.{Setting, size_in, depth_in, Local, World, here_at, at}
+use Rattle.graph_values.proofs.Leads.{Setting, depth_in, Local, World, here_at, at}
 use Rattle.graph_values.proofs.Kept.{Sound, Fits}
 use Rattle.graph_values.proofs.Arguments.{AreOf}
 use Rattle.graph_values.proofs.Calling.{waiting}
 use Rattle.graph_stores.proofs.Moving.{AreSmall}
 use Rattle.graph_stores.proofs.Shapes.{two_true, three_true, four_true}
 use Rattle.graph_stores.proofs.Coding.{LaidOut}
-use Rattle.graph_runs.proofs.Activities.{Activity, coding_in, here_in, placed}
+use Rattle.graph_runs.proofs.Activities.{coding_in, here_in, placed}
 use Rattle.graph_runs.proofs.Living.{frames_length, frames_later, Under, under_grown, grown_wider}
 use Rattle.graph_runs.proofs.Outcomes.{Holding}
 use Rattle.graph_runs.proofs.Stops.{Lawful}
@@ -46,7 +46,7 @@ use Rattle.graph_runs.proofs.AtPlaces.{Begins}
 use Rattle.graph_runs.proofs.Exits.{ReturnsFit, AllReturnsFit, never_ends, never_gives}
 use Rattle.graph_runs.proofs.Binding.{binds_from}
 use Rattle.graph_runs.proofs.Closing.{closing_operand}
-use Rattle.graph_runs.proofs.Calls.{activity_of, Entered, Bound, FunctionIs}
+use Rattle.graph_runs.proofs.Calls.{activity_of, Entered, FunctionIs}
 use Rattle.graph_runs.proofs.Forming.{PartStands, ArePlaces, StatementsFit, all_formed}
 
 module _ (p : ProgramTree) (f : TypedFunctionTree) where

@@ -1,16 +1,13 @@
 -- Statements keep what a program's run keeps: the induction over them.
-use Rattle.std.proofs.Common.{◌≡◌, ℕ, zero, suc, ◌+◌, ◌≤◌, List, [], ◌∷◌, ◌++◌, map, Option, Some, None, Bool, true, false, refl, sym, ap, ◌∙◌, subst, arith, ℤ}
+use Rattle.std.proofs.Common.{◌≡◌, ℕ, zero, suc, ◌+◌, ◌≤◌, List, [], ◌∷◌, ◌++◌, map, Option, Some, None, Bool, true, false, sym, ap, ◌∙◌, subst, arith, ℤ}
 use Rattle.std.proofs.lemmas.List.{append-nil}
 use Rattle.debug_records.specs.declared.source.Spot.{Spot}
 use Rattle.c_tree.specs.declared.types.IntegerType.{IntegerType}
 use Rattle.c_tree.specs.TypedExpressions.{RvalueTree}
-use Rattle.c_tree.specs.TypedStatements as statement
-use Rattle.c_tree.specs.TypedStatements.{DeclaredTree, TypedStartTree, StepTree, TypedStatementTree, TypedStatementTrees, case, default}
-use Rattle.c_law_types.specs.Kinds.{is_of}
+use Rattle.c_tree.specs.TypedStatements.{DeclaredTree, TypedStartTree, StepTree, TypedStatementTree, TypedStatementTrees}
 use Rattle.c_law_types.specs.Expressions.{kind_of}
 use Rattle.c_law_types.specs.Statements.{tested_type}
 use Rattle.c_places.specs.Places.{brought, brought_by_start, brought_by_body}
-use Rattle.c_memory.specs.declared.value.Value as source-value
 use Rattle.c_memory.specs.declared.value.Value.TheVariants as source
 use Rattle.c_states.specs.States.{State, Outcome, Next, Broken, Continued, Returned, Holds, choose, on_value, on_effect}
 use Rattle.c_activations.specs.Activations as activations

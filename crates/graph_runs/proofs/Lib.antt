@@ -18,6 +18,7 @@ pub mod Making
 pub mod Declared
 pub mod Stored
 pub mod Binding
+pub mod Clearing
 pub mod Returning
 pub mod Closing
 pub mod Calls

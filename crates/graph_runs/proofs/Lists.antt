@@ -1,16 +1,15 @@
 -- Statements in order, and blocks, do what they mean.
-use Rattle.std.proofs.Common.{◌≡◌, ℕ, ◌+◌, ◌≤◌, List, [], ◌∷◌, ◌++◌, length, Option, Some, None, refl, sym, ap, ◌∙◌, subst, arith}
+use Rattle.std.proofs.Common.{ℕ, ◌≤◌, List, [], ◌++◌, length, Option}
 use Rattle.c_memory.specs.Memory.{Memory as SourceMemory}
 use Rattle.c_states.specs.States.{State, Outcome, Next, Broken, Continued, Returned, Ended}
 use Rattle.c_activations.specs.Lifetimes.{closed}
 use Rattle.c_meaning.specs.Statements.{then_do}
 use Rattle.c_flow.specs.declared.edge.Ways.{Ways}
 use Rattle.graph_core.specs.Runs.{Configuration, Event}
-use Rattle.graph_values.proofs.Leads.{depth_in, Local, World}
-use Rattle.graph_values.proofs.Kept.{Sound, Fits}
+use Rattle.graph_values.proofs.Leads.{depth_in}
 use Rattle.graph_runs.proofs.Activities.{Activity}
-use Rattle.graph_runs.proofs.Living.{AllLive, all_later, all_both, under_grown, Grown, grown_trans, grown_wider}
-use Rattle.graph_runs.proofs.Outcomes.{Comes, Arrives, Runs, Holding, holding_grown, GoesOn, then_runs, closed_runs}
+use Rattle.graph_runs.proofs.Living.{AllLive, all_later, all_both}
+use Rattle.graph_runs.proofs.Outcomes.{Runs, holding_grown, GoesOn, then_runs, closed_runs}
 
 -- Variables that came to live before live, too.
 brings_more : (k : Activity) (c : Configuration) (es : List Event) (low high : ℕ) (first brought : List ℕ) (before : SourceMemory) (w : Ways) (o : Outcome) → AllLive before (depth_in k.setting) first → Runs k c es low high brought before w o → Runs k c es low high (first ++ brought) before w o

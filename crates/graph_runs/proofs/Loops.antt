@@ -1,21 +1,17 @@
 -- Loops do what they mean.
-use Rattle.std.proofs.Common.{◌≡◌, ℕ, zero, suc, ◌+◌, ◌≤◌, List, [], ◌∷◌, Option, Some, None, refl, sym, ap, ◌∙◌, subst, arith}
+use Rattle.std.proofs.Common.{ℕ, zero, suc, ◌≤◌, List, [], Option, Some, arith}
 use Rattle.debug_records.specs.declared.source.Spot.{Spot}
 use Rattle.c_tree.specs.TypedExpressions.{RvalueTree}
-use Rattle.c_memory.specs.Memory.{Memory as SourceMemory}
 use Rattle.c_states.specs.States.{State, Outcome, Next, Holds, choose}
 use Rattle.c_activations.specs.Activations as activations
 use Rattle.c_meaning.specs.Statements.{rounds, loop, while_round, do_round, for_round, test_at, after_body, then_do}
 use Rattle.c_flow.specs.declared.edge.Ways.{Ways}
 use Rattle.c_flow.specs.Flow.{within_loop}
-use Rattle.graph_core.specs.Runs.{Configuration, Event}
-use Rattle.graph_coding.specs.Coding.{begun, branching, going}
-use Rattle.graph_values.proofs.Leads.{Local, World}
-use Rattle.graph_values.proofs.Kept.{Since, Sound, Fits}
+use Rattle.graph_coding.specs.Coding.{branching, going}
 use Rattle.graph_runs.proofs.Activities.{Activity, coding_in, here_in, place_at}
-use Rattle.graph_runs.proofs.Outcomes.{Comes, There, Arrives, Runs, Holding, holding_grown, holding_since, GoesOn, grown_none, then_runs, body_runs, halts_there}
+use Rattle.graph_runs.proofs.Outcomes.{There, holding_grown, GoesOn, then_runs, body_runs, halts_there}
 use Rattle.graph_runs.proofs.Stops.{Lawful, place_begins}
-use Rattle.graph_runs.proofs.AtPlaces.{Works, Begins, begun_above, going_comes, branch_runs}
+use Rattle.graph_runs.proofs.AtPlaces.{Works, Begins, going_comes}
 use Rattle.graph_runs.proofs.Branches.{arrives_at, chosen_goes}
 
 module _ (k : Activity) (law : Lawful k) (scope : List ℕ) (low : ℕ) (w : Ways) where

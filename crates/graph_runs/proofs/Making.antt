@@ -1,5 +1,5 @@
 -- A declarator makes a new object: what is kept with it.
-use Rattle.std.proofs.Common.{◌≡◌, ◌≢◌, ℕ, zero, suc, ◌+◌, ◌<◌, ◌≤◌, ◌⊎◌, inl, inr, List, [], ◌∷◌, ◌++◌, length, replicate, Option, Some, None, true, false, slice_get, slice_set, refl, sym, ap, ◌∙◌, subst, arith, pos}
+use Rattle.std.proofs.Common.{◌≡◌, ◌≢◌, ℕ, zero, suc, ◌+◌, ◌≤◌, ◌⊎◌, inl, inr, List, [], ◌∷◌, ◌++◌, length, replicate, Some, None, true, false, slice_get, slice_set, refl, sym, ap, ◌∙◌, subst, arith, pos}
 use Rattle.std.specs.Prelude.{◌==◌, if◌then◌else◌}
 use Rattle.std.specs.List.{AllByRecursion}
 use Rattle.std.proofs.lemmas.Bool.Decides.{nat_tests}
@@ -10,7 +10,6 @@ use Rattle.word_base.specs.Owners.{Owner, Static, Literal, Variable}
 use Rattle.word_base.specs.Types.{holds}
 use Rattle.c_tree.specs.declared.types.IntegerType.{IntegerType}
 use Rattle.c_tree.specs.declared.types.IntegerType.TheVariants.{Char, SignedChar, UnsignedChar, Short, UnsignedShort, Int, UnsignedInt, Long, UnsignedLong}
-use Rattle.c_tree.specs.declared.object_type.Scalar.{Scalar}
 use Rattle.c_tree.specs.declared.object_type.ObjectType.TheVariants as of-object
 use Rattle.c_tree.specs.declared.object_type.ValueType.{ValueType}
 use Rattle.c_tree.specs.declared.object_type.ValueType.TheVariants.{Integer, Pointer}
@@ -27,14 +26,13 @@ use Rattle.c_states.specs.States.{State}
 use Rattle.c_activations.specs.Lifetimes.{made}
 use Rattle.graph_values.specs.Typed.{IsOf}
 use Rattle.graph_values.specs.Correspondence.{IsInMemory}
-use Rattle.graph_values.proofs.Leads.{names_in, depth_in, Local, World}
-use Rattle.graph_values.proofs.Later.{some_same, get_set, set_here, Onward, onward, Later, later_refl, later_changed, others_refl}
-use Rattle.graph_values.proofs.Kept.{IsDeclared, Since, Sound, Placed, Fits}
+use Rattle.graph_values.proofs.Leads.{depth_in, Local, World}
+use Rattle.graph_values.proofs.Later.{some_same, get_set, Onward, onward, Later, later_refl, later_changed, others_refl}
+use Rattle.graph_values.proofs.Kept.{IsDeclared, Sound, Placed, Fits}
 use Rattle.graph_values.proofs.Noting.{scalar_later, outer_later, placed_later}
 use Rattle.graph_values.proofs.Typing.{of_later}
 use Rattle.graph_runs.proofs.Activities.{Activity, here_in}
-use Rattle.graph_runs.proofs.Living.{lives_later, frames_length, frames_later, Under, Grown}
-use Rattle.graph_runs.proofs.Outcomes.{Holding}
+use Rattle.graph_runs.proofs.Living.{lives_later, frames_later, Under, Grown}
 use Rattle.graph_runs.proofs.Stops.{Ready}
 
 -- a list with one more

@@ -1,5 +1,5 @@
 -- To what the blocks of a statement lead, by what the statement comes to.
-use Rattle.std.proofs.Common.{◌≡◌, ◌≢◌, ℕ, ◌+◌, ◌≤◌, List, [], ◌∷◌, ◌++◌, length, Option, Some, None, slice_get, refl, sym, ap, ◌∙◌, subst, arith}
+use Rattle.std.proofs.Common.{◌≡◌, ℕ, ◌≤◌, List, [], length, Option, Some, None, slice_get, arith}
 use Rattle.std.proofs.lemmas.Option.{slice_get_within}
 use Rattle.c_memory.specs.declared.value.Value as source-value
 use Rattle.c_memory.specs.Memory.{Memory as SourceMemory, ended_from}
@@ -12,11 +12,9 @@ use Rattle.c_meaning.specs.Statements.{then_do, after_body, after_switch}
 use Rattle.graph_core.specs.Graphs.{Operand, Return, Block}
 use Rattle.graph_core.specs.Runs.{Configuration, Event, value}
 use Rattle.graph_coding.specs.Coding.{block_of}
-use Rattle.event_runs.specs.Agreement.{Pairs}
 use Rattle.graph_values.specs.Typed.{IsOf}
-use Rattle.graph_values.specs.Correspondence.{SameValue, SameEvent}
-use Rattle.graph_values.proofs.Leads.{depth_in, Local, World, Leads, stays}
-use Rattle.graph_values.proofs.Later.{Later, later_trans}
+use Rattle.graph_values.specs.Correspondence.{SameValue}
+use Rattle.graph_values.proofs.Leads.{depth_in, Local, World, Leads}
 use Rattle.graph_values.proofs.Kept.{Since, Sound, Fits}
 use Rattle.graph_values.proofs.Results.{EndsBy}
 use Rattle.graph_runs.proofs.Activities.{Activity, coding_in, before_in}

@@ -1,14 +1,12 @@
 -- The unit's run shows what the program's does, where the program's functions are as they should be.
-use Rattle.std.proofs.Common.{◌≡◌, ◌≢◌, ℕ, zero, suc, ◌+◌, ◌≤◌, List, [], ◌∷◌, ◌++◌, length, Option, Some, None, Bool, true, false, slice_get, refl, sym, ap, ◌∙◌, subst, arith, ℤ, pos}
-use Rattle.std.specs.Prelude.{◌==◌, if◌then◌else◌}
+use Rattle.std.proofs.Common.{◌≡◌, ℕ, zero, suc, ◌+◌, List, [], ◌∷◌, ◌++◌, length, Option, Some, None, Bool, slice_get, refl, sym, ap, ◌∙◌, subst, arith}
+use Rattle.std.specs.Prelude.{◌==◌}
 use Rattle.std.proofs.lemmas.List.{append-nil, append_assoc}
 use Rattle.c_tree.specs.Programs.{TypedFunctionTree, ProgramTree}
 use Rattle.c_facts.specs.Flow.{reaches_end}
 use Rattle.c_places.specs.Places.{places_of_program, parameters_of, brought_by_body}
-use Rattle.c_memory.specs.declared.value.Value as source-value
 use Rattle.c_memory.specs.declared.value.Value.TheVariants as source
 use Rattle.c_memory.specs.Memory.{Memory as SourceMemory}
-use Rattle.c_states.specs.declared.event.Ending.{Ending}
 use Rattle.c_states.specs.declared.event.Ending.TheVariants as ending
 use Rattle.c_states.specs.States.{State, Evaluated, Gives, Leaves, Ends}
 use Rattle.c_states.specs.States as source-event
@@ -16,29 +14,26 @@ use Rattle.c_activations.specs.Activations as activations
 use Rattle.c_activations.specs.Calls.{bind, on_entry, handed_back, at_close, forgotten}
 use Rattle.c_activations.specs.StaticStorage.{first_memory}
 use Rattle.c_meaning.specs.Statements.{execute_all}
-use Rattle.c_meaning.specs.Runs.{activate, calls_of, SourceRun, finished, source_run}
-use Rattle.graph_core.specs.declared.value.Value.{Value}
-use Rattle.graph_core.specs.Graphs.{Graph, UnitForm, Operand, Return}
+use Rattle.c_meaning.specs.Runs.{activate, calls_of, finished}
+use Rattle.graph_core.specs.Graphs.{Graph, UnitForm, Return}
 use Rattle.graph_core.specs.Memory.{Memory, first_memory as unit_memory}
-use Rattle.graph_core.specs.Runs.{Configuration, Event, Exited, TooDeep, Stepped, Goes, Shows, Ends as StepEnds, step, run, run_some, enter, unit_run, after, exited, value}
+use Rattle.graph_core.specs.Runs.{Configuration, Event, Exited, TooDeep, Ends as StepEnds, step, run, run_some, enter, unit_run, after, exited}
 use Rattle.graph_scale.specs.Conversions.{word_of}
 use Rattle.event_runs.specs.Agreement.{Pairs}
 use Rattle.event_runs.specs.Following.{Reached}
 use Rattle.graph_values.specs.Correspondence.{SameEvent, SameValue, AreBytes, DoesProgram}
 use Rattle.graph_values.specs.Correspondence as event
-use Rattle.graph_values.proofs.Leads.{depth_in, Local, World, Leads, stays, goes, shows}
+use Rattle.graph_values.proofs.Leads.{depth_in, Leads, stays, goes, shows}
 use Rattle.graph_values.proofs.Later.{some_same}
-use Rattle.graph_values.proofs.Kept.{Sound}
-use Rattle.graph_values.proofs.Results.{EndsBy}
 use Rattle.graph_runs.proofs.Activities.{Activity, here_in, before_in}
-use Rattle.graph_runs.proofs.Living.{Grown, grown_wider, all_both}
-use Rattle.graph_runs.proofs.Outcomes.{Leaving, Halts, Holding, holding_grown}
+use Rattle.graph_runs.proofs.Living.{all_both}
+use Rattle.graph_runs.proofs.Outcomes.{holding_grown}
 use Rattle.graph_runs.proofs.Stops.{pairs_more}
 use Rattle.graph_runs.proofs.Formed.{behind_all}
 use Rattle.graph_runs.proofs.Statements.{all_above, statements_go}
 use Rattle.graph_runs.proofs.Closing.{Final, body_final}
 use Rattle.graph_runs.proofs.Calls.{activity_of, Entered, Bound, FunctionIs, FunctionsAre}
-use Rattle.graph_runs.proofs.Recursion.{final_before, calls_good}
+use Rattle.graph_runs.proofs.Recursion.{calls_good}
 
 -- What is shown on the way, in so many steps.
 record Ran (u : UnitForm) (c d : Configuration) (es fs : List Event) : Type 0 where

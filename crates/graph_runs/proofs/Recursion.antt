@@ -1,10 +1,7 @@
 -- Calls keep what runs keep and do what they mean, by how many activations may still begin.
-use Rattle.std.proofs.Common.{◌≡◌, ◌≢◌, ℕ, zero, suc, ◌+◌, ◌<◌, ◌≤◌, List, [], ◌∷◌, ◌++◌, length, map, Option, Some, None, Bool, true, false, slice_get, refl, sym, ap, ◌∙◌, subst, arith, pos}
+use Rattle.std.proofs.Common.{◌≡◌, ℕ, zero, suc, ◌+◌, ◌≤◌, List, [], ◌∷◌, ◌++◌, length, map, Option, Some, None, Bool, true, false, slice_get, refl, sym, ap, ◌∙◌, subst, arith, pos}
 use Rattle.std.specs.Prelude.{◌==◌, if◌then◌else◌, option_map, unwrap_or}
-use Rattle.std.specs.List.{list_any}
-use Rattle.std.proofs.lemmas.Bool.Decides.{nat_tests}
 use Rattle.std.proofs.lemmas.Option.{slice_get-map}
-use Rattle.debug_records.specs.declared.source.Spot.{Spot}
 use Rattle.c_tree.specs.declared.object_type.ValueType.{ValueType}
 use Rattle.c_tree.specs.declared.object_type.ValueType.TheVariants.{Void, Integer, Pointer}
 use Rattle.c_tree.specs.declared.typed_expression.Callee.TheVariants as called
@@ -13,10 +10,9 @@ use Rattle.c_facts.specs.Flow.{reaches_end}
 use Rattle.c_places.specs.Places.{places_of_program, parameters_of, brought_by_body}
 use Rattle.c_value_types.specs.ValueTypes.{results_of, given_by, is_void}
 use Rattle.c_law_types.specs.declared.kind.Kind.TheVariants.{Of}
-use Rattle.c_law_types.specs.Kinds.{is_callee, taken_by}
+use Rattle.c_law_types.specs.Kinds.{taken_by}
 use Rattle.c_memory.specs.declared.value.Value as source-value
 use Rattle.c_memory.specs.declared.value.Value.TheVariants as source
-use Rattle.c_memory.specs.declared.value.Phase.TheVariants.{Ended as Over}
 use Rattle.c_memory.specs.Memory.{Memory as SourceMemory}
 use Rattle.c_states.specs.declared.event.Frame.{Frame}
 use Rattle.c_states.specs.declared.event.Ending.TheVariants as ending
@@ -27,8 +23,6 @@ use Rattle.c_activations.specs.Calls.{bind, on_entry, handed_back, at_close, for
 use Rattle.c_meaning.specs.Expressions.{Calls}
 use Rattle.c_meaning.specs.Statements.{execute_all}
 use Rattle.c_meaning.specs.Runs.{activate, calls_of}
-use Rattle.c_flow.specs.Flow.{ways_of_body}
-use Rattle.graph_core.specs.declared.value.Value.{Value}
 use Rattle.graph_core.specs.declared.value.Value.TheVariants.{Odd}
 use Rattle.graph_core.specs.declared.value.Shadow.TheVariants.{Gone}
 use Rattle.graph_core.specs.declared.instruction.Callee.TheVariants as unit-called
@@ -36,10 +30,9 @@ use Rattle.graph_core.specs.Graphs as unit
 use Rattle.graph_core.specs.Graphs.{UnitForm, Operand, Instruction, End, Return}
 use Rattle.graph_core.specs.Memory.{Memory}
 use Rattle.graph_core.specs.Runs.{Activation, Configuration, Event, TooDeep, Ends as StepEnds, enter, goes_if, value}
-use Rattle.graph_core.specs.Values.{is_odd}
 use Rattle.graph_values.specs.Typed.{IsOf}
 use Rattle.graph_values.specs.Correspondence.{SameValues}
-use Rattle.graph_values.proofs.Leads.{Setting, depth_in, Local, World, here_at, at, stays}
+use Rattle.graph_values.proofs.Leads.{depth_in, Local, World, here_at, at, stays}
 use Rattle.graph_values.proofs.Kept.{Sound, Fits}
 use Rattle.graph_values.proofs.Results.{Stuck, stuck_now}
 use Rattle.graph_values.proofs.Typing.{Keeps}
@@ -47,9 +40,9 @@ use Rattle.graph_values.proofs.Arguments.{AreOf}
 use Rattle.graph_values.proofs.Calling.{none_odd, waiting, BackR}
 use Rattle.graph_values.proofs.Library.{call_step}
 use Rattle.graph_stores.proofs.Coding.{CallsAre}
-use Rattle.graph_runs.proofs.Activities.{Activity, here_in, placed, sound_now}
-use Rattle.graph_runs.proofs.Living.{LivesAt, lives_later, FramesAre, frames_length, frames_later, was_there, all_both, Grown, grown_trans, grown_wider}
-use Rattle.graph_runs.proofs.Outcomes.{Arrives, Leaving, Runs, Holding, holding_grown}
+use Rattle.graph_runs.proofs.Activities.{Activity, placed, sound_now}
+use Rattle.graph_runs.proofs.Living.{LivesAt, lives_later, frames_length, frames_later, was_there, all_both, Grown, grown_trans, grown_wider}
+use Rattle.graph_runs.proofs.Outcomes.{Leaving, Holding, holding_grown}
 use Rattle.graph_runs.proofs.Stops.{Ready}
 use Rattle.graph_runs.proofs.Formed.{behind_all}
 use Rattle.graph_runs.proofs.Statements.{all_above, statements_go}

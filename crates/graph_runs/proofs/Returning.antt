@@ -1,16 +1,14 @@
 -- Where an activation is left, its objects end in both runs: what is kept of the activation that waited.
-use Rattle.std.proofs.Common.{◌≡◌, ◌≢◌, ℕ, zero, suc, ◌+◌, ◌<◌, ◌≤◌, ◌⊎◌, inl, inr, List, [], ◌∷◌, ◌++◌, length, map, take, drop, Option, Some, None, Bool, true, false, slice_get, refl, sym, ap, ◌∙◌, subst, arith}
+use Rattle.std.proofs.Common.{◌≡◌, ◌≢◌, ℕ, zero, suc, ◌+◌, ◌<◌, ◌⊎◌, inl, inr, List, [], ◌∷◌, length, map, Some, None, true, false, slice_get, refl, sym, ap, ◌∙◌, subst, arith}
 use Rattle.std.proofs.lemmas.Option.{slice_get_within}
-use Rattle.word_base.specs.Owners.{Variable}
 use Rattle.c_tree.specs.Programs.{ProgramTree}
 use Rattle.c_memory.specs.declared.value.Value as source-value
 use Rattle.c_memory.specs.declared.value.Value.TheVariants as source
-use Rattle.c_memory.specs.declared.value.Phase.TheVariants.{Live, Ended}
+use Rattle.c_memory.specs.declared.value.Phase.TheVariants.{Ended}
 use Rattle.c_memory.specs.Memory.{Object as SourceObject, Memory as SourceMemory, in_phase, ended_from as source_ended}
 use Rattle.c_states.specs.States.{State}
 use Rattle.c_activations.specs.Lifetimes.{ending_from}
 use Rattle.graph_core.specs.declared.value.Value.{Value}
-use Rattle.graph_core.specs.declared.value.Value.TheVariants.{Pointer, Odd}
 use Rattle.graph_core.specs.declared.value.Shadow.{Shadow}
 use Rattle.graph_core.specs.Memory.{Object, Memory, ended as unit_ended, ended_from}
 use Rattle.graph_core.specs.Runs.{Activation}
@@ -19,9 +17,9 @@ use Rattle.event_runs.specs.Agreement.{Pairs}
 use Rattle.graph_values.specs.Correspondence.{owner_of, SameObject, SamePointer, points, ended, SameValue, SameValues, IsInMemory, SameEvent}
 use Rattle.graph_values.proofs.Leads.{Setting, names_in, depth_in, Local, World}
 use Rattle.graph_values.proofs.Later.{some_same, Later, OthersLater, others_trans}
-use Rattle.graph_values.proofs.Kept.{ScalarIs, ObjectIs, Own, Waits, Outer, Placed, ArePlaced, LiveDiffer, NoneDeeper, StaticsStand, Fits}
+use Rattle.graph_values.proofs.Kept.{ScalarIs, Own, Outer, ArePlaced, LiveDiffer, NoneDeeper, Fits}
 use Rattle.graph_runs.proofs.Living.{there_is, was_there}
-use Rattle.graph_runs.proofs.Fading.{was_or_ended, there_still, stays_before, ended_now, pointer_not_odd, live_not_ended}
+use Rattle.graph_runs.proofs.Fading.{was_or_ended, there_still, ended_now, pointer_not_odd, live_not_ended}
 
 -- objects of the unit
 unit_all : (memory : Memory) (i : ℕ) (z : Object) → slice_get (map unit_ended memory) i ≡ Some z → z.live ≡ false

@@ -1,10 +1,10 @@
 -- Expressions as statements, empty statements, and statements that jump do what they mean.
-use Rattle.std.proofs.Common.{◌≡◌, ℕ, ◌+◌, ◌≤◌, List, [], ◌∷◌, Option, Some, None, true, refl, sym, ap, ◌∙◌, subst, arith}
+use Rattle.std.proofs.Common.{◌≡◌, ℕ, List, [], Option, Some, None, true, refl}
 use Rattle.debug_records.specs.declared.source.Spot.{Spot}
 use Rattle.c_tree.specs.TypedExpressions.{RvalueTree}
 use Rattle.c_law_types.specs.Kinds.{is_of}
 use Rattle.c_law_types.specs.Expressions.{kind_of}
-use Rattle.c_states.specs.States.{State, Outcome, Next, Broken, Continued, Returned, on_value, on_effect}
+use Rattle.c_states.specs.States.{State, Next, Broken, Continued, Returned, on_effect}
 use Rattle.c_activations.specs.Activations as activations
 use Rattle.c_meaning.specs.Statements.{value_at, run, result}
 use Rattle.c_flow.specs.declared.edge.Ways.{Ways}
@@ -12,7 +12,7 @@ use Rattle.graph_core.specs.Graphs.{Return, Block}
 use Rattle.graph_core.specs.Runs.{Configuration, Event}
 use Rattle.graph_layout.specs.declared.laid.Use.TheVariants.{Anywhere}
 use Rattle.graph_layout.specs.Layout.{laid}
-use Rattle.graph_drafts.specs.Drafts.{Made, To, Unused, ending}
+use Rattle.graph_drafts.specs.Drafts.{To, Unused, ending}
 use Rattle.graph_coding.specs.Coding.{begun, going, coded}
 use Rattle.graph_values.proofs.Leads.{names_in, Local, World, Leads}
 use Rattle.graph_values.proofs.Kept.{Sound, Fits}

@@ -1,5 +1,5 @@
 -- The induction over statements: each kind is a lemma of its own, and the induction only names them.
-use Rattle.std.proofs.Common.{◌≡◌, ℕ, ◌+◌, ◌≤◌, List, [], ◌∷◌, ◌++◌, map, Option, Some, None, Bool, true, false, refl, sym, ap, ◌∙◌, subst, arith, ℤ}
+use Rattle.std.proofs.Common.{◌≡◌, ℕ, ◌+◌, ◌≤◌, List, [], ◌∷◌, ◌++◌, map, Option, Some, Bool, true, false, refl, ap, ◌∙◌, subst, arith, ℤ}
 use Rattle.std.specs.Prelude.{if◌then◌else◌}
 use Rattle.std.proofs.lemmas.List.{append-nil}
 use Rattle.c_tree.specs.TypedStatements as statement
@@ -8,7 +8,7 @@ use Rattle.c_places.specs.Places.{brought, brought_by_start, brought_by_body}
 use Rattle.c_states.specs.States.{State, Outcome, Next, Holds}
 use Rattle.c_meaning.specs.Statements.{declare, declare_all, begin_loop, step, test_at, loop, for_round, then_do, is_same_number, by_label, execute, execute_all, execute_case, execute_default}
 use Rattle.c_flow.specs.declared.edge.Ways.{Ways}
-use Rattle.c_flow.specs.Flow.{start, start_of_all, start_of_declarators, start_of_for, round_of, within_loop, within_switch}
+use Rattle.c_flow.specs.Flow.{start, start_of_all, start_of_declarators, start_of_for, round_of, within_loop}
 use Rattle.graph_forms.specs.Forms.{default_start}
 use Rattle.graph_runs.proofs.Activities.{Activity, here_in}
 use Rattle.graph_runs.proofs.Outcomes.{GoesOn}

@@ -1,5 +1,5 @@
 -- Where a place begins, both runs stop alike.
-use Rattle.std.proofs.Common.{◌≡◌, ◌≢◌, ℕ, zero, suc, ◌+◌, ◌-◌, ◌<◌, ◌≤◌, List, [], ◌∷◌, ◌++◌, length, map, Option, Some, None, Bool, true, false, slice_get, refl, sym, ap, ◌∙◌, subst, arith}
+use Rattle.std.proofs.Common.{◌≡◌, ◌≢◌, ℕ, zero, suc, ◌+◌, ◌-◌, ◌<◌, ◌≤◌, List, [], ◌∷◌, ◌++◌, length, map, Some, None, Bool, false, slice_get, refl, sym, ap, ◌∙◌, subst, arith}
 use Rattle.std.specs.Prelude.{◌==◌, if◌then◌else◌}
 use Rattle.std.proofs.lemmas.Option.{slice_get_within}
 use Rattle.debug_records.specs.declared.source.Spot.{Spot}
@@ -9,23 +9,20 @@ use Rattle.c_places.specs.Places.{Place, places_of_program}
 use Rattle.c_memory.specs.declared.value.Phase.TheVariants.{Live, Ended}
 use Rattle.c_memory.specs.Memory.{Object as SourceObject, Memory as SourceMemory}
 use Rattle.c_states.specs.declared.event.Frame.{Frame}
-use Rattle.c_states.specs.declared.event.Ending.TheVariants as ending
 use Rattle.c_states.specs.States.{State, Outcome}
 use Rattle.c_states.specs.States as source-event
 use Rattle.c_activations.specs.Activations.{depth_of, frames_at, shown_at, stopped, on_begun}
 use Rattle.c_activations.specs.Activations as activations
 use Rattle.c_flow.specs.declared.edge.Ways.{Ways}
 use Rattle.graph_core.specs.declared.value.Shadow.{Shadow}
-use Rattle.graph_core.specs.declared.value.Shadow.TheVariants.{Known}
 use Rattle.graph_core.specs.Graphs.{Scalar, Graph, UnitForm, Marker, Block}
 use Rattle.graph_core.specs.Memory.{Memory}
-use Rattle.graph_core.specs.Runs.{Activation, Configuration, Event, Stop, Stepped, Goes, Shows, step, frame, numbers_from}
+use Rattle.graph_core.specs.Runs.{Activation, Configuration, Event, Stop, Goes, Shows, step, frame, numbers_from}
 use Rattle.graph_layout.specs.Names.{names_of, scalar_of}
 use Rattle.graph_drafts.specs.Drafts.{Made}
 use Rattle.graph_coding.specs.Coding.{block_of}
 use Rattle.event_runs.specs.Agreement.{Pairs}
-use Rattle.graph_values.specs.Typed.{AreTyped, OwnersDiffer}
-use Rattle.graph_values.specs.Correspondence.{variable_of, SameMemory, ShadowIs, SameFrame, SameFrames, SameEvent, stop, IsInMemory}
+use Rattle.graph_values.specs.Correspondence.{variable_of, SameMemory, ShadowIs, SameFrame, SameFrames, SameEvent, stop}
 use Rattle.graph_values.proofs.Leads.{names_in, depth_in, Local, World, Leads, stays, shows, then_leads}
 use Rattle.graph_values.proofs.Later.{some_same}
 use Rattle.graph_values.proofs.Kept.{Sound, ScalarsFirst, Own, Outer, ArePlaced, Fits}

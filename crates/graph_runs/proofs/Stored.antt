@@ -1,12 +1,11 @@
 -- Declarators of scalars that are kept in memory do what they mean.
-use Rattle.std.proofs.Common.{◌≡◌, ◌≢◌, ℕ, zero, suc, ◌+◌, ◌*◌, ◌<◌, ◌≤◌, ◌⊎◌, inl, inr, List, [], ◌∷◌, ◌++◌, length, replicate, Option, Some, None, Bool, true, false, slice_get, slice_set, refl, sym, ap, ◌∙◌, subst, arith}
+use Rattle.std.proofs.Common.{◌≡◌, ◌≢◌, ℕ, ◌+◌, ◌*◌, ◌<◌, ◌≤◌, List, [], ◌∷◌, ◌++◌, length, Option, Some, None, true, slice_get, slice_set, refl, sym, ap, ◌∙◌, subst, arith}
 use Rattle.std.specs.Prelude.{if◌then◌else◌, nat_le, option_map, option_and_then}
 use Rattle.std.specs.Option.{option_map_or}
 use Rattle.std.proofs.lemmas.List.{length-set, length-replicate}
 use Rattle.std.proofs.lemmas.Bool.Decides.{nat_tests}
 use Rattle.debug_records.specs.declared.source.Spot.{Spot}
 use Rattle.word_base.specs.Owners.{Variable}
-use Rattle.c_tree.specs.declared.object_type.Scalar.{Scalar}
 use Rattle.c_tree.specs.TypedExpressions.{RvalueTree}
 use Rattle.c_tree.specs.TypedStatements.{Zero, Scalar as scalar-initial}
 use Rattle.c_tree.specs.Programs.{AutomaticTree, ProgramTree}
@@ -25,19 +24,18 @@ use Rattle.graph_core.specs.declared.value.Value.{Value}
 use Rattle.graph_core.specs.declared.value.Value.TheVariants.{Pointer, Odd}
 use Rattle.graph_core.specs.Graphs as unit
 use Rattle.graph_core.specs.Graphs.{Operand, Automatic, Store}
-use Rattle.graph_core.specs.Memory.{Object, Memory, bytes_of, write, write_in, written_in}
+use Rattle.graph_core.specs.Memory.{Memory, bytes_of, write, write_in, written_in}
 use Rattle.graph_core.specs.Runs.{Configuration, Event, Goes, step, value}
 use Rattle.graph_core.specs.Values.{as_element, pointer_at}
 use Rattle.graph_layout.specs.declared.laid.Use.TheVariants.{Anywhere}
 use Rattle.graph_layout.specs.Layout.{laid}
 use Rattle.graph_layout.specs.Names.{object_of}
 use Rattle.graph_drafts.specs.Rules as rule
-use Rattle.graph_drafts.specs.Drafts.{Made, To, before}
+use Rattle.graph_drafts.specs.Drafts.{To, before}
 use Rattle.graph_coding.specs.Coding.{begun, going, coded}
 use Rattle.graph_values.specs.Typed.{IsOf}
 use Rattle.graph_values.specs.Correspondence.{owner_of, SameObject, SameValue, SameValues, IsInMemory}
-use Rattle.graph_values.proofs.Leads.{names_in, size_in, depth_in, Local, World, Leads, goes, stays, then_leads}
-use Rattle.graph_values.proofs.Later.{value_later, values_later, later_changed, others_changed}
+use Rattle.graph_values.proofs.Leads.{names_in, depth_in, Local, World, Leads, goes, stays, then_leads}
 use Rattle.graph_values.proofs.Kept.{Sound, ObjectIs, Placed, Fits}
 use Rattle.graph_values.proofs.Noting.{known_value}
 use Rattle.graph_values.proofs.Types.{kind_is_of}
@@ -46,7 +44,7 @@ use Rattle.graph_values.proofs.Elements.{reaches, element_keeps}
 use Rattle.graph_values.proofs.Storing.{fits_both_set}
 use Rattle.graph_stores.proofs.Writing.{store_step}
 use Rattle.graph_runs.proofs.Activities.{Activity, coding_in, here_in, place_at, placed, before_in, fits_placed, fits_anywhere}
-use Rattle.graph_runs.proofs.Living.{frames_length, Grown}
+use Rattle.graph_runs.proofs.Living.{frames_length}
 use Rattle.graph_runs.proofs.Outcomes.{Arrives, Runs, GoesOn, runs_since}
 use Rattle.graph_runs.proofs.Stops.{Lawful, place_begins}
 use Rattle.graph_runs.proofs.AtPlaces.{Works, Begins, begun_above, going_comes, value_runs}

@@ -1,5 +1,5 @@
 -- The tests of a `switch` lead to the label of its value.
-use Rattle.std.proofs.Common.{◌≡◌, ℕ, ◌+◌, ◌-◌, ◌<◌, ◌≤◌, List, [], ◌∷◌, ◌++◌, length, Option, Some, None, Bool, true, false, ◌&&◌, ◌||◌, slice_get, refl, sym, ap, ◌∙◌, subst, arith, ℤ}
+use Rattle.std.proofs.Common.{◌≡◌, ℕ, List, [], Option, Some, None, Bool, true, false, ◌||◌, refl, sym, ap, ◌∙◌, subst, ℤ}
 use Rattle.std.specs.Prelude.{if◌then◌else◌}
 use Rattle.debug_records.specs.declared.source.Spot.{Spot}
 use Rattle.word_base.specs.Types.{holds}
@@ -17,7 +17,6 @@ use Rattle.c_law_types.specs.Statements.{tested_type}
 use Rattle.c_memory.specs.declared.value.Value as source-value
 use Rattle.c_memory.specs.declared.value.Value.TheVariants as source
 use Rattle.c_memory.specs.Memory.{Memory as SourceMemory}
-use Rattle.c_states.specs.declared.event.Ending.TheVariants as ending
 use Rattle.c_states.specs.States.{State, Outcome, on_value}
 use Rattle.c_activations.specs.Activations as activations
 use Rattle.c_meaning.specs.Statements.{value_at, on_number, by_label, has_case, is_same_number, after_switch}
@@ -30,13 +29,13 @@ use Rattle.graph_core.specs.Runs.{Configuration, Event, entered, branched, value
 use Rattle.graph_scale.specs.Conversions.{word_of}
 use Rattle.graph_layout.specs.declared.laid.Use.TheVariants.{Anywhere}
 use Rattle.graph_layout.specs.Layout.{laid}
-use Rattle.graph_drafts.specs.Drafts.{Made, To, closed, label_of}
-use Rattle.graph_coding.specs.Coding.{begun, going, label_for, with_end, coded}
+use Rattle.graph_drafts.specs.Drafts.{Made, To, label_of}
+use Rattle.graph_coding.specs.Coding.{begun, label_for, with_end, coded}
 use Rattle.graph_forms.specs.Forms.{tests, default_start}
 use Rattle.graph_values.specs.Typed.{IsOf}
 use Rattle.graph_values.specs.Correspondence.{SameValue}
 use Rattle.graph_values.proofs.Leads.{names_in, Local, World, Leads, goes, stays, then_leads}
-use Rattle.graph_values.proofs.Kept.{Since, Sound, Fits}
+use Rattle.graph_values.proofs.Kept.{Sound, Fits}
 use Rattle.graph_values.proofs.Typing.{HasKind}
 use Rattle.graph_values.proofs.Standing.{Stands, closed_inner, closed_block}
 use Rattle.graph_values.proofs.Compares.{branch_compares}
