@@ -44,7 +44,7 @@ use Rattle.graph_runs.proofs.Declared.{set_last, zero_same}
 use Rattle.graph_runs.proofs.Stored.{same_object, placed_new}
 
 -- the sizes of scalars
-sizes : (base : IntegerType) (stars : ℕ) → (size_by_stars base stars ≡ 1) ⊎ ((size_by_stars base stars ≡ 2) ⊎ (size_by_stars base stars ≡ 4))
+pub sizes : (base : IntegerType) (stars : ℕ) → (size_by_stars base stars ≡ 1) ⊎ ((size_by_stars base stars ≡ 2) ⊎ (size_by_stars base stars ≡ 4))
 sizes Char zero = inl refl
 sizes SignedChar zero = inl refl
 sizes UnsignedChar zero = inl refl
