@@ -1,42 +1,38 @@
 -- An array without an initializer is zero in both runs.
-use Rattle.std.proofs.Common.{◌≡◌, ◌≢◌, ℕ, zero, suc, ◌+◌, ◌*◌, ◌/◌, ◌<◌, ◌≤◌, ◌⊎◌, inl, inr, List, [], ◌∷◌, ◌++◌, length, take, drop, replicate, Option, Some, None, Bool, true, false, ◌&&◌, slice_get, slice_set, refl, sym, ap, ◌∙◌, subst, arith}
-use Rattle.std.specs.Prelude.{◌==◌, if◌then◌else◌, nat_le, option_map, option_and_then}
+use Rattle.std.proofs.Common.{◌≡◌, ◌≢◌, ℕ, zero, suc, ◌+◌, ◌*◌, ◌/◌, ◌≤◌, ◌⊎◌, inl, inr, List, [], ◌∷◌, ◌++◌, length, take, drop, replicate, Some, None, true, ◌&&◌, slice_get, slice_set, refl, sym, ap, ◌∙◌, subst, arith}
+use Rattle.std.specs.Prelude.{if◌then◌else◌, nat_le, option_map, option_and_then}
 use Rattle.std.proofs.lemmas.List.{length-replicate, take-replicate, append-nil}
 use Rattle.std.proofs.lemmas.Bool.Decides.{nat_tests}
 use Rattle.debug_records.specs.declared.source.Spot.{Spot}
-use Rattle.word_base.specs.Owners.{Variable}
 use Rattle.c_tree.specs.declared.types.IntegerType.{IntegerType}
 use Rattle.c_tree.specs.declared.types.IntegerType.TheVariants.{Char, SignedChar, UnsignedChar, Short, UnsignedShort, Int, UnsignedInt, Long, UnsignedLong}
 use Rattle.c_tree.specs.declared.object_type.Scalar.{Scalar}
 use Rattle.c_tree.specs.TypedStatements.{Zero}
 use Rattle.c_tree.specs.Programs.{AutomaticTree, ProgramTree}
-use Rattle.c_type_rules.specs.Integers.{size as integer_bytes, scalar_size as type_size}
-use Rattle.c_memory.specs.declared.value.Value as source-value
 use Rattle.c_memory.specs.declared.value.Phase.TheVariants.{Initialising, Live, Ended}
 use Rattle.c_memory.specs.Types.{element_of, count_of, scalar_size, size_by_stars, zero_of}
-use Rattle.c_memory.specs.Memory.{Object as SourceObject, Memory as SourceMemory}
+use Rattle.c_memory.specs.Memory.{Memory as SourceMemory}
 use Rattle.c_states.specs.States.{State, Next}
 use Rattle.c_activations.specs.Activations as activations
 use Rattle.c_meaning.specs.Statements.{declare_with}
 use Rattle.c_flow.specs.declared.edge.Ways.{Ways}
-use Rattle.graph_core.specs.declared.value.Value.{Value}
 use Rattle.graph_core.specs.declared.value.Value.TheVariants.{Number}
 use Rattle.graph_core.specs.Graphs as unit
 use Rattle.graph_core.specs.Memory.{Object, Memory, bytes_of, words_of, with_object, filled, zeroed}
-use Rattle.graph_core.specs.Runs.{Configuration, Event, Goes, step, with_memory}
+use Rattle.graph_core.specs.Runs.{Goes, step, with_memory}
 use Rattle.graph_core.specs.Values.{size_of}
 use Rattle.graph_layout.specs.Names.{object_of}
 use Rattle.graph_drafts.specs.Rules as rule
-use Rattle.graph_drafts.specs.Drafts.{Made, before}
+use Rattle.graph_drafts.specs.Drafts.{before}
 use Rattle.graph_coding.specs.Coding.{going}
-use Rattle.graph_values.specs.Correspondence.{SameValues, IsInMemory}
-use Rattle.graph_values.proofs.Leads.{names_in, depth_in, Local, World, Leads, goes, stays, then_leads}
+use Rattle.graph_values.specs.Correspondence.{SameValues}
+use Rattle.graph_values.proofs.Leads.{names_in, World, goes, stays, then_leads}
 use Rattle.graph_values.proofs.Kept.{Sound, Fits}
 use Rattle.graph_values.proofs.Elements.{element_size}
 use Rattle.graph_values.proofs.Storing.{fits_both_set}
 use Rattle.graph_runs.proofs.Activities.{Activity, coding_in, here_in, place_at, placed, before_in, fits_placed, fits_anywhere}
 use Rattle.graph_runs.proofs.Living.{frames_length}
-use Rattle.graph_runs.proofs.Outcomes.{Arrives, Runs, GoesOn}
+use Rattle.graph_runs.proofs.Outcomes.{Runs, GoesOn}
 use Rattle.graph_runs.proofs.Stops.{Lawful, place_begins}
 use Rattle.graph_runs.proofs.AtPlaces.{Begins, going_comes}
 use Rattle.graph_runs.proofs.Making.{last_is, live_open, new_in, with_new, made_is, grown_made, sound_made, fits_made}
