@@ -1,10 +1,14 @@
 -- The blocks of statements stand where their function's do: a well-typed statement is one whose blocks do what it means.
-use Rattle.std.proofs.Common.{◌≡◌, ℕ, ◌+◌, ◌-◌, ◌≤◌, List, [], ◌∷◌, ◌++◌, Option, Some, None, Bool, true, ◌&&◌, not, slice_get, refl, arith}
+use Rattle.std.proofs.Common.{◌≡◌, ℕ, ◌+◌, ◌-◌, ◌*◌, ◌≤◌, List, [], ◌∷◌, ◌++◌, Option, Some, None, Bool, true, false, ◌&&◌, not, slice_get, refl, arith}
+use Rattle.std.specs.Prelude.{if◌then◌else◌, nat_le}
 use Rattle.c_tree.specs.declared.types.IntegerType.{IntegerType}
 use Rattle.c_tree.specs.TypedExpressions.{RvalueTree}
 use Rattle.c_tree.specs.TypedStatements as statement
 use Rattle.c_tree.specs.TypedStatements.{InitialTree, Zero, Scalar as scalar-initial, Elements, Literal, DeclaredTree, TypedStartTree, Nothing, Value, Declares, StepTree, TypedStatementTree, Block, Declaration, Empty, Run, If, IfElse, While, DoWhile, For, Switch, Break, Continue, Return, TypedStatementTrees, case, default}
-use Rattle.c_type_rules.specs.Integers.{fits as number_fits}
+use Rattle.c_tree.specs.declared.object_type.Scalar.{Scalar}
+use Rattle.c_tree.specs.declared.object_type.ObjectType.{ObjectType}
+use Rattle.c_tree.specs.declared.object_type.ObjectType.TheVariants as of-object
+use Rattle.c_type_rules.specs.Integers.{fits as number_fits, scalar_size}
 use Rattle.c_law_types.specs.declared.kind.Kind.{Kind}
 use Rattle.c_law_types.specs.declared.kind.Kind.TheVariants.{Wrong, NullPointer, Of}
 use Rattle.c_law_types.specs.Kinds.{is_of, is_typed, is_scalar}
@@ -16,16 +20,18 @@ use Rattle.c_meaning.specs.Statements.{declare}
 use Rattle.c_flow.specs.declared.edge.Ways.{Ways}
 use Rattle.c_flow.specs.Flow.{start, start_of_declarators, round_of, within_loop, within_switch, before as with_rest}
 use Rattle.graph_core.specs.Graphs as unit
-use Rattle.graph_core.specs.Graphs.{Operand, Instruction, Marker, Return as Returning}
+use Rattle.graph_core.specs.Graphs.{Operand, Instruction, Automatic, Store, Marker, Return as Returning}
 use Rattle.graph_layout.specs.declared.laid.Use.{Use}
 use Rattle.graph_layout.specs.declared.laid.Use.TheVariants.{Anywhere, Tested}
 use Rattle.graph_layout.specs.declared.laid.Use.TheVariants as use-of
 use Rattle.graph_layout.specs.Layout.{laid}
-use Rattle.graph_layout.specs.Names.{scalar_of}
-use Rattle.graph_drafts.specs.Drafts.{Made, Goal, To, Unused, Either, ending}
+use Rattle.graph_layout.specs.Names.{scalar_of, object_of, pick}
+use Rattle.graph_drafts.specs.Rules.{element_of}
+use Rattle.graph_code.specs.Steps.{or_zero}
+use Rattle.graph_drafts.specs.Drafts.{Made, Goal, To, Unused, Either, ending, before, note}
 use Rattle.graph_coding.specs.Coding.{Part, begun, going, label_for, with_end, placed_at, coded as coded_at, branching}
-use Rattle.graph_coding.specs.Reached.{reached, initial_reached, declared_reached, start_reached, condition_reached, step_reached, result_reached, statement_reached, statements_reached}
-use Rattle.graph_declarators.specs.Declaring.{declare as declared_made, add_declared}
+use Rattle.graph_coding.specs.Reached.{reached, initial_reached, declared_reached, start_reached, condition_reached, step_reached, result_reached, statement_reached, statements_reached, bare}
+use Rattle.graph_declarators.specs.Declaring.{declare as declared_made, add_declared, object_type_of, words_of, cleared, store_elements, copied_words, declare_kept, declare_scalar, declare_as}
 use Rattle.graph_forms.specs.Forms.{tests, default_start, add_run, add_going, add_branching, add_start, add_step, add_switch, add, add_all}
 use Rattle.graph_values.proofs.Leads.{names_in, size_in}
 use Rattle.graph_values.proofs.Noting.{ScalarsApart}
@@ -88,10 +94,10 @@ abbrev pub DeclaratorDoes : Activity → DeclaredTree → Type 0
 DeclaratorDoes k d = (scope : List ℕ) (low : ℕ) (w : Ways) → low ≤ d.variable → Begins k scope d.spot.at (λ t i. declared_made (coding_in k) d t (going (coding_in k) w.next i))
     → GoesOn k low (d.variable + 1) (d.variable ∷ []) w scope (Some d.spot.at) (declare k.calls (here_in k) d) × KeepsOn k low (d.variable + 1) (d.variable ∷ []) scope (declare k.calls (here_in k) d)
 
--- What is asked of declarators beside: each is of a variable above those before it, does what it means, and its code grows.
+-- What is asked of declarators beside: each is of a variable above those before it, and does what it means.
 abbrev pub DeclaratorsFit : Activity → (low : ℕ) → List DeclaredTree → Type 0
 DeclaratorsFit k low [] = Unit {0}
-DeclaratorsFit k low (d ∷ more) = (low ≤ d.variable) × DeclaratorDoes k d × ((t : ℕ) (m : Made) → Stands k.setting.graph k.setting.top (declared_made (coding_in k) d t m).inner → Stands k.setting.graph k.setting.top m.inner) × DeclaratorsFit k (d.variable + 1) more
+DeclaratorsFit k low (d ∷ more) = (low ≤ d.variable) × DeclaratorDoes k d × DeclaratorsFit k (d.variable + 1) more
 
 abbrev pub StartFits : Activity → (low : ℕ) → TypedStartTree → Type 0
 StartFits k low Nothing = Unit {0}
@@ -233,14 +239,55 @@ module _ (k : Activity) (law : Lawful k) (out : (place : ℕ) (began : SourceMem
     later_statements (case z rest) t le = later_statements rest t le
     later_statements (default rest) t le = later_statements rest t le
 
+  -- the code of declarators grows
+  cleared_front : (object bytes covered : ℕ) (m : Made) → Stands k.setting.graph k.setting.top (cleared object bytes covered m).inner → Stands k.setting.graph k.setting.top m.inner
+  cleared_front object bytes covered m = by (nat_le (words_of bytes) covered)
+    where
+      by : (b : Bool) → Stands k.setting.graph k.setting.top (if b then m else before (unit.Zero object (words_of bytes)) m).inner → Stands k.setting.graph k.setting.top m.inner
+      by true h = h
+      by false h = h
+
+  elements_front : (at : ℕ) (s : Scalar) (object index : ℕ) (all : List RvalueTree) (t : ℕ) (m : Made) → Stands k.setting.graph k.setting.top (store_elements (coding_in k) at s object index all t m).inner → Stands k.setting.graph k.setting.top m.inner
+  elements_front at s object index [] t m h = h
+  elements_front at s object index (e ∷ more) t m h =
+      let next = pick (names_in k.setting) t (laid (names_in k.setting) (bare e) Anywhere t).top in
+      let rest = store_elements (coding_in k) at s object (index + 1) more next m in
+      elements_front at s object (index + 1) more next m
+      (grows (names_in k.setting) (place_at k at) k.setting.top k.setting.graph (bare e) t (To None (before (Store (element_of s) (Automatic object (index * scalar_size s)) (laid (names_in k.setting) (bare e) Anywhere t).value) rest)) h)
+
+  kept_front : (at object : ℕ) (of : ObjectType) (i : InitialTree) (t : ℕ) (m : Made) → Stands k.setting.graph k.setting.top (declare_kept (coding_in k) at object of i t m).inner → Stands k.setting.graph k.setting.top m.inner
+  kept_front at object (of-object.Scalar s) Zero t m h = h
+  kept_front at object (of-object.Scalar s) (scalar-initial e) t m h = code_front at e t (To None (before (Store (element_of s) (Automatic object 0) (laid (names_in k.setting) e Anywhere (begun (coding_in k) t)).value) m)) h
+  kept_front at object (of-object.Scalar s) (Elements all) t m h = cleared_front object (scalar_size s) 0 m h
+  kept_front at object (of-object.Scalar s) (Literal n) t m h = cleared_front object (scalar_size s) 0 m h
+  kept_front at object (of-object.Array s count) Zero t m h = cleared_front object (scalar_size s * count) 0 m h
+  kept_front at object (of-object.Array s count) (scalar-initial e) t m h = cleared_front object (scalar_size s * count) 0 m h
+  kept_front at object (of-object.Array s count) (Elements all) t m h =
+      let rest = store_elements (coding_in k) at s object 0 all (begun (coding_in k) t) m in elements_front at s object 0 all (begun (coding_in k) t) m (cleared_front object (scalar_size s * count) 0 rest h)
+  kept_front at object (of-object.Array s count) (Literal n) t m h =
+      let words = copied_words (coding_in k) n (scalar_size s * count) in cleared_front object (scalar_size s * count) words (before (unit.CopyWords object n words) m) h
+
+  named_front : (at x : ℕ) (i : InitialTree) (t : ℕ) (m : Made) → Stands k.setting.graph k.setting.top (declare_scalar (coding_in k) at x i t m).inner → Stands k.setting.graph k.setting.top m.inner
+  named_front at x Zero t m h = h
+  named_front at x (scalar-initial e) t m h = code_front at e t (To (Some x) (note x m)) h
+  named_front at x (Elements all) t m h = h
+  named_front at x (Literal n) t m h = h
+
+  declarator_front : (d : DeclaredTree) (t : ℕ) (m : Made) → Stands k.setting.graph k.setting.top (declared_made (coding_in k) d t m).inner → Stands k.setting.graph k.setting.top m.inner
+  declarator_front d t m = by (scalar_of (names_in k.setting) d.variable)
+    where
+      by : (o : Option ℕ) → Stands k.setting.graph k.setting.top (declare_as (coding_in k) o d t m).inner → Stands k.setting.graph k.setting.top m.inner
+      by (Some x) h = named_front d.spot.at x d.initial t m h
+      by None h = kept_front d.spot.at (or_zero (object_of (names_in k.setting) d.variable)) (object_type_of k.setting.program d.variable) d.initial t m h
+
   declares_formed : (w : Ways) (scope : List ℕ) (all : List DeclaredTree) (t low : ℕ) (part : Part) → size_in k.setting ≤ t → ArePlaces k (places_of_declarators k.setting.function scope all) → DeclaratorsFit k low all → PartStands k (add_declared (coding_in k) all t w.next part) → DeclaresAll k w scope low all × PartStands k part
   declares_formed w scope [] t low part le places fit h = (none_declared, h)
   declares_formed w scope (d ∷ more) t low part le places fit h =
       let n = initial_reached (coding_in k) (scalar_of (names_in k.setting) d.variable) d.initial t in
       let next = start_of_declarators more w.next in
       let behind_it = add_declared (coding_in k) more n w.next part in
-      let one = begins_with scope d.spot.at t (λ free i. declared_made (coding_in k) d free (going (coding_in k) next i)) behind_it le places.0 h (λ st. going_front next behind_it.inner (fit.2 t (going (coding_in k) next behind_it.inner) st)) in
-      let rest = declares_formed w (scope ++ d.variable ∷ []) more n (d.variable + 1) part (later_initial (scalar_of (names_in k.setting) d.variable) d.initial t le) places.1 fit.3 one.1 in
+      let one = begins_with scope d.spot.at t (λ free i. declared_made (coding_in k) d free (going (coding_in k) next i)) behind_it le places.0 h (λ st. going_front next behind_it.inner (declarator_front d t (going (coding_in k) next behind_it.inner) st)) in
+      let rest = declares_formed w (scope ++ d.variable ∷ []) more n (d.variable + 1) part (later_initial (scalar_of (names_in k.setting) d.variable) d.initial t le) places.1 fit.2 one.1 in
       let does = fit.1 scope low (record w { next = next }) fit.0 one.0 in (declared_first fit.0 does.0 does.1 rest.0, rest.1)
 
   start_formed : (w : Ways) (scope : List ℕ) (begin : TypedStartTree) (head t low : ℕ) (part : Part) → size_in k.setting ≤ t → is_start k.setting.program k.setting.tree begin ≡ true → ArePlaces k (places_of_start k.setting.function scope begin) → StartFits k low begin → PartStands k (add_start (coding_in k) begin t head part)
