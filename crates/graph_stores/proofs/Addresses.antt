@@ -77,7 +77,7 @@ module _ (x : Setting) (calls : Calls) (low : ScalarsFirst x) (next : source-val
       by r h = by_object o h
 
   -- the address of a static object or a literal
-  fixed_address : (o : designator.Object) (of : ObjectType) (i : ℕ) → ((t : ℕ) → place_in x (Named o of) t ≡ StaticPlace i) → DoesPlace x calls (Named o of) → (t : ℕ) (g : Goal) (s : State) (l : Local) (w : World) → size_in x ≤ t → Stands x.graph x.top (leaf g (StaticAddress i 0)).inner → Sound x.program s → Fits x None s l w
+  fixed_address : (o : designator.Object) (of : ObjectType) (i : ℕ) → ((t : ℕ) → place_in x (Named o of) t ≡ StaticPlace i) → DoesPlace x calls (Named o of) → (t : ℕ) (g : Goal) (s : State) (l : Local) (w : World) → size_in x ≤ t → Stands x.graph x.top (leaf g (StaticAddress i 0)).inner → Sound x.program x.begun s → Fits x None s l w
       → Result x g (StaticAddress i 0) t (λ y. false) (leaf g (StaticAddress i 0)).ops (leaf g (StaticAddress i 0)).end l w (with (designate calls (depth_in x) (Named o of) s) next)
   fixed_address o of i is does t g s l w size st sound fits =
       let m = leaf g (StaticAddress i 0) in
@@ -87,7 +87,7 @@ module _ (x : Setting) (calls : Calls) (low : ScalarsFirst x) (next : source-val
       (subst (λ loc. SameValue x.program s1.memory h.reached.world.memory v (pointed_in x h.reached.local h.reached.world loc)) (is t) h.same) (pointer_of o of s v s1 e)))
 
   -- the address of an automatic object
-  automatic_address : (y j : ℕ) (of : ObjectType) → object_of (names_in x) y ≡ Some j → DoesPlace x calls (Named (object.Automatic y) of) → (t : ℕ) (g : Goal) (s : State) (l : Local) (w : World) → size_in x ≤ t → Stands x.graph x.top (operated (names_in x) g t t (λ k. Address k j)).inner → Sound x.program s → Fits x None s l w
+  automatic_address : (y j : ℕ) (of : ObjectType) → object_of (names_in x) y ≡ Some j → DoesPlace x calls (Named (object.Automatic y) of) → (t : ℕ) (g : Goal) (s : State) (l : Local) (w : World) → size_in x ≤ t → Stands x.graph x.top (operated (names_in x) g t t (λ k. Address k j)).inner → Sound x.program x.begun s → Fits x None s l w
       → Result x g (Name (pick (names_in x) t t)) t (λ y. false) (operated (names_in x) g t t (λ k. Address k j)).ops (operated (names_in x) g t t (λ k. Address k j)).end l w (with (designate calls (depth_in x) (Named (object.Automatic y) of) s) next)
   automatic_address y j of is does t g s l w size st sound fits =
       let own = pick (names_in x) t t in
@@ -134,7 +134,7 @@ module _ (x : Setting) (calls : Calls) (low : ScalarsFirst x) (next : source-val
     with_usable (Leaves s) = refl
     with_usable (Ends c s) = refl
 
-    target_address : (t : ℕ) (g : Goal) (s : State) (l : Local) (w : World) → size_in x ≤ t → Stands x.graph x.top (code_address (names_in x) x.place x.top (Target of e) t g).inner → Sound x.program s → Fits x None s l w → Aims x g e t
+    target_address : (t : ℕ) (g : Goal) (s : State) (l : Local) (w : World) → size_in x ≤ t → Stands x.graph x.top (code_address (names_in x) x.place x.top (Target of e) t g).inner → Sound x.program x.begun s → Fits x None s l w → Aims x g e t
         → Result x g (value_in x e t) t (written_by x e) (code_address (names_in x) x.place x.top (Target of e) t g).ops (code_address (names_in x) x.place x.top (Target of e) t g).end l w (found (evaluate calls (depth_in x) e s))
     target_address t (To want m) s l w size st sound fits aims =
         let c = code_in x e t (To want m) in
@@ -149,7 +149,7 @@ module _ (x : Setting) (calls : Calls) (low : ScalarsFirst x) (next : source-val
         subst (Result x g (value_in x e t) t (written_by x e) c.ops c.end l w) (with_usable (evaluate calls (depth_in x) e s))
         (with_then x None g m (value_in x e t) (value_in x e t) t t t (written_by x e) (written_by x e) (λ y. false) c.ops c.end l w (evaluate calls (depth_in x) e s) (λ v s1. found (Gives v s1)) (omega arith) (omega arith) (λ y lt nf. (refl, nf, refl))
         (does_e t (To None m) s l w size st sound fits tt)
-        (λ v s1 is h. (let gave = gave_by x.program s.memory (kind_of x.program x.tree e) (evaluate calls (depth_in x) e s) v s1 is (typed_e s sound) in
+        (λ v s1 is h. (let gave = gave_by x.program x.begun s.memory (kind_of x.program x.tree e) (evaluate calls (depth_in x) e s) v s1 is (typed_e s sound) in
         by_use g m t v s1 h.reached.local h.reached.world (used_or v s1) h.reached.fits
         (leaf_done x g (value_in x e t) t (λ y. false) v s1 h.reached.local h.reached.world h.reached.fits h.same (kind_word s1.memory (kind_of x.program x.tree e) v gave.is)))))
       where

@@ -77,11 +77,11 @@ pub record ScalarObject (x : Setting) (v : ℕ) (memory : SourceMemory) (n : ℕ
 
 pub scalar_later : (x : Setting) (v : ℕ) (memory after : SourceMemory) (n : ℕ) → Later memory after → ScalarObject x v memory n → ScalarObject x v after n
 scalar_later x v memory after n later o =
-    let c = later n o.object o.is in record { object = c.object; is = c.is; owner = c.owner ∙ o.owner; alive = λ over. o.alive (sym c.phase ∙ over) }
+    let c = later n o.object o.is in record { object = c.object; is = c.is; owner = c.owner ∙ o.owner; alive = λ over. o.alive (c.phase.open_before over) }
 
 module _ (x : Setting) (apart : ScalarsApart x) (v k : ℕ) (named_by : scalar_of (names_in x) v ≡ Some k) where
   -- A scalar's object is written: nothing is defined, or its name is to be noted.
-  pub note_cases : (n : ℕ) (u : source-value.Value) (s : State) (l : Local) (w : World) → Sound x.program s → Fits x (Some k) s l w → ScalarObject x v s.memory n → SameValue x.program s.memory w.memory u (l.names k) → (R : Evaluated → Type 0) → R (Ends ending.Undefined s)
+  pub note_cases : (n : ℕ) (u : source-value.Value) (s : State) (l : Local) (w : World) → Sound x.program x.begun s → Fits x (Some k) s l w → ScalarObject x v s.memory n → SameValue x.program s.memory w.memory u (l.names k) → (R : Evaluated → Type 0) → R (Ends ending.Undefined s)
       → ((after : SourceMemory) → NotedAs x k s l w u after → R (Gives u (record s { memory = after }))) → R (store (source.Pointer n 0) u s)
   note_cases n u s l w sound f o same R undefined next =
       subst (λ q. R (stored (option_and_then (written_in s.memory n 0 u) q) u s)) (sym o.is) (by_way (is_writable o.object 0))
@@ -107,7 +107,7 @@ module _ (x : Setting) (apart : ScalarsApart x) (v k : ℕ) (named_by : scalar_o
           }))
 
   -- A scalar is designated and read: nothing is defined, or its name has the value.
-  pub located_cases : (calls : Calls) (of : ObjectType) (s : State) (l : Local) (w : World) → Sound x.program s → Fits x None s l w → (R : Both → Type 0) → R (NoPair ending.Undefined s)
+  pub located_cases : (calls : Calls) (of : ObjectType) (s : State) (l : Local) (w : World) → Sound x.program x.begun s → Fits x None s l w → (R : Both → Type 0) → R (NoPair ending.Undefined s)
       → ((n : ℕ) (u : source-value.Value) (o : ScalarObject x v s.memory n) → SameValue x.program s.memory w.memory u (l.names k) → IsOf s.memory (loaded o.object.element) u → R (Pair (source.Pointer n 0) u s))
       → R (located (designate calls (depth_in x) (Named (object.Automatic v) of) s))
   located_cases calls of s l w sound f R undefined next = found_by (object_of (Variable v (depth_in x)) s.memory) refl
@@ -187,7 +187,7 @@ module _ (x : Setting) (low : ScalarsFirst x) (apart : ScalarsApart x) (v k : �
     pub kept : (y : ℕ) → y < b → k == y ≡ false → local.names y ≡ l.names y
 
   -- A scalar's value changes: nothing is defined, or the unit has the new one, and noted it.
-  pub anew_cases : (t free b : ℕ) (old by : Operand) (m : Made) (other : Option ℕ) (before_it : Value) (n : ℕ) (s : State) (l : Local) (w : World) (vo vb : source-value.Value) → b ≤ t → size_in x ≤ t → b ≤ free → size_in x ≤ free → IsBelow free old → is_want other k ≡ false → Sound x.program s
+  pub anew_cases : (t free b : ℕ) (old by : Operand) (m : Made) (other : Option ℕ) (before_it : Value) (n : ℕ) (s : State) (l : Local) (w : World) (vo vb : source-value.Value) → b ≤ t → size_in x ≤ t → b ≤ free → size_in x ≤ free → IsBelow free old → is_want other k ≡ false → Sound x.program x.begun s
       → Fits x None s (restored other before_it l) w → ScalarObject x v s.memory n → IsOf s.memory target vo → HasBy vb → SameValue x.program s.memory w.memory vo (value x.unit.statics l.names old) → SameValue x.program s.memory w.memory vb (value x.unit.statics l.names by)
       → (F : source-value.Value → Evaluated → Evaluated) (R : Evaluated → Type 0) → R (Ends ending.Undefined s) → ((new : source-value.Value) → R (F new (Ends ending.Undefined s)))
       → ((new : source-value.Value) (after : SourceMemory) → next s.memory vo vb ≡ Some new → Anew t free b old by m other s l w new after → R (F new (Gives new (record s { memory = after }))))

@@ -150,12 +150,12 @@ module _ (x : Setting) (calls : Calls) (low : ScalarsFirst x) (sc : Scalar) (lv 
   aims_place t (Unused m) aims = tt
   aims_place t (Either one other inner) aims = tt
 
-  module _ (t : ℕ) (g : Goal) (s : State) (l : Local) (w : World) (size : size_in x ≤ t) (st : Stands x.graph x.top (placing x lv t (behind_of t g)).inner) (sound : Sound x.program s) (fits : Fits x None s l w) (aims : Aims x g (Assign sc lv e) t) where
+  module _ (t : ℕ) (g : Goal) (s : State) (l : Local) (w : World) (size : size_in x ≤ t) (st : Stands x.graph x.top (placing x lv t (behind_of t g)).inner) (sound : Sound x.program x.begun s) (fits : Fits x None s l w) (aims : Aims x g (Assign sc lv e) t) where
     above : t ≤ from_of t
     above = let le = lays_lv t size in let held_le = behind_le (moved_of t) (next_of t) in omega (arith, le, held_le)
 
     -- the value is there
-    stores : (p v : source-value.Value) (s2 : State) (l2 : Local) (w2 : World) → Sound x.program s2 → Fits x (want_by g) s2 l2 w2 → IsPointerTo s2.memory sc p → SameValue x.program s2.memory w2.memory p (pointed_in x l2 w2 (place_of t)) → IsOf s2.memory (loaded sc) v
+    stores : (p v : source-value.Value) (s2 : State) (l2 : Local) (w2 : World) → Sound x.program x.begun s2 → Fits x (want_by g) s2 l2 w2 → IsPointerTo s2.memory sc p → SameValue x.program s2.memory w2.memory p (pointed_in x l2 w2 (place_of t)) → IsOf s2.memory (loaded sc) v
         → SameValue x.program s2.memory w2.memory v (value x.unit.statics l2.names (operand_in (want_by g) (value_in x e (from_of t)))) → Result x g (value_in x e (from_of t)) t (λ y. false) (last_of t g).ops (last_of t g).end l2 w2 (store p v s2)
     stores p v s2 l2 w2 sound2 fits2 is pointer typed same =
         let u = value x.unit.statics l2.names (store_of t g) in
@@ -166,7 +166,7 @@ module _ (x : Setting) (calls : Calls) (low : ScalarsFirst x) (sc : Scalar) (lv 
         (λ after h. stored_done x g (rule.element_of sc) (place_of t) (store_of t g) (value_in x e (from_of t)) t (λ y. false) v (record s2 { memory = after }) l2 w2 h.memory h.writes h.others_later h.fits h.same (of_word s2.memory (loaded sc) v typed) is_u)
 
     -- behind the place
-    evaluates : (p : source-value.Value) (s1 : State) (l1 : Local) (w1 : World) → Sound x.program s1 → Fits x None s1 l1 w1 → IsOf s1.memory (PointerType (object_type lv)) p → SameValue x.program s1.memory w1.memory p (pointed_in x l1 w1 (place_in x lv t))
+    evaluates : (p : source-value.Value) (s1 : State) (l1 : Local) (w1 : World) → Sound x.program x.begun s1 → Fits x None s1 l1 w1 → IsOf s1.memory (PointerType (object_type lv)) p → SameValue x.program s1.memory w1.memory p (pointed_in x l1 w1 (place_in x lv t))
         → Result x g (value_in x e (from_of t)) t (written_by x e) (behind_of t g).ops (behind_of t g).end l1 w1 (with (evaluate calls (depth_in x) e s1) (store p))
     evaluates p s1 l1 w1 sound1 fits1 is pointer =
         let a = value_in x e (from_of t) in
@@ -182,7 +182,7 @@ module _ (x : Setting) (calls : Calls) (low : ScalarsFirst x) (sc : Scalar) (lv 
         (with_wanted x g (last_of t g) a a t (from_of t) t (written_by x e) (written_by x e) (λ y. false) m.ops m.end k.local w1 (evaluate calls (depth_in x) e s1) (store p) up (omega arith) (λ y lt nf. (nf, refl))
         (does_e (from_of t) (To (want_by g) (last_of t g)) s1 k.local w1 (omega (arith, size, up)) inner sound1 k.fits (aims_right t (from_of t) g up aims))
         (λ v s2 e2 h.
-        (let gave = gave_by x.program s1.memory (kind_of x.program x.tree e) (evaluate calls (depth_in x) e s1) v s2 e2 (typed_e s1 sound1) in
+        (let gave = gave_by x.program x.begun s1.memory (kind_of x.program x.tree e) (evaluate calls (depth_in x) e s1) v s2 e2 (typed_e s1 sound1) in
         let there = of_later s1.memory s2.memory gave.later (PointerType (object_type lv)) p is in
         let place = place_stays x (want_by g) (λ y. writes (names_in x) y e) (place_in x lv t) (next_of t) k.local h.reached.local w1 h.reached.world (below_lv t size) (spares_e (next_of t) (omega (arith, size, le)))
         (spare_want x g lv t (next_of t) (aims_place t g aims) le) (place_aside x g lv t fresh_lv size (aims_place t g aims)) (λ y lt nw nf. h.reached.kept y lt nw nf) h.reached.later known in
@@ -196,7 +196,7 @@ module _ (x : Setting) (calls : Calls) (low : ScalarsFirst x) (sc : Scalar) (lv 
         subst (Result x g (value_in x e (from_of t)) t written_of c.ops c.end l w) (both_with (designate calls (depth_in x) lv s) (evaluate calls (depth_in x) e) store)
         (place_next x g (behind_of t g) lv (value_in x e (from_of t)) t t written_of (written_by x e) c.ops c.end l w (designate calls (depth_in x) lv s) (λ p s1. with (evaluate calls (depth_in x) e s1) (store p)) (omega arith)
         (λ y lt nf. or_false (within_written x lv y) (writes (names_in x) y e) nf) (does_lv t (behind_of t g) s l w size st sound fits)
-        (λ p s1 e1 h. (let gave = subst (Keeps x.program s.memory (Of (PointerType (object_type lv)))) e1 (typed_lv s sound) in evaluates p s1 h.reached.local h.reached.world gave.sound h.reached.fits gave.is h.same)))
+        (λ p s1 e1 h. (let gave = subst (Keeps x.program x.begun s.memory (Of (PointerType (object_type lv)))) e1 (typed_lv s sound) in evaluates p s1 h.reached.local h.reached.world gave.sound h.reached.fits gave.is h.same)))
 
   goal_is : (t : ℕ) (g : Goal) → To (want_by g) (last_of t g) ≡ assigned_memory g (place_laid (names_in x) lv t) (moved_of t) (rule.element_of sc) (store_of t g)
   goal_is t (To None m) = refl

@@ -122,4 +122,4 @@ module _ (x : Setting) (calls : Calls) (low : ScalarsFirst x) (ty : IntegerType)
       let c = code_in x e t (To None m) in
       with_then x None g m (Name (own_at t)) (value_in x e t) t t t (written_by x e) (written_by x e) (λ y. false) c.ops c.end l w (evaluate calls (depth_in x) e s) (λ v s1. given (signed Complement ty v) s1) (omega arith) (omega arith) (λ y lt nf. (refl, nf, refl))
       (does_e t (To None m) s l w size st sound fits tt)
-      (λ v s1 is h. (let gave = subst (Keeps x.program s.memory (Of (Integer ty))) is (subst (λ k. Keeps x.program s.memory k (evaluate calls (depth_in x) e s)) kind_e (typed_e s sound)) in complements t g s1 h.reached.local h.reached.world size h.reached.fits v gave.is h.same))
+      (λ v s1 is h. (let gave = subst (Keeps x.program x.begun s.memory (Of (Integer ty))) is (subst (λ k. Keeps x.program x.begun s.memory k (evaluate calls (depth_in x) e s)) kind_e (typed_e s sound)) in complements t g s1 h.reached.local h.reached.world size h.reached.fits v gave.is h.same))

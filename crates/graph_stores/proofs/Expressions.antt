@@ -115,7 +115,7 @@ pub record ScalarVariable (x : Setting) (v : ℕ) (of : ObjectType) (sc : Scalar
 
 -- What is called keeps what runs keep, and gives values of its type.
 abbrev pub CallKeeps : Setting → Calls → Callee → List ValueType → Type 0
-CallKeeps x calls c types = (vs : List source-value.Value) (s : State) → Sound x.program s → AreOf s.memory types vs → Keeps x.program s.memory (Of (given_by (results_of x.program.functions) c)) (call calls c vs s)
+CallKeeps x calls c types = (vs : List source-value.Value) (s : State) → Sound x.program x.begun s → AreOf s.memory types vs → Keeps x.program x.begun s.memory (Of (given_by (results_of x.program.functions) c)) (call calls c vs s)
 
 mutual
   -- Expressions that are well typed, whose scalars and objects are where the layout says.
@@ -200,14 +200,14 @@ in_memory (element_from fits c d) = refl
 operated_of : (x : Setting) (calls : Calls) (o : declared-arithmetic.Arithmetic) (t : IntegerType) (a b : RvalueTree) → is_promoted t ≡ true → kind_of x.program x.tree (Arithmetic o t a b) ≡ Of (Integer t) → kind_of x.program x.tree a ≡ Of (Integer t) → IsRightBy x o t b
     → Typed x calls a → Typed x calls b → Typed x calls (Arithmetic o t a b)
 operated_of x calls o t a b promoted kind kind_a right typed_a typed_b s sound =
-    subst (λ k. Keeps x.program s.memory k (evaluate calls (depth_in x) (Arithmetic o t a b) s)) (sym kind)
+    subst (λ k. Keeps x.program x.begun s.memory k (evaluate calls (depth_in x) (Arithmetic o t a b) s)) (sym kind)
     (both_typed x calls a b (Of (Integer t)) (λ v w s1. given (arithmetic o t v w) s1) typed_a typed_b (λ v w s1 sound1 ka kb. gives v w s1 sound1 (subst (λ k. HasKind s1.memory k v) kind_a ka) (right s1.memory w kb)) s sound)
   where
-    by_number : (p q : ℤ) (s1 : State) → Sound x.program s1 → holds (integer t) p ≡ true → IsRight o t q → (r : Option ℤ) → calculated o t p q ≡ r → Keeps x.program s1.memory (Of (Integer t)) (given (option_map source.Number r) s1)
+    by_number : (p q : ℤ) (s1 : State) → Sound x.program x.begun s1 → holds (integer t) p ≡ true → IsRight o t q → (r : Option ℤ) → calculated o t p q ≡ r → Keeps x.program x.begun s1.memory (Of (Integer t)) (given (option_map source.Number r) s1)
     by_number p q s1 sound1 hp hq None e = tt
     by_number p q s1 sound1 hp hq (Some z) e = record { sound = sound1; later = later_refl s1.memory; is = remains o t promoted p q z hp hq e }
 
-    gives : (v w : source-value.Value) (s1 : State) → Sound x.program s1 → IsOf s1.memory (Integer t) v → IsRightValue o t w → Keeps x.program s1.memory (Of (Integer t)) (given (arithmetic o t v w) s1)
+    gives : (v w : source-value.Value) (s1 : State) → Sound x.program x.begun s1 → IsOf s1.memory (Integer t) v → IsRightValue o t w → Keeps x.program x.begun s1.memory (Of (Integer t)) (given (arithmetic o t v w) s1)
     gives (source.Number p) (source.Number q) s1 sound1 hp hq = by_number p q s1 sound1 hp hq (calculated o t p q) refl
     gives (source.Number p) source.Null s1 sound1 hp hq = absurd hq
     gives (source.Number p) (source.Pointer n k) s1 sound1 hp hq = absurd hq
@@ -227,7 +227,7 @@ are_later memory after later (t ∷ types) (v ∷ vs) are = (of_later memory aft
 first_typed : (x : Setting) (calls : Calls) (t : ValueType) (types : List ValueType) (e : RvalueTree) (rest : ArgumentTrees) → is_of (kind_of x.program x.tree e) t ≡ true → Typed x calls e → TypedAll x calls types rest → TypedAll x calls (t ∷ types) (first e rest)
 first_typed x calls t types e rest fits typed_e typed_rest s sound = by (evaluate calls (depth_in x) e s) (typed_e s sound)
   where
-    behind : (v : source-value.Value) (s1 : State) → Gave x.program s.memory (kind_of x.program x.tree e) v s1 → (r : Listed) → KeepsList x.program s1.memory types r → KeepsList x.program s.memory (t ∷ types) (fronted v r)
+    behind : (v : source-value.Value) (s1 : State) → Gave x.program x.begun s.memory (kind_of x.program x.tree e) v s1 → (r : Listed) → KeepsList x.program x.begun s1.memory types r → KeepsList x.program x.begun s.memory (t ∷ types) (fronted v r)
     behind v s1 gave (Lists vs s2) h = record {
       sound = h.sound;
       later = later_trans s.memory s1.memory s2.memory gave.later h.later;
@@ -235,7 +235,7 @@ first_typed x calls t types e rest fits typed_e typed_rest s sound = by (evaluat
     }
     behind v s1 gave (NoList c s2) h = tt
 
-    by : (r : Evaluated) → Keeps x.program s.memory (kind_of x.program x.tree e) r → KeepsList x.program s.memory (t ∷ types) (listed r (λ v s1. fronted v (evaluate_all calls (depth_in x) rest s1)))
+    by : (r : Evaluated) → Keeps x.program x.begun s.memory (kind_of x.program x.tree e) r → KeepsList x.program x.begun s.memory (t ∷ types) (listed r (λ v s1. fronted v (evaluate_all calls (depth_in x) rest s1)))
     by (Gives v s1) gave = behind v s1 gave (evaluate_all calls (depth_in x) rest s1) (typed_rest s1 gave.sound)
     by (Leaves s1) gave = tt
     by (Ends c s1) gave = tt
@@ -243,22 +243,22 @@ first_typed x calls t types e rest fits typed_e typed_rest s sound = by (evaluat
 -- what is called keeps what arguments kept
 call_typed : (x : Setting) (calls : Calls) (c : Callee) (types : List ValueType) (all : ArgumentTrees) → kind_of x.program x.tree (Call c all) ≡ Of (given_by (results_of x.program.functions) c) → CallKeeps x calls c types → TypedAll x calls types all → Typed x calls (Call c all)
 call_typed x calls c types all kind keeps typed_all s sound =
-    subst (λ k. Keeps x.program s.memory k (evaluate calls (depth_in x) (Call c all) s)) (sym kind) (by (evaluate_all calls (depth_in x) all s) (typed_all s sound))
+    subst (λ k. Keeps x.program x.begun s.memory k (evaluate calls (depth_in x) (Call c all) s)) (sym kind) (by (evaluate_all calls (depth_in x) all s) (typed_all s sound))
   where
-    by : (r : Listed) → KeepsList x.program s.memory types r → Keeps x.program s.memory (Of (given_by (results_of x.program.functions) c)) (on_list r (call calls c))
-    by (Lists vs s1) h = keeps_before x.program s.memory s1.memory (Of (given_by (results_of x.program.functions) c)) (call calls c vs s1) h.later (keeps vs s1 h.sound h.are)
+    by : (r : Listed) → KeepsList x.program x.begun s.memory types r → Keeps x.program x.begun s.memory (Of (given_by (results_of x.program.functions) c)) (on_list r (call calls c))
+    by (Lists vs s1) h = keeps_before x.program x.begun s.memory s1.memory (Of (given_by (results_of x.program.functions) c)) (call calls c vs s1) h.later (keeps vs s1 h.sound h.are)
     by (NoList e s1) h = tt
 
 -- bytes are numbers, and so is the end of the input
 byte_keeps : (x : Setting) (calls : Calls) → CallKeeps x calls callee.Getchar []
 byte_keeps x calls vs s sound are = by s.input refl
   where
-    by : (input : List ℕ) → s.input ≡ input → Keeps x.program s.memory (Of (Integer Int)) (next_byte input s)
+    by : (input : List ℕ) → s.input ≡ input → Keeps x.program x.begun s.memory (Of (Integer Int)) (next_byte input s)
     by [] e = record { sound = sound; later = later_refl s.memory; is = refl }
     by (byte ∷ input) e =
         let bytes : AreBytes (byte ∷ input) = subst AreBytes e sound.bytes in
         let lt = bytes.0 in
-        record { sound = record { typed = sound.typed; differ = sound.differ; declared = sound.declared; bytes = bytes.1 }; later = later_refl s.memory; is = small byte lt }
+        record { sound = record { typed = sound.typed; differ = sound.differ; declared = sound.declared; bytes = bytes.1; since = sound.since }; later = later_refl s.memory; is = small byte lt }
       where
         small : (n : ℕ) → n < 256 → holds (integer Int) (pos n) ≡ true
         small n lt = grind (arith, nat_tests, lt)
@@ -266,7 +266,7 @@ byte_keeps x calls vs s sound are = by s.input refl
 put_keeps : (x : Setting) (calls : Calls) → CallKeeps x calls callee.Putchar (Integer Int ∷ [])
 put_keeps x calls [] s sound are = absurd are
 put_keeps x calls (source.Number z ∷ []) s sound are =
-    record { sound = record { typed = sound.typed; differ = sound.differ; declared = sound.declared; bytes = sound.bytes }; later = later_refl s.memory; is = char_in z }
+    record { sound = record { typed = sound.typed; differ = sound.differ; declared = sound.declared; bytes = sound.bytes; since = sound.since }; later = later_refl s.memory; is = char_in z }
   where
     char_in : (z : ℤ) → holds (integer Int) (converted char_type z) ≡ true
     char_in (pos n) = let lt : n % 256 < 256 = omega arith in grind (arith, nat_tests, lt)
@@ -278,7 +278,7 @@ put_keeps x calls (v ∷ w ∷ vs) s sound are = absurd are.1
 leave_typed : (x : Setting) (calls : Calls) (all : ArgumentTrees) → Typed x calls (Call callee.Exit all)
 leave_typed x calls all s sound = by (evaluate_all calls (depth_in x) all s)
   where
-    by : (r : Listed) → Keeps x.program s.memory (kind_of x.program x.tree (Call callee.Exit all)) (on_list r (call calls callee.Exit))
+    by : (r : Listed) → Keeps x.program x.begun s.memory (kind_of x.program x.tree (Call callee.Exit all)) (on_list r (call calls callee.Exit))
     by (Lists [] s1) = tt
     by (Lists (source.Number z ∷ []) s1) = tt
     by (Lists (source.Null ∷ []) s1) = tt
@@ -344,31 +344,31 @@ module _ (x : Setting) (calls : Calls) (low : ScalarsFirst x) (apart : ScalarsAp
     coded_typed (assigned {sc = sc} {v = v} {of = of} {e = e} y kind fits free c) = assign_of x calls sc (Named (object.Automatic v) of) e kind y.one fits (variable_typed x calls v of y.fits) (coded_typed c)
     coded_typed (stored {sc = sc} {lv = lv} {e = e} of kind fits whole p c) = assign_of x calls sc lv e kind of fits (place_typed p) (coded_typed c)
     coded_typed (updated {o = o} {ty = ty} {t = t} {v = v} {of = of} {e = e} promoted y kind right c) = λ s sound.
-        (subst (λ k. Keeps x.program s.memory k (evaluate calls (depth_in x) (Update o ty t (Named (object.Automatic v) of) e) s)) (sym kind)
+        (subst (λ k. Keeps x.program x.begun s.memory k (evaluate calls (depth_in x) (Update o ty t (Named (object.Automatic v) of) e) s)) (sym kind)
         (updated_keeps x calls (record { base = ty; stars = 0 }) (Named (object.Automatic v) of) y.one (variable_typed x calls v of y.fits) (change.Integer o ty t) (Integer ty) (IsRightValue o t) (λ memory a b. updated_value o ty t a b)
         (integer_changes x o ty t promoted (computes o t promoted) (remains o t promoted)) refl e (coded_typed c) right s sound))
     coded_typed (updated_there {o = o} {ty = ty} {t = t} {lv = lv} {e = e} promoted of kind right p c) = λ s sound.
-        (subst (λ k. Keeps x.program s.memory k (evaluate calls (depth_in x) (Update o ty t lv e) s)) (sym kind)
+        (subst (λ k. Keeps x.program x.begun s.memory k (evaluate calls (depth_in x) (Update o ty t lv e) s)) (sym kind)
         (updated_keeps x calls (record { base = ty; stars = 0 }) lv of (place_typed p) (change.Integer o ty t) (Integer ty) (IsRightValue o t) (λ memory a b. updated_value o ty t a b)
         (integer_changes x o ty t promoted (computes o t promoted) (remains o t promoted)) refl e (coded_typed c) right s sound))
     coded_typed (advanced {d = d} {of = of} {sc = sc} {v = v} {in_it = in_it} {e = e} y type_is kind number c) = λ s sound.
-        (subst (λ k. Keeps x.program s.memory k (evaluate calls (depth_in x) (UpdatePointer d of (Named (object.Automatic v) in_it) e) s)) (sym kind)
+        (subst (λ k. Keeps x.program x.begun s.memory k (evaluate calls (depth_in x) (UpdatePointer d of (Named (object.Automatic v) in_it) e) s)) (sym kind)
         (updated_keeps x calls sc (Named (object.Automatic v) in_it) y.one (variable_typed x calls v in_it y.fits) (change.Pointer d (object_size of)) (Pointer of) IsNumber (λ memory a b. moved_by memory d of a b) (pointer_changes x d of small) type_is e (coded_typed c) number s sound))
     coded_typed (advanced_there {d = d} {of = of} {sc = sc} {lv = lv} {e = e} one_of type_is word kind number p c) = λ s sound.
-        (subst (λ k. Keeps x.program s.memory k (evaluate calls (depth_in x) (UpdatePointer d of lv e) s)) (sym kind)
+        (subst (λ k. Keeps x.program x.begun s.memory k (evaluate calls (depth_in x) (UpdatePointer d of lv e) s)) (sym kind)
         (updated_keeps x calls sc lv one_of (place_typed p) (change.Pointer d (object_size of)) (Pointer of) IsNumber (λ memory a b. moved_by memory d of a b) (pointer_changes x d of small) type_is e (coded_typed c) number s sound))
     coded_typed (stepped {d = d} {g = g} {ty = ty} {t = t} {v = v} {of = of} promoted y kind) = λ s sound.
-        (subst (λ k. Keeps x.program s.memory k (evaluate calls (depth_in x) (Step d g ty t (Named (object.Automatic v) of)) s)) (sym kind)
+        (subst (λ k. Keeps x.program x.begun s.memory k (evaluate calls (depth_in x) (Step d g ty t (Named (object.Automatic v) of)) s)) (sym kind)
         (stepped_keeps x calls (record { base = ty; stars = 0 }) (Named (object.Automatic v) of) y.one (variable_typed x calls v of y.fits) (change.Integer (steps_by d) ty t) (Integer ty) (IsRightValue (steps_by d) t) (λ memory a b. updated_value (operator_of d) ty t a b)
         (step_changes x d ty t promoted) refl g (one_right d t promoted) s sound))
     coded_typed (stepped_there {d = d} {g = g} {ty = ty} {t = t} {lv = lv} promoted of kind p) = λ s sound.
-        (subst (λ k. Keeps x.program s.memory k (evaluate calls (depth_in x) (Step d g ty t lv) s)) (sym kind)
+        (subst (λ k. Keeps x.program x.begun s.memory k (evaluate calls (depth_in x) (Step d g ty t lv) s)) (sym kind)
         (stepped_keeps x calls (record { base = ty; stars = 0 }) lv of (place_typed p) (change.Integer (steps_by d) ty t) (Integer ty) (IsRightValue (steps_by d) t) (λ memory a b. updated_value (operator_of d) ty t a b) (step_changes x d ty t promoted) refl g (one_right d t promoted) s sound))
     coded_typed (walked {d = d} {g = g} {of = of} {sc = sc} {v = v} {in_it = in_it} y type_is kind) = λ s sound.
-        (subst (λ k. Keeps x.program s.memory k (evaluate calls (depth_in x) (StepPointer d g of (Named (object.Automatic v) in_it)) s)) (sym kind)
+        (subst (λ k. Keeps x.program x.begun s.memory k (evaluate calls (depth_in x) (StepPointer d g of (Named (object.Automatic v) in_it)) s)) (sym kind)
         (stepped_keeps x calls sc (Named (object.Automatic v) in_it) y.one (variable_typed x calls v in_it y.fits) (change.Pointer d (object_size of)) (Pointer of) IsNumber (λ memory a b. moved_by memory d of a b) (pointer_changes x d of small) type_is g tt s sound))
     coded_typed (walked_there {d = d} {g = g} {of = of} {sc = sc} {lv = lv} one_of type_is word kind p) = λ s sound.
-        (subst (λ k. Keeps x.program s.memory k (evaluate calls (depth_in x) (StepPointer d g of lv) s)) (sym kind)
+        (subst (λ k. Keeps x.program x.begun s.memory k (evaluate calls (depth_in x) (StepPointer d g of lv) s)) (sym kind)
         (stepped_keeps x calls sc lv one_of (place_typed p) (change.Pointer d (object_size of)) (Pointer of) IsNumber (λ memory a b. moved_by memory d of a b) (pointer_changes x d of small) type_is g tt s sound))
     coded_typed (called {f = f} {types = types} {all = all} kind whole keeps ok c) = call_typed x calls (callee.Function f) types all kind keeps (all_typed c)
     coded_typed (run {f = f} {types = types} {all = all} kind void nothing keeps ok c) = call_typed x calls (callee.Function f) types all kind keeps (all_typed c)

@@ -74,7 +74,7 @@ located_with (Leaves s) k = refl
 located_with (Ends e s) k = refl
 
 -- What is read where a pointer points: nothing is defined, or both read the same.
-pub load_cases : (x : Setting) (want : Option ℕ) (s : State) (l : Local) (w : World) (sc : Scalar) (p : source-value.Value) (given_word : Value) → Sound x.program s → Fits x want s l w → IsPointerTo s.memory sc p → SameValue x.program s.memory w.memory p given_word → (R : Evaluated → Type 0)
+pub load_cases : (x : Setting) (want : Option ℕ) (s : State) (l : Local) (w : World) (sc : Scalar) (p : source-value.Value) (given_word : Value) → Sound x.program x.begun s → Fits x want s l w → IsPointerTo s.memory sc p → SameValue x.program s.memory w.memory p given_word → (R : Evaluated → Type 0)
     → R (Ends ending.Undefined s) → ((v : source-value.Value) (u : Value) → read w.memory (rule.element_of sc) given_word ≡ Some u → SameValue x.program s.memory w.memory v u → IsOf s.memory (loaded sc) v → R (Gives v s)) → R (load p s)
 load_cases x want s l w sc (source.Number z) given_word sound f is same R undefined next = absurd is
 load_cases x want s l w sc source.Null given_word sound f is same R undefined next = undefined
@@ -187,7 +187,7 @@ module _ (x : Setting) (calls : Calls) (low : ScalarsFirst x) (sc : Scalar) (lv 
     abbrev last_of : Made
     last_of = renewed_memory (names_in x) c (place_laid (names_in x) lv t) moved_of by g
 
-    renews : (p vo vb : source-value.Value) (s : State) (l : Local) (w : World) → size_in x ≤ t → (moved_of ≡ true → next_of t + 1 < by.next) → next_of t < by.next → AimsPlace x g lv t → Sound x.program s → Fits x None s l w → IsPointerTo s.memory sc p
+    renews : (p vo vb : source-value.Value) (s : State) (l : Local) (w : World) → size_in x ≤ t → (moved_of ≡ true → next_of t + 1 < by.next) → next_of t < by.next → AimsPlace x g lv t → Sound x.program x.begun s → Fits x None s l w → IsPointerTo s.memory sc p
         → SameValue x.program s.memory w.memory p (pointed_in x l w held_of) → IsOf s.memory target_type vo → HasBy vb → SameValue x.program s.memory w.memory vo (l.names (next_of t)) → SameValue x.program s.memory w.memory vb (value x.unit.statics l.names by.value)
         → (r : Option source-value.Value) → next s.memory vo vb ≡ r → Result x g (Name own_of) t (λ y. false) last_of.ops last_of.end l w (store_if r p s)
     renews p vo vb s l w size later_held later aims sound f is pointer ho hb same_o same_b None e =
@@ -230,7 +230,7 @@ module _ (x : Setting) (calls : Calls) (low : ScalarsFirst x) (sc : Scalar) (lv 
             put_elsewhere q.names (target g own_of) (next_of t + 1) u (target_apart x g own_of (next_of t + 1) own_ne (spare_want x g lv t (next_of t + 1) aims (omega (arith, le)))) ∙ kept (next_of t + 1) lt temp_ne
 
   -- the value that is there is loaded
-  loaded_then : (t : ℕ) (g : Goal) (a : Operand) (f : ℕ → Bool) (m : Made) (p : source-value.Value) (s : State) (l : Local) (w : World) → size_in x ≤ t → Sound x.program s → Fits x None s l w → IsPointerTo s.memory sc p → SameValue x.program s.memory w.memory p (pointed_in x l w (place_in x lv t))
+  loaded_then : (t : ℕ) (g : Goal) (a : Operand) (f : ℕ → Bool) (m : Made) (p : source-value.Value) (s : State) (l : Local) (w : World) → size_in x ≤ t → Sound x.program x.begun s → Fits x None s l w → IsPointerTo s.memory sc p → SameValue x.program s.memory w.memory p (pointed_in x l w (place_in x lv t))
       → (onward : source-value.Value → State → Evaluated)
       → ((vo : source-value.Value) (l2 : Local) → Fits x None s l2 w → SameValue x.program s.memory w.memory vo (l2.names (next_of t)) → IsOf s.memory target_type vo → SameValue x.program s.memory w.memory p (pointed_in x l2 w (place_in x lv t)) → Result x g a t f m.ops m.end l2 w (onward vo s))
       → Result x g a t f (unit.Load (next_of t) el (place_in x lv t) ∷ m.ops) m.end l w (with (load p s) onward)
@@ -250,15 +250,15 @@ module _ (x : Setting) (calls : Calls) (low : ScalarsFirst x) (sc : Scalar) (lv 
       (subst (SameValue x.program s.memory w.memory p) (sym place) pointer))))
 
   -- a place is found, and what follows works with what is there
-  placed_then : (t : ℕ) (g : Goal) (a : Operand) (f f2 : ℕ → Bool) (m : Made) (s : State) (l : Local) (w : World) (k : source-value.Value → source-value.Value → State → Evaluated) → size_in x ≤ t → Stands x.graph x.top (placing x lv t m).inner → Sound x.program s → Fits x None s l w
+  placed_then : (t : ℕ) (g : Goal) (a : Operand) (f f2 : ℕ → Bool) (m : Made) (s : State) (l : Local) (w : World) (k : source-value.Value → source-value.Value → State → Evaluated) → size_in x ≤ t → Stands x.graph x.top (placing x lv t m).inner → Sound x.program x.begun s → Fits x None s l w
       → ((y : ℕ) → y < t → f y ≡ false → (within_written x lv y ≡ false) × (f2 y ≡ false))
-      → ((p : source-value.Value) (s1 : State) (l1 : Local) (w1 : World) → Sound x.program s1 → Fits x None s1 l1 w1 → IsPointerTo s1.memory sc p → SameValue x.program s1.memory w1.memory p (pointed_in x l1 w1 (place_in x lv t)) → Result x g a t f2 m.ops m.end l1 w1 (with (load p s1) (λ old u. k p old u)))
+      → ((p : source-value.Value) (s1 : State) (l1 : Local) (w1 : World) → Sound x.program x.begun s1 → Fits x None s1 l1 w1 → IsPointerTo s1.memory sc p → SameValue x.program s1.memory w1.memory p (pointed_in x l1 w1 (place_in x lv t)) → Result x g a t f2 m.ops m.end l1 w1 (with (load p s1) (λ old u. k p old u)))
       → Result x g a t f (placing x lv t m).ops (placing x lv t m).end l w (on_both (located (designate calls (depth_in x) lv s)) k)
   placed_then t g a f f2 m s l w k size st sound fits spares go_on =
       let code = placing x lv t m in
       subst (Result x g a t f code.ops code.end l w) (located_with (designate calls (depth_in x) lv s) k)
       (place_next x g m lv a t t f f2 code.ops code.end l w (designate calls (depth_in x) lv s) (λ p s1. with (load p s1) (λ old u. k p old u)) (omega arith) spares (does_lv t m s l w size st sound fits)
-      (λ p s1 e h. (let gave = subst (Keeps x.program s.memory (Of (PointerType (object_type lv)))) e (typed_lv s sound) in
+      (λ p s1 e h. (let gave = subst (Keeps x.program x.begun s.memory (Of (PointerType (object_type lv)))) e (typed_lv s sound) in
       go_on p s1 h.reached.local h.reached.world gave.sound h.reached.fits (subst (λ q. IsPointerTo s1.memory (element_of q) p) of gave.is) h.same)))
 
   stored_replaced : (r : Option source-value.Value) (p old : source-value.Value) (s : State) → store_if r p s ≡ replace_if r New p old s
@@ -267,7 +267,7 @@ module _ (x : Setting) (calls : Calls) (low : ScalarsFirst x) (sc : Scalar) (lv 
 
   -- `++` and `--` before what is in memory
   pub memory_stepped_new : (t : ℕ) (g : Goal) (s : State) (l : Local) (w : World) → size_in x ≤ t → AimsPlace x g lv t → HasBy one → Stands x.graph x.top (placing x lv t (loaded_first c (place_laid (names_in x) lv t) false (renewed_memory (names_in x) c (place_laid (names_in x) lv t) false (one_at (next_of t + 1)) g))).inner
-      → Sound x.program s → Fits x None s l w
+      → Sound x.program x.begun s → Fits x None s l w
       → Result x g (Name (own_of false t (one_at (next_of t + 1)) g)) t (within_written x lv) (placing x lv t (loaded_first c (place_laid (names_in x) lv t) false (renewed_memory (names_in x) c (place_laid (names_in x) lv t) false (one_at (next_of t + 1)) g))).ops
       (placing x lv t (loaded_first c (place_laid (names_in x) lv t) false (renewed_memory (names_in x) c (place_laid (names_in x) lv t) false (one_at (next_of t + 1)) g))).end l w
       (on_both (located (designate calls (depth_in x) lv s)) (λ p old u. replace_if (next u.memory old one) New p old u))
@@ -303,7 +303,7 @@ module _ (x : Setting) (calls : Calls) (low : ScalarsFirst x) (sc : Scalar) (lv 
     abbrev whole_of : ℕ → Goal → Made
     whole_of t g = placing x lv t (loaded_first c (place_laid (names_in x) lv t) (moved_by_e t) (right_of t g))
 
-    pub memory_updated : (t : ℕ) (g : Goal) (s : State) (l : Local) (w : World) → size_in x ≤ t → AimsPlace x g lv t → Stands x.graph x.top (whole_of t g).inner → Sound x.program s → Fits x None s l w
+    pub memory_updated : (t : ℕ) (g : Goal) (s : State) (l : Local) (w : World) → size_in x ≤ t → AimsPlace x g lv t → Stands x.graph x.top (whole_of t g).inner → Sound x.program x.begun s → Fits x None s l w
         → Result x g (Name (own_of (moved_by_e t) t (by_of t) g)) t (λ y. within_written x lv y || writes (names_in x) y e) (whole_of t g).ops (whole_of t g).end l w
         (on_both (located (designate calls (depth_in x) lv s)) (λ p old u. with (evaluate calls (depth_in x) e u) (λ b z. store_if (next z.memory old b) p z)))
     memory_updated t g s l w size aims st sound fits =
@@ -317,7 +317,7 @@ module _ (x : Setting) (calls : Calls) (low : ScalarsFirst x) (sc : Scalar) (lv 
         inner : Stands x.graph x.top (right_of t g).inner
         inner = subst (Stands x.graph x.top) (hold_inner (moved_by_e t) (next_of t + 1) (operand_at (place_in x lv t)) (right_of t g)) (grows_lv t (loaded_first c (place_laid (names_in x) lv t) (moved_by_e t) (right_of t g)) st)
 
-        evaluates : (p vo : source-value.Value) (s1 : State) (l2 : Local) (w1 : World) → Sound x.program s1 → Fits x None s1 l2 w1 → IsPointerTo s1.memory sc p → SameValue x.program s1.memory w1.memory p (pointed_in x l2 w1 (place_in x lv t)) → IsOf s1.memory target_type vo
+        evaluates : (p vo : source-value.Value) (s1 : State) (l2 : Local) (w1 : World) → Sound x.program x.begun s1 → Fits x None s1 l2 w1 → IsPointerTo s1.memory sc p → SameValue x.program s1.memory w1.memory p (pointed_in x l2 w1 (place_in x lv t)) → IsOf s1.memory target_type vo
             → SameValue x.program s1.memory w1.memory vo (l2.names (next_of t))
             → Result x g (Name (own_of (moved_by_e t) t (by_of t) g)) t (written_by x e) (hold_location (moved_by_e t) (next_of t + 1) (place_in x lv t) (right_of t g)).ops (hold_location (moved_by_e t) (next_of t + 1) (place_in x lv t) (right_of t g)).end l2 w1
             (with (evaluate calls (depth_in x) e s1) (λ b z. store_if (next z.memory vo b) p z))
@@ -335,7 +335,7 @@ module _ (x : Setting) (calls : Calls) (low : ScalarsFirst x) (sc : Scalar) (lv 
             (with_then x None g (renewed_of t g) a (value_in x e (from_of t)) t (from_of t) t (written_by x e) (written_by x e) (λ y. false) m.ops m.end h.local w1 (evaluate calls (depth_in x) e s1) (λ b z. store_if (next z.memory vo b) p z) (omega (arith, le, up)) (omega arith) (λ y lt nf. (refl, nf, refl))
             (does_e (from_of t) (To None (renewed_of t g)) s1 h.local w1 (omega (arith, size, le, up)) inner sound1 h.fits tt)
             (λ b s2 e2 h2.
-            (let gave = gave_by x.program s1.memory (kind_of x.program x.tree e) (evaluate calls (depth_in x) e s1) b s2 e2 (typed_e s1 sound1) in
+            (let gave = gave_by x.program x.begun s1.memory (kind_of x.program x.tree e) (evaluate calls (depth_in x) e s1) b s2 e2 (typed_e s1 sound1) in
             let next_le = (low_e (from_of t) (omega (arith, size, le, up))).next in
             let place = place_stays x None (λ y. writes (names_in x) y e) (place_in x lv t) (next_of t + 1) h.local h2.reached.local w1 h2.reached.world below (spares_e (next_of t + 1) (omega (arith, size, le))) refl (none_aside (place_in x lv t)) (λ y lt nw nf. h2.reached.kept y lt nw nf) h2.reached.later known in
             let old_is : h2.reached.local.names (next_of t) ≡ l2.names (next_of t) = h2.reached.kept (next_of t) (omega (arith, up)) refl (spares_e (next_of t) (omega (arith, size, le))) ∙ h.kept (next_of t) (omega arith) in
@@ -392,7 +392,7 @@ module _ (x : Setting) (calls : Calls) (low : ScalarsFirst x) (sc : Scalar) (lv 
     changes_of = changed c new_of free_of free_of (Name old_of) (Constant 1) stores_of
 
     -- the new value is stored, and the old one is used
-    leaves : (p vo : source-value.Value) (s : State) (l l2 : Local) (w : World) (u : Value) → size_in x ≤ t → AimsPlace x g lv t → HasBy one → Sound x.program s → Fits x None s l w → l2 ≡ set_name l old_of u → IsPointerTo s.memory sc p → SameValue x.program s.memory w.memory p (pointed_in x l w (place_in x lv t)) → IsOf s.memory target_type vo
+    leaves : (p vo : source-value.Value) (s : State) (l l2 : Local) (w : World) (u : Value) → size_in x ≤ t → AimsPlace x g lv t → HasBy one → Sound x.program x.begun s → Fits x None s l w → l2 ≡ set_name l old_of u → IsPointerTo s.memory sc p → SameValue x.program s.memory w.memory p (pointed_in x l w (place_in x lv t)) → IsOf s.memory target_type vo
         → SameValue x.program s.memory w.memory vo u → (r : Option source-value.Value) → next s.memory vo one ≡ r
         → Result x g (Name (next_of t)) t (λ y. false) changes_of.ops changes_of.end (set_name l old_of u) w (replace_if r Old p vo s)
     leaves p vo s l l2 w u size aims one_is sound f is_l2 is pointer ho same_o None e =
@@ -438,7 +438,7 @@ module _ (x : Setting) (calls : Calls) (low : ScalarsFirst x) (sc : Scalar) (lv 
         (goes (store_step x el (place_in x lv t) (Name new_of) m.ops m.end l3 w q.memory (known_value x.program s.memory w.memory new (l3.names new_of) same_new) (ap (λ z. write w.memory z (pointed_in x l3 w (place_in x lv t)) (l3.names new_of)) element_is ∙ q.writes)) stays)
         q.others_later g (λ y lt nw nf. (lt, refl, refl)) (Name (next_of t)) (Gives vo s1) (followed_done g (next_of t) t vo s1 l3 w1 q.fits same_after (of_word s.memory target_type vo ho)))))
 
-    pub memory_stepped_old : (s : State) (l : Local) (w : World) → size_in x ≤ t → AimsPlace x g lv t → HasBy one → Stands x.graph x.top (placing x lv t (left_memory c (place_laid (names_in x) lv t) g)).inner → Sound x.program s → Fits x None s l w
+    pub memory_stepped_old : (s : State) (l : Local) (w : World) → size_in x ≤ t → AimsPlace x g lv t → HasBy one → Stands x.graph x.top (placing x lv t (left_memory c (place_laid (names_in x) lv t) g)).inner → Sound x.program x.begun s → Fits x None s l w
         → Result x g (Name (next_of t)) t (within_written x lv) (placing x lv t (left_memory c (place_laid (names_in x) lv t) g)).ops (placing x lv t (left_memory c (place_laid (names_in x) lv t) g)).end l w
         (on_both (located (designate calls (depth_in x) lv s)) (λ p old u. replace_if (next u.memory old one) Old p old u))
     memory_stepped_old s l w size aims one_is st sound fits =

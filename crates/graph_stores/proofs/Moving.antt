@@ -113,7 +113,7 @@ moved_to memory n y v h = by_object (slice_get memory n) refl h
     by_object (Some o) e i = by_phase o e (not (is_over o.phase)) refl (ap (λ b. if b then None else in_object n o y) (over_twice (is_over o.phase)) ∙ i)
 
 -- The unit moves a pointer where the source does.
-pub pointer_moves : (x : Setting) (want : Option ℕ) (s : State) (l : Local) (w : World) (d : Direction) (of : ObjectType) (p : source-value.Value) (z : ℤ) (v : source-value.Value) (given : Value) → Sound x.program s → Fits x want s l w → AreSmall x.program
+pub pointer_moves : (x : Setting) (want : Option ℕ) (s : State) (l : Local) (w : World) (d : Direction) (of : ObjectType) (p : source-value.Value) (z : ℤ) (v : source-value.Value) (given : Value) → Sound x.program x.begun s → Fits x want s l w → AreSmall x.program
     → SameValue x.program s.memory w.memory p given → moved_by s.memory d of p (source.Number z) ≡ Some v
     → SameValue x.program s.memory w.memory v (operate (move_by d) given (Number (word_of (z *ℤ pos (object_size of)))))
 pointer_moves x want s l w d of (source.Number k) z v given sound f small same h = cc

@@ -85,7 +85,7 @@ module _ (x : Setting) (low : ScalarsFirst x) (small : AreSmall x.program) (next
   pointer_kept l m kept (Constant word) lt = refl
   pointer_kept l m kept (StaticAddress o k) lt = refl
 
-  module _ (g : Goal) (s : State) (l : Local) (w : World) (sound : Sound x.program s) (fits : Fits x None s l w) (same_p : SameValue x.program s.memory w.memory p (value x.unit.statics l.names pointer)) where
+  module _ (g : Goal) (s : State) (l : Local) (w : World) (sound : Sound x.program x.begun s) (fits : Fits x None s l w) (same_p : SameValue x.program s.memory w.memory p (value x.unit.statics l.names pointer)) where
     moves_number : (z : ℤ) → value x.unit.statics l.names index ≡ Number (word_of z) → (r : Option source-value.Value) → moved_by s.memory d of p (source.Number z) ≡ r
         → Result x g (Name own_by) t (λ y. false) (last_by g).ops (last_by g).end l w (with (given r s) next)
     moves_number z same_z None e = ended_result x g (Name own_by) t (λ y. false) (last_by g).ops (last_by g).end l w ending.Undefined s (stuck_now x None (last_by g).ops (last_by g).end s l w fits)

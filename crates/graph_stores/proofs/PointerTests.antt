@@ -113,7 +113,7 @@ pub data Told (live : ℕ → Bool) (o : declared.Comparison) (a b : Value) : Op
   nothing : Told live o a b None
   told : (c : Bool) → Tells live o c a b → Told live o a b (Some (source.Number (truth c)))
 
-module _ (x : Setting) (want : Option ℕ) (s : State) (l : Local) (w : World) (sound : Sound x.program s) (f : Fits x want s l w) where
+module _ (x : Setting) (want : Option ℕ) (s : State) (l : Local) (w : World) (sound : Sound x.program x.begun s) (f : Fits x want s l w) where
   same_told : (v u : source-value.Value) (a b : Value) → IsPointer v → IsPointer u → is_usable s.memory v ≡ true → is_usable s.memory u ≡ true → SameValue x.program s.memory w.memory v a → SameValue x.program s.memory w.memory u b
       → same (is_live w.memory) a b ≡ Number (word_of_test (is_same_pointer v u))
   same_told v u a b pv pu uv uu sv su = same_pointers x want s l w sound f v u a b pv pu uv uu sv su ∙ ap Number (sym (truth_word (is_same_pointer v u)))

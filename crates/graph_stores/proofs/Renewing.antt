@@ -129,7 +129,7 @@ renew_pointer x P temporary d bytes k t free old by m l w z size below p same_b 
 -- The unit's code for a change computes what the source's change gives: from an old value that stands below the free names, and another.
 pub record Changes (x : Setting) (c : declared-change.Change) (target : ValueType) (HasBy : source-value.Value → Type 0) (next : SourceMemory → source-value.Value → source-value.Value → Option source-value.Value) : Type 1 where
   pub renews : (P : Local → Type 0) (temporary : (l : Local) (j : ℕ) (v : Value) → size_in x ≤ j → P l → P (set_name l j v)) (k t free : ℕ) (old by : Operand) (m : Made) (s : State) (want : Option ℕ) (f l : Local) (w : World) (vo vb v : source-value.Value) → size_in x ≤ t → size_in x ≤ free → IsBelow free old
-      → Sound x.program s → Fits x want s f w → P l → IsOf s.memory target vo → HasBy vb → SameValue x.program s.memory w.memory vo (value x.unit.statics l.names old) → SameValue x.program s.memory w.memory vb (value x.unit.statics l.names by) → next s.memory vo vb ≡ Some v
+      → Sound x.program x.begun s → Fits x want s f w → P l → IsOf s.memory target vo → HasBy vb → SameValue x.program s.memory w.memory vo (value x.unit.statics l.names old) → SameValue x.program s.memory w.memory vb (value x.unit.statics l.names by) → next s.memory vo vb ≡ Some v
       → (given : Value) × Renewed x P k t free (changed c k t free old by m) m l w given × SameValue x.program s.memory w.memory v given
   pub typed : (memory : SourceMemory) (vo vb v : source-value.Value) → IsOf memory target vo → HasBy vb → next memory vo vb ≡ Some v → IsOf memory target v
 
@@ -195,7 +195,7 @@ pointer_changes x d of small = record {
     is_typed memory vo (source.Pointer n i) new ho hb gives = absurd hb
 
     go : (P : Local → Type 0) (temporary : (l : Local) (j : ℕ) (u : Value) → size_in x ≤ j → P l → P (set_name l j u)) (k t free : ℕ) (old by : Operand) (m : Made) (s : State) (want : Option ℕ) (f l : Local) (w : World) (vo vb new : source-value.Value) → size_in x ≤ free → IsBelow free old
-        → Sound x.program s → Fits x want s f w → P l → IsNumber vb → SameValue x.program s.memory w.memory vo (value x.unit.statics l.names old) → SameValue x.program s.memory w.memory vb (value x.unit.statics l.names by) → moved_by s.memory d of vo vb ≡ Some new
+        → Sound x.program x.begun s → Fits x want s f w → P l → IsNumber vb → SameValue x.program s.memory w.memory vo (value x.unit.statics l.names old) → SameValue x.program s.memory w.memory vb (value x.unit.statics l.names by) → moved_by s.memory d of vo vb ≡ Some new
         → (given : Value) × Renewed x P k t free (scale (object_size of) by free (before (Operate k (move_by d) old (scaled (object_size of) by free)) m)) m l w given × SameValue x.program s.memory w.memory new given
     go P temporary k t free old by m s want f l w vo (source.Number z) new size below sound fits p hb same_o same_b gives = (
       operate (move_by d) (value x.unit.statics l.names old) (Number (word_of (z *ℤ pos (object_size of)))),

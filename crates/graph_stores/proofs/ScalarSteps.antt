@@ -69,7 +69,7 @@ Older (Either left right inner) t = Unit {0}
 -- The scalar of a variable changes.
 module _ (x : Setting) (calls : Calls) (low : ScalarsFirst x) (apart : ScalarsApart x) (v k : ℕ) (named_by : scalar_of (names_in x) v ≡ Some k) (of : ObjectType) (c : declared-change.Change) (target : ValueType) (HasBy : source-value.Value → Type 0)
     (next : SourceMemory → source-value.Value → source-value.Value → Option source-value.Value) (changes : Changes x c target HasBy next)
-    (holds_target : (s : State) (n : ℕ) (o : ScalarObject x v s.memory n) (u : source-value.Value) → Sound x.program s → IsOf s.memory (loaded o.object.element) u → IsOf s.memory target u) where
+    (holds_target : (s : State) (n : ℕ) (o : ScalarObject x v s.memory n) (u : source-value.Value) → Sound x.program x.begun s → IsOf s.memory (loaded o.object.element) u → IsOf s.memory target u) where
   abbrev word_target : (memory : SourceMemory) (u : source-value.Value) → IsOf memory target u → HasWord u
   word_target memory u is = of_word memory target u is
 
@@ -77,7 +77,7 @@ module _ (x : Setting) (calls : Calls) (low : ScalarsFirst x) (apart : ScalarsAp
   below_scalar t size = let lt = low v k named_by in omega (arith, lt, size)
 
   -- the new value is used
-  new_done : (g : Goal) (t b free : ℕ) (old by : Operand) (n : ℕ) (s : State) (l : Local) (w : World) (vo vb : source-value.Value) → size_in x ≤ b → t ≤ b → b ≤ free → IsBelow free old → Sound x.program s → Fits x None s l w → ScalarObject x v s.memory n → IsOf s.memory target vo → HasBy vb
+  new_done : (g : Goal) (t b free : ℕ) (old by : Operand) (n : ℕ) (s : State) (l : Local) (w : World) (vo vb : source-value.Value) → size_in x ≤ b → t ≤ b → b ≤ free → IsBelow free old → Sound x.program x.begun s → Fits x None s l w → ScalarObject x v s.memory n → IsOf s.memory target vo → HasBy vb
       → SameValue x.program s.memory w.memory vo (value x.unit.statics l.names old) → SameValue x.program s.memory w.memory vb (value x.unit.statics l.names by)
       → Result x g (Name k) t (λ y. k == y) (changed c k free free old by (noted k g)).ops (changed c k free free old by (noted k g)).end l w (by_new (λ new q. q) (next s.memory vo vb) (source.Pointer n 0) s)
   new_done g t b free old by n s l w vo vb size le_b le below sound f o ho hb same_o same_b =
@@ -92,7 +92,7 @@ module _ (x : Setting) (calls : Calls) (low : ScalarsFirst x) (apart : ScalarsAp
       (leaf_done x g (Name k) t (λ y. false) new (record s { memory = after }) a.local w a.fits a.same word))) (next s.memory vo vb) refl
 
   -- `++x` and `--x`
-  pub stepped_new : (t : ℕ) (g : Goal) (s : State) (l : Local) (w : World) → size_in x ≤ t → Sound x.program s → Fits x None s l w → HasBy one
+  pub stepped_new : (t : ℕ) (g : Goal) (s : State) (l : Local) (w : World) → size_in x ≤ t → Sound x.program x.begun s → Fits x None s l w → HasBy one
       → Result x g (Name k) t (λ y. k == y) (renewed_scalar c k (Name k) (one_at t) g).ops (renewed_scalar c k (Name k) (one_at t) g).end l w
       (on_both (located (designate calls (depth_in x) (Named (object.Automatic v) of) s)) (λ p old u. replace_if (next u.memory old one) New p old u))
   stepped_new t g s l w size sound f one_is =
@@ -104,7 +104,7 @@ module _ (x : Setting) (calls : Calls) (low : ScalarsFirst x) (apart : ScalarsAp
       (new_done g t t t (Name k) (Constant 1) n s l w u one size (omega arith) (omega arith) (below_scalar t size) sound f o (holds_target s n o u sound is) one_is same refl))
 
   -- the old value is used, which stands in an operand
-  old_done : (g : Goal) (a : Operand) (m n2 : Made) (t b : ℕ) (other : Option ℕ) (before_it : Value) (n : ℕ) (s : State) (l : Local) (w : World) (vo : source-value.Value) (f : ℕ → Bool) → size_in x ≤ b → k < b → is_want other k ≡ false → Sound x.program s → Fits x None s (restored other before_it l) w
+  old_done : (g : Goal) (a : Operand) (m n2 : Made) (t b : ℕ) (other : Option ℕ) (before_it : Value) (n : ℕ) (s : State) (l : Local) (w : World) (vo : source-value.Value) (f : ℕ → Bool) → size_in x ≤ b → k < b → is_want other k ≡ false → Sound x.program x.begun s → Fits x None s (restored other before_it l) w
       → ScalarObject x v s.memory n → IsOf s.memory target vo → HasBy one → SameValue x.program s.memory w.memory vo (l.names k) → ((e : Evaluated) → Stuck x (changed c k b b (Name k) (Constant 1) (note k m)).ops (changed c k b b (Name k) (Constant 1) (note k m)).end l w ending.Undefined s
       → Result x g a t f (changed c k b b (Name k) (Constant 1) (note k m)).ops (changed c k b b (Name k) (Constant 1) (note k m)).end l w (Ends ending.Undefined s))
       → ((new : source-value.Value) (after : SourceMemory) → Anew x low apart v k named_by c target HasBy next changes b b b (Name k) (Constant 1) m other s l w new after
@@ -121,7 +121,7 @@ module _ (x : Setting) (calls : Calls) (low : ScalarsFirst x) (apart : ScalarsAp
   left_of t b m = changed c k b b (Name k) (Constant 1) (note k m)
 
   -- the old value is kept in a name of its own, and used from there
-  kept_old : (t : ℕ) (g : Goal) (n : ℕ) (s : State) (l : Local) (w : World) (vo : source-value.Value) → size_in x ≤ t → Sound x.program s → Fits x None s l w → ScalarObject x v s.memory n → IsOf s.memory target vo → HasBy one → SameValue x.program s.memory w.memory vo (l.names k)
+  kept_old : (t : ℕ) (g : Goal) (n : ℕ) (s : State) (l : Local) (w : World) (vo : source-value.Value) → size_in x ≤ t → Sound x.program x.begun s → Fits x None s l w → ScalarObject x v s.memory n → IsOf s.memory target vo → HasBy one → SameValue x.program s.memory w.memory vo (l.names k)
       → Result x g (Name t) t (λ y. k == y) (Move t (Name k) ∷ (left_of t (t + 1) (leaf g (Name t))).ops) (left_of t (t + 1) (leaf g (Name t))).end l w (replace_if (next s.memory vo one) Old (source.Pointer n 0) vo s)
   kept_old t g n s l w vo size sound fits o ho one_is same =
       let m = leaf g (Name t) in
@@ -144,14 +144,14 @@ module _ (x : Setting) (calls : Calls) (low : ScalarsFirst x) (apart : ScalarsAp
       greater_other t k lt = grind (arith, nat_tests, lt)
 
   -- it is not used
-  unused_old : (t : ℕ) (m : Made) (n : ℕ) (s : State) (l : Local) (w : World) (vo : source-value.Value) → size_in x ≤ t → Sound x.program s → Fits x None s l w → ScalarObject x v s.memory n → IsOf s.memory target vo → HasBy one → SameValue x.program s.memory w.memory vo (l.names k)
+  unused_old : (t : ℕ) (m : Made) (n : ℕ) (s : State) (l : Local) (w : World) (vo : source-value.Value) → size_in x ≤ t → Sound x.program x.begun s → Fits x None s l w → ScalarObject x v s.memory n → IsOf s.memory target vo → HasBy one → SameValue x.program s.memory w.memory vo (l.names k)
       → Result x (Unused m) (Name t) t (λ y. k == y) (left_of t t m).ops (left_of t t m).end l w (replace_if (next s.memory vo one) Old (source.Pointer n 0) vo s)
   unused_old t m n s l w vo size sound fits o ho one_is same =
       old_done (Unused m) (Name t) m m t t None (Number 0) n s l w vo (λ y. k == y) size (below_scalar t size) refl sound fits o ho one_is same (λ e h. h)
       (λ new after a. record { local = a.local; world = w; leads = a.leads; fits = a.fits; kept = λ y lt nw nf. a.kept y lt nf; later = others_refl w.memory })
 
   -- it stands in a name that wants it, while the scalar changes
-  wanted_old : (t y : ℕ) (m : Made) (n : ℕ) (s : State) (l : Local) (w : World) (vo : source-value.Value) → y < t → y == k ≡ false → size_in x ≤ t → Sound x.program s → Fits x None s l w → ScalarObject x v s.memory n → IsOf s.memory target vo → HasBy one → SameValue x.program s.memory w.memory vo (l.names k)
+  wanted_old : (t y : ℕ) (m : Made) (n : ℕ) (s : State) (l : Local) (w : World) (vo : source-value.Value) → y < t → y == k ≡ false → size_in x ≤ t → Sound x.program x.begun s → Fits x None s l w → ScalarObject x v s.memory n → IsOf s.memory target vo → HasBy one → SameValue x.program s.memory w.memory vo (l.names k)
       → Result x (To (Some y) m) (Name t) t (λ i. k == i) (Move y (Name k) ∷ (left_of t t m).ops) (left_of t t m).end l w (replace_if (next s.memory vo one) Old (source.Pointer n 0) vo s)
   wanted_old t y m n s l w vo older ne size sound fits o ho one_is same =
       let code = left_of t t m in
@@ -173,7 +173,7 @@ module _ (x : Setting) (calls : Calls) (low : ScalarsFirst x) (apart : ScalarsAp
       turned : y == k ≡ false → k == y ≡ false
       turned h = grind (arith, nat_tests)
 
-  by_same : (t y : ℕ) (m : Made) (n : ℕ) (s : State) (l : Local) (w : World) (vo : source-value.Value) → y < t → size_in x ≤ t → Sound x.program s → Fits x None s l w → ScalarObject x v s.memory n → IsOf s.memory target vo → HasBy one → SameValue x.program s.memory w.memory vo (l.names k) → (b : Bool) → y == k ≡ b
+  by_same : (t y : ℕ) (m : Made) (n : ℕ) (s : State) (l : Local) (w : World) (vo : source-value.Value) → y < t → size_in x ≤ t → Sound x.program x.begun s → Fits x None s l w → ScalarObject x v s.memory n → IsOf s.memory target vo → HasBy one → SameValue x.program s.memory w.memory vo (l.names k) → (b : Bool) → y == k ≡ b
       → Result x (To (Some y) m) (Name t) t (λ i. k == i) (if b then before (Move t (Name k)) (left_of t (if b then t + 1 else t) (if b then before (Move k (Name t)) m else m)) else before (Move y (Name k)) (left_of t (if b then t + 1 else t) (if b then before (Move k (Name t)) m else m))).ops
       (if b then before (Move t (Name k)) (left_of t (if b then t + 1 else t) (if b then before (Move k (Name t)) m else m)) else before (Move y (Name k)) (left_of t (if b then t + 1 else t) (if b then before (Move k (Name t)) m else m))).end l w (replace_if (next s.memory vo one) Old (source.Pointer n 0) vo s)
   by_same t y m n s l w vo older size sound fits o ho one_is same true e =
@@ -182,7 +182,7 @@ module _ (x : Setting) (calls : Calls) (low : ScalarsFirst x) (apart : ScalarsAp
       (kept_old t (To (Some k) m) n s l w vo size sound fits o ho one_is same)
   by_same t y m n s l w vo older size sound fits o ho one_is same false e = wanted_old t y m n s l w vo older e size sound fits o ho one_is same
 
-  lefts : (g : Goal) (t : ℕ) (n : ℕ) (s : State) (l : Local) (w : World) (vo : source-value.Value) → size_in x ≤ t → Older g t → Sound x.program s → Fits x None s l w → ScalarObject x v s.memory n → IsOf s.memory target vo → HasBy one → SameValue x.program s.memory w.memory vo (l.names k)
+  lefts : (g : Goal) (t : ℕ) (n : ℕ) (s : State) (l : Local) (w : World) (vo : source-value.Value) → size_in x ≤ t → Older g t → Sound x.program x.begun s → Fits x None s l w → ScalarObject x v s.memory n → IsOf s.memory target vo → HasBy one → SameValue x.program s.memory w.memory vo (l.names k)
       → Result x g (Name t) t (λ y. k == y) (left_scalar c k t g).ops (left_scalar c k t g).end l w (replace_if (next s.memory vo one) Old (source.Pointer n 0) vo s)
   lefts (To None m) t n s l w vo size older sound fits o ho one_is same = kept_old t (To None m) n s l w vo size sound fits o ho one_is same
   lefts (To (Some y) m) t n s l w vo size older sound fits o ho one_is same = by_same t y m n s l w vo older size sound fits o ho one_is same (y == k) refl
@@ -190,7 +190,7 @@ module _ (x : Setting) (calls : Calls) (low : ScalarsFirst x) (apart : ScalarsAp
   lefts (Either one other inner) t n s l w vo size older sound fits o ho one_is same = kept_old t (Either one other inner) n s l w vo size sound fits o ho one_is same
 
   -- `x++` and `x--`
-  pub stepped_old : (t : ℕ) (g : Goal) (s : State) (l : Local) (w : World) → size_in x ≤ t → Older g t → Sound x.program s → Fits x None s l w → HasBy one
+  pub stepped_old : (t : ℕ) (g : Goal) (s : State) (l : Local) (w : World) → size_in x ≤ t → Older g t → Sound x.program x.begun s → Fits x None s l w → HasBy one
       → Result x g (Name t) t (λ y. k == y) (left_scalar c k t g).ops (left_scalar c k t g).end l w
       (on_both (located (designate calls (depth_in x) (Named (object.Automatic v) of) s)) (λ p old u. replace_if (next u.memory old one) Old p old u))
   stepped_old t g s l w size older sound f one_is =
@@ -222,7 +222,7 @@ module _ (x : Setting) (calls : Calls) (low : ScalarsFirst x) (apart : ScalarsAp
     abbrev whole_of : ℕ → Goal → Made
     whole_of t g = move_if moved_by_e t (Name k) (right_of t g)
 
-    pub updated_scalar : (t : ℕ) (g : Goal) (s : State) (l : Local) (w : World) → size_in x ≤ t → Stands x.graph x.top (whole_of t g).inner → Sound x.program s → Fits x None s l w
+    pub updated_scalar : (t : ℕ) (g : Goal) (s : State) (l : Local) (w : World) → size_in x ≤ t → Stands x.graph x.top (whole_of t g).inner → Sound x.program x.begun s → Fits x None s l w
         → Result x g (Name k) t (λ y. k == y || false || writes (names_in x) y e) (whole_of t g).ops (whole_of t g).end l w
         (on_both (located (designate calls (depth_in x) (Named (object.Automatic v) of) s)) (λ p old u. with (evaluate calls (depth_in x) e u) (λ b z. store_if (next z.memory old b) p z)))
     updated_scalar t g s l w size st sound f =
@@ -249,7 +249,7 @@ module _ (x : Setting) (calls : Calls) (low : ScalarsFirst x) (apart : ScalarsAp
             (with_then x None g (last_of t g) (Name k) (value_in x e (from_of t)) t (from_of t) t written (written_by x e) (λ y. k == y) m.ops m.end h.local w (evaluate calls (depth_in x) e s) (λ b z. store_if (next z.memory vo b) (source.Pointer n 0) z) up (omega arith)
             (λ y less nf. (let a = split y nf in (refl, a.0, a.1))) (does_e (from_of t) (To None (last_of t g)) s h.local w (omega (arith, size, up)) inner sound h.fits tt)
             (λ b s2 is2 h2.
-            (let gave = gave_by x.program s.memory (kind_of x.program x.tree e) (evaluate calls (depth_in x) e s) b s2 is2 (typed_e s sound) in
+            (let gave = gave_by x.program x.begun s.memory (kind_of x.program x.tree e) (evaluate calls (depth_in x) e s) b s2 is2 (typed_e s sound) in
             let old_same : value x.unit.statics h2.reached.local.names (old_of t) ≡ l.names k =
             held_stays x.unit.statics (λ y. writes (names_in x) y e) (Name k) moved_by_e t h.local h2.reached.local refl lt (spares_e t size) (λ y less nf. h2.reached.kept y less refl nf) ∙ h.value_is in
             let next_le = (low_e (from_of t) (omega (arith, size, up))).next in

@@ -50,7 +50,7 @@ usable_leads x want s l w n offset given f usable same = by (slice_get s.memory 
     by None e u = cc
     by (Some o) e u = record { object = o; is = e; alive = not_over o.phase u; leading = leads_to x want s l w n offset o given f e (not_over o.phase u) same }
 
-module _ (x : Setting) (want : Option ℕ) (s : State) (l : Local) (w : World) (sound : Sound x.program s) (f : Fits x want s l w) where
+module _ (x : Setting) (want : Option ℕ) (s : State) (l : Local) (w : World) (sound : Sound x.program x.begun s) (f : Fits x want s l w) where
   -- one object of the unit's is one object of the source's, and the other way round
   numbers_same : (n m i j : ℕ) (u v : Value) (a : Usable x s w n i u) (b : Usable x s w m j v) → a.leading.number ≡ b.leading.number → n ≡ m
   numbers_same n m i j u v a b e =

@@ -50,7 +50,7 @@ use Rattle.graph_stores.proofs.MemorySteps.{memory_stepped_new, memory_stepped_o
 
 -- the value of a scalar's object is of the type that its variable says
 pub scalar_target : (x : Setting) (v : ℕ) (of : ObjectType) (sc : Scalar) (target : ValueType) → ((a : AutomaticTree) → slice_get x.program.automatics v ≡ Some a → a.of ≡ of) → of ≡ of-object.Scalar sc → loaded sc ≡ target
-    → (s : State) (n : ℕ) (o : ScalarObject x v s.memory n) (u : source-value.Value) → Sound x.program s → IsOf s.memory (loaded o.object.element) u → IsOf s.memory target u
+    → (s : State) (n : ℕ) (o : ScalarObject x v s.memory n) (u : source-value.Value) → Sound x.program x.begun s → IsOf s.memory (loaded o.object.element) u → IsOf s.memory target u
 scalar_target x v of sc target fits one type_is s n o u sound is =
     let a = subst (λ q. IsDeclared x.program q o.object) o.owner (sound.declared n o.object o.is) in
     let element : o.object.element ≡ sc = a.2 ∙ ap element_of (fits a.0 a.1) ∙ ap element_of one in
@@ -71,7 +71,7 @@ aims_place x (Either first_way other inner) e lv t free aims = tt
 -- Updates and steps of the scalar of a variable.
 module _ (x : Setting) (calls : Calls) (low : ScalarsFirst x) (apart : ScalarsApart x) (v k : ℕ) (named_by : scalar_of (names_in x) v ≡ Some k) (of : ObjectType) (c : declared-change.Change) (target : ValueType) (HasBy : source-value.Value → Type 0)
     (next : SourceMemory → source-value.Value → source-value.Value → Option source-value.Value) (changes : Changes x c target HasBy next)
-    (holds_target : (s : State) (n : ℕ) (o : ScalarObject x v s.memory n) (u : source-value.Value) → Sound x.program s → IsOf s.memory (loaded o.object.element) u → IsOf s.memory target u) where
+    (holds_target : (s : State) (n : ℕ) (o : ScalarObject x v s.memory n) (u : source-value.Value) → Sound x.program x.begun s → IsOf s.memory (loaded o.object.element) u → IsOf s.memory target u) where
   abbrev variable_of_it : LvalueTree
   variable_of_it = Named (object.Automatic v) of
 
@@ -79,7 +79,7 @@ module _ (x : Setting) (calls : Calls) (low : ScalarsFirst x) (apart : ScalarsAp
   updated_by e t g o = updated (names_in x) o c (λ y. writes (names_in x) y e) (place_laid (names_in x) variable_of_it t) t (code_in x e) (laid (names_in x) e Anywhere) (code_place (names_in x) x.place x.top variable_of_it t) g
 
   pub scalar_updates : (narrow : Bool) (scaled : Laid → Bool) (e : RvalueTree) → Typed x calls e → Low x e → Spares x e → Does x calls e → ((memory : SourceMemory) (u : source-value.Value) → HasKind memory (kind_of x.program x.tree e) u → HasBy u)
-      → (t : ℕ) (g : Goal) (s : State) (l : Local) (w : World) → size_in x ≤ t → (o : Option ℕ) → o ≡ Some k → Stands x.graph x.top (updated_by e t g o).inner → Sound x.program s → Fits x None s l w
+      → (t : ℕ) (g : Goal) (s : State) (l : Local) (w : World) → size_in x ≤ t → (o : Option ℕ) → o ≡ Some k → Stands x.graph x.top (updated_by e t g o).inner → Sound x.program x.begun s → Fits x None s l w
       → Result x g (updated_laid (names_in x) Anywhere narrow (scaled (laid (names_in x) e Anywhere (begun_behind o t (λ y. writes (names_in x) y e) (place_laid (names_in x) variable_of_it t)))) o t (place_laid (names_in x) variable_of_it t)
       (laid (names_in x) e Anywhere (begun_behind o t (λ y. writes (names_in x) y e) (place_laid (names_in x) variable_of_it t)))).value t (λ y. is_that y o || false || writes (names_in x) y e) (updated_by e t g o).ops (updated_by e t g o).end l w
       (on_both (located (designate calls (depth_in x) variable_of_it s)) (λ p old u. with (evaluate calls (depth_in x) e u) (λ b z. store_if (next z.memory old b) p z)))
@@ -93,7 +93,7 @@ module _ (x : Setting) (calls : Calls) (low : ScalarsFirst x) (apart : ScalarsAp
   abbrev stepped_by : Given → ℕ → Goal → Option ℕ → Made
   stepped_by which t g o = stepped (names_in x) o c which (place_laid (names_in x) variable_of_it t) t (code_place (names_in x) x.place x.top variable_of_it t) g
 
-  by_given : (narrow : Bool) (which : Given) → HasBy one → (t : ℕ) (g : Goal) (s : State) (l : Local) (w : World) → size_in x ≤ t → Older g t → Sound x.program s → Fits x None s l w
+  by_given : (narrow : Bool) (which : Given) → HasBy one → (t : ℕ) (g : Goal) (s : State) (l : Local) (w : World) → size_in x ≤ t → Older g t → Sound x.program x.begun s → Fits x None s l w
       → Result x g (step_laid (names_in x) which Anywhere narrow (Some k) t (place_laid (names_in x) variable_of_it t)).value t (λ y. k == y) (stepped_by which t g (Some k)).ops (stepped_by which t g (Some k)).end l w
       (on_both (located (designate calls (depth_in x) variable_of_it s)) (λ p old u. replace_if (next u.memory old one) which p old u))
   by_given narrow New has t g s l w size older sound f = stepped_new x calls low apart v k named_by of c target HasBy next changes holds_target t g s l w size sound f has
@@ -103,7 +103,7 @@ module _ (x : Setting) (calls : Calls) (low : ScalarsFirst x) (apart : ScalarsAp
   spares_more : (g : Goal) (a : Operand) (t : ℕ) (f f2 : ℕ → Bool) (ops : List Instruction) (end : End) (l : Local) (w : World) (r : Evaluated) → ((y : ℕ) → f y ≡ false → f2 y ≡ false) → Result x g a t f2 ops end l w r → Result x g a t f ops end l w r
   spares_more g a t f f2 ops end l w r spares h = result_after x t t f f2 ops ops end end l l w w stays (λ y lt nf. (lt, spares y nf, refl)) (others_refl w.memory) g a r h
 
-  pub scalar_steps : (narrow : Bool) (which : Given) → HasBy one → (t : ℕ) (g : Goal) (s : State) (l : Local) (w : World) → size_in x ≤ t → Older g t → (o : Option ℕ) → o ≡ Some k → Sound x.program s → Fits x None s l w
+  pub scalar_steps : (narrow : Bool) (which : Given) → HasBy one → (t : ℕ) (g : Goal) (s : State) (l : Local) (w : World) → size_in x ≤ t → Older g t → (o : Option ℕ) → o ≡ Some k → Sound x.program x.begun s → Fits x None s l w
       → Result x g (step_laid (names_in x) which Anywhere narrow o t (place_laid (names_in x) variable_of_it t)).value t (λ y. is_that y o || false) (stepped_by which t g o).ops (stepped_by which t g o).end l w
       (on_both (located (designate calls (depth_in x) variable_of_it s)) (λ p old u. replace_if (next u.memory old one) which p old u))
   scalar_steps narrow which has t g s l w size older o is sound f =
@@ -120,7 +120,7 @@ module _ (x : Setting) (calls : Calls) (low : ScalarsFirst x) (sc : Scalar) (lv 
   abbrev stepped_at : Given → ℕ → Goal → Option ℕ → Made
   stepped_at which t g o = stepped (names_in x) o c which (place_laid (names_in x) lv t) t (code_place (names_in x) x.place x.top lv t) g
 
-  pub memory_steps : (which : Given) → HasBy one → (narrow : Bool) → takes_more c (Constant 1) ≡ narrow → (t : ℕ) (g : Goal) (s : State) (l : Local) (w : World) → size_in x ≤ t → AimsPlace x g lv t → Stands x.graph x.top (stepped_at which t g None).inner → Sound x.program s → Fits x None s l w
+  pub memory_steps : (which : Given) → HasBy one → (narrow : Bool) → takes_more c (Constant 1) ≡ narrow → (t : ℕ) (g : Goal) (s : State) (l : Local) (w : World) → size_in x ≤ t → AimsPlace x g lv t → Stands x.graph x.top (stepped_at which t g None).inner → Sound x.program x.begun s → Fits x None s l w
       → Result x g (step_laid (names_in x) which Anywhere narrow None t (place_laid (names_in x) lv t)).value t (within_written x lv) (stepped_at which t g None).ops (stepped_at which t g None).end l w
       (on_both (located (designate calls (depth_in x) lv s)) (λ p old u. replace_if (next u.memory old one) which p old u))
   memory_steps New has narrow more t g s l w size aims st sound f =

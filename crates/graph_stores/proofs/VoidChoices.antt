@@ -58,7 +58,7 @@ module _ (x : Setting) (calls : Calls) (low : ScalarsFirst x) (c a b : RvalueTre
   abbrev all_written : ℕ → Bool
   all_written y = writes (names_in x) y c || writes (names_in x) y a || writes (names_in x) y b
 
-  module _ (t : ℕ) (g : Goal) (s : State) (l : Local) (w : World) (size : size_in x ≤ t) (st : Stands x.graph x.top (test_in t g).inner) (sound : Sound x.program s) (fits : Fits x None s l w) where
+  module _ (t : ℕ) (g : Goal) (s : State) (l : Local) (w : World) (size : size_in x ≤ t) (st : Stands x.graph x.top (test_in t g).inner) (sound : Sound x.program x.begun s) (fits : Fits x None s l w) where
     above_a : t ≤ from_a t
     above_a = let top = tops_c t size in pick_between (names_in x) t (laid (names_in x) c UseTested t).top t (omega arith) top
 
@@ -78,7 +78,7 @@ module _ (x : Setting) (calls : Calls) (low : ScalarsFirst x) (c a b : RvalueTre
     join_stands = grows_b (from_b t) (Unused (to_join g (closed x.place (join_in g)))) (closed_inner x.graph x.top x.place (other_in t g) other_stands)
 
     -- behind an arm
-    arm_ends : (k : Kind) (before_memory : Memory) (from : ℕ) (f : ℕ → Bool) (inner : List Block) (ops : List Instruction) (end : End) (l1 : Local) (w1 : World) (r : Evaluated) → t ≤ from → ((memory : Memory) (v : source-value.Value) → HasKind memory k v → ⊥) → Keeps x.program before_memory k r
+    arm_ends : (k : Kind) (before_memory : Memory) (from : ℕ) (f : ℕ → Bool) (inner : List Block) (ops : List Instruction) (end : End) (l1 : Local) (w1 : World) (r : Evaluated) → t ≤ from → ((memory : Memory) (v : source-value.Value) → HasKind memory k v → ⊥) → Keeps x.program x.begun before_memory k r
         → UnusedR x (to_join g inner) from f ops end l1 w1 r → Result x g (Constant 0) t f ops end l1 w1 r
     arm_ends k before_memory from f inner ops end l1 w1 (Gives v s1) le nothing keeps h = absurd (nothing s1.memory v keeps.is)
     arm_ends k before_memory from f inner ops end l1 w1 (Leaves s1) le nothing keeps h =
@@ -91,7 +91,7 @@ module _ (x : Setting) (calls : Calls) (low : ScalarsFirst x) (c a b : RvalueTre
 
     -- behind the condition an arm runs
     arm_decides : (e : RvalueTree) (from : ℕ) (inner : List Block) (m : Made) → Typed x calls e → ((memory : Memory) (v : source-value.Value) → HasKind memory (kind_of x.program x.tree e) v → ⊥) → t ≤ from → ((y : ℕ) → all_written y ≡ false → writes (names_in x) y e ≡ false)
-        → m ≡ code_in x e from (Unused (to_join g inner)) → slice_get x.graph.blocks (label_of x.top m) ≡ Some (block_of x.place m) → Stands x.graph x.top m.inner → Does x calls e → (s1 : State) → Left x.program s.memory s1
+        → m ≡ code_in x e from (Unused (to_join g inner)) → slice_get x.graph.blocks (label_of x.top m) ≡ Some (block_of x.place m) → Stands x.graph x.top m.inner → Does x calls e → (s1 : State) → Left x.program x.begun s.memory s1
         → Reached x None t (written_by x c) l w (to_label x (test_in t g).ops (test_in t g).end l w (label_of x.top m)) s1
         → Result x g (Constant 0) t all_written (test_in t g).ops (test_in t g).end l w (evaluate calls (depth_in x) e s1)
     arm_decides e from inner m typed_e nothing above spares is stands m_inner does_e s1 left h =
@@ -110,7 +110,7 @@ module _ (x : Setting) (calls : Calls) (low : ScalarsFirst x) (c a b : RvalueTre
     spares_b : (y : ℕ) → all_written y ≡ false → writes (names_in x) y b ≡ false
     spares_b y nf = (or_false (writes (names_in x) y c || writes (names_in x) y a) (writes (names_in x) y b) nf).1
 
-    decides : (r : Tested) → KeepsTest x.program s.memory r → EitherR x (label_of x.top (one_in t g)) (label_of x.top (other_in t g)) t (written_by x c) (test_in t g).ops (test_in t g).end l w r
+    decides : (r : Tested) → KeepsTest x.program x.begun s.memory r → EitherR x (label_of x.top (one_in t g)) (label_of x.top (other_in t g)) t (written_by x c) (test_in t g).ops (test_in t g).end l w r
         → Result x g (Constant 0) t all_written (test_in t g).ops (test_in t g).end l w (on_test r (evaluate calls (depth_in x) a) (evaluate calls (depth_in x) b))
     decides (Holds s1) keeps h =
         arm_decides a (from_a t) (closed x.place (other_in t g)) (one_in t g) typed_a none_a above_a spares_a refl (closed_block x.graph x.top x.place (one_in t g) one_stands) (closed_inner x.graph x.top x.place (one_in t g) one_stands) does_a s1 keeps h
@@ -136,5 +136,5 @@ module _ (x : Setting) (calls : Calls) (low : ScalarsFirst x) (c a b : RvalueTre
   pub void_choice_does : Does x calls (Conditional c a b)
   void_choice_does t g s l w size st sound fits aims =
       subst (λ nothing. Stands x.graph x.top (choice_by nothing t g).inner → Result x g (laid_by nothing t).value t all_written (choice_by nothing t g).ops (choice_by nothing t g).end l w (evaluate calls (depth_in x) (Conditional c a b) s)) (sym void)
-      (λ st'. decides t g s l w size st' sound fits (tested (evaluate calls (depth_in x) c s)) (keeps_tested x.program s.memory (kind_of x.program x.tree c) (evaluate calls (depth_in x) c s) (typed_c s sound))
+      (λ st'. decides t g s l w size st' sound fits (tested (evaluate calls (depth_in x) c s)) (keeps_tested x.program x.begun s.memory (kind_of x.program x.tree c) (evaluate calls (depth_in x) c s) (typed_c s sound))
       (does_c t (Either (label_of x.top (one_in t g)) (label_of x.top (other_in t g)) (closed x.place (one_in t g))) s l w size st' sound fits tt)) st

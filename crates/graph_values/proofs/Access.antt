@@ -65,7 +65,7 @@ pub index_is : (memory : SourceMemory) (sc : Scalar) (n offset : ℕ) (c : Point
 index_is memory sc n offset c = ap (λ e. offset / scalar_size e) c.element_is ∙ ap (λ k. k / scalar_size sc) c.at ∙ (multiple sc c.index).0
 
 -- The unit reads a value that corresponds to the one that the source reads.
-pub read_same : (x : Setting) (want : Option ℕ) (s : State) (l : Local) (w : World) (sc : Scalar) (n offset : ℕ) (given : Value) (v : source-value.Value) → Sound x.program s → Fits x want s l w → (c : PointsInto s.memory sc n offset) → c.object.phase ≡ Live
+pub read_same : (x : Setting) (want : Option ℕ) (s : State) (l : Local) (w : World) (sc : Scalar) (n offset : ℕ) (given : Value) (v : source-value.Value) → Sound x.program x.begun s → Fits x want s l w → (c : PointsInto s.memory sc n offset) → c.object.phase ≡ Live
     → slice_get c.object.values (index_at c.object offset) ≡ Some v → SamePointer x.program s.memory w.memory n offset given
     → (u : Value) × (read w.memory (element_of sc) given ≡ Some u) × SameValue x.program s.memory w.memory v u
 read_same x want s l w sc n offset given v sound f c live found pointer =

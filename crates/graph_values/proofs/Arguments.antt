@@ -35,18 +35,18 @@ AreOf memory [] (v ∷ vs) = ⊥
 AreOf memory (t ∷ ts) [] = ⊥
 AreOf memory (t ∷ ts) (v ∷ vs) = IsOf memory t v × AreOf memory ts vs
 
-pub record Listing (p : ProgramTree) (before : Memory) (types : List ValueType) (vs : List source-value.Value) (s : State) : Type 0 where
-  pub sound : Sound p s
+pub record Listing (p : ProgramTree) (began before : Memory) (types : List ValueType) (vs : List source-value.Value) (s : State) : Type 0 where
+  pub sound : Sound p began s
   pub later : Later before s.memory
   pub are : AreOf s.memory types vs
 
-abbrev pub KeepsList : ProgramTree → Memory → List ValueType → Listed → Type 0
-KeepsList p before types (Lists vs s) = Listing p before types vs s
-KeepsList p before types (NoList e s) = Unit {0}
+abbrev pub KeepsList : ProgramTree → (began before : Memory) → List ValueType → Listed → Type 0
+KeepsList p began before types (Lists vs s) = Listing p began before types vs s
+KeepsList p began before types (NoList e s) = Unit {0}
 
 -- Arguments come to values of these types.
 abbrev pub TypedAll : Setting → Calls → List ValueType → ArgumentTrees → Type 0
-TypedAll x calls types all = (s : State) → Sound x.program s → KeepsList x.program s.memory types (evaluate_all calls (depth_in x) all s)
+TypedAll x calls types all = (s : State) → Sound x.program x.begun s → KeepsList x.program x.begun s.memory types (evaluate_all calls (depth_in x) all s)
 
 abbrev pub passed_in : Setting → ArgumentTrees → ℕ → List Operand
 passed_in x all t = (passed_laid (names_in x) all t).values
@@ -68,7 +68,7 @@ passing x all t m = code_all (names_in x) x.place x.top all t m
 
 -- The code of arguments does what they mean.
 abbrev pub DoesAll : Setting → Calls → ArgumentTrees → Type 0
-DoesAll x calls all = (t : ℕ) (m : Made) (s : State) (l : Local) (w : World) → size_in x ≤ t → Stands x.graph x.top (passing x all t m).inner → Sound x.program s → Fits x None s l w
+DoesAll x calls all = (t : ℕ) (m : Made) (s : State) (l : Local) (w : World) → size_in x ≤ t → Stands x.graph x.top (passing x all t m).inner → Sound x.program x.begun s → Fits x None s l w
     → RowR x m all t (passing x all t m).ops (passing x all t m).end l w (evaluate_all calls (depth_in x) all s)
 
 pub none_does : (x : Setting) (calls : Calls) → DoesAll x calls none
@@ -93,7 +93,7 @@ module _ (x : Setting) (calls : Calls) (low : ScalarsFirst x) (e : RvalueTree) (
   abbrev rest_in : ℕ → Made → Made
   rest_in t m = move_if (moved_in t) (next_in t) (value_in x e t) (passing x rest (from_in t) m)
 
-  module _ (t : ℕ) (m : Made) (s : State) (l : Local) (w : World) (size : size_in x ≤ t) (st : Stands x.graph x.top (passing x (first e rest) t m).inner) (sound : Sound x.program s) (fits : Fits x None s l w) where
+  module _ (t : ℕ) (m : Made) (s : State) (l : Local) (w : World) (size : size_in x ≤ t) (st : Stands x.graph x.top (passing x (first e rest) t m).inner) (sound : Sound x.program x.begun s) (fits : Fits x None s l w) where
     abbrev whole : Made
     whole = code_in x e t (To None (rest_in t m))
 
@@ -128,11 +128,11 @@ module _ (x : Setting) (calls : Calls) (low : ScalarsFirst x) (e : RvalueTree) (
         → value x.unit.statics k.names (held (moved_in t) (value_in x e t) (next_in t)) ≡ value x.unit.statics l1.names (value_in x e t)
         → OthersLater w.memory w1.memory → Leads x.unit (at x whole.ops whole.end l w) w.seen (at x (passing x rest (from_in t) m).ops (passing x rest (from_in t) m).end k w1) w1.seen
         → ((y : ℕ) → y < t → writes (names_in x) y e ≡ false → k.names y ≡ l.names y)
-        → (r : Listed) → KeepsList x.program s1.memory types r → RowR x m rest (from_in t) (passing x rest (from_in t) m).ops (passing x rest (from_in t) m).end k w1 r → RowR x m (first e rest) t whole.ops whole.end l w (fronted v r)
+        → (r : Listed) → KeepsList x.program x.begun s1.memory types r → RowR x m rest (from_in t) (passing x rest (from_in t) m).ops (passing x rest (from_in t) m).end k w1 r → RowR x m (first e rest) t whole.ops whole.end l w (fronted v r)
     others_result v s1 k l1 w1 same held_is others leads kept (Lists vs s2) keeps h = others_row v s1 s2 k l1 w1 vs keeps.later same held_is others leads kept h
     others_result v s1 k l1 w1 same held_is others leads kept (NoList e2 s2) keeps h = record { configuration = h.configuration; seen = h.seen; leads = then_leads leads h.leads; ends = h.ends }
 
-    first_result : (r : Evaluated) → Keeps x.program s.memory (kind_of x.program x.tree e) r → ToR x None (rest_in t m) (value_in x e t) t (written_by x e) whole.ops whole.end l w r
+    first_result : (r : Evaluated) → Keeps x.program x.begun s.memory (kind_of x.program x.tree e) r → ToR x None (rest_in t m) (value_in x e t) t (written_by x e) whole.ops whole.end l w r
         → RowR x m (first e rest) t whole.ops whole.end l w (listed r (λ v s1. fronted v (evaluate_all calls (depth_in x) rest s1)))
     first_result (Gives v s1) gave h =
         let r = low_e t size in

@@ -63,7 +63,7 @@ BackR x target f all ops end l w (Ends e s) = Stuck x (unit.Call target (unit-ca
 
 -- Calls of a function do what they mean, for an activation that waits for them.
 abbrev pub CallsOk : Setting → Calls → ℕ → List ValueType → Type 0
-CallsOk x calls f types = (target : Option ℕ) (all : List Operand) (vs : List source-value.Value) (ops : List Instruction) (end : End) (s : State) (l : Local) (w : World) → Sound x.program s → Fits x None s l w → AreOf s.memory types vs
+CallsOk x calls f types = (target : Option ℕ) (all : List Operand) (vs : List source-value.Value) (ops : List Instruction) (end : End) (s : State) (l : Local) (w : World) → Sound x.program x.begun s → Fits x None s l w → AreOf s.memory types vs
     → SameValues x.program s.memory w.memory vs (map (value x.unit.statics l.names) all) → BackR x target f all ops end l w (calls f vs s)
 
 -- what waits changes nothing of what is kept

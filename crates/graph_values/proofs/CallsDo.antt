@@ -58,7 +58,7 @@ module _ (x : Setting) (calls : Calls) (low : ScalarsFirst x) (all : ArgumentTre
 
   -- what a call does behind its arguments
   abbrev Finishes : source-callee.Callee → Bool → Type 0
-  Finishes c void = (t : ℕ) (g : Goal) (vs : List source-value.Value) (s : State) (l : Local) (w : World) → size_in x ≤ t → Sound x.program s → Fits x None s l w → AreOf s.memory types vs
+  Finishes c void = (t : ℕ) (g : Goal) (vs : List source-value.Value) (s : State) (l : Local) (w : World) → size_in x ≤ t → Sound x.program x.begun s → Fits x None s l w → AreOf s.memory types vs
       → SameValues x.program s.memory w.memory vs (map (value x.unit.statics l.names) (passed_in x all t)) → Result x g (stands_by void t) t (λ y. false) (last_by c void t g).ops (last_by c void t g).end l w (call calls c vs s)
 
   call_does : (c : source-callee.Callee) (void : Bool) → is_void (given_by (names_in x).results c) ≡ void → Finishes c void → Does x calls (Call c all)

@@ -39,7 +39,7 @@ module _ (x : Setting) (calls : Calls) (low : ScalarsFirst x) (a b : RvalueTree)
   abbrev either_written : ℕ → Bool
   either_written y = writes (names_in x) y a || writes (names_in x) y b
 
-  module _ (t : ℕ) (g : Goal) (s : State) (l : Local) (w : World) (size : size_in x ≤ t) (sound : Sound x.program s) (fits : Fits x None s l w) where
+  module _ (t : ℕ) (g : Goal) (s : State) (l : Local) (w : World) (size : size_in x ≤ t) (sound : Sound x.program x.begun s) (fits : Fits x None s l w) where
     at_above : t ≤ at_in g t
     at_above = own_above (use_of g) t
 
@@ -50,7 +50,7 @@ module _ (x : Setting) (calls : Calls) (low : ScalarsFirst x) (a b : RvalueTree)
         pick_between (names_in x) (at_in g t) (laid (names_in x) a UseTested (at_in g t)).top t le (omega (arith, le, top))
 
     -- behind the left operand the right one decides
-    right_decides : (ops : List Instruction) (end : End) (s1 : State) → Stands x.graph x.top (closed x.place (right_in g t)) → Left x.program s.memory s1
+    right_decides : (ops : List Instruction) (end : End) (s1 : State) → Stands x.graph x.top (closed x.place (right_in g t)) → Left x.program x.begun s.memory s1
         → Reached x None (at_in g t) (written_by x a) l w (to_label x ops end l w (label_of x.top (right_in g t))) s1
         → EitherR x (forked x.place x.top g t).one (forked x.place x.top g t).other t either_written ops end l w (tested (evaluate calls (depth_in x) b s1))
     right_decides ops end s1 st left h =
@@ -67,14 +67,14 @@ module _ (x : Setting) (calls : Calls) (low : ScalarsFirst x) (a b : RvalueTree)
     left_decides : (ops : List Instruction) (end : End) (s1 : State) (label : ℕ) → Reached x None (at_in g t) (written_by x a) l w (to_label x ops end l w label) s1 → Reached x None t either_written l w (to_label x ops end l w label) s1
     left_decides ops end s1 label h = reached_weaker x None t (at_in g t) either_written (written_by x a) l w (to_label x ops end l w label) s1 at_above (λ y lt nf. (or_false (writes (names_in x) y a) (writes (names_in x) y b) nf).0) h
 
-    and_tests : (ops : List Instruction) (end : End) → Stands x.graph x.top (closed x.place (right_in g t)) → (r : Tested) → KeepsTest x.program s.memory r
+    and_tests : (ops : List Instruction) (end : End) → Stands x.graph x.top (closed x.place (right_in g t)) → (r : Tested) → KeepsTest x.program x.begun s.memory r
         → EitherR x (label_of x.top (right_in g t)) (forked x.place x.top g t).other (at_in g t) (written_by x a) ops end l w r
         → EitherR x (forked x.place x.top g t).one (forked x.place x.top g t).other t either_written ops end l w (both_tests r (λ s1. tested (evaluate calls (depth_in x) b s1)))
     and_tests ops end st (Holds s1) keeps h = right_decides ops end s1 st keeps h
     and_tests ops end st (Fails s1) keeps h = left_decides ops end s1 (forked x.place x.top g t).other h
     and_tests ops end st (NoTest e s1) keeps h = h
 
-    or_tests : (ops : List Instruction) (end : End) → Stands x.graph x.top (closed x.place (right_in g t)) → (r : Tested) → KeepsTest x.program s.memory r
+    or_tests : (ops : List Instruction) (end : End) → Stands x.graph x.top (closed x.place (right_in g t)) → (r : Tested) → KeepsTest x.program x.begun s.memory r
         → EitherR x (forked x.place x.top g t).one (label_of x.top (right_in g t)) (at_in g t) (written_by x a) ops end l w r
         → EitherR x (forked x.place x.top g t).one (forked x.place x.top g t).other t either_written ops end l w (either_test r (λ s1. tested (evaluate calls (depth_in x) b s1)))
     or_tests ops end st (Holds s1) keeps h = left_decides ops end s1 (forked x.place x.top g t).one h
@@ -93,7 +93,7 @@ module _ (x : Setting) (calls : Calls) (low : ScalarsFirst x) (a b : RvalueTree)
       let r = tested (evaluate calls (depth_in x) a s) in
       subst (Result x g (Name t) t either_written c.ops c.end l w) (both_as r (λ s1. tested (evaluate calls (depth_in x) b s1)))
       (fork_done x low t either_written size g c.ops c.end l w (both_tests r (λ s1. tested (evaluate calls (depth_in x) b s1))) fork_stands
-      (and_tests t g s l w size sound fits c.ops c.end stands r (keeps_tested x.program s.memory (kind_of x.program x.tree a) (evaluate calls (depth_in x) a s) (typed_a s sound))
+      (and_tests t g s l w size sound fits c.ops c.end stands r (keeps_tested x.program x.begun s.memory (kind_of x.program x.tree a) (evaluate calls (depth_in x) a s) (typed_a s sound))
       (does_a (at_in g t) goal s l w (omega (arith, size, le)) st sound fits tt)))
 
   pub or_does : Does x calls (Or a b)
@@ -108,5 +108,5 @@ module _ (x : Setting) (calls : Calls) (low : ScalarsFirst x) (a b : RvalueTree)
       let r = tested (evaluate calls (depth_in x) a s) in
       subst (Result x g (Name t) t either_written c.ops c.end l w) (either_as r (λ s1. tested (evaluate calls (depth_in x) b s1)))
       (fork_done x low t either_written size g c.ops c.end l w (either_test r (λ s1. tested (evaluate calls (depth_in x) b s1))) fork_stands
-      (or_tests t g s l w size sound fits c.ops c.end stands r (keeps_tested x.program s.memory (kind_of x.program x.tree a) (evaluate calls (depth_in x) a s) (typed_a s sound))
+      (or_tests t g s l w size sound fits c.ops c.end stands r (keeps_tested x.program x.begun s.memory (kind_of x.program x.tree a) (evaluate calls (depth_in x) a s) (typed_a s sound))
       (does_a (at_in g t) goal s l w (omega (arith, size, le)) st sound fits tt)))

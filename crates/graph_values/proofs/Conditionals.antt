@@ -73,7 +73,7 @@ module _ (x : Setting) (calls : Calls) (low : ScalarsFirst x) (c a b : RvalueTre
   abbrev all_written : ℕ → Bool
   all_written y = writes (names_in x) y c || writes (names_in x) y a || writes (names_in x) y b
 
-  module _ (t : ℕ) (g : Goal) (s : State) (l : Local) (w : World) (size : size_in x ≤ t) (st : Stands x.graph x.top (test_in t g).inner) (sound : Sound x.program s) (fits : Fits x None s l w) where
+  module _ (t : ℕ) (g : Goal) (s : State) (l : Local) (w : World) (size : size_in x ≤ t) (st : Stands x.graph x.top (test_in t g).inner) (sound : Sound x.program x.begun s) (fits : Fits x None s l w) where
     above_a : t + 1 ≤ from_a t
     above_a = let top = tops_c (t + 1) (omega (arith, size)) in pick_between (names_in x) (t + 1) (laid (names_in x) c UseTested (t + 1)).top (t + 1) (omega arith) top
 
@@ -94,7 +94,7 @@ module _ (x : Setting) (calls : Calls) (low : ScalarsFirst x) (c a b : RvalueTre
 
     -- behind the condition an arm decides
     arm_decides : (e : RvalueTree) (from : ℕ) (inner : List Block) (m : Made) → Typed x calls e → t + 1 ≤ from → ((y : ℕ) → all_written y ≡ false → writes (names_in x) y e ≡ false) → m ≡ code_in x e from (To (Some t) (ending (Jump (label_of x.top (join_in t g))) inner))
-        → slice_get x.graph.blocks (label_of x.top m) ≡ Some (block_of x.place m) → Stands x.graph x.top m.inner → Does x calls e → (s1 : State) → Left x.program s.memory s1
+        → slice_get x.graph.blocks (label_of x.top m) ≡ Some (block_of x.place m) → Stands x.graph x.top m.inner → Does x calls e → (s1 : State) → Left x.program x.begun s.memory s1
         → Reached x None (t + 1) (written_by x c) l w (to_label x (test_in t g).ops (test_in t g).end l w (label_of x.top m)) s1
         → Result x g (Name t) t all_written (test_in t g).ops (test_in t g).end l w (evaluate calls (depth_in x) e s1)
     arm_decides e from inner m typed_e above spares is stands m_inner does_e s1 left h =
@@ -106,7 +106,7 @@ module _ (x : Setting) (calls : Calls) (low : ScalarsFirst x) (c a b : RvalueTre
         (evaluate calls (depth_in x) e s1)
         (arm_ends x low g (kind_of x.program x.tree e) t t from (written_by x e) (written_by x e) inner (value_in x e from) k.ops k.end h.local h.world (evaluate calls (depth_in x) e s1) (omega (arith, above)) (omega arith) size (λ y lt nf. nf)
         (closed_block x.graph x.top x.place (join_in t g) join_stands)
-        (λ v s2 e2. (let gave = subst (Keeps x.program s1.memory (kind_of x.program x.tree e)) e2 (typed_e s1 left.sound) in kind_word s2.memory (kind_of x.program x.tree e) v gave.is))
+        (λ v s2 e2. (let gave = subst (Keeps x.program x.begun s1.memory (kind_of x.program x.tree e)) e2 (typed_e s1 left.sound) in kind_word s2.memory (kind_of x.program x.tree e) v gave.is))
         (does_e from goal s1 h.local h.world (omega (arith, size, above)) (subst (λ z. Stands x.graph x.top z.inner) is m_inner) left.sound h.fits (omega (arith, above), λ lt. absurd (omega (arith, lt, size)))))
 
     spares_a : (y : ℕ) → all_written y ≡ false → writes (names_in x) y a ≡ false
@@ -115,7 +115,7 @@ module _ (x : Setting) (calls : Calls) (low : ScalarsFirst x) (c a b : RvalueTre
     spares_b : (y : ℕ) → all_written y ≡ false → writes (names_in x) y b ≡ false
     spares_b y nf = (or_false (writes (names_in x) y c || writes (names_in x) y a) (writes (names_in x) y b) nf).1
 
-    decides : (r : Tested) → KeepsTest x.program s.memory r → EitherR x (label_of x.top (one_in t g)) (label_of x.top (other_in t g)) (t + 1) (written_by x c) (test_in t g).ops (test_in t g).end l w r
+    decides : (r : Tested) → KeepsTest x.program x.begun s.memory r → EitherR x (label_of x.top (one_in t g)) (label_of x.top (other_in t g)) (t + 1) (written_by x c) (test_in t g).ops (test_in t g).end l w r
         → Result x g (Name t) t all_written (test_in t g).ops (test_in t g).end l w (on_test r (evaluate calls (depth_in x) a) (evaluate calls (depth_in x) b))
     decides (Holds s1) keeps h =
         arm_decides a (from_a t) (closed x.place (other_in t g)) (one_in t g) typed_a above_a spares_a refl (closed_block x.graph x.top x.place (one_in t g) one_stands) (closed_inner x.graph x.top x.place (one_in t g) one_stands) does_a s1 keeps h
@@ -141,5 +141,5 @@ module _ (x : Setting) (calls : Calls) (low : ScalarsFirst x) (c a b : RvalueTre
   pub conditional_does : Does x calls (Conditional c a b)
   conditional_does t g s l w size st sound fits aims =
       subst (λ void. Stands x.graph x.top (choice_by void t g).inner → Result x g (laid_by void t).value t all_written (choice_by void t g).ops (choice_by void t g).end l w (evaluate calls (depth_in x) (Conditional c a b) s)) (sym whole)
-      (λ st'. decides t g s l w size st' sound fits (tested (evaluate calls (depth_in x) c s)) (keeps_tested x.program s.memory (kind_of x.program x.tree c) (evaluate calls (depth_in x) c s) (typed_c s sound))
+      (λ st'. decides t g s l w size st' sound fits (tested (evaluate calls (depth_in x) c s)) (keeps_tested x.program x.begun s.memory (kind_of x.program x.tree c) (evaluate calls (depth_in x) c s) (typed_c s sound))
       (does_c (t + 1) (Either (label_of x.top (one_in t g)) (label_of x.top (other_in t g)) (closed x.place (one_in t g))) s l w (omega (arith, size)) st' sound fits tt)) st

@@ -72,14 +72,14 @@ module _ (x : Setting) (calls : Calls) (low : ScalarsFirst x) (from ty : Integer
 
   -- a conversion that keeps the word
   module _ (keeps : keeps_bits from ty ≡ true) (t : ℕ) (f : ℕ → Bool) (ops : List Instruction) (end : End) (l : Local) (w : World) where
-    kept_to : (want : Option ℕ) (m : Made) (a : Operand) (before_memory : Memory) (r : Evaluated) → Keeps x.program before_memory (Of (Integer from)) r → ToR x want m a t f ops end l w r → ToR x want m a t f ops end l w (mapped r (convert ty))
+    kept_to : (want : Option ℕ) (m : Made) (a : Operand) (before_memory : Memory) (r : Evaluated) → Keeps x.program x.begun before_memory (Of (Integer from)) r → ToR x want m a t f ops end l w r → ToR x want m a t f ops end l w (mapped r (convert ty))
     kept_to want m a before_memory (Gives (source.Number z) s) k h = record { reached = h.reached; same = h.same ∙ ap Number (sym (kept_word from ty z keeps k.is)) }
     kept_to want m a before_memory (Gives source.Null s) k h = absurd k.is
     kept_to want m a before_memory (Gives (source.Pointer n o) s) k h = absurd k.is
     kept_to want m a before_memory (Leaves s) k h = h
     kept_to want m a before_memory (Ends c s) k h = h
 
-    kept_unused : (m : Made) (before_memory : Memory) (r : Evaluated) → Keeps x.program before_memory (Of (Integer from)) r → UnusedR x m t f ops end l w r → UnusedR x m t f ops end l w (mapped r (convert ty))
+    kept_unused : (m : Made) (before_memory : Memory) (r : Evaluated) → Keeps x.program x.begun before_memory (Of (Integer from)) r → UnusedR x m t f ops end l w r → UnusedR x m t f ops end l w (mapped r (convert ty))
     kept_unused m before_memory (Gives (source.Number z) s) k h = h
     kept_unused m before_memory (Gives source.Null s) k h = absurd k.is
     kept_unused m before_memory (Gives (source.Pointer n o) s) k h = absurd k.is
@@ -93,13 +93,13 @@ module _ (x : Setting) (calls : Calls) (low : ScalarsFirst x) (from ty : Integer
   converts_number g a t f m s l w go_on source.Null is same = absurd is
   converts_number g a t f m s l w go_on (source.Pointer n o) is same = absurd is
 
-  kind_here : (s s1 : State) (v : source-value.Value) → Sound x.program s → evaluate calls (depth_in x) e s ≡ Gives v s1 → HasKind s1.memory (Of (Integer from)) v
-  kind_here s s1 v sound is = let gave = subst (Keeps x.program s.memory (kind_of x.program x.tree e)) is (typed_e s sound) in subst (λ k. HasKind s1.memory k v) kind_e gave.is
+  kind_here : (s s1 : State) (v : source-value.Value) → Sound x.program x.begun s → evaluate calls (depth_in x) e s ≡ Gives v s1 → HasKind s1.memory (Of (Integer from)) v
+  kind_here s s1 v sound is = let gave = subst (Keeps x.program x.begun s.memory (kind_of x.program x.tree e)) is (typed_e s sound) in subst (λ k. HasKind s1.memory k v) kind_e gave.is
 
-  keeps_here : (s : State) → Sound x.program s → Keeps x.program s.memory (Of (Integer from)) (evaluate calls (depth_in x) e s)
-  keeps_here s sound = subst (λ k. Keeps x.program s.memory k (evaluate calls (depth_in x) e s)) kind_e (typed_e s sound)
+  keeps_here : (s : State) → Sound x.program x.begun s → Keeps x.program x.begun s.memory (Of (Integer from)) (evaluate calls (depth_in x) e s)
+  keeps_here s sound = subst (λ k. Keeps x.program x.begun s.memory k (evaluate calls (depth_in x) e s)) kind_e (typed_e s sound)
 
-  kept_does : keeps_bits from ty ≡ true → (t : ℕ) (g : Goal) (s : State) (l : Local) (w : World) → size_in x ≤ t → Stands x.graph x.top (code_in x e t (valued g (value_in x e t))).inner → Sound x.program s → Fits x None s l w → Aims x g e t
+  kept_does : keeps_bits from ty ≡ true → (t : ℕ) (g : Goal) (s : State) (l : Local) (w : World) → size_in x ≤ t → Stands x.graph x.top (code_in x e t (valued g (value_in x e t))).inner → Sound x.program x.begun s → Fits x None s l w → Aims x g e t
       → Result x g (value_in x e t) t (written_by x e) (code_in x e t (valued g (value_in x e t))).ops (code_in x e t (valued g (value_in x e t))).end l w (mapped (evaluate calls (depth_in x) e s) (convert ty))
   kept_does keeps t (To want m) s l w size st sound fits aims =
       let c = code_in x e t (To want m) in
@@ -147,7 +147,7 @@ module _ (x : Setting) (calls : Calls) (low : ScalarsFirst x) (from ty : Integer
       let le = pick_between (names_in x) t (laid (names_in x) e Anywhere t).next t (omega arith) (low_e t size).next in
       left_operated x g own t (written_by x e) (λ k. Truncate k (truncation_to ty) (value_in x e t)) (truncate (truncation_to ty) (value x.unit.statics l.names (value_in x e t))) (Name own) s l w low le (omega (arith, le, size)) fits (λ k ops end. refl)
 
-  changed_does : is_narrow ty ≡ true → (t : ℕ) (g : Goal) (s : State) (l : Local) (w : World) → size_in x ≤ t → (b : Bool) → is_kept_constant ty (value_in x e t) ≡ b → Stands x.graph x.top (code_in x e t (To None (last_by t g b))).inner → Sound x.program s → Fits x None s l w
+  changed_does : is_narrow ty ≡ true → (t : ℕ) (g : Goal) (s : State) (l : Local) (w : World) → size_in x ≤ t → (b : Bool) → is_kept_constant ty (value_in x e t) ≡ b → Stands x.graph x.top (code_in x e t (To None (last_by t g b))).inner → Sound x.program x.begun s → Fits x None s l w
       → Result x g (stands_by t b) t (written_by x e) (code_in x e t (To None (last_by t g b))).ops (code_in x e t (To None (last_by t g b))).end l w (mapped (evaluate calls (depth_in x) e s) (convert ty))
   changed_does narrow t g s l w size b is st sound fits =
       let m = last_by t g b in
@@ -175,7 +175,7 @@ module _ (x : Setting) (calls : Calls) (low : ScalarsFirst x) (from ty : Integer
   place_is t true = refl
   place_is t false = refl
 
-  by_bits : (t : ℕ) (g : Goal) (s : State) (l : Local) (w : World) → size_in x ≤ t → (b : Bool) → keeps_bits from ty ≡ b → Stands x.graph x.top (code_by t g b).inner → Sound x.program s → Fits x None s l w → Aims x g e t
+  by_bits : (t : ℕ) (g : Goal) (s : State) (l : Local) (w : World) → size_in x ≤ t → (b : Bool) → keeps_bits from ty ≡ b → Stands x.graph x.top (code_by t g b).inner → Sound x.program x.begun s → Fits x None s l w → Aims x g e t
       → Result x g (laid_by t b).value t (written_by x e) (code_by t g b).ops (code_by t g b).end l w (mapped (evaluate calls (depth_in x) e s) (convert ty))
   by_bits t g s l w size true is st sound fits aims = kept_does is t g s l w size st sound fits aims
   by_bits t g s l w size false is st sound fits aims =

@@ -32,12 +32,18 @@ IsDeclared p (Variable x depth) o = (a : AutomaticTree) × (slice_get p.automati
 abbrev pub AreDeclared : ProgramTree → SourceMemory → Type 0
 AreDeclared p memory = (n : ℕ) (o : SourceObject) → slice_get memory n ≡ Some o → IsDeclared p o.owner o
 
--- What a program's run keeps: values are of their types, owners differ, objects are of the types of their variables, and the input is bytes.
-pub record Sound (p : ProgramTree) (s : State) : Type 0 where
+-- A memory that went on from another, in which whatever began since then has ended.
+pub record Since (began memory : SourceMemory) : Type 0 where
+  pub later : Later began memory
+  pub ends : (n : ℕ) (o : SourceObject) → slice_get memory n ≡ Some o → o.phase ≢ Ended → n < length began
+
+-- What a program's run keeps: values are of their types, owners differ, objects are of the types of their variables, the input is bytes, and what began since there was a memory has ended.
+pub record Sound (p : ProgramTree) (began : SourceMemory) (s : State) : Type 0 where
   pub typed : AreTyped s.memory
   pub differ : OwnersDiffer s.memory
   pub declared : AreDeclared p s.memory
   pub bytes : AreBytes s.input
+  pub since : Since began s.memory
 
 -- a name is one that was just written and is not noted yet
 abbrev pub is_want : Option ℕ → ℕ → Bool
@@ -104,12 +110,18 @@ pub record StaticIs (others : Memory) (n : ℕ) (s : StaticObject) : Type 0 wher
 abbrev pub StaticsStand : UnitForm → Memory → Type 0
 StaticsStand u others = (n : ℕ) (s : StaticObject) → slice_get u.statics n ≡ Some s → StaticIs others n s
 
+-- no live object of a unit is deeper than a depth
+abbrev pub NoneDeeper : Memory → (depth : ℕ) → Type 0
+NoneDeeper others depth = (m : ℕ) (q : Object) (v d : ℕ) → slice_get others m ≡ Some q → q.live ≡ true → q.owner ≡ Automatic v d → d ≤ depth
+
 -- What a unit's run keeps of the state of a program's run, in an activation and those that wait, but perhaps for a name that was just written.
 pub record Fits (x : Setting) (want : Option ℕ) (s : State) (l : Local) (w : World) : Type 0 where
   pub own : Own x.program (names_in x) want s.memory w.memory (depth_in x) x.first l.names l.shadows
   pub outer : Outer x.program s.memory w.memory x.waiting
   pub placed : ArePlaced x.program s.memory w.memory
   pub differ : LiveDiffer w.memory
+  pub above : NoneDeeper w.memory (depth_in x)
+  pub later : OthersLater x.objects w.memory
   pub statics : StaticsStand x.unit w.memory
   pub input : w.input ≡ s.input
   pub events : Pairs (SameEvent x.program x.unit) s.events w.seen
@@ -117,7 +129,7 @@ pub record Fits (x : Setting) (want : Option ℕ) (s : State) (l : Local) (w : W
 -- what does not concern the activation's names and shadows stays
 pub fits_local : (x : Setting) (want other : Option ℕ) (s : State) (l m : Local) (w : World) → Fits x want s l w → Own x.program (names_in x) other s.memory w.memory (depth_in x) x.first m.names m.shadows → Fits x other s m w
 fits_local x want other s l m w f own =
-    record { own = own; outer = f.outer; placed = f.placed; differ = f.differ; statics = f.statics; input = f.input; events = f.events }
+    record { own = own; outer = f.outer; placed = f.placed; differ = f.differ; above = f.above; later = f.later; statics = f.statics; input = f.input; events = f.events }
 
 -- a name is written that is no scalar's, or the one that is excepted
 pub own_set : (p : ProgramTree) (n : Names) (want : Option ℕ) (memory : SourceMemory) (others : Memory) (depth first : ℕ) (names : ℕ → Value) (shadows : ℕ → Shadow) (j : ℕ) (w : Value) →

@@ -3,6 +3,7 @@ use Rattle.std.proofs.Common.{◌≡◌, ℕ, ◌+◌, ◌<◌, List, [], ◌∷
 use Rattle.std.specs.Prelude.{◌==◌, if◌then◌else◌, length}
 use Rattle.std.proofs.lemmas.Bool.Decides.{nat_tests}
 use Rattle.c_tree.specs.Programs.{TypedFunctionTree, ProgramTree}
+use Rattle.c_memory.specs.Memory.{Memory as SourceMemory}
 use Rattle.graph_core.specs.declared.value.Value.{Value}
 use Rattle.graph_core.specs.declared.value.Shadow.{Shadow}
 use Rattle.graph_core.specs.Graphs.{Instruction, End, Graph, UnitForm}
@@ -11,7 +12,8 @@ use Rattle.graph_core.specs.Runs.{Activation, Configuration, Event, Goes, Shows,
 use Rattle.graph_names.specs.Names.{Names, names_of}
 
 -- Where the code of an expression runs: the program and its unit, the function with its number and graph, the place, the activation's first object, the activations that wait, whether
--- temporaries are used again, and how many blocks the graph has.
+-- temporaries are used again, how many blocks the graph has, the memory of the program's run with which the place's code began, and that
+-- of the unit's with which the activation did.
 pub record Setting : Type 0 where
   pub program : ProgramTree
   pub unit : UnitForm
@@ -23,6 +25,8 @@ pub record Setting : Type 0 where
   pub waiting : List Activation
   pub again : Bool
   pub top : ℕ
+  pub begun : SourceMemory
+  pub objects : Memory
 
 abbrev pub names_in : Setting → Names
 names_in x = names_of x.program x.tree x.again

@@ -35,8 +35,8 @@ use Rattle.graph_values.proofs.Arguments.{KeepsList, Listing, Row, RowR, any_wri
 
 -- The values of arguments are given to what follows.
 pub list_then : (x : Setting) (types : List ValueType) (g : Goal) (m : Made) (all : ArgumentTrees) (a : Operand) (t : ℕ) (ops : List Instruction) (end : End) (l : Local) (w : World) (before_memory : Memory) (r : Listed) (next : List source-value.Value → State → Evaluated)
-    → KeepsList x.program before_memory types r → RowR x m all t ops end l w r
-    → ((vs : List source-value.Value) (s : State) → Listing x.program before_memory types vs s → (h : Row x m all t ops end l w vs s) → Result x g a t (λ y. false) m.ops m.end h.reached.local h.reached.world (next vs s))
+    → KeepsList x.program x.begun before_memory types r → RowR x m all t ops end l w r
+    → ((vs : List source-value.Value) (s : State) → Listing x.program x.begun before_memory types vs s → (h : Row x m all t ops end l w vs s) → Result x g a t (λ y. false) m.ops m.end h.reached.local h.reached.world (next vs s))
     → Result x g a t (any_written x all) ops end l w (on_list r next)
 list_then x types g m all a t ops end l w before_memory (Lists vs s) next keeps h go_on =
     result_after x t t (any_written x all) (λ y. false) ops m.ops end m.end l h.reached.local w h.reached.world h.reached.leads (λ y lt nf. (lt, refl, h.reached.kept y lt refl nf)) h.reached.later g a (next vs s) (go_on vs s keeps h)
@@ -97,7 +97,7 @@ pairs_more R (u ∷ xs) [] a b h k = absurd h
 pairs_more R (u ∷ xs) (y ∷ ys) a b h k = (h.0, pairs_more R xs ys a b h.1 k)
 
 -- The next byte of the input.
-module _ (x : Setting) (all : List Operand) (l : Local) (w : World) (s : State) (sound : Sound x.program s) (fits : Fits x None s l w) (odd : list_any is_odd (map (value x.unit.statics l.names) all) ≡ false) where
+module _ (x : Setting) (all : List Operand) (l : Local) (w : World) (s : State) (sound : Sound x.program x.begun s) (fits : Fits x None s l w) (odd : list_any is_odd (map (value x.unit.statics l.names) all) ≡ false) where
   abbrev i_get : Option ℕ → Instruction
   i_get k = unit.Call k unit-called.Getchar all
 
@@ -123,7 +123,7 @@ module _ (x : Setting) (all : List Operand) (l : Local) (w : World) (s : State) 
     world = record w { input = input };
     writes = λ k ops end. goes (got_step (Some k) ops end (byte ∷ input) (fits.input ∙ e)) stays;
     does = λ ops end. goes (got_step None ops end (byte ∷ input) (fits.input ∙ e)) stays;
-    fits = record { own = fits.own; outer = fits.outer; placed = fits.placed; differ = fits.differ; statics = fits.statics; input = refl; events = fits.events };
+    fits = record { own = fits.own; outer = fits.outer; placed = fits.placed; differ = fits.differ; above = fits.above; later = fits.later; statics = fits.statics; input = refl; events = fits.events };
     same = (let small : byte ≡ byte % 4294967296 = omega (arith, lt) in ap Number small);
     word = omega (arith, lt);
     later = others_refl w.memory;
@@ -142,6 +142,8 @@ putchar_effect x all l w s z fits same = record {
     outer = fits.outer;
     placed = fits.placed;
     differ = fits.differ;
+    above = fits.above;
+    later = fits.later;
     statics = fits.statics;
     input = fits.input;
     events = pairs_more (SameEvent x.program x.unit) s.events w.seen (SourcePut (bits_of char_type z)) (Put (bits_of char_type z)) fits.events event.put;

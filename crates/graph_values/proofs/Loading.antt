@@ -76,7 +76,7 @@ module _ (x : Setting) (calls : Calls) (low : ScalarsFirst x) (sc : Scalar) (lv 
   abbrev last_of : ℕ → Goal → Made
   last_of t g = operated (names_in x) g t (next_of t) (i_of t)
 
-  module _ (t : ℕ) (g : Goal) (s : State) (l : Local) (w : World) (size : size_in x ≤ t) (sound : Sound x.program s) (fits : Fits x None s l w) where
+  module _ (t : ℕ) (g : Goal) (s : State) (l : Local) (w : World) (size : size_in x ≤ t) (sound : Sound x.program x.begun s) (fits : Fits x None s l w) where
     stuck : Result x g (Name (own_of t)) t (λ y. false) (last_of t g).ops (last_of t g).end l w (Ends ending.Undefined s)
     stuck = ended_result x g (Name (own_of t)) t (λ y. false) (last_of t g).ops (last_of t g).end l w ending.Undefined s (stuck_now x None (last_of t g).ops (last_of t g).end s l w fits)
 
@@ -119,5 +119,5 @@ module _ (x : Setting) (calls : Calls) (low : ScalarsFirst x) (sc : Scalar) (lv 
       subst (λ o. Stands x.graph x.top (by_home t g o).inner
       → Result x g (loaded_laid (names_in x) Anywhere o t (place_laid (names_in x) lv t)).value t (within_written x lv) (by_home t g o).ops (by_home t g o).end l w (evaluate calls (depth_in x) (Load sc lv) s)) (sym in_memory)
       (λ st'. place_then x g (last_of t g) lv (Name (own_of t)) t (placing x lv t (last_of t g)).ops (placing x lv t (last_of t g)).end l w (designate calls (depth_in x) lv s) load (does t (last_of t g) s l w size st' sound fits)
-      (λ v s1 e h. (let gave = subst (Keeps x.program s.memory (Of (PointerType (object_type lv)))) e (typed s sound) in
+      (λ v s1 e h. (let gave = subst (Keeps x.program x.begun s.memory (Of (PointerType (object_type lv)))) e (typed s sound) in
       load_done t g s1 h.reached.local h.reached.world size gave.sound h.reached.fits v (subst (λ q. IsPointerTo s1.memory (element_of q) v) of gave.is) h.same))) st

@@ -25,26 +25,26 @@ use Rattle.graph_values.proofs.Kept.{IsDeclared, Sound}
 use Rattle.graph_values.proofs.Typing.{HasKind, Gave, Left, Keeps, Typed, of_later}
 
 -- it was kept from before, too
-pub keeps_before : (p : ProgramTree) (first before : Memory) (k : Kind) (r : Evaluated) → Later first before → Keeps p before k r → Keeps p first k r
-keeps_before p first before k (Gives v s) later h = record { sound = h.sound; later = later_trans first before s.memory later h.later; is = h.is }
-keeps_before p first before k (Leaves s) later h = record { sound = h.sound; later = later_trans first before s.memory later h.later }
-keeps_before p first before k (Ends e s) later h = tt
+pub keeps_before : (p : ProgramTree) (began first before : Memory) (k : Kind) (r : Evaluated) → Later first before → Keeps p began before k r → Keeps p began first k r
+keeps_before p began first before k (Gives v s) later h = record { sound = h.sound; later = later_trans first before s.memory later h.later; is = h.is }
+keeps_before p began first before k (Leaves s) later h = record { sound = h.sound; later = later_trans first before s.memory later h.later }
+keeps_before p began first before k (Ends e s) later h = tt
 
 -- the value of an expression is used
-pub keeps_with : (p : ProgramTree) (before : Memory) (k1 k : Kind) (r : Evaluated) (next : Value → State → Evaluated) → Keeps p before k1 r → ((v : Value) (s : State) → Gave p before k1 v s → Keeps p s.memory k (next v s)) → Keeps p before k (with r next)
-keeps_with p before k1 k (Gives v s) next h go_on = keeps_before p before s.memory k (next v s) h.later (go_on v s h)
-keeps_with p before k1 k (Leaves s) next h go_on = tt
-keeps_with p before k1 k (Ends e s) next h go_on = tt
+pub keeps_with : (p : ProgramTree) (began before : Memory) (k1 k : Kind) (r : Evaluated) (next : Value → State → Evaluated) → Keeps p began before k1 r → ((v : Value) (s : State) → Gave p began before k1 v s → Keeps p began s.memory k (next v s)) → Keeps p began before k (with r next)
+keeps_with p began before k1 k (Gives v s) next h go_on = keeps_before p began before s.memory k (next v s) h.later (go_on v s h)
+keeps_with p began before k1 k (Leaves s) next h go_on = tt
+keeps_with p began before k1 k (Ends e s) next h go_on = tt
 
-pub keeps_afterwards : (p : ProgramTree) (before : Memory) (k1 k : Kind) (r : Evaluated) (next : State → Evaluated) → Keeps p before k1 r → ((s : State) → Left p before s → Keeps p s.memory k (next s)) → Keeps p before k (afterwards r next)
-keeps_afterwards p before k1 k (Gives v s) next h go_on = keeps_before p before s.memory k (next s) h.later (go_on s (record { sound = h.sound; later = h.later }))
-keeps_afterwards p before k1 k (Leaves s) next h go_on = keeps_before p before s.memory k (next s) h.later (go_on s h)
-keeps_afterwards p before k1 k (Ends e s) next h go_on = tt
+pub keeps_afterwards : (p : ProgramTree) (began before : Memory) (k1 k : Kind) (r : Evaluated) (next : State → Evaluated) → Keeps p began before k1 r → ((s : State) → Left p began before s → Keeps p began s.memory k (next s)) → Keeps p began before k (afterwards r next)
+keeps_afterwards p began before k1 k (Gives v s) next h go_on = keeps_before p began before s.memory k (next s) h.later (go_on s (record { sound = h.sound; later = h.later }))
+keeps_afterwards p began before k1 k (Leaves s) next h go_on = keeps_before p began before s.memory k (next s) h.later (go_on s h)
+keeps_afterwards p began before k1 k (Ends e s) next h go_on = tt
 
 -- a value that was found, or none
-pub keeps_given : (p : ProgramTree) (k : Kind) (s : State) (r : Option Value) → Sound p s → ((v : Value) → r ≡ Some v → HasKind s.memory k v) → Keeps p s.memory k (given r s)
-keeps_given p k s None sound h = tt
-keeps_given p k s (Some v) sound h = record { sound = sound; later = later_refl s.memory; is = h v refl }
+pub keeps_given : (p : ProgramTree) (began : Memory) (k : Kind) (s : State) (r : Option Value) → Sound p began s → ((v : Value) → r ≡ Some v → HasKind s.memory k v) → Keeps p began s.memory k (given r s)
+keeps_given p began k s None sound h = tt
+keeps_given p began k s (Some v) sound h = record { sound = sound; later = later_refl s.memory; is = h v refl }
 
 pub constant_typed : (x : Setting) (calls : Calls) (z : ℤ) (t : IntegerType) → holds (integer t) z ≡ true → Typed x calls (Constant z t)
 constant_typed x calls z t fits s sound = record { sound = sound; later = later_refl s.memory; is = subst (λ b. HasKind s.memory (of_if b (Integer t)) (source.Number z)) (sym fits) fits }
@@ -68,11 +68,11 @@ all_set memory t (u ∷ vs) zero v all is = (is, all.1)
 all_set memory t (u ∷ vs) (suc i) v all is = (all.0, all_set memory t vs i v all.1 is)
 
 -- A value of its type is written into an object: what runs keep is kept.
-module _ (p : ProgramTree) (s : State) (n i : ℕ) (o : Object) (v : Value) (at : slice_get s.memory n ≡ Some o) (sound : Sound p s) (is : IsOf s.memory (loaded o.element) v) where
+module _ (p : ProgramTree) (began : Memory) (s : State) (n i : ℕ) (o : Object) (v : Value) (at : slice_get s.memory n ≡ Some o) (sound : Sound p began s) (is : IsOf s.memory (loaded o.element) v) where
   written_later : Later s.memory (slice_set s.memory n (record o { values = slice_set o.values i v }))
   written_later = later_set s.memory n i o v at
 
-  pub sound_set : Sound p (record s { memory = slice_set s.memory n (record o { values = slice_set o.values i v }) })
+  pub sound_set : Sound p began (record s { memory = slice_set s.memory n (record o { values = slice_set o.values i v }) })
   sound_set = record {
     typed = λ m q found. elim (get_set s.memory n m (record o { values = slice_set o.values i v }) q found) [
       | inl both ↦
@@ -88,6 +88,10 @@ module _ (p : ProgramTree) (s : State) (n i : ℕ) (o : Object) (v : Value) (at 
       | inr both ↦ sound.declared m q both.1
     ];
     bytes = sound.bytes;
+    since = record {
+      later = later_trans began s.memory (slice_set s.memory n (record o { values = slice_set o.values i v })) sound.since.later (later_set s.memory n i o v at);
+      ends = λ m q found alive. (let x = old m q found in sound.since.ends m x.0 x.1 (λ e. alive (x.2 ∙ e)));
+    };
   }
     where
       old : (a : ℕ) (q : Object) → slice_get (slice_set s.memory n (record o { values = slice_set o.values i v })) a ≡ Some q → (z : Object) × (slice_get s.memory a ≡ Some z) × (q.phase ≡ z.phase) × (q.owner ≡ z.owner)

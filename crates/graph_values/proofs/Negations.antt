@@ -122,14 +122,14 @@ module _ (x : Setting) (calls : Calls) (low : ScalarsFirst x) (e : RvalueTree) (
       by_true true h = h
       by_true false h = h
 
-  value_not : (t : ℕ) (g : Goal) (s : State) (l : Local) (w : World) → size_in x ≤ t → Stands x.graph x.top (code_in x e t (To None (last_at t g))).inner → Sound x.program s → Fits x None s l w
+  value_not : (t : ℕ) (g : Goal) (s : State) (l : Local) (w : World) → size_in x ≤ t → Stands x.graph x.top (code_in x e t (To None (last_at t g))).inner → Sound x.program x.begun s → Fits x None s l w
       → Result x g (Name (own_at t)) t (written_by x e) (code_in x e t (To None (last_at t g))).ops (code_in x e t (To None (last_at t g))).end l w (evaluate calls (depth_in x) (Not e) s)
   value_not t g s l w size st sound fits =
       let c = code_in x e t (To None (last_at t g)) in
       subst (Result x g (Name (own_at t)) t (written_by x e) c.ops c.end l w) (tested_with (evaluate calls (depth_in x) e s) (truth (pos 0)) (truth (pos 1)))
       (with_then x None g (last_at t g) (Name (own_at t)) (value_in x e t) t t t (written_by x e) (written_by x e) (λ y. false) c.ops c.end l w (evaluate calls (depth_in x) e s) (λ v s1. on_test (tested (Gives v s1)) (truth (pos 0)) (truth (pos 1))) (omega arith) (omega arith)
       (λ y lt nf. (refl, nf, refl)) (does_e t (To None (last_at t g)) s l w size st sound fits tt)
-      (λ v s1 is h. (let gave = gave_by x.program s.memory (kind_of x.program x.tree e) (evaluate calls (depth_in x) e s) v s1 is (typed_e s sound) in
+      (λ v s1 is h. (let gave = gave_by x.program x.begun s.memory (kind_of x.program x.tree e) (evaluate calls (depth_in x) e s) v s1 is (typed_e s sound) in
       by_test t g s1 h.reached.local h.reached.world size h.reached.fits v h.same (kind_word s1.memory (kind_of x.program x.tree e) v gave.is) (by_type s1.memory v gave.is) (is_usable s1.memory v) refl)))
 
   pub not_does : Does x calls (Not e)

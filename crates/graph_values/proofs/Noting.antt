@@ -1,11 +1,14 @@
 -- A scalar that was written is noted, where the source writes its object.
-use Rattle.std.proofs.Common.{◌≡◌, ◌≢◌, ℕ, ◌+◌, ◌≤◌, inl, inr, List, [], ◌∷◌, length, Option, Some, None, false, slice_get, slice_set, refl, sym, ap, ◌∙◌, subst, arith}
-use Rattle.std.specs.Prelude.{◌==◌}
+use Rattle.std.proofs.Common.{◌≡◌, ◌≢◌, ℕ, zero, suc, ◌+◌, ◌/◌, ◌<◌, ◌≤◌, ◌⊎◌, inl, inr, List, [], ◌∷◌, length, Option, Some, None, Bool, true, false, slice_get, slice_set, refl, sym, ap, ◌∙◌, subst, arith}
+use Rattle.std.specs.Prelude.{◌==◌, if◌then◌else◌}
+use Rattle.std.proofs.lemmas.Bool.{cases_eq}
+use Rattle.std.proofs.lemmas.List.{length-set}
 use Rattle.std.proofs.lemmas.Bool.Decides.{nat_tests}
 use Rattle.word_base.specs.Owners.{Variable}
 use Rattle.c_tree.specs.Programs.{AutomaticTree, ProgramTree}
 use Rattle.c_memory.specs.declared.value.Value as source-value
 use Rattle.c_memory.specs.declared.value.Value.TheVariants as source
+use Rattle.c_memory.specs.declared.value.Phase.{Phase}
 use Rattle.c_memory.specs.declared.value.Phase.TheVariants.{Live, Ended}
 use Rattle.c_memory.specs.Types.{count_of}
 use Rattle.c_memory.specs.Memory.{Object as SourceObject, Memory as SourceMemory}
@@ -19,10 +22,10 @@ use Rattle.graph_core.specs.Runs.{Activation, put}
 use Rattle.graph_core.specs.Values.{is_odd}
 use Rattle.graph_names.specs.Names.{Names, names_of, scalar_of}
 use Rattle.graph_values.specs.Typed.{OwnersDiffer}
-use Rattle.graph_values.specs.Correspondence.{points, ended, SameValue, IsInMemory}
-use Rattle.graph_values.proofs.Leads.{Setting, names_in, depth_in, Local, World, put_here, put_elsewhere}
-use Rattle.graph_values.proofs.Later.{get_set, Later, later_set, OthersLater, others_refl, value_later, values_later}
-use Rattle.graph_values.proofs.Kept.{ScalarIs, ObjectIs, Own, Outer, Placed, Fits}
+use Rattle.graph_values.specs.Correspondence.{SameObject, SamePointer, points, ended, SameValue, SameValues, IsInMemory}
+use Rattle.graph_values.proofs.Leads.{Setting, names_in, depth_in, Local, World, put_here, put_elsewhere, same_number}
+use Rattle.graph_values.proofs.Later.{get_set, Onward, onward, Later, later_changed, OthersLater, others_refl, value_later, values_later}
+use Rattle.graph_values.proofs.Kept.{is_want, ScalarIs, ObjectIs, Own, Waits, Outer, Placed, ArePlaced, Fits}
 
 -- a value that corresponds to one of the source is known
 pub known_value : (p : ProgramTree) (memory : SourceMemory) (others : Memory) (v : source-value.Value) (w : Value) → SameValue p memory others v w → is_odd w ≡ false
@@ -108,30 +111,30 @@ depths_differ h = cc
 variables_same : {a b d e : ℕ} → Variable a d ≡ Variable b e → a ≡ b
 variables_same h = cc
 
--- The object of a scalar takes a value that its name has, and its shadow says so.
-module _ (x : Setting) (y k m : ℕ) (o : SourceObject) (v : source-value.Value) (s : State) (l : Local) (w : World) (apart : ScalarsApart x) (named : scalar_of (names_in x) y ≡ Some k)
+-- The object of a scalar takes a value that its name has, and its shadow says so. It may come to live.
+module _ (x : Setting) (y k m : ℕ) (o : SourceObject) (v : source-value.Value) (phase : Phase) (goes_on : Onward o.phase phase) (s : State) (l : Local) (w : World) (apart : ScalarsApart x) (named : scalar_of (names_in x) y ≡ Some k)
     (at : slice_get s.memory m ≡ Some o) (owner : o.owner ≡ Variable y (depth_in x)) (begun : o.phase ≢ Ended) (one : length o.values ≡ 1) (differ : OwnersDiffer s.memory) where
-  later : Later s.memory (slice_set s.memory m (record o { values = slice_set o.values 0 v }))
-  later = later_set s.memory m 0 o v at
+  later : Later s.memory (slice_set s.memory m (record o { values = slice_set o.values 0 v; phase = phase }))
+  later = later_changed s.memory m o (record o { values = slice_set o.values 0 v; phase = phase }) at refl refl goes_on (length-set o.values 0 v)
 
   -- an object that is another one's is as it was
-  elsewhere : (n : ℕ) (q : SourceObject) → slice_get (slice_set s.memory m (record o { values = slice_set o.values 0 v })) n ≡ Some q → q.owner ≢ Variable y (depth_in x) → slice_get s.memory n ≡ Some q
-  elsewhere n q is ne = elim (get_set s.memory m n (record o { values = slice_set o.values 0 v }) q is) [
+  elsewhere : (n : ℕ) (q : SourceObject) → slice_get (slice_set s.memory m (record o { values = slice_set o.values 0 v; phase = phase })) n ≡ Some q → q.owner ≢ Variable y (depth_in x) → slice_get s.memory n ≡ Some q
+  elsewhere n q is ne = elim (get_set s.memory m n (record o { values = slice_set o.values 0 v; phase = phase }) q is) [
     | inl both ↦ absurd (ne (ap (λ z. z.owner) both.1 ∙ owner))
     | inr both ↦ both.1
   ]
 
   scalar_noted : Fits x (Some k) s l w → SameValue x.program s.memory w.memory v (l.names k) → (u j n : ℕ) (q : SourceObject) → scalar_of (names_in x) u ≡ Some j
-      → slice_get (slice_set s.memory m (record o { values = slice_set o.values 0 v })) n ≡ Some q → q.owner ≡ Variable u (depth_in x) → q.phase ≡ Live
-      → ScalarIs x.program (slice_set s.memory m (record o { values = slice_set o.values 0 v })) w.memory None q j l.names (put l.shadows k (Known (l.names k)))
-  scalar_noted f same u j n q is found mine live = elim (get_set s.memory m n (record o { values = slice_set o.values 0 v }) q found) [
+      → slice_get (slice_set s.memory m (record o { values = slice_set o.values 0 v; phase = phase })) n ≡ Some q → q.owner ≡ Variable u (depth_in x) → q.phase ≡ Live
+      → ScalarIs x.program (slice_set s.memory m (record o { values = slice_set o.values 0 v; phase = phase })) w.memory None q j l.names (put l.shadows k (Known (l.names k)))
+  scalar_noted f same u j n q is found mine live = elim (get_set s.memory m n (record o { values = slice_set o.values 0 v; phase = phase }) q found) [
     | inl both ↦
-        let kept : SameValue x.program (slice_set s.memory m (record o { values = slice_set o.values 0 v })) w.memory v (l.names k) =
-        value_later x.program s.memory (slice_set s.memory m (record o { values = slice_set o.values 0 v })) w.memory w.memory later (others_refl w.memory) v (l.names k) same in
+        let kept : SameValue x.program (slice_set s.memory m (record o { values = slice_set o.values 0 v; phase = phase })) w.memory v (l.names k) =
+        value_later x.program s.memory (slice_set s.memory m (record o { values = slice_set o.values 0 v; phase = phase })) w.memory w.memory later (others_refl w.memory) v (l.names k) same in
         let us : u ≡ y = variables_same (sym mine ∙ ap (λ z. z.owner) both.1 ∙ owner) in
         let ks : k ≡ j = names_same (sym named ∙ ap (scalar_of (names_in x)) (sym us) ∙ is) in
-        let named_now : SameValue x.program (slice_set s.memory m (record o { values = slice_set o.values 0 v })) w.memory v (l.names j) =
-        subst (λ i. SameValue x.program (slice_set s.memory m (record o { values = slice_set o.values 0 v })) w.memory v (l.names i)) ks kept in
+        let named_now : SameValue x.program (slice_set s.memory m (record o { values = slice_set o.values 0 v; phase = phase })) w.memory v (l.names j) =
+        subst (λ i. SameValue x.program (slice_set s.memory m (record o { values = slice_set o.values 0 v; phase = phase })) w.memory v (l.names i)) ks kept in
         record {
           value = v;
           holds = ap (λ z. z.values) both.1 ∙ one_value o.values v one;
@@ -146,10 +149,10 @@ module _ (x : Setting) (y k m : ℕ) (o : SourceObject) (v : source-value.Value)
         record {
           value = c.value;
           holds = c.holds;
-          named = λ h. value_later x.program s.memory (slice_set s.memory m (record o { values = slice_set o.values 0 v })) w.memory w.memory later (others_refl w.memory) c.value (l.names j) (c.named (other_number j k ne));
+          named = λ h. value_later x.program s.memory (slice_set s.memory m (record o { values = slice_set o.values 0 v; phase = phase })) w.memory w.memory later (others_refl w.memory) c.value (l.names j) (c.named (other_number j k ne));
           word = c.word;
           known = put_elsewhere l.shadows k j (Known (l.names k)) (other_number j k ne) ∙ c.known;
-          same = value_later x.program s.memory (slice_set s.memory m (record o { values = slice_set o.values 0 v })) w.memory w.memory later (others_refl w.memory) c.value c.word c.same;
+          same = value_later x.program s.memory (slice_set s.memory m (record o { values = slice_set o.values 0 v; phase = phase })) w.memory w.memory later (others_refl w.memory) c.value c.word c.same;
         }
   ]
     where
@@ -159,16 +162,18 @@ module _ (x : Setting) (y k m : ℕ) (o : SourceObject) (v : source-value.Value)
       begun_not_ended : Live ≡ Ended → ⊥
       begun_not_ended h = cc
 
-  pub fits_noted : Fits x (Some k) s l w → SameValue x.program s.memory w.memory v (l.names k)
-      → Fits x None (record s { memory = slice_set s.memory m (record o { values = slice_set o.values 0 v }) }) (record l { shadows = put l.shadows k (Known (l.names k)) }) w
-  fits_noted f same = record {
+  pub fits_written : Fits x (Some k) s l w → SameValue x.program s.memory w.memory v (l.names k)
+      → Fits x None (record s { memory = slice_set s.memory m (record o { values = slice_set o.values 0 v; phase = phase }) }) (record l { shadows = put l.shadows k (Known (l.names k)) }) w
+  fits_written f same = record {
     own = record { scalars = scalar_noted f same; objects = f.own.objects };
-    outer = outer_later x.program s.memory (slice_set s.memory m (record o { values = slice_set o.values 0 v })) w.memory w.memory later (others_refl w.memory) x.waiting
+    outer = outer_later x.program s.memory (slice_set s.memory m (record o { values = slice_set o.values 0 v; phase = phase })) w.memory w.memory later (others_refl w.memory) x.waiting
         (λ depth n u j i q le found mine. elsewhere i q found (λ e. deeper depth le (depths_differ (sym mine ∙ e)))) f.outer;
     placed = λ n q found alive inside.
         (let old = elsewhere n q found (λ e. in_no_memory (subst (IsInMemory x.program) e inside)) in
-        placed_later x.program s.memory (slice_set s.memory m (record o { values = slice_set o.values 0 v })) w.memory w.memory later (others_refl w.memory) q (λ c. c.is) (f.placed n q old alive inside));
+        placed_later x.program s.memory (slice_set s.memory m (record o { values = slice_set o.values 0 v; phase = phase })) w.memory w.memory later (others_refl w.memory) q (λ c. c.is) (f.placed n q old alive inside));
     differ = f.differ;
+    above = f.above;
+    later = f.later;
     statics = f.statics;
     input = f.input;
     events = f.events;
@@ -179,3 +184,8 @@ module _ (x : Setting) (y k m : ℕ) (o : SourceObject) (v : source-value.Value)
 
       in_no_memory : IsInMemory x.program (Variable y (depth_in x)) → ⊥
       in_no_memory inside = let no = apart.outside y k inside.0 named inside.1 in let yes = inside.2 in cc
+
+pub fits_noted : (x : Setting) (y k m : ℕ) (o : SourceObject) (v : source-value.Value) (s : State) (l : Local) (w : World) → ScalarsApart x → scalar_of (names_in x) y ≡ Some k → slice_get s.memory m ≡ Some o → o.owner ≡ Variable y (depth_in x) → o.phase ≢ Ended → length o.values ≡ 1 → OwnersDiffer s.memory
+    → Fits x (Some k) s l w → SameValue x.program s.memory w.memory v (l.names k)
+    → Fits x None (record s { memory = slice_set s.memory m (record o { values = slice_set o.values 0 v }) }) (record l { shadows = put l.shadows k (Known (l.names k)) }) w
+fits_noted x y k m o v s l w apart named at owner begun one differ f same = fits_written x y k m o v o.phase (onward o.phase o.phase refl) s l w apart named at owner begun one differ f same

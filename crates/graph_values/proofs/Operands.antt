@@ -84,7 +84,7 @@ Aims x (Either one other inner) e t = Unit {0}
 
 -- The code of an expression does what the expression means.
 abbrev pub Does : Setting → Calls → RvalueTree → Type 0
-Does x calls e = (t : ℕ) (g : Goal) (s : State) (l : Local) (w : World) → size_in x ≤ t → Stands x.graph x.top (code_in x e t g).inner → Sound x.program s → Fits x None s l w → Aims x g e t
+Does x calls e = (t : ℕ) (g : Goal) (s : State) (l : Local) (w : World) → size_in x ≤ t → Stands x.graph x.top (code_in x e t g).inner → Sound x.program x.begun s → Fits x None s l w → Aims x g e t
     → Result x g (value_in x e t) t (written_by x e) (code_in x e t g).ops (code_in x e t g).end l w (evaluate calls (depth_in x) e s)
 
 -- an operand's name is below a number
@@ -153,12 +153,12 @@ module _ (x : Setting) (calls : Calls) (low : ScalarsFirst x) (a b : RvalueTree)
 
   -- what is made of two values that stand
   abbrev pub Finishes : ℕ → Goal → Operand → Made → (source-value.Value → source-value.Value → State → Evaluated) → Type 0
-  Finishes t g o z next = (v u : source-value.Value) (s : State) (l : Local) (w : World) → Sound x.program s → Fits x None s l w
+  Finishes t g o z next = (v u : source-value.Value) (s : State) (l : Local) (w : World) → Sound x.program x.begun s → Fits x None s l w
       → SameValue x.program s.memory w.memory v (value x.unit.statics l.names (pair_in x a b t).left) → SameValue x.program s.memory w.memory u (value x.unit.statics l.names (pair_in x a b t).right)
       → HasKind s.memory (kind_of x.program x.tree a) v → HasKind s.memory (kind_of x.program x.tree b) u → Result x g o t (λ y. false) z.ops z.end l w (next v u s)
 
   pub pair_does : (t : ℕ) (g : Goal) (o : Operand) (z : Made) (next : source-value.Value → source-value.Value → State → Evaluated) (s : State) (l : Local) (w : World) → size_in x ≤ t
-      → Stands x.graph x.top (in_turn (code_in x a) (code_in x b) t (pair_in x a b t) z).inner → Sound x.program s → Fits x None s l w → Finishes t g o z next
+      → Stands x.graph x.top (in_turn (code_in x a) (code_in x b) t (pair_in x a b t) z).inner → Sound x.program x.begun s → Fits x None s l w → Finishes t g o z next
       → Result x g o t (λ y. writes (names_in x) y a || writes (names_in x) y b) (in_turn (code_in x a) (code_in x b) t (pair_in x a b t) z).ops (in_turn (code_in x a) (code_in x b) t (pair_in x a b t) z).end l w
       (on_both (both (evaluate calls (depth_in x) a s) (evaluate calls (depth_in x) b)) next)
   pair_does t g o z next s l w size st sound fits finish =
@@ -172,7 +172,7 @@ module _ (x : Setting) (calls : Calls) (low : ScalarsFirst x) (a b : RvalueTree)
           → (h : Valued x None (held_code t z) (value_in x a t) t (written_by x a) (code_in x a t (To None (held_code t z))).ops (code_in x a t (To None (held_code t z))).end l w v s1)
           → Result x g o t (written_by x b) (held_code t z).ops (held_code t z).end h.reached.local h.reached.world (with (evaluate calls (depth_in x) b s1) (next v))
       second v s1 e h =
-          let gave = gave_by x.program s.memory (kind_of x.program x.tree a) (evaluate calls (depth_in x) a s) v s1 e (typed_a s sound) in
+          let gave = gave_by x.program x.begun s.memory (kind_of x.program x.tree a) (evaluate calls (depth_in x) a s) v s1 e (typed_a s sound) in
           let q = pair_in x a b t in
           let r = low_a t size in
           let m = code_in x b q.from (To None z) in
@@ -186,7 +186,7 @@ module _ (x : Setting) (calls : Calls) (low : ScalarsFirst x) (a b : RvalueTree)
           (with_then x None g z o q.right t q.from t (written_by x b) (written_by x b) (λ y. false) m.ops m.end k.local w1 (evaluate calls (depth_in x) b s1) (next v) above (omega arith) (λ y lt nf. (refl, nf, refl))
           (does_b q.from (To None z) s1 k.local w1 (omega (arith, size, above)) inner gave.sound k.fits tt)
           (λ u s2 e2 h2.
-          (let gave2 = gave_by x.program s1.memory (kind_of x.program x.tree b) (evaluate calls (depth_in x) b s1) u s2 e2 (typed_b s1 gave.sound) in
+          (let gave2 = gave_by x.program x.begun s1.memory (kind_of x.program x.tree b) (evaluate calls (depth_in x) b s1) u s2 e2 (typed_b s1 gave.sound) in
           let left : value x.unit.statics h2.reached.local.names q.left ≡ value x.unit.statics l1.names q.first =
           held_stays x.unit.statics (λ y. writes (names_in x) y b) q.first q.moved q.moved_to k.local h2.reached.local refl r.below (spares_b q.moved_to (omega (arith, r.next, size))) (λ y lt nf. h2.reached.kept y lt refl nf) ∙ k.value_is in
           finish v u s2 h2.reached.local h2.reached.world gave2.sound h2.reached.fits

@@ -63,7 +63,7 @@ PlaceR x m lv t ops end l w (Ends e s) = Stuck x ops end l w e s
 
 -- The code before the place of an lvalue does what designating it means.
 abbrev pub DoesPlace : Setting → Calls → LvalueTree → Type 0
-DoesPlace x calls lv = (t : ℕ) (m : Made) (s : State) (l : Local) (w : World) → size_in x ≤ t → Stands x.graph x.top (placing x lv t m).inner → Sound x.program s → Fits x None s l w
+DoesPlace x calls lv = (t : ℕ) (m : Made) (s : State) (l : Local) (w : World) → size_in x ≤ t → Stands x.graph x.top (placing x lv t m).inner → Sound x.program x.begun s → Fits x None s l w
     → PlaceR x m lv t (placing x lv t m).ops (placing x lv t m).end l w (designate calls (depth_in x) lv s)
 
 -- a pointer to the beginning of an object
@@ -97,7 +97,7 @@ pub record StaticsThere (x : Setting) (n : ℕ) : Type 0 where
   pub is : slice_get x.unit.statics n ≡ Some object
 
 -- An object of static storage.
-static_pointer : (x : Setting) (s : State) (l : Local) (w : World) (n number : ℕ) (o : SourceObject) → Sound x.program s → Fits x None s l w → StaticsThere x number → slice_get s.memory n ≡ Some o → o.phase ≢ Ended → IsInMemory x.program o.owner → owner_of x.program o.owner ≡ UnitStatic number
+static_pointer : (x : Setting) (s : State) (l : Local) (w : World) (n number : ℕ) (o : SourceObject) → Sound x.program x.begun s → Fits x None s l w → StaticsThere x number → slice_get s.memory n ≡ Some o → o.phase ≢ Ended → IsInMemory x.program o.owner → owner_of x.program o.owner ≡ UnitStatic number
     → SamePointer x.program s.memory w.memory n 0 (static_address x.unit.statics number 0)
 static_pointer x s l w n number o sound f there is alive inside owner =
     let q = f.statics number there.object there.is in

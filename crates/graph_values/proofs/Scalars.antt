@@ -67,7 +67,7 @@ module _ (x : Setting) (calls : Calls) (sc : Scalar) (v : ℕ) (of : ObjectType)
   abbrev owner_in : Owner
   owner_in = Variable v (depth_in x)
 
-  module _ (t : ℕ) (g : Goal) (s : State) (l : Local) (w : World) (sound : Sound x.program s) (f : Fits x None s l w) where
+  module _ (t : ℕ) (g : Goal) (s : State) (l : Local) (w : World) (sound : Sound x.program x.begun s) (f : Fits x None s l w) where
     stuck : Result x g (Name k) t (λ y. false) (leaf g (Name k)).ops (leaf g (Name k)).end l w (Ends ending.Undefined s)
     stuck = ended_result x g (Name k) t (λ y. false) (leaf g (Name k)).ops (leaf g (Name k)).end l w ending.Undefined s (stuck_now x None (leaf g (Name k)).ops (leaf g (Name k)).end s l w f)
 
@@ -114,12 +114,12 @@ module _ (x : Setting) (calls : Calls) (apart : ScalarsApart x) (sc : Scalar) (v
         (assigned_memory g q moved (element_of sc) (laid (names_in x) e (use_for None (use_of g)) from).value)))
   ]
 
-  module _ (t : ℕ) (g : Goal) (s : State) (l : Local) (w : World) (size : size_in x ≤ t) (sound : Sound x.program s) (f : Fits x None s l w) (st : Stands x.graph x.top (code_in x e t (To (Some k) (noted k g))).inner) where
+  module _ (t : ℕ) (g : Goal) (s : State) (l : Local) (w : World) (size : size_in x ≤ t) (sound : Sound x.program x.begun s) (f : Fits x None s l w) (st : Stands x.graph x.top (code_in x e t (To (Some k) (noted k g))).inner) where
     abbrev Then : ℕ → (ℕ → Bool) → List Instruction → End → Local → World → Evaluated → Type 0
     Then t' written ops end l' w' r = Result x g (Name k) t' written ops end l' w' r
 
     -- the object takes the value
-    takes : (n : ℕ) (o : SourceObject) (u : source-value.Value) (s1 : State) (l1 : Local) (w1 : World) → Sound x.program s1 → Fits x (Some k) s1 l1 w1 → slice_get s1.memory n ≡ Some o → o.owner ≡ Variable v (depth_in x) → o.phase ≢ Ended
+    takes : (n : ℕ) (o : SourceObject) (u : source-value.Value) (s1 : State) (l1 : Local) (w1 : World) → Sound x.program x.begun s1 → Fits x (Some k) s1 l1 w1 → slice_get s1.memory n ≡ Some o → o.owner ≡ Variable v (depth_in x) → o.phase ≢ Ended
         → SameValue x.program s1.memory w1.memory u (l1.names k) → HasWord u → (b : Bool) → is_writable o 0 ≡ b
         → Then t (λ y. false) (noted k g).ops (noted k g).end l1 w1 (stored (if b then Some (set_value s1.memory n (index_at o 0) u) else None) u s1)
     takes n o u s1 l1 w1 sound1 f1 is owner alive same word false eb = ended_result x g (Name k) t (λ y. false) (noted k g).ops (noted k g).end l1 w1 ending.Undefined s1 (stuck_now x (Some k) (noted k g).ops (noted k g).end s1 l1 w1 f1)
@@ -157,11 +157,11 @@ module _ (x : Setting) (calls : Calls) (apart : ScalarsApart x) (sc : Scalar) (v
         (code_in x e t (To (Some k) (noted k g))).ops (code_in x e t (To (Some k) (noted k g))).end l w (evaluate calls (depth_in x) e s) (store (source.Pointer n 0)) (omega arith) (omega arith) (λ y lt nf. written_in_name y nf)
         (does_e t (To (Some k) (noted k g)) s l w size st sound f (let less = low v k named_by in (omega (arith, less, size), λ lt. apart_e)))
         (λ u s1 e1 h1.
-        (let gave = gave_by x.program s.memory (kind_of x.program x.tree e) (evaluate calls (depth_in x) e s) u s1 e1 (typed_e s sound) in
+        (let gave = gave_by x.program x.begun s.memory (kind_of x.program x.tree e) (evaluate calls (depth_in x) e s) u s1 e1 (typed_e s sound) in
         let o = owned_at (Variable v (depth_in x)) s.memory n h in
         let o1 = gave.later n o.object o.is in
         subst (λ q. Then t (λ y. false) (noted k g).ops (noted k g).end h1.reached.local h1.reached.world (stored (option_and_then (written_in s1.memory n 0 u) q) u s1)) (sym o1.is)
-        (takes n o1.object u s1 h1.reached.local h1.reached.world gave.sound h1.reached.fits o1.is (o1.owner ∙ o.owner_is) (λ over. o.alive (sym o1.phase ∙ over)) h1.same (kind_word s1.memory (kind_of x.program x.tree e) u gave.is)
+        (takes n o1.object u s1 h1.reached.local h1.reached.world gave.sound h1.reached.fits o1.is (o1.owner ∙ o.owner_is) (λ over. o.alive (o1.phase.open_before over)) h1.same (kind_word s1.memory (kind_of x.program x.tree e) u gave.is)
         (is_writable o1.object 0) refl))))
 
   pub assigned_does : Does x calls (Assign sc (Named (named.Automatic v) of) e)

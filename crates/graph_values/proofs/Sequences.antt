@@ -25,16 +25,16 @@ use Rattle.graph_values.proofs.Arithmetic.{pick_between}
 use Rattle.graph_values.proofs.Choices.{Tops}
 
 -- The value of an expression is not used.
-pub afterwards_then : (x : Setting) (p : ProgramTree) (before : Memory) (k : Kind) (g : Goal) (m : Made) (a : Operand) (t t2 : ℕ) (f f1 f2 : ℕ → Bool) (ops : List Instruction) (end : End) (l : Local) (w : World) (r : Evaluated) (next : State → Evaluated) → t ≤ t2
-    → ((y : ℕ) → y < t → f y ≡ false → (f1 y ≡ false) × (f2 y ≡ false)) → Keeps p before k r → UnusedR x m t f1 ops end l w r
-    → ((s : State) → Left p before s → (h : Reached x None t f1 l w (to_made x ops end l w m) s) → Result x g a t2 f2 m.ops m.end h.local h.world (next s))
+pub afterwards_then : (x : Setting) (p : ProgramTree) (began before : Memory) (k : Kind) (g : Goal) (m : Made) (a : Operand) (t t2 : ℕ) (f f1 f2 : ℕ → Bool) (ops : List Instruction) (end : End) (l : Local) (w : World) (r : Evaluated) (next : State → Evaluated) → t ≤ t2
+    → ((y : ℕ) → y < t → f y ≡ false → (f1 y ≡ false) × (f2 y ≡ false)) → Keeps p began before k r → UnusedR x m t f1 ops end l w r
+    → ((s : State) → Left p began before s → (h : Reached x None t f1 l w (to_made x ops end l w m) s) → Result x g a t2 f2 m.ops m.end h.local h.world (next s))
     → Result x g a t f ops end l w (afterwards r next)
-afterwards_then x p before k g m a t t2 f f1 f2 ops end l w (Gives v s) next le spares keeps h go_on =
+afterwards_then x p began before k g m a t t2 f f1 f2 ops end l w (Gives v s) next le spares keeps h go_on =
     result_after x t t2 f f2 ops m.ops end m.end l h.local w h.world h.leads (λ y lt nf. (let c = spares y lt nf in (omega (arith, lt, le), c.1, h.kept y lt refl c.0))) h.later g a (next s)
     (go_on s (record { sound = keeps.sound; later = keeps.later }) h)
-afterwards_then x p before k g m a t t2 f f1 f2 ops end l w (Leaves s) next le spares keeps h go_on =
+afterwards_then x p began before k g m a t t2 f f1 f2 ops end l w (Leaves s) next le spares keeps h go_on =
     result_after x t t2 f f2 ops m.ops end m.end l h.local w h.world h.leads (λ y lt nf. (let c = spares y lt nf in (omega (arith, lt, le), c.1, h.kept y lt refl c.0))) h.later g a (next s) (go_on s keeps h)
-afterwards_then x p before k g m a t t2 f f1 f2 ops end l w (Ends e s) next le spares keeps h go_on = ended_result x g a t f ops end l w e s h
+afterwards_then x p began before k g m a t t2 f f1 f2 ops end l w (Ends e s) next le spares keeps h go_on = ended_result x g a t f ops end l w e s h
 
 pub comma_does : (x : Setting) (calls : Calls) (a b : RvalueTree) → Typed x calls a → Tops x Nothing a → Grows (names_in x) x.place x.top x.graph a → Does x calls a → Does x calls b → Does x calls (Comma a b)
 comma_does x calls a b typed_a tops_a grows_a does_a does_b t g s l w size st sound fits aims =
@@ -43,7 +43,7 @@ comma_does x calls a b typed_a tops_a grows_a does_a does_b t g s l w size st so
     let c = code_in x a t (Unused m) in
     let top = tops_a t size in
     let le : t ≤ k = pick_between (names_in x) t (laid (names_in x) a Nothing t).top t (omega arith) top in
-    afterwards_then x x.program s.memory (kind_of x.program x.tree a) g m (value_in x b k) t k (λ y. writes (names_in x) y a || writes (names_in x) y b) (written_by x a) (written_by x b) c.ops c.end l w (evaluate calls (depth_in x) a s)
+    afterwards_then x x.program x.begun s.memory (kind_of x.program x.tree a) g m (value_in x b k) t k (λ y. writes (names_in x) y a || writes (names_in x) y b) (written_by x a) (written_by x b) c.ops c.end l w (evaluate calls (depth_in x) a s)
     (evaluate calls (depth_in x) b) le (λ y lt nf. or_false (writes (names_in x) y a) (writes (names_in x) y b) nf) (typed_a s sound) (does_a t (Unused m) s l w size st sound fits tt)
     (λ s1 left h. does_b k g s1 h.local h.world (omega (arith, size, le)) (grows_a t (Unused m) st) left.sound h.fits (aims_behind x g a b t k le aims))
 
@@ -60,5 +60,5 @@ pub discard_does : (x : Setting) (calls : Calls) (e : RvalueTree) → Typed x ca
 discard_does x calls e typed_e does_e t g s l w size st sound fits aims =
     let m = leaf g zero_operand in
     let c = code_in x e t (Unused m) in
-    afterwards_then x x.program s.memory (kind_of x.program x.tree e) g m (value_in x (Discard e) t) t t (written_by x e) (written_by x e) (λ y. false) c.ops c.end l w (evaluate calls (depth_in x) e s) Leaves (omega arith) (λ y lt nf. (nf, refl))
+    afterwards_then x x.program x.begun s.memory (kind_of x.program x.tree e) g m (value_in x (Discard e) t) t t (written_by x e) (written_by x e) (λ y. false) c.ops c.end l w (evaluate calls (depth_in x) e s) Leaves (omega arith) (λ y lt nf. (nf, refl))
     (typed_e s sound) (does_e t (Unused m) s l w size st sound fits tt) (λ s1 left h. left_done x g (value_in x (Discard e) t) zero_operand t (λ y. false) s1 h.local h.world h.fits)

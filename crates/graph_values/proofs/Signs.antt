@@ -54,11 +54,11 @@ minus_computes Long p a z h = (word_difference (pos 0) a (pos 0 -ℤ a) refl ∙
 minus_computes UnsignedLong p a z h = (word_difference (pos 0) a (pos 0 -ℤ a) refl ∙ kept_word_unsigned (pos 0 -ℤ a) z h, kept_in_unsigned (pos 0 -ℤ a) z h)
 
 module _ (x : Setting) (calls : Calls) (low : ScalarsFirst x) (ty : IntegerType) (e : RvalueTree) (kind_e : kind_of x.program x.tree e ≡ Of (Integer ty)) (typed_e : Typed x calls e) (low_e : Low x e) (does_e : Does x calls e) where
-  keeps_in : (s : State) → Sound x.program s → Keeps x.program s.memory (Of (Integer ty)) (evaluate calls (depth_in x) e s)
-  keeps_in s sound = subst (λ k. Keeps x.program s.memory k (evaluate calls (depth_in x) e s)) kind_e (typed_e s sound)
+  keeps_in : (s : State) → Sound x.program x.begun s → Keeps x.program x.begun s.memory (Of (Integer ty)) (evaluate calls (depth_in x) e s)
+  keeps_in s sound = subst (λ k. Keeps x.program x.begun s.memory k (evaluate calls (depth_in x) e s)) kind_e (typed_e s sound)
 
   -- `+`
-  plus_to : (want : Option ℕ) (m : Made) (a : Operand) (t : ℕ) (f : ℕ → Bool) (ops : List Instruction) (end : End) (l : Local) (w : World) (before_memory : Memory) (r : Evaluated) → Keeps x.program before_memory (Of (Integer ty)) r → ToR x want m a t f ops end l w r
+  plus_to : (want : Option ℕ) (m : Made) (a : Operand) (t : ℕ) (f : ℕ → Bool) (ops : List Instruction) (end : End) (l : Local) (w : World) (before_memory : Memory) (r : Evaluated) → Keeps x.program x.begun before_memory (Of (Integer ty)) r → ToR x want m a t f ops end l w r
       → ToR x want m a t f ops end l w (with r (λ v s. given (signed Plus ty v) s))
   plus_to want m a t f ops end l w before_memory (Gives (source.Number z) s) k h = h
   plus_to want m a t f ops end l w before_memory (Gives source.Null s) k h = absurd k.is
@@ -66,7 +66,7 @@ module _ (x : Setting) (calls : Calls) (low : ScalarsFirst x) (ty : IntegerType)
   plus_to want m a t f ops end l w before_memory (Leaves s) k h = left_stuck x want m t f ops end l w s h
   plus_to want m a t f ops end l w before_memory (Ends c s) k h = h
 
-  plus_unused : (m : Made) (t : ℕ) (f : ℕ → Bool) (ops : List Instruction) (end : End) (l : Local) (w : World) (before_memory : Memory) (r : Evaluated) → Keeps x.program before_memory (Of (Integer ty)) r → UnusedR x m t f ops end l w r
+  plus_unused : (m : Made) (t : ℕ) (f : ℕ → Bool) (ops : List Instruction) (end : End) (l : Local) (w : World) (before_memory : Memory) (r : Evaluated) → Keeps x.program x.begun before_memory (Of (Integer ty)) r → UnusedR x m t f ops end l w r
       → UnusedR x m t f ops end l w (with r (λ v s. given (signed Plus ty v) s))
   plus_unused m t f ops end l w before_memory (Gives (source.Number z) s) k h = h
   plus_unused m t f ops end l w before_memory (Gives source.Null s) k h = absurd k.is
@@ -96,7 +96,7 @@ module _ (x : Setting) (calls : Calls) (low : ScalarsFirst x) (ty : IntegerType)
       let c = code_in x e t (To None m) in
       with_then x None g m (value_in x e t) (value_in x e t) t t t (written_by x e) (written_by x e) (λ y. false) c.ops c.end l w (evaluate calls (depth_in x) e s) (λ v s1. given (signed Plus ty v) s1) (omega arith) (omega arith) (λ y lt nf. (refl, nf, refl))
       (does_e t (To None m) s l w size st sound fits tt)
-      (λ v s1 is h. (let gave = subst (Keeps x.program s.memory (Of (Integer ty))) is (keeps_in s sound) in plus_leaf g (value_in x e t) t s1 h.reached.local h.reached.world h.reached.fits v gave.is h.same))
+      (λ v s1 is h. (let gave = subst (Keeps x.program x.begun s.memory (Of (Integer ty))) is (keeps_in s sound) in plus_leaf g (value_in x e t) t s1 h.reached.local h.reached.world h.reached.fits v gave.is h.same))
 
   -- `-`
   abbrev own_at : ℕ → ℕ
@@ -126,4 +126,4 @@ module _ (x : Setting) (calls : Calls) (low : ScalarsFirst x) (ty : IntegerType)
       let c = code_in x e t (To None m) in
       with_then x None g m (Name (own_at t)) (value_in x e t) t t t (written_by x e) (written_by x e) (λ y. false) c.ops c.end l w (evaluate calls (depth_in x) e s) (λ v s1. given (signed Minus ty v) s1) (omega arith) (omega arith) (λ y lt nf. (refl, nf, refl))
       (does_e t (To None m) s l w size st sound fits tt)
-      (λ v s1 is h. (let gave = subst (Keeps x.program s.memory (Of (Integer ty))) is (keeps_in s sound) in minus_value promoted t g s1 h.reached.local h.reached.world size h.reached.fits v gave.is h.same))
+      (λ v s1 is h. (let gave = subst (Keeps x.program x.begun s.memory (Of (Integer ty))) is (keeps_in s sound) in minus_value promoted t g s1 h.reached.local h.reached.world size h.reached.fits v gave.is h.same))

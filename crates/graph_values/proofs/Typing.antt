@@ -31,28 +31,28 @@ HasKind memory NullPointer v = v ≡ source.Null
 HasKind memory (Of t) v = IsOf memory t v
 
 -- An expression gave a value of its kind, and the memory went on.
-pub record Gave (p : ProgramTree) (before : Memory) (k : Kind) (v : Value) (s : State) : Type 0 where
-  pub sound : Sound p s
+pub record Gave (p : ProgramTree) (began before : Memory) (k : Kind) (v : Value) (s : State) : Type 0 where
+  pub sound : Sound p began s
   pub later : Later before s.memory
   pub is : HasKind s.memory k v
 
 -- it gave none
-pub record Left (p : ProgramTree) (before : Memory) (s : State) : Type 0 where
-  pub sound : Sound p s
+pub record Left (p : ProgramTree) (began before : Memory) (s : State) : Type 0 where
+  pub sound : Sound p began s
   pub later : Later before s.memory
 
-abbrev pub Keeps : ProgramTree → Memory → Kind → Evaluated → Type 0
-Keeps p before k (Gives v s) = Gave p before k v s
-Keeps p before k (Leaves s) = Left p before s
-Keeps p before k (Ends e s) = Unit {0}
+abbrev pub Keeps : ProgramTree → (began before : Memory) → Kind → Evaluated → Type 0
+Keeps p began before k (Gives v s) = Gave p began before k v s
+Keeps p began before k (Leaves s) = Left p began before s
+Keeps p began before k (Ends e s) = Unit {0}
 
 -- What an expression comes to is of its type, in each state that keeps what runs keep.
 abbrev pub Typed : Setting → Calls → RvalueTree → Type 0
-Typed x calls e = (s : State) → Sound x.program s → Keeps x.program s.memory (kind_of x.program x.tree e) (evaluate calls (depth_in x) e s)
+Typed x calls e = (s : State) → Sound x.program x.begun s → Keeps x.program x.begun s.memory (kind_of x.program x.tree e) (evaluate calls (depth_in x) e s)
 
 -- a result that is a value
-pub gave_by : (p : ProgramTree) (before : Memory) (k : Kind) (r : Evaluated) (v : Value) (s : State) → r ≡ Gives v s → Keeps p before k r → Gave p before k v s
-gave_by p before k r v s e keeps = subst (Keeps p before k) e keeps
+pub gave_by : (p : ProgramTree) (began before : Memory) (k : Kind) (r : Evaluated) (v : Value) (s : State) → r ≡ Gives v s → Keeps p began before k r → Gave p began before k v s
+gave_by p began before k r v s e keeps = subst (Keeps p began before k) e keeps
 
 -- a value of a type is one that a word can say
 pub of_word : (memory : Memory) (t : ValueType) (v : Value) → IsOf memory t v → HasWord v
@@ -90,20 +90,20 @@ kind_later memory after later NullPointer v is = is
 kind_later memory after later (Of t) v is = of_later memory after later t v is
 
 -- what is kept where a value is tested
-abbrev pub KeepsTest : ProgramTree → Memory → Tested → Type 0
-KeepsTest p before (Holds s) = Left p before s
-KeepsTest p before (Fails s) = Left p before s
-KeepsTest p before (NoTest e s) = Unit {0}
+abbrev pub KeepsTest : ProgramTree → (began before : Memory) → Tested → Type 0
+KeepsTest p began before (Holds s) = Left p began before s
+KeepsTest p began before (Fails s) = Left p began before s
+KeepsTest p began before (NoTest e s) = Unit {0}
 
-pub keeps_tested : (p : ProgramTree) (before : Memory) (k : Kind) (r : Evaluated) → Keeps p before k r → KeepsTest p before (tested r)
-keeps_tested p before k (Gives v s) h = by_usable (is_usable s.memory v)
+pub keeps_tested : (p : ProgramTree) (began before : Memory) (k : Kind) (r : Evaluated) → Keeps p began before k r → KeepsTest p began before (tested r)
+keeps_tested p began before k (Gives v s) h = by_usable (is_usable s.memory v)
   where
-    by_true : (b : Bool) → KeepsTest p before (by_truth b s)
+    by_true : (b : Bool) → KeepsTest p began before (by_truth b s)
     by_true true = record { sound = h.sound; later = h.later }
     by_true false = record { sound = h.sound; later = h.later }
 
-    by_usable : (b : Bool) → KeepsTest p before (tested_usable (if b then Gives v s else Ends Undefined s))
+    by_usable : (b : Bool) → KeepsTest p began before (tested_usable (if b then Gives v s else Ends Undefined s))
     by_usable true = by_true (is_true v)
     by_usable false = tt
-keeps_tested p before k (Leaves s) h = tt
-keeps_tested p before k (Ends e s) h = tt
+keeps_tested p began before k (Leaves s) h = tt
+keeps_tested p began before k (Ends e s) h = tt

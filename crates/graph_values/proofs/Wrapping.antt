@@ -58,9 +58,9 @@ wrapped_holds Long z = by_sign 2147483648 4294967296 (modulo 4294967296 z) refl 
 
 pub convert_of : (x : Setting) (calls : Calls) (ty : IntegerType) (e : RvalueTree) → kind_of x.program x.tree (Convert ty e) ≡ Of (Integer ty) → Typed x calls e → Typed x calls (Convert ty e)
 convert_of x calls ty e kind typed_e s sound =
-    subst (λ k. Keeps x.program s.memory k (evaluate calls (depth_in x) (Convert ty e) s)) (sym kind) (go (evaluate calls (depth_in x) e s) (typed_e s sound))
+    subst (λ k. Keeps x.program x.begun s.memory k (evaluate calls (depth_in x) (Convert ty e) s)) (sym kind) (go (evaluate calls (depth_in x) e s) (typed_e s sound))
   where
-    go : (r : Evaluated) → Keeps x.program s.memory (kind_of x.program x.tree e) r → Keeps x.program s.memory (Of (Integer ty)) (mapped r (convert ty))
+    go : (r : Evaluated) → Keeps x.program x.begun s.memory (kind_of x.program x.tree e) r → Keeps x.program x.begun s.memory (Of (Integer ty)) (mapped r (convert ty))
     go (Gives (source.Number z) s1) h = record { sound = h.sound; later = h.later; is = wrapped_holds ty z }
     go (Gives source.Null s1) h = tt
     go (Gives (source.Pointer n k) s1) h = tt

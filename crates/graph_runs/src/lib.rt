@@ -1,0 +1,2 @@
+//! That the blocks of statements do what they mean.
+#![tactic(auto)]
