@@ -1,6 +1,8 @@
 -- What keeps a unit's shape keeps it along a list of passes.
 use Rattle.std.proofs.Common.{◌≡◌, List, [], ◌∷◌, refl, ◌∙◌}
-use Rattle.graph_core.specs.Graphs.{Graph, UnitForm}
+use Rattle.std.specs.Prelude.{IfOk, IfSome, Option, Some, None, Result, Ok, Err}
+use Rattle.graph_core.specs.declared.unit.Unit as declared-unit
+use Rattle.graph_core.specs.Graphs.{Graph, UnitForm, unit_view}
 use Rattle.graph_edits.specs.Kept.{EachFunction, KeepsAllButBlocks, KeepsFunction, ShareTheSame}
 use Rattle.pass_runs.specs.Kept.{KeepsShape}
 
@@ -54,3 +56,17 @@ shape_twice u v w first then = record {
   };
   functions = functions_twice u.graphs v.graphs w.graphs first.functions then.functions;
 }
+
+-- A pass whose unit shares what the given one has, and keeps its functions, keeps its shape.
+pub kept_by : {E : Type 0} (u : UnitForm) (made : Result (Option declared-unit.Unit) E) → IfOk made (λ o. IfSome o (λ v. ShareTheSame u (unit_view v)))
+    → IfOk made (λ o. IfSome o (λ v. EachFunction KeepsFunction u.graphs (unit_view v).graphs)) → IfOk made (λ o. IfSome o (λ v. KeepsShape u (unit_view v)))
+kept_by u (Ok (Some v)) shared functions = record { shared = shared; functions = functions }
+kept_by u (Ok None) shared functions = tt
+kept_by u (Err e) shared functions = tt
+
+-- the same where it keeps all of its functions but blocks
+pub kept_but_blocks : {E : Type 0} (u : UnitForm) (made : Result (Option declared-unit.Unit) E) → IfOk made (λ o. IfSome o (λ v. ShareTheSame u (unit_view v)))
+    → IfOk made (λ o. IfSome o (λ v. EachFunction KeepsAllButBlocks u.graphs (unit_view v).graphs)) → IfOk made (λ o. IfSome o (λ v. KeepsShape u (unit_view v)))
+kept_but_blocks u (Ok (Some v)) shared functions = record { shared = shared; functions = of_functions u.graphs (unit_view v).graphs functions }
+kept_but_blocks u (Ok None) shared functions = tt
+kept_but_blocks u (Err e) shared functions = tt
