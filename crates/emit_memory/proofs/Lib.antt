@@ -10,6 +10,7 @@ pub mod Looping
 pub mod Objects
 pub mod Operands
 pub mod Reaching
+pub mod Spelled
 pub mod Steps
 pub mod Stores
 pub mod Values

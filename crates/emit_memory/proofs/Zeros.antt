@@ -106,7 +106,7 @@ module _ (w : Setting) (c : Configuration) (h : Holding) (storage : IsStorage w)
       let o : Object = is.object in
       subst (λ m. HoldsFrame w (record c { memory = m }) t) is.makes
       (filled_framed w c h t storage frame n words is.object (replicate (4 * words / size_of is.object.element) (Number 0)) is.there is.live is.few
-      (λ j le. subst (λ k. j < k) (sym (length-replicate (4 * words / size_of is.object.element) (Number 0))) (fits_in is.object.element j words le)) kept zeroes.outside
+      (λ j le. subst (λ k. j < k) (sym (length-replicate (4 * words / size_of is.object.element) (Number 0))) (fits_in is.object.element j words le)) (λ q left other. kept q left) zeroes.outside
       (λ j v e. zero_held j v (replicate_has (4 * words / size_of is.object.element) j (Number 0) v e)))
     where
       zero_held : (j : ℕ) (v : Value) → (j < 4 * words / size_of is.object.element) × (v ≡ Number 0)
