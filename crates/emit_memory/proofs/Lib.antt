@@ -1,5 +1,6 @@
 pub mod Accesses
 pub mod Arrays
+pub mod Copies
 pub mod Copying
 pub mod Elements
 pub mod Filled

@@ -6,7 +6,7 @@ use Rattle.graph_core.specs.declared.instruction.Element.{Element}
 use Rattle.graph_core.specs.Memory.{spelled, element_in, elements_from}
 
 -- Bytes from an index on; behind them all is zero.
-spelled_1 : (xs : List ℕ) (k : ℕ) → spelled (take 1 (drop k xs)) ≡ slice_index xs k
+pub spelled_1 : (xs : List ℕ) (k : ℕ) → spelled (take 1 (drop k xs)) ≡ slice_index xs k
 spelled_1 [] zero = refl
 spelled_1 [] (suc k) = refl
 spelled_1 (x ∷ xs) zero = omega arith

@@ -74,14 +74,14 @@ replicate_has zero j x v e = cc
 replicate_has (suc k) zero x v e = let same : x ≡ v = cc in (omega arith, sym same)
 replicate_has (suc k) (suc j) x v e = let rest = replicate_has k j x v e in (omega (arith, rest.0), rest.1)
 
-fits_in : (e : Element) (j words : ℕ) → j * size_of e + size_of e ≤ 4 * words → j < 4 * words / size_of e
+pub fits_in : (e : Element) (j words : ℕ) → j * size_of e + size_of e ≤ 4 * words → j < 4 * words / size_of e
 fits_in Unsigned8 j words le = omega arith
 fits_in Signed8 j words le = omega arith
 fits_in Unsigned16 j words le = omega arith
 fits_in Signed16 j words le = omega arith
 fits_in Word j words le = omega arith
 
-ends_in : (e : Element) (j words : ℕ) → j < 4 * words / size_of e → j * size_of e + size_of e ≤ 4 * words
+pub ends_in : (e : Element) (j words : ℕ) → j < 4 * words / size_of e → j * size_of e + size_of e ≤ 4 * words
 ends_in Unsigned8 j words lt = omega arith
 ends_in Signed8 j words lt = omega arith
 ends_in Unsigned16 j words lt = omega arith
@@ -129,19 +129,19 @@ module _ (w : Setting) (c : Configuration) (h : Holding) (storage : IsStorage w)
             (frame.laid.lie n is.object is.there),
       )
 
--- The machine comes behind the words of an instruction, in at most so many instructions, unseen, and holds the frame of a configuration. Registers but t0 to t2, and the input, are as they were.
+-- The machine comes behind the words of an instruction, in at most so many instructions, unseen, and holds the frame of a configuration. Registers but t0 to t2 and a0, and the input, are as they were.
 pub record Comes (p : Program) (s : State) (index : ℕ) (b : Bool) (most : ℕ) (code : List Instruction) (w : Setting) (h : Holding) (d : Configuration) : Type 0 where
   pub count : ℕ
   pub few : count ≤ most
   pub holding : Holding
   pub reaches : Reaches p count (record { state = s; shown = b }) [] (index + length code) (behind b code) holding
   pub frame : HoldsFrame w d holding
-  pub kept : (q : ℕ) → IsLeft q → holding.registers q ≡ h.registers q
+  pub kept : (q : ℕ) → IsLeft q → q ≢ 10 → holding.registers q ≡ h.registers q
   pub input : holding.input ≡ h.input
 
 -- ---- The words of a loop
 
-behind_setup : (b : Bool) (r offset : ℕ) (more : List Instruction) → behind b (address_code r r offset ++ more) ≡ false
+pub behind_setup : (b : Bool) (r offset : ℕ) (more : List Instruction) → behind b (address_code r r offset ++ more) ≡ false
 behind_setup b r offset more = by_tests (nat_lt offset 2048) (low_part offset == 0)
   where
     by_tests : (t z : Bool)
@@ -216,7 +216,7 @@ module _ (p : Program) (s : State) (index : ℕ) (b : Bool) (w : Setting) (c : C
         holding = done_by_all code h;
         reaches = code_does p s index h b code stands there z.can;
         frame = framed (done_by_all code h) (λ q left. z.kept q) z.memory;
-        kept = λ q left. z.kept q;
+        kept = λ q left other. z.kept q;
         input = z.input;
       }
 
@@ -271,7 +271,7 @@ module _ (p : Program) (s : State) (index : ℕ) (b : Bool) (w : Setting) (c : C
                 (subst (λ i. Reaches p (length setup + (2 + 1) * (k2 + 1)) (record { state = s; shown = b }) [] i false u) end all);
             frame = framed u kept (subst (λ m2. AreZeroed (h.registers 2 + object_at w.storage object) words m2 u.memory) up.memory
                 (subst (λ d. AreZeroed (h.registers 2 + object_at w.storage object) d t.memory u.memory) full done.left.memory));
-            kept = kept;
+            kept = λ q left other. kept q left;
             input = done.left.input ∙ up.input;
           }
 
