@@ -38,7 +38,7 @@ use Rattle.emit_memory.proofs.Limits.{address_brings, limit_brings}
 use Rattle.emit_memory.proofs.Looping.{LoopDone, loop_done}
 use Rattle.emit_memory.proofs.Spelled.{spelled_1, spelled_2, spelled_4, elements_length, elements_have}
 use Rattle.emit_memory.proofs.Copying.{AreCopied, none_copied, copy_body, CopiesLeft, copy_turns}
-use Rattle.emit_memory.proofs.Zeros.{IsFilled, filled_is, fits_in, ends_in, behind_setup, Comes}
+use Rattle.emit_memory.proofs.Zeros.{IsFilled, filled_is, fits_in, ends_in, words_stand, words_fit, behind_setup, Comes}
 
 -- ---- Elements
 
@@ -142,3 +142,130 @@ copy_set_up w h offset from words can low fits =
       memory = ap (λ (x : Holding). x.memory) both ∙ third.memory ∙ second.memory ∙ first.memory;
       input = ap (λ (x : Holding). x.input) both ∙ third.input ∙ second.input ∙ first.input;
     }
+
+module _ (p : Program) (s : State) (index : ℕ) (b : Bool) (w : Setting) (c : Configuration) (h : Holding) (storage : IsStorage w) (frame : HoldsFrame w c h) (object source words : ℕ) (all : List ℕ) (later : Memory) (valid : object < length w.graph.objects)
+  (there : slice_get w.unit.array_bytes source ≡ Some all) (stands : Stands p s index h) (made : copied c.memory (c.here.first_object + object) all words ≡ Some later) where
+  is_copied : IsCopied c.memory (c.here.first_object + object) words all later
+  is_copied = copied_is c.memory (c.here.first_object + object) words all later made
+
+  has : HasArray w c.memory h.memory source all
+  has = frame.arrays source all there
+
+  own : w.addresses (c.here.first_object + object) ≡ h.registers 2 + object_at w.storage object
+  own = frame.own object valid
+
+  abbrev to : ℕ
+  to = h.registers 2 + object_at w.storage object
+
+  abbrev from : ℕ
+  from = array_bytes_at w.storage source
+
+  to_stands : (k : ℕ) → k < words → IsDataAt 4 (to + 4 * k)
+  to_stands k lt = subst (λ a. IsDataAt 4 (a + 4 * k)) own (words_stand w c h storage frame (c.here.first_object + object) words (λ o. elements_from all o.element 0 (4 * words / size_of o.element)) later is_copied.filling k lt)
+
+  from_stands : (k : ℕ) → k < words → IsDataAt 4 (from + 4 * k)
+  from_stands k lt = let few = is_copied.few_bytes in let low = has.low in let high = has.high in let aligned = has.aligned in (omega (arith, aligned), inl (omega (arith, low), omega (arith, high, few, lt)))
+
+  to_fits : to + 4 * words ≤ 33554432
+  to_fits = subst (λ a. a + 4 * words ≤ 33554432) own (words_fit w c h storage frame (c.here.first_object + object) words (λ o. elements_from all o.element 0 (4 * words / size_of o.element)) later is_copied.filling)
+
+  from_fits : from + 4 * words ≤ 33554432
+  from_fits = let few = is_copied.few_bytes in let high = has.high in omega (arith, high, few)
+
+  apart : (from + 4 * words ≤ to) ⊎ (to + 4 * words ≤ from)
+  apart =
+      let few = is_copied.few_bytes in
+      let fill = is_copied.filling.few in
+      let here = own in
+      ⊎_elim
+      (λ (below : w.addresses (c.here.first_object + object) + 4 * words_of (bytes_of is_copied.filling.object) ≤ array_bytes_at w.storage source). inr (omega (arith, below, fill, here)))
+      (λ (above : array_bytes_at w.storage source + 4 * words_of (length all) ≤ w.addresses (c.here.first_object + object)). inl (omega (arith, above, few, here)))
+      (has.apart (c.here.first_object + object) is_copied.filling.object is_copied.filling.there is_copied.filling.live)
+
+  framed : (t : Holding) → ((x : ℕ) → t.memory x < 256) → ((q : ℕ) → IsLeft q → q ≢ 10 → t.registers q ≡ h.registers q) → AreCopied to from words h.memory t.memory → HoldsFrame w (record c { memory = later }) t
+  framed t small kept copies = copies_framed w c h storage frame (c.here.first_object + object) words all source later is_copied has t small kept (subst (λ a. AreCopied a from words h.memory t.memory) (sym own) copies)
+
+  abbrev setup : List Instruction
+  setup = address_code 6 6 (object_at w.storage object) ++ set_constant_code 7 (array_bytes_at w.storage source) w.storage.base w.held ++ limit_code 10 (words * 4 % 4294967296)
+
+  abbrev loop : List Instruction
+  loop = Load Lw 5 7 0 ∷ Store Sw 5 6 0 ∷ Immediate Addi 7 7 4 ∷ Immediate Addi 6 6 4 ∷ Branch Bne 6 10 (subtracted 0 16) ∷ []
+
+  setup_behind : (more : List Instruction) → behind b (setup ++ more) ≡ false
+  setup_behind more =
+      ap (behind b)
+      (append_assoc (address_code 6 6 (object_at w.storage object) ++ set_constant_code 7 (array_bytes_at w.storage source) w.storage.base w.held) (limit_code 10 (words * 4 % 4294967296)) more
+      ∙ append_assoc (address_code 6 6 (object_at w.storage object)) (set_constant_code 7 (array_bytes_at w.storage source) w.storage.base w.held) (limit_code 10 (words * 4 % 4294967296) ++ more))
+      ∙ behind_setup b 6 (object_at w.storage object) (set_constant_code 7 (array_bytes_at w.storage source) w.storage.base w.held ++ (limit_code 10 (words * 4 % 4294967296) ++ more))
+
+  none_behind : behind b setup ≡ false
+  none_behind = ap (behind b) (append_assoc (address_code 6 6 (object_at w.storage object)) (set_constant_code 7 (array_bytes_at w.storage source) w.storage.base w.held) (limit_code 10 (words * 4 % 4294967296)))
+      ∙ behind_setup b 6 (object_at w.storage object) (set_constant_code 7 (array_bytes_at w.storage source) w.storage.base w.held ++ limit_code 10 (words * 4 % 4294967296))
+
+  ends : (k : ℕ) → words ≡ suc k → IsCopySetUp setup h to from words → (first : Reaches p (length setup) (record { state = s; shown = b }) [] (index + length setup) (behind b setup) (done_by_all setup h))
+      → LoopDone p first.state (index + length setup) ((4 + 1) * (k + 1)) (index + length setup + 4 + 1) (CopiesLeft (done_by_all setup h) to from words)
+      → Comes p s index b (length (setup ++ loop) + 5 * words) (setup ++ loop) w h (record c { memory = later })
+  ends k m up first done =
+      let t : Holding = done_by_all setup h in
+      let u : Holding = done.holding in
+      let second : Reaches p ((4 + 1) * (k + 1)) (record { state = first.state; shown = behind b setup }) [] (index + length setup + 4 + 1) false u =
+      subst (λ x. Reaches p ((4 + 1) * (k + 1)) (record { state = first.state; shown = x }) [] (index + length setup + 4 + 1) false u) (sym none_behind) done.reaches in
+      let whole = reaches_then p (length setup) ((4 + 1) * (k + 1)) (record { state = s; shown = b }) [] (index + length setup) (behind b setup) t [] (index + length setup + 4 + 1) false u first second in
+      let size : length (setup ++ loop) ≡ length setup + 5 = length-append setup loop in
+      let end : index + length setup + 4 + 1 ≡ index + length (setup ++ loop) = omega (arith, size) in
+      let kept : (q : ℕ) → IsLeft q → q ≢ 10 → u.registers q ≡ h.registers q = λ q left other. done.left.kept q left ∙ up.kept q left other in
+      let full : done.left.done ≡ words = let sum = done.left.sum in omega (arith, sum) in
+      record {
+        count = length setup + (4 + 1) * (k + 1);
+        few = omega (arith, size, m);
+        holding = u;
+        reaches = subst (λ x. Reaches p (length setup + (4 + 1) * (k + 1)) (record { state = s; shown = b }) [] (index + length (setup ++ loop)) x u) (sym (setup_behind loop))
+            (subst (λ i. Reaches p (length setup + (4 + 1) * (k + 1)) (record { state = s; shown = b }) [] i false u) end whole);
+        frame = framed u done.left.small kept (subst (λ m2. AreCopied to from words m2 u.memory) up.memory (subst (λ d. AreCopied to from d t.memory u.memory) full done.left.memory));
+        kept = kept;
+        input = done.left.input ∙ up.input;
+      }
+
+  looping : (k : ℕ) → words ≡ suc k → CodeAt p index b (setup ++ loop) → Comes p s index b (length (setup ++ loop) + 5 * words) (setup ++ loop) w h (record c { memory = later })
+  looping k more code =
+      let high = has.high in
+      let up : IsCopySetUp setup h to from words = copy_set_up w h (object_at w.storage object) from words frame.fetch (omega (arith, high)) to_fits in
+      let t : Holding = done_by_all setup h in
+      let first = code_does p s index h b setup stands (code_front p index b setup loop code) up.can in
+      let body_there : CodeAt p (index + length setup) false loop = subst (λ x. CodeAt p (index + length setup) x loop) none_behind (code_rest p index b setup loop code) in
+      let start : CopiesLeft t to from words (suc k) t = record {
+        done = 0;
+        sum = omega (arith, more);
+        at = up.at ∙ (omega arith);
+        source = up.source ∙ (omega arith);
+        limit = up.limit_is;
+        small = first.stands.in_range.bytes;
+        kept = λ q left. refl;
+        memory = none_copied to from t.memory;
+        input = refl;
+      } in
+      ends k more up first
+      (loop_done p (index + length setup) copy_body 10 (CopiesLeft t to from words) (copy_turns t to from words to_fits from_fits apart to_stands from_stands) body_there k first.state t first.stands start)
+
+  -- The words of the instruction.
+  pub copy_comes : CodeAt p index b (copy_code w.storage w.held object source words) → Comes p s index b (length (copy_code w.storage w.held object source words) + 5 * words) (copy_code w.storage w.held object source words) w h (record c { memory = later })
+  copy_comes = by_test (words == 0) refl
+    where
+      by_count : (k : ℕ) → words ≡ k → (words == 0) ≡ false → CodeAt p index b (setup ++ loop) → Comes p s index b (length (setup ++ loop) + 5 * words) (setup ++ loop) w h (record c { memory = later })
+      by_count zero e is code = let clash : true ≡ false = sym (eq-eqb words 0 e) ∙ is in cc
+      by_count (suc k) e is code = looping k e code
+
+      nothing : words ≡ 0 → Comes p s index b (0 + 5 * words) [] w h (record c { memory = later })
+      nothing none = record {
+        count = 0;
+        few = omega arith;
+        holding = h;
+        reaches = code_does p s index h b [] stands tt tt;
+        frame = framed h stands.in_range.bytes (λ q left other. refl) (subst (λ k. AreCopied to from k h.memory h.memory) (sym none) (none_copied to from h.memory));
+        kept = λ q left other. refl;
+        input = refl;
+      }
+
+      by_test : (z : Bool) → (words == 0) ≡ z → CodeAt p index b (cond z [] (setup ++ loop)) → Comes p s index b (length (cond z [] (setup ++ loop)) + 5 * words) (cond z [] (setup ++ loop)) w h (record c { memory = later })
+      by_test true is code = nothing (eqb-true words 0 is)
+      by_test false is code = by_count words refl is code

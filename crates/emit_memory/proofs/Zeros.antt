@@ -117,7 +117,8 @@ module _ (w : Setting) (c : Configuration) (h : Holding) (storage : IsStorage w)
           (bits_kept is.object.element (λ b. 0) t.memory (w.addresses n + j * size_of is.object.element) (λ b low high. zeroes.within b (omega (arith, low)) (omega (arith, high, within)))
           ∙ zero_bits is.object.element (w.addresses n + j * size_of is.object.element))
 
-  -- Its words stand in memory.
+module _ (w : Setting) (c : Configuration) (h : Holding) (storage : IsStorage w) (frame : HoldsFrame w c h) (n words : ℕ) (new : Object → List Value) (later : Memory) (is : IsFilled c.memory n words new later) where
+  -- The words of an object stand in memory.
   pub words_stand : (k : ℕ) → k < words → IsDataAt 4 (w.addresses n + 4 * k)
   words_stand k lt =
       let an : w.addresses n % 4 ≡ 0 = frame.laid.aligned n is.object is.there in
@@ -128,6 +129,14 @@ module _ (w : Setting) (c : Configuration) (h : Holding) (storage : IsStorage w)
             (λ (high : (16777216 ≤ w.addresses n) × (w.addresses n + bytes_of is.object + 4 ≤ 33554432)). inr (omega (arith, high.0), omega (arith, high.1, few, lt)))
             (frame.laid.lie n is.object is.there),
       )
+
+  pub words_fit : w.addresses n + 4 * words ≤ 33554432
+  words_fit =
+      let few = is.few in
+      ⊎_elim
+      (λ (low : (4194304 ≤ w.addresses n) × (w.addresses n + bytes_of is.object + 4 ≤ 5242880)). omega (arith, low.1, few))
+      (λ (high : (16777216 ≤ w.addresses n) × (w.addresses n + bytes_of is.object + 4 ≤ 33554432)). omega (arith, high.1, few))
+      (frame.laid.lie n is.object is.there)
 
 -- The machine comes behind the words of an instruction, in at most so many instructions, unseen, and holds the frame of a configuration. Registers but t0 to t2 and a0, and the input, are as they were.
 pub record Comes (p : Program) (s : State) (index : ℕ) (b : Bool) (most : ℕ) (code : List Instruction) (w : Setting) (h : Holding) (d : Configuration) : Type 0 where
@@ -190,7 +199,7 @@ module _ (p : Program) (s : State) (index : ℕ) (b : Bool) (w : Setting) (c : C
   own = frame.own object valid
 
   stand : (k : ℕ) → k < words → IsDataAt 4 (h.registers 2 + object_at w.storage object + 4 * k)
-  stand k lt = subst (λ a. IsDataAt 4 (a + 4 * k)) own (words_stand w c h storage frame (c.here.first_object + object) words later is_filled k lt)
+  stand k lt = subst (λ a. IsDataAt 4 (a + 4 * k)) own (words_stand w c h storage frame (c.here.first_object + object) words (λ o. replicate (4 * words / size_of o.element) (Number 0)) later is_filled k lt)
 
   in_reach : h.registers 2 + object_at w.storage object + 4 * words ≤ 33554432
   in_reach =
