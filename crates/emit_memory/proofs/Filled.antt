@@ -14,13 +14,13 @@ use Rattle.homed_unit.specs.Homed.{IsHomeAmong, home_number}
 use Rattle.emit_storage.specs.Storages.{slot_at, object_at}
 use Rattle.machine_steps.specs.Holding.{Holding, word_at}
 use Rattle.emit_moves.specs.Doing.{IsLeft, value_of_home}
-use Rattle.emit_moves.proofs.Computing.{left_2, can_fetch_stays}
+use Rattle.emit_moves.proofs.Computing.{left_2}
 use Rattle.emit_memory.specs.Meaning.{Means, bits_at, HoldsBits, HoldsObjects}
 use Rattle.emit_memory.specs.Frames.{Setting, IsStorage, HoldsFrame}
 use Rattle.emit_memory.proofs.Arrays.{array_stays, array_apart}
 use Rattle.emit_memory.proofs.Elements.{word_kept, bits_kept}
 use Rattle.emit_memory.proofs.Objects.{AreThose, WasThere, get_set, those_set, means_later, holds_later, laid_later, element_within}
-use Rattle.emit_memory.proofs.Homes.{home_left, slot_is}
+use Rattle.emit_memory.proofs.Homes.{home_left, home_no_a0, fetch_stays, slot_is}
 
 -- ---- Lists of which the front is replaced
 
@@ -58,7 +58,7 @@ beyond Word j words lt = omega arith
 
 -- Memory behind the words: so many from an address on hold new bits, element by element, and the rest is as it was.
 module _ (w : Setting) (c : Configuration) (h t : Holding) (storage : IsStorage w) (frame : HoldsFrame w c h) (n words : ℕ) (o : Object) (new : List Value) (there : slice_get c.memory n ≡ Some o) (live : o.live ≡ true)
-    (few : words ≤ words_of (bytes_of o)) (every : (j : ℕ) → j * size_of o.element + size_of o.element ≤ 4 * words → j < length new) (kept : (q : ℕ) → IsLeft q → t.registers q ≡ h.registers q)
+    (few : words ≤ words_of (bytes_of o)) (every : (j : ℕ) → j * size_of o.element + size_of o.element ≤ 4 * words → j < length new) (kept : (q : ℕ) → IsLeft q → q ≢ 10 → t.registers q ≡ h.registers q)
     (outside : (b : ℕ) → (b < w.addresses n) ⊎ (w.addresses n + 4 * words ≤ b) → t.memory b ≡ h.memory b)
     (filled : (j : ℕ) (v : Value) → slice_get new j ≡ Some v → HoldsBits w.addresses c.memory (size_of o.element) v (bits_at t.memory (size_of o.element) (w.addresses n + j * size_of o.element))) where
   abbrev pub filled_objects : Memory
@@ -94,8 +94,8 @@ module _ (w : Setting) (c : Configuration) (h t : Holding) (storage : IsStorage 
           (frame.free n o there live)
 
   home_kept : (home : Home) → IsHomeAmong w.slots home → value_of_home w.storage t home ≡ value_of_home w.storage h home
-  home_kept (Register r) among = kept r (home_left r among)
-  home_kept (Slot k) lt = ap (λ s. word_at t.memory (s + slot_at w.storage k)) (kept 2 left_2) ∙ slot_kept k lt
+  home_kept (Register r) among = kept r (home_left r among) (home_no_a0 r among)
+  home_kept (Slot k) lt = ap (λ s. word_at t.memory (s + slot_at w.storage k)) (kept 2 left_2 (λ e. cc)) ∙ slot_kept k lt
 
   -- An element of the object: a new one, or an old one behind them.
   in_object : (j : ℕ) (v : Value) → slice_get (with_front new o.values) j ≡ Some v → HoldsBits w.addresses c.memory (size_of o.element) v (bits_at t.memory (size_of o.element) (w.addresses n + j * size_of o.element))
@@ -134,9 +134,9 @@ module _ (w : Setting) (c : Configuration) (h t : Holding) (storage : IsStorage 
   -- The frame behind the words.
   pub filled_framed : HoldsFrame w (record c { memory = slice_set c.memory n (record o { values = with_front new o.values }) }) t
   filled_framed =
-      let sp : t.registers 2 ≡ h.registers 2 = kept 2 left_2 in
+      let sp : t.registers 2 ≡ h.registers 2 = kept 2 left_2 (λ e. cc) in
       record {
-        fetch = can_fetch_stays w.storage w.held h t kept frame.fetch;
+        fetch = fetch_stays w.storage w.held h t kept frame.scratch frame.fetch;
         scratch = frame.scratch;
         aligned = ap (λ s. s % 4) sp ∙ frame.aligned;
         low = subst (λ s. 16777216 ≤ s) (sym sp) frame.low;

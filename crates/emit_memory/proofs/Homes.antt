@@ -11,11 +11,11 @@ use Rattle.graph_homes.specs.declared.home.Home.TheVariants.{Register, Slot}
 use Rattle.homed_unit.specs.Homed.{IsHomeRegister, IsHomeAmong, home_number}
 use Rattle.emit_pieces.specs.declared.piece.Held.{Held}
 use Rattle.emit_storage.specs.declared.storage.Source.TheVariants.{Home as OfHome}
-use Rattle.emit_storage.specs.Storages.{slot_at, object_at, array_bytes_at}
+use Rattle.emit_storage.specs.Storages.{StorageForm, slot_at, object_at, array_bytes_at}
 use Rattle.machine_steps.specs.Holding.{Holding, word_at, with_bytes}
 use Rattle.machine_steps.specs.Doing.{done_by_all}
 use Rattle.machine_steps.proofs.Apart.{byte_outside}
-use Rattle.emit_moves.specs.Doing.{Makes, CanWrite, HasSlot, HoldsAll, AreLeft, IsLeft, IsReadable, IsNoHome, value_of_home, memory_with}
+use Rattle.emit_moves.specs.Doing.{CanFetch, Makes, CanWrite, HasSlot, HoldsAll, AreLeft, IsLeft, IsReadable, IsNoHome, value_of_home, memory_with}
 use Rattle.emit_moves.proofs.Computing.{left_0, left_2, left_3, can_fetch_stays}
 use Rattle.emit_memory.specs.Meaning.{Means, HoldsObjects}
 use Rattle.emit_memory.specs.Frames.{Setting, IsStorage, IsScratch, AreScratch, HasArray, HoldsFrame, Performs}
@@ -93,6 +93,28 @@ no_home slots (Slot k) q among which = tt
 scratch_low : (r : ℕ) → IsScratch r → (r < 9) ⊎ ((10 ≤ r) × (r ≤ 17))
 scratch_low r (inl is) = inl (omega (arith, is))
 scratch_low r (inr both) = let low = both.0 in inr (omega (arith, low), both.1)
+
+-- The same where a0, which holds no constant and is no home, was written too.
+scratch_no_a0 : (r : ℕ) → IsScratch r → r ≢ 10
+scratch_no_a0 r (inl is) = λ e. omega (arith, is, e)
+scratch_no_a0 r (inr both) = let low = both.0 in λ e. omega (arith, low, e)
+
+pub home_no_a0 : (r : ℕ) → IsHomeRegister r → r ≢ 10
+home_no_a0 r (inl is) = λ e. omega (arith, is, e)
+home_no_a0 r (inr both) = let low = both.0 in λ e. omega (arith, low, e)
+
+held_stay : (held : List Held) (h t : Holding) → ((q : ℕ) → IsLeft q → q ≢ 10 → t.registers q ≡ h.registers q) → AreScratch held → AreLeft held → HoldsAll held h → HoldsAll held t
+held_stay [] h t kept scratch left all = tt
+held_stay (x ∷ more) h t kept scratch left all = (kept x.register left.0 (scratch_no_a0 x.register scratch.0) ∙ all.0, held_stay more h t kept scratch.1 left.1 all.1)
+
+pub fetch_stays : (g : StorageForm) (held : List Held) (h t : Holding) → ((q : ℕ) → IsLeft q → q ≢ 10 → t.registers q ≡ h.registers q) → AreScratch held → CanFetch g held h → CanFetch g held t
+fetch_stays g held h t kept scratch can = record {
+  fits = can.fits;
+  none = kept 0 left_0 (λ e. cc) ∙ can.none;
+  gp = kept 3 left_3 (λ e. cc) ∙ can.gp;
+  all = held_stay held h t kept scratch can.left can.all;
+  left = can.left;
+}
 
 held_kept : (slots : ℕ) (held : List Held) (h t : Holding) (home : Home) → IsHomeAmong slots home → ((q : ℕ) → IsNoHome home q → IsLeft q → t.registers q ≡ h.registers q) → AreScratch held → AreLeft held → HoldsAll held h → HoldsAll held t
 held_kept slots [] h t home among kept scratch left all = tt

@@ -1,5 +1,6 @@
 pub mod Accesses
 pub mod Arrays
+pub mod Copies
 pub mod Copying
 pub mod Elements
 pub mod Filled
@@ -10,6 +11,7 @@ pub mod Looping
 pub mod Objects
 pub mod Operands
 pub mod Reaching
+pub mod Spelled
 pub mod Steps
 pub mod Stores
 pub mod Values

@@ -74,14 +74,14 @@ replicate_has zero j x v e = cc
 replicate_has (suc k) zero x v e = let same : x ≡ v = cc in (omega arith, sym same)
 replicate_has (suc k) (suc j) x v e = let rest = replicate_has k j x v e in (omega (arith, rest.0), rest.1)
 
-fits_in : (e : Element) (j words : ℕ) → j * size_of e + size_of e ≤ 4 * words → j < 4 * words / size_of e
+pub fits_in : (e : Element) (j words : ℕ) → j * size_of e + size_of e ≤ 4 * words → j < 4 * words / size_of e
 fits_in Unsigned8 j words le = omega arith
 fits_in Signed8 j words le = omega arith
 fits_in Unsigned16 j words le = omega arith
 fits_in Signed16 j words le = omega arith
 fits_in Word j words le = omega arith
 
-ends_in : (e : Element) (j words : ℕ) → j < 4 * words / size_of e → j * size_of e + size_of e ≤ 4 * words
+pub ends_in : (e : Element) (j words : ℕ) → j < 4 * words / size_of e → j * size_of e + size_of e ≤ 4 * words
 ends_in Unsigned8 j words lt = omega arith
 ends_in Signed8 j words lt = omega arith
 ends_in Unsigned16 j words lt = omega arith
@@ -106,7 +106,7 @@ module _ (w : Setting) (c : Configuration) (h : Holding) (storage : IsStorage w)
       let o : Object = is.object in
       subst (λ m. HoldsFrame w (record c { memory = m }) t) is.makes
       (filled_framed w c h t storage frame n words is.object (replicate (4 * words / size_of is.object.element) (Number 0)) is.there is.live is.few
-      (λ j le. subst (λ k. j < k) (sym (length-replicate (4 * words / size_of is.object.element) (Number 0))) (fits_in is.object.element j words le)) kept zeroes.outside
+      (λ j le. subst (λ k. j < k) (sym (length-replicate (4 * words / size_of is.object.element) (Number 0))) (fits_in is.object.element j words le)) (λ q left other. kept q left) zeroes.outside
       (λ j v e. zero_held j v (replicate_has (4 * words / size_of is.object.element) j (Number 0) v e)))
     where
       zero_held : (j : ℕ) (v : Value) → (j < 4 * words / size_of is.object.element) × (v ≡ Number 0)
@@ -117,7 +117,8 @@ module _ (w : Setting) (c : Configuration) (h : Holding) (storage : IsStorage w)
           (bits_kept is.object.element (λ b. 0) t.memory (w.addresses n + j * size_of is.object.element) (λ b low high. zeroes.within b (omega (arith, low)) (omega (arith, high, within)))
           ∙ zero_bits is.object.element (w.addresses n + j * size_of is.object.element))
 
-  -- Its words stand in memory.
+module _ (w : Setting) (c : Configuration) (h : Holding) (storage : IsStorage w) (frame : HoldsFrame w c h) (n words : ℕ) (new : Object → List Value) (later : Memory) (is : IsFilled c.memory n words new later) where
+  -- The words of an object stand in memory.
   pub words_stand : (k : ℕ) → k < words → IsDataAt 4 (w.addresses n + 4 * k)
   words_stand k lt =
       let an : w.addresses n % 4 ≡ 0 = frame.laid.aligned n is.object is.there in
@@ -129,19 +130,27 @@ module _ (w : Setting) (c : Configuration) (h : Holding) (storage : IsStorage w)
             (frame.laid.lie n is.object is.there),
       )
 
--- The machine comes behind the words of an instruction, in at most so many instructions, unseen, and holds the frame of a configuration. Registers but t0 to t2, and the input, are as they were.
+  pub words_fit : w.addresses n + 4 * words ≤ 33554432
+  words_fit =
+      let few = is.few in
+      ⊎_elim
+      (λ (low : (4194304 ≤ w.addresses n) × (w.addresses n + bytes_of is.object + 4 ≤ 5242880)). omega (arith, low.1, few))
+      (λ (high : (16777216 ≤ w.addresses n) × (w.addresses n + bytes_of is.object + 4 ≤ 33554432)). omega (arith, high.1, few))
+      (frame.laid.lie n is.object is.there)
+
+-- The machine comes behind the words of an instruction, in at most so many instructions, unseen, and holds the frame of a configuration. Registers but t0 to t2 and a0, and the input, are as they were.
 pub record Comes (p : Program) (s : State) (index : ℕ) (b : Bool) (most : ℕ) (code : List Instruction) (w : Setting) (h : Holding) (d : Configuration) : Type 0 where
   pub count : ℕ
   pub few : count ≤ most
   pub holding : Holding
   pub reaches : Reaches p count (record { state = s; shown = b }) [] (index + length code) (behind b code) holding
   pub frame : HoldsFrame w d holding
-  pub kept : (q : ℕ) → IsLeft q → holding.registers q ≡ h.registers q
+  pub kept : (q : ℕ) → IsLeft q → q ≢ 10 → holding.registers q ≡ h.registers q
   pub input : holding.input ≡ h.input
 
 -- ---- The words of a loop
 
-behind_setup : (b : Bool) (r offset : ℕ) (more : List Instruction) → behind b (address_code r r offset ++ more) ≡ false
+pub behind_setup : (b : Bool) (r offset : ℕ) (more : List Instruction) → behind b (address_code r r offset ++ more) ≡ false
 behind_setup b r offset more = by_tests (nat_lt offset 2048) (low_part offset == 0)
   where
     by_tests : (t z : Bool)
@@ -190,7 +199,7 @@ module _ (p : Program) (s : State) (index : ℕ) (b : Bool) (w : Setting) (c : C
   own = frame.own object valid
 
   stand : (k : ℕ) → k < words → IsDataAt 4 (h.registers 2 + object_at w.storage object + 4 * k)
-  stand k lt = subst (λ a. IsDataAt 4 (a + 4 * k)) own (words_stand w c h storage frame (c.here.first_object + object) words later is_filled k lt)
+  stand k lt = subst (λ a. IsDataAt 4 (a + 4 * k)) own (words_stand w c h storage frame (c.here.first_object + object) words (λ o. replicate (4 * words / size_of o.element) (Number 0)) later is_filled k lt)
 
   in_reach : h.registers 2 + object_at w.storage object + 4 * words ≤ 33554432
   in_reach =
@@ -216,7 +225,7 @@ module _ (p : Program) (s : State) (index : ℕ) (b : Bool) (w : Setting) (c : C
         holding = done_by_all code h;
         reaches = code_does p s index h b code stands there z.can;
         frame = framed (done_by_all code h) (λ q left. z.kept q) z.memory;
-        kept = λ q left. z.kept q;
+        kept = λ q left other. z.kept q;
         input = z.input;
       }
 
@@ -271,7 +280,7 @@ module _ (p : Program) (s : State) (index : ℕ) (b : Bool) (w : Setting) (c : C
                 (subst (λ i. Reaches p (length setup + (2 + 1) * (k2 + 1)) (record { state = s; shown = b }) [] i false u) end all);
             frame = framed u kept (subst (λ m2. AreZeroed (h.registers 2 + object_at w.storage object) words m2 u.memory) up.memory
                 (subst (λ d. AreZeroed (h.registers 2 + object_at w.storage object) d t.memory u.memory) full done.left.memory));
-            kept = kept;
+            kept = λ q left other. kept q left;
             input = done.left.input ∙ up.input;
           }
 

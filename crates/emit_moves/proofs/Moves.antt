@@ -71,7 +71,7 @@ found_made g code h home r v apart can fits a =
       input = ap (λ (u : Holding). u.input) both ∙ b.input ∙ a.input;
     }
 
-constant_set : (held : List Held) (h : Holding) (g : StorageForm) (r w : ℕ) → 0 < r → w < 4294967296 → CanFetch g held h → Brings (set_constant_code r w g.base held) h r r w
+pub constant_set : (held : List Held) (h : Holding) (g : StorageForm) (r w : ℕ) → 0 < r → w < 4294967296 → CanFetch g held h → Brings (set_constant_code r w g.base held) h r r w
 constant_set held h g r w some fits can = by_test (is_small w) (holder_of w held) refl
   where
     made : Brings (constant_code r w g.base) h r r w
