@@ -1,5 +1,5 @@
 -- The words that copy an array's first bytes to an object do the unit's step.
-use Rattle.std.proofs.Common.{◌≡◌, ◌≢◌, ℕ, zero, suc, ◌+◌, ◌*◌, ◌/◌, ◌%◌, ◌<◌, ◌≤◌, ◌⊎◌, ⊎_elim, inl, inr, sym, ap, ◌∙◌, subst, arith, refl, List, [], ◌∷◌, ◌++◌, length, take, drop, slice_get, slice_set, Option, Some, None, Bool, true, false, cond, length-append, append_assoc}
+use Rattle.std.proofs.Common.{◌≡◌, ◌≢◌, ℕ, zero, suc, ◌+◌, ◌*◌, ◌/◌, ◌%◌, ◌<◌, ◌≤◌, ◌⊎◌, ⊎_elim, inl, inr, sym, ap, ◌∙◌, subst, arith, refl, List, [], ◌∷◌, ◌++◌, length, take, drop, slice_get, Some, None, Bool, true, false, cond, length-append, append_assoc}
 use Rattle.std.specs.Prelude.{◌==◌, nat_le, slice_index, option_map, option_and_then}
 use Rattle.std.proofs.lemmas.Bool.{eqb-true, eq-eqb, leb-true}
 use Rattle.word_base.specs.Arithmetic.{subtracted}
@@ -33,7 +33,7 @@ use Rattle.emit_moves.proofs.Moves.{constant_set}
 use Rattle.emit_memory.specs.Meaning.{bits_at, low_bits, HoldsBits}
 use Rattle.emit_memory.specs.Frames.{Setting, IsStorage, HasArray, HoldsFrame}
 use Rattle.emit_memory.proofs.Elements.{kept_means}
-use Rattle.emit_memory.proofs.Filled.{with_front, filled_framed}
+use Rattle.emit_memory.proofs.Filled.{filled_framed}
 use Rattle.emit_memory.proofs.Limits.{address_brings, limit_brings}
 use Rattle.emit_memory.proofs.Looping.{LoopDone, loop_done}
 use Rattle.emit_memory.proofs.Spelled.{spelled_1, spelled_2, spelled_4, elements_length, elements_have}
@@ -144,7 +144,7 @@ copy_set_up w h offset from words can low fits =
     }
 
 module _ (p : Program) (s : State) (index : ℕ) (b : Bool) (w : Setting) (c : Configuration) (h : Holding) (storage : IsStorage w) (frame : HoldsFrame w c h) (object source words : ℕ) (all : List ℕ) (later : Memory) (valid : object < length w.graph.objects)
-  (there : slice_get w.unit.array_bytes source ≡ Some all) (stands : Stands p s index h) (made : copied c.memory (c.here.first_object + object) all words ≡ Some later) where
+    (there : slice_get w.unit.array_bytes source ≡ Some all) (stands : Stands p s index h) (made : copied c.memory (c.here.first_object + object) all words ≡ Some later) where
   is_copied : IsCopied c.memory (c.here.first_object + object) words all later
   is_copied = copied_is c.memory (c.here.first_object + object) words all later made
 

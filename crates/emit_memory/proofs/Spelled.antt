@@ -1,5 +1,5 @@
 -- The number that an array's bytes spell for an element is what these bytes in memory spell.
-use Rattle.std.proofs.Common.{◌≡◌, ℕ, zero, suc, ◌+◌, ◌*◌, ◌%◌, ◌<◌, ◌≤◌, sym, ap, ◌∙◌, subst, arith, refl, List, [], ◌∷◌, length, take, drop, slice_get, Some}
+use Rattle.std.proofs.Common.{◌≡◌, ℕ, zero, suc, ◌+◌, ◌*◌, ◌<◌, sym, ap, ◌∙◌, arith, refl, List, [], ◌∷◌, length, take, drop, slice_get, Some}
 use Rattle.std.specs.Prelude.{slice_index}
 use Rattle.graph_core.specs.declared.value.Value.{Value}
 use Rattle.graph_core.specs.declared.instruction.Element.{Element}

@@ -1,9 +1,9 @@
 -- Where the words of an instruction that goes straight on stand in the code, the machine does the unit's step.
-use Rattle.std.proofs.Common.{◌≡◌, ℕ, ◌+◌, ◌*◌, ap, ◌∙◌, Option, Some, None, sym, subst, refl, List, [], ◌∷◌, length, Bool}
-use Rattle.std.specs.Prelude.{option_map}
+use Rattle.std.proofs.Common.{slice_get, ◌≡◌, ℕ, ◌+◌, ◌*◌, ap, ◌∙◌, Option, Some, None, sym, subst, refl, List, [], ◌∷◌, length, Bool}
+use Rattle.std.specs.Prelude.{option_and_then, option_map}
 use Rattle.rv_machine.specs.State.{State}
 use Rattle.graph_core.specs.Graphs.{Instruction, Marker, Note, Move, Operate, Truncate, Same, Address, Load, Store, Zero, CopyWords, Call}
-use Rattle.graph_core.specs.Memory.{Memory, zeroed}
+use Rattle.graph_core.specs.Memory.{Memory, zeroed, copied}
 use Rattle.graph_core.specs.Runs.{Configuration, Goes, step, step_from, with_memory}
 use Rattle.graph_core.specs.Uses.{target_of}
 use Rattle.graph_core.specs.Validity.{IsInstruction}
@@ -11,7 +11,7 @@ use Rattle.homed_unit.specs.Homed.{placed_instruction}
 use Rattle.emit_storage.specs.Storages.{StorageForm, home_at}
 use Rattle.emit_words.specs.Growing.{CodeState, with_code}
 use Rattle.emit_instructions.specs.Code.{with_instruction}
-use Rattle.emit_instructions.specs.Filling.{zero_code}
+use Rattle.emit_instructions.specs.Filling.{zero_code, copy_code}
 use Rattle.machine_steps.specs.Holding.{Holding, AreInRange}
 use Rattle.machine_steps.specs.Doing.{done_by_all}
 use Rattle.machine_steps.specs.Programs.{Program, CodeAt, behind, Stands}
@@ -19,6 +19,7 @@ use Rattle.machine_steps.specs.Points.{Reaches}
 use Rattle.machine_steps.proofs.Straight.{code_does}
 use Rattle.emit_memory.specs.Frames.{Setting, IsStorage, HoldsFrame, Performs, DoesStep, IsStraight, straight_code}
 use Rattle.emit_memory.proofs.Instructions.{straight_does}
+use Rattle.emit_memory.proofs.Copies.{copy_comes}
 use Rattle.emit_memory.proofs.Zeros.{Comes, zero_comes}
 
 -- The words of such an instruction are those that it becomes.
@@ -92,3 +93,26 @@ zero_arrives p s index b w c d h object words rest storage frame stands there is
 
 pub zero_appended : (g : StorageForm) (entry object words : ℕ) (s : CodeState) → with_instruction g entry (Zero object words) s ≡ with_code (zero_code g object words) s
 zero_appended g entry object words s = refl
+
+-- The same of the words that copy an array's bytes, with five instructions for each word.
+pub copy_arrives : (p : Program) (s : State) (index : ℕ) (b : Bool) (w : Setting) (c d : Configuration) (h : Holding) (object bytes words : ℕ) (rest : List Instruction) → IsStorage w → HoldsFrame w c h → Stands p s index h
+    → CodeAt p index b (copy_code w.storage w.held object bytes words) → c.here.rest ≡ placed_instruction (home_at w.storage) (CopyWords object bytes words) ∷ rest → IsInstruction w.unit w.graph (CopyWords object bytes words) → step w.unit c ≡ Goes d
+    → Comes p s index b (length (copy_code w.storage w.held object bytes words) + 5 * words) (copy_code w.storage w.held object bytes words) w h d
+copy_arrives p s index b w c d h object bytes words rest storage frame stands code is valid goes =
+    by_array (slice_get w.unit.array_bytes bytes) refl (ap (λ all. step_from w.unit all c) (sym is) ∙ goes)
+  where
+    by_memory : (all : List ℕ) → slice_get w.unit.array_bytes bytes ≡ Some all → (later : Option Memory) → copied c.memory (c.here.first_object + object) all words ≡ later → with_memory (going_on c rest) later ≡ Goes d
+        → Comes p s index b (length (copy_code w.storage w.held object bytes words) + 5 * words) (copy_code w.storage w.held object bytes words) w h d
+    by_memory all there None made e = cc
+    by_memory all there (Some later) made e =
+        let same : record (going_on c rest) { memory = later } ≡ d = cc in
+        subst (λ q. Comes p s index b (length (copy_code w.storage w.held object bytes words) + 5 * words) (copy_code w.storage w.held object bytes words) w h q) same
+        (copy_comes p s index b w (going_on c rest) h storage (rest_framed w c h rest frame) object bytes words all later valid.0 there stands made code)
+
+    by_array : (found : Option (List ℕ)) → slice_get w.unit.array_bytes bytes ≡ found → with_memory (going_on c rest) (option_and_then (λ all. copied c.memory (c.here.first_object + object) all words) found) ≡ Goes d
+        → Comes p s index b (length (copy_code w.storage w.held object bytes words) + 5 * words) (copy_code w.storage w.held object bytes words) w h d
+    by_array None there e = cc
+    by_array (Some all) there e = by_memory all there (copied c.memory (c.here.first_object + object) all words) refl e
+
+pub copy_appended : (g : StorageForm) (entry object bytes words : ℕ) (s : CodeState) → with_instruction g entry (CopyWords object bytes words) s ≡ with_code (copy_code g s.held object bytes words) s
+copy_appended g entry object bytes words s = refl
