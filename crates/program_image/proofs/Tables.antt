@@ -1,24 +1,34 @@
 -- The tables of an image are its program's.
-use Rattle.std.proofs.Common.{◌≡◌, ℕ, ◌+◌, ◌≤◌, List, [], ◌∷◌, ◌++◌, length, get_or, refl, sym, ap, ◌∙◌, arith}
-use Rattle.std.specs.Prelude.{map, min}
-use Rattle.std.proofs.lemmas.List.{map-append}
+use Rattle.std.proofs.Common.{◌≡◌, ℕ, ◌+◌, ◌≤◌, List, [], ◌∷◌, ◌++◌, length, get_or, refl, sym, ap, subst, ◌∙◌, arith}
+use Rattle.std.specs.Prelude.{◌↔◌, map, min}
+use Rattle.std.specs.List.{Contains}
+use Rattle.std.proofs.lemmas.List.{length-map, map-append}
 use Rattle.std.proofs.Math.Nat.{min-eq_left}
 use Rattle.debug_records.specs.declared.change.Var.{Var}
 use Rattle.places.specs.declared.table.PlaceRow.{PlaceRow}
-use Rattle.c_place_table.specs.Rows.{row_view}
+use Rattle.c_tree.specs.Programs.{ProgramTree}
+use Rattle.c_places.specs.Places.{places_of_program}
+use Rattle.c_flow.specs.Assigns.{assignments_of_program}
+use Rattle.c_flow.specs.Flow.{steps_of_program}
+use Rattle.c_flow.specs.Tables.{Fits32}
+use Rattle.c_place_table.specs.Rows.{row_of, row_view, rows_of_program}
+use Rattle.graph_core.specs.Graphs.{UnitForm}
+use Rattle.image_form.specs.Form.{Form}
 use Rattle.image_form.specs.Numbers.{row_numbers}
 use Rattle.image_form.specs.declared.verdicts.VisibleRow.{VisibleRow}
 use Rattle.currency.specs.declared.verdict.PlaceVerdict.{PlaceVerdict}
 use Rattle.currency.specs.Visible as told
 use Rattle.currency.specs.Visible.{next, sights_at, sights_from}
-use Rattle.image_tables.specs.Tables.{Sight, sight, sight_of_verdict, spot_of_row}
+use Rattle.image_tables.specs.Tables.{Sight, assigned_pair, flow_pair, sight, sight_of_verdict, spot, spot_of_row}
+use Rattle.image_drafts.specs.Same.{SaysTheSame}
 use Rattle.image_form.specs.Decoding.{element_of}
 use Rattle.image_form.specs.Numbers.{element_number, variable_numbers}
 use Rattle.image_form.specs.declared.variables.ElementType.{ElementType}
 use Rattle.image_form.specs.declared.variables.ElementType.TheVariants.{U8, I8, U16, I16, U32, I32, Pointer}
 use Rattle.image_form.specs.declared.variables.Variable.{Variable}
-use Rattle.image_declarations.specs.Variables.{Shape, shape}
-use Rattle.program_image.specs.Tables.{spot_of, visible_from}
+use Rattle.image_declarations.specs.Variables.{Shape, declared_names, length_of_name, name_length, shape, shapes_of}
+use Rattle.program_image.specs.Tables.{HasShapeOf, HasTablesOf, spot_of, visible_from}
+use Rattle.program_image.proofs.Elements.{same_images}
 
 -- where places stand, as their rows say
 pub spots : (rows : List PlaceRow) → map spot_of_row rows ≡ map spot_of (map row_view rows)
@@ -94,3 +104,36 @@ shapes_by (v ∷ variables) = let first = one_shape v in let rest = shapes_by va
 -- variables of the same numbers are made alike
 pub shapes_same : (xs ys : List Variable) → map variable_numbers xs ≡ map variable_numbers ys → map shape xs ≡ map shape ys
 shapes_same xs ys e = sym (shapes_by xs) ∙ ap (map shape_by) e ∙ shapes_by ys
+
+-- as many places as rows, which fit numbers of 32 bits
+rows_few : (p : ProgramTree) (rows : List PlaceRow) → Fits32 p → map row_view rows ≡ rows_of_program p → length rows + 1 ≤ 4294967295
+rows_few p rows fits are =
+    let same : length rows ≡ length (places_of_program p) = sym (length-map rows row_view) ∙ ap length are ∙ length-map (places_of_program p) (row_of p) in
+    omega (arith, same, fits.places)
+
+-- The tables of an image that are made of a program's tables, of its unit's flow and of verdicts are the program's.
+pub has_tables : (p : ProgramTree) (m : Form) (u : UnitForm) (rows : List PlaceRow) (all : List PlaceVerdict) → HasShapeOf p u → Fits32 p → map row_view rows ≡ rows_of_program p
+    → map name_length m.functions ≡ map length_of_name p.functions → map shape m.variables ≡ shapes_of p → ((more : List ℕ) × (m.names ≡ declared_names p ++ more))
+    → map spot m.places ≡ map spot_of_row rows → m.flow ≡ map flow_pair u.steps → m.assigned ≡ map assigned_pair u.assignments
+    → map sight m.rows ≡ map sight_of_verdict all → map told.sight all ≡ sights_from 1 rows → HasTablesOf p m
+has_tables p m u rows all shaped fits are functions variables names places flow assigned seen_rows told_rows = record {
+  functions = functions;
+  variables = variables;
+  names = names;
+  places = places ∙ spots rows ∙ ap (map spot_of) are;
+  flow = λ s. subst (λ l. Contains l s ↔ Contains (map flow_pair (steps_of_program p)) s) (sym flow) (same_images flow_pair u.steps (steps_of_program p) shaped.steps s);
+  assigned = λ a. subst (λ l. Contains l a ↔ Contains (map assigned_pair (assignments_of_program p)) a) (sym assigned) (same_images assigned_pair u.assignments (assignments_of_program p) shaped.assignments a);
+  visible = seen_rows ∙ seen all rows (rows_few p rows fits are) told_rows ∙ ap (visible_from 1) are;
+}
+
+-- what says the same as such tables has them
+pub tables_again : (p : ProgramTree) (tables image : Form) → SaysTheSame tables image → HasTablesOf p tables → HasTablesOf p image
+tables_again p tables image same are = record {
+  functions = ap (map name_length) same.functions ∙ are.functions;
+  variables = shapes_same image.variables tables.variables same.variables ∙ are.variables;
+  names = (are.names.0, same.names ∙ are.names.1);
+  places = ap (map spot) same.places ∙ are.places;
+  flow = λ s. subst (λ l. Contains l s ↔ Contains (map flow_pair (steps_of_program p)) s) (sym same.flow) (are.flow s);
+  assigned = λ a. subst (λ l. Contains l a ↔ Contains (map assigned_pair (assignments_of_program p)) a) (sym same.assigned) (are.assigned a);
+  visible = sights_same image.rows tables.rows same.rows ∙ are.visible;
+}

@@ -1,13 +1,14 @@
 -- What a unit keeps of its program's shape.
 use Rattle.std.proofs.Common.{◌≡◌, ℕ, suc, ◌+◌, List, [], ◌∷◌, length, refl, ap, subst, sym, ◌∙◌}
-use Rattle.std.specs.Prelude.{◌↔◌}
+use Rattle.std.specs.Prelude.{◌↔◌, IfOk, IfSome, Option, Some, None, Result, Ok, Err}
 use Rattle.std.specs.List.{Contains}
 use Rattle.places.specs.declared.flow.Assignment.{Assignment}
 use Rattle.places.specs.declared.flow.FlowStep.{FlowStep}
 use Rattle.c_tree.specs.Programs.{ProgramTree, TypedFunctionTree}
 use Rattle.c_flow.specs.Assigns.{assignments_of_program}
 use Rattle.c_flow.specs.Flow.{steps_of_program}
-use Rattle.graph_core.specs.Graphs.{Graph, UnitForm}
+use Rattle.graph_core.specs.declared.unit.Unit as declared-unit
+use Rattle.graph_core.specs.Graphs.{Graph, UnitForm, unit_view}
 use Rattle.graph_edits.specs.Kept.{EachFunction, KeepsFunction}
 use Rattle.graph_build.specs.Units.{IsUnitOf, graphs_from}
 use Rattle.pass_runs.specs.Kept.{KeepsShape}
@@ -30,4 +31,20 @@ shaped p u v is steps assignments kept = record {
   functions = as_many u.graphs v.graphs kept.functions ∙ ap length is.graphs ∙ graphs_counted p 0 p.functions;
   steps = subst (λ all. (s : FlowStep) → Contains all s ↔ Contains (steps_of_program p) s) (sym kept.shared.steps) steps;
   assignments = subst (λ all. (a : Assignment) → Contains all a ↔ Contains (assignments_of_program p) a) (sym kept.shared.assignments) assignments;
+}
+
+-- what passes make of that unit, if they make one, has its shape
+pub shaped_by : {E : Type 0} (p : ProgramTree) (u : UnitForm) (made : Result (Option declared-unit.Unit) E) → IsUnitOf p u
+    → ((s : FlowStep) → Contains u.steps s ↔ Contains (steps_of_program p) s) → ((a : Assignment) → Contains u.assignments a ↔ Contains (assignments_of_program p) a)
+    → IfOk made (λ o. IfSome o (λ v. KeepsShape u (unit_view v))) → IfOk made (λ o. IfSome o (λ v. HasShapeOf p (unit_view v)))
+shaped_by p u (Ok (Some v)) is steps assignments kept = shaped p u (unit_view v) is steps assignments kept
+shaped_by p u (Ok None) is steps assignments kept = tt
+shaped_by p u (Err e) is steps assignments kept = tt
+
+-- a unit that differs by its log alone has the same shape
+pub log_only : (p : ProgramTree) (u v : UnitForm) → v ≡ record u { log = v.log } → HasShapeOf p u → HasShapeOf p v
+log_only p u v same is = record {
+  functions = ap (λ (w : UnitForm). length w.graphs) same ∙ is.functions;
+  steps = subst (λ all. (s : FlowStep) → Contains all s ↔ Contains (steps_of_program p) s) (sym (ap (λ (w : UnitForm). w.steps) same)) is.steps;
+  assignments = subst (λ all. (a : Assignment) → Contains all a ↔ Contains (assignments_of_program p) a) (sym (ap (λ (w : UnitForm). w.assignments) same)) is.assignments;
 }
