@@ -1,0 +1,8 @@
+use Rattle.std.proofs.Common.{subst, sym}
+use Rattle.graph_core.specs.Graphs.{unit_view}
+use Rattle.pass_runs.specs.Kept.{KeepsShape}
+use Rattle.pass_runs.proofs.Shape.{shape_itself}
+use Rattle.cdbg.proofs.tests.handed_in.SameUnitPass.apply.Goals as goal
+
+pub returns-clause-kept : goal.returns-clause-kept
+returns-clause-kept c = subst (KeepsShape (unit_view c.args.unit.now)) (sym c.in_ok-duplicate.ensures) (shape_itself (unit_view c.args.unit.now))
