@@ -1,6 +1,6 @@
 //! From the texts to what is played.
 
-ghost use Rattle.std.specs.Prelude.{◌≡◌, [], false, IfOk, IfSome, IsTrue, MatchOption, Ok, map};
+ghost use Rattle.std.specs.Prelude.{◌≡◌, [], false, true, IfOk, IfSome, MatchOption, Ok, map};
 ghost use Rattle.debug_records.specs.declared.mode.Mode.TheVariants.{Slots};
 ghost use Rattle.c_source.specs.Sources.{program_of_source};
 ghost use Rattle.c_tree.specs.Programs.{program_view};
@@ -32,7 +32,7 @@ pub struct Made {
 
 /// Whether no pass is run and variables are kept in slots.
 fn is_plain(names: &[PassName], mode: Mode) -> bool
-    ensures plain { IsTrue result → (map letters names.now ≡ []) × (mode ≡ Slots) }
+    ensures plain { result ≡ true → (map letters names.now ≡ []) × (mode ≡ Slots) }
     ensures other { result ≡ false → map letters names.now ≡ [] → mode ≡ Slots → ⊥ }
 {
     names.is_empty() && mode == Mode::Slots

@@ -1,4 +1,4 @@
-use Rattle.std.proofs.Common.{◌∙◌, ap, subst, sym, Err}
+use Rattle.std.proofs.Common.{◌∙◌, ap, refl, subst, sym, Err}
 use Rattle.image_form.specs.Form.{form}
 use Rattle.thin_build.specs.Truthful.{Truthful}
 use Rattle.session.proofs.preparing.straight_image.Goals as goal
@@ -8,7 +8,7 @@ returns-in_ok-build-in-Ok c = (
   c.in_ok-build-in-Ok.ensures.valid,
   record {
     runs = λ none slots p thin input. subst (λ q. Truthful q (form c.in_ok-build-in-Ok.field-0) input) (sym (c.in-Ok.ensures.only p thin)) (c.in_ok-build-in-Ok.ensures.truthful input);
-    tables = λ other. absurd (other (record { no_pass = c.if-not-is_plain.ensures.plain.0; slots = c.if-not-is_plain.ensures.plain.1; thin = (_, c.in-Ok.ensures.accepted) }));
+    tables = λ other. absurd (other (record { no_pass = (c.if-not-is_plain.ensures.plain refl).0; slots = (c.if-not-is_plain.ensures.plain refl).1; thin = (_, c.in-Ok.ensures.accepted) }));
   },
 )
 
