@@ -1,6 +1,6 @@
 -- Reads where a pointer points: the unit reads what the source does.
-use Rattle.std.proofs.Common.{◌≡◌, ◌≢◌, ℕ, zero, suc, ◌/◌, List, [], ◌∷◌, Option, Some, slice_get, refl, sym, ap, ◌∙◌, subst}
-use Rattle.std.specs.Prelude.{option_map, option_and_then}
+use Rattle.std.proofs.Common.{◌≡◌, ◌≢◌, ℕ, zero, suc, ◌+◌, ◌*◌, ◌/◌, ◌<◌, ◌≤◌, List, [], ◌∷◌, length, Option, Some, None, Bool, true, false, slice_get, slice_set, refl, sym, ap, ◌∙◌, subst, arith}
+use Rattle.std.specs.Prelude.{if◌then◌else◌, option_map, option_and_then}
 use Rattle.std.proofs.lemmas.Option.{slice_get_within}
 use Rattle.c_tree.specs.declared.object_type.Scalar.{Scalar}
 use Rattle.c_tree.specs.Programs.{ProgramTree}
@@ -12,14 +12,14 @@ use Rattle.c_memory.specs.Memory.{Object as SourceObject, Memory as SourceMemory
 use Rattle.c_states.specs.States.{State}
 use Rattle.graph_core.specs.declared.value.Value.{Value}
 use Rattle.graph_core.specs.declared.value.Value.TheVariants.{Pointer}
-use Rattle.graph_core.specs.Memory.{Object, Memory, bytes_of, read, value_in}
+use Rattle.graph_core.specs.Memory.{Object, Memory, bytes_of, read, value_in, index_in}
 use Rattle.graph_core.specs.Values.{as_element}
 use Rattle.graph_drafts.specs.Rules.{element_of}
 use Rattle.graph_values.specs.Typed.{PointsInto, IsOf}
 use Rattle.graph_values.specs.Correspondence.{owner_of, IsInMemory, SameObject, SamePointer, points, ended, SameValue, SameValues}
 use Rattle.graph_values.proofs.Leads.{Setting, Local, World}
 use Rattle.graph_values.proofs.Later.{some_same}
-use Rattle.graph_values.proofs.Kept.{Sound, Fits}
+use Rattle.graph_values.proofs.Kept.{Sound, Placed, Fits}
 use Rattle.graph_values.proofs.Elements.{multiple, reaches, element_keeps}
 use Rattle.graph_values.proofs.Meanings.{all_at}
 

@@ -1,30 +1,33 @@
 -- Arguments from left to right.
-use Rattle.std.proofs.Common.{◌≡◌, ℕ, ◌<◌, ◌≤◌, List, [], ◌∷◌, map, None, Bool, false, refl, sym, ◌∙◌, subst, arith}
+use Rattle.std.proofs.Common.{◌≡◌, ℕ, ◌+◌, ◌<◌, ◌≤◌, List, [], ◌∷◌, map, Option, Some, None, Bool, true, false, ◌||◌, refl, sym, ap, ◌∙◌, subst, arith}
+use Rattle.std.specs.Prelude.{if◌then◌else◌}
 use Rattle.c_tree.specs.declared.object_type.ValueType.{ValueType}
 use Rattle.c_tree.specs.TypedExpressions.{RvalueTree, ArgumentTrees, none, first}
 use Rattle.c_tree.specs.Programs.{ProgramTree}
 use Rattle.c_law_types.specs.Expressions.{kind_of}
 use Rattle.c_memory.specs.declared.value.Value as source-value
+use Rattle.c_states.specs.declared.event.Ending.TheVariants as ending
 use Rattle.c_memory.specs.Memory.{Memory}
 use Rattle.c_states.specs.States.{State, Evaluated, Gives, Leaves, Ends, Listed, Lists, NoList, listed, fronted}
 use Rattle.c_meaning.specs.Expressions.{Calls, evaluate, evaluate_all}
 use Rattle.graph_core.specs.Graphs.{Operand, Instruction, End}
 use Rattle.graph_core.specs.Runs.{value}
+use Rattle.graph_core.specs.Memory.{Memory as UnitMemory}
 use Rattle.graph_scale.specs.Operands.{held}
 use Rattle.graph_laid.specs.declared.laid.Use.TheVariants.{Anywhere}
-use Rattle.graph_laid.specs.Laid.{behind_move}
+use Rattle.graph_laid.specs.Laid.{Laid, behind_move}
 use Rattle.graph_layout.specs.Layout.{laid, passed_laid}
 use Rattle.graph_names.specs.Writes.{writes, writes_any, is_moved}
-use Rattle.graph_drafts.specs.Drafts.{Made, To, move_if}
+use Rattle.graph_drafts.specs.Drafts.{Made, Goal, To, move_if}
 use Rattle.graph_code.specs.Code.{code_all}
 use Rattle.graph_values.specs.Typed.{IsOf}
 use Rattle.graph_values.specs.Correspondence.{SameValue, SameValues}
 use Rattle.graph_values.proofs.Leads.{Setting, names_in, size_in, depth_in, Local, World, at, Leads, stays, then_leads}
-use Rattle.graph_values.proofs.Later.{Later, OthersLater, others_refl, others_trans, value_later}
+use Rattle.graph_values.proofs.Later.{Later, later_refl, later_trans, OthersLater, others_refl, others_trans, value_later}
 use Rattle.graph_values.proofs.Kept.{Sound, Fits, ScalarsFirst}
-use Rattle.graph_values.proofs.Results.{Reached, to_made, Stuck, ToR}
+use Rattle.graph_values.proofs.Results.{Reached, to_made, Stuck, Valued, ToR, made_after, stuck_after}
 use Rattle.graph_values.proofs.Leaves.{left_stuck}
-use Rattle.graph_values.proofs.Typing.{Typed, Keeps}
+use Rattle.graph_values.proofs.Typing.{Typed, Keeps, Gave, gave_by, of_later}
 use Rattle.graph_values.proofs.Standing.{Stands, Grows, hold_inner}
 use Rattle.graph_values.proofs.Operands.{Does, code_in, value_in, written_by, Low, or_false, hold_done, held_stays, behind_le}
 

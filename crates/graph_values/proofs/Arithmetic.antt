@@ -1,6 +1,7 @@
 -- Operations on numbers.
-use Rattle.std.proofs.Common.{◌≡◌, ℕ, ◌≤◌, Option, Some, None, Bool, true, false, refl, ap, ◌∙◌, subst, arith, ℤ, ◌+ℤ◌, ◌-ℤ◌}
-use Rattle.std.specs.Prelude.{if◌then◌else◌, option_map}
+use Rattle.std.proofs.Common.{◌≡◌, ℕ, ◌+◌, ◌<◌, ◌≤◌, List, Option, Some, None, Bool, true, false, refl, sym, ap, ◌∙◌, subst, arith, ℤ, pos, negsuc, ◌+ℤ◌, ◌-ℤ◌}
+use Rattle.std.specs.Prelude.{if◌then◌else◌, ◌||◌, option_map}
+use Rattle.word_base.specs.declared.operation.Operation.{Operation}
 use Rattle.word_base.specs.Types.{holds}
 use Rattle.word_base.specs.WordOperations.{operated as operated_words}
 use Rattle.c_tree.specs.declared.types.IntegerType.{IntegerType}
@@ -14,32 +15,33 @@ use Rattle.c_tree.specs.declared.object_type.ValueType.TheVariants.{Integer}
 use Rattle.c_tree.specs.TypedExpressions.{RvalueTree, Arithmetic}
 use Rattle.c_type_rules.specs.Constants.{calculated}
 use Rattle.c_type_rules.specs.Integers.{integer}
+use Rattle.c_law_types.specs.declared.kind.Kind.{Kind}
 use Rattle.c_law_types.specs.declared.kind.Kind.TheVariants.{Of}
 use Rattle.c_law_types.specs.Expressions.{kind_of}
 use Rattle.c_memory.specs.declared.value.Value as source-value
 use Rattle.c_memory.specs.declared.value.Value.TheVariants as source
 use Rattle.c_states.specs.declared.event.Ending.TheVariants as ending
 use Rattle.c_memory.specs.Operations.{arithmetic}
-use Rattle.c_states.specs.States.{State, given}
-use Rattle.c_meaning.specs.Expressions.{Calls}
+use Rattle.c_states.specs.States.{State, Evaluated, Gives, Ends, given}
+use Rattle.c_meaning.specs.Expressions.{Calls, evaluate}
 use Rattle.graph_core.specs.declared.value.Value.{Value}
 use Rattle.graph_core.specs.declared.value.Value.TheVariants.{Number}
-use Rattle.graph_core.specs.Graphs.{Name, Operate}
+use Rattle.graph_core.specs.Graphs.{Operand, Name, Operate}
 use Rattle.graph_core.specs.Runs.{value}
 use Rattle.graph_core.specs.Values.{operate}
 use Rattle.graph_scale.specs.Conversions.{word_of}
 use Rattle.graph_names.specs.Names.{Names, pick}
-use Rattle.graph_drafts.specs.Drafts.{Made, Goal, operated}
+use Rattle.graph_drafts.specs.Drafts.{Made, Goal, before, target, follow, operated}
 use Rattle.graph_drafts.specs.Rules.{operation_for}
 use Rattle.graph_values.specs.Correspondence.{SameValue}
-use Rattle.graph_values.proofs.Words.{InWord, word_sum, word_difference, kept_word_int, kept_word_unsigned, kept_in_int, kept_in_unsigned}
+use Rattle.graph_values.proofs.Words.{InWord, in_word, word_sum, word_difference, kept_word_int, kept_word_unsigned, kept_in_int, kept_in_unsigned}
 use Rattle.graph_values.proofs.Leads.{Setting, names_in, size_in, Local, World}
-use Rattle.graph_values.proofs.Kept.{Fits, ScalarsFirst}
+use Rattle.graph_values.proofs.Kept.{Sound, Fits, ScalarsFirst}
 use Rattle.graph_values.proofs.Results.{Result, stuck_now, ended_result}
 use Rattle.graph_values.proofs.Leaves.{operated_done}
 use Rattle.graph_values.proofs.Typing.{HasKind, Typed}
-use Rattle.graph_values.proofs.Standing.{Grows}
-use Rattle.graph_values.proofs.Operands.{Does, Low, Spares, behind_le, pair_in, pair_does}
+use Rattle.graph_values.proofs.Standing.{Stands, Grows}
+use Rattle.graph_values.proofs.Operands.{Does, code_in, value_in, Low, Spares, behind_le, pair_in, pair_does}
 
 -- a name between what begun and what is free
 pub pick_between : (n : Names) (begun free t : ℕ) → t ≤ begun → t ≤ free → t ≤ pick n begun free

@@ -1,18 +1,22 @@
 -- The code of calls does what they mean.
-use Rattle.std.proofs.Common.{◌≡◌, ℕ, ◌≤◌, List, [], ◌∷◌, map, Some, None, Bool, true, false, refl, sym, ap, subst, arith, ℤ, pos, negsuc}
+use Rattle.std.proofs.Common.{◌≡◌, ℕ, zero, suc, ◌+◌, ◌<◌, ◌≤◌, List, [], ◌∷◌, map, Option, Some, None, Bool, true, false, ◌||◌, refl, sym, ap, ◌∙◌, subst, arith, ℤ, pos, negsuc}
+use Rattle.std.specs.Prelude.{if◌then◌else◌}
 use Rattle.std.specs.List.{list_any}
+use Rattle.c_tree.specs.declared.types.IntegerType.TheVariants.{Int}
 use Rattle.c_tree.specs.declared.object_type.ValueType.{ValueType}
+use Rattle.c_tree.specs.declared.object_type.ValueType.TheVariants.{Integer}
 use Rattle.c_tree.specs.declared.typed_expression.Callee as source-callee
 use Rattle.c_tree.specs.declared.typed_expression.Callee.TheVariants as called
-use Rattle.c_tree.specs.TypedExpressions.{ArgumentTrees, Call}
+use Rattle.c_tree.specs.TypedExpressions.{RvalueTree, ArgumentTrees, Call}
+use Rattle.c_tree.specs.Programs.{ProgramTree}
 use Rattle.c_value_types.specs.ValueTypes.{given_by, is_void}
 use Rattle.c_memory.specs.declared.value.Value as source-value
 use Rattle.c_memory.specs.declared.value.Value.TheVariants as source
 use Rattle.c_states.specs.declared.event.Ending.TheVariants as ending
 use Rattle.c_memory.specs.Memory.{Memory}
-use Rattle.c_states.specs.States.{State, Gives}
-use Rattle.c_meaning.specs.Expressions.{Calls, evaluate, evaluate_all, call}
-use Rattle.c_states.specs.Steps.{next_byte}
+use Rattle.c_states.specs.States.{State, Evaluated, Gives, Leaves, Ends, Listed}
+use Rattle.c_meaning.specs.Expressions.{Calls, evaluate, evaluate_all, call, call_with_one}
+use Rattle.c_states.specs.Steps.{next_byte, put, leave}
 use Rattle.graph_core.specs.declared.value.Value.{Value}
 use Rattle.graph_core.specs.declared.value.Value.TheVariants.{Number}
 use Rattle.graph_core.specs.declared.instruction.Callee.TheVariants as unit-called
@@ -27,15 +31,16 @@ use Rattle.graph_names.specs.Names.{pick}
 use Rattle.graph_laid.specs.Laid.{called_laid}
 use Rattle.graph_layout.specs.Layout.{passed_laid}
 use Rattle.graph_drafts.specs.Rules.{callee_for}
-use Rattle.graph_drafts.specs.Drafts.{Made, Goal, To, Unused, Either, leaf, zero as zero_operand, target, follow, called_by}
-use Rattle.graph_values.specs.Correspondence.{SameValues, AreBytes}
+use Rattle.graph_drafts.specs.Drafts.{Made, Goal, To, Unused, Either, before, leaf, zero as zero_operand, target, follow, called_by}
+use Rattle.graph_values.specs.Typed.{IsOf}
+use Rattle.graph_values.specs.Correspondence.{SameValue, SameValues, AreBytes}
 use Rattle.graph_values.proofs.Leads.{Setting, names_in, size_in, depth_in, Local, World}
 use Rattle.graph_values.proofs.Kept.{Sound, Fits, ScalarsFirst}
 use Rattle.graph_values.proofs.Results.{Result, stuck_now, ended_result}
 use Rattle.graph_values.proofs.Standing.{Stands}
 use Rattle.graph_values.proofs.Operands.{Does}
 use Rattle.graph_values.proofs.Arithmetic.{pick_between}
-use Rattle.graph_values.proofs.Arguments.{AreOf, TypedAll, passing, passed_in, any_written, DoesAll}
+use Rattle.graph_values.proofs.Arguments.{AreOf, TypedAll, Listing, Row, passing, passed_in, any_written, DoesAll}
 use Rattle.graph_values.proofs.Calling.{none_odd, CallsOk, comes_back, unused_back, void_back}
 use Rattle.graph_values.proofs.Library.{list_then, effect_done, getchar_end, getchar_byte, putchar_effect, exit_ends}
 

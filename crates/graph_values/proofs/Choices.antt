@@ -1,23 +1,32 @@
 -- `&&`, `||`, `!` as a test, and `?:`.
-use Rattle.std.proofs.Common.{ℕ, ◌≤◌, List, None, Bool, ◌||◌, refl, subst, arith}
-use Rattle.c_tree.specs.TypedExpressions.{RvalueTree, And, Or}
+use Rattle.std.proofs.Common.{◌≡◌, ℕ, ◌+◌, ◌<◌, ◌≤◌, List, [], ◌∷◌, Option, Some, None, Bool, true, false, not, ◌||◌, slice_get, refl, sym, ap, ◌∙◌, subst, arith, pos}
+use Rattle.std.specs.Prelude.{if◌then◌else◌}
+use Rattle.c_tree.specs.TypedExpressions.{RvalueTree, And, Or, Not, Conditional}
 use Rattle.c_law_types.specs.Expressions.{kind_of}
-use Rattle.c_states.specs.States.{State, Tested, Holds, Fails, NoTest, tested}
+use Rattle.c_memory.specs.declared.value.Value as source-value
+use Rattle.c_states.specs.States.{State, Evaluated, Gives, Leaves, Ends, Tested, Holds, Fails, NoTest, tested, on_test}
 use Rattle.c_meaning.specs.Expressions.{Calls, evaluate}
-use Rattle.graph_core.specs.Graphs.{Name, Instruction, End}
+use Rattle.c_states.specs.Steps.{truth}
+use Rattle.c_value_types.specs.ValueTypes.{type_of, is_void}
+use Rattle.graph_core.specs.Graphs.{Operand, Name, Instruction, End, Jump, Block}
+use Rattle.graph_core.specs.Runs.{entered}
 use Rattle.graph_laid.specs.declared.laid.Use.{Use}
-use Rattle.graph_laid.specs.declared.laid.Use.TheVariants.{Tested as UseTested}
-use Rattle.graph_names.specs.Names.{pick}
-use Rattle.graph_laid.specs.Laid.{behind_own}
+use Rattle.graph_laid.specs.declared.laid.Use.TheVariants.{Anywhere, In, Nothing, Tested as UseTested}
+use Rattle.graph_names.specs.Names.{Names, pick}
+use Rattle.graph_laid.specs.Laid.{behind_own, behind_move}
 use Rattle.graph_layout.specs.Layout.{laid}
 use Rattle.graph_names.specs.Writes.{writes}
-use Rattle.graph_drafts.specs.Drafts.{Made, Goal, Either, use_of, closed, label_of, forked}
-use Rattle.graph_values.proofs.Leads.{Setting, names_in, size_in, depth_in, Local, World}
-use Rattle.graph_values.proofs.Kept.{Sound, Fits, ScalarsFirst}
-use Rattle.graph_values.proofs.Results.{Reached, to_label, EitherR, Result, test_after, reached_weaker}
-use Rattle.graph_values.proofs.Typing.{Left, KeepsTest, keeps_tested, Typed}
-use Rattle.graph_values.proofs.Standing.{Stands, Grows, block_of, closed_inner, closed_block}
-use Rattle.graph_values.proofs.Operands.{Does, code_in, written_by, or_false}
+use Rattle.graph_drafts.specs.Drafts.{Made, Goal, To, Unused, Either, use_of, ending, leaf, closed, label_of, forked}
+use Rattle.graph_values.specs.Correspondence.{SameValue}
+use Rattle.graph_values.proofs.Leads.{Setting, names_in, size_in, depth_in, Local, World, at, stays, goes, then_leads, less_other}
+use Rattle.graph_values.proofs.Later.{others_refl}
+use Rattle.graph_values.proofs.Kept.{is_want, Sound, Fits, ScalarsFirst, fits_unwanted}
+use Rattle.graph_values.proofs.Results.{Reached, Passes, to_label, to_made, Valued, ToR, EitherR, Result, ended_result, result_after, test_after, reached_weaker}
+use Rattle.graph_values.proofs.Tests.{HasWord}
+use Rattle.graph_values.proofs.Leaves.{leaf_done, left_stuck}
+use Rattle.graph_values.proofs.Typing.{Keeps, Gave, gave_by, Left, KeepsTest, keeps_tested, kind_word, Typed}
+use Rattle.graph_values.proofs.Standing.{Stands, Grows, inner_of, block_of, closed_inner, closed_block}
+use Rattle.graph_values.proofs.Operands.{Does, code_in, value_in, written_by, or_false}
 use Rattle.graph_values.proofs.Arithmetic.{pick_between}
 use Rattle.graph_values.proofs.Conditions.{fork_done, both_tests, either_test, both_as, either_as, own_above}
 

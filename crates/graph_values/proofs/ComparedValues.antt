@@ -1,6 +1,6 @@
 -- Comparisons of numbers as values.
-use Rattle.std.proofs.Common.{◌≡◌, ◌≢◌, ℕ, ◌≤◌, inl, inr, [], Bool, true, false, not, None, refl, sym, ap, ◌∙◌, subst, arith, ℤ, bit_xor}
-use Rattle.std.specs.Prelude.{◌==◌, int_le, int_lt, nat_lt}
+use Rattle.std.proofs.Common.{◌≡◌, ◌≢◌, ℕ, zero, suc, ◌+◌, ◌*◌, ◌<◌, ◌≤◌, ◌⊎◌, inl, inr, List, [], ◌∷◌, Bool, true, false, not, ◌||◌, Option, Some, None, refl, sym, ap, ◌∙◌, subst, arith, ℤ, pos, negsuc, bit_xor, bit_and}
+use Rattle.std.specs.Prelude.{◌==◌, if◌then◌else◌, int_le, int_lt, nat_lt}
 use Rattle.std.specs.Int.Bits.{xor_self, xor_add_and}
 use Rattle.std.proofs.lemmas.Nat.{and_le_l, and_le_r}
 use Rattle.std.proofs.lemmas.Bool.{cases_eq}
@@ -22,9 +22,12 @@ use Rattle.c_law_types.specs.Expressions.{kind_of}
 use Rattle.c_law_types.specs.Kinds.{is_promoted}
 use Rattle.c_memory.specs.declared.value.Value as source-value
 use Rattle.c_memory.specs.declared.value.Value.TheVariants as source
+use Rattle.c_states.specs.declared.event.Ending.TheVariants as ending
+use Rattle.c_memory.specs.Memory.{Memory}
 use Rattle.c_memory.specs.Operations.{comparison as compares, compared as truth_of, is_true}
-use Rattle.c_states.specs.States.{State, Gives, given, by_truth}
-use Rattle.c_meaning.specs.Expressions.{Calls}
+use Rattle.c_states.specs.States.{State, Evaluated, Gives, Ends, given, Tested, tested, by_truth}
+use Rattle.c_meaning.specs.Expressions.{Calls, evaluate}
+use Rattle.graph_core.specs.declared.value.Value.{Value}
 use Rattle.graph_core.specs.declared.value.Value.TheVariants.{Number}
 use Rattle.graph_core.specs.Graphs as unit
 use Rattle.graph_core.specs.Graphs.{Operand, Name, Operate, End, Instruction}
@@ -32,21 +35,21 @@ use Rattle.graph_core.specs.Runs.{value}
 use Rattle.graph_core.specs.Values.{operate}
 use Rattle.graph_scale.specs.Conversions.{word_of}
 use Rattle.graph_scale.specs.Operands.{is_two}
-use Rattle.graph_laid.specs.Laid.{behind_move}
+use Rattle.graph_laid.specs.Laid.{Pair, behind_move}
 use Rattle.graph_names.specs.Names.{pick}
-use Rattle.graph_drafts.specs.Drafts.{Made, Goal, To, Unused, Either, target, follow, branch_by, compare_by, compared}
+use Rattle.graph_drafts.specs.Drafts.{Made, Goal, To, Unused, Either, before, target, follow, branch_by, compare_by, compared}
 use Rattle.graph_drafts.specs.Rules.{less_by}
 use Rattle.graph_values.specs.Correspondence.{SameValue}
 use Rattle.graph_values.proofs.Words.{InWord}
 use Rattle.graph_values.proofs.Comparing.{less_computes, equal_computes, at_most_is}
 use Rattle.graph_values.proofs.Compares.{branch_compares}
-use Rattle.graph_values.proofs.Leads.{Setting, names_in, size_in, Local, World, put_here}
-use Rattle.graph_values.proofs.Kept.{Fits, ScalarsFirst}
-use Rattle.graph_values.proofs.Results.{EitherR, Result}
+use Rattle.graph_values.proofs.Leads.{Setting, names_in, size_in, Local, World, set_name, put_here}
+use Rattle.graph_values.proofs.Kept.{Sound, Fits, ScalarsFirst}
+use Rattle.graph_values.proofs.Results.{EitherR, Result, stuck_now, ended_result}
 use Rattle.graph_values.proofs.Leaves.{operated_done, two_done, test_done}
 use Rattle.graph_values.proofs.Typing.{HasKind, Typed}
-use Rattle.graph_values.proofs.Standing.{Grows}
-use Rattle.graph_values.proofs.Operands.{Does, Low, Spares, behind_le, pair_in, pair_does}
+use Rattle.graph_values.proofs.Standing.{Stands, Grows}
+use Rattle.graph_values.proofs.Operands.{Does, code_in, Low, Spares, behind_le, pair_in, pair_does}
 use Rattle.graph_values.proofs.Arithmetic.{pick_between}
 use Rattle.graph_values.proofs.Laying.{behind_from}
 

@@ -1,26 +1,57 @@
 -- Comparisons of numbers, as conditions and as values.
-use Rattle.std.proofs.Common.{◌≡◌, ℕ, [], Bool, true, false, not, Some, refl, ap, ◌∙◌, ℤ}
-use Rattle.std.specs.Prelude.{◌==◌, if◌then◌else◌, int_lt, option_map}
+use Rattle.std.proofs.Common.{◌≡◌, ◌≢◌, ℕ, zero, suc, ◌+◌, ◌*◌, ◌<◌, ◌≤◌, List, [], ◌∷◌, Bool, true, false, not, ◌||◌, Option, Some, None, refl, sym, ap, ◌∙◌, subst, arith, ℤ, pos, negsuc, bit_xor, bit_and}
+use Rattle.std.specs.Prelude.{◌==◌, if◌then◌else◌, int_le, int_lt, option_map}
+use Rattle.std.specs.Int.Bits.{xor_self, xor_add_and}
+use Rattle.std.proofs.lemmas.Nat.{and_le_l, and_le_r}
+use Rattle.std.proofs.lemmas.Bool.Decides.{nat_tests}
 use Rattle.word_base.specs.Types.{holds as is_number}
+use Rattle.word_base.specs.Operations as source-operations
 use Rattle.word_base.specs.Words.{word_of_test}
+use Rattle.word_base.specs.WordOperations.{operated as operated_words}
+use Rattle.word_base.specs.declared.operation.Operation.TheVariants as operation
 use Rattle.c_tree.specs.declared.types.IntegerType.{IntegerType}
+use Rattle.c_tree.specs.declared.object_type.ValueType.TheVariants.{Integer}
 use Rattle.c_tree.specs.declared.typed_expression.Comparison as declared
 use Rattle.c_tree.specs.declared.typed_expression.Comparison.TheVariants as comparison
+use Rattle.c_tree.specs.TypedExpressions.{RvalueTree, Compare}
 use Rattle.c_type_rules.specs.Integers.{integer}
-use Rattle.c_type_rules.specs.Constants.{compared as holds_of}
+use Rattle.c_type_rules.specs.Constants.{same, compared as holds_of}
+use Rattle.c_law_types.specs.declared.kind.Kind.TheVariants.{Of}
+use Rattle.c_law_types.specs.Expressions.{kind_of}
 use Rattle.c_law_types.specs.Kinds.{is_promoted}
+use Rattle.c_memory.specs.declared.value.Value as source-value
+use Rattle.c_memory.specs.declared.value.Value.TheVariants as source
+use Rattle.c_memory.specs.Operations.{comparison as compares, compared as truth_of}
+use Rattle.c_states.specs.States.{State, Evaluated, Gives, given, tested, by_truth}
+use Rattle.c_meaning.specs.Expressions.{Calls, evaluate}
 use Rattle.graph_core.specs.declared.value.Value.{Value}
 use Rattle.graph_core.specs.declared.value.Value.TheVariants.{Number}
-use Rattle.graph_core.specs.Graphs.{Operand}
+use Rattle.graph_core.specs.Graphs as unit
+use Rattle.graph_core.specs.Graphs.{Operand, Name, Operate, End, Instruction}
 use Rattle.graph_core.specs.Memory.{is_live}
-use Rattle.graph_core.specs.Runs.{step, value, branched}
+use Rattle.graph_core.specs.Runs.{Goes, step, value, branched}
 use Rattle.graph_core.specs.Values.{operate, holds, is_true as is_known}
 use Rattle.graph_core.specs.declared.block.Comparison.TheVariants as branch
 use Rattle.graph_scale.specs.Conversions.{word_of}
-use Rattle.graph_drafts.specs.Drafts.{less, not_less, branch_by}
+use Rattle.graph_scale.specs.Operands.{is_two}
+use Rattle.graph_laid.specs.Laid.{Pair, behind_move}
+use Rattle.graph_names.specs.Names.{pick}
+use Rattle.graph_drafts.specs.Drafts.{Made, Goal, To, Unused, Either, before, target, follow, less, not_less, branch_by, compare_by, compared, compared_value}
 use Rattle.graph_drafts.specs.Rules.{less_by}
+use Rattle.graph_values.specs.Correspondence.{SameValue}
+use Rattle.graph_values.proofs.Words.{InWord}
+use Rattle.graph_values.proofs.Tests.{HasWord}
 use Rattle.graph_values.proofs.Comparing.{less_computes, equal_computes, at_most_is}
-use Rattle.graph_values.proofs.Leads.{Setting, Local, World, at}
+use Rattle.graph_values.proofs.Leads.{Setting, names_in, size_in, Local, World, set_name, at, stays, goes, put_here, put_elsewhere, less_other}
+use Rattle.graph_values.proofs.Later.{others_refl}
+use Rattle.graph_values.proofs.Kept.{Sound, Fits, ScalarsFirst, fits_temporary}
+use Rattle.graph_values.proofs.Results.{EitherR, Result, result_after}
+use Rattle.graph_values.proofs.Leaves.{Writes, operated_done, test_done}
+use Rattle.graph_values.proofs.Typing.{HasKind, Typed}
+use Rattle.graph_values.proofs.Standing.{Stands, Grows}
+use Rattle.graph_values.proofs.Operands.{Does, code_in, Low, Spares, behind_le, pair_in, pair_does}
+use Rattle.graph_values.proofs.Arithmetic.{pick_between}
+use Rattle.graph_values.proofs.Laying.{behind_from}
 
 known_test : (c : Bool) → is_known (Number (word_of_test c)) ≡ Some c
 known_test true = refl

@@ -1,5 +1,5 @@
 -- `?:`: one of two arms, and what follows.
-use Rattle.std.proofs.Common.{◌≡◌, ℕ, ◌+◌, ◌<◌, ◌≤◌, List, [], Some, None, Bool, false, not, ◌||◌, slice_get, refl, sym, ap, subst, arith}
+use Rattle.std.proofs.Common.{◌≡◌, ℕ, ◌+◌, ◌<◌, ◌≤◌, List, [], ◌∷◌, Option, Some, None, Bool, true, false, not, ◌||◌, slice_get, refl, sym, ap, ◌∙◌, subst, arith}
 use Rattle.std.specs.Prelude.{if◌then◌else◌}
 use Rattle.c_tree.specs.TypedExpressions.{RvalueTree, Conditional}
 use Rattle.c_law_types.specs.Expressions.{kind_of}
@@ -10,21 +10,24 @@ use Rattle.c_meaning.specs.Expressions.{Calls, evaluate}
 use Rattle.c_value_types.specs.ValueTypes.{type_of, is_void}
 use Rattle.graph_core.specs.Graphs.{Operand, Name, Instruction, End, Jump, Block}
 use Rattle.graph_core.specs.Runs.{entered}
+use Rattle.graph_laid.specs.declared.laid.Use.{Use}
 use Rattle.graph_laid.specs.declared.laid.Use.TheVariants.{Anywhere, In, Nothing, Tested as UseTested}
-use Rattle.graph_names.specs.Names.{pick}
+use Rattle.graph_names.specs.Names.{Names, pick}
 use Rattle.graph_laid.specs.Laid.{Laid, behind_move, void_arms_laid, arms_laid}
 use Rattle.graph_layout.specs.Layout.{laid}
 use Rattle.graph_names.specs.Writes.{writes}
-use Rattle.graph_drafts.specs.Drafts.{Made, Goal, To, Either, ending, leaf, closed, label_of}
+use Rattle.graph_drafts.specs.Drafts.{Made, Goal, To, Unused, Either, ending, leaf, closed, label_of}
 use Rattle.graph_steps.specs.Steps.{arm_use, arm_value, arm_goal}
-use Rattle.graph_values.proofs.Leads.{Setting, names_in, size_in, depth_in, Local, World, at, stays, goes, then_leads, less_other}
-use Rattle.graph_values.proofs.Kept.{Sound, Fits, ScalarsFirst, fits_unwanted}
-use Rattle.graph_values.proofs.Results.{Reached, to_label, ToR, EitherR, Result, ended_result, result_after}
+use Rattle.graph_values.specs.Correspondence.{SameValue}
+use Rattle.graph_values.proofs.Leads.{Setting, names_in, size_in, depth_in, Local, World, at, Leads, stays, goes, then_leads, less_other}
+use Rattle.graph_values.proofs.Later.{others_refl}
+use Rattle.graph_values.proofs.Kept.{is_want, Sound, Fits, ScalarsFirst, fits_unwanted}
+use Rattle.graph_values.proofs.Results.{Reached, Passes, to_label, to_made, Stuck, Valued, ToR, EitherR, Result, ended_result, result_after, stuck_after}
 use Rattle.graph_values.proofs.Tests.{HasWord}
 use Rattle.graph_values.proofs.Leaves.{leaf_done}
 use Rattle.graph_values.proofs.Sequences.{left_done}
-use Rattle.graph_values.proofs.Typing.{Keeps, Left, KeepsTest, keeps_tested, kind_word, Typed}
-use Rattle.graph_values.proofs.Standing.{Stands, Grows, block_of, closed_inner, closed_block}
+use Rattle.graph_values.proofs.Typing.{Keeps, Gave, Left, KeepsTest, keeps_tested, kind_word, Typed}
+use Rattle.graph_values.proofs.Standing.{Stands, Grows, inner_of, block_of, closed_inner, closed_block}
 use Rattle.graph_values.proofs.Operands.{Does, code_in, value_in, written_by, or_false}
 use Rattle.graph_values.proofs.Arithmetic.{pick_between}
 use Rattle.graph_values.proofs.Choices.{Tops}

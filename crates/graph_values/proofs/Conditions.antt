@@ -1,7 +1,12 @@
 -- `&&`, `||` and `!`: where tests lead.
-use Rattle.std.proofs.Common.{◌≡◌, ℕ, ◌≤◌, List, [], ◌∷◌, Some, None, Bool, slice_get, refl, sym, ap, ◌∙◌, arith, pos}
+use Rattle.std.proofs.Common.{◌≡◌, ℕ, ◌+◌, ◌-◌, ◌<◌, ◌≤◌, List, [], ◌∷◌, ◌++◌, length, Option, Some, None, Bool, true, false, not, ◌||◌, slice_get, refl, sym, ap, ◌∙◌, subst, arith, pos}
+use Rattle.std.specs.Prelude.{if◌then◌else◌}
+use Rattle.c_tree.specs.TypedExpressions.{RvalueTree, And, Or, Not}
+use Rattle.c_law_types.specs.Expressions.{kind_of}
 use Rattle.c_memory.specs.declared.value.Value.TheVariants as source
-use Rattle.c_states.specs.States.{State, Gives, Tested, Holds, Fails, NoTest, tested, on_test}
+use Rattle.c_states.specs.declared.event.Ending.{Ending}
+use Rattle.c_states.specs.States.{State, Evaluated, Gives, Leaves, Ends, Tested, Holds, Fails, NoTest, tested, on_test}
+use Rattle.c_meaning.specs.Expressions.{Calls, evaluate}
 use Rattle.c_states.specs.Steps.{truth}
 use Rattle.graph_core.specs.declared.value.Value.TheVariants.{Number}
 use Rattle.graph_core.specs.Graphs as unit
@@ -10,15 +15,22 @@ use Rattle.graph_core.specs.Runs.{entered}
 use Rattle.graph_scale.specs.Conversions.{word_of}
 use Rattle.graph_laid.specs.declared.laid.Use.{Use}
 use Rattle.graph_laid.specs.declared.laid.Use.TheVariants.{Anywhere, In, Nothing, Tested as UseTested}
+use Rattle.graph_names.specs.Names.{Names, pick}
 use Rattle.graph_laid.specs.Laid.{behind_own}
-use Rattle.graph_drafts.specs.Drafts.{Made, Goal, To, Unused, Either, leaf, closed, label_of, forked}
-use Rattle.graph_values.proofs.Leads.{Setting, size_in, Local, World, set_name, at, stays, goes, put_here, put_elsewhere, less_other}
+use Rattle.graph_layout.specs.Layout.{laid}
+use Rattle.graph_names.specs.Writes.{writes}
+use Rattle.graph_drafts.specs.Drafts.{Made, Goal, To, Unused, Either, use_of, leaf, closed, label_of, forked}
+use Rattle.graph_code.specs.Code.{code}
+use Rattle.graph_values.specs.Correspondence.{SameValue}
+use Rattle.graph_values.proofs.Leads.{Setting, names_in, size_in, depth_in, Local, World, set_name, at, Leads, stays, goes, then_leads, put_here, put_elsewhere, less_other}
 use Rattle.graph_values.proofs.Later.{others_refl}
-use Rattle.graph_values.proofs.Kept.{Fits, ScalarsFirst, fits_temporary}
-use Rattle.graph_values.proofs.Results.{Reached, to_label, EitherR, Result, ended_result, result_after}
+use Rattle.graph_values.proofs.Kept.{is_want, Sound, Fits, ScalarsFirst, fits_temporary}
+use Rattle.graph_values.proofs.Results.{Reached, Passes, to_label, Stuck, EitherR, Result, ended_result, result_after, test_after, reached_weaker}
 use Rattle.graph_values.proofs.Tests.{HasWord}
 use Rattle.graph_values.proofs.Leaves.{leaf_done}
-use Rattle.graph_values.proofs.Standing.{Stands, block_of, closed_inner, closed_block}
+use Rattle.graph_values.proofs.Typing.{Keeps, KeepsTest, keeps_tested, Typed}
+use Rattle.graph_values.proofs.Standing.{Stands, Grows, inner_of, block_of, closed_inner, closed_block}
+use Rattle.graph_values.proofs.Operands.{Does, code_in, written_by, or_false}
 
 -- The value of a test, where it comes to one of two arms that write it, or goes on to the labels of its goal.
 module _ (x : Setting) (low : ScalarsFirst x) (t : ℕ) (f : ℕ → Bool) (size : size_in x ≤ t) where

@@ -1,6 +1,6 @@
 -- Conversions: by no instruction where a word stays, and else by a truncation.
-use Rattle.std.proofs.Common.{◌≡◌, ℕ, ◌≤◌, List, Option, Some, None, Bool, true, false, not, ◌||◌, refl, sym, ap, ◌∙◌, subst, arith, ℤ, pos}
-use Rattle.std.specs.Prelude.{if◌then◌else◌}
+use Rattle.std.proofs.Common.{◌≡◌, ◌≢◌, ℕ, ◌+◌, ◌<◌, ◌≤◌, List, [], ◌∷◌, Option, Some, None, Bool, true, false, not, ◌||◌, refl, sym, ap, ◌∙◌, subst, arith, ℤ, pos}
+use Rattle.std.specs.Prelude.{◌==◌, if◌then◌else◌}
 use Rattle.std.proofs.lemmas.Bool.{eqb-true}
 use Rattle.word_base.specs.Types.{holds}
 use Rattle.c_tree.specs.declared.types.IntegerType.{IntegerType}
@@ -8,19 +8,21 @@ use Rattle.c_tree.specs.declared.object_type.ValueType.TheVariants.{Integer}
 use Rattle.c_tree.specs.TypedExpressions.{RvalueTree, Convert}
 use Rattle.c_type_rules.specs.Integers.{integer, wrapped}
 use Rattle.c_value_types.specs.ValueTypes.{type_of, integer_in}
+use Rattle.c_law_types.specs.declared.kind.Kind.{Kind}
 use Rattle.c_law_types.specs.declared.kind.Kind.TheVariants.{Of}
 use Rattle.c_law_types.specs.Expressions.{kind_of}
 use Rattle.c_memory.specs.declared.value.Value as source-value
 use Rattle.c_memory.specs.declared.value.Value.TheVariants as source
+use Rattle.c_states.specs.declared.event.Ending.TheVariants as ending
 use Rattle.c_memory.specs.Memory.{Memory}
 use Rattle.c_memory.specs.Operations.{convert}
-use Rattle.c_states.specs.States.{State, Evaluated, Gives, Leaves, Ends, given, mapped}
+use Rattle.c_states.specs.States.{State, Evaluated, Gives, Leaves, Ends, given, mapped, tested}
 use Rattle.c_meaning.specs.Expressions.{Calls, evaluate}
 use Rattle.graph_core.specs.declared.value.Value.{Value}
 use Rattle.graph_core.specs.declared.value.Value.TheVariants.{Number}
 use Rattle.graph_core.specs.Graphs as unit
 use Rattle.graph_core.specs.Graphs.{Operand, Name, Truncate, Instruction, End}
-use Rattle.graph_core.specs.Runs.{value}
+use Rattle.graph_core.specs.Runs.{Goes, step, value}
 use Rattle.graph_core.specs.Values.{truncate}
 use Rattle.graph_scale.specs.Conversions.{word_of, is_narrow, is_within, keeps_bits, is_kept_constant}
 use Rattle.graph_laid.specs.declared.laid.Use.TheVariants.{Anywhere}
@@ -28,15 +30,15 @@ use Rattle.graph_names.specs.Names.{pick}
 use Rattle.graph_laid.specs.Laid.{Laid, as_value, converted_laid, standing, operation_laid}
 use Rattle.graph_layout.specs.Layout.{laid}
 use Rattle.graph_drafts.specs.Rules.{truncation_to}
-use Rattle.graph_drafts.specs.Drafts.{Made, Goal, To, Unused, Either, before, leaf, target, follow, valued, operated}
+use Rattle.graph_drafts.specs.Drafts.{Made, Goal, To, Unused, Either, before, leaf, target, follow, valued, operated, tested as tested_code}
 use Rattle.graph_values.specs.Correspondence.{SameValue}
 use Rattle.graph_values.proofs.Words.{InWord, in_word}
 use Rattle.graph_values.proofs.Converting.{kept_word, truncated_word, converted_word}
-use Rattle.graph_values.proofs.Leads.{Setting, names_in, size_in, depth_in, Local, World, set_name, stays, goes, put_elsewhere, less_other}
+use Rattle.graph_values.proofs.Leads.{Setting, names_in, size_in, depth_in, Local, World, set_name, at, stays, goes, put_elsewhere, less_other}
 use Rattle.graph_values.proofs.Later.{others_refl}
 use Rattle.graph_values.proofs.Kept.{Sound, Fits, ScalarsFirst, fits_temporary, fits_wanted}
-use Rattle.graph_values.proofs.Results.{Reached, to_made, Valued, ToR, UnusedR, Result, stuck_now, ended_result, result_after}
-use Rattle.graph_values.proofs.Leaves.{Writes, leaf_done, operated_done}
+use Rattle.graph_values.proofs.Results.{Reached, to_made, Stuck, Valued, ToR, UnusedR, Result, stuck_now, ended_result, result_after}
+use Rattle.graph_values.proofs.Leaves.{Writes, leaf_done, operated_done, left_stuck}
 use Rattle.graph_values.proofs.Sequences.{left_done}
 use Rattle.graph_values.proofs.Typing.{HasKind, Keeps, Typed}
 use Rattle.graph_values.proofs.Standing.{Stands}

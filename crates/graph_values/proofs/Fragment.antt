@@ -1,5 +1,5 @@
 -- The induction over expressions, for those of the constructs below: each is a lemma of its own, and the induction only names them.
-use Rattle.std.proofs.Common.{◌≡◌, ℕ, Option, Some, None, Bool, true, false, slice_get, refl, sym, ap, ◌∙◌, subst, ℤ, ◌+ℤ◌, ◌-ℤ◌}
+use Rattle.std.proofs.Common.{◌≡◌, ℕ, ◌+◌, ◌<◌, ◌≤◌, Option, Some, None, Bool, true, false, slice_get, refl, sym, ap, ◌∙◌, subst, arith, ℤ, ◌+ℤ◌, ◌-ℤ◌}
 use Rattle.std.specs.Prelude.{if◌then◌else◌, option_map}
 use Rattle.word_base.specs.Types.{holds, in_range, converted}
 use Rattle.word_base.specs.Operations.{kept}
@@ -14,7 +14,7 @@ use Rattle.c_tree.specs.declared.typed_expression.Arithmetic as declared-arithme
 use Rattle.c_tree.specs.declared.typed_expression.Arithmetic.TheVariants as arithmetic-is
 use Rattle.c_tree.specs.declared.typed_expression.Comparison as declared-comparison
 use Rattle.c_tree.specs.TypedExpressions.{RvalueTree, Constant, Null, Load, Arithmetic, Compare, And, Or, Comma, Discard, Assign, Named}
-use Rattle.c_tree.specs.Programs.{AutomaticTree}
+use Rattle.c_tree.specs.Programs.{AutomaticTree, ProgramTree}
 use Rattle.c_type_rules.specs.Constants.{calculated}
 use Rattle.c_type_rules.specs.Integers.{integer}
 use Rattle.c_type_rules.specs.Types.{loaded}
@@ -25,7 +25,7 @@ use Rattle.c_memory.specs.declared.value.Value.{Value}
 use Rattle.c_memory.specs.declared.value.Value.TheVariants as source
 use Rattle.c_memory.specs.Memory.{Memory}
 use Rattle.c_memory.specs.Operations.{arithmetic}
-use Rattle.c_states.specs.States.{State, given}
+use Rattle.c_states.specs.States.{State, Evaluated, given}
 use Rattle.c_meaning.specs.Expressions.{Calls, evaluate}
 use Rattle.graph_laid.specs.declared.laid.Use.{Use}
 use Rattle.graph_laid.specs.declared.laid.Use.TheVariants.{Anywhere, Nothing, Tested}
@@ -39,7 +39,7 @@ use Rattle.graph_values.proofs.Typing.{HasKind, Keeps, Typed}
 use Rattle.graph_values.proofs.Standing.{Grows}
 use Rattle.graph_values.proofs.Operands.{Apart, Does, Low, Spares}
 use Rattle.graph_values.proofs.Scalars.{constant_does, null_does, scalar_does, assigned_does}
-use Rattle.graph_values.proofs.Arithmetic.{IsRight, arithmetic_does, add_computes, subtract_computes}
+use Rattle.graph_values.proofs.Arithmetic.{IsRight, Computes, arithmetic_does, add_computes, subtract_computes}
 use Rattle.graph_values.proofs.ComparedValues.{compare_does}
 use Rattle.graph_values.proofs.Choices.{Tops, and_does, or_does}
 use Rattle.graph_values.proofs.Sequences.{comma_does, discard_does}

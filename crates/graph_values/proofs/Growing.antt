@@ -1,5 +1,5 @@
 -- The code of each construct only adds inner blocks to those that stand.
-use Rattle.std.proofs.Common.{◌≡◌, ℕ, List, Option, Some, None, Bool, true, false, not, refl, subst}
+use Rattle.std.proofs.Common.{◌≡◌, ℕ, zero, suc, ◌+◌, ◌-◌, List, [], ◌∷◌, ◌++◌, length, Option, Some, None, Bool, true, false, not, refl, sym, ap, ◌∙◌, subst}
 use Rattle.std.specs.Prelude.{◌==◌, if◌then◌else◌}
 use Rattle.c_tree.specs.declared.typed_expression.Sign.TheVariants.{Plus, Minus, Complement}
 use Rattle.c_tree.specs.declared.typed_expression.Direction.TheVariants.{Up}
@@ -28,12 +28,12 @@ use Rattle.graph_names.specs.Writes.{writes, writes_any, is_moved, is_location_m
 use Rattle.graph_laid.specs.Laid.{Laid, Pair, PlaceLaid, pair, behind_move, behind_own, use_for}
 use Rattle.graph_layout.specs.Layout.{laid, place_laid, passed_laid}
 use Rattle.graph_drafts.specs.Rules.{element_of, steps_by, truncation_to, operation_for, move_by, callee_for}
-use Rattle.graph_drafts.specs.Drafts.{Made, Goal, To, Unused, Either, use_of, before, ending, zero as zero_operand, leaf, follow, label_of, closed, forked, valued, operated, move_if, hold_location, stored, note, noted, keep_old, use_old, used, called_by, scaling, renew, compare_by, compare_pointers_by, compared, compared_pointers}
-use Rattle.graph_steps.specs.declared.site.Two as declared-two
-use Rattle.graph_steps.specs.declared.site.Two.TheVariants as two
+use Rattle.graph_drafts.specs.Drafts.{Made, Goal, To, Unused, Either, use_of, before, ending, zero as zero_operand, leaf, target, follow, label_of, closed, forked, valued, operated, move_if, hold_location, stored, note, noted, keep_old, use_old, behind_old, used, called_by, scale, scaling, renew, compare_by, compare_pointers_by, compared, compared_pointers}
+use Rattle.graph_code.specs.declared.site.Two as declared-two
+use Rattle.graph_code.specs.declared.site.Two.TheVariants as two
 use Rattle.graph_steps.specs.declared.change.Change as declared-change
 use Rattle.graph_steps.specs.declared.change.Change.TheVariants as change
-use Rattle.graph_steps.specs.Steps.{in_turn, signed, finished, arm_goal, arm_use, arm_value, assigned_memory, changed, updated, stepped, object_address}
+use Rattle.graph_steps.specs.Steps.{in_turn, signed, finished, arm_goal, arm_use, arm_value, assigned_memory, changed, renewed_scalar, renewed_memory, loaded_first, left_scalar, left_memory, updated, stepped, object_address, one_at, distance}
 use Rattle.graph_code.specs.Code.{code, code_place, code_address, code_all}
 use Rattle.graph_values.proofs.Standing.{Stands, inner_of, leaf_inner, follow_inner, hold_inner, closed_inner}
 

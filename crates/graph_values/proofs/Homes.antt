@@ -1,11 +1,11 @@
 -- Where the variables of a function are kept: scalars are not in memory, and each has a name of its own.
-use Rattle.std.proofs.Common.{◌≡◌, ℕ, zero, suc, ◌+◌, ◌-◌, ◌≤◌, List, [], ◌∷◌, Option, Some, None, Bool, true, false, slice_get, take, drop, refl, sym, ap, ◌∙◌, arith}
+use Rattle.std.proofs.Common.{◌≡◌, ◌≢◌, ℕ, zero, suc, ◌+◌, ◌-◌, ◌<◌, ◌≤◌, List, [], ◌∷◌, Option, Some, None, Bool, true, false, slice_get, take, drop, refl, sym, ap, ◌∙◌, subst, arith}
 use Rattle.std.specs.Prelude.{if◌then◌else◌, nat_le}
 use Rattle.std.proofs.lemmas.Bool.{leb-true}
 use Rattle.c_tree.specs.Programs.{AutomaticTree, TypedFunctionTree, ProgramTree}
 use Rattle.graph_names.specs.declared.names.Home.{Home}
 use Rattle.graph_names.specs.declared.names.Home.TheVariants as home
-use Rattle.graph_names.specs.Names.{names_of, homes_from, homes_of, scalar_in, scalar_of, object_in, object_of}
+use Rattle.graph_names.specs.Names.{Names, names_of, homes_from, homes_of, scalar_in, scalar_of, object_in, object_of}
 
 -- a home that is a scalar's
 pub record ScalarAt (list : List AutomaticTree) (i scalars k : ℕ) : Type 0 where

@@ -1,6 +1,6 @@
 -- What a unit's run keeps of the state of a program's run.
-use Rattle.std.proofs.Common.{◌≡◌, ◌≢◌, ℕ, ◌+◌, ◌<◌, ◌≤◌, List, [], ◌∷◌, length, Option, Some, None, Bool, true, false, slice_get, refl, sym, subst, arith}
-use Rattle.std.specs.Prelude.{◌==◌}
+use Rattle.std.proofs.Common.{◌≡◌, ◌≢◌, ℕ, ◌+◌, ◌<◌, ◌≤◌, List, [], ◌∷◌, ◌++◌, length, Option, Some, None, Bool, true, false, slice_get, refl, sym, ap, ◌∙◌, subst, arith}
+use Rattle.std.specs.Prelude.{◌==◌, if◌then◌else◌}
 use Rattle.word_base.specs.Owners.{Owner, Static, Literal, Variable}
 use Rattle.c_tree.specs.Programs.{AutomaticTree, StaticTree, LiteralTree, TypedFunctionTree, ProgramTree}
 use Rattle.c_tree.specs.declared.types.IntegerType.TheVariants.{Char}
@@ -22,6 +22,7 @@ use Rattle.event_runs.specs.Agreement.{Pairs}
 use Rattle.graph_values.specs.Typed.{AreTyped, OwnersDiffer}
 use Rattle.graph_values.specs.Correspondence.{variable_of, SameObject, SameValue, SameValues, IsInMemory, SameEvent, AreBytes}
 use Rattle.graph_values.proofs.Leads.{Setting, names_in, size_in, depth_in, Local, World, set_name, put_elsewhere, less_other}
+use Rattle.graph_values.proofs.Later.{Later, StillThere, OthersLater, OtherThere, value_later, values_later, object_later}
 
 -- an object is of its variable's type
 abbrev pub IsDeclared : ProgramTree → Owner → SourceObject → Type 0

@@ -1,20 +1,26 @@
 -- Values stand below the next name that is free.
-use Rattle.std.proofs.Common.{◌≡◌, ℕ, ◌+◌, ◌<◌, ◌≤◌, max, Option, Some, None, Bool, true, false, arith}
+use Rattle.std.proofs.Common.{◌≡◌, ℕ, ◌+◌, ◌<◌, ◌≤◌, max, Option, Some, None, Bool, true, false, not, ◌||◌, refl, sym, subst, arith}
 use Rattle.std.specs.Prelude.{◌==◌, if◌then◌else◌}
 use Rattle.c_tree.specs.declared.typed_expression.Given.{Given}
 use Rattle.c_tree.specs.declared.typed_expression.Given.TheVariants.{New, Old}
+use Rattle.c_tree.specs.declared.typed_expression.Sign.TheVariants.{Plus, Minus, Complement}
+use Rattle.c_tree.specs.declared.object_type.Object as designator
 use Rattle.c_tree.specs.declared.object_type.Object.TheVariants as object
-use Rattle.c_tree.specs.TypedExpressions.{LvalueTree, Named, Target, Element, ElementFrom}
+use Rattle.c_tree.specs.TypedExpressions.{RvalueTree, LvalueTree, ArgumentTrees, Constant, Null, Load, Decay, AddressOf, Convert, Discard, Signed, Not, Arithmetic, Compare, ComparePointers, Move, MoveFrom, Difference, And, Or, Conditional, Comma, Assign, Update, UpdatePointer, Step, StepPointer, Call, Named, Target, Element, ElementFrom, none, first}
 use Rattle.c_tree.specs.declared.types.IntegerType.{IntegerType}
+use Rattle.c_type_rules.specs.Integers.{object_size}
+use Rattle.c_value_types.specs.ValueTypes.{type_of, given_by, is_void, integer_in}
 use Rattle.graph_core.specs.Graphs as unit
 use Rattle.graph_core.specs.Graphs.{Operand, Name, Location}
-use Rattle.graph_scale.specs.Conversions.{is_kept_constant}
+use Rattle.graph_scale.specs.Conversions.{keeps_bits, is_narrow, is_kept_constant, word_of}
+use Rattle.graph_scale.specs.Operands.{is_two, is_two_pointers}
 use Rattle.graph_scale.specs.Scales.{is_scaled}
 use Rattle.graph_laid.specs.declared.laid.Use.{Use}
 use Rattle.graph_laid.specs.declared.laid.Use.TheVariants.{Anywhere, In, Nothing, Tested}
-use Rattle.graph_names.specs.Names.{Names, pick, scalar_of, scalar_named}
-use Rattle.graph_names.specs.Writes.{is_moved}
-use Rattle.graph_laid.specs.Laid.{Laid, Pair, PlaceLaid, PassedLaid, pair, behind_move, as_value, worked, use_for, operation_laid, standing, leaf_laid, moved_laid, steps_laid, compared_laid, converted_laid, joined_laid, truth_laid, behind_own, assigned_laid, renewed_scalar_laid, updated_laid, left_scalar_laid, left_memory_laid, step_laid, called_laid, loaded_laid, object_laid, unused_laid}
+use Rattle.graph_names.specs.Names.{Names, pick, scalar_of, scalar_named, object_of}
+use Rattle.graph_names.specs.Writes.{writes, writes_any, is_moved, is_location_moved}
+use Rattle.graph_laid.specs.Laid.{Laid, Pair, PlaceLaid, PassedLaid, pair, behind_move, as_value, worked, use_for, operation_laid, standing, leaf_laid, after_pair, moved_laid, steps_laid, compared_laid, converted_laid, joined_laid, truth_laid, both_laid, behind_own, void_arms_laid, arms_laid, arms_top, choice_top, begun_at, begun_behind, assigned_laid, renewed_scalar_laid, renewed_memory_laid, updated_laid, stepped_laid, old_laid, left_scalar_laid, left_memory_laid, left_laid, step_laid, called_laid, loaded_laid, object_laid, unused_laid, passed_behind, behind_top}
+use Rattle.graph_layout.specs.Layout.{laid, place_laid, address_laid, passed_laid, scales}
 use Rattle.graph_values.proofs.Operands.{IsBelow, behind_le}
 use Rattle.graph_values.proofs.Arithmetic.{pick_between}
 

@@ -1,5 +1,5 @@
 -- Values of expressions stand below the next name that is free.
-use Rattle.std.proofs.Common.{◌≡◌, ℕ, ◌+◌, ◌<◌, ◌≤◌, Option, Some, None, Bool, false, not, refl, arith}
+use Rattle.std.proofs.Common.{◌≡◌, ℕ, ◌+◌, ◌<◌, ◌≤◌, max, Option, Some, None, Bool, true, false, not, refl, arith}
 use Rattle.std.specs.Prelude.{◌==◌}
 use Rattle.c_tree.specs.declared.typed_expression.Sign.TheVariants.{Plus, Minus, Complement}
 use Rattle.c_tree.specs.declared.object_type.Object as designator
@@ -14,8 +14,9 @@ use Rattle.graph_laid.specs.declared.laid.Use.{Use}
 use Rattle.graph_laid.specs.declared.laid.Use.TheVariants.{Anywhere, In, Nothing, Tested}
 use Rattle.graph_names.specs.Names.{Names, pick, scalar_of, scalar_named, object_of}
 use Rattle.graph_names.specs.Writes.{writes, writes_any, is_moved, is_location_moved}
-use Rattle.graph_laid.specs.Laid.{Laid, PlaceLaid, pair, behind_move, as_value, worked, use_for, converted_laid, behind_own, arms_top, choice_top, begun_at, begun_behind}
+use Rattle.graph_laid.specs.Laid.{Laid, Pair, PlaceLaid, pair, behind_move, as_value, worked, use_for, operation_laid, converted_laid, behind_own, arms_top, choice_top, begun_at, begun_behind}
 use Rattle.graph_layout.specs.Layout.{laid, place_laid, address_laid, passed_laid, named_address, scales}
+use Rattle.graph_values.proofs.Operands.{behind_le}
 use Rattle.graph_values.proofs.Arithmetic.{pick_between}
 use Rattle.graph_values.proofs.Laying.{LaidLow, PlaceLow, PassedLow, operation_low, unused_low, pair_next, pair_top, behind_from, leaf_low, loaded_low, as_value_low, nothing_low, worked_low, later_low, chosen_low, converted_low, steps_low, compared_low, moved_low, joined_low, own_le, truth_low, assigned_low, updated_low, step_low, called_low, object_low}
 

@@ -1,6 +1,6 @@
 -- The steps of a unit within an activation: what they lead to, and what they show on the way.
-use Rattle.std.proofs.Common.{◌≡◌, ℕ, ◌+◌, ◌<◌, List, [], ◌∷◌, ◌++◌, Option, Bool, true, false, ap, arith}
-use Rattle.std.specs.Prelude.{◌==◌, if◌then◌else◌, length}
+use Rattle.std.proofs.Common.{◌≡◌, ℕ, ◌+◌, ◌<◌, List, [], ◌∷◌, ◌++◌, Option, Some, None, Bool, true, false, refl, sym, ap, ◌∙◌, subst, arith}
+use Rattle.std.specs.Prelude.{nat_eq, ◌==◌, if◌then◌else◌, length}
 use Rattle.std.proofs.lemmas.Bool.Decides.{nat_tests}
 use Rattle.c_tree.specs.Programs.{TypedFunctionTree, ProgramTree}
 use Rattle.c_memory.specs.Memory.{Memory as SourceMemory}
@@ -8,7 +8,7 @@ use Rattle.graph_core.specs.declared.value.Value.{Value}
 use Rattle.graph_core.specs.declared.value.Shadow.{Shadow}
 use Rattle.graph_core.specs.Graphs.{Instruction, End, Graph, UnitForm}
 use Rattle.graph_core.specs.Memory.{Memory}
-use Rattle.graph_core.specs.Runs.{Activation, Configuration, Event, Goes, Shows, put, step}
+use Rattle.graph_core.specs.Runs.{Activation, Configuration, Event, Stepped, Goes, Shows, put, step}
 use Rattle.graph_names.specs.Names.{Names, names_of}
 
 -- Where the code of an expression runs: the program and its unit, the function with its number and graph, the place, the activation's first object, the activations that wait, whether

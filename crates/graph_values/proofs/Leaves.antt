@@ -1,22 +1,25 @@
 -- What follows a value that stands, or that an instruction writes.
-use Rattle.std.proofs.Common.{◌≡◌, ℕ, ◌<◌, ◌≤◌, List, [], ◌∷◌, Option, Some, None, Bool, true, false, refl, sym, ap, ◌∙◌, subst, arith}
-use Rattle.std.specs.Prelude.{if◌then◌else◌}
+use Rattle.std.proofs.Common.{◌≡◌, ℕ, ◌+◌, ◌<◌, ◌≤◌, List, [], ◌∷◌, Option, Some, None, Bool, true, false, slice_get, refl, sym, ap, ◌∙◌, subst, arith}
+use Rattle.std.specs.Prelude.{◌==◌, if◌then◌else◌}
 use Rattle.c_memory.specs.declared.value.Value as source-value
+use Rattle.c_states.specs.declared.event.Ending.{Ending}
 use Rattle.c_states.specs.declared.event.Ending.TheVariants as ending
 use Rattle.c_memory.specs.Memory.{is_usable}
 use Rattle.c_memory.specs.Operations.{is_true}
-use Rattle.c_states.specs.States.{State, Evaluated, Gives, Leaves, Ends, tested_usable, by_truth, with, both, second, on_both}
+use Rattle.c_states.specs.States.{State, Evaluated, Gives, Leaves, Ends, Tested, Holds, Fails, NoTest, tested_usable, by_truth, with, Both, both, second, on_both}
 use Rattle.graph_core.specs.declared.value.Value.{Value}
+use Rattle.graph_core.specs.declared.value.Value.TheVariants.{Number}
 use Rattle.graph_core.specs.declared.block.Comparison.TheVariants.{NotEqual}
-use Rattle.graph_core.specs.Graphs.{Operand, Name, Constant, Instruction, End, Branch}
+use Rattle.graph_core.specs.Graphs.{Operand, Name, Constant, Instruction, End, Branch, Block}
 use Rattle.graph_core.specs.Memory.{is_live}
-use Rattle.graph_core.specs.Runs.{Goes, step, value, entered, branched}
+use Rattle.graph_core.specs.Runs.{Configuration, Goes, step, value, entered, branched}
+use Rattle.graph_core.specs.Values.{holds}
 use Rattle.graph_drafts.specs.Drafts.{Made, Goal, To, Unused, Either, before, leaf, target, follow}
 use Rattle.graph_values.specs.Correspondence.{SameValue}
-use Rattle.graph_values.proofs.Leads.{Setting, size_in, Local, World, set_name, at, stays, goes, put_here, put_elsewhere, less_other}
+use Rattle.graph_values.proofs.Leads.{Setting, size_in, Local, World, set_name, at, Leads, stays, goes, then_leads, put_here, put_elsewhere, less_other}
 use Rattle.graph_values.proofs.Later.{others_refl}
 use Rattle.graph_values.proofs.Kept.{is_want, Fits, ScalarsFirst, fits_temporary, fits_wanted}
-use Rattle.graph_values.proofs.Results.{Reached, to_made, Stuck, Valued, ToR, EitherR, Result, stuck_now, ended_result, result_after}
+use Rattle.graph_values.proofs.Results.{Reached, Passes, to_made, Stuck, operand_in, Valued, ToR, EitherR, Result, stuck_now, ended_result, result_after}
 use Rattle.graph_values.proofs.Tests.{HasWord, test_value}
 
 -- a test that the end of a block makes

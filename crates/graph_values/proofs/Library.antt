@@ -1,37 +1,51 @@
 -- Calls of the library, and of functions.
-use Rattle.std.proofs.Common.{◌≡◌, ℕ, ◌%◌, ◌<◌, ◌≤◌, List, [], ◌∷◌, ◌++◌, map, Option, Some, None, false, refl, sym, ap, ◌∙◌, subst, arith, ℤ, pos, negsuc}
-use Rattle.std.specs.Prelude.{if◌then◌else◌}
+use Rattle.std.proofs.Common.{◌≡◌, ℕ, zero, suc, ◌+◌, ◌-◌, ◌%◌, ◌<◌, ◌≤◌, List, [], ◌∷◌, ◌++◌, map, Option, Some, None, Bool, true, false, ◌||◌, refl, sym, ap, ◌∙◌, subst, arith, ℤ, pos, negsuc}
+use Rattle.std.specs.Prelude.{if◌then◌else◌, ◌==◌}
 use Rattle.std.specs.List.{list_any}
 use Rattle.word_base.specs.Types.{char_type, converted, bits_of}
 use Rattle.c_tree.specs.declared.object_type.ValueType.{ValueType}
-use Rattle.c_tree.specs.TypedExpressions.{ArgumentTrees}
+use Rattle.c_tree.specs.declared.typed_expression.Callee as source-callee
+use Rattle.c_tree.specs.declared.typed_expression.Callee.TheVariants as called
+use Rattle.c_tree.specs.TypedExpressions.{RvalueTree, ArgumentTrees, Call}
+use Rattle.c_tree.specs.Programs.{ProgramTree}
+use Rattle.c_value_types.specs.ValueTypes.{given_by, is_void}
 use Rattle.c_memory.specs.declared.value.Value as source-value
 use Rattle.c_memory.specs.declared.value.Value.TheVariants as source
 use Rattle.c_states.specs.declared.event.Ending.TheVariants as ending
 use Rattle.c_memory.specs.Memory.{Memory}
-use Rattle.c_states.specs.States.{State, Put as SourcePut, seen, Evaluated, Gives, Listed, Lists, NoList, on_list}
+use Rattle.c_states.specs.States.{State, Event as SourceEvent, Put as SourcePut, seen, Evaluated, Gives, Leaves, Ends, Listed, Lists, NoList, on_list}
+use Rattle.c_meaning.specs.Expressions.{Calls, evaluate, evaluate_all, call, call_with_one}
+use Rattle.c_states.specs.Steps.{next_byte, put, leave}
 use Rattle.graph_core.specs.declared.value.Value.{Value}
 use Rattle.graph_core.specs.declared.value.Value.TheVariants.{Number}
 use Rattle.graph_core.specs.declared.instruction.Callee as unit-callee
 use Rattle.graph_core.specs.declared.instruction.Callee.TheVariants as unit-called
 use Rattle.graph_core.specs.Graphs as unit
 use Rattle.graph_core.specs.Graphs.{Operand, Name, Instruction, End}
+use Rattle.graph_core.specs.Memory.{Memory as UnitMemory}
 use Rattle.graph_core.specs.Runs.{Event, Put, Exited, Stepped, Goes, Shows, Ends as StepEnds, Wild, step, value, got, put_out, exited, first_of}
 use Rattle.graph_core.specs.Runs as run
 use Rattle.graph_core.specs.Values.{is_odd}
 use Rattle.graph_scale.specs.Conversions.{word_of}
-use Rattle.graph_drafts.specs.Drafts.{Made, Goal, To, Unused, Either, leaf, target, called_by}
+use Rattle.graph_laid.specs.declared.laid.Use.TheVariants.{Anywhere}
+use Rattle.graph_names.specs.Names.{pick}
+use Rattle.graph_laid.specs.Laid.{called_laid}
+use Rattle.graph_layout.specs.Layout.{laid, passed_laid}
+use Rattle.graph_names.specs.Writes.{writes_any}
+use Rattle.graph_drafts.specs.Rules.{callee_for}
+use Rattle.graph_drafts.specs.Drafts.{Made, Goal, To, Unused, Either, before, leaf, zero as zero_operand, target, follow, called_by}
 use Rattle.event_runs.specs.Agreement.{Pairs}
 use Rattle.graph_values.specs.Correspondence.{SameValue, SameValues, SameEvent, AreBytes}
 use Rattle.graph_values.specs.Correspondence as event
-use Rattle.graph_values.proofs.Leads.{Setting, size_in, Local, World, set_name, at, stays, goes, shows, put_here, put_elsewhere, less_other}
+use Rattle.graph_values.proofs.Leads.{Setting, names_in, size_in, depth_in, Local, World, set_name, at, Leads, stays, goes, shows, then_leads, put_here, put_elsewhere, less_other}
 use Rattle.graph_values.proofs.Later.{OthersLater, others_refl}
-use Rattle.graph_values.proofs.Kept.{Sound, Fits, ScalarsFirst, fits_temporary, fits_wanted}
-use Rattle.graph_values.proofs.Results.{Reached, Passes, to_made, Stuck, Result, ended_result, result_after}
+use Rattle.graph_values.proofs.Kept.{is_want, Sound, Fits, ScalarsFirst, fits_temporary, fits_wanted}
+use Rattle.graph_values.proofs.Results.{Reached, Passes, to_made, Stuck, Valued, Result, ended_result, result_after, stuck_after}
 use Rattle.graph_values.proofs.Tests.{HasWord}
 use Rattle.graph_values.proofs.Words.{InWord}
 use Rattle.graph_values.proofs.Leaves.{leaf_done}
-use Rattle.graph_values.proofs.Arguments.{KeepsList, Listing, Row, RowR, any_written}
+use Rattle.graph_values.proofs.Arguments.{AreOf, TypedAll, KeepsList, Listing, Row, RowR, passing, passed_in, any_written, DoesAll}
+use Rattle.graph_values.proofs.Calling.{none_odd}
 
 -- The values of arguments are given to what follows.
 pub list_then : (x : Setting) (types : List ValueType) (g : Goal) (m : Made) (all : ArgumentTrees) (a : Operand) (t : ℕ) (ops : List Instruction) (end : End) (l : Local) (w : World) (before_memory : Memory) (r : Listed) (next : List source-value.Value → State → Evaluated)

@@ -1,10 +1,12 @@
 -- Reads of memory, and addresses of objects.
-use Rattle.std.proofs.Common.{◌≡◌, ℕ, ◌≤◌, List, Option, Some, None, Bool, true, false, slice_get, refl, sym, ap, ◌∙◌, subst, arith}
-use Rattle.std.specs.Prelude.{if◌then◌else◌, option_and_then}
+use Rattle.std.proofs.Common.{◌≡◌, ◌≢◌, ℕ, zero, suc, ◌+◌, ◌*◌, ◌/◌, ◌<◌, ◌≤◌, List, [], ◌∷◌, length, Option, Some, None, Bool, true, false, ◌||◌, slice_get, refl, sym, ap, ◌∙◌, subst, arith}
+use Rattle.std.specs.Prelude.{◌==◌, if◌then◌else◌, option_map, option_and_then}
+use Rattle.std.specs.Option.{option_map_or}
 use Rattle.c_tree.specs.declared.object_type.Scalar.{Scalar}
+use Rattle.c_tree.specs.declared.object_type.ObjectType.{ObjectType}
 use Rattle.c_tree.specs.declared.object_type.ObjectType.TheVariants as of-object
 use Rattle.c_tree.specs.declared.object_type.ValueType.TheVariants.{Pointer as PointerType}
-use Rattle.c_tree.specs.TypedExpressions.{LvalueTree, Load}
+use Rattle.c_tree.specs.TypedExpressions.{RvalueTree, LvalueTree, Load}
 use Rattle.c_type_rules.specs.Types.{loaded}
 use Rattle.c_value_types.specs.ValueTypes.{object_type}
 use Rattle.c_law_types.specs.declared.kind.Kind.TheVariants.{Of}
@@ -12,28 +14,30 @@ use Rattle.c_memory.specs.declared.value.Value as source-value
 use Rattle.c_memory.specs.declared.value.Value.TheVariants as source
 use Rattle.c_states.specs.declared.event.Ending.TheVariants as ending
 use Rattle.c_memory.specs.Types.{element_of}
-use Rattle.c_memory.specs.Memory.{is_usable, is_begun, index_at, value_in as value_at}
+use Rattle.c_memory.specs.Memory.{Object as SourceObject, is_usable, is_begun, index_at, value_in as value_at}
 use Rattle.c_states.specs.States.{State, Evaluated, Gives, Leaves, Ends, given, with, usable}
 use Rattle.c_meaning.specs.Expressions.{Calls, evaluate, designate}
 use Rattle.c_states.specs.Steps.{load}
+use Rattle.graph_core.specs.declared.value.Value.{Value}
 use Rattle.graph_core.specs.Graphs as unit
 use Rattle.graph_core.specs.Graphs.{Operand, Name, Location, At, Automatic, Static, Instruction, End}
 use Rattle.graph_core.specs.Memory.{read}
-use Rattle.graph_core.specs.Runs.{pointed, wrote_some}
+use Rattle.graph_core.specs.Runs.{Goes, step, value, pointed, wrote_some}
 use Rattle.graph_laid.specs.declared.laid.Use.TheVariants.{Anywhere}
 use Rattle.graph_names.specs.Names.{scalar_named, pick}
 use Rattle.graph_laid.specs.Laid.{loaded_laid}
-use Rattle.graph_layout.specs.Layout.{place_laid}
+use Rattle.graph_layout.specs.Layout.{laid, place_laid}
 use Rattle.graph_drafts.specs.Rules as rule
 use Rattle.graph_drafts.specs.Drafts.{Made, Goal, leaf, operated}
 use Rattle.graph_code.specs.Code.{code_place}
 use Rattle.graph_values.specs.Typed.{PointsInto, IsPointerTo, IsOf}
 use Rattle.graph_values.specs.Correspondence.{SameValue}
-use Rattle.graph_values.proofs.Leads.{Setting, names_in, size_in, depth_in, Local, World, here_at, at}
+use Rattle.graph_values.proofs.Leads.{Setting, names_in, size_in, depth_in, Local, World, here_at, set_name, at}
 use Rattle.graph_values.proofs.Kept.{Sound, Fits, ScalarsFirst}
 use Rattle.graph_values.proofs.Results.{Result, stuck_now, ended_result, result_after}
-use Rattle.graph_values.proofs.Leaves.{operated_done}
-use Rattle.graph_values.proofs.Typing.{Keeps, of_word}
+use Rattle.graph_values.proofs.Tests.{HasWord}
+use Rattle.graph_values.proofs.Leaves.{Writes, operated_done}
+use Rattle.graph_values.proofs.Typing.{Gave, Keeps, of_word}
 use Rattle.graph_values.proofs.Standing.{Stands}
 use Rattle.graph_values.proofs.Objects.{begun_live}
 use Rattle.graph_values.proofs.Operands.{Does}

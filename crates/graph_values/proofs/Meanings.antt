@@ -1,28 +1,42 @@
 -- What expressions come to is of their types: values in objects, reads and writes.
-use Rattle.std.proofs.Common.{◌≡◌, ℕ, zero, suc, inl, inr, List, [], ◌∷◌, Option, Some, None, true, slice_get, slice_set, refl, sym, ap, ◌∙◌, subst, ℤ}
+use Rattle.std.proofs.Common.{◌≡◌, ◌≢◌, ℕ, zero, suc, ◌+◌, ◌*◌, ◌/◌, ◌<◌, ◌≤◌, ◌⊎◌, inl, inr, List, [], ◌∷◌, length, Option, Some, None, Bool, true, false, ◌&&◌, slice_get, slice_set, refl, sym, ap, ◌∙◌, subst, arith, ℤ, pos}
+use Rattle.std.specs.Prelude.{◌==◌, if◌then◌else◌, option_map, option_and_then}
+use Rattle.std.specs.Option.{option_map_or}
 use Rattle.std.specs.List.{AllByRecursion}
 use Rattle.std.proofs.lemmas.List.{length-set}
 use Rattle.word_base.specs.Owners.{Owner, Static, Literal, Variable}
 use Rattle.word_base.specs.Types.{holds}
 use Rattle.c_tree.specs.declared.types.IntegerType.{IntegerType}
+use Rattle.c_tree.specs.declared.object_type.Scalar.{Scalar}
+use Rattle.c_tree.specs.declared.object_type.ObjectType.{ObjectType}
+use Rattle.c_tree.specs.declared.object_type.ObjectType.TheVariants as of-object
 use Rattle.c_tree.specs.declared.object_type.ValueType.{ValueType}
-use Rattle.c_tree.specs.declared.object_type.ValueType.TheVariants.{Integer}
-use Rattle.c_tree.specs.TypedExpressions.{Constant, Null}
+use Rattle.c_tree.specs.declared.object_type.ValueType.TheVariants.{Void, Integer, Pointer}
+use Rattle.c_tree.specs.TypedExpressions.{RvalueTree, LvalueTree, Constant, Null, Load, Assign, Comma, Discard}
 use Rattle.c_tree.specs.Programs.{ProgramTree}
 use Rattle.c_type_rules.specs.Integers.{integer}
 use Rattle.c_type_rules.specs.Types.{loaded}
+use Rattle.c_value_types.specs.ValueTypes.{object_type}
 use Rattle.c_law_types.specs.declared.kind.Kind.{Kind}
-use Rattle.c_law_types.specs.Kinds.{of_if}
+use Rattle.c_law_types.specs.declared.kind.Kind.TheVariants.{Wrong, NullPointer, Of}
+use Rattle.c_law_types.specs.Kinds.{of_if, is_of, is_typed}
+use Rattle.c_law_types.specs.Expressions.{kind_of}
 use Rattle.c_memory.specs.declared.value.Value.{Value}
 use Rattle.c_memory.specs.declared.value.Value.TheVariants as source
-use Rattle.c_memory.specs.Memory.{Object, Memory}
-use Rattle.c_states.specs.States.{State, Evaluated, Gives, Leaves, Ends, given, with, both, afterwards}
-use Rattle.c_meaning.specs.Expressions.{Calls}
-use Rattle.graph_values.specs.Typed.{IsOf}
-use Rattle.graph_values.proofs.Leads.{Setting}
+use Rattle.c_memory.specs.declared.value.Phase.TheVariants.{Ended}
+use Rattle.c_states.specs.declared.event.Ending.TheVariants.{Undefined}
+use Rattle.c_memory.specs.Types.{element_of, scalar_size}
+use Rattle.c_memory.specs.Memory.{Object, Memory, is_usable, is_begun, is_writable, index_at, read, value_in, write, written_in, set_value, with_value}
+use Rattle.c_states.specs.States.{State, Evaluated, Gives, Leaves, Ends, given, with, usable, both, on_both, afterwards}
+use Rattle.c_meaning.specs.Expressions.{Calls, evaluate, designate}
+use Rattle.c_states.specs.Steps.{load, store, stored}
+use Rattle.graph_values.specs.Typed.{PointsInto, IsOf, AreTyped, OwnersDiffer}
+use Rattle.graph_values.proofs.Leads.{Setting, depth_in}
 use Rattle.graph_values.proofs.Later.{get_set, Later, later_refl, later_trans, later_set}
-use Rattle.graph_values.proofs.Kept.{IsDeclared, Sound}
-use Rattle.graph_values.proofs.Typing.{HasKind, Gave, Left, Keeps, Typed, of_later}
+use Rattle.graph_values.proofs.Kept.{IsDeclared, AreDeclared, Sound}
+use Rattle.graph_values.proofs.Leaves.{both_with}
+use Rattle.graph_values.proofs.Typing.{HasKind, Gave, Left, Keeps, Typed, of_later, kind_later}
+use Rattle.graph_values.proofs.Types.{kind_is_of}
 
 -- it was kept from before, too
 pub keeps_before : (p : ProgramTree) (began first before : Memory) (k : Kind) (r : Evaluated) → Later first before → Keeps p began before k r → Keeps p began first k r

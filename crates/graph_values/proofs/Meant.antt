@@ -1,8 +1,9 @@
 -- Names, reads, assignments, operators and tests come to values of their types.
-use Rattle.std.proofs.Common.{◌≡◌, ℕ, Option, Some, None, Bool, true, false, slice_get, slice_set, refl, sym, ap, ◌∙◌, subst, arith, pos}
-use Rattle.std.specs.Prelude.{if◌then◌else◌, option_map, option_and_then}
+use Rattle.std.proofs.Common.{◌≡◌, ◌≢◌, ℕ, zero, suc, ◌+◌, ◌*◌, ◌/◌, ◌<◌, ◌≤◌, List, [], ◌∷◌, length, Option, Some, None, Bool, true, false, not, ◌&&◌, slice_get, slice_set, refl, sym, ap, ◌∙◌, subst, arith, ℤ, pos}
+use Rattle.std.specs.Prelude.{◌==◌, if◌then◌else◌, option_map, option_and_then}
 use Rattle.std.specs.Option.{option_map_or}
-use Rattle.word_base.specs.Owners.{Owner, Static, Variable}
+use Rattle.std.specs.List.{AllByRecursion}
+use Rattle.word_base.specs.Owners.{Owner, Static, Literal, Variable}
 use Rattle.word_base.specs.Operations.{truth as truth_of}
 use Rattle.word_base.specs.Types.{holds}
 use Rattle.c_tree.specs.declared.types.IntegerType.{IntegerType}
@@ -10,37 +11,40 @@ use Rattle.c_tree.specs.declared.types.IntegerType.TheVariants.{Int}
 use Rattle.c_tree.specs.declared.object_type.Scalar.{Scalar}
 use Rattle.c_tree.specs.declared.object_type.ObjectType.{ObjectType}
 use Rattle.c_tree.specs.declared.object_type.ObjectType.TheVariants as of-object
-use Rattle.c_tree.specs.declared.object_type.ValueType.TheVariants.{Integer, Pointer}
+use Rattle.c_tree.specs.declared.object_type.ValueType.{ValueType}
+use Rattle.c_tree.specs.declared.object_type.ValueType.TheVariants.{Void, Integer, Pointer}
+use Rattle.c_tree.specs.declared.object_type.Object as designator
 use Rattle.c_tree.specs.declared.object_type.Object.TheVariants as object
+use Rattle.c_tree.specs.declared.typed_expression.Arithmetic as declared-arithmetic
 use Rattle.c_tree.specs.declared.typed_expression.Comparison as declared-comparison
-use Rattle.c_tree.specs.TypedExpressions.{RvalueTree, LvalueTree, Load, Assign, Comma, Discard, Compare, And, Or, Not, Conditional, Named}
+use Rattle.c_tree.specs.TypedExpressions.{RvalueTree, LvalueTree, Load, AddressOf, Assign, Comma, Discard, Arithmetic, Compare, And, Or, Not, Conditional, Named, Target}
 use Rattle.c_tree.specs.Programs.{AutomaticTree, StaticTree, ProgramTree}
-use Rattle.c_type_rules.specs.Constants.{compared as test_of}
+use Rattle.c_type_rules.specs.Constants.{calculated, compared as test_of}
 use Rattle.c_type_rules.specs.Integers.{integer}
 use Rattle.c_type_rules.specs.Types.{loaded}
 use Rattle.c_value_types.specs.ValueTypes.{object_type}
 use Rattle.c_law_types.specs.declared.kind.Kind.{Kind}
-use Rattle.c_law_types.specs.declared.kind.Kind.TheVariants.{Of}
+use Rattle.c_law_types.specs.declared.kind.Kind.TheVariants.{Wrong, NullPointer, Of}
 use Rattle.c_law_types.specs.Kinds.{is_of}
 use Rattle.c_law_types.specs.Expressions.{kind_of}
 use Rattle.c_memory.specs.declared.value.Value.{Value}
 use Rattle.c_memory.specs.declared.value.Value.TheVariants as source
 use Rattle.c_states.specs.declared.event.Ending.TheVariants.{Undefined}
-use Rattle.c_memory.specs.Types.{element_of}
-use Rattle.c_memory.specs.Memory.{Object, Memory, is_usable, is_begun, is_writable, index_at, object_of, value_in, written_in, set_value, with_value}
-use Rattle.c_memory.specs.Operations.{comparison}
+use Rattle.c_memory.specs.Types.{element_of, scalar_size}
+use Rattle.c_memory.specs.Memory.{Object, Memory, is_usable, is_begun, is_writable, index_at, object_of, read, value_in, write, written_in, set_value, with_value}
+use Rattle.c_memory.specs.Operations.{arithmetic, comparison, compared}
 use Rattle.c_states.specs.States.{State, Evaluated, Gives, Leaves, Ends, given, with, usable, both, on_both, Tested, Holds, Fails, NoTest, tested, on_test}
 use Rattle.c_meaning.specs.Expressions.{Calls, evaluate, designate}
-use Rattle.c_states.specs.Steps.{load, store, stored, truth}
-use Rattle.graph_values.specs.Typed.{IsPointerTo, IsOf}
+use Rattle.c_states.specs.Steps.{named, load, store, stored, truth}
+use Rattle.graph_values.specs.Typed.{PointsInto, IsPointerTo, IsOf}
 use Rattle.graph_values.proofs.Leads.{Setting, depth_in}
-use Rattle.graph_values.proofs.Later.{later_refl, later_set}
+use Rattle.graph_values.proofs.Later.{Later, later_refl, later_set}
 use Rattle.graph_values.proofs.Kept.{IsDeclared, Sound}
 use Rattle.graph_values.proofs.Leaves.{both_with}
-use Rattle.graph_values.proofs.Objects.{owned_at}
+use Rattle.graph_values.proofs.Objects.{Owned, owned_at}
 use Rattle.graph_values.proofs.Typing.{HasKind, Gave, Left, Keeps, KeepsTest, keeps_tested, Typed, of_later, kind_later}
 use Rattle.graph_values.proofs.Types.{kind_is_of}
-use Rattle.graph_values.proofs.Meanings.{keeps_before, keeps_with, keeps_afterwards, all_at, sound_set}
+use Rattle.graph_values.proofs.Meanings.{keeps_before, keeps_with, keeps_afterwards, keeps_given, all_at, sound_set}
 
 -- An lvalue is designated by a pointer to elements of its type.
 abbrev pub TypedPlace : Setting → Calls → LvalueTree → Type 0

@@ -1,5 +1,5 @@
 -- `!`, as a test and as a value.
-use Rattle.std.proofs.Common.{◌≡◌, ℕ, zero, suc, ◌≤◌, List, None, Bool, true, false, not, refl, sym, ap, ◌∙◌, subst, arith, ℤ, pos}
+use Rattle.std.proofs.Common.{◌≡◌, ◌≢◌, ℕ, zero, suc, ◌+◌, ◌<◌, ◌≤◌, List, [], ◌∷◌, Option, Some, None, Bool, true, false, not, slice_get, refl, sym, ap, ◌∙◌, subst, arith, ℤ, pos, negsuc}
 use Rattle.std.specs.Prelude.{◌==◌, if◌then◌else◌, nat_lt}
 use Rattle.std.specs.Option.{option_map_or}
 use Rattle.std.proofs.lemmas.Bool.Decides.{nat_tests}
@@ -24,22 +24,22 @@ use Rattle.graph_core.specs.declared.value.Value.TheVariants.{Number}
 use Rattle.graph_core.specs.Graphs as unit
 use Rattle.graph_core.specs.Graphs.{Operand, Name, Instruction, End}
 use Rattle.graph_core.specs.Memory.{Memory, is_live}
-use Rattle.graph_core.specs.Runs.{value}
+use Rattle.graph_core.specs.Runs.{Goes, step, value}
 use Rattle.graph_core.specs.Values.{operate, same}
 use Rattle.graph_scale.specs.Conversions.{word_of}
 use Rattle.graph_laid.specs.declared.laid.Use.TheVariants.{Anywhere}
 use Rattle.graph_names.specs.Names.{pick}
 use Rattle.graph_layout.specs.Layout.{laid}
 use Rattle.graph_drafts.specs.Drafts.{Made, Goal, To, Unused, Either, operated, zero as zero_operand}
-use Rattle.graph_values.specs.Correspondence.{points, ended, SameValue}
+use Rattle.graph_values.specs.Correspondence.{SamePointer, points, ended, SameValue}
 use Rattle.graph_values.proofs.Words.{InWord}
 use Rattle.graph_values.proofs.Tests.{HasWord, true_word, over_ended}
 use Rattle.graph_values.proofs.ComparedValues.{truth_word, truth_in}
 use Rattle.graph_values.proofs.Leads.{Setting, names_in, size_in, depth_in, Local, World, at}
 use Rattle.graph_values.proofs.Kept.{Sound, Fits, ScalarsFirst}
-use Rattle.graph_values.proofs.Results.{EitherR, Result, stuck_now, ended_result}
-use Rattle.graph_values.proofs.Leaves.{operated_done, with_then}
-use Rattle.graph_values.proofs.Typing.{gave_by, HasKind, kind_word, Typed}
+use Rattle.graph_values.proofs.Results.{EitherR, Result, Valued, stuck_now, ended_result}
+use Rattle.graph_values.proofs.Leaves.{Writes, operated_done, with_then}
+use Rattle.graph_values.proofs.Typing.{Gave, gave_by, HasKind, kind_word, Typed}
 use Rattle.graph_values.proofs.Standing.{Stands}
 use Rattle.graph_values.proofs.Operands.{Does, Low, code_in, value_in, written_by}
 use Rattle.graph_values.proofs.Arithmetic.{pick_between}

@@ -4,7 +4,7 @@ use Rattle.std.specs.Prelude.{◌==◌, if◌then◌else◌}
 use Rattle.std.proofs.lemmas.Bool.{cases_eq}
 use Rattle.std.proofs.lemmas.List.{length-set}
 use Rattle.std.proofs.lemmas.Bool.Decides.{nat_tests}
-use Rattle.word_base.specs.Owners.{Variable}
+use Rattle.word_base.specs.Owners.{Owner, Variable}
 use Rattle.c_tree.specs.Programs.{AutomaticTree, ProgramTree}
 use Rattle.c_memory.specs.declared.value.Value as source-value
 use Rattle.c_memory.specs.declared.value.Value.TheVariants as source
@@ -17,7 +17,7 @@ use Rattle.graph_core.specs.declared.value.Value.{Value}
 use Rattle.graph_core.specs.declared.value.Value.TheVariants.{Number, Pointer, Odd}
 use Rattle.graph_core.specs.declared.value.Shadow.{Shadow}
 use Rattle.graph_core.specs.declared.value.Shadow.TheVariants.{Known}
-use Rattle.graph_core.specs.Memory.{Memory}
+use Rattle.graph_core.specs.Memory.{Memory, bytes_of}
 use Rattle.graph_core.specs.Runs.{Activation, put}
 use Rattle.graph_core.specs.Values.{is_odd}
 use Rattle.graph_names.specs.Names.{Names, names_of, scalar_of}

@@ -1,12 +1,13 @@
 -- Two operands in turn.
-use Rattle.std.proofs.Common.{◌≡◌, ◌≢◌, ℕ, ◌+◌, ◌<◌, ◌≤◌, List, Some, None, Bool, true, false, refl, sym, ◌∙◌, subst, arith}
-use Rattle.std.specs.Prelude.{◌||◌}
+use Rattle.std.proofs.Common.{◌≡◌, ◌≢◌, ℕ, ◌+◌, ◌<◌, ◌≤◌, List, [], ◌∷◌, Option, Some, None, Bool, true, false, refl, sym, ap, ◌∙◌, subst, arith}
+use Rattle.std.specs.Prelude.{if◌then◌else◌, ◌||◌}
 use Rattle.c_tree.specs.TypedExpressions.{RvalueTree, LvalueTree, Constant, Null, Load, Decay, AddressOf, Convert, Discard, Signed, Not, Arithmetic, Compare, ComparePointers, Move, MoveFrom, Difference, And, Or, Conditional, Comma, Assign, Update, UpdatePointer, Step, StepPointer, Call, Named, Target, Element, ElementFrom}
 use Rattle.c_law_types.specs.Expressions.{kind_of}
 use Rattle.c_memory.specs.declared.value.Value as source-value
 use Rattle.c_states.specs.States.{State, Evaluated, Gives, with, both, on_both}
 use Rattle.c_meaning.specs.Expressions.{Calls, evaluate}
-use Rattle.graph_core.specs.Graphs.{Operand, Name, Constant as Word, StaticAddress, At, StaticObject}
+use Rattle.graph_core.specs.declared.value.Value.{Value}
+use Rattle.graph_core.specs.Graphs.{Operand, Name, Constant as Word, StaticAddress, At, Instruction, End, StaticObject}
 use Rattle.graph_core.specs.Runs.{value}
 use Rattle.graph_scale.specs.Operands.{held}
 use Rattle.graph_laid.specs.declared.laid.Use.TheVariants.{Anywhere}
@@ -17,7 +18,7 @@ use Rattle.graph_drafts.specs.Drafts.{Made, Goal, To, Unused, Either, move_if}
 use Rattle.graph_code.specs.Code.{code}
 use Rattle.graph_steps.specs.Steps.{in_turn}
 use Rattle.graph_values.specs.Correspondence.{SameValue}
-use Rattle.graph_values.proofs.Leads.{Setting, names_in, size_in, depth_in, Local, World, set_name, stays, goes, put_here, put_elsewhere, less_other}
+use Rattle.graph_values.proofs.Leads.{Setting, names_in, size_in, depth_in, Local, World, set_name, at, Leads, stays, goes, put_here, put_elsewhere, less_other}
 use Rattle.graph_values.proofs.Later.{others_refl, value_later}
 use Rattle.graph_values.proofs.Kept.{Sound, Fits, ScalarsFirst, fits_temporary}
 use Rattle.graph_values.proofs.Results.{Passes, Valued, Result, result_after}

@@ -1,12 +1,14 @@
 -- Where lvalues stand in memory.
-use Rattle.std.proofs.Common.{◌≡◌, ◌≢◌, ℕ, ◌+◌, ◌*◌, ◌≤◌, List, [], length, Option, Some, None, Bool, true, false, slice_get, refl, sym, ap, ◌∙◌, subst, arith}
-use Rattle.std.specs.Prelude.{if◌then◌else◌, nat_le, option_map}
+use Rattle.std.proofs.Common.{◌≡◌, ◌≢◌, ℕ, zero, suc, ◌+◌, ◌*◌, ◌/◌, ◌<◌, ◌≤◌, List, [], ◌∷◌, length, Option, Some, None, Bool, true, false, ◌||◌, slice_get, refl, sym, ap, ◌∙◌, subst, arith}
+use Rattle.std.specs.Prelude.{◌==◌, if◌then◌else◌, nat_le, option_map, option_and_then}
 use Rattle.std.specs.Option.{option_map_or}
 use Rattle.std.proofs.lemmas.Bool.Decides.{nat_tests}
-use Rattle.word_base.specs.Owners.{Static, Literal, Variable}
+use Rattle.word_base.specs.Owners.{Owner, Static, Literal, Variable}
 use Rattle.c_tree.specs.declared.object_type.ObjectType.{ObjectType}
 use Rattle.c_tree.specs.declared.object_type.Object.TheVariants as object
 use Rattle.c_tree.specs.TypedExpressions.{RvalueTree, LvalueTree, Named, Target}
+use Rattle.c_tree.specs.Programs.{AutomaticTree, ProgramTree}
+use Rattle.c_law_types.specs.Expressions.{kind_of}
 use Rattle.c_memory.specs.declared.value.Value as source-value
 use Rattle.c_memory.specs.declared.value.Value.TheVariants as source
 use Rattle.c_memory.specs.declared.value.Phase.TheVariants.{Ended}
@@ -16,25 +18,27 @@ use Rattle.c_states.specs.States.{State, Evaluated, Gives, Leaves, Ends, given, 
 use Rattle.c_meaning.specs.Expressions.{Calls, evaluate, designate}
 use Rattle.graph_core.specs.declared.value.Value.{Value}
 use Rattle.graph_core.specs.declared.value.Value.TheVariants.{Pointer, Odd}
-use Rattle.graph_core.specs.declared.value.Owner.TheVariants.{Static as UnitStatic}
+use Rattle.graph_core.specs.declared.value.Owner.TheVariants.{Static as UnitStatic, Automatic}
 use Rattle.graph_core.specs.Graphs as unit
 use Rattle.graph_core.specs.Graphs.{Operand, Location, At, Instruction, End, StaticObject}
-use Rattle.graph_core.specs.Memory.{bytes_of, static_bytes}
+use Rattle.graph_core.specs.Memory.{Object, Memory, bytes_of, static_bytes}
 use Rattle.graph_core.specs.Values.{pointer_at, size_of}
-use Rattle.graph_core.specs.Runs.{pointed, static_address}
+use Rattle.graph_core.specs.Runs.{value, pointed, static_address}
+use Rattle.graph_laid.specs.declared.laid.Use.TheVariants.{Anywhere}
 use Rattle.graph_names.specs.Names.{object_of, object_location}
-use Rattle.graph_layout.specs.Layout.{place_laid}
-use Rattle.graph_names.specs.Writes.{writes_within}
-use Rattle.graph_drafts.specs.Drafts.{Made, To}
+use Rattle.graph_layout.specs.Layout.{laid, place_laid}
+use Rattle.graph_names.specs.Writes.{writes, writes_within}
+use Rattle.graph_drafts.specs.Drafts.{Made, Goal, To}
 use Rattle.graph_code.specs.Code.{code_place}
-use Rattle.graph_values.specs.Correspondence.{owner_of, IsInMemory, SameObject, SamePointer, points, SameValue}
+use Rattle.graph_values.specs.Correspondence.{variable_of, owner_of, IsInMemory, SameObject, SamePointer, points, SameValue}
 use Rattle.graph_values.proofs.Leads.{Setting, names_in, size_in, depth_in, Local, World, here_at, at, stays}
 use Rattle.graph_values.proofs.Later.{some_same, others_refl}
-use Rattle.graph_values.proofs.Kept.{IsDeclared, Sound, Fits}
+use Rattle.graph_values.proofs.Kept.{IsDeclared, Sound, ObjectIs, StaticIs, Placed, Fits}
 use Rattle.graph_values.proofs.Results.{Reached, to_made, Stuck, Valued, ToR, stuck_now}
 use Rattle.graph_values.proofs.Leaves.{left_stuck}
+use Rattle.graph_values.proofs.Typing.{Typed}
 use Rattle.graph_values.proofs.Standing.{Stands}
-use Rattle.graph_values.proofs.Objects.{owned_at}
+use Rattle.graph_values.proofs.Objects.{Owned, owned_at}
 use Rattle.graph_values.proofs.Operands.{Does, code_in, value_in, written_by}
 use Rattle.graph_values.proofs.Homes.{object_inside}
 

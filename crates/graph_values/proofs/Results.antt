@@ -1,18 +1,28 @@
 -- What it means that the code of an expression does what the expression means, and how results follow from one another.
-use Rattle.std.proofs.Common.{◌≡◌, ℕ, ◌<◌, ◌≤◌, List, Option, Some, None, Bool, false, slice_get, ◌∙◌, arith}
+use Rattle.std.proofs.Common.{◌≡◌, ◌≢◌, ℕ, ◌+◌, ◌-◌, ◌<◌, ◌≤◌, List, [], ◌∷◌, ◌++◌, length, Option, Some, None, Bool, true, false, slice_get, refl, sym, ap, ◌∙◌, subst, arith, pos}
+use Rattle.std.specs.Prelude.{◌==◌, if◌then◌else◌, not, ℤ}
 use Rattle.c_memory.specs.declared.value.Value as source-value
+use Rattle.c_memory.specs.declared.value.Value.TheVariants as source
 use Rattle.c_states.specs.declared.event.Ending.{Ending}
 use Rattle.c_states.specs.declared.event.Ending.TheVariants as ending
-use Rattle.c_states.specs.States.{State, Evaluated, Gives, Leaves, Ends, Tested, Holds, Fails, NoTest, tested}
-use Rattle.graph_core.specs.Graphs.{Operand, Name, Instruction, End, Block}
-use Rattle.graph_core.specs.Runs.{Configuration, Event, Exited, TooDeep, Ends as StepEnds, step, value}
+use Rattle.c_memory.specs.Memory.{is_usable}
+use Rattle.c_memory.specs.Operations.{is_true}
+use Rattle.c_states.specs.States.{State, Evaluated, Gives, Leaves, Ends, Tested, Holds, Fails, NoTest, tested, with}
+use Rattle.graph_core.specs.declared.value.Value.{Value}
+use Rattle.graph_core.specs.declared.value.Value.TheVariants.{Number, Pointer, Odd}
+use Rattle.graph_core.specs.Graphs.{Operand, Name, Constant, StaticAddress, Instruction, End, Block}
+use Rattle.graph_core.specs.Graphs as unit
+use Rattle.graph_core.specs.Memory.{is_live}
+use Rattle.graph_core.specs.Runs.{Activation, Configuration, Event, Exited, TooDeep, Stepped, Goes, Ends as StepEnds, Wild, put, step, value, entered, go_to, branched}
+use Rattle.graph_core.specs.Values.{holds}
+use Rattle.graph_core.specs.declared.block.Comparison.TheVariants.{NotEqual}
 use Rattle.graph_scale.specs.Conversions.{word_of}
-use Rattle.graph_drafts.specs.Drafts.{Made, Goal, To, Unused, Either}
+use Rattle.graph_drafts.specs.Drafts.{Made, Goal, To, Unused, Either, before, leaf, target, follow}
 use Rattle.event_runs.specs.Agreement.{Pairs}
 use Rattle.graph_values.specs.Correspondence.{SameValue, SameEvent}
-use Rattle.graph_values.proofs.Leads.{Setting, Local, World, at, Leads, stays, then_leads}
-use Rattle.graph_values.proofs.Later.{OthersLater, others_trans}
-use Rattle.graph_values.proofs.Kept.{is_want, Fits}
+use Rattle.graph_values.proofs.Leads.{Setting, size_in, Local, World, set_name, at, Leads, stays, goes, then_leads, put_here, put_elsewhere, less_other}
+use Rattle.graph_values.proofs.Later.{OthersLater, others_refl, others_trans}
+use Rattle.graph_values.proofs.Kept.{is_want, Fits, ScalarsFirst, fits_temporary, fits_wanted}
 
 -- names below t are as before, but for one that is wanted, and those that are written
 abbrev pub Kept : ℕ → Option ℕ → (ℕ → Bool) → Local → Local → Type 0

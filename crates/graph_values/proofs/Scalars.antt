@@ -1,10 +1,10 @@
 -- Constants, scalars, and assignments to scalars.
-use Rattle.std.proofs.Common.{◌≡◌, ◌≢◌, ℕ, ◌≤◌, List, [], ◌∷◌, length, Option, Some, None, Bool, true, false, ◌||◌, slice_get, slice_set, refl, sym, ap, ◌∙◌, subst, arith, ℤ}
-use Rattle.std.specs.Prelude.{◌==◌, if◌then◌else◌, option_map, option_and_then}
+use Rattle.std.proofs.Common.{◌≡◌, ◌≢◌, ℕ, zero, suc, ◌+◌, ◌/◌, ◌<◌, ◌≤◌, List, [], ◌∷◌, length, Option, Some, None, Bool, true, false, not, ◌&&◌, ◌||◌, slice_get, slice_set, refl, sym, ap, ◌∙◌, subst, arith, ℤ}
+use Rattle.std.specs.Prelude.{◌==◌, if◌then◌else◌, option_map, option_and_then, nat_le}
 use Rattle.std.specs.Option.{option_map_or}
 use Rattle.std.specs.List.{AllByRecursion}
 use Rattle.std.proofs.lemmas.Bool.Decides.{nat_tests}
-use Rattle.word_base.specs.Owners.{Owner, Variable}
+use Rattle.word_base.specs.Owners.{Owner, Static, Literal, Variable}
 use Rattle.word_base.specs.Types.{holds}
 use Rattle.c_tree.specs.declared.types.IntegerType.{IntegerType}
 use Rattle.c_tree.specs.declared.object_type.Scalar.{Scalar}
@@ -16,40 +16,41 @@ use Rattle.c_type_rules.specs.Types.{loaded}
 use Rattle.c_law_types.specs.Expressions.{kind_of}
 use Rattle.c_memory.specs.declared.value.Value as source-value
 use Rattle.c_memory.specs.declared.value.Value.TheVariants as source
-use Rattle.c_memory.specs.declared.value.Phase.TheVariants.{Ended}
+use Rattle.c_memory.specs.declared.value.Phase.TheVariants.{Live, Ended}
 use Rattle.c_states.specs.declared.event.Ending.TheVariants as ending
-use Rattle.c_memory.specs.Memory.{Object as SourceObject, Memory as SourceMemory, is_usable, is_begun, is_writable, object_of, value_in as value_at, written_in, index_at, set_value, with_value}
-use Rattle.c_states.specs.States.{State, Evaluated, Gives, Ends, given, with, usable, both, on_both}
+use Rattle.c_memory.specs.Memory.{Object as SourceObject, Memory as SourceMemory, is_usable, is_begun, is_writable, object_of, read, value_in as value_at, write, written_in, index_at, set_value, with_value}
+use Rattle.c_states.specs.States.{State, Evaluated, Gives, Leaves, Ends, given, with, usable, both, second, on_both}
 use Rattle.c_meaning.specs.Expressions.{Calls, evaluate}
 use Rattle.c_states.specs.Steps.{load, store, stored}
 use Rattle.graph_core.specs.Graphs as unit
 use Rattle.graph_core.specs.Graphs.{Operand, Name, Instruction, Note, Is, Of, End}
-use Rattle.graph_core.specs.Runs.{Goes, Wild, put, step}
+use Rattle.graph_core.specs.Runs.{Stepped, Goes, Wild, put, step, at_place}
+use Rattle.graph_core.specs.Values.{is_odd}
 use Rattle.graph_core.specs.declared.value.Shadow.TheVariants.{Known}
 use Rattle.graph_scale.specs.Conversions.{word_of}
 use Rattle.graph_laid.specs.declared.laid.Use.TheVariants.{Anywhere}
-use Rattle.graph_names.specs.Names.{scalar_of}
+use Rattle.graph_names.specs.Names.{Names, scalar_of, pick}
 use Rattle.graph_laid.specs.Laid.{loaded_laid, assigned_laid, begun_at, use_for}
 use Rattle.graph_layout.specs.Layout.{laid, place_laid}
 use Rattle.graph_names.specs.Writes.{writes, is_that, is_location_moved}
-use Rattle.graph_drafts.specs.Drafts.{Made, Goal, To, leaf, noted, operated, hold_location, use_of}
+use Rattle.graph_drafts.specs.Drafts.{Made, Goal, To, Unused, Either, before, zero as zero_operand, leaf, note, noted, operated, hold_location, use_of}
 use Rattle.graph_drafts.specs.Rules.{element_of}
-use Rattle.graph_code.specs.Code.{code_place}
+use Rattle.graph_code.specs.Code.{code, code_place}
 use Rattle.graph_steps.specs.Steps.{assigned_memory}
 use Rattle.graph_laid.specs.Laid.{behind_move}
 use Rattle.graph_values.specs.Typed.{IsOf}
 use Rattle.graph_values.specs.Correspondence.{SameValue}
-use Rattle.graph_values.proofs.Words.{in_word}
+use Rattle.graph_values.proofs.Words.{in_word, both_true}
 use Rattle.graph_values.proofs.Tests.{HasWord}
-use Rattle.graph_values.proofs.Leads.{Setting, names_in, size_in, depth_in, Local, World, at, stays, goes}
-use Rattle.graph_values.proofs.Later.{later_set, others_refl, value_later}
+use Rattle.graph_values.proofs.Leads.{Setting, names_in, size_in, depth_in, Local, World, at, stays, goes, put_elsewhere}
+use Rattle.graph_values.proofs.Later.{Later, StillThere, later_set, others_refl, value_later}
 use Rattle.graph_values.proofs.Kept.{is_want, IsDeclared, Sound, Fits, ScalarsFirst}
-use Rattle.graph_values.proofs.Results.{Result, stuck_now, ended_result, result_after}
+use Rattle.graph_values.proofs.Results.{Valued, Result, stuck_now, ended_result, result_after}
 use Rattle.graph_values.proofs.Leaves.{leaf_done, with_then, second_with}
-use Rattle.graph_values.proofs.Noting.{ScalarsApart, known_value, fits_noted}
-use Rattle.graph_values.proofs.Typing.{Typed, gave_by, of_word, kind_word}
+use Rattle.graph_values.proofs.Noting.{ScalarsApart, known_value, other_number, fits_noted}
+use Rattle.graph_values.proofs.Typing.{Typed, Gave, gave_by, of_word, kind_word}
 use Rattle.graph_values.proofs.Standing.{Stands}
-use Rattle.graph_values.proofs.Objects.{first_index, owned_at, begun_live}
+use Rattle.graph_values.proofs.Objects.{first_index, Owned, owned_at, begun_live}
 use Rattle.graph_values.proofs.Operands.{Apart, Does, code_in, value_in, written_by, or_false}
 
 pub constant_does : (x : Setting) (calls : Calls) (z : ℤ) (type : IntegerType) → holds (integer type) z ≡ true → Does x calls (Constant z type)

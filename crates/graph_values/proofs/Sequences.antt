@@ -1,25 +1,27 @@
 -- Values that nothing uses: the comma, and casts to `void`.
-use Rattle.std.proofs.Common.{◌≡◌, ℕ, ◌<◌, ◌≤◌, List, Some, None, Bool, false, ◌||◌, refl, arith}
+use Rattle.std.proofs.Common.{◌≡◌, ℕ, ◌+◌, ◌<◌, ◌≤◌, List, [], ◌∷◌, Option, Some, None, Bool, true, false, ◌||◌, refl, sym, ap, ◌∙◌, subst, arith}
 use Rattle.c_tree.specs.TypedExpressions.{RvalueTree, Comma, Discard}
 use Rattle.c_law_types.specs.Expressions.{kind_of}
 use Rattle.c_law_types.specs.declared.kind.Kind.{Kind}
+use Rattle.c_memory.specs.declared.value.Value as source-value
+use Rattle.c_states.specs.declared.event.Ending.TheVariants as ending
 use Rattle.c_memory.specs.Memory.{Memory}
 use Rattle.c_states.specs.States.{State, Evaluated, Gives, Leaves, Ends, afterwards}
 use Rattle.c_meaning.specs.Expressions.{Calls, evaluate}
 use Rattle.c_tree.specs.Programs.{ProgramTree}
 use Rattle.graph_core.specs.Graphs.{Operand, Instruction, End}
 use Rattle.graph_core.specs.Runs.{value}
-use Rattle.graph_laid.specs.declared.laid.Use.TheVariants.{Nothing}
+use Rattle.graph_laid.specs.declared.laid.Use.TheVariants.{Anywhere, Nothing}
 use Rattle.graph_names.specs.Names.{pick}
 use Rattle.graph_layout.specs.Layout.{laid}
 use Rattle.graph_names.specs.Writes.{writes}
 use Rattle.graph_drafts.specs.Drafts.{Made, Goal, To, Unused, Either, leaf, zero as zero_operand}
-use Rattle.graph_values.proofs.Leads.{Setting, names_in, depth_in, Local, World, set_name, stays, goes, put_elsewhere}
+use Rattle.graph_values.proofs.Leads.{Setting, names_in, size_in, depth_in, Local, World, set_name, at, stays, goes, put_elsewhere}
 use Rattle.graph_values.proofs.Later.{others_refl}
-use Rattle.graph_values.proofs.Kept.{Fits, fits_wanted}
+use Rattle.graph_values.proofs.Kept.{Sound, Fits, ScalarsFirst, fits_wanted}
 use Rattle.graph_values.proofs.Results.{Reached, to_made, UnusedR, Result, stuck_now, ended_result, result_after}
 use Rattle.graph_values.proofs.Typing.{Keeps, Left, Typed}
-use Rattle.graph_values.proofs.Standing.{Grows}
+use Rattle.graph_values.proofs.Standing.{Stands, Grows, inner_of}
 use Rattle.graph_values.proofs.Operands.{aims_behind, Does, code_in, value_in, written_by, or_false}
 use Rattle.graph_values.proofs.Arithmetic.{pick_between}
 use Rattle.graph_values.proofs.Choices.{Tops}

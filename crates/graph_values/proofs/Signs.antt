@@ -1,6 +1,7 @@
 -- A sign before a number: `+` leaves its word, and `-` subtracts it from 0.
-use Rattle.std.proofs.Common.{◌≡◌, ℕ, ◌≤◌, List, Option, Some, None, Bool, true, false, refl, ap, ◌∙◌, subst, arith, ℤ, pos, ◌-ℤ◌}
-use Rattle.std.specs.Prelude.{option_map}
+use Rattle.std.proofs.Common.{◌≡◌, ℕ, ◌+◌, ◌-◌, ◌<◌, ◌≤◌, List, [], ◌∷◌, Option, Some, None, Bool, true, false, refl, sym, ap, ◌∙◌, subst, arith, ℤ, pos, ◌-ℤ◌}
+use Rattle.std.specs.Prelude.{if◌then◌else◌, option_map}
+use Rattle.word_base.specs.Types.{holds}
 use Rattle.word_base.specs.Operations.{negation}
 use Rattle.word_base.specs.WordOperations.{operated as operated_words}
 use Rattle.word_base.specs.declared.operation.Operation.TheVariants as operation
@@ -20,6 +21,7 @@ use Rattle.c_memory.specs.Memory.{Memory}
 use Rattle.c_memory.specs.Operations.{signed}
 use Rattle.c_states.specs.States.{State, Evaluated, Gives, Leaves, Ends, given, with}
 use Rattle.c_meaning.specs.Expressions.{Calls, evaluate}
+use Rattle.graph_core.specs.declared.value.Value.{Value}
 use Rattle.graph_core.specs.declared.value.Value.TheVariants.{Number}
 use Rattle.graph_core.specs.Graphs as unit
 use Rattle.graph_core.specs.Graphs.{Operand, Name, Operate, Instruction, End}
@@ -29,7 +31,7 @@ use Rattle.graph_scale.specs.Conversions.{word_of}
 use Rattle.graph_laid.specs.declared.laid.Use.TheVariants.{Anywhere}
 use Rattle.graph_names.specs.Names.{pick}
 use Rattle.graph_layout.specs.Layout.{laid}
-use Rattle.graph_drafts.specs.Drafts.{Made, Goal, To, Unused, Either, leaf, operated}
+use Rattle.graph_drafts.specs.Drafts.{Made, Goal, To, Unused, Either, leaf, valued, operated}
 use Rattle.graph_values.specs.Correspondence.{SameValue}
 use Rattle.graph_values.proofs.Words.{InWord, word_difference, kept_word_int, kept_word_unsigned, kept_in_int, kept_in_unsigned}
 use Rattle.graph_values.proofs.Leads.{Setting, names_in, size_in, depth_in, Local, World}
@@ -37,7 +39,8 @@ use Rattle.graph_values.proofs.Kept.{Sound, Fits, ScalarsFirst}
 use Rattle.graph_values.proofs.Results.{ToR, UnusedR, Result, stuck_now, ended_result}
 use Rattle.graph_values.proofs.Leaves.{leaf_done, operated_done, left_stuck, with_then}
 use Rattle.graph_values.proofs.Typing.{HasKind, Keeps, Typed, kind_word}
-use Rattle.graph_values.proofs.Operands.{Does, Low, code_in, value_in, written_by}
+use Rattle.graph_values.proofs.Standing.{Stands}
+use Rattle.graph_values.proofs.Operands.{Does, Low, Aims, code_in, value_in, written_by}
 use Rattle.graph_values.proofs.Arithmetic.{pick_between}
 
 -- what `-` makes of a word

@@ -1,9 +1,10 @@
 -- Inner blocks that stand in a graph: code only adds to them.
-use Rattle.std.proofs.Common.{◌≡◌, ℕ, ◌+◌, ◌-◌, List, [], ◌∷◌, ◌++◌, length, Some, None, Bool, true, false, slice_get, refl, subst, arith}
+use Rattle.std.proofs.Common.{◌≡◌, ℕ, zero, suc, ◌+◌, ◌-◌, List, [], ◌∷◌, ◌++◌, length, Option, Some, None, Bool, true, false, slice_get, refl, sym, ap, ◌∙◌, subst, arith}
+use Rattle.std.specs.Prelude.{if◌then◌else◌}
 use Rattle.c_tree.specs.TypedExpressions.{RvalueTree}
-use Rattle.graph_core.specs.Graphs.{Operand, Block, Graph}
-use Rattle.graph_names.specs.Names.{Names}
-use Rattle.graph_drafts.specs.Drafts.{Made, Goal, To, Unused, Either, leaf, follow, closed, label_of, move_if}
+use Rattle.graph_core.specs.Graphs.{Operand, Instruction, Block, Graph}
+use Rattle.graph_names.specs.Names.{Names, pick}
+use Rattle.graph_drafts.specs.Drafts.{Made, Goal, To, Unused, Either, leaf, follow, closed, label_of, move_if, operated}
 use Rattle.graph_code.specs.Code.{code}
 
 -- inner blocks, the first one with so many closed before it, stand at the end of a graph of so many blocks, the last one that is closed first

@@ -1,25 +1,34 @@
 -- Writes where a pointer points: the unit writes what the source does, and all else is kept.
-use Rattle.std.proofs.Common.{◌≡◌, ◌≢◌, ℕ, zero, suc, ◌+◌, inl, inr, List, [], ◌∷◌, length, Option, Some, None, Bool, false, slice_get, slice_set, refl, sym, ap, ◌∙◌, subst, arith}
+use Rattle.std.proofs.Common.{◌≡◌, ◌≢◌, ℕ, zero, suc, ◌+◌, ◌*◌, ◌/◌, ◌<◌, ◌≤◌, ◌⊎◌, inl, inr, List, [], ◌∷◌, length, Option, Some, None, Bool, true, false, not, slice_get, slice_set, refl, sym, ap, ◌∙◌, subst, arith}
+use Rattle.std.specs.Prelude.{if◌then◌else◌, option_map, option_and_then}
 use Rattle.std.proofs.lemmas.Option.{slice_get_within}
 use Rattle.std.proofs.lemmas.List.{length-set}
 use Rattle.word_base.specs.Owners.{Owner, Static, Literal, Variable}
+use Rattle.c_tree.specs.declared.object_type.Scalar.{Scalar}
 use Rattle.c_tree.specs.Programs.{TypedFunctionTree, ProgramTree}
 use Rattle.graph_core.specs.Runs.{Activation}
+use Rattle.c_type_rules.specs.Types.{loaded}
 use Rattle.c_memory.specs.declared.value.Value as source-value
 use Rattle.c_memory.specs.declared.value.Phase.{Phase}
 use Rattle.c_memory.specs.declared.value.Phase.TheVariants.{Live, Ended}
 use Rattle.c_memory.specs.Memory.{Object as SourceObject, Memory as SourceMemory}
 use Rattle.c_states.specs.States.{State}
 use Rattle.graph_core.specs.declared.value.Value.{Value}
-use Rattle.graph_core.specs.declared.value.Owner.TheVariants.{Static as UnitStatic}
-use Rattle.graph_core.specs.Memory.{Object, Memory}
-use Rattle.graph_names.specs.Names.{names_of, scalar_of}
-use Rattle.graph_values.specs.Correspondence.{owner_of, IsInMemory, SameObject, SameValue, SameValues}
+use Rattle.graph_core.specs.declared.value.Value.TheVariants.{Pointer}
+use Rattle.graph_core.specs.declared.value.Owner as unit-owner
+use Rattle.graph_core.specs.declared.value.Owner.TheVariants.{Static as UnitStatic, Automatic}
+use Rattle.graph_core.specs.Memory.{Object, Memory, bytes_of, write, write_in, written_in, with_value, index_in}
+use Rattle.graph_core.specs.Values.{as_element}
+use Rattle.graph_names.specs.Names.{Names, names_of, scalar_of}
+use Rattle.graph_drafts.specs.Rules.{element_of}
+use Rattle.graph_values.specs.Typed.{IsOf, OwnersDiffer}
+use Rattle.graph_values.specs.Correspondence.{variable_of, owner_of, IsInMemory, SameObject, SameValue, SameValues}
 use Rattle.graph_values.proofs.Leads.{Setting, names_in, depth_in, Local, World}
 use Rattle.graph_values.proofs.Later.{some_same, get_set, set_here, set_elsewhere, Onward, onward, Later, later_changed, OthersLater, others_trans, others_changed, value_later, values_later}
 use Rattle.graph_values.proofs.Kept.{IsDeclared, AreDeclared, Sound, Own, Waits, Outer, Placed, StaticIs, Fits}
 use Rattle.graph_values.proofs.Noting.{own_later}
 use Rattle.graph_values.proofs.Homes.{scalar_outside}
+use Rattle.graph_values.proofs.Access.{Leading}
 
 pub values_set : (p : ProgramTree) (memory : SourceMemory) (others : Memory) (vs : List source-value.Value) (ws : List Value) (k : ℕ) (v : source-value.Value) (w : Value) → SameValues p memory others vs ws → SameValue p memory others v w
     → SameValues p memory others (slice_set vs k v) (slice_set ws k w)

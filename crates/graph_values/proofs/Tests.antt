@@ -1,22 +1,22 @@
 -- A value that is tested, in the source and in the unit.
-use Rattle.std.proofs.Common.{◌≡◌, ◌≢◌, ℕ, zero, suc, ◌<◌, Bool, true, false, not, Some, refl, ap, ◌∙◌, arith, ℤ, pos, negsuc}
-use Rattle.std.specs.Prelude.{◌==◌, option_map}
+use Rattle.std.proofs.Common.{◌≡◌, ◌≢◌, ℕ, zero, suc, ◌+◌, ◌<◌, ◌≤◌, Bool, true, false, not, Option, Some, None, slice_get, refl, sym, ap, ◌∙◌, subst, arith, ℤ, pos, negsuc}
+use Rattle.std.specs.Prelude.{◌==◌, if◌then◌else◌, option_map}
 use Rattle.std.specs.Option.{option_map_or}
 use Rattle.std.proofs.lemmas.Bool.Decides.{nat_tests}
 use Rattle.c_tree.specs.Programs.{ProgramTree}
 use Rattle.c_memory.specs.declared.value.Value as source-value
 use Rattle.c_memory.specs.declared.value.Value.TheVariants as source
 use Rattle.c_memory.specs.declared.value.Phase.{Phase}
-use Rattle.c_memory.specs.declared.value.Phase.TheVariants.{Ended}
+use Rattle.c_memory.specs.declared.value.Phase.TheVariants.{Initialising, Live, Ended}
 use Rattle.c_memory.specs.Memory.{Memory as SourceMemory, is_usable, is_over}
 use Rattle.c_memory.specs.Operations.{is_true}
 use Rattle.graph_core.specs.declared.value.Value.{Value}
-use Rattle.graph_core.specs.declared.value.Value.TheVariants.{Number}
+use Rattle.graph_core.specs.declared.value.Value.TheVariants.{Number, Pointer, Odd}
 use Rattle.graph_core.specs.declared.block.Comparison.TheVariants.{NotEqual}
-use Rattle.graph_core.specs.Memory.{Memory}
+use Rattle.graph_core.specs.Memory.{Memory, bytes_of}
 use Rattle.graph_core.specs.Values.{holds, same, truth, is_true as is_known}
 use Rattle.graph_scale.specs.Conversions.{word_of}
-use Rattle.graph_values.specs.Correspondence.{points, ended, SameValue}
+use Rattle.graph_values.specs.Correspondence.{SameObject, SamePointer, points, ended, SameValue}
 use Rattle.graph_values.proofs.Words.{InWord}
 
 -- a value that a word can say, where it is a number

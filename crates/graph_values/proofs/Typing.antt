@@ -1,5 +1,5 @@
 -- What the types of expressions tell of their values.
-use Rattle.std.proofs.Common.{◌≡◌, ℕ, ◌≤◌, Bool, true, false, sym, ◌∙◌, subst}
+use Rattle.std.proofs.Common.{◌≡◌, ℕ, ◌*◌, ◌≤◌, List, [], ◌∷◌, length, Option, Some, None, Bool, true, false, slice_get, refl, sym, ap, ◌∙◌, subst}
 use Rattle.std.specs.Prelude.{if◌then◌else◌}
 use Rattle.c_tree.specs.declared.object_type.Scalar.{Scalar}
 use Rattle.c_tree.specs.declared.object_type.ValueType.{ValueType}
@@ -21,7 +21,7 @@ use Rattle.graph_values.specs.Typed.{PointsInto, IsOf}
 use Rattle.graph_values.proofs.Words.{in_word}
 use Rattle.graph_values.proofs.Tests.{HasWord}
 use Rattle.graph_values.proofs.Leads.{Setting, depth_in}
-use Rattle.graph_values.proofs.Later.{Later}
+use Rattle.graph_values.proofs.Later.{Later, later_refl, later_trans}
 use Rattle.graph_values.proofs.Kept.{Sound}
 
 -- a value is what the type of its expression says

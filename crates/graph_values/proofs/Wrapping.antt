@@ -1,5 +1,5 @@
 -- A converted number is one of its type, and conversions come to numbers of their types.
-use Rattle.std.proofs.Common.{◌≡◌, ℕ, ◌+◌, ◌-◌, ◌<◌, ◌≤◌, Bool, true, false, ◌&&◌, refl, sym, ap, ◌∙◌, subst, arith, ℤ, pos, negsuc, ◌-ℤ◌}
+use Rattle.std.proofs.Common.{◌≡◌, ℕ, ◌+◌, ◌-◌, ◌/◌, ◌%◌, ◌<◌, ◌≤◌, Bool, true, false, ◌&&◌, Option, Some, None, refl, sym, ap, ◌∙◌, subst, arith, ℤ, pos, negsuc, ◌-ℤ◌}
 use Rattle.std.specs.Prelude.{if◌then◌else◌, int_le, nat_le}
 use Rattle.std.proofs.lemmas.Bool.{leb-true}
 use Rattle.std.proofs.lemmas.Bool.Decides.{nat_tests}
@@ -9,14 +9,19 @@ use Rattle.c_tree.specs.declared.types.IntegerType.{IntegerType}
 use Rattle.c_tree.specs.declared.types.IntegerType.TheVariants.{Char, SignedChar, UnsignedChar, Short, UnsignedShort, Int, UnsignedInt, Long, UnsignedLong}
 use Rattle.c_tree.specs.declared.object_type.ValueType.TheVariants.{Integer}
 use Rattle.c_tree.specs.TypedExpressions.{RvalueTree, Convert}
+use Rattle.c_tree.specs.Programs.{ProgramTree}
 use Rattle.c_type_rules.specs.Integers.{integer, wrapped}
+use Rattle.c_law_types.specs.declared.kind.Kind.{Kind}
 use Rattle.c_law_types.specs.declared.kind.Kind.TheVariants.{Of}
 use Rattle.c_law_types.specs.Expressions.{kind_of}
+use Rattle.c_memory.specs.declared.value.Value.{Value}
 use Rattle.c_memory.specs.declared.value.Value.TheVariants as source
+use Rattle.c_memory.specs.Memory.{Memory}
 use Rattle.c_memory.specs.Operations.{convert}
-use Rattle.c_states.specs.States.{Evaluated, Gives, Leaves, Ends, mapped}
+use Rattle.c_states.specs.States.{State, Evaluated, Gives, Leaves, Ends, given, mapped}
 use Rattle.c_meaning.specs.Expressions.{Calls, evaluate}
 use Rattle.graph_values.proofs.Leads.{Setting, depth_in}
+use Rattle.graph_values.proofs.Later.{later_refl}
 use Rattle.graph_values.proofs.Typing.{Keeps, Typed}
 
 up_to : (m k : ℕ) → m ≤ k → int_le (pos 0) (pos m) && int_le (pos m) (pos k) ≡ true
