@@ -29,8 +29,8 @@ use Rattle.graph_laid.specs.Laid.{Laid, Pair, PlaceLaid, pair, behind_move, behi
 use Rattle.graph_layout.specs.Layout.{laid, place_laid, passed_laid}
 use Rattle.graph_drafts.specs.Rules.{element_of, steps_by, truncation_to, operation_for, move_by, callee_for}
 use Rattle.graph_drafts.specs.Drafts.{Made, Goal, To, Unused, Either, use_of, before, ending, zero as zero_operand, leaf, target, follow, label_of, closed, forked, valued, operated, move_if, hold_location, stored, note, noted, keep_old, use_old, behind_old, used, called_by, scale, scaling, renew, compare_by, compare_pointers_by, compared, compared_pointers}
-use Rattle.graph_code.specs.declared.site.Two as declared-two
-use Rattle.graph_code.specs.declared.site.Two.TheVariants as two
+use Rattle.graph_steps.specs.declared.site.Two as declared-two
+use Rattle.graph_steps.specs.declared.site.Two.TheVariants as two
 use Rattle.graph_steps.specs.declared.change.Change as declared-change
 use Rattle.graph_steps.specs.declared.change.Change.TheVariants as change
 use Rattle.graph_steps.specs.Steps.{in_turn, signed, finished, arm_goal, arm_use, arm_value, assigned_memory, changed, renewed_scalar, renewed_memory, loaded_first, left_scalar, left_memory, updated, stepped, object_address, one_at, distance}
