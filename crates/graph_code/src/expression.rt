@@ -9,30 +9,26 @@ ghost use Rattle.graph_laid.specs.Laid.{behind_own, laid_view};
 ghost use Rattle.graph_layout.specs.Layout.{laid};
 ghost use Rattle.graph_names.specs.Names.{names_view};
 ghost use Rattle.graph_laid.specs.declared.laid.Use.TheVariants.{Anywhere, Nothing, Tested};
-ghost use Rattle.graph_core.specs.Graphs as unit;
-ghost use Rattle.graph_core.specs.Graphs.{operand_view};
-ghost use Rattle.graph_drafts.specs.Drafts.{closed, ending, goal_of, label_of, made_of, use_of};
-ghost use Rattle.graph_steps.specs.Steps.{arm_goal, arm_use, arm_value, object_address};
+ghost use Rattle.graph_drafts.specs.Drafts.{goal_of, made_of, use_of};
 ghost use Rattle.graph_code.specs.Code.{code, code_address, code_all, code_place, code_stepped, code_two, code_updated};
 
-use c_tree::{
-    Arguments, Callee, Direction, Given, IntegerType, Lvalue, Object, Rvalue, Scalar, Sign,
-};
+use c_tree::{Arguments, Callee, Direction, Given, IntegerType, Lvalue, Rvalue, Scalar, Sign};
 use c_type_rules::object_size;
 use c_value_types::{given_by, integer_in, is_pointer, is_void, type_of};
-use graph_core::{End, Label, Name, Operand};
+use graph_core::{Name, Operand};
 use graph_drafts::{
-    Computation, Draft, Goal, callee_for, closed, element_of, ending, leaf, move_if, noted,
-    steps_by, use_of, used, valued,
+    Computation, Draft, Goal, callee_for, closed, element_of, leaf, move_if, noted, steps_by,
+    use_of, used, valued,
 };
 use graph_laid::{Laid, Use, behind_move, behind_own, use_for};
 use graph_layout::{lefts_laid, pair_behind, passed_laid, place_laid, value_laid};
-use graph_names::{is_location_moved, is_moved_before, object_of, pick, scalar_named, writes};
+use graph_names::{is_location_moved, is_moved_before, pick, scalar_named, writes};
 use graph_operations::{called_by, forked, hold_location, operated};
 use graph_scale::{held, keeps_bits, word_of};
 use graph_steps::{
-    Change, Site, Two, assigned_memory, finished, label_of, left_memory, left_scalar, loaded_first,
-    narrowed, negated, one_at, renewed_memory, renewed_scalar, signed,
+    Change, Site, Two, arm_goal, arm_use, arm_value, assigned_memory, finished, label_of,
+    leading_to, left_memory, left_scalar, loaded_first, narrowed, negated, object_address, one_at,
+    renewed_memory, renewed_scalar, signed,
 };
 use std::alloc::{AllocError, Global};
 
@@ -228,35 +224,6 @@ fn code_place(
     }
 }
 
-/// The address of an object.
-fn code_object(
-    alloc: Global,
-    site: &Site<'_>,
-    object: Object,
-    begun: u32,
-    goal: Goal,
-) -> Result<Draft, AllocError>
-    ensures { IfOk result (λ d. made_of d ≡ object_address (names_view site.now.names.now) object begun (goal_of goal)) }
-{
-    let number = match object {
-        Object::Automatic(variable) => {
-            let number = object_of(site.names, variable).unwrap_or(0);
-            let address = Computation::Address(number);
-            return operated(alloc, site.names, goal, begun, begun, address);
-        }
-        Object::Static(number) => number,
-        Object::Literal(number) => match site.names.statics.checked_add(number) {
-            None => return Err(AllocError),
-            Some(number) => number,
-        },
-    };
-    let address = Operand::StaticAddress {
-        object: number,
-        offset: 0,
-    };
-    leaf(alloc, goal, address)
-}
-
 /// The address of an lvalue.
 #[cycle(code)]
 fn code_address(
@@ -269,7 +236,7 @@ fn code_address(
     ensures { IfOk result (λ d. made_of d ≡ code_address (names_view site.now.names.now) site.now.place.0 site.now.top (lvalue_view l.now) begun (goal_of goal)) }
 {
     match l {
-        Lvalue::Named { object, .. } => code_object(alloc, site, *object, begun, goal),
+        Lvalue::Named { object, .. } => object_address(alloc, site, *object, begun, goal),
         Lvalue::Target { pointer, .. } => {
             let value = given!(value_laid(site.names, pointer, Use::Anywhere, begun)).value;
             code(
@@ -452,43 +419,6 @@ fn code_both_known(
         at,
         Goal::Either(one, other, inner),
     )
-}
-
-/// What an arm of `?:` is for, whose value stands in a name, or which has none.
-fn arm_goal(is_void: bool, own: Name, draft: Draft) -> Goal
-    ensures { goal_of result ≡ arm_goal is_void own.0 (made_of draft) }
-{
-    if is_void {
-        Goal::Unused(draft)
-    } else {
-        Goal::To(Some(own), draft)
-    }
-}
-
-/// What the layout of an arm is asked for.
-fn arm_use(is_void: bool, own: u32) -> Use
-    ensures { result ≡ arm_use is_void own }
-{
-    if is_void { Use::Nothing } else { Use::In(own) }
-}
-
-/// Where the value of `?:` stands.
-fn arm_value(is_void: bool, own: Name) -> Operand
-    ensures { operand_view result ≡ arm_value is_void own.0 }
-{
-    if is_void {
-        Operand::Constant(0)
-    } else {
-        Operand::Name(own)
-    }
-}
-
-/// A block that leads to another one, behind a draft that is closed in the place in force.
-fn leading_to(alloc: Global, site: &Site<'_>, to: Label, draft: Draft) -> Result<Draft, AllocError>
-    ensures { IfOk result (λ d. made_of d ≡ ending (unit.Jump to.0) (closed site.now.place.0 (made_of draft))) }
-{
-    let inner = closed(site.place, draft)?;
-    Ok(ending(alloc, End::Jump(to), inner))
 }
 
 /// `?:`, whose arms write its value to a name, or have none.

@@ -1,9 +1,11 @@
 //! What the nodes of expressions do once their parts are coded.
 #![tactic(auto)]
 
+mod arms;
 mod change;
 mod site;
 
+pub use arms::{arm_goal, arm_use, arm_value, leading_to, object_address};
 pub use change::{
     Change, assigned_memory, left_memory, left_scalar, loaded_first, one_at, renewed_memory,
     renewed_scalar,

@@ -1,5 +1,5 @@
 -- What an image says of what a program declares.
-use Rattle.std.specs.Prelude.{ℕ, zero, suc, min, List, ◌++◌, length, map}
+use Rattle.std.specs.Prelude.{ℕ, zero, suc, ◌+◌, min, Option, Some, None, List, [], ◌∷◌, ◌++◌, length, map, replicate}
 use Rattle.std.specs.List.{flat_map}
 use Rattle.c_tree.specs.declared.types.IntegerType.{IntegerType}
 use Rattle.c_tree.specs.declared.types.IntegerType.TheVariants.{Char, SignedChar, UnsignedChar, Short, UnsignedShort, Int, UnsignedInt, Long, UnsignedLong}
@@ -65,6 +65,23 @@ automatic_shape v = record { name_length = counted (length v.name); position = v
 -- the variables of a program: the named static ones, the literals, the automatic ones
 abbrev pub shapes_of : ProgramTree → List Shape
 shapes_of p = map static_shape p.statics ++ (map literal_shape p.literals ++ map automatic_shape p.automatics)
+
+-- the function of a variable of an image, if it belongs to one
+abbrev pub owner : Variable → Option ℕ
+owner v = v.function
+
+-- to which functions variables belong, of functions the first of which has this number: as many as a function has are its, function by function
+abbrev pub owned_from : (number : ℕ) → List TypedFunctionTree → List (Option ℕ)
+owned_from number [] = []
+owned_from number (f ∷ more) = replicate f.variables (Some number) ++ owned_from (number + 1) more
+
+-- to which functions the variables of a program belong: static ones and literals to none
+abbrev pub owners_of : ProgramTree → List (Option ℕ)
+owners_of p = map (λ v. None) p.statics ++ (map (λ l. None) p.literals ++ owned_from 0 p.functions)
+
+-- the place at which a function of an image begins
+abbrev pub entry : Function → ℕ
+entry f = f.entry
 
 -- the names of a program's functions and variables, one after the other
 abbrev pub declared_names : ProgramTree → List ℕ

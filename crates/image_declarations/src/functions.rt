@@ -2,7 +2,7 @@
 
 ghost use Rattle.std.specs.Prelude.{◌≡◌, IfOk, length, map};
 ghost use Rattle.c_tree.specs.Programs.{function_view};
-ghost use Rattle.image_declarations.specs.Variables.{length_of_name, name_length};
+ghost use Rattle.image_declarations.specs.Variables.{entry, length_of_name, name_length};
 
 use crate::numbers::number_of;
 use c_tree::TypedFunction;
@@ -13,7 +13,8 @@ use std::alloc::{AllocError, Global};
 
 /// A function with its code.
 fn function_of(function: &TypedFunction, graph: &Graph, code: &EmittedFunction) -> Function
-    ensures { name_length result ≡ length_of_name (function_view function.now) }
+    ensures name { name_length result ≡ length_of_name (function_view function.now) }
+    ensures entry { entry result ≡ graph.now.entry.0 }
 {
     Function {
         name_length: number_of(function.name.len()),
@@ -33,7 +34,8 @@ pub fn functions_of(
 ) -> Result<Vec<Function>, AllocError>
     requires graphs { length graphs.now ≡ length functions.now }
     requires code { length code.now ≡ length functions.now }
-    ensures { IfOk result (λ v. map name_length v.items ≡ map length_of_name (map function_view functions.now)) }
+    ensures names { IfOk result (λ v. map name_length v.items ≡ map length_of_name (map function_view functions.now)) }
+    ensures entries { IfOk result (λ v. map entry v.items ≡ map (λ g. g.entry.0) graphs.now) }
 {
     let mut made = Vec::new(alloc);
     for (number, function) in functions.iter().enumerate() {

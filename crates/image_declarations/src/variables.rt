@@ -1,8 +1,8 @@
 //! The table of variables.
 
-ghost use Rattle.std.specs.Prelude.{◌≡◌, ◌++◌, IfOk, OnOk, map};
-ghost use Rattle.c_tree.specs.Programs.{automatic_view, literal_view, program_view, static_view};
-ghost use Rattle.image_declarations.specs.Variables.{automatic_shape, literal_shape, shape, shapes_of, static_shape};
+ghost use Rattle.std.specs.Prelude.{◌≡◌, ◌++◌, ◌<◌, ◌^◌, Some, None, IfOk, OnOk, get_or, length, map, replicate};
+ghost use Rattle.c_tree.specs.Programs.{automatic_view, function_view, literal_view, program_view, static_view};
+ghost use Rattle.image_declarations.specs.Variables.{automatic_shape, literal_shape, owned_from, owner, owners_of, shape, shapes_of, static_shape};
 
 use crate::element::elements_of;
 use crate::numbers::number_of;
@@ -11,29 +11,39 @@ use c_tree::{AutomaticVariable, Program, TypedFunction};
 use image_form::{ElementType, Variable};
 use std::alloc::{AllocError, Global};
 
+/// Appends the number of a function, once for each of so many variables.
+fn push_owner(
+    variables: u32,
+    function: u32,
+    owners: &mut Vec<Option<u32>>,
+) -> Result<(), AllocError>
+    ensures { OnOk result (owners.new.items ≡ owners.old.items ++ replicate variables (Some function)) }
+{
+    for _ in 0..variables {
+        owners.push(Some(function))?;
+    }
+    Ok(())
+}
+
 /// The number of the function of each automatic variable.
-fn owners_of(
-    alloc: Global,
-    functions: &[TypedFunction],
-    automatics: usize,
-) -> Result<Vec<u32>, AllocError> {
-    let mut owners = vec![in alloc; 0u32; automatics]?;
-    let mut number = 0u32;
-    for function in functions {
-        let first = function.first_variable as usize;
-        let end = first.saturating_add(function.variables as usize);
-        put_owner(&mut owners, first, end, number);
-        number = number.saturating_add(1);
+fn owners_of(alloc: Global, functions: &[TypedFunction]) -> Result<Vec<Option<u32>>, AllocError>
+    requires { length functions.now < 2 ^ 32 }
+    ensures { IfOk result (λ v. v.items ≡ owned_from 0 (map function_view functions.now)) }
+{
+    let mut owners = Vec::new(alloc);
+    for (number, function) in functions.iter().enumerate() {
+        push_owner(function.variables, number_of(number), &mut owners)?;
     }
     Ok(owners)
 }
 
-/// The variables from one to another, as far as there are such, are this function's.
-fn put_owner(owners: &mut [u32], first: usize, end: usize, function: u32) {
-    for variable in first..end.min(owners.len()) {
-        if let Some(owner) = owners.get_mut(variable) {
-            *owner = function;
-        }
+/// The owner of this number; none where there is none.
+fn owner_at(owners: &[Option<u32>], number: usize) -> Option<u32>
+    ensures { result ≡ get_or owners.now number None }
+{
+    match owners.get(number) {
+        Some(owner) => *owner,
+        None => None,
     }
 }
 
@@ -43,7 +53,8 @@ fn push_statics(
     storages: &Storages,
     variables: &mut Vec<Variable>,
 ) -> Result<(), AllocError>
-    ensures { OnOk result (map shape variables.new.items ≡ map shape variables.old.items ++ map static_shape (map static_view program.now.statics.items)) }
+    ensures owners { OnOk result (map owner variables.new.items ≡ map owner variables.old.items ++ map (λ v. None) (map static_view program.now.statics.items)) }
+    ensures shapes { OnOk result (map shape variables.new.items ≡ map shape variables.old.items ++ map static_shape (map static_view program.now.statics.items)) }
 {
     for (number, of) in program.statics.iter().enumerate() {
         let (element, count) = elements_of(of.of);
@@ -65,7 +76,8 @@ fn push_literals(
     storages: &Storages,
     variables: &mut Vec<Variable>,
 ) -> Result<(), AllocError>
-    ensures { OnOk result (map shape variables.new.items ≡ map shape variables.old.items ++ map literal_shape (map literal_view program.now.literals.items)) }
+    ensures owners { OnOk result (map owner variables.new.items ≡ map owner variables.old.items ++ map (λ l. None) (map literal_view program.now.literals.items)) }
+    ensures shapes { OnOk result (map shape variables.new.items ≡ map shape variables.old.items ++ map literal_shape (map literal_view program.now.literals.items)) }
 {
     let before = program.statics.len();
     for (number, of) in program.literals.iter().enumerate() {
@@ -84,18 +96,20 @@ fn push_literals(
 /// Appends the automatic variables, behind so many others.
 fn push_automatics(
     automatics: &[AutomaticVariable],
-    owners: &[u32],
+    owners: &[Option<u32>],
     storages: &Storages,
     before: usize,
     variables: &mut Vec<Variable>,
 ) -> Result<(), AllocError>
-    ensures { OnOk result (map shape variables.new.items ≡ map shape variables.old.items ++ map automatic_shape (map automatic_view automatics.now)) }
+    requires { length owners.now ≡ length automatics.now }
+    ensures owners { OnOk result (map owner variables.new.items ≡ map owner variables.old.items ++ owners.now) }
+    ensures shapes { OnOk result (map shape variables.new.items ≡ map shape variables.old.items ++ map automatic_shape (map automatic_view automatics.now)) }
 {
     for (number, of) in automatics.iter().enumerate() {
         let (element, count) = elements_of(of.of);
         variables.push(Variable {
             name_length: number_of(of.name.len()),
-            function: owners.get(number).copied(),
+            function: owner_at(owners, number),
             position: of.spot.at,
             element,
             storage: storages.at(before.saturating_add(number)),
@@ -114,15 +128,18 @@ pub fn variable_count(program: &Program) -> usize {
         .saturating_add(program.automatics.len())
 }
 
-/// The variables of a program: the static ones, the literals and the automatic ones, each by position.
+/// The variables of a program: the static ones, the literals and the automatic ones, each by position. The program has as many automatic variables as its functions have.
 pub fn variables_of(
     alloc: Global,
     program: &Program,
     storages: &Storages,
 ) -> Result<Vec<Variable>, AllocError>
-    ensures { IfOk result (λ v. map shape v.items ≡ shapes_of (program_view program.now)) }
+    requires few { length program.now.functions.items < 2 ^ 32 }
+    requires owned { length (owned_from 0 (program_view program.now).functions) ≡ length program.now.automatics.items }
+    ensures owners { IfOk result (λ v. map owner v.items ≡ owners_of (program_view program.now)) }
+    ensures shapes { IfOk result (λ v. map shape v.items ≡ shapes_of (program_view program.now)) }
 {
-    let owners = owners_of(alloc, &program.functions, program.automatics.len())?;
+    let owners = owners_of(alloc, &program.functions)?;
     let before = program.statics.len().saturating_add(program.literals.len());
     let mut variables = Vec::new(alloc);
     push_statics(program, storages, &mut variables)?;

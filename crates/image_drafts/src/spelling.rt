@@ -1,7 +1,7 @@
 //! The image of tables, and its bytes.
 
-ghost use Rattle.std.specs.Prelude.{◌≡◌, IfOk, IfSome, length};
-ghost use Rattle.image_form.specs.Form.{form};
+ghost use Rattle.std.specs.Prelude.{◌≡◌, IfNone, IfOk, IfSome, length};
+ghost use Rattle.image_form.specs.Form.{Form, form};
 ghost use Rattle.image_form.specs.Rules.{IsImage};
 ghost use Rattle.image_form.specs.Spelling.{spelling};
 ghost use Rattle.image_drafts.specs.Same.{SaysTheSame};
@@ -21,6 +21,7 @@ pub struct SpelledImage {
 fn image_in(alloc: Global, bytes: &[u8]) -> Result<Option<Image>, AllocError>
     ensures image { IfOk result (λ o. IfSome o (λ m. IsImage (form m))) }
     ensures bytes { IfOk result (λ o. IfSome o (λ m. bytes.now ≡ spelling (form m))) }
+    ensures left_out { IfOk result (λ o. IfNone o ((f : Form) → IsImage f → bytes.now ≡ spelling f → ⊥)) }
 {
     match read(alloc, bytes) {
         Ok(image) => Ok(Some(image)),
@@ -29,13 +30,14 @@ fn image_in(alloc: Global, bytes: &[u8]) -> Result<Option<Image>, AllocError>
     }
 }
 
-/// The image that says what these tables say, with as many owners as words: they are written and read back. None where they break a rule of images. The only
-/// error is want of memory.
+/// The image that says what these tables say, with as many owners as words: they are written and read back. None just where they break a rule of images. The
+/// only error is want of memory.
 pub fn spelled_image(alloc: Global, tables: &Image) -> Result<Option<SpelledImage>, AllocError>
     requires { length tables.now.owners.items ≡ length tables.now.code.items }
     ensures image { IfOk result (λ o. IfSome o (λ s. IsImage (form s.image))) }
     ensures bytes { IfOk result (λ o. IfSome o (λ s. s.bytes.items ≡ spelling (form s.image))) }
     ensures same { IfOk result (λ o. IfSome o (λ s. SaysTheSame (form tables.now) (form s.image))) }
+    ensures left_out { IfOk result (λ o. IfNone o (IsImage (form tables.now) → ⊥)) }
 {
     tables_fit(tables);
     let Some(bytes) = spell(alloc, tables)? else {

@@ -3,7 +3,7 @@
 use debug_records::Kind;
 
 /// A function of the program.
-#[derive(Clone, Copy, PartialEq, Eq)]
+#[derive(Clone, Copy)]
 pub struct Function {
     /// How many bytes its name has.
     pub name_length: u32,
@@ -18,7 +18,7 @@ pub struct Function {
 }
 
 /// A place of the source text, where the debugger may stop.
-#[derive(Clone, Copy, PartialEq, Eq)]
+#[derive(Clone, Copy)]
 pub struct Place {
     /// The byte of the text at which it begins.
     pub position: u32,
@@ -31,7 +31,7 @@ pub struct Place {
 }
 
 /// A change that a compiler pass made.
-#[derive(Clone, Copy, PartialEq, Eq)]
+#[derive(Clone, Copy)]
 pub struct Change {
     /// How many bytes the name of the pass has.
     pub pass_length: u32,
@@ -43,14 +43,14 @@ pub struct Change {
 }
 
 /// Execution may go from the one place directly to the other.
-#[derive(Clone, Copy, PartialEq, Eq)]
+#[derive(Clone, Copy)]
 pub struct FlowPair {
     pub from: u32,
     pub to: u32,
 }
 
 /// The place assigns the variable.
-#[derive(Clone, Copy, PartialEq, Eq)]
+#[derive(Clone, Copy)]
 pub struct AssignedPair {
     pub place: u32,
     pub variable: u32,

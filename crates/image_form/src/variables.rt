@@ -1,7 +1,7 @@
 //! Variables, their types and where they are kept.
 
 /// The type of a scalar, or of an array's elements.
-#[derive(Clone, Copy, PartialEq, Eq)]
+#[derive(Clone, Copy)]
 pub enum ElementType {
     U8,
     I8,
@@ -13,7 +13,7 @@ pub enum ElementType {
 }
 
 /// Where a variable is kept.
-#[derive(Clone, Copy, PartialEq, Eq)]
+#[derive(Clone, Copy)]
 pub enum Storage {
     /// In static memory, at an address.
     Static(u32),
@@ -26,7 +26,7 @@ pub enum Storage {
 }
 
 /// A variable of the program, or a string literal, which has no name.
-#[derive(Clone, Copy, PartialEq, Eq)]
+#[derive(Clone, Copy)]
 pub struct Variable {
     /// How many bytes its name has, 0 for a literal.
     pub name_length: u32,

@@ -1,7 +1,7 @@
 //! What the debugger shows of a variable at a place.
 
 /// What the debugger shows of a variable.
-#[derive(Clone, Copy, PartialEq, Eq)]
+#[derive(Clone, Copy)]
 pub enum Verdict {
     /// What its home holds.
     Home,
@@ -28,7 +28,7 @@ pub enum Verdict {
 }
 
 /// The verdict on a variable that is visible at a place.
-#[derive(Clone, Copy, PartialEq, Eq)]
+#[derive(Clone, Copy)]
 pub struct VisibleRow {
     pub place: u32,
     pub variable: u32,

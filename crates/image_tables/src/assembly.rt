@@ -1,8 +1,8 @@
 //! The image, part by part.
 
-ghost use Rattle.std.specs.Prelude.{◌≡◌, ◌++◌, ℕ, List, IfOk, length, map};
+ghost use Rattle.std.specs.Prelude.{◌≡◌, ◌++◌, ◌<◌, ◌^◌, ℕ, List, IfOk, length, map};
 ghost use Rattle.c_tree.specs.Programs.{program_view};
-ghost use Rattle.image_declarations.specs.Variables.{declared_names, length_of_name, name_length, shape, shapes_of};
+ghost use Rattle.image_declarations.specs.Variables.{declared_names, entry, length_of_name, name_length, owned_from, owner, owners_of, shape, shapes_of};
 ghost use Rattle.image_tables.specs.Tables.{assigned_pair, flow_pair, sight, sight_of_verdict, spot, spot_of_row};
 
 use crate::pairs::{assigned_of, changes_of, flow_of};
@@ -28,17 +28,21 @@ pub struct Parts<'a> {
     pub verdicts: &'a [PlaceVerdict],
 }
 
-/// The image of a program with this code. The parts belong to one program, and the code is that of its homed unit: so there are as many graphs and codes as functions. Where
-/// they do not, what is made may be no image. The only error is want of memory.
+/// The image of a program with this code. The parts belong to one program, and the code is that of its homed unit: so there are as many graphs and codes as functions, and as
+/// many automatic variables as the functions have. Where they do not, what is made may be no image. The only error is want of memory.
 pub fn image_of(alloc: Global, parts: &Parts<'_>, emitted: Emitted) -> Result<Image, AllocError>
     requires graphs { length parts.now.homed.now.unit.graphs.items ≡ length parts.now.program.now.functions.items }
     requires codes { length emitted.functions.items ≡ length parts.now.program.now.functions.items }
+    requires few { length parts.now.program.now.functions.items < 2 ^ 32 }
+    requires owned { length (owned_from 0 (program_view parts.now.program.now).functions) ≡ length parts.now.program.now.automatics.items }
     ensures mode { IfOk result (λ m. m.mode ≡ parts.now.homed.now.mode) }
     ensures code { IfOk result (λ m. m.code.items ≡ emitted.code.items) }
     ensures initial { IfOk result (λ m. m.initial.items ≡ emitted.initial.items) }
     ensures owners { IfOk result (λ m. m.owners.items ≡ emitted.owners.items) }
     ensures functions { IfOk result (λ m. map name_length m.functions.items ≡ map length_of_name (program_view parts.now.program.now).functions) }
     ensures variables { IfOk result (λ m. map shape m.variables.items ≡ shapes_of (program_view parts.now.program.now)) }
+    ensures belonging { IfOk result (λ m. map owner m.variables.items ≡ owners_of (program_view parts.now.program.now)) }
+    ensures entries { IfOk result (λ m. map entry m.functions.items ≡ map (λ g. g.entry.0) parts.now.homed.now.unit.graphs.items) }
     ensures names { IfOk result (λ m. (more : List ℕ) × (m.names.items ≡ declared_names (program_view parts.now.program.now) ++ more)) }
     ensures places { IfOk result (λ m. map spot m.places.items ≡ map spot_of_row parts.now.places.now.rows.items) }
     ensures flow { IfOk result (λ m. m.flow.items ≡ map flow_pair parts.now.flow.now.steps.items) }

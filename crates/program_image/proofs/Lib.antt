@@ -1,3 +1,4 @@
 pub mod Elements
+pub mod Owners
 pub mod Tables
 pub mod Units

@@ -14,6 +14,7 @@ use Rattle.c_flow.specs.Tables.{Fits32}
 use Rattle.c_place_table.specs.Rows.{row_of, row_view, rows_of_program}
 use Rattle.graph_core.specs.Graphs.{UnitForm}
 use Rattle.image_form.specs.Form.{Form}
+use Rattle.image_form.specs.Rules.{IsImage}
 use Rattle.image_form.specs.Numbers.{row_numbers}
 use Rattle.image_form.specs.declared.verdicts.VisibleRow.{VisibleRow}
 use Rattle.currency.specs.declared.verdict.PlaceVerdict.{PlaceVerdict}
@@ -26,9 +27,10 @@ use Rattle.image_form.specs.Numbers.{element_number, variable_numbers}
 use Rattle.image_form.specs.declared.variables.ElementType.{ElementType}
 use Rattle.image_form.specs.declared.variables.ElementType.TheVariants.{U8, I8, U16, I16, U32, I32, Pointer}
 use Rattle.image_form.specs.declared.variables.Variable.{Variable}
-use Rattle.image_declarations.specs.Variables.{Shape, declared_names, length_of_name, name_length, shape, shapes_of}
-use Rattle.program_image.specs.Tables.{HasShapeOf, HasTablesOf, spot_of, visible_from}
+use Rattle.image_declarations.specs.Variables.{Shape, declared_names, entry, length_of_name, name_length, owner, owners_of, shape, shapes_of}
+use Rattle.program_image.specs.Tables.{HasShapeOf, HasTablesOf, entry_place, spot_of, visible_from}
 use Rattle.program_image.proofs.Elements.{same_images}
+use Rattle.program_image.proofs.Owners.{owners_same}
 
 -- where places stand, as their rows say
 pub spots : (rows : List PlaceRow) → map spot_of_row rows ≡ map spot_of (map row_view rows)
@@ -113,12 +115,14 @@ rows_few p rows fits are =
 
 -- The tables of an image that are made of a program's tables, of its unit's flow and of verdicts are the program's.
 pub has_tables : (p : ProgramTree) (m : Form) (u : UnitForm) (rows : List PlaceRow) (all : List PlaceVerdict) → HasShapeOf p u → Fits32 p → map row_view rows ≡ rows_of_program p
-    → map name_length m.functions ≡ map length_of_name p.functions → map shape m.variables ≡ shapes_of p → ((more : List ℕ) × (m.names ≡ declared_names p ++ more))
+    → map name_length m.functions ≡ map length_of_name p.functions → map entry m.functions ≡ map entry_place u.graphs → map shape m.variables ≡ shapes_of p → map owner m.variables ≡ owners_of p → ((more : List ℕ) × (m.names ≡ declared_names p ++ more))
     → map spot m.places ≡ map spot_of_row rows → m.flow ≡ map flow_pair u.steps → m.assigned ≡ map assigned_pair u.assignments
     → map sight m.rows ≡ map sight_of_verdict all → map told.sight all ≡ sights_from 1 rows → HasTablesOf p m
-has_tables p m u rows all shaped fits are functions variables names places flow assigned seen_rows told_rows = record {
+has_tables p m u rows all shaped fits are functions entries variables owners names places flow assigned seen_rows told_rows = record {
   functions = functions;
+  entries = entries ∙ shaped.entries;
   variables = variables;
+  owners = owners;
   names = names;
   places = places ∙ spots rows ∙ ap (map spot_of) are;
   flow = λ s. subst (λ l. Contains l s ↔ Contains (map flow_pair (steps_of_program p)) s) (sym flow) (same_images flow_pair u.steps (steps_of_program p) shaped.steps s);
@@ -126,11 +130,16 @@ has_tables p m u rows all shaped fits are functions variables names places flow 
   visible = seen_rows ∙ seen all rows (rows_few p rows fits are) told_rows ∙ ap (visible_from 1) are;
 }
 
+as_many : (p : ProgramTree) (m : Form) → map name_length m.functions ≡ map length_of_name p.functions → length m.functions ≡ length p.functions
+as_many p m same = sym (length-map m.functions name_length) ∙ ap length same ∙ length-map p.functions length_of_name
+
 -- what says the same as such tables has them
-pub tables_again : (p : ProgramTree) (tables image : Form) → SaysTheSame tables image → HasTablesOf p tables → HasTablesOf p image
-tables_again p tables image same are = record {
+pub tables_again : (p : ProgramTree) (tables image : Form) → IsImage image → SaysTheSame tables image → HasTablesOf p tables → HasTablesOf p image
+tables_again p tables image is same are = record {
   functions = ap (map name_length) same.functions ∙ are.functions;
+  entries = ap (map entry) same.functions ∙ are.entries;
   variables = shapes_same image.variables tables.variables same.variables ∙ are.variables;
+  owners = owners_same p tables image is (as_many p image (ap (map name_length) same.functions ∙ are.functions)) same.variables are.owners;
   names = (are.names.0, same.names ∙ are.names.1);
   places = ap (map spot) same.places ∙ are.places;
   flow = λ s. subst (λ l. Contains l s ↔ Contains (map flow_pair (steps_of_program p)) s) (sym same.flow) (are.flow s);

@@ -76,6 +76,7 @@ pub fn draft_of(
     homed: &HomedUnit,
 ) -> Result<Option<Image>, AllocError>
     requires fits { Fits32 (program_view program.now) }
+    requires laws { IsWellFormed (program_view program.now) }
     requires valid { IsValid (homed_view homed.now).unit }
     requires homes { HaveHomes (homed_view homed.now) }
     requires shape { HasShapeOf (program_view program.now) (homed_view homed.now).unit }

@@ -1,7 +1,10 @@
 use Rattle.std.proofs.Common.{◌≡◌, map, take}
 use Rattle.c_tree.specs.Programs.{function_view}
-use Rattle.image_declarations.specs.Variables.{length_of_name, name_length}
+use Rattle.image_declarations.specs.Variables.{entry, length_of_name, name_length}
 use Rattle.image_declarations.proofs.functions.functions_of.Given as goal
 
 abbrev pub invariant-loop-number : goal.invariant-loop-number
-invariant-loop-number l = map name_length l.made.items ≡ map length_of_name (map function_view (take l.number l.functions))
+invariant-loop-number l = record {
+  names : map name_length l.made.items ≡ map length_of_name (map function_view (take l.number l.functions));
+  entries : map entry l.made.items ≡ map (λ g. g.entry.0) (take l.number l.graphs);
+}

@@ -4,6 +4,7 @@ use Rattle.c_tree.specs.Programs.{program_view}
 use Rattle.graph_core.specs.Graphs.{unit_view}
 use Rattle.homed_unit.specs.Homed.{homed_view}
 use Rattle.image_form.specs.Form.{form}
+use Rattle.image_form.specs.Rules.{IsImage}
 use Rattle.image_drafts.specs.Same.{SaysTheSame}
 use Rattle.program_image.specs.Tables.{HasShapeOf, HasTablesOf}
 use Rattle.program_image.proofs.Tables.{tables_again}
@@ -22,5 +23,6 @@ pub returns-clause-tables : goal.returns-clause-tables
 returns-clause-tables g c =
     let p = program_view c.args.program in
     tables_again p (form c.in-Some-3.draft) (form c.in-Some-4.spelled.image)
+    (subst (λ o. IfSome o (λ s. IsImage (form s.image))) c.in-Some-4.is c.in_ok-spelled.ensures.image)
     (subst (λ o. IfSome o (λ s. SaysTheSame (form c.in-Some-3.draft) (form s.image))) c.in-Some-4.is c.in_ok-spelled.ensures.same)
     (subst (λ o. IfSome o (λ m. HasTablesOf p (form m))) c.in-Some-3.is c.in_ok-draft.ensures.tables)
