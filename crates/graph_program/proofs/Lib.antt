@@ -1,0 +1,15 @@
+pub mod Homes
+pub mod Scalars
+pub mod Objects
+pub mod Accepted
+pub mod Settings
+pub mod Places
+pub mod Closing
+pub mod Blocks
+pub mod Keeping
+pub mod Sizes
+pub mod Kept
+pub mod Declared
+pub mod Fitting
+pub mod Entry
+pub mod Program
