@@ -124,7 +124,8 @@ module _ (p : ProgramTree) (u : UnitForm) (f : ℕ) (tree : TypedFunctionTree) (
       let marked : slice_get (heads placed) i ≡ Some place = head_at placed i b e ∙ ap (λ l. Some (head_marker l)) shape in
       let r = place_with c f (places_of_function f tree) i place (ap (λ l. slice_get l i) (sym (function_heads c f tree main)) ∙ marked) in
       let number = place_number p f tree is ascend i r.0 r.1 in
-      let same : i ≡ place - number_at (places_of_program p) tree.spot.at = omega (arith, number, r.2, entry_number p f tree is ascend) in
+      let at : number_at (places_of_program p) r.0.spot.at ≡ place = r.2 in
+      let same : i ≡ place - number_at (places_of_program p) tree.spot.at = omega (arith, number, at, entry_number p f tree is ascend) in
       subst (λ j. slice_get (placed ++ reverse inner) j ≡ Some b) same (got_before placed (reverse inner) i b e)
 
   body_home : AreHome k (body_part c tree main).placed

@@ -97,10 +97,10 @@ module _ (p : ProgramTree) (facts : ProgramFacts p) (scalars : HasScalarParamete
   abbrev c : Coding
   c = function_coding p tree (f == p.main)
 
-  inner : List unit.Block
+  abbrev inner : List unit.Block
   inner = (body_part c tree (f == p.main)).inner
 
-  to : Option ℕ
+  abbrev to : Option ℕ
   to = start_of_all tree.body (ways_of_body tree).next
 
   made_alike : note_parameters n (parameters_of tree) (going c to inner) ≡ entry_made p tree g again top inner
@@ -122,7 +122,7 @@ module _ (p : ProgramTree) (facts : ProgramFacts p) (scalars : HasScalarParamete
       let all = kept_among n (variables_in tree) in
       let x = mapped_at (memory_object p) all i a e in
       let y = mapped_at (memory_object p) all j b h in
-      let numbers : variable_of p x.0 ≡ variable_of p y.0 = ap (λ z. z.var.0) x.2 ∙ same ∙ sym (ap (λ z. z.var.0) y.2) in
+      let numbers : length p.statics + length p.literals + x.0 ≡ length p.statics + length p.literals + y.0 = ap (λ z. z.var.0) x.2 ∙ same ∙ sym (ap (λ z. z.var.0) y.2) in
       let it : x.0 ≡ y.0 = omega (arith, numbers) in
       some_same (sym (object_at p tree again i x.0 x.1) ∙ ap (object_of n) it ∙ object_at p tree again j y.0 y.1)
 

@@ -22,7 +22,6 @@ use Rattle.graph_build.specs.Units.{IsUnitOf, variables_in, scalars_among, scala
 use Rattle.graph_counts.proofs.Scalars.{names_few}
 use Rattle.graph_marking.proofs.Instances.{got_before}
 use Rattle.graph_marking.proofs.Standing.{got_behind}
-use Rattle.graph_values.specs.Correspondence.{variable_of}
 use Rattle.graph_values.proofs.Later.{some_same}
 use Rattle.graph_values.proofs.Places.{StaticsThere}
 use Rattle.graph_stores.proofs.Shapes.{two_true}
@@ -63,7 +62,7 @@ module _ (p : ProgramTree) (u : UnitForm) (facts : ProgramFacts p) (unit : IsUni
       let scalars = scalars_among c.names (variables_in tree) in
       let same : g ≡ graph_of p tree (f == p.main) = some_same (sym is_g ∙ graph_is p u unit f tree is) in
       let r = mapped_at (scalar_record p tree c.entry scalars) scalars j s (subst (λ z. slice_get z.scalars j ≡ Some s) same at) in
-      let number : variable_of p r.0 ≡ variable_of p v = ap (λ z. z.variable) r.2 ∙ is_v in
+      let number : length p.statics + length p.literals + r.0 ≡ length p.statics + length p.literals + v = ap (λ z. z.variable) r.2 ∙ is_v in
       let it : r.0 ≡ v = omega (arith, number) in
       ap (scalar_of (names_of p tree false)) (sym it) ∙ scalar_at p tree (is_again p tree) j r.0 r.1
 

@@ -33,7 +33,7 @@ module _ (p : ProgramTree) (u : UnitForm) (f : ℕ) (tree : TypedFunctionTree) (
   place_is i q e = record {
     stops = later (number_at (places_of_program p) q.spot.at) (number_at (places_of_program p) tree.spot.at) here (entry_number p f tree is ascend);
     covers = λ r found memory h.
-        (let before : place_at k q.spot.at - 1 ≡ length (within p f tree is ascend).before + suc i = omega (arith, here) in
+        (let before : number_at (places_of_program p) q.spot.at - 1 ≡ length (within p f tree is ascend).before + suc i = omega (arith, here) in
         let same : r ≡ q = some_same (sym found ∙ ap (slice_get (places_of_program p)) before ∙ place_there p f tree is ascend (suc i) q e) in
         subst (λ z. AllLive memory (depth_in k.setting) z.scope) (sym same) h);
   }

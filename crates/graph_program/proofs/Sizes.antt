@@ -53,8 +53,11 @@ sizes (of-object.Array s n) = ap (λ x. n * x) (sym (type_sizes s.base s.stars))
     swapped x y = grind arith
 
 -- what is rounded up is no less
+rounded : (n : ℕ) → n ≤ (n + 3) / 4 * 4 + 4
+rounded n = omega arith
+
 roomy : (n : ℕ) → n ≤ room n
-roomy n = omega arith
+roomy n = rounded n
 
 small_type : (base : IntegerType) (stars : ℕ) → size_by_stars base stars ≤ 4
 small_type Char zero = omega arith
@@ -84,11 +87,14 @@ outside_small inside (of-object.Scalar s) h e = let small = small_type s.base s.
 outside_small inside (of-object.Array s n) h e = let yes = (two_true (nat_le 1 n) inside h).1 in cc
 
 module _ (p : ProgramTree) (facts : ProgramFacts p) where
+  all_room : sum_by own_room p.statics + sum_by text_room p.literals + sum_by text_room p.array_literals ≤ 1048576
+  all_room = facts.room
+
   static_small : (n : ℕ) (v : StaticTree) → slice_get p.statics n ≡ Some v → object_size v.of ≤ 1048576
-  static_small n v e = omega (arith, roomy (object_size v.of), one_of_all own_room p.statics n v e, facts.room)
+  static_small n v e = let one : room (object_size v.of) ≤ sum_by own_room p.statics = one_of_all own_room p.statics n v e in omega (arith, roomy (object_size v.of), one, all_room)
 
   literal_small : (n : ℕ) (l : LiteralTree) → slice_get p.literals n ≡ Some l → length l.bytes ≤ 1048576
-  literal_small n l e = omega (arith, roomy (length l.bytes), one_of_all text_room p.literals n l e, facts.room)
+  literal_small n l e = let one : room (length l.bytes) ≤ sum_by text_room p.literals = one_of_all text_room p.literals n l e in omega (arith, roomy (length l.bytes), one, all_room)
 
   kept_small : (x : ℕ) (a : AutomaticTree) → slice_get p.automatics x ≡ Some a → a.in_memory ≡ true → object_size a.of ≤ 4096
   kept_small x a e inside =
@@ -98,7 +104,9 @@ module _ (p : ProgramTree) (facts : ProgramFacts p) where
       let same : f.first_variable + i ≡ x = omega (arith, o.from) in
       let found : slice_get (variables_of f p.automatics) i ≡ Some a = taken_at (drop f.first_variable p.automatics) f.variables i (omega (arith, o.from, o.below)) ∙ dropped_at p.automatics f.first_variable i ∙ ap (slice_get p.automatics) same ∙ e in
       let counts : kept_room a ≡ room (object_size a.of) = ap (λ b. if b then room (object_size a.of) else 0) inside in
-      omega (arith, roomy (object_size a.of), counts, one_of_all kept_room (variables_of f p.automatics) i a found, (facts.functions o.number f o.is).room)
+      let one : kept_room a ≤ sum_by kept_room (variables_of f p.automatics) = one_of_all kept_room (variables_of f p.automatics) i a found in
+      let most : sum_by kept_room (variables_of f p.automatics) ≤ 4096 = (facts.functions o.number f o.is).room in
+      omega (arith, roomy (object_size a.of), subst (λ n. n ≤ sum_by kept_room (variables_of f p.automatics)) counts one, most)
 
   automatic_small : (x : ℕ) (a : AutomaticTree) → slice_get p.automatics x ≡ Some a → object_size a.of ≤ 4096
   automatic_small x a e = by a.in_memory refl
