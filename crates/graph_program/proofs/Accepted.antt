@@ -114,6 +114,7 @@ pub record ProgramFacts (p : ProgramTree) : Type 0 where
   pub owned : (x : ℕ) → x < length p.automatics → OfSome p.functions x
   pub main : is_main (slice_get p.functions p.main) ≡ true
   pub arrays : (x : ℕ) (a : AutomaticTree) → slice_get p.automatics x ≡ Some a → is_kept_array a.in_memory a.of ≡ true
+  pub statics : are_static p p.statics ≡ true
   pub room : objects_room p ≤ 1048576
   pub ascend : AllAscend (places_of_program p)
 
@@ -146,6 +147,7 @@ facts_of p h =
       owned = λ x lt. follow_owner 0 (length p.automatics) p.functions g.1 x (omega arith) lt;
       main = e.1;
       arrays = arrays_at p.automatics r.0;
+      statics = r.1;
       room = program_room p w.1;
       ascend = all_ascend (places_of_program p) (and_both (ascends (spots (places_of_program p))) (never_falls 1 (map (λ (q : Place). q.spot.line) (places_of_program p))) a.1).0;
     }

@@ -1,4 +1,4 @@
--- Statements of a well-formed program fit: their expressions are laid out, their variables are in order, and loops begin at places.
+-- Statements of a well-formed program stand: their expressions are laid out, their variables are in order, and loops begin at places.
 use Rattle.std.proofs.Common.{◌≡◌, ℕ, zero, suc, ◌+◌, ◌≤◌, Bool, true, false, not, Option, Some, None, List, [], ◌∷◌, ◌++◌, length, refl, sym, ap, ◌∙◌, subst, arith}
 use Rattle.std.specs.Prelude.{◌&&◌, nat_le, nat_lt, slice_get}
 use Rattle.std.proofs.lemmas.List.{length-append}
@@ -27,7 +27,9 @@ use Rattle.graph_stores.proofs.Shapes.{typed_of, scalar_typed, two_true, three_t
 use Rattle.graph_runs.proofs.Activities.{Activity}
 use Rattle.graph_runs.proofs.Outcomes.{There}
 use Rattle.graph_runs.proofs.Formed.{IsPlain, ArePlain, behind_start, behind}
-use Rattle.graph_runs.proofs.Forming.{LaidAt, LaidIn, DeclaratorDoes, DeclaratorsFit, StartFits, StepFits, StatementFits, StatementsFit}
+use Rattle.graph_runs.proofs.Forming.{LaidAt, LaidIn, StepFits}
+use Rattle.graph_runs.proofs.DeclaratorKinds.{LaidAll, LaidInitial, DeclaratorStands}
+use Rattle.graph_runs.proofs.Fitting.{DeclaratorsStand, StartStands, StatementStands, StatementsStand}
 use Rattle.graph_program.specs.Plain.{may_be_body, is_plain, are_plain}
 use Rattle.graph_program.proofs.Kept.{InIt, front}
 use Rattle.graph_program.proofs.Declared.{AreNumbered, by_front, in_front, all_front, declared_next, in_longer, start_below, statement_below, values_front, declarators_front, option_front, step_front, kept_front, kept_all_front}
@@ -68,22 +70,11 @@ switch_typed Wrong h = cc
 switch_typed NullPointer h = refl
 switch_typed (Of t) h = refl
 
--- the expressions of an initializer are laid out
-abbrev pub AllLaid : Activity → List RvalueTree → Type 0
-AllLaid k [] = Unit {0}
-AllLaid k (e ∷ more) = LaidAt k e × AllLaid k more
+-- Declarators that are well typed, and whose initializers are laid out, stand.
+abbrev pub DeclaratorsAre : Activity → Type 0
+DeclaratorsAre k = (d : DeclaredTree) → is_declared k.setting.program k.setting.tree d ≡ true → LaidInitial k d.initial → DeclaratorStands k d
 
-abbrev pub InitialLaid : Activity → InitialTree → Type 0
-InitialLaid k Zero = Unit {0}
-InitialLaid k (scalar-initial e) = LaidAt k e
-InitialLaid k (Elements all) = AllLaid k all
-InitialLaid k (Literal n) = Unit {0}
-
--- A declarator does what it means, where it is well typed and its initializer is laid out.
-abbrev pub DeclaratorsDo : Activity → Type 0
-DeclaratorsDo k = (d : DeclaredTree) → is_declared k.setting.program k.setting.tree d ≡ true → InitialLaid k d.initial → DeclaratorDoes k d
-
-module _ (k : Activity) (laid_at : (e : RvalueTree) (ks : List ℕ) → is_typed (kind_of k.setting.program k.setting.tree e) ≡ true → InIt k.setting.program.automatics (keeps false e ks) → LaidAt k e) (does : DeclaratorsDo k) (base : ℕ) where
+module _ (k : Activity) (laid_at : (e : RvalueTree) (ks : List ℕ) → is_typed (kind_of k.setting.program k.setting.tree e) ≡ true → InIt k.setting.program.automatics (keeps false e ks) → LaidAt k e) (stand : DeclaratorsAre k) (base : ℕ) where
   abbrev K : RvalueTree → Kind
   K e = kind_of k.setting.program k.setting.tree e
 
@@ -104,14 +95,14 @@ module _ (k : Activity) (laid_at : (e : RvalueTree) (ks : List ℕ) → is_typed
   way_there None h = tt
   way_there (Some at) h = h
 
-  elements_laid : (s : Scalar) (es : List RvalueTree) (ks : List ℕ) → are_elements k.setting.program k.setting.tree s es ≡ true → M (kept_values es ks) → AllLaid k es
+  elements_laid : (s : Scalar) (es : List RvalueTree) (ks : List ℕ) → are_elements k.setting.program k.setting.tree s es ≡ true → M (kept_values es ks) → LaidAll k es
   elements_laid s [] ks h m = tt
   elements_laid s (e ∷ more) ks h m =
       let b = two_true (is_of (K e) (loaded s)) (are_elements k.setting.program k.setting.tree s more) h in
       (laid_at e ks (typed_of (K e) (loaded s) b.0) (values_front all more (keeps false e ks) m), elements_laid s more (keeps false e ks) b.1 m)
 
   -- what a well-typed declarator writes is laid out
-  initial_laid : (of : ObjectType) (i : InitialTree) (ks : List ℕ) → initialises k.setting.program k.setting.tree of i ≡ true → M (kept_initial i ks) → InitialLaid k i
+  initial_laid : (of : ObjectType) (i : InitialTree) (ks : List ℕ) → initialises k.setting.program k.setting.tree of i ≡ true → M (kept_initial i ks) → LaidInitial k i
   initial_laid of Zero ks h m = tt
   initial_laid (of-object.Scalar s) (scalar-initial e) ks h m = laid_at e ks (typed_of (K e) (loaded s) h) m
   initial_laid (of-object.Array s n) (scalar-initial e) ks h m = cc
@@ -119,20 +110,20 @@ module _ (k : Activity) (laid_at : (e : RvalueTree) (ks : List ℕ) → is_typed
   initial_laid (of-object.Array s n) (Elements es) ks h m = elements_laid s es ks (two_true (nat_le (length es) n) (are_elements k.setting.program k.setting.tree s es) h).1 m
   initial_laid of (Literal n) ks h m = tt
 
-  declared_laid : (d : DeclaredTree) (ks : List ℕ) (r : Option AutomaticTree) → declares_as k.setting.program k.setting.tree d r ≡ true → M (kept_initial d.initial ks) → InitialLaid k d.initial
+  declared_laid : (d : DeclaredTree) (ks : List ℕ) (r : Option AutomaticTree) → declares_as k.setting.program k.setting.tree d r ≡ true → M (kept_initial d.initial ks) → LaidInitial k d.initial
   declared_laid d ks None h m = cc
   declared_laid d ks (Some a) h m = initial_laid a.of d.initial ks (two_true (same_spot d.spot a.spot) (initialises k.setting.program k.setting.tree a.of d.initial) h).1 m
 
-  declarators_fit : (ds : List DeclaredTree) (vs ks : List ℕ) (low : ℕ) → low ≤ base + length vs → AreNumbered base (declared_by ds vs) → are_declared k.setting.program k.setting.tree ds ≡ true → M (kept_declared ds ks) → DeclaratorsFit k low ds
+  declarators_fit : (ds : List DeclaredTree) (vs ks : List ℕ) (low : ℕ) → low ≤ base + length vs → AreNumbered base (declared_by ds vs) → are_declared k.setting.program k.setting.tree ds ≡ true → M (kept_declared ds ks) → DeclaratorsStand k low ds
   declarators_fit [] vs ks low le n h m = tt
   declarators_fit (d ∷ more) vs ks low le n h m =
       let b = two_true (is_declared k.setting.program k.setting.tree d) (are_declared k.setting.program k.setting.tree more) h in
       let c = three_true (nat_le (k.setting.tree.first_variable + k.setting.tree.parameters) d.variable) (nat_lt d.variable (k.setting.tree.first_variable + k.setting.tree.variables)) (declares_as k.setting.program k.setting.tree d (slice_get k.setting.program.automatics d.variable)) b.0 in
       let next = declared_next base d more vs n in
-      (omega (arith, le, next), does d b.0 (declared_laid d ks (slice_get k.setting.program.automatics d.variable) c.2 (declarators_front all more (kept_initial d.initial ks) m)),
+      (omega (arith, le, next), stand d b.0 (declared_laid d ks (slice_get k.setting.program.automatics d.variable) c.2 (declarators_front all more (kept_initial d.initial ks) m)),
         declarators_fit more (vs ++ d.variable ∷ []) (kept_initial d.initial ks) (d.variable + 1) (omega (arith, next, length-append vs (d.variable ∷ []))) n b.1 m)
 
-  begin_fits : (begin : TypedStartTree) (vs ks : List ℕ) (low : ℕ) → low ≤ base + length vs → AreNumbered base (declared_by_start begin vs) → is_start k.setting.program k.setting.tree begin ≡ true → M (kept_start begin ks) → StartFits k low begin
+  begin_fits : (begin : TypedStartTree) (vs ks : List ℕ) (low : ℕ) → low ≤ base + length vs → AreNumbered base (declared_by_start begin vs) → is_start k.setting.program k.setting.tree begin ≡ true → M (kept_start begin ks) → StartStands k low begin
   begin_fits Nothing vs ks low le n h m = tt
   begin_fits (Value spot e) vs ks low le n h m = laid_at e ks h m
   begin_fits (Declares ds) vs ks low le n h m = declarators_fit ds vs ks low le n h m
@@ -162,8 +153,8 @@ module _ (k : Activity) (laid_at : (e : RvalueTree) (ks : List ℕ) → is_typed
   S b c s = is_statement k.setting.program k.setting.tree b c s
 
   mutual
-    -- A statement fits,
-    pub fits : (b c : Bool) (s : TypedStatementTree) (scope vs ks : List ℕ) (low : ℕ) → S b c s ≡ true → is_plain s ≡ true → low ≤ base + length vs → AreNumbered base (declared_in s vs) → M (kept_by s ks) → AllFit number Fits (places_of number scope s) → StatementFits k low s
+    -- A statement stands,
+    pub fits : (b c : Bool) (s : TypedStatementTree) (scope vs ks : List ℕ) (low : ℕ) → S b c s ≡ true → is_plain s ≡ true → low ≤ base + length vs → AreNumbered base (declared_in s vs) → M (kept_by s ks) → AllFit number Fits (places_of number scope s) → StatementStands k low s
     fits b c (Block ss) scope vs ks low h p le n m f = all_fit b c None ss scope vs ks low h p le n m f
     fits b c (Declaration ds) scope vs ks low h p le n m f = declarators_fit ds vs ks low le n h m
     fits b c (Empty spot) scope vs ks low h p le n m f = tt
@@ -219,7 +210,7 @@ module _ (k : Activity) (laid_at : (e : RvalueTree) (ks : List ℕ) → is_typed
 
     -- and so do statements in order.
     pub all_fit : (b c : Bool) (o : Option IntegerType) (ss : TypedStatementTrees) (scope vs ks : List ℕ) (low : ℕ) → are_statements k.setting.program k.setting.tree b c o ss ≡ true → are_plain ss ≡ true → low ≤ base + length vs → AreNumbered base (declared_in_all ss vs) → M (kept_by_all ss ks)
-        → AllFit number Fits (places_of_all number scope ss) → StatementsFit k low ss
+        → AllFit number Fits (places_of_all number scope ss) → StatementsStand k low ss
     all_fit b c o statement.none scope vs ks low h p le n m f = tt
     all_fit b c o (statement.first s rest) scope vs ks low h p le n m f =
         let t = three_true (may_stand o s) (S b c s) (are_statements k.setting.program k.setting.tree b c o rest) h in

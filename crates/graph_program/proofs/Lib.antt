@@ -12,4 +12,7 @@ pub mod Kept
 pub mod Declared
 pub mod Fitting
 pub mod Entry
+pub mod Statics
+pub mod Literals
+pub mod Start
 pub mod Program

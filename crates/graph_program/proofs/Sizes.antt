@@ -30,7 +30,7 @@ use Rattle.graph_program.proofs.Accepted.{ProgramFacts}
 use Rattle.graph_program.proofs.Homes.{dropped_at, taken_at}
 
 -- a size is one in both
-type_sizes : (base : IntegerType) (stars : ℕ) → type_size (record { base = base; stars = stars }) ≡ size_by_stars base stars
+pub type_sizes : (base : IntegerType) (stars : ℕ) → type_size (record { base = base; stars = stars }) ≡ size_by_stars base stars
 type_sizes Char zero = refl
 type_sizes SignedChar zero = refl
 type_sizes UnsignedChar zero = refl
@@ -45,9 +45,10 @@ type_sizes base (suc stars) = ap (λ b. if b then integer_bytes base else 4) (so
     some_stars : (n : ℕ) → (suc n == 0) ≡ false
     some_stars n = grind (arith, nat_tests)
 
-sizes : (of : ObjectType) → count_of of * scalar_size (element_of of) ≡ object_size of
-sizes (of-object.Scalar s) = let e = type_sizes s.base s.stars in let one : 1 * scalar_size s ≡ scalar_size s = omega arith in one ∙ sym e
-sizes (of-object.Array s n) = ap (λ x. n * x) (sym (type_sizes s.base s.stars)) ∙ swapped n (type_size s)
+-- the bytes of an object by its type
+pub bytes_by_type : (of : ObjectType) → count_of of * scalar_size (element_of of) ≡ object_size of
+bytes_by_type (of-object.Scalar s) = let e = type_sizes s.base s.stars in let one : 1 * scalar_size s ≡ scalar_size s = omega arith in one ∙ sym e
+bytes_by_type (of-object.Array s n) = ap (λ x. n * x) (sym (type_sizes s.base s.stars)) ∙ swapped n (type_size s)
   where
     swapped : (x y : ℕ) → x * y ≡ y * x
     swapped x y = grind arith
@@ -79,7 +80,7 @@ one_of_all g (x ∷ xs) (suc i) a e = omega (arith, sum_by-cons g x xs, one_of_a
 
 -- the bytes of an object of a type
 bytes_are : (o : SourceObject) (of : ObjectType) → o.element ≡ element_of of → length o.values ≡ count_of of → bytes_of o ≡ object_size of
-bytes_are o of element count = ap (λ s. length o.values * scalar_size s) element ∙ ap (λ n. n * scalar_size (element_of of)) count ∙ sizes of
+bytes_are o of element count = ap (λ s. length o.values * scalar_size s) element ∙ ap (λ n. n * scalar_size (element_of of)) count ∙ bytes_by_type of
 
 -- what is not in memory is small
 outside_small : (inside : Bool) (of : ObjectType) → is_kept_array inside of ≡ true → inside ≡ false → object_size of ≤ 4

@@ -38,7 +38,6 @@ use Rattle.graph_values.proofs.Calling.{waiting}
 use Rattle.graph_stores.proofs.Moving.{AreSmall}
 use Rattle.graph_stores.proofs.Shapes.{two_true, three_true, four_true}
 use Rattle.graph_stores.proofs.Coding.{LaidOut}
-use Rattle.graph_runs.proofs.Calls.{CallsGood}
 use Rattle.graph_runs.proofs.Activities.{coding_in, here_in, placed}
 use Rattle.graph_runs.proofs.Living.{frames_length, frames_later, Under, under_grown, grown_wider}
 use Rattle.graph_runs.proofs.Outcomes.{Holding}
@@ -104,7 +103,7 @@ module _ (p : ProgramTree) (u : UnitForm) where
     pub lawful : (first : ℕ) (ws : List Activation) (objects : Memory) (frames : List Frame) (left : ℕ) → Lawful (activity_of p u f tree graph again top first ws objects frames left)
     pub out : (first : ℕ) (ws : List Activation) (objects : Memory) (frames : List Frame) (left place : ℕ) (began : SourceMemory) → LaidOut (placed (activity_of p u f tree graph again top first ws objects frames left) place began)
     pub places : (first : ℕ) (ws : List Activation) (objects : Memory) (frames : List Frame) (left : ℕ) → ArePlaces (activity_of p u f tree graph again top first ws objects frames left) (places_of_all f (parameters_of tree) tree.body)
-    pub fit : (first : ℕ) (ws : List Activation) (objects : Memory) (frames : List Frame) (left : ℕ) → CallsGood (activity_of p u f tree graph again top first ws objects frames left) → StatementsFit (activity_of p u f tree graph again top first ws objects frames left) (tree.first_variable + tree.parameters) tree.body
+    pub fit : (first : ℕ) (ws : List Activation) (objects : Memory) (frames : List Frame) (left : ℕ) → StatementsFit (activity_of p u f tree graph again top first ws objects frames left) (tree.first_variable + tree.parameters) tree.body
     pub stands : (first : ℕ) (ws : List Activation) (objects : Memory) (frames : List Frame) (left : ℕ)
         → PartStands (activity_of p u f tree graph again top first ws objects frames left) (add_all (coding_in (activity_of p u f tree graph again top first ws objects frames left)) tree.body (length graph.scalars) (ways_of_body tree) part)
     pub closes : (first : ℕ) (ws : List Activation) (objects : Memory) (frames : List Frame) (left : ℕ) → reaches_end tree.body ≡ true
@@ -126,7 +125,7 @@ module _ (p : ProgramTree) (u : UnitForm) where
     lawful = h.lawful;
     formed = λ first ws objects frames left good.
         (all_formed (activity_of p u f tree h.graph h.again h.top first ws objects frames left) (h.lawful first ws objects frames left) (h.out first ws objects frames left) h.small good false false None (ways_of_body tree) (parameters_of tree) tree.body (length h.graph.scalars)
-        (tree.first_variable + tree.parameters) h.part (omega arith) h.typed (h.places first ws objects frames left) (h.fit first ws objects frames left good) (h.stands first ws objects frames left)).0;
+        (tree.first_variable + tree.parameters) h.part (omega arith) h.typed (h.places first ws objects frames left) (h.fit first ws objects frames left) (h.stands first ws objects frames left)).0;
     closes = h.closes;
     never = λ ends calls here s s2 e. never_ends (handed p tree) calls here tree.body (all_returns_fit p tree false false None tree.body h.typed) ends s s2 e;
     nothing = λ void calls here s s2 v e. never_gives (handed p tree) (both_void tree.result void) calls here tree.body (all_returns_fit p tree false false None tree.body h.typed) s s2 v e;
