@@ -11,6 +11,7 @@ use Rattle.c_law_types.specs.Statements.{are_statements}
 use Rattle.c_law_counts.specs.Nodes.{statements_nodes}
 use Rattle.c_laws.specs.Orders.{ascends, is_numbered, never_falls}
 use Rattle.c_laws.specs.Declarations.{declared_in_all}
+use Rattle.c_laws.specs.Plain.{are_plain}
 use Rattle.c_laws.specs.Objects.{are_ended, are_static, arrays_are_kept}
 
 -- Places ascend strictly in the text, and their lines do not fall.
@@ -38,9 +39,9 @@ declares_its_own f = is_numbered (f.first_variable + f.parameters) (declared_in_
 abbrev pub keeps_limits : List AutomaticTree → TypedFunctionTree → Bool
 keeps_limits all f = nat_le (2 + f.parameters + statements_nodes f.body) f.weight && nat_le f.weight 3000 && nat_le f.parameters 8 && nat_le (memory_room (variables_of f all)) 4096
 
--- A function is well typed, declares its own variables, and what has to stand in memory does.
+-- A function is well typed, declares its own variables, what has to stand in memory does, its limits are kept, and its declarations stand in blocks.
 abbrev pub is_function : ProgramTree → TypedFunctionTree → Bool
-is_function p f = are_statements p f false false None f.body && declares_its_own f && are_in_memory p.automatics (kept_by_all f.body []) && keeps_limits p.automatics f
+is_function p f = are_statements p f false false None f.body && declares_its_own f && are_in_memory p.automatics (kept_by_all f.body []) && keeps_limits p.automatics f && are_plain f.body
 
 abbrev pub are_functions : ProgramTree → List TypedFunctionTree → Bool
 are_functions p [] = true

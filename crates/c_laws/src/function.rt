@@ -7,6 +7,7 @@ ghost use Rattle.c_laws.specs.Laws.{are_functions, are_in_memory, declares_its_o
 
 use crate::declared::declared_in;
 use crate::order::is_numbered;
+use crate::plain::are_plain;
 use c_facts::kept_in_memory;
 use c_law_counts::statements_nodes;
 use c_law_types::are_statements;
@@ -122,7 +123,8 @@ fn keeps_limits(all: &[AutomaticVariable], function: &TypedFunction) -> Result<b
     )
 }
 
-/// Whether a function is well typed, declares its own variables, keeps in memory what has to stand there, and keeps its limits.
+/// Whether a function is well typed, declares its own variables, keeps in memory what has to stand there, keeps its limits, and declares
+/// in blocks alone.
 fn is_function(
     alloc: Global,
     program: &Program,
@@ -138,7 +140,8 @@ fn is_function(
         are_statements(program, function, false, false, None, body)
             && own
             && are_in_memory(&program.automatics, &kept)
-            && within,
+            && within
+            && are_plain(body),
     )
 }
 

@@ -6,5 +6,6 @@ mod function;
 mod law;
 mod objects;
 mod order;
+mod plain;
 
 pub use law::is_well_formed;

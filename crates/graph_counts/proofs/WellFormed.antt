@@ -13,6 +13,7 @@ use Rattle.c_law_types.specs.Statements.{are_statements}
 use Rattle.c_law_counts.specs.Nodes.{statements_nodes}
 use Rattle.c_laws.specs.Orders.{ascends, ascends_behind, is_numbered, never_falls}
 use Rattle.c_laws.specs.Declarations.{declared_in_all}
+use Rattle.c_laws.specs.Plain.{are_plain}
 use Rattle.c_laws.specs.Laws.{IsWellFormed, objects_ascend, follow, is_main, are_objects, are_functions, is_function, declares_its_own, are_in_memory, keeps_limits, is_within, weight_of, places_ascend}
 
 pub and_both : (a b : Bool) → a && b ≡ true → (a ≡ true) × (b ≡ true)
@@ -43,7 +44,9 @@ pub record KeepsLimits (f : TypedFunctionTree) : Type 0 where
 
 function_limits : (p : ProgramTree) (f : TypedFunctionTree) → is_function p f ≡ true → KeepsLimits f
 function_limits p f h =
-    let a = and_both (are_statements p f false false None f.body && declares_its_own f && are_in_memory p.automatics (kept_by_all f.body [])) (keeps_limits p.automatics f) h in
+    let plain = are_plain f.body in
+    let whole = and_both (are_statements p f false false None f.body && declares_its_own f && are_in_memory p.automatics (kept_by_all f.body []) && keeps_limits p.automatics f) plain h in
+    let a = and_both (are_statements p f false false None f.body && declares_its_own f && are_in_memory p.automatics (kept_by_all f.body [])) (keeps_limits p.automatics f) whole.0 in
     let b = and_both (are_statements p f false false None f.body && declares_its_own f) (are_in_memory p.automatics (kept_by_all f.body [])) a.0 in
     let own = (and_both (are_statements p f false false None f.body) (declares_its_own f) b.0).1 in
     let count = (and_both (is_numbered (f.first_variable + f.parameters) (declared_in_all f.body [])) (length (declared_in_all f.body []) + f.parameters == f.variables) own).1 in
