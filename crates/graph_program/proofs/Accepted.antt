@@ -12,6 +12,7 @@ use Rattle.c_type_bounds.specs.Visible.{visible_pairs}
 use Rattle.c_law_types.specs.Statements.{are_statements}
 use Rattle.c_laws.specs.Orders.{ascends, ascends_behind, is_numbered, never_falls}
 use Rattle.c_laws.specs.Declarations.{declared_in_all}
+use Rattle.c_laws.specs.Plain.{are_plain}
 use Rattle.c_laws.specs.Objects.{is_kept_array, arrays_are_kept, are_ended, are_static}
 use Rattle.c_laws.specs.Laws.{IsWellFormed, objects_ascend, follow, is_main, are_objects, are_functions, is_function, declares_its_own, are_in_memory, keeps_limits, is_within, weight_of, places_ascend}
 use Rattle.c_law_counts.specs.Nodes.{statements_nodes}
@@ -40,10 +41,12 @@ pub record FunctionFacts (p : ProgramTree) (f : TypedFunctionTree) : Type 0 wher
   pub declared : length (declared_in_all f.body []) + f.parameters ≡ f.variables
   pub kept : are_in_memory p.automatics (kept_by_all f.body []) ≡ true
   pub room : memory_room (variables_of f p.automatics) ≤ 4096
+  pub plain : are_plain f.body ≡ true
 
 function_facts : (p : ProgramTree) (f : TypedFunctionTree) → is_function p f ≡ true → FunctionFacts p f
 function_facts p f h =
-    let a = and_both (are_statements p f false false None f.body && declares_its_own f && are_in_memory p.automatics (kept_by_all f.body [])) (keeps_limits p.automatics f) h in
+    let whole = and_both (are_statements p f false false None f.body && declares_its_own f && are_in_memory p.automatics (kept_by_all f.body []) && keeps_limits p.automatics f) (are_plain f.body) h in
+    let a = and_both (are_statements p f false false None f.body && declares_its_own f && are_in_memory p.automatics (kept_by_all f.body [])) (keeps_limits p.automatics f) whole.0 in
     let b = and_both (are_statements p f false false None f.body && declares_its_own f) (are_in_memory p.automatics (kept_by_all f.body [])) a.0 in
     let c = and_both (are_statements p f false false None f.body) (declares_its_own f) b.0 in
     let own = and_both (is_numbered (f.first_variable + f.parameters) (declared_in_all f.body [])) (length (declared_in_all f.body []) + f.parameters == f.variables) c.1 in
@@ -53,6 +56,7 @@ function_facts p f h =
       declared = are_equal (length (declared_in_all f.body []) + f.parameters) f.variables own.1;
       kept = b.1;
       room = at_most (memory_room (variables_of f p.automatics)) 4096 x.1;
+      plain = whole.1;
     }
 
 functions_facts : (p : ProgramTree) (all : List TypedFunctionTree) → are_functions p all ≡ true → (k : ℕ) (f : TypedFunctionTree) → slice_get all k ≡ Some f → FunctionFacts p f

@@ -22,6 +22,7 @@ use Rattle.c_law_types.specs.Kinds.{is_of, is_typed, is_scalar}
 use Rattle.c_law_types.specs.Expressions.{kind_of}
 use Rattle.c_law_types.specs.Statements.{tested_type, is_label, is_switch, may_stand, is_void, same_spot, are_elements, initialises, declares_as, is_declared, are_declared, is_start, is_step, is_condition, is_returned, is_statement, are_statements}
 use Rattle.c_laws.specs.Declarations.{declared_by, declared_by_start, declared_in, declared_in_all}
+use Rattle.c_laws.specs.Plain.{is_body, is_plain, are_plain}
 use Rattle.graph_marking.proofs.Targets.{AllFit, WayFits, fit_front, fit_back, start_fits}
 use Rattle.graph_stores.proofs.Shapes.{typed_of, scalar_typed, two_true, three_true, four_true}
 use Rattle.graph_runs.proofs.Activities.{Activity}
@@ -30,12 +31,11 @@ use Rattle.graph_runs.proofs.Formed.{IsPlain, ArePlain, behind_start, behind}
 use Rattle.graph_runs.proofs.Forming.{LaidAt, LaidIn, StepFits}
 use Rattle.graph_runs.proofs.DeclaratorKinds.{LaidAll, LaidInitial, DeclaratorStands}
 use Rattle.graph_runs.proofs.Fitting.{DeclaratorsStand, StartStands, StatementStands, StatementsStand}
-use Rattle.graph_program.specs.Plain.{may_be_body, is_plain, are_plain}
 use Rattle.graph_program.proofs.Kept.{InIt, front}
 use Rattle.graph_program.proofs.Declared.{AreNumbered, by_front, in_front, all_front, declared_next, in_longer, start_below, statement_below, values_front, declarators_front, option_front, step_front, kept_front, kept_all_front}
 
 -- what may be a body is no declaration
-body_plain : (s : TypedStatementTree) → may_be_body s ≡ true → IsPlain s
+body_plain : (s : TypedStatementTree) → is_body s ≡ true → IsPlain s
 body_plain (Block all) h = tt
 body_plain (Declaration all) h = cc
 body_plain (Empty spot) h = tt
@@ -161,25 +161,25 @@ module _ (k : Activity) (laid_at : (e : RvalueTree) (ks : List ℕ) → is_typed
     fits b c (Run spot e) scope vs ks low h p le n m f = laid_at e ks h m
     fits b c (If spot e s) scope vs ks low h p le n m f =
         let t = two_true (is_scalar (K e)) (S b c s) h in
-        let q = two_true (may_be_body s) (is_plain s) p in
+        let q = two_true (is_body s) (is_plain s) p in
         (laid_at e ks (scalar_typed (K e) t.0) (kept_front all s (keeps false e ks) m), body_plain s q.0, fits b c s scope vs (keeps false e ks) low t.1 q.1 le n m f.1)
     fits b c (IfElse spot e s r) scope vs ks low h p le n m f =
         let t = three_true (is_scalar (K e)) (S b c s) (S b c r) h in
-        let q = four_true (may_be_body s) (may_be_body r) (is_plain s) (is_plain r) p in
+        let q = four_true (is_body s) (is_plain s) (is_body r) (is_plain r) p in
         let ks1 = keeps false e ks in
         let ks2 = kept_by s ks1 in
         let m1 = kept_front all r ks2 m in
         let ps = places_of number scope s in
         let pr = places_of number scope r in
-        (laid_at e ks (scalar_typed (K e) t.0) (kept_front all s ks1 m1), body_plain s q.0, body_plain r q.1, fits b c s scope vs ks1 low t.1 q.2 le (in_front base r (declared_in s vs) n) m1 (fit_front number Fits ps pr f.1),
+        (laid_at e ks (scalar_typed (K e) t.0) (kept_front all s ks1 m1), body_plain s q.0, body_plain r q.2, fits b c s scope vs ks1 low t.1 q.1 le (in_front base r (declared_in s vs) n) m1 (fit_front number Fits ps pr f.1),
           fits b c r scope (declared_in s vs) ks2 low t.2 q.3 (omega (arith, le, in_longer s vs)) n m (fit_back number Fits ps pr f.1))
     fits b c (While spot e s) scope vs ks low h p le n m f =
         let t = two_true (is_scalar (K e)) (S true true s) h in
-        let q = two_true (may_be_body s) (is_plain s) p in
+        let q = two_true (is_body s) (is_plain s) p in
         (laid_at e ks (scalar_typed (K e) t.0) (kept_front all s (keeps false e ks) m), body_plain s q.0, fits true true s scope vs (keeps false e ks) low t.1 q.1 le n m f.1)
     fits b c (DoWhile s spot e) scope vs ks low h p le n m f =
         let t = two_true (is_scalar (K e)) (S true true s) h in
-        let q = two_true (may_be_body s) (is_plain s) p in
+        let q = two_true (is_body s) (is_plain s) p in
         let ps = places_of number scope s in
         let own = stop number scope spot ∷ [] in
         let fs = fit_front number Fits ps own f in
@@ -187,7 +187,7 @@ module _ (k : Activity) (laid_at : (e : RvalueTree) (ks : List ℕ) → is_typed
           way_there (start s (Some spot.at)) (start_fits number Fits s scope (Some spot.at) fs (fit_back number Fits ps own f).0))
     fits b c (For begin spot e step s) scope vs ks low h p le n m f =
         let t = four_true (is_start k.setting.program k.setting.tree begin) (is_condition k.setting.program k.setting.tree e) (is_step k.setting.program k.setting.tree step) (S true true s) h in
-        let q = two_true (may_be_body s) (is_plain s) p in
+        let q = two_true (is_body s) (is_plain s) p in
         let ks1 = kept_start begin ks in
         let ks2 = kept_option e ks1 in
         let ks3 = kept_step step ks2 in

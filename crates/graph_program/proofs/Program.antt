@@ -30,7 +30,6 @@ use Rattle.graph_runs.proofs.Fitting.{StatementsStand}
 use Rattle.graph_runs.proofs.Program.{program_does}
 use Rattle.graph_runs.proofs.Functions.{FunctionStands, function_is}
 use Rattle.graph_runs.proofs.Main.{main_is_there}
-use Rattle.graph_program.specs.Plain.{are_plain, functions_plain, IsPlain}
 use Rattle.graph_program.specs.Parameters.{HasScalarParameters}
 use Rattle.graph_program.specs.Statics.{HasPlainLiterals, HasSoundStatics}
 use Rattle.graph_program.proofs.Accepted.{ProgramFacts, facts_of}
@@ -46,15 +45,6 @@ use Rattle.graph_program.proofs.Literals.{plain_literal, plain_bytes, plain_numb
 use Rattle.graph_program.proofs.Entry.{entry_stands}
 use Rattle.graph_program.proofs.Start.{main_stands}
 
--- functions that are plain, by their numbers
-plain_at : (all : List TypedFunctionTree) → functions_plain all ≡ true → (f : ℕ) (tree : TypedFunctionTree) → slice_get all f ≡ Some tree → are_plain tree.body ≡ true
-plain_at [] h f tree e = cc
-plain_at (g ∷ more) h zero tree e = subst (λ z. are_plain z.body ≡ true) (same e) (two_true (are_plain g.body) (functions_plain more) h).0
-  where
-    same : Some g ≡ Some tree → g ≡ tree
-    same e = cc
-plain_at (g ∷ more) h (suc f) tree e = plain_at more (two_true (are_plain g.body) (functions_plain more) h).1 f tree e
-
 -- an array is in memory, and has elements
 arrays_kept : (inside : Bool) (sc : Scalar) (n : ℕ) → is_kept_array inside (of-object.Array sc n) ≡ true → (inside ≡ true) × (1 ≤ n)
 arrays_kept inside sc n h = let c = two_true (nat_le 1 n) inside h in (c.1, at_least 1 n c.0)
@@ -67,7 +57,7 @@ all_there : (k : Activity) (number : ℕ) (xs : List Place) → ((i : ℕ) (q : 
 all_there k number [] h = tt
 all_there k number (x ∷ xs) h = (h 0 x refl, all_there k number xs (λ i q e. h (suc i) q e))
 
-module _ (p : ProgramTree) (u : UnitForm) (facts : ProgramFacts p) (unit : IsUnitOf p u) (plain : IsPlain p) (scalars : HasScalarParameters p) (plain_literals : HasPlainLiterals p) where
+module _ (p : ProgramTree) (u : UnitForm) (facts : ProgramFacts p) (unit : IsUnitOf p u) (scalars : HasScalarParameters p) (plain_literals : HasPlainLiterals p) where
   module _ (f : ℕ) (tree : TypedFunctionTree) (is : slice_get p.functions f ≡ Some tree) where
     module _ (first : ℕ) (ws : List Activation) (objects : Memory) (frames : List Frame) (left : ℕ) where
       abbrev k : Activity
@@ -100,7 +90,7 @@ module _ (p : ProgramTree) (u : UnitForm) (facts : ProgramFacts p) (unit : IsUni
       statements_stand : StatementsStand k (tree.first_variable + tree.parameters) tree.body
       statements_stand =
           let own = facts.functions f tree is in
-          all_fit k laid_at declarators_are (tree.first_variable + tree.parameters) false false None tree.body (parameters_of tree) [] [] (tree.first_variable + tree.parameters) own.typed (plain_at p.functions plain f tree is) (omega arith) own.numbered own.kept
+          all_fit k laid_at declarators_are (tree.first_variable + tree.parameters) false false None tree.body (parameters_of tree) [] [] (tree.first_variable + tree.parameters) own.typed own.plain (omega arith) own.numbered own.kept
           body_there
 
     -- A function of the program stands in its unit.
@@ -128,8 +118,8 @@ module _ (p : ProgramTree) (u : UnitForm) (facts : ProgramFacts p) (unit : IsUni
   pub functions_are : FunctionsAre p u
   functions_are f tree is = function_is p u f tree (function_stands f tree is)
 
--- The unit of a well-formed program does what the program does, where declarations stand in blocks, parameters are scalars, and static storage and literals are sound.
-pub does_program : (p : ProgramTree) (u : UnitForm) → IsWellFormed p → IsPlain p → HasScalarParameters p → HasSoundStatics p → HasPlainLiterals p → IsUnitOf p u → DoesProgram p u
-does_program p u well plain scalars sound literals unit =
+-- The unit of a well-formed program does what the program does, where parameters are scalars, and static storage and literals are sound.
+pub does_program : (p : ProgramTree) (u : UnitForm) → IsWellFormed p → HasScalarParameters p → HasSoundStatics p → HasPlainLiterals p → IsUnitOf p u → DoesProgram p u
+does_program p u well scalars sound literals unit =
     let facts = facts_of p well in
-    program_does p u (functions_are p u facts unit plain scalars literals) (main_is_there p u (main_stands p u facts unit sound (function_stands p u facts unit plain scalars literals)))
+    program_does p u (functions_are p u facts unit scalars literals) (main_is_there p u (main_stands p u facts unit sound (function_stands p u facts unit scalars literals)))
