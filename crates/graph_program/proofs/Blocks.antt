@@ -1,5 +1,5 @@
 -- The blocks of a function's statements and of its closing brace stand in its graph.
-use Rattle.std.proofs.Common.{◌≡◌, ℕ, zero, suc, ◌+◌, ◌-◌, Option, Some, None, Bool, true, false, List, [], ◌∷◌, ◌++◌, length, reverse, slice_get, refl, sym, ap, ◌∙◌, subst, arith, if◌then◌else◌}
+use Rattle.std.proofs.Common.{◌≡◌, ℕ, zero, suc, ◌+◌, ◌-◌, Option, Some, None, Bool, true, List, [], ◌∷◌, ◌++◌, length, reverse, slice_get, refl, sym, ap, ◌∙◌, subst, arith, if◌then◌else◌}
 use Rattle.std.specs.Prelude.{◌==◌}
 use Rattle.c_tree.specs.Programs.{TypedFunctionTree, ProgramTree}
 use Rattle.c_facts.specs.Flow.{reaches_end}
@@ -14,7 +14,7 @@ use Rattle.graph_names.specs.Names.{Names, names_of, scalar_of}
 use Rattle.graph_drafts.specs.Drafts.{Made, ending as ends_with}
 use Rattle.graph_coding.specs.Coding.{Coding, Part, place_of, going}
 use Rattle.graph_forms.specs.Forms.{add_all}
-use Rattle.graph_build.specs.Units.{note_if, note_parameters, add_close, body_part, function_part, is_again, block_count, function_coding, graph_of}
+use Rattle.graph_build.specs.Units.{note_if, note_parameters, add_close, body_part, function_part, is_again, block_count, function_coding}
 use Rattle.graph_counts.proofs.Blocks.{blocks_counted}
 use Rattle.graph_marking.specs.Points.{StandIn}
 use Rattle.graph_marking.proofs.Ascending.{AllAscend}
@@ -30,7 +30,7 @@ use Rattle.graph_runs.proofs.AtPlaces.{Begins}
 use Rattle.graph_runs.proofs.Outcomes.{There}
 use Rattle.graph_runs.proofs.Closing.{closing_operand}
 use Rattle.graph_runs.proofs.Forming.{IsHome, AreHome, PartStands}
-use Rattle.graph_program.proofs.Settings.{running, scalars_counted, within, place_number, entry_number}
+use Rattle.graph_program.proofs.Settings.{running, scalars_counted, place_number, entry_number}
 use Rattle.graph_program.proofs.Places.{close_is}
 use Rattle.graph_program.proofs.Closing.{all_back}
 

@@ -1,6 +1,6 @@
 -- Where a function begins in a program's unit: the block of its entry, what its parameters are bound to, and its objects.
-use Rattle.std.proofs.Common.{◌≡◌, ℕ, zero, suc, ◌+◌, ◌-◌, ◌<◌, ◌≤◌, Bool, true, false, Option, Some, None, List, [], ◌∷◌, length, take, drop, map, slice_get, refl, sym, ap, ◌∙◌, subst, arith}
-use Rattle.std.specs.Prelude.{◌==◌, ◌&&◌}
+use Rattle.std.proofs.Common.{◌≡◌, ℕ, zero, suc, ◌+◌, ◌-◌, Bool, true, Option, Some, None, List, [], ◌∷◌, length, take, drop, map, slice_get, refl, sym, ap, ◌∙◌, subst, arith}
+use Rattle.std.specs.Prelude.{◌==◌}
 use Rattle.std.specs.Option.{option_map_or}
 use Rattle.std.proofs.lemmas.List.{length-drop}
 use Rattle.c_tree.specs.declared.types.IntegerType.TheVariants.{Char}
@@ -19,10 +19,9 @@ use Rattle.graph_drafts.specs.Drafts.{Made, note}
 use Rattle.graph_coding.specs.Coding.{Coding, going}
 use Rattle.graph_declarators.specs.Declaring.{object_type_of}
 use Rattle.graph_build.specs.Units.{object_element, object_count, kept_among, note_if as unit_note_if, note_parameters, bound_to as unit_bound, binding_of, variables_in, memory_object, body_part, is_again, block_count, function_coding, graph_of}
-use Rattle.graph_values.specs.Correspondence.{variable_of}
 use Rattle.graph_values.proofs.Later.{some_same}
 use Rattle.graph_stores.proofs.Shapes.{two_true}
-use Rattle.graph_runs.proofs.Parameters.{bindings, bound_as, bound_to}
+use Rattle.graph_runs.proofs.Parameters.{bound_as, bound_to}
 use Rattle.graph_runs.proofs.Entry.{note_if, noting, coding_for, entry_made, IsObjectOf, EntryStands}
 use Rattle.graph_program.specs.Parameters.{is_single, are_single, parameters_single, HasScalarParameters}
 use Rattle.graph_program.proofs.Accepted.{ProgramFacts}

@@ -1,19 +1,17 @@
 -- Statements of a well-formed program stand: their expressions are laid out, their variables are in order, and loops begin at places.
-use Rattle.std.proofs.Common.{◌≡◌, ℕ, zero, suc, ◌+◌, ◌≤◌, Bool, true, false, not, Option, Some, None, List, [], ◌∷◌, ◌++◌, length, refl, sym, ap, ◌∙◌, subst, arith}
-use Rattle.std.specs.Prelude.{◌&&◌, nat_le, nat_lt, slice_get}
+use Rattle.std.proofs.Common.{◌≡◌, ℕ, ◌+◌, ◌≤◌, Bool, true, false, not, Option, Some, None, List, [], ◌∷◌, ◌++◌, length, refl, arith}
+use Rattle.std.specs.Prelude.{nat_le, nat_lt, slice_get}
 use Rattle.std.proofs.lemmas.List.{length-append}
-use Rattle.debug_records.specs.declared.source.Spot.{Spot}
 use Rattle.c_tree.specs.declared.types.IntegerType.{IntegerType}
 use Rattle.c_tree.specs.declared.object_type.Scalar.{Scalar}
 use Rattle.c_tree.specs.declared.object_type.ObjectType.{ObjectType}
 use Rattle.c_tree.specs.declared.object_type.ObjectType.TheVariants as of-object
-use Rattle.c_tree.specs.declared.object_type.ValueType.TheVariants.{Void, Integer, Pointer}
 use Rattle.c_tree.specs.TypedExpressions.{RvalueTree}
 use Rattle.c_tree.specs.TypedStatements as statement
 use Rattle.c_tree.specs.TypedStatements.{InitialTree, Zero, Scalar as scalar-initial, Elements, Literal, DeclaredTree, TypedStartTree, Nothing, Value, Declares, StepTree, TypedStatementTree, Block, Declaration, Empty, Run, If, IfElse, While, DoWhile, For, Switch, Break, Continue, Return, TypedStatementTrees, case, default}
 use Rattle.c_tree.specs.Programs.{AutomaticTree}
 use Rattle.c_facts.specs.Memory.{keeps, kept_values, kept_initial, kept_declared, kept_start, kept_option, kept_step, kept_by, kept_by_all}
-use Rattle.c_places.specs.Places.{stop, brought, brought_by_start, places_of_start, places_of_head, places_of_step, places_of, places_of_all}
+use Rattle.c_places.specs.Places.{stop, brought, brought_by_start, places_of_head, places_of_step, places_of, places_of_all}
 use Rattle.c_flow.specs.Flow.{start}
 use Rattle.c_type_rules.specs.Types.{loaded}
 use Rattle.c_law_types.specs.declared.kind.Kind.{Kind}
@@ -32,7 +30,7 @@ use Rattle.graph_runs.proofs.Forming.{LaidAt, LaidIn, StepFits}
 use Rattle.graph_runs.proofs.DeclaratorKinds.{LaidAll, LaidInitial, DeclaratorStands}
 use Rattle.graph_runs.proofs.Fitting.{DeclaratorsStand, StartStands, StatementStands, StatementsStand}
 use Rattle.graph_program.proofs.Kept.{InIt, front}
-use Rattle.graph_program.proofs.Declared.{AreNumbered, by_front, in_front, all_front, declared_next, in_longer, start_below, statement_below, values_front, declarators_front, option_front, step_front, kept_front, kept_all_front}
+use Rattle.graph_program.proofs.Declared.{AreNumbered, in_front, all_front, declared_next, in_longer, start_below, statement_below, values_front, declarators_front, option_front, step_front, kept_front, kept_all_front}
 
 -- what may be a body is no declaration
 body_plain : (s : TypedStatementTree) → is_body s ≡ true → IsPlain s
@@ -119,9 +117,11 @@ module _ (k : Activity) (laid_at : (e : RvalueTree) (ks : List ℕ) → is_typed
   declarators_fit (d ∷ more) vs ks low le n h m =
       let b = two_true (is_declared k.setting.program k.setting.tree d) (are_declared k.setting.program k.setting.tree more) h in
       let c = three_true (nat_le (k.setting.tree.first_variable + k.setting.tree.parameters) d.variable) (nat_lt d.variable (k.setting.tree.first_variable + k.setting.tree.variables)) (declares_as k.setting.program k.setting.tree d (slice_get k.setting.program.automatics d.variable)) b.0 in
-      let next = declared_next base d more vs n in
-      (omega (arith, le, next), stand d b.0 (declared_laid d ks (slice_get k.setting.program.automatics d.variable) c.2 (declarators_front all more (kept_initial d.initial ks) m)),
-        declarators_fit more (vs ++ d.variable ∷ []) (kept_initial d.initial ks) (d.variable + 1) (omega (arith, next, length-append vs (d.variable ∷ []))) n b.1 m)
+      let next = declared_next base d more vs n in (
+        omega (arith, le, next),
+        stand d b.0 (declared_laid d ks (slice_get k.setting.program.automatics d.variable) c.2 (declarators_front all more (kept_initial d.initial ks) m)),
+        declarators_fit more (vs ++ d.variable ∷ []) (kept_initial d.initial ks) (d.variable + 1) (omega (arith, next, length-append vs (d.variable ∷ []))) n b.1 m,
+      )
 
   begin_fits : (begin : TypedStartTree) (vs ks : List ℕ) (low : ℕ) → low ≤ base + length vs → AreNumbered base (declared_by_start begin vs) → is_start k.setting.program k.setting.tree begin ≡ true → M (kept_start begin ks) → StartStands k low begin
   begin_fits Nothing vs ks low le n h m = tt
@@ -170,9 +170,13 @@ module _ (k : Activity) (laid_at : (e : RvalueTree) (ks : List ℕ) → is_typed
         let ks2 = kept_by s ks1 in
         let m1 = kept_front all r ks2 m in
         let ps = places_of number scope s in
-        let pr = places_of number scope r in
-        (laid_at e ks (scalar_typed (K e) t.0) (kept_front all s ks1 m1), body_plain s q.0, body_plain r q.2, fits b c s scope vs ks1 low t.1 q.1 le (in_front base r (declared_in s vs) n) m1 (fit_front number Fits ps pr f.1),
-          fits b c r scope (declared_in s vs) ks2 low t.2 q.3 (omega (arith, le, in_longer s vs)) n m (fit_back number Fits ps pr f.1))
+        let pr = places_of number scope r in (
+          laid_at e ks (scalar_typed (K e) t.0) (kept_front all s ks1 m1),
+          body_plain s q.0,
+          body_plain r q.2,
+          fits b c s scope vs ks1 low t.1 q.1 le (in_front base r (declared_in s vs) n) m1 (fit_front number Fits ps pr f.1),
+          fits b c r scope (declared_in s vs) ks2 low t.2 q.3 (omega (arith, le, in_longer s vs)) n m (fit_back number Fits ps pr f.1),
+        )
     fits b c (While spot e s) scope vs ks low h p le n m f =
         let t = two_true (is_scalar (K e)) (S true true s) h in
         let q = two_true (is_body s) (is_plain s) p in
@@ -182,9 +186,12 @@ module _ (k : Activity) (laid_at : (e : RvalueTree) (ks : List ℕ) → is_typed
         let q = two_true (is_body s) (is_plain s) p in
         let ps = places_of number scope s in
         let own = stop number scope spot ∷ [] in
-        let fs = fit_front number Fits ps own f in
-        (laid_at e (kept_by s ks) (scalar_typed (K e) t.0) m, body_plain s q.0, fits true true s scope vs ks low t.1 q.1 le n (front all false e (kept_by s ks) m) fs,
-          way_there (start s (Some spot.at)) (start_fits number Fits s scope (Some spot.at) fs (fit_back number Fits ps own f).0))
+        let fs = fit_front number Fits ps own f in (
+          laid_at e (kept_by s ks) (scalar_typed (K e) t.0) m,
+          body_plain s q.0,
+          fits true true s scope vs ks low t.1 q.1 le n (front all false e (kept_by s ks) m) fs,
+          way_there (start s (Some spot.at)) (start_fits number Fits s scope (Some spot.at) fs (fit_back number Fits ps own f).0),
+        )
     fits b c (For begin spot e step s) scope vs ks low h p le n m f =
         let t = four_true (is_start k.setting.program k.setting.tree begin) (is_condition k.setting.program k.setting.tree e) (is_step k.setting.program k.setting.tree step) (S true true s) h in
         let q = two_true (is_body s) (is_plain s) p in
@@ -197,9 +204,13 @@ module _ (k : Activity) (laid_at : (e : RvalueTree) (ks : List ℕ) → is_typed
         let vs1 = declared_by_start begin vs in
         let n1 = in_front base s vs1 n in
         let inside = scope ++ brought_by_start begin in
-        let head = places_of_head number scope begin spot e ++ places_of_step number inside step in
-        (begin_fits begin vs ks low le n1 t.0 m1, condition_fits e ks1 t.1 m2, step_fits step ks2 t.2 m3, body_plain s q.0,
-          fits true true s inside vs1 ks3 (behind_start low begin) t.3 q.1 (start_below base begin vs low le n1) n m (fit_back number Fits head (places_of number inside s) f))
+        let head = places_of_head number scope begin spot e ++ places_of_step number inside step in (
+          begin_fits begin vs ks low le n1 t.0 m1,
+          condition_fits e ks1 t.1 m2,
+          step_fits step ks2 t.2 m3,
+          body_plain s q.0,
+          fits true true s inside vs1 ks3 (behind_start low begin) t.3 q.1 (start_below base begin vs low le n1) n m (fit_back number Fits head (places_of number inside s) f),
+        )
     fits b c (Switch spot e ss) scope vs ks low h p le n m f =
         let o = tested_type (K e) in
         let t = two_true (is_switch o) (are_statements k.setting.program k.setting.tree true c o ss) h in

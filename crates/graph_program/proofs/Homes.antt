@@ -1,9 +1,8 @@
 -- Where the variables of a function are kept: scalars in names of their own, in the order of the variables, and the others in objects.
-use Rattle.std.proofs.Common.{◌≡◌, ℕ, zero, suc, ◌+◌, ◌-◌, ◌≤◌, ◌<◌, Bool, true, false, Option, Some, None, List, [], ◌∷◌, length, take, drop, slice_get, refl, sym, ap, ◌∙◌, subst, arith, if◌then◌else◌}
+use Rattle.std.proofs.Common.{◌≡◌, ℕ, zero, suc, ◌+◌, ◌-◌, ◌≤◌, ◌<◌, Bool, true, false, Some, None, List, [], ◌∷◌, take, drop, slice_get, refl, sym, ap, ◌∙◌, arith, if◌then◌else◌}
 use Rattle.std.specs.Prelude.{nat_le}
 use Rattle.std.proofs.lemmas.Bool.Decides.{nat_tests}
 use Rattle.c_tree.specs.Programs.{AutomaticTree, TypedFunctionTree, ProgramTree}
-use Rattle.graph_names.specs.declared.names.Home.{Home}
 use Rattle.graph_names.specs.declared.names.Home.TheVariants as home
 use Rattle.graph_names.specs.Names.{Names, homes_from, names_of, scalar_in, object_in, home_of, scalar_of, object_of}
 

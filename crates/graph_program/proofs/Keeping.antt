@@ -1,6 +1,6 @@
 -- What holds all the time of an activation that runs a function of a program's unit: how its variables are named, and where it finds them.
-use Rattle.std.proofs.Common.{◌≡◌, ℕ, zero, suc, ◌+◌, ◌-◌, ◌≤◌, ◌<◌, Bool, true, false, Option, Some, None, List, [], ◌∷◌, ◌++◌, length, map, slice_get, refl, sym, ap, ◌∙◌, subst, arith}
-use Rattle.std.specs.Prelude.{◌==◌, ◌&&◌, nat_le, nat_lt}
+use Rattle.std.proofs.Common.{◌≡◌, ℕ, zero, suc, ◌+◌, ◌-◌, ◌≤◌, ◌<◌, Bool, true, false, Some, List, [], ◌∷◌, ◌++◌, length, map, slice_get, refl, sym, ap, ◌∙◌, subst, arith}
+use Rattle.std.specs.Prelude.{◌==◌, nat_le, nat_lt}
 use Rattle.std.proofs.lemmas.Bool.Decides.{nat_tests}
 use Rattle.std.proofs.lemmas.List.{length-map}
 use Rattle.c_tree.specs.declared.object_type.ObjectType.{ObjectType}
@@ -8,22 +8,21 @@ use Rattle.c_tree.specs.declared.object_type.ObjectType.TheVariants as of-object
 use Rattle.c_tree.specs.declared.object_type.Object.TheVariants as object
 use Rattle.c_tree.specs.declared.types.IntegerType.TheVariants.{Int}
 use Rattle.c_tree.specs.TypedExpressions.{Named}
-use Rattle.c_tree.specs.Programs.{AutomaticTree, LiteralTree, StaticTree, TypedFunctionTree, ProgramTree}
+use Rattle.c_tree.specs.Programs.{AutomaticTree, LiteralTree, TypedFunctionTree, ProgramTree}
 use Rattle.c_law_types.specs.Kinds.{is_variable}
 use Rattle.c_laws.specs.Objects.{is_kept_array}
 use Rattle.c_memory.specs.Types.{count_of}
 use Rattle.c_memory.specs.Memory.{Memory as SourceMemory}
 use Rattle.c_states.specs.declared.event.Frame.{Frame}
-use Rattle.graph_core.specs.Graphs.{Scalar, Graph, StaticObject, UnitForm}
+use Rattle.graph_core.specs.Graphs.{UnitForm}
 use Rattle.graph_core.specs.Memory.{Memory}
 use Rattle.graph_core.specs.Runs.{Activation}
-use Rattle.graph_names.specs.Names.{names_of, scalar_of, object_of}
+use Rattle.graph_names.specs.Names.{names_of, scalar_of}
 use Rattle.graph_build.specs.Units.{IsUnitOf, variables_in, scalars_among, scalar_record, static_of, literal_of, is_again, function_coding, graph_of}
 use Rattle.graph_counts.proofs.Scalars.{names_few}
 use Rattle.graph_marking.proofs.Instances.{got_before}
 use Rattle.graph_marking.proofs.Standing.{got_behind}
 use Rattle.graph_values.proofs.Later.{some_same}
-use Rattle.graph_values.proofs.Places.{StaticsThere}
 use Rattle.graph_stores.proofs.Shapes.{two_true}
 use Rattle.graph_stores.proofs.Coding.{VariableHome, in_name, in_object, LaidOut}
 use Rattle.graph_runs.proofs.Activities.{Activity, placed}

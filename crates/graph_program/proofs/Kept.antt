@@ -1,5 +1,5 @@
 -- What has to stand in memory is told of the parts of an expression, too, and a well-typed expression takes the addresses of what does.
-use Rattle.std.proofs.Common.{◌≡◌, ℕ, zero, suc, ◌+◌, ◌≤◌, Bool, true, false, Option, Some, None, List, [], ◌∷◌, ◌++◌, slice_get, refl, sym, ap, ◌∙◌, subst}
+use Rattle.std.proofs.Common.{◌≡◌, ℕ, Bool, true, false, Option, Some, None, List, [], ◌∷◌, ◌++◌, slice_get, refl, ap, ◌∙◌}
 use Rattle.std.specs.Prelude.{◌&&◌, nat_le}
 use Rattle.c_tree.specs.declared.types.IntegerType.{IntegerType}
 use Rattle.c_tree.specs.declared.types.IntegerType.TheVariants.{Int}
@@ -25,7 +25,7 @@ use Rattle.c_laws.specs.Objects.{is_kept_array}
 use Rattle.graph_names.specs.Names.{object_of}
 use Rattle.graph_values.proofs.Leads.{Setting, names_in}
 use Rattle.graph_values.proofs.Types.{object_is}
-use Rattle.graph_stores.proofs.Shapes.{fits_of, typed_of, any_integer, counted_typed, scalar_typed, two_true, three_true, four_true, joined_typed, array_of, if_typed}
+use Rattle.graph_stores.proofs.Shapes.{fits_of, typed_of, any_integer, counted_typed, scalar_typed, two_true, three_true, four_true, joined_typed, if_typed}
 use Rattle.graph_stores.proofs.Coding.{InMemory, IsLaid, IsLaidPlace, AreLaid}
 
 module _ (all : List AutomaticTree) where

@@ -1,12 +1,12 @@
 -- The objects of a function's graph are those of its variables in memory, in their order.
-use Rattle.std.proofs.Common.{◌≡◌, ℕ, zero, suc, ◌+◌, ◌-◌, ◌<◌, ◌≤◌, Bool, true, false, Option, Some, None, List, [], ◌∷◌, take, drop, map, slice_get, refl, sym, ap, ◌∙◌, subst, arith, if◌then◌else◌}
+use Rattle.std.proofs.Common.{◌≡◌, ℕ, zero, suc, ◌+◌, ◌-◌, ◌<◌, ◌≤◌, Bool, true, false, Option, Some, None, List, [], ◌∷◌, take, drop, slice_get, refl, sym, ap, ◌∙◌, subst, arith, if◌then◌else◌}
 use Rattle.std.specs.Prelude.{nat_le}
 use Rattle.std.proofs.lemmas.Bool.Decides.{nat_tests}
 use Rattle.c_tree.specs.Programs.{AutomaticTree, TypedFunctionTree, ProgramTree}
 use Rattle.c_places.specs.Places.{numbers_from}
 use Rattle.graph_names.specs.declared.names.Home.{Home}
 use Rattle.graph_names.specs.declared.names.Home.TheVariants as home
-use Rattle.graph_names.specs.Names.{Names, homes_from, names_of, object_in, home_of, object_of}
+use Rattle.graph_names.specs.Names.{Names, homes_from, names_of, object_in, object_of}
 use Rattle.graph_build.specs.Units.{add_if_some, kept_among, variables_in}
 use Rattle.graph_program.proofs.Homes.{home_at}
 

@@ -5,7 +5,6 @@ use Rattle.std.proofs.lemmas.Bool.Decides.{nat_tests}
 use Rattle.c_tree.specs.Programs.{TypedFunctionTree, ProgramTree}
 use Rattle.c_facts.specs.Flow.{reaches_end}
 use Rattle.c_places.specs.Places.{Place, stop, brought_by_body, parameters_of, close_of, places_of_all, places_of_function, places_of_program, number_at}
-use Rattle.c_memory.specs.Memory.{Memory as SourceMemory}
 use Rattle.c_states.specs.declared.event.Frame.{Frame}
 use Rattle.graph_core.specs.Graphs.{UnitForm}
 use Rattle.graph_core.specs.Memory.{Memory}
@@ -13,7 +12,7 @@ use Rattle.graph_core.specs.Runs.{Activation}
 use Rattle.graph_marking.proofs.Ascending.{AllAscend}
 use Rattle.graph_values.proofs.Leads.{depth_in}
 use Rattle.graph_values.proofs.Later.{some_same}
-use Rattle.graph_runs.proofs.Activities.{Activity, place_at}
+use Rattle.graph_runs.proofs.Activities.{Activity}
 use Rattle.graph_runs.proofs.Living.{AllLive}
 use Rattle.graph_runs.proofs.Stops.{PlaceIs}
 use Rattle.graph_runs.proofs.Forming.{ArePlaces, places_front, places_back}

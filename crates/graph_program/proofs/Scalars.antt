@@ -2,7 +2,6 @@
 use Rattle.std.proofs.Common.{◌≡◌, ℕ, zero, suc, ◌+◌, Bool, true, false, Option, Some, None, List, [], ◌∷◌, take, drop, map, slice_get, refl, sym, ap, ◌∙◌, subst, arith, if◌then◌else◌}
 use Rattle.c_tree.specs.Programs.{AutomaticTree, TypedFunctionTree, ProgramTree}
 use Rattle.c_places.specs.Places.{numbers_from}
-use Rattle.graph_core.specs.Graphs.{Scalar}
 use Rattle.graph_names.specs.declared.names.Home.{Home}
 use Rattle.graph_names.specs.declared.names.Home.TheVariants as home
 use Rattle.graph_names.specs.Names.{Names, homes_from, names_of, scalar_in, scalar_of}

@@ -1,15 +1,13 @@
 -- The graph of a function in a program's unit, an activation that runs it, and where its places stand.
-use Rattle.std.proofs.Common.{◌≡◌, ℕ, zero, suc, ◌+◌, ◌-◌, Some, None, Bool, List, [], ◌∷◌, ◌++◌, length, slice_get, refl, sym, ap, ◌∙◌, subst, arith}
+use Rattle.std.proofs.Common.{◌≡◌, ℕ, zero, suc, ◌+◌, Some, Bool, List, [], ◌∷◌, ◌++◌, length, slice_get, refl, sym, ap, ◌∙◌, subst, arith}
 use Rattle.std.specs.Prelude.{◌==◌}
 use Rattle.std.proofs.lemmas.List.{length-map}
 use Rattle.c_tree.specs.Programs.{TypedFunctionTree, ProgramTree}
 use Rattle.c_places.specs.Places.{Place, parameters_of, entry_of, close_of, places_of_all, places_of_function, places_of_program, number_at}
 use Rattle.c_states.specs.declared.event.Frame.{Frame}
-use Rattle.graph_core.specs.Graphs.{Graph, UnitForm}
+use Rattle.graph_core.specs.Graphs.{UnitForm}
 use Rattle.graph_core.specs.Memory.{Memory}
 use Rattle.graph_core.specs.Runs.{Activation}
-use Rattle.graph_names.specs.Names.{Names, names_of}
-use Rattle.graph_coding.specs.Coding.{Coding}
 use Rattle.graph_build.specs.Units.{IsUnitOf, variables_in, scalars_among, scalar_record, is_again, block_count, function_coding, graph_of, graphs_from}
 use Rattle.graph_marking.proofs.Ascending.{AllAscend, Among', places_within, numbered_within}
 use Rattle.graph_marking.proofs.Instances.{got_before}

@@ -1,20 +1,19 @@
 -- Objects of a well-formed program are small, and what `main` gives is a number.
-use Rattle.std.proofs.Common.{◌≡◌, ℕ, zero, suc, ◌+◌, ◌-◌, ◌*◌, ◌/◌, ◌≤◌, ◌<◌, Bool, true, false, Option, Some, None, List, [], ◌∷◌, length, take, drop, slice_get, refl, sym, ap, ◌∙◌, subst, arith, pos, if◌then◌else◌}
-use Rattle.std.specs.Prelude.{◌==◌, ◌&&◌, nat_le, sum_by}
+use Rattle.std.proofs.Common.{◌≡◌, ℕ, zero, suc, ◌+◌, ◌-◌, ◌*◌, ◌/◌, ◌≤◌, Bool, true, false, Some, List, [], ◌∷◌, length, drop, slice_get, refl, sym, ap, ◌∙◌, subst, arith, pos, if◌then◌else◌}
+use Rattle.std.specs.Prelude.{◌==◌, nat_le, sum_by}
 use Rattle.std.proofs.lemmas.Bool.Decides.{nat_tests}
 use Rattle.std.proofs.lemmas.Option.{slice_get_within}
 use Rattle.std.proofs.lemmas.List.Sums.{sum_by-cons}
-use Rattle.word_base.specs.Owners.{Owner, Static, Literal, Variable}
+use Rattle.word_base.specs.Owners.{Static, Literal, Variable}
 use Rattle.c_tree.specs.declared.types.IntegerType.{IntegerType}
 use Rattle.c_tree.specs.declared.types.IntegerType.TheVariants.{Char, SignedChar, UnsignedChar, Short, UnsignedShort, Int, UnsignedInt, Long, UnsignedLong}
 use Rattle.c_tree.specs.declared.object_type.ObjectType.{ObjectType}
 use Rattle.c_tree.specs.declared.object_type.ObjectType.TheVariants as of-object
-use Rattle.c_tree.specs.declared.object_type.ValueType.{ValueType}
 use Rattle.c_tree.specs.declared.object_type.ValueType.TheVariants.{Integer}
 use Rattle.c_tree.specs.Programs.{AutomaticTree, LiteralTree, StaticTree, TypedFunctionTree, ProgramTree}
 use Rattle.c_type_rules.specs.Integers.{size as integer_bytes, scalar_size as type_size, object_size, room}
 use Rattle.c_type_rules.specs.Types.{same_value}
-use Rattle.c_type_bounds.specs.Bounds.{kept_room, own_room, text_room, static_room, literal_room, objects_room, memory_room, variables_of}
+use Rattle.c_type_bounds.specs.Bounds.{kept_room, own_room, text_room, variables_of}
 use Rattle.c_laws.specs.Objects.{is_kept_array}
 use Rattle.c_laws.specs.Laws.{is_main}
 use Rattle.c_memory.specs.declared.value.Value.TheVariants as source
@@ -23,7 +22,6 @@ use Rattle.c_memory.specs.Memory.{Object as SourceObject, Memory as SourceMemory
 use Rattle.graph_values.specs.Typed.{IsOf}
 use Rattle.graph_values.proofs.Later.{some_same}
 use Rattle.graph_values.proofs.Types.{value_is}
-use Rattle.graph_values.proofs.Kept.{IsDeclared}
 use Rattle.graph_stores.proofs.Shapes.{two_true}
 use Rattle.graph_stores.proofs.Moving.{AreSmall}
 use Rattle.graph_program.proofs.Accepted.{ProgramFacts}

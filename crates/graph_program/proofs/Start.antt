@@ -1,6 +1,6 @@
 -- `main` of a well-formed program stands in its unit, where a run begins with the program's static storage.
-use Rattle.std.proofs.Common.{◌≡◌, ℕ, zero, suc, ◌+◌, Bool, true, false, Option, Some, None, List, [], ◌∷◌, ◌++◌, map, slice_get, refl, ap, ◌∙◌, arith}
-use Rattle.std.specs.Prelude.{◌==◌, ◌&&◌}
+use Rattle.std.proofs.Common.{◌≡◌, ℕ, true, Option, Some, None, List, [], ◌∷◌, ◌++◌, map, slice_get, refl, ap, ◌∙◌, arith}
+use Rattle.std.specs.Prelude.{◌==◌}
 use Rattle.std.proofs.lemmas.Bool.Decides.{nat_tests}
 use Rattle.c_tree.specs.declared.types.IntegerType.TheVariants.{Int}
 use Rattle.c_tree.specs.declared.object_type.ObjectType.{ObjectType}
@@ -9,10 +9,10 @@ use Rattle.c_tree.specs.declared.object_type.ValueType.TheVariants.{Integer}
 use Rattle.c_tree.specs.declared.object_type.Object as designator
 use Rattle.c_tree.specs.declared.object_type.Object.TheVariants as object
 use Rattle.c_tree.specs.declared.program.Relocation.{Relocation}
-use Rattle.c_tree.specs.Programs.{LiteralTree, StaticTree, TypedFunctionTree, ProgramTree}
+use Rattle.c_tree.specs.Programs.{StaticTree, TypedFunctionTree, ProgramTree}
 use Rattle.c_type_rules.specs.Types.{same_value}
 use Rattle.c_laws.specs.Laws.{is_main}
-use Rattle.graph_core.specs.Graphs.{StaticObject, UnitForm}
+use Rattle.graph_core.specs.Graphs.{UnitForm}
 use Rattle.graph_build.specs.Units as unit
 use Rattle.graph_build.specs.Units.{IsUnitOf}
 use Rattle.graph_stores.proofs.Shapes.{two_true}
