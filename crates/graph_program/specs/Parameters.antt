@@ -9,6 +9,7 @@ abbrev pub is_single : ObjectType → Bool
 is_single (of-object.Scalar s) = true
 is_single (of-object.Array s count) = false
 
+-- variables that are scalars
 abbrev pub are_single : List AutomaticTree → Bool
 are_single [] = true
 are_single (a ∷ more) = is_single a.of && are_single more
