@@ -22,7 +22,7 @@ suits pointer (object.Static n) = true
 suits pointer (object.Literal n) = same_value (loaded pointer) (Pointer (of-object.Scalar (record { base = Char; stars = 0 })))
 suits pointer (object.Automatic x) = true
 
--- so does each address of an object
+-- so is each word of these that holds one
 abbrev pub all_suit : (pointer : Scalar) → List Relocation → Bool
 all_suit pointer [] = true
 all_suit pointer (r ∷ more) = suits pointer r.object && all_suit pointer more
