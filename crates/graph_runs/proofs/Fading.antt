@@ -3,7 +3,7 @@ use Rattle.std.proofs.Common.{◌≡◌, ◌≢◌, ℕ, zero, suc, ◌+◌, ◌
 use Rattle.std.specs.List.{AllByRecursion}
 use Rattle.std.proofs.lemmas.Option.{slice_get_within}
 use Rattle.word_base.specs.Owners.{Owner, Static, Literal, Variable}
-use Rattle.c_tree.specs.declared.object_type.Scalar.{Scalar}
+use Rattle.c_tree.specs.declared.object_type.ObjectType.{ObjectType}
 use Rattle.c_tree.specs.declared.object_type.ValueType.{ValueType}
 use Rattle.c_tree.specs.declared.object_type.ValueType.TheVariants.{Void, Integer, Pointer}
 use Rattle.c_tree.specs.Programs.{ProgramTree}
@@ -11,7 +11,6 @@ use Rattle.c_type_rules.specs.Types.{loaded}
 use Rattle.c_memory.specs.declared.value.Value as source-value
 use Rattle.c_memory.specs.declared.value.Value.TheVariants as source
 use Rattle.c_memory.specs.declared.value.Phase.TheVariants.{Live, Ended}
-use Rattle.c_memory.specs.Types.{element_of}
 use Rattle.c_memory.specs.Memory.{Object as SourceObject, Memory as SourceMemory, in_phase, ended_from}
 use Rattle.c_states.specs.States.{State}
 use Rattle.c_activations.specs.Lifetimes.{ending_from}
@@ -118,10 +117,10 @@ module _ (p : ProgramTree) (memory : SourceMemory) (n : ℕ) (others : Memory) w
       let c = outer.0 in
       (record { tree = c.tree; is = c.is; own = own_faded (names_of p c.tree false) None (length more + 1) a.first_object a.names a.shadows c.own }, outer_faded more outer.1)
 
-  into_faded : (element : Scalar) (i offset : ℕ) → PointsInto memory element i offset → PointsInto (ended_from n memory) element i offset
-  into_faded element i offset c = elim (there_still memory n i c.object c.is) [
-    | inl here ↦ record { object = c.object; is = here; element_is = c.element_is; index = c.index; at = c.at; within = c.within }
-    | inr here ↦ record { object = in_phase Ended c.object; is = here; element_is = c.element_is; index = c.index; at = c.at; within = c.within }
+  into_faded : (of : ObjectType) (i offset : ℕ) → PointsInto memory of i offset → PointsInto (ended_from n memory) of i offset
+  into_faded of i offset c = elim (there_still memory n i c.object c.is) [
+    | inl here ↦ record { object = c.object; is = here; element_is = c.element_is; index = c.index; at = c.at; within = c.within; stands = c.stands }
+    | inr here ↦ record { object = in_phase Ended c.object; is = here; element_is = c.element_is; index = c.index; at = c.at; within = c.within; stands = c.stands }
   ]
 
   pub of_faded : (t : ValueType) (v : source-value.Value) → IsOf memory t v → IsOf (ended_from n memory) t v
@@ -131,7 +130,7 @@ module _ (p : ProgramTree) (memory : SourceMemory) (n : ℕ) (others : Memory) w
   of_faded (Integer t) (source.Pointer m offset) is = is
   of_faded (Pointer of) (source.Number z) is = is
   of_faded (Pointer of) source.Null is = is
-  of_faded (Pointer of) (source.Pointer m offset) is = into_faded (element_of of) m offset is
+  of_faded (Pointer of) (source.Pointer m offset) is = into_faded of m offset is
 
   all_faded : (t : ValueType) (vs : List source-value.Value) → AllByRecursion (IsOf memory t) vs → AllByRecursion (IsOf (ended_from n memory) t) vs
   all_faded t [] all = tt

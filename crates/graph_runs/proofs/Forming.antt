@@ -68,7 +68,7 @@ AreHome k (b ∷ more) = IsHome k b × AreHome k more
 abbrev pub PartStands : Activity → Part → Type 0
 PartStands k part = Stands k.setting.graph k.setting.top part.inner × AreHome k part.placed
 
--- no pointers are subtracted in an expression, and what has its address taken is in memory
+-- what has its address taken in an expression is in memory
 abbrev pub LaidAt : Activity → RvalueTree → Type 0
 LaidAt k e = (place : ℕ) (began : SourceMemory) → IsLaid (placed k place began) e
 

@@ -13,7 +13,6 @@ use Rattle.c_law_types.specs.Kinds.{is_of}
 use Rattle.c_law_types.specs.Expressions.{kind_of}
 use Rattle.c_memory.specs.declared.value.Value as source-value
 use Rattle.c_states.specs.declared.event.Ending.TheVariants as ending
-use Rattle.c_memory.specs.Types.{element_of}
 use Rattle.c_states.specs.States.{State, with}
 use Rattle.c_meaning.specs.Expressions.{Calls, evaluate, designate}
 use Rattle.c_states.specs.Steps.{store}
@@ -155,7 +154,7 @@ module _ (x : Setting) (calls : Calls) (low : ScalarsFirst x) (sc : Scalar) (lv 
     above = let le = lays_lv t size in let held_le = behind_le (moved_of t) (next_of t) in omega (arith, le, held_le)
 
     -- the value is there
-    stores : (p v : source-value.Value) (s2 : State) (l2 : Local) (w2 : World) → Sound x.program x.begun s2 → Fits x (want_by g) s2 l2 w2 → IsPointerTo s2.memory sc p → SameValue x.program s2.memory w2.memory p (pointed_in x l2 w2 (place_of t)) → IsOf s2.memory (loaded sc) v
+    stores : (p v : source-value.Value) (s2 : State) (l2 : Local) (w2 : World) → Sound x.program x.begun s2 → Fits x (want_by g) s2 l2 w2 → IsPointerTo s2.memory (of-object.Scalar sc) p → SameValue x.program s2.memory w2.memory p (pointed_in x l2 w2 (place_of t)) → IsOf s2.memory (loaded sc) v
         → SameValue x.program s2.memory w2.memory v (value x.unit.statics l2.names (operand_in (want_by g) (value_in x e (from_of t)))) → Result x g (value_in x e (from_of t)) t (λ y. false) (last_of t g).ops (last_of t g).end l2 w2 (store p v s2)
     stores p v s2 l2 w2 sound2 fits2 is pointer typed same =
         let u = value x.unit.statics l2.names (store_of t g) in
@@ -186,7 +185,7 @@ module _ (x : Setting) (calls : Calls) (low : ScalarsFirst x) (sc : Scalar) (lv 
         let there = of_later s1.memory s2.memory gave.later (PointerType (object_type lv)) p is in
         let place = place_stays x (want_by g) (λ y. writes (names_in x) y e) (place_in x lv t) (next_of t) k.local h.reached.local w1 h.reached.world (below_lv t size) (spares_e (next_of t) (omega (arith, size, le)))
         (spare_want x g lv t (next_of t) (aims_place t g aims) le) (place_aside x g lv t fresh_lv size (aims_place t g aims)) (λ y lt nw nf. h.reached.kept y lt nw nf) h.reached.later known in
-        stores p v s2 h.reached.local h.reached.world gave.sound h.reached.fits (subst (λ q. IsPointerTo s2.memory (element_of q) p) of there)
+        stores p v s2 h.reached.local h.reached.world gave.sound h.reached.fits (subst (λ q. IsPointerTo s2.memory q p) of there)
         (subst (SameValue x.program s2.memory h.reached.world.memory p) (sym place) (value_later x.program s1.memory s2.memory w1.memory h.reached.world.memory gave.later h.reached.later p (pointed_in x k.local w1 (place_of t)) pointer_held))
         (kind_is_of s2.memory (kind_of x.program x.tree e) (loaded sc) v fits_e gave.is) h.same)))
 

@@ -26,7 +26,6 @@ use Rattle.c_law_types.specs.Kinds.{is_promoted, is_of, is_typed, is_scalar, is_
 use Rattle.c_law_types.specs.Expressions.{kind_of, is_place, are_passed}
 use Rattle.c_memory.specs.declared.value.Value as source-value
 use Rattle.c_memory.specs.declared.value.Value.TheVariants as source
-use Rattle.c_memory.specs.Types.{element_of}
 use Rattle.c_memory.specs.Memory.{Memory as SourceMemory}
 use Rattle.c_states.specs.States.{State, Gives}
 use Rattle.c_meaning.specs.Expressions.{Calls}
@@ -50,7 +49,7 @@ use Rattle.graph_values.proofs.Places.{StaticsThere}
 use Rattle.graph_stores.proofs.Renewing.{IsRightValue, IsNumber}
 use Rattle.graph_stores.proofs.ValuesStand.{IsWhole}
 use Rattle.graph_stores.proofs.Shapes.{fits_of, kind_by, integer_kind, typed_of, any_integer, counted, counted_typed, scalar_typed, two_true, three_true, four_true, Shape, joined_shape, joined_typed, left_joined, right_joined, pointer_kinds, shape, scalar_by, loaded_scalar, whole_of, array_of, pointer_object, if_typed}
-use Rattle.graph_stores.proofs.Expressions.{IsRightBy, IsNumberBy, CallKeeps, Coded, constant, null, scalar, load, decay, address, convert, discarded, signed, negated, operated, compared, pointers, moved, moved_from, conjunction, disjunction, chosen, nothing_chosen, sequence, assigned, stored, updated, updated_there, advanced, advanced_there, stepped, stepped_there, walked, walked_there, called, run, got, put_out, left, CodedPlace, variable, static, literal, target, element, element_from, CodedAll, no_more, one_more}
+use Rattle.graph_stores.proofs.Expressions.{IsRightBy, IsNumberBy, CallKeeps, Coded, constant, null, scalar, load, decay, address, convert, discarded, signed, negated, operated, compared, pointers, moved, moved_from, subtracted, conjunction, disjunction, chosen, nothing_chosen, sequence, assigned, stored, updated, updated_there, advanced, advanced_there, stepped, stepped_there, walked, walked_there, called, run, got, put_out, left, CodedPlace, variable, static, literal, target, element, element_from, CodedAll, no_more, one_more}
 
 word_of_pointer : (base : IntegerType) (stars : ℕ) (el : ObjectType) → loaded (record { base = base; stars = stars }) ≡ Pointer el → rule.element_of (record { base = base; stars = stars }) ≡ Word
 word_of_pointer base zero el h = cc
@@ -184,7 +183,7 @@ InMemory x (Element of p i) = Unit {0}
 InMemory x (ElementFrom of i p) = Unit {0}
 
 abbrev mutual
-  -- What has its address taken is in memory, and no pointers are subtracted.
+  -- What has its address taken is in memory.
   pub IsLaid : Setting → RvalueTree → Type 0
   IsLaid x (Constant z t) = Unit {0}
   IsLaid x Null = Unit {0}
@@ -200,7 +199,7 @@ abbrev mutual
   IsLaid x (ComparePointers o a b) = IsLaid x a × IsLaid x b
   IsLaid x (Move d of p i) = IsLaid x p × IsLaid x i
   IsLaid x (MoveFrom i of p) = IsLaid x i × IsLaid x p
-  IsLaid x (Difference of a b) = ⊥
+  IsLaid x (Difference of a b) = IsLaid x a × IsLaid x b
   IsLaid x (And a b) = IsLaid x a × IsLaid x b
   IsLaid x (Or a b) = IsLaid x a × IsLaid x b
   IsLaid x (Conditional c a b) = IsLaid x c × IsLaid x a × IsLaid x b
@@ -279,7 +278,7 @@ module _ (x : Setting) (calls : Calls) (low : ScalarsFirst x) (scalars : Scalars
     where
       by : (r : Option LiteralTree) → slice_get x.program.literals i ≡ r → literal_is r of ≡ true → CodedPlace x calls (Named (object.Literal i) of)
       by None e q = cc
-      by (Some s) e q = literal (out.literal_there i s e) (sym (ap element_of (object_is (of-object.Array (record { base = Char; stars = 0 }) (length s.bytes)) of q)))
+      by (Some s) e q = literal (out.literal_there i s e) (λ l at. ap (λ z. of-object.Array (record { base = Char; stars = 0 }) (length z.bytes)) (some_same (sym at ∙ e)) ∙ object_is (of-object.Array (record { base = Char; stars = 0 }) (length s.bytes)) of q)
 
   variable_named : (v : ℕ) (of : ObjectType) → is_object x.program x.tree (object.Automatic v) of ≡ true → View x calls (Named (object.Automatic v) of)
   variable_named v of h = let b = two_true (is_variable x.tree v) (automatic_is (slice_get x.program.automatics v) of) h in by_home (out.variable_home v b.0) (by (slice_get x.program.automatics v) refl b.1)
@@ -363,7 +362,10 @@ module _ (x : Setting) (calls : Calls) (low : ScalarsFirst x) (scalars : Scalars
         let f = fits_of (is_counted (K i) && is_of (K p) (Pointer of)) (Pointer of) h in
         let c = two_true (is_counted (K i)) (is_of (K p) (Pointer of)) f in
         moved_from (kind_by (is_counted (K i) && is_of (K p) (Pointer of)) (Pointer of) f) c.1 (coded i (counted_typed (K i) c.0) laid.0) (coded p (typed_of (K p) (Pointer of) c.1) laid.1)
-    coded (Difference of a b) h laid = absurd laid
+    coded (Difference of a b) h laid =
+        let f = fits_of (is_of (K a) (Pointer of) && is_of (K b) (Pointer of)) (Integer Int) h in
+        let c = two_true (is_of (K a) (Pointer of)) (is_of (K b) (Pointer of)) f in
+        subtracted (kind_by (is_of (K a) (Pointer of) && is_of (K b) (Pointer of)) (Integer Int) f) c.0 c.1 (coded a (typed_of (K a) (Pointer of) c.0) laid.0) (coded b (typed_of (K b) (Pointer of) c.1) laid.1)
     coded (And a b) h laid =
         let f = fits_of (is_scalar (K a) && is_scalar (K b)) (Integer Int) h in
         let c = two_true (is_scalar (K a)) (is_scalar (K b)) f in conjunction (kind_by (is_scalar (K a) && is_scalar (K b)) (Integer Int) f) (coded a (scalar_typed (K a) c.0) laid.0) (coded b (scalar_typed (K b) c.1) laid.1)

@@ -1,5 +1,5 @@
--- The induction over all expressions but differences of pointers: each construct is a lemma of its own, and the induction only names them.
-use Rattle.std.proofs.Common.{◌≡◌, ℕ, ◌+◌, ◌-◌, ◌%◌, ◌<◌, List, [], ◌∷◌, Option, Some, None, true, false, slice_get, refl, sym, subst, arith, ℤ, pos, negsuc}
+-- The induction over all expressions: each construct is a lemma of its own, and the induction only names them.
+use Rattle.std.proofs.Common.{◌≡◌, ℕ, ◌+◌, ◌-◌, ◌%◌, ◌<◌, List, [], ◌∷◌, length, Option, Some, None, true, false, slice_get, refl, sym, subst, arith, ℤ, pos, negsuc}
 use Rattle.std.specs.Prelude.{option_map}
 use Rattle.std.proofs.lemmas.Bool.Decides.{nat_tests}
 use Rattle.word_base.specs.Types.{holds, char_type, converted}
@@ -20,8 +20,8 @@ use Rattle.c_tree.specs.declared.typed_expression.Sign as declared-sign
 use Rattle.c_tree.specs.declared.typed_expression.Sign.TheVariants as sign
 use Rattle.c_tree.specs.declared.typed_expression.Callee.{Callee}
 use Rattle.c_tree.specs.declared.typed_expression.Callee.TheVariants as callee
-use Rattle.c_tree.specs.TypedExpressions.{RvalueTree, LvalueTree, ArgumentTrees, Constant, Null, Load, Decay, AddressOf, Convert, Discard, Signed, Not, Arithmetic, Compare, ComparePointers, Move, MoveFrom, And, Or, Conditional, Comma, Assign, Update, UpdatePointer, Step, StepPointer, Call, Named, Target, Element, ElementFrom, none, first}
-use Rattle.c_tree.specs.Programs.{AutomaticTree, StaticTree}
+use Rattle.c_tree.specs.TypedExpressions.{RvalueTree, LvalueTree, ArgumentTrees, Constant, Null, Load, Decay, AddressOf, Convert, Discard, Signed, Not, Arithmetic, Compare, ComparePointers, Move, MoveFrom, Difference, And, Or, Conditional, Comma, Assign, Update, UpdatePointer, Step, StepPointer, Call, Named, Target, Element, ElementFrom, none, first}
+use Rattle.c_tree.specs.Programs.{AutomaticTree, StaticTree, LiteralTree}
 use Rattle.c_type_rules.specs.Constants.{calculated}
 use Rattle.c_type_rules.specs.Integers.{integer, object_size}
 use Rattle.c_type_rules.specs.Types.{loaded}
@@ -31,7 +31,6 @@ use Rattle.c_law_types.specs.Kinds.{is_promoted, is_of}
 use Rattle.c_law_types.specs.Expressions.{kind_of}
 use Rattle.c_memory.specs.declared.value.Value as source-value
 use Rattle.c_memory.specs.declared.value.Value.TheVariants as source
-use Rattle.c_memory.specs.Types.{element_of}
 use Rattle.c_memory.specs.Memory.{Memory as SourceMemory}
 use Rattle.c_memory.specs.Operations.{arithmetic, moved_by, operator_of}
 use Rattle.c_states.specs.States.{State, Evaluated, Gives, Leaves, Ends, given, Listed, Lists, NoList, listed, fronted, on_list}
@@ -89,6 +88,7 @@ use Rattle.graph_stores.proofs.ValuesStand.{IsWhole, stands_in, place_below}
 use Rattle.graph_stores.proofs.Fresh.{place_fresh}
 use Rattle.graph_stores.proofs.Renewing.{IsRightValue, IsNumber, integer_changes, pointer_changes}
 use Rattle.graph_stores.proofs.PointerTypes.{target_typed, element_typed, element_from_typed, move_of, move_from_of, address_of, decay_of, compare_pointers_of, signed_of, updated_keeps, stepped_keeps, literal_typed}
+use Rattle.graph_stores.proofs.PointerDifferences.{difference_of, difference_does}
 use Rattle.graph_stores.proofs.UpdatesDo.{one_right, step_changes, update_does, update_pointer_does, step_does, step_pointer_does, update_there_does, update_pointer_there_does, step_there_does, step_pointer_there_does}
 
 -- what is asked of the right operand's values
@@ -138,6 +138,8 @@ mutual
     pointers : {o : declared-comparison.Comparison} {a b : RvalueTree} → kind_of x.program x.tree (ComparePointers o a b) ≡ Of (Integer Int) → IsPointerIn x a → IsPointerIn x b → Coded x calls a → Coded x calls b → Coded x calls (ComparePointers o a b)
     moved : {d : Direction} {of : ObjectType} {p i : RvalueTree} → kind_of x.program x.tree (Move d of p i) ≡ Of (Pointer of) → is_of (kind_of x.program x.tree p) (Pointer of) ≡ true → Coded x calls p → Coded x calls i → Coded x calls (Move d of p i)
     moved_from : {of : ObjectType} {i p : RvalueTree} → kind_of x.program x.tree (MoveFrom i of p) ≡ Of (Pointer of) → is_of (kind_of x.program x.tree p) (Pointer of) ≡ true → Coded x calls i → Coded x calls p → Coded x calls (MoveFrom i of p)
+    subtracted : {of : ObjectType} {a b : RvalueTree} → kind_of x.program x.tree (Difference of a b) ≡ Of (Integer Int) → is_of (kind_of x.program x.tree a) (Pointer of) ≡ true → is_of (kind_of x.program x.tree b) (Pointer of) ≡ true → Coded x calls a → Coded x calls b
+        → Coded x calls (Difference of a b)
     conjunction : {a b : RvalueTree} → kind_of x.program x.tree (And a b) ≡ Of (Integer Int) → Coded x calls a → Coded x calls b → Coded x calls (And a b)
     disjunction : {a b : RvalueTree} → kind_of x.program x.tree (Or a b) ≡ Of (Integer Int) → Coded x calls a → Coded x calls b → Coded x calls (Or a b)
     chosen : {c a b : RvalueTree} → is_void (type_of (names_in x).results a) ≡ false
@@ -172,7 +174,7 @@ mutual
   pub data CodedPlace (x : Setting) (calls : Calls) : LvalueTree → Type 0 where
     variable : {v j : ℕ} {of : ObjectType} → object_of (names_in x) v ≡ Some j → ((a : AutomaticTree) → slice_get x.program.automatics v ≡ Some a → a.of ≡ of) → CodedPlace x calls (Named (object.Automatic v) of)
     static : {i : ℕ} {of : ObjectType} → StaticsThere x i → ((a : StaticTree) → slice_get x.program.statics i ≡ Some a → a.of ≡ of) → CodedPlace x calls (Named (object.Static i) of)
-    literal : {i : ℕ} {of : ObjectType} → StaticsThere x ((names_in x).statics + i) → element_of of ≡ record { base = Char; stars = 0 } → CodedPlace x calls (Named (object.Literal i) of)
+    literal : {i : ℕ} {of : ObjectType} → StaticsThere x ((names_in x).statics + i) → ((l : LiteralTree) → slice_get x.program.literals i ≡ Some l → of-object.Array (record { base = Char; stars = 0 }) (length l.bytes) ≡ of) → CodedPlace x calls (Named (object.Literal i) of)
     target : {of : ObjectType} {e : RvalueTree} → is_of (kind_of x.program x.tree e) (Pointer of) ≡ true → Coded x calls e → CodedPlace x calls (Target of e)
     element : {of : ObjectType} {p i : RvalueTree} → is_of (kind_of x.program x.tree p) (Pointer of) ≡ true → Coded x calls p → Coded x calls i → CodedPlace x calls (Element of p i)
     element_from : {of : ObjectType} {i p : RvalueTree} → is_of (kind_of x.program x.tree p) (Pointer of) ≡ true → Coded x calls i → Coded x calls p → CodedPlace x calls (ElementFrom of i p)
@@ -335,6 +337,7 @@ module _ (x : Setting) (calls : Calls) (low : ScalarsFirst x) (apart : ScalarsAp
     coded_typed (pointers {o = o} {a = a} {b = b} kind pa pb c d) = compare_pointers_of x calls o a b kind (coded_typed c) (coded_typed d)
     coded_typed (moved {d = d} {of = of} {p = p} {i = i} kind fits a b) = move_of x calls d of p i kind fits (coded_typed a) (coded_typed b)
     coded_typed (moved_from {of = of} {i = i} {p = p} kind fits a b) = move_from_of x calls of i p kind fits (coded_typed a) (coded_typed b)
+    coded_typed (subtracted {of = of} {a = a} {b = b} kind fits_a fits_b c d) = difference_of x calls of a b kind (coded_typed c) (coded_typed d)
     coded_typed (conjunction {a = a} {b = b} kind c d) = and_of x calls a b kind (coded_typed c) (coded_typed d)
     coded_typed (disjunction {a = a} {b = b} kind c d) = or_of x calls a b kind (coded_typed c) (coded_typed d)
     coded_typed (chosen {c = c} {a = a} {b = b} whole fits_a fits_b test ca cb) = conditional_of x calls c a b fits_a fits_b (coded_typed test) (coded_typed ca) (coded_typed cb)
@@ -406,6 +409,8 @@ module _ (x : Setting) (calls : Calls) (low : ScalarsFirst x) (apart : ScalarsAp
     coded_does (pointers {o = o} {a = a} {b = b} kind pa pb c d) = pointers_compare x calls low o a b pa pb (coded_typed c) (coded_typed d) (low_of a) (low_of b) (spares_of b) (grows_of a) (coded_does c) (coded_does d)
     coded_does (moved {d = d} {of = of} {p = p} {i = i} kind fits a b) = move_does x calls low small p i (coded_typed a) (coded_typed b) (low_of p) (low_of i) (spares_of i) (grows_of p) (coded_does a) (coded_does b) d of
     coded_does (moved_from {of = of} {i = i} {p = p} kind fits a b) = move_from_does x calls low small i p (coded_typed a) (coded_typed b) (low_of i) (low_of p) (spares_of p) (grows_of i) (coded_does a) (coded_does b) of
+    coded_does (subtracted {of = of} {a = a} {b = b} kind fits_a fits_b c d) =
+        difference_does x calls low small of a b fits_a fits_b (coded_typed c) (coded_typed d) (low_of a) (low_of b) (spares_of b) (grows_of a) (coded_does c) (coded_does d)
     coded_does (conjunction {a = a} {b = b} kind c d) = and_does x calls low a b (coded_typed c) (tops_of Tested a) (grows_of a) (grows_of b) (coded_does c) (coded_does d)
     coded_does (disjunction {a = a} {b = b} kind c d) = or_does x calls low a b (coded_typed c) (tops_of Tested a) (grows_of a) (grows_of b) (coded_does c) (coded_does d)
     coded_does (chosen {c = c} {a = a} {b = b} whole fits_a fits_b test ca cb) =

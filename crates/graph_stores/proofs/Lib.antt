@@ -13,6 +13,7 @@ pub mod ScalarSteps
 pub mod Addresses
 pub mod MemorySteps
 pub mod PointerTypes
+pub mod PointerDifferences
 pub mod ValuesStand
 pub mod Fresh
 pub mod Remaining

@@ -15,7 +15,6 @@ use Rattle.c_law_types.specs.Expressions.{kind_of}
 use Rattle.c_memory.specs.declared.value.Value as source-value
 use Rattle.c_memory.specs.declared.value.Value.TheVariants as source
 use Rattle.c_states.specs.declared.event.Ending.TheVariants as ending
-use Rattle.c_memory.specs.Types.{element_of}
 use Rattle.c_memory.specs.Memory.{Memory as SourceMemory, is_begun, is_usable, index_at, value_in as value_at}
 use Rattle.c_states.specs.States.{State, Evaluated, Gives, Leaves, Ends, given, with, usable, on_both}
 use Rattle.c_meaning.specs.Expressions.{Calls, evaluate, designate}
@@ -74,7 +73,7 @@ located_with (Leaves s) k = refl
 located_with (Ends e s) k = refl
 
 -- What is read where a pointer points: nothing is defined, or both read the same.
-pub load_cases : (x : Setting) (want : Option ℕ) (s : State) (l : Local) (w : World) (sc : Scalar) (p : source-value.Value) (given_word : Value) → Sound x.program x.begun s → Fits x want s l w → IsPointerTo s.memory sc p → SameValue x.program s.memory w.memory p given_word → (R : Evaluated → Type 0)
+pub load_cases : (x : Setting) (want : Option ℕ) (s : State) (l : Local) (w : World) (sc : Scalar) (p : source-value.Value) (given_word : Value) → Sound x.program x.begun s → Fits x want s l w → IsPointerTo s.memory (of-object.Scalar sc) p → SameValue x.program s.memory w.memory p given_word → (R : Evaluated → Type 0)
     → R (Ends ending.Undefined s) → ((v : source-value.Value) (u : Value) → read w.memory (rule.element_of sc) given_word ≡ Some u → SameValue x.program s.memory w.memory v u → IsOf s.memory (loaded sc) v → R (Gives v s)) → R (load p s)
 load_cases x want s l w sc (source.Number z) given_word sound f is same R undefined next = absurd is
 load_cases x want s l w sc source.Null given_word sound f is same R undefined next = undefined
@@ -163,7 +162,7 @@ place_below_later t k (At a) le is = below_later t k a le is
 place_below_later t k (Automatic o j) le is = tt
 place_below_later t k (StaticPlace o) le is = tt
 
-of_later_pointer : (sc : Scalar) (memory after : SourceMemory) → Later memory after → (p : source-value.Value) → IsPointerTo memory sc p → IsPointerTo after sc p
+of_later_pointer : (sc : Scalar) (memory after : SourceMemory) → Later memory after → (p : source-value.Value) → IsPointerTo memory (of-object.Scalar sc) p → IsPointerTo after (of-object.Scalar sc) p
 of_later_pointer sc memory after later p is = of_later memory after later (PointerType (of-object.Scalar sc)) p is
 
 -- What is in memory changes: it is loaded, a new value is made of it, and stored.
@@ -187,7 +186,7 @@ module _ (x : Setting) (calls : Calls) (low : ScalarsFirst x) (sc : Scalar) (lv 
     abbrev last_of : Made
     last_of = renewed_memory (names_in x) c (place_laid (names_in x) lv t) moved_of by g
 
-    renews : (p vo vb : source-value.Value) (s : State) (l : Local) (w : World) → size_in x ≤ t → (moved_of ≡ true → next_of t + 1 < by.next) → next_of t < by.next → AimsPlace x g lv t → Sound x.program x.begun s → Fits x None s l w → IsPointerTo s.memory sc p
+    renews : (p vo vb : source-value.Value) (s : State) (l : Local) (w : World) → size_in x ≤ t → (moved_of ≡ true → next_of t + 1 < by.next) → next_of t < by.next → AimsPlace x g lv t → Sound x.program x.begun s → Fits x None s l w → IsPointerTo s.memory (of-object.Scalar sc) p
         → SameValue x.program s.memory w.memory p (pointed_in x l w held_of) → IsOf s.memory target_type vo → HasBy vb → SameValue x.program s.memory w.memory vo (l.names (next_of t)) → SameValue x.program s.memory w.memory vb (value x.unit.statics l.names by.value)
         → (r : Option source-value.Value) → next s.memory vo vb ≡ r → Result x g (Name own_of) t (λ y. false) last_of.ops last_of.end l w (store_if r p s)
     renews p vo vb s l w size later_held later aims sound f is pointer ho hb same_o same_b None e =
@@ -230,7 +229,7 @@ module _ (x : Setting) (calls : Calls) (low : ScalarsFirst x) (sc : Scalar) (lv 
             put_elsewhere q.names (target g own_of) (next_of t + 1) u (target_apart x g own_of (next_of t + 1) own_ne (spare_want x g lv t (next_of t + 1) aims (omega (arith, le)))) ∙ kept (next_of t + 1) lt temp_ne
 
   -- the value that is there is loaded
-  loaded_then : (t : ℕ) (g : Goal) (a : Operand) (f : ℕ → Bool) (m : Made) (p : source-value.Value) (s : State) (l : Local) (w : World) → size_in x ≤ t → Sound x.program x.begun s → Fits x None s l w → IsPointerTo s.memory sc p → SameValue x.program s.memory w.memory p (pointed_in x l w (place_in x lv t))
+  loaded_then : (t : ℕ) (g : Goal) (a : Operand) (f : ℕ → Bool) (m : Made) (p : source-value.Value) (s : State) (l : Local) (w : World) → size_in x ≤ t → Sound x.program x.begun s → Fits x None s l w → IsPointerTo s.memory (of-object.Scalar sc) p → SameValue x.program s.memory w.memory p (pointed_in x l w (place_in x lv t))
       → (onward : source-value.Value → State → Evaluated)
       → ((vo : source-value.Value) (l2 : Local) → Fits x None s l2 w → SameValue x.program s.memory w.memory vo (l2.names (next_of t)) → IsOf s.memory target_type vo → SameValue x.program s.memory w.memory p (pointed_in x l2 w (place_in x lv t)) → Result x g a t f m.ops m.end l2 w (onward vo s))
       → Result x g a t f (unit.Load (next_of t) el (place_in x lv t) ∷ m.ops) m.end l w (with (load p s) onward)
@@ -252,14 +251,14 @@ module _ (x : Setting) (calls : Calls) (low : ScalarsFirst x) (sc : Scalar) (lv 
   -- a place is found, and what follows works with what is there
   placed_then : (t : ℕ) (g : Goal) (a : Operand) (f f2 : ℕ → Bool) (m : Made) (s : State) (l : Local) (w : World) (k : source-value.Value → source-value.Value → State → Evaluated) → size_in x ≤ t → Stands x.graph x.top (placing x lv t m).inner → Sound x.program x.begun s → Fits x None s l w
       → ((y : ℕ) → y < t → f y ≡ false → (within_written x lv y ≡ false) × (f2 y ≡ false))
-      → ((p : source-value.Value) (s1 : State) (l1 : Local) (w1 : World) → Sound x.program x.begun s1 → Fits x None s1 l1 w1 → IsPointerTo s1.memory sc p → SameValue x.program s1.memory w1.memory p (pointed_in x l1 w1 (place_in x lv t)) → Result x g a t f2 m.ops m.end l1 w1 (with (load p s1) (λ old u. k p old u)))
+      → ((p : source-value.Value) (s1 : State) (l1 : Local) (w1 : World) → Sound x.program x.begun s1 → Fits x None s1 l1 w1 → IsPointerTo s1.memory (of-object.Scalar sc) p → SameValue x.program s1.memory w1.memory p (pointed_in x l1 w1 (place_in x lv t)) → Result x g a t f2 m.ops m.end l1 w1 (with (load p s1) (λ old u. k p old u)))
       → Result x g a t f (placing x lv t m).ops (placing x lv t m).end l w (on_both (located (designate calls (depth_in x) lv s)) k)
   placed_then t g a f f2 m s l w k size st sound fits spares go_on =
       let code = placing x lv t m in
       subst (Result x g a t f code.ops code.end l w) (located_with (designate calls (depth_in x) lv s) k)
       (place_next x g m lv a t t f f2 code.ops code.end l w (designate calls (depth_in x) lv s) (λ p s1. with (load p s1) (λ old u. k p old u)) (omega arith) spares (does_lv t m s l w size st sound fits)
       (λ p s1 e h. (let gave = subst (Keeps x.program x.begun s.memory (Of (PointerType (object_type lv)))) e (typed_lv s sound) in
-      go_on p s1 h.reached.local h.reached.world gave.sound h.reached.fits (subst (λ q. IsPointerTo s1.memory (element_of q) p) of gave.is) h.same)))
+      go_on p s1 h.reached.local h.reached.world gave.sound h.reached.fits (subst (λ q. IsPointerTo s1.memory q p) of gave.is) h.same)))
 
   stored_replaced : (r : Option source-value.Value) (p old : source-value.Value) (s : State) → store_if r p s ≡ replace_if r New p old s
   stored_replaced None p old s = refl
@@ -317,7 +316,7 @@ module _ (x : Setting) (calls : Calls) (low : ScalarsFirst x) (sc : Scalar) (lv 
         inner : Stands x.graph x.top (right_of t g).inner
         inner = subst (Stands x.graph x.top) (hold_inner (moved_by_e t) (next_of t + 1) (operand_at (place_in x lv t)) (right_of t g)) (grows_lv t (loaded_first c (place_laid (names_in x) lv t) (moved_by_e t) (right_of t g)) st)
 
-        evaluates : (p vo : source-value.Value) (s1 : State) (l2 : Local) (w1 : World) → Sound x.program x.begun s1 → Fits x None s1 l2 w1 → IsPointerTo s1.memory sc p → SameValue x.program s1.memory w1.memory p (pointed_in x l2 w1 (place_in x lv t)) → IsOf s1.memory target_type vo
+        evaluates : (p vo : source-value.Value) (s1 : State) (l2 : Local) (w1 : World) → Sound x.program x.begun s1 → Fits x None s1 l2 w1 → IsPointerTo s1.memory (of-object.Scalar sc) p → SameValue x.program s1.memory w1.memory p (pointed_in x l2 w1 (place_in x lv t)) → IsOf s1.memory target_type vo
             → SameValue x.program s1.memory w1.memory vo (l2.names (next_of t))
             → Result x g (Name (own_of (moved_by_e t) t (by_of t) g)) t (written_by x e) (hold_location (moved_by_e t) (next_of t + 1) (place_in x lv t) (right_of t g)).ops (hold_location (moved_by_e t) (next_of t + 1) (place_in x lv t) (right_of t g)).end l2 w1
             (with (evaluate calls (depth_in x) e s1) (λ b z. store_if (next z.memory vo b) p z))
@@ -392,7 +391,7 @@ module _ (x : Setting) (calls : Calls) (low : ScalarsFirst x) (sc : Scalar) (lv 
     changes_of = changed c new_of free_of free_of (Name old_of) (Constant 1) stores_of
 
     -- the new value is stored, and the old one is used
-    leaves : (p vo : source-value.Value) (s : State) (l l2 : Local) (w : World) (u : Value) → size_in x ≤ t → AimsPlace x g lv t → HasBy one → Sound x.program x.begun s → Fits x None s l w → l2 ≡ set_name l old_of u → IsPointerTo s.memory sc p → SameValue x.program s.memory w.memory p (pointed_in x l w (place_in x lv t)) → IsOf s.memory target_type vo
+    leaves : (p vo : source-value.Value) (s : State) (l l2 : Local) (w : World) (u : Value) → size_in x ≤ t → AimsPlace x g lv t → HasBy one → Sound x.program x.begun s → Fits x None s l w → l2 ≡ set_name l old_of u → IsPointerTo s.memory (of-object.Scalar sc) p → SameValue x.program s.memory w.memory p (pointed_in x l w (place_in x lv t)) → IsOf s.memory target_type vo
         → SameValue x.program s.memory w.memory vo u → (r : Option source-value.Value) → next s.memory vo one ≡ r
         → Result x g (Name (next_of t)) t (λ y. false) changes_of.ops changes_of.end (set_name l old_of u) w (replace_if r Old p vo s)
     leaves p vo s l l2 w u size aims one_is sound f is_l2 is pointer ho same_o None e =

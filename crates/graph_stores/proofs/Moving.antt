@@ -36,12 +36,13 @@ use Rattle.graph_values.proofs.Leads.{Setting, Local, World}
 use Rattle.graph_values.proofs.Later.{some_same}
 use Rattle.graph_values.proofs.Kept.{IsDeclared, Sound, Fits}
 use Rattle.graph_values.proofs.Elements.{element_size}
+use Rattle.graph_values.proofs.Wholes.{stands_moved}
 use Rattle.graph_values.proofs.Access.{Leading, leads_to}
 use Rattle.graph_stores.proofs.Writing.{not_over}
 
--- Objects have fewer bytes than a word counts.
+-- Objects have fewer bytes than a word with a sign counts, so that distances in them are such words.
 abbrev pub AreSmall : ProgramTree → Type 0
-AreSmall p = (w : Owner) (o : SourceObject) → IsDeclared p w o → source-bytes.bytes_of o < 4294967296
+AreSmall p = (w : Owner) (o : SourceObject) → IsDeclared p w o → source-bytes.bytes_of o < 2147483648
 
 -- a size is one in both
 scalar_bytes : (base : IntegerType) (stars : ℕ) → (if stars == 0 then integer_bytes base else 4) ≡ size_by_stars base stars
@@ -132,7 +133,7 @@ pointer_moves x want s l w d of (source.Pointer n offset) z v given sound f smal
     bytes : bytes_of q.object ≡ source-bytes.bytes_of to.object
     bytes = bytes_same x.program to.object q.object q.same
 
-    below : source-bytes.bytes_of to.object < 4294967296
+    below : source-bytes.bytes_of to.object < 2147483648
     below = small to.object.owner to.object (sound.declared n to.object to.is)
 
     h_at : pos offset +ℤ distance d of z ≡ pos to.offset
@@ -208,8 +209,8 @@ ways Up of a t (negsuc m) e = (suc m, inr (back a (suc m * size of) t e))
 ways Down of a t (pos m) e = (m, inr (back a (m * size of) t (ap (λ k. pos a +ℤ k) (sym (times_negative (pos m) (size of))) ∙ e)))
 ways Down of a t (negsuc m) e = (suc m, inl (forward a (suc m * size of) t (ap (λ k. pos a +ℤ k) (sym (negative_twice (pos (suc m * size of))) ∙ sym (times_negative (negsuc m) (size of))) ∙ e)))
 
--- A moved pointer points to an element, or behind the last one.
-pub moved_typed : (memory : SourceMemory) (d : Direction) (of : ObjectType) (p : source-value.Value) (z : ℤ) (v : source-value.Value) → IsPointerTo memory (element_of of) p → moved_by memory d of p (source.Number z) ≡ Some v → IsPointerTo memory (element_of of) v
+-- A moved pointer points to an element, or behind the last one, and to a whole array where it is an array's.
+pub moved_typed : (memory : SourceMemory) (d : Direction) (of : ObjectType) (p : source-value.Value) (z : ℤ) (v : source-value.Value) → IsPointerTo memory of p → moved_by memory d of p (source.Number z) ≡ Some v → IsPointerTo memory of v
 moved_typed memory d of (source.Number k) z v is h = absurd is
 moved_typed memory d of source.Null z v is h = cc
 moved_typed memory d of (source.Pointer n offset) z v c h =
@@ -221,7 +222,15 @@ moved_typed memory d of (source.Pointer n offset) z v c h =
     let whole : by.0 * size of ≡ by.0 * k.0 * e = ap (λ j. by.0 * j) k.1 ∙ sym (mul_assoc by.0 k.0 e) in
     let within : to.offset ≤ length c.object.values * e = subst (λ j. to.offset ≤ j) (ap source-bytes.bytes_of one ∙ ap (λ q. length c.object.values * scalar_size q) c.element_is) to.within in
     let m = multiples (element_of of).base (element_of of).stars to.offset c.index (by.0 * k.0) (length c.object.values) (either_way to.offset offset (by.0 * size of) c.index (by.0 * k.0) e by.1 whole c.at) within in
-    subst (IsPointerTo memory (element_of of)) (sym to.gives) (record { object = c.object; is = c.is; element_is = c.element_is; index = to.offset / e; at = m.0; within = m.1 })
+    subst (IsPointerTo memory of) (sym to.gives) (record {
+      object = c.object;
+      is = c.is;
+      element_is = c.element_is;
+      index = to.offset / e;
+      at = m.0;
+      within = m.1;
+      stands = stands_moved of (length c.object.values) offset to.offset by.0 c.stands by.1;
+    })
   where
     either_way : (t a b i j e : ℕ) → (t ≡ a + b) ⊎ (a ≡ t + b) → b ≡ j * e → a ≡ i * e → (t ≡ i * e + j * e) ⊎ (i * e ≡ t + j * e)
     either_way t a b i j e (inl h) hb ha = inl (h ∙ ap (λ q. q + b) ha ∙ ap (λ q. i * e + q) hb)

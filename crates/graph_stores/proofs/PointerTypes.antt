@@ -1,5 +1,5 @@
 -- What expressions on pointers and memory come to is of their types.
-use Rattle.std.proofs.Common.{◌≡◌, ℕ, ◌⊎◌, inl, inr, Option, Some, None, Bool, true, false, not, ◌&&◌, refl, sym, ◌∙◌, subst, ℤ, pos, negsuc, ◌-ℤ◌}
+use Rattle.std.proofs.Common.{◌≡◌, ℕ, ◌⊎◌, inl, inr, length, Option, Some, None, Bool, true, false, not, ◌&&◌, slice_get, refl, sym, ap, ◌∙◌, subst, ℤ, pos, negsuc, ◌-ℤ◌}
 use Rattle.std.specs.Prelude.{◌==◌, if◌then◌else◌, option_map}
 use Rattle.word_base.specs.Owners.{Literal}
 use Rattle.word_base.specs.Types.{holds}
@@ -21,7 +21,7 @@ use Rattle.c_tree.specs.declared.typed_expression.Given.TheVariants.{New, Old}
 use Rattle.c_tree.specs.declared.typed_expression.Sign as declared-sign
 use Rattle.c_tree.specs.declared.typed_expression.Sign.TheVariants as sign
 use Rattle.c_tree.specs.TypedExpressions.{RvalueTree, LvalueTree, Decay, AddressOf, Signed, ComparePointers, Move, MoveFrom, Named, Target}
-use Rattle.c_tree.specs.Programs.{ProgramTree}
+use Rattle.c_tree.specs.Programs.{LiteralTree, ProgramTree}
 use Rattle.c_type_rules.specs.Constants.{signed as sign_of, compared as test_of}
 use Rattle.c_type_rules.specs.Integers.{integer}
 use Rattle.c_type_rules.specs.Types.{loaded}
@@ -32,7 +32,7 @@ use Rattle.c_law_types.specs.Kinds.{is_of}
 use Rattle.c_law_types.specs.Expressions.{kind_of}
 use Rattle.c_memory.specs.declared.value.Value.{Value}
 use Rattle.c_memory.specs.declared.value.Value.TheVariants as source
-use Rattle.c_memory.specs.Types.{element_of}
+use Rattle.c_memory.specs.Types.{element_of, count_of}
 use Rattle.c_memory.specs.Memory.{Memory, is_usable, object_of}
 use Rattle.c_memory.specs.Operations.{signed, compared, is_same_pointer, order_of, pointers_compared, pointer_comparison, moved_by}
 use Rattle.c_states.specs.declared.event.Ending.TheVariants.{Undefined}
@@ -117,8 +117,13 @@ decay_of x calls l element count of kind typed_l s sound =
     (to_element (with (designate calls (depth_in x) l s) decayed) (subst (λ o. Keeps x.program x.begun s.memory (Of (Pointer o)) (with (designate calls (depth_in x) l s) decayed)) of
     (filter_keeps x.program x.begun s.memory (Of (Pointer (object_type l))) decayed decayed_filters (designate calls (depth_in x) l s) (typed_l s sound))))
   where
+    to_first : (memory : Memory) (v : Value) → IsOf memory (Pointer (of-object.Array element count)) v → IsOf memory (Pointer (of-object.Scalar element)) v
+    to_first memory (source.Number z) is = is
+    to_first memory source.Null is = tt
+    to_first memory (source.Pointer n offset) c = record { object = c.object; is = c.is; element_is = c.element_is; index = c.index; at = c.at; within = c.within; stands = tt }
+
     to_element : (r : Evaluated) → Keeps x.program x.begun s.memory (Of (Pointer (of-object.Array element count))) r → Keeps x.program x.begun s.memory (Of (Pointer (of-object.Scalar element))) r
-    to_element (Gives v s1) h = record { sound = h.sound; later = h.later; is = h.is }
+    to_element (Gives v s1) h = record { sound = h.sound; later = h.later; is = to_first s1.memory v h.is }
     to_element (Leaves s1) h = h
     to_element (Ends e s1) h = tt
 
@@ -180,16 +185,16 @@ signed_of x calls o ty e kind kind_e typed_e s sound =
 module _ (x : Setting) (calls : Calls) (sc : Scalar) (lv : LvalueTree) (of : object_type lv ≡ of-object.Scalar sc) (typed_lv : TypedPlace x calls lv) (c : declared-change.Change) (target_type : ValueType) (HasBy : Value → Type 0) (next : Memory → Value → Value → Option Value)
     (changes : Changes x c target_type HasBy next) (type_is : loaded sc ≡ target_type) where
   -- where it is, and what it holds
-  located_keeps : (k : Kind) (go : Value → Value → State → Evaluated) (s : State) → Sound x.program x.begun s → ((p old : Value) (s1 : State) → Sound x.program x.begun s1 → IsPointerTo s1.memory sc p → IsOf s1.memory target_type old → Keeps x.program x.begun s1.memory k (go p old s1))
+  located_keeps : (k : Kind) (go : Value → Value → State → Evaluated) (s : State) → Sound x.program x.begun s → ((p old : Value) (s1 : State) → Sound x.program x.begun s1 → IsPointerTo s1.memory (of-object.Scalar sc) p → IsOf s1.memory target_type old → Keeps x.program x.begun s1.memory k (go p old s1))
       → Keeps x.program x.begun s.memory k (on_both (located (designate calls (depth_in x) lv s)) go)
   located_keeps k go s sound next_keeps =
       subst (Keeps x.program x.begun s.memory k) (located_with (designate calls (depth_in x) lv s) go)
       (keeps_with x.program x.begun s.memory (Of (Pointer (object_type lv))) k (designate calls (depth_in x) lv s) (λ p s1. with (load p s1) (λ old u. go p old u)) (typed_lv s sound)
-      (λ p s1 h. (let there = subst (λ o. IsPointerTo s1.memory (element_of o) p) of h.is in
+      (λ p s1 h. (let there = subst (λ o. IsPointerTo s1.memory o p) of h.is in
       keeps_with x.program x.begun s1.memory (Of (loaded sc)) k (load p s1) (λ old u. go p old u) (load_typed x.program x.begun sc p s1 h.sound there)
       (λ old s2 q. next_keeps p old s2 q.sound (of_later s1.memory s2.memory q.later (Pointer (of-object.Scalar sc)) p there) (subst (λ t. IsOf s2.memory t old) type_is q.is)))))
 
-  stores_keep : (p old b : Value) (s : State) → Sound x.program x.begun s → IsPointerTo s.memory sc p → IsOf s.memory target_type old → HasBy b → (r : Option Value) → next s.memory old b ≡ r → Keeps x.program x.begun s.memory (Of target_type) (store_if r p s)
+  stores_keep : (p old b : Value) (s : State) → Sound x.program x.begun s → IsPointerTo s.memory (of-object.Scalar sc) p → IsOf s.memory target_type old → HasBy b → (r : Option Value) → next s.memory old b ≡ r → Keeps x.program x.begun s.memory (Of target_type) (store_if r p s)
   stores_keep p old b s sound there is has None e = tt
   stores_keep p old b s sound there is has (Some new) e =
       subst (λ t. Keeps x.program x.begun s.memory (Of t) (store p new s)) type_is (store_typed x.program x.begun sc p new s sound there (subst (λ t. IsOf s.memory t new) (sym type_is) (changes.typed s.memory old b new is has e)))
@@ -201,7 +206,7 @@ module _ (x : Setting) (calls : Calls) (sc : Scalar) (lv : LvalueTree) (of : obj
       (λ p old s1 sound1 there is. keeps_with x.program x.begun s1.memory (kind_of x.program x.tree e) (Of target_type) (evaluate calls (depth_in x) e s1) (λ b z. store_if (next z.memory old b) p z) (typed_e s1 sound1)
       (λ b s2 h. stores_keep p old b s2 h.sound (of_later s1.memory s2.memory h.later (Pointer (of-object.Scalar sc)) p there) (of_later s1.memory s2.memory h.later target_type old is) (by_is s2.memory b h.is) (next s2.memory old b) refl))
 
-  replaces_keep : (which : Given) (p old : Value) (s : State) → Sound x.program x.begun s → IsPointerTo s.memory sc p → IsOf s.memory target_type old → HasBy one → (r : Option Value) → next s.memory old one ≡ r → Keeps x.program x.begun s.memory (Of target_type) (replace_if r which p old s)
+  replaces_keep : (which : Given) (p old : Value) (s : State) → Sound x.program x.begun s → IsPointerTo s.memory (of-object.Scalar sc) p → IsOf s.memory target_type old → HasBy one → (r : Option Value) → next s.memory old one ≡ r → Keeps x.program x.begun s.memory (Of target_type) (replace_if r which p old s)
   replaces_keep New p old s sound there is has None e = tt
   replaces_keep Old p old s sound there is has None e = tt
   replaces_keep New p old s sound there is has (Some new) e = stores_keep p old one s sound there is has (Some new) e
@@ -214,5 +219,5 @@ module _ (x : Setting) (calls : Calls) (sc : Scalar) (lv : LvalueTree) (of : obj
       located_keeps (Of target_type) (λ p old u. replace_if (next u.memory old one) which p old u) s sound (λ p old s1 sound1 there is. replaces_keep which p old s1 sound1 there is has (next s1.memory old one) refl)
 
 -- a literal
-pub literal_typed : (x : Setting) (calls : Calls) (n : ℕ) (of : ObjectType) → element_of of ≡ record { base = Char; stars = 0 } → TypedPlace x calls (Named (object.Literal n) of)
-literal_typed x calls n of fits s sound = address_typed x.program x.begun (Literal n) of s sound (λ o c. c.2 ∙ sym fits) (object_of (Literal n) s.memory) refl
+pub literal_typed : (x : Setting) (calls : Calls) (n : ℕ) (of : ObjectType) → ((l : LiteralTree) → slice_get x.program.literals n ≡ Some l → of-object.Array (record { base = Char; stars = 0 }) (length l.bytes) ≡ of) → TypedPlace x calls (Named (object.Literal n) of)
+literal_typed x calls n of fits s sound = address_typed x.program x.begun (Literal n) of s sound (λ o c. (c.2 ∙ ap element_of (fits c.0 c.1), c.3 ∙ ap count_of (fits c.0 c.1))) (object_of (Literal n) s.memory) refl

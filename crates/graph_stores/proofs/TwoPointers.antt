@@ -1,5 +1,5 @@
 -- What the unit tells of two pointers is what the source does.
-use Rattle.std.proofs.Common.{◌≡◌, ◌≢◌, ℕ, inl, inr, Option, Some, None, Bool, true, false, not, ◌&&◌, slice_get, refl, sym, ap, ◌∙◌, arith}
+use Rattle.std.proofs.Common.{◌≡◌, ◌≢◌, ℕ, ◌+◌, ◌-◌, ◌%◌, ◌<◌, inl, inr, Option, Some, None, Bool, true, false, not, ◌&&◌, slice_get, refl, sym, ap, ◌∙◌, arith, pos, ◌-ℤ◌}
 use Rattle.std.specs.Prelude.{◌==◌, if◌then◌else◌, nat_lt}
 use Rattle.std.specs.Option.{option_map_or}
 use Rattle.std.proofs.lemmas.Bool.{cases_eq}
@@ -19,6 +19,7 @@ use Rattle.graph_core.specs.Memory.{bytes_of, is_live}
 use Rattle.graph_core.specs.Values.{operate, between, same, truth as truth_of}
 use Rattle.graph_scale.specs.Conversions.{word_of}
 use Rattle.graph_values.specs.Correspondence.{owner_of, SamePointer, SameValue}
+use Rattle.graph_values.proofs.Words.{word_difference}
 use Rattle.graph_values.proofs.Leads.{Setting, Local, World}
 use Rattle.graph_values.proofs.Later.{some_same}
 use Rattle.graph_values.proofs.Kept.{Sound, Fits}
@@ -104,3 +105,13 @@ module _ (x : Setting) (want : Option ℕ) (s : State) (l : Local) (w : World) (
       word_test : (t : Bool) → truth_of t ≡ Number (word_of_test t)
       word_test true = refl
       word_test false = refl
+
+  -- How many bytes lie between two pointers into one object.
+  pub distance_pointers : (n i j : ℕ) (a b : Value) → i < 4294967296 → j < 4294967296 → is_usable s.memory (source.Pointer n i) ≡ true → SamePointer x.program s.memory w.memory n i a → SamePointer x.program s.memory w.memory n j b → operate operation.Sub a b ≡ Number (word_of (pos i -ℤ pos j))
+  distance_pointers n i j a b below_i below_j usable sa sb =
+      let c = usable_leads x want s l w n i a f usable sa in
+      let d = usable_leads x want s l w n j b f usable sb in
+      let numbers : (c.leading.number == d.leading.number) ≡ true = let e = same_numbers n n i j a b c d refl in grind (arith, nat_tests, e) in
+      let words : (i + (4294967296 - j)) % 4294967296 ≡ (word_of (pos i) + (4294967296 - word_of (pos j))) % 4294967296 = omega (arith, below_i, below_j) in
+      ap (λ k. operate operation.Sub k b) c.leading.given_is ∙ ap (operate operation.Sub (Pointer c.leading.number (bytes_of c.leading.object) i)) d.leading.given_is
+      ∙ ap (λ t. if t then between operation.Sub i j else Odd) numbers ∙ ap Number (words ∙ word_difference (pos i) (pos j) (pos i -ℤ pos j) refl)

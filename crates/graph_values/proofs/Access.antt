@@ -3,6 +3,7 @@ use Rattle.std.proofs.Common.{◌≡◌, ◌≢◌, ℕ, zero, suc, ◌+◌, ◌
 use Rattle.std.specs.Prelude.{if◌then◌else◌, option_map, option_and_then}
 use Rattle.std.proofs.lemmas.Option.{slice_get_within}
 use Rattle.c_tree.specs.declared.object_type.Scalar.{Scalar}
+use Rattle.c_tree.specs.declared.object_type.ObjectType.TheVariants as of-object
 use Rattle.c_tree.specs.Programs.{ProgramTree}
 use Rattle.c_type_rules.specs.Types.{loaded}
 use Rattle.c_memory.specs.declared.value.Value as source-value
@@ -61,11 +62,11 @@ leads_to x want s l w n offset o given f is alive (points o2 is2 begun inside m 
     }
 
 -- the index of the value that a pointer points to
-pub index_is : (memory : SourceMemory) (sc : Scalar) (n offset : ℕ) (c : PointsInto memory sc n offset) → index_at c.object offset ≡ c.index
+pub index_is : (memory : SourceMemory) (sc : Scalar) (n offset : ℕ) (c : PointsInto memory (of-object.Scalar sc) n offset) → index_at c.object offset ≡ c.index
 index_is memory sc n offset c = ap (λ e. offset / scalar_size e) c.element_is ∙ ap (λ k. k / scalar_size sc) c.at ∙ (multiple sc c.index).0
 
 -- The unit reads a value that corresponds to the one that the source reads.
-pub read_same : (x : Setting) (want : Option ℕ) (s : State) (l : Local) (w : World) (sc : Scalar) (n offset : ℕ) (given : Value) (v : source-value.Value) → Sound x.program x.begun s → Fits x want s l w → (c : PointsInto s.memory sc n offset) → c.object.phase ≡ Live
+pub read_same : (x : Setting) (want : Option ℕ) (s : State) (l : Local) (w : World) (sc : Scalar) (n offset : ℕ) (given : Value) (v : source-value.Value) → Sound x.program x.begun s → Fits x want s l w → (c : PointsInto s.memory (of-object.Scalar sc) n offset) → c.object.phase ≡ Live
     → slice_get c.object.values (index_at c.object offset) ≡ Some v → SamePointer x.program s.memory w.memory n offset given
     → (u : Value) × (read w.memory (element_of sc) given ≡ Some u) × SameValue x.program s.memory w.memory v u
 read_same x want s l w sc n offset given v sound f c live found pointer =

@@ -9,6 +9,7 @@ pub mod Noting
 pub mod Typing
 pub mod Standing
 pub mod Objects
+pub mod Wholes
 pub mod Operands
 pub mod Sparing
 pub mod Scalars

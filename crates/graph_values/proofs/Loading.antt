@@ -13,7 +13,6 @@ use Rattle.c_law_types.specs.declared.kind.Kind.TheVariants.{Of}
 use Rattle.c_memory.specs.declared.value.Value as source-value
 use Rattle.c_memory.specs.declared.value.Value.TheVariants as source
 use Rattle.c_states.specs.declared.event.Ending.TheVariants as ending
-use Rattle.c_memory.specs.Types.{element_of}
 use Rattle.c_memory.specs.Memory.{Object as SourceObject, is_usable, is_begun, index_at, value_in as value_at}
 use Rattle.c_states.specs.States.{State, Evaluated, Gives, Leaves, Ends, given, with, usable}
 use Rattle.c_meaning.specs.Expressions.{Calls, evaluate, designate}
@@ -84,7 +83,7 @@ module _ (x : Setting) (calls : Calls) (low : ScalarsFirst x) (sc : Scalar) (lv 
     stuck : Result x g (Name (own_of t)) t (λ y. false) (last_of t g).ops (last_of t g).end l w (Ends ending.Undefined s)
     stuck = ended_result x g (Name (own_of t)) t (λ y. false) (last_of t g).ops (last_of t g).end l w ending.Undefined s (stuck_now x None (last_of t g).ops (last_of t g).end s l w fits)
 
-    loads : (n offset : ℕ) (c : PointsInto s.memory sc n offset) → SameValue x.program s.memory w.memory (source.Pointer n offset) (pointed_in x l w (place_in x lv t)) → is_begun c.object.phase ≡ true → (v : source-value.Value)
+    loads : (n offset : ℕ) (c : PointsInto s.memory (of-object.Scalar sc) n offset) → SameValue x.program s.memory w.memory (source.Pointer n offset) (pointed_in x l w (place_in x lv t)) → is_begun c.object.phase ≡ true → (v : source-value.Value)
         → slice_get c.object.values (index_at c.object offset) ≡ Some v → (b : Bool) → Result x g (Name (own_of t)) t (λ y. false) (last_of t g).ops (last_of t g).end l w (if b then Gives v s else Ends ending.Undefined s)
     loads n offset c same begun v found false = stuck
     loads n offset c same begun v found true =
@@ -95,7 +94,7 @@ module _ (x : Setting) (calls : Calls) (low : ScalarsFirst x) (sc : Scalar) (lv 
         (λ k ops end. ap (λ q. wrote_some (at x ops end l w) k (read w.memory (rule.element_of sc) q)) (pointed_same x ops end l w (place_in x lv t)) ∙ ap (wrote_some (at x ops end l w) k) got.1)
         got.2 (of_word s.memory (loaded sc) v typed_v)
 
-    found_in : (n offset : ℕ) (c : PointsInto s.memory sc n offset) → SameValue x.program s.memory w.memory (source.Pointer n offset) (pointed_in x l w (place_in x lv t)) → (b : Bool) → is_begun c.object.phase ≡ b
+    found_in : (n offset : ℕ) (c : PointsInto s.memory (of-object.Scalar sc) n offset) → SameValue x.program s.memory w.memory (source.Pointer n offset) (pointed_in x l w (place_in x lv t)) → (b : Bool) → is_begun c.object.phase ≡ b
         → Result x g (Name (own_of t)) t (λ y. false) (last_of t g).ops (last_of t g).end l w (with (given (if b then slice_get c.object.values (index_at c.object offset) else None) s) usable)
     found_in n offset c same false e = stuck
     found_in n offset c same true e = by_value (slice_get c.object.values (index_at c.object offset)) refl
@@ -104,7 +103,7 @@ module _ (x : Setting) (calls : Calls) (low : ScalarsFirst x) (sc : Scalar) (lv 
         by_value None h = stuck
         by_value (Some v) h = loads n offset c same e v h (is_usable s.memory v)
 
-    load_done : (v : source-value.Value) → IsPointerTo s.memory sc v → SameValue x.program s.memory w.memory v (pointed_in x l w (place_in x lv t))
+    load_done : (v : source-value.Value) → IsPointerTo s.memory (of-object.Scalar sc) v → SameValue x.program s.memory w.memory v (pointed_in x l w (place_in x lv t))
         → Result x g (Name (own_of t)) t (λ y. false) (last_of t g).ops (last_of t g).end l w (load v s)
     load_done (source.Number z) is same = absurd is
     load_done source.Null is same = stuck
@@ -124,4 +123,4 @@ module _ (x : Setting) (calls : Calls) (low : ScalarsFirst x) (sc : Scalar) (lv 
       → Result x g (loaded_laid (names_in x) Anywhere o t (place_laid (names_in x) lv t)).value t (within_written x lv) (by_home t g o).ops (by_home t g o).end l w (evaluate calls (depth_in x) (Load sc lv) s)) (sym in_memory)
       (λ st'. place_then x g (last_of t g) lv (Name (own_of t)) t (placing x lv t (last_of t g)).ops (placing x lv t (last_of t g)).end l w (designate calls (depth_in x) lv s) load (does t (last_of t g) s l w size st' sound fits)
       (λ v s1 e h. (let gave = subst (Keeps x.program x.begun s.memory (Of (PointerType (object_type lv)))) e (typed s sound) in
-      load_done t g s1 h.reached.local h.reached.world size gave.sound h.reached.fits v (subst (λ q. IsPointerTo s1.memory (element_of q) v) of gave.is) h.same))) st
+      load_done t g s1 h.reached.local h.reached.world size gave.sound h.reached.fits v (subst (λ q. IsPointerTo s1.memory q v) of gave.is) h.same))) st

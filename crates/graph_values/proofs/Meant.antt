@@ -30,7 +30,7 @@ use Rattle.c_law_types.specs.Expressions.{kind_of}
 use Rattle.c_memory.specs.declared.value.Value.{Value}
 use Rattle.c_memory.specs.declared.value.Value.TheVariants as source
 use Rattle.c_states.specs.declared.event.Ending.TheVariants.{Undefined}
-use Rattle.c_memory.specs.Types.{element_of, scalar_size}
+use Rattle.c_memory.specs.Types.{element_of, count_of}
 use Rattle.c_memory.specs.Memory.{Object, Memory, is_usable, is_begun, is_writable, index_at, object_of, read, value_in, write, written_in, set_value, with_value}
 use Rattle.c_memory.specs.Operations.{arithmetic, comparison, compared}
 use Rattle.c_states.specs.States.{State, Evaluated, Gives, Leaves, Ends, given, with, usable, both, on_both, Tested, Holds, Fails, NoTest, tested, on_test}
@@ -42,6 +42,7 @@ use Rattle.graph_values.proofs.Later.{Later, later_refl, later_set}
 use Rattle.graph_values.proofs.Kept.{IsDeclared, Sound}
 use Rattle.graph_values.proofs.Leaves.{both_with}
 use Rattle.graph_values.proofs.Objects.{Owned, owned_at}
+use Rattle.graph_values.proofs.Wholes.{stands_first}
 use Rattle.graph_values.proofs.Typing.{HasKind, Gave, Left, Keeps, KeepsTest, keeps_tested, Typed, of_later, kind_later}
 use Rattle.graph_values.proofs.Types.{kind_is_of}
 use Rattle.graph_values.proofs.Meanings.{keeps_before, keeps_with, keeps_afterwards, keeps_given, all_at, sound_set}
@@ -51,32 +52,34 @@ abbrev pub TypedPlace : Setting → Calls → LvalueTree → Type 0
 TypedPlace x calls l = (s : State) → Sound x.program x.begun s → Keeps x.program x.begun s.memory (Of (Pointer (object_type l))) (designate calls (depth_in x) l s)
 
 -- the address of an owner's object
-pub address_typed : (p : ProgramTree) (began : Memory) (owner : Owner) (of : ObjectType) (s : State) → Sound p began s → ((o : Object) → IsDeclared p owner o → o.element ≡ element_of of) → (r : Option ℕ) → object_of owner s.memory ≡ r
+pub address_typed : (p : ProgramTree) (began : Memory) (owner : Owner) (of : ObjectType) (s : State) → Sound p began s → ((o : Object) → IsDeclared p owner o → (o.element ≡ element_of of) × (length o.values ≡ count_of of)) → (r : Option ℕ) → object_of owner s.memory ≡ r
     → Keeps p began s.memory (Of (Pointer of)) (given (option_map (λ n. source.Pointer n 0) r) s)
 address_typed p began owner of s sound fits None e = tt
 address_typed p began owner of s sound fits (Some n) e =
     let o = owned_at owner s.memory n e in
+    let c = fits o.object (subst (λ w. IsDeclared p w o.object) o.owner_is (sound.declared n o.object o.is)) in
     record {
       sound = sound;
       later = later_refl s.memory;
       is = record {
         object = o.object;
         is = o.is;
-        element_is = fits o.object (subst (λ w. IsDeclared p w o.object) o.owner_is (sound.declared n o.object o.is));
+        element_is = c.0;
         index = 0;
         at = omega arith;
         within = omega arith;
+        stands = stands_first of (length o.object.values) (let count = c.1 in omega (arith, count));
       };
     }
 
 -- an automatic variable
 pub variable_typed : (x : Setting) (calls : Calls) (v : ℕ) (of : ObjectType) → ((a : AutomaticTree) → slice_get x.program.automatics v ≡ Some a → a.of ≡ of) → TypedPlace x calls (Named (object.Automatic v) of)
 variable_typed x calls v of fits s sound =
-    address_typed x.program x.begun (Variable v (depth_in x)) of s sound (λ o c. c.2 ∙ ap element_of (fits c.0 c.1)) (object_of (Variable v (depth_in x)) s.memory) refl
+    address_typed x.program x.begun (Variable v (depth_in x)) of s sound (λ o c. (c.2 ∙ ap element_of (fits c.0 c.1), c.3 ∙ ap count_of (fits c.0 c.1))) (object_of (Variable v (depth_in x)) s.memory) refl
 
 -- a static one
 pub static_typed : (x : Setting) (calls : Calls) (n : ℕ) (of : ObjectType) → ((v : StaticTree) → slice_get x.program.statics n ≡ Some v → v.of ≡ of) → TypedPlace x calls (Named (object.Static n) of)
-static_typed x calls n of fits s sound = address_typed x.program x.begun (Static n) of s sound (λ o c. c.2 ∙ ap element_of (fits c.0 c.1)) (object_of (Static n) s.memory) refl
+static_typed x calls n of fits s sound = address_typed x.program x.begun (Static n) of s sound (λ o c. (c.2 ∙ ap element_of (fits c.0 c.1), c.3 ∙ ap count_of (fits c.0 c.1))) (object_of (Static n) s.memory) refl
 
 -- a value that is worked with
 usable_keeps : (p : ProgramTree) (began : Memory) (k : Kind) (v : Value) (s : State) → Sound p began s → HasKind s.memory k v → Keeps p began s.memory k (usable v s)
@@ -87,7 +90,7 @@ usable_keeps p began k v s sound is = by_use (is_usable s.memory v)
     by_use false = tt
 
 -- a read where a pointer points
-pub load_typed : (p : ProgramTree) (began : Memory) (sc : Scalar) (v : Value) (s : State) → Sound p began s → IsPointerTo s.memory sc v → Keeps p began s.memory (Of (loaded sc)) (load v s)
+pub load_typed : (p : ProgramTree) (began : Memory) (sc : Scalar) (v : Value) (s : State) → Sound p began s → IsPointerTo s.memory (of-object.Scalar sc) v → Keeps p began s.memory (Of (loaded sc)) (load v s)
 load_typed p began sc (source.Number z) s sound is = absurd is
 load_typed p began sc source.Null s sound is = tt
 load_typed p began sc (source.Pointer n offset) s sound c =
@@ -107,10 +110,10 @@ pub load_of : (x : Setting) (calls : Calls) (sc : Scalar) (l : LvalueTree) → k
 load_of x calls sc l kind of place s sound =
     subst (λ k. Keeps x.program x.begun s.memory k (evaluate calls (depth_in x) (Load sc l) s)) (sym kind)
     (keeps_with x.program x.begun s.memory (Of (Pointer (object_type l))) (Of (loaded sc)) (designate calls (depth_in x) l s) load (place s sound)
-    (λ v s1 h. load_typed x.program x.begun sc v s1 h.sound (subst (λ o. IsPointerTo s1.memory (element_of o) v) of h.is)))
+    (λ v s1 h. load_typed x.program x.begun sc v s1 h.sound (subst (λ o. IsPointerTo s1.memory o v) of h.is)))
 
 -- a write where a pointer points
-pub store_typed : (p : ProgramTree) (began : Memory) (sc : Scalar) (ptr v : Value) (s : State) → Sound p began s → IsPointerTo s.memory sc ptr → IsOf s.memory (loaded sc) v → Keeps p began s.memory (Of (loaded sc)) (store ptr v s)
+pub store_typed : (p : ProgramTree) (began : Memory) (sc : Scalar) (ptr v : Value) (s : State) → Sound p began s → IsPointerTo s.memory (of-object.Scalar sc) ptr → IsOf s.memory (loaded sc) v → Keeps p began s.memory (Of (loaded sc)) (store ptr v s)
 store_typed p began sc (source.Number z) v s sound is typed = absurd is
 store_typed p began sc source.Null v s sound is typed = tt
 store_typed p began sc (source.Pointer n offset) v s sound c typed =
@@ -138,7 +141,7 @@ assign_of x calls sc l e kind of fits place typed_e s sound =
     (keeps_with x.program x.begun s.memory (Of (Pointer (object_type l))) (Of (loaded sc)) (designate calls (depth_in x) l s) (λ v t. with (evaluate calls (depth_in x) e t) (store v)) (place s sound)
     (λ ptr s1 h. keeps_with x.program x.begun s1.memory (kind_of x.program x.tree e) (Of (loaded sc)) (evaluate calls (depth_in x) e s1) (store ptr) (typed_e s1 h.sound)
     (λ v s2 k. store_typed x.program x.begun sc ptr v s2 k.sound
-    (subst (λ o. IsPointerTo s2.memory (element_of o) ptr) of (of_later s1.memory s2.memory k.later (Pointer (object_type l)) ptr h.is))
+    (subst (λ o. IsPointerTo s2.memory o ptr) of (of_later s1.memory s2.memory k.later (Pointer (object_type l)) ptr h.is))
     (kind_is_of s2.memory (kind_of x.program x.tree e) (loaded sc) v fits k.is)))))
 
 -- two operands, and what is made of their values

@@ -1,7 +1,7 @@
 -- What the types of expressions tell of their values.
 use Rattle.std.proofs.Common.{◌≡◌, ℕ, ◌*◌, ◌≤◌, List, [], ◌∷◌, length, Option, Some, None, Bool, true, false, slice_get, refl, sym, ap, ◌∙◌, subst}
 use Rattle.std.specs.Prelude.{if◌then◌else◌}
-use Rattle.c_tree.specs.declared.object_type.Scalar.{Scalar}
+use Rattle.c_tree.specs.declared.object_type.ObjectType.{ObjectType}
 use Rattle.c_tree.specs.declared.object_type.ValueType.{ValueType}
 use Rattle.c_tree.specs.declared.object_type.ValueType.TheVariants.{Void, Integer, Pointer}
 use Rattle.c_tree.specs.TypedExpressions.{RvalueTree}
@@ -11,13 +11,12 @@ use Rattle.c_law_types.specs.declared.kind.Kind.TheVariants.{Wrong, NullPointer,
 use Rattle.c_law_types.specs.Expressions.{kind_of}
 use Rattle.c_memory.specs.declared.value.Value.{Value}
 use Rattle.c_memory.specs.declared.value.Value.TheVariants as source
-use Rattle.c_memory.specs.Types.{element_of}
 use Rattle.c_memory.specs.Memory.{Memory, is_usable}
 use Rattle.c_memory.specs.Operations.{is_true}
 use Rattle.c_states.specs.declared.event.Ending.TheVariants.{Undefined}
 use Rattle.c_states.specs.States.{State, Evaluated, Gives, Leaves, Ends, Tested, Holds, Fails, NoTest, tested, tested_usable, by_truth}
 use Rattle.c_meaning.specs.Expressions.{Calls, evaluate}
-use Rattle.graph_values.specs.Typed.{PointsInto, IsOf}
+use Rattle.graph_values.specs.Typed.{StandsWhole, PointsInto, IsOf}
 use Rattle.graph_values.proofs.Words.{in_word}
 use Rattle.graph_values.proofs.Tests.{HasWord}
 use Rattle.graph_values.proofs.Leads.{Setting, depth_in}
@@ -70,10 +69,18 @@ kind_word memory NullPointer v is = subst HasWord (sym is) tt
 kind_word memory (Of t) v is = of_word memory t v is
 
 -- it is so later
-pub into_later : (memory after : Memory) → Later memory after → (element : Scalar) (n offset : ℕ) → PointsInto memory element n offset → PointsInto after element n offset
-into_later memory after later element n offset c =
+pub into_later : (memory after : Memory) → Later memory after → (of : ObjectType) (n offset : ℕ) → PointsInto memory of n offset → PointsInto after of n offset
+into_later memory after later of n offset c =
     let o = later n c.object c.is in
-    record { object = o.object; is = o.is; element_is = o.element ∙ c.element_is; index = c.index; at = c.at; within = subst (λ k. c.index ≤ k) (sym o.count) c.within }
+    record {
+      object = o.object;
+      is = o.is;
+      element_is = o.element ∙ c.element_is;
+      index = c.index;
+      at = c.at;
+      within = subst (λ k. c.index ≤ k) (sym o.count) c.within;
+      stands = subst (λ k. StandsWhole of k offset) (sym o.count) c.stands;
+    }
 
 pub of_later : (memory after : Memory) → Later memory after → (t : ValueType) (v : Value) → IsOf memory t v → IsOf after t v
 of_later memory after later Void v is = is
@@ -82,7 +89,7 @@ of_later memory after later (Integer t) source.Null is = is
 of_later memory after later (Integer t) (source.Pointer n offset) is = is
 of_later memory after later (Pointer of) (source.Number z) is = is
 of_later memory after later (Pointer of) source.Null is = is
-of_later memory after later (Pointer of) (source.Pointer n offset) is = into_later memory after later (element_of of) n offset is
+of_later memory after later (Pointer of) (source.Pointer n offset) is = into_later memory after later of n offset is
 
 pub kind_later : (memory after : Memory) → Later memory after → (k : Kind) (v : Value) → HasKind memory k v → HasKind after k v
 kind_later memory after later Wrong v is = is
