@@ -112,7 +112,7 @@ module _ (p : ProgramTree) where
   addressed e offset (object.Automatic x) h base = absurd h
 
   -- it is of its type
-  points_into : (e : Scalar) (offset : ℕ) (d : designator.Object) → IsAddress p e offset d → PointsInto (first_memory p) (pointed_to e) (source-storage.static_number p d) offset
+  points_into : (e : Scalar) (offset : ℕ) (d : designator.Object) → IsAddress p e offset d → PointsInto (first_memory p) (of-object.Scalar (pointed_to e)) (source-storage.static_number p d) offset
   points_into e offset (object.Static n) h =
       let w = h.0 in record {
         object = static_object p n w;
@@ -121,12 +121,13 @@ module _ (p : ProgramTree) where
         index = h.3;
         at = h.4 ∙ ap (λ s. h.3 * scalar_size s) h.2;
         within = subst (λ k. h.3 ≤ k) (sym (length-map (numbers_from 0 (count_of w.of)) (λ i. source-storage.first_value p w (element_of w.of) (i * scalar_size (element_of w.of))) ∙ numbers_length 0 (count_of w.of))) h.5;
+        stands = tt;
       }
   points_into e offset (object.Literal n) h =
       let l = h.0 in
       let none = h.3 in
       let zero_at : 0 ≡ 0 * scalar_size (pointed_to e) = omega arith in
-      record { object = literal_object n l; is = literal_there p n l h.1; element_is = h.2; index = 0; at = none ∙ zero_at; within = omega arith }
+      record { object = literal_object n l; is = literal_there p n l h.1; element_is = h.2; index = 0; at = none ∙ zero_at; within = omega arith; stands = tt }
   points_into e offset (object.Automatic x) h = absurd h
 
   -- the word at a place of a static object of pointers, in both runs
@@ -141,11 +142,11 @@ module _ (p : ProgramTree) where
       by rest true = addressed e r.offset r.object h.0 base
       by rest false = rest
 
-  word_typed : (e : Scalar) (all : List source-relocation.Relocation) → AreAddresses p e all → (place : ℕ) → IsPointerTo (first_memory p) (pointed_to e) (source-storage.address_at p all place)
+  word_typed : (e : Scalar) (all : List source-relocation.Relocation) → AreAddresses p e all → (place : ℕ) → IsPointerTo (first_memory p) (of-object.Scalar (pointed_to e)) (source-storage.address_at p all place)
   word_typed e [] h place = tt
   word_typed e (r ∷ more) h place = by (word_typed e more h.1 place) (r.at == place)
     where
-      by : IsPointerTo (first_memory p) (pointed_to e) (source-storage.address_at p more place) → (b : Bool) → IsPointerTo (first_memory p) (pointed_to e) (if b then source.Pointer (source-storage.static_number p r.object) r.offset else source-storage.address_at p more place)
+      by : IsPointerTo (first_memory p) (of-object.Scalar (pointed_to e)) (source-storage.address_at p more place) → (b : Bool) → IsPointerTo (first_memory p) (of-object.Scalar (pointed_to e)) (if b then source.Pointer (source-storage.static_number p r.object) r.offset else source-storage.address_at p more place)
       by rest true = points_into e r.offset r.object h.0
       by rest false = rest
 
