@@ -39,7 +39,7 @@ types_later memory after later [] (v ∷ vs) are = absurd are
 types_later memory after later (t ∷ types) [] are = absurd are
 types_later memory after later (t ∷ types) (v ∷ vs) are = (of_later memory after later t v are.0, types_later memory after later types vs are.1)
 
-element_loaded : (of : ObjectType) → element_type of ≡ loaded (element_of of)
+pub element_loaded : (of : ObjectType) → element_type of ≡ loaded (element_of of)
 element_loaded (of-object.Scalar s) = refl
 element_loaded (of-object.Array s count) = refl
 
@@ -51,10 +51,10 @@ pub record BoundFrom (k : Activity) (first count : ℕ) (before : SourceMemory) 
 
 module _ (k : Activity) (same_depth : length k.frames ≡ length k.setting.waiting) where
   -- a parameter's object
-  abbrev parameter : (v : ℕ) → AutomaticTree → source-value.Value → SourceObject
+  abbrev pub parameter : (v : ℕ) → AutomaticTree → source-value.Value → SourceObject
   parameter v a u = with_value (new_object (Variable v (depth_in k.setting)) a.of Live) 0 u
 
-  bound_one : (v : ℕ) (a : AutomaticTree) (u : source-value.Value) (memory : SourceMemory) → slice_get k.setting.program.automatics v ≡ Some a → bind_one (here_in k) v u memory ≡ memory ++ parameter v a u ∷ []
+  pub bound_one : (v : ℕ) (a : AutomaticTree) (u : source-value.Value) (memory : SourceMemory) → slice_get k.setting.program.automatics v ≡ Some a → bind_one (here_in k) v u memory ≡ memory ++ parameter v a u ∷ []
   bound_one v a u memory is =
       ap (λ r. memory ++ map (λ o. with_value o 0 u) (option_map_or (λ (q : AutomaticTree). new_object (Variable v (length k.frames + 1)) q.of Live ∷ []) r [])) is
       ∙ ap (λ n. memory ++ with_value (new_object (Variable v (n + 1)) a.of Live) 0 u ∷ []) same_depth

@@ -85,7 +85,7 @@ module _ (p : ProgramTree) (u : UnitForm) where
         → AreOf s.memory (taken_by p (called.Function f)) vs → Bound (activity_of f tree graph again top first ws objects frames left) tree s.memory
         (record s { memory = bind (here_in (activity_of f tree graph again top first ws objects frames left)) (parameters_of tree) vs s.memory })
     -- a call leads to the body
-    pub enters : (x : Setting) → x.program ≡ p → x.unit ≡ u → (target : Option ℕ) (all : List Operand) (ops : List Instruction) (end : End) (l : Local) (w : World) (s : State) (vs : List source-value.Value) (frames : List Frame) (left : ℕ) → length x.waiting + 1 + 1 + left ≡ 1024
+    pub enters : (x : Setting) → x.program ≡ p → x.unit ≡ u → slice_get p.functions x.function ≡ Some x.tree → (target : Option ℕ) (all : List Operand) (ops : List Instruction) (end : End) (l : Local) (w : World) (s : State) (vs : List source-value.Value) (frames : List Frame) (left : ℕ) → length x.waiting + 1 + 1 + left ≡ 1024
         → Sound p s.memory s → Fits x None s l w → AreOf s.memory (taken_by p (called.Function f)) vs → SameValues p s.memory w.memory vs (map (value u.statics l.names) all)
         → Holding (activity_of f tree graph again top (length w.memory) (here_at x ops end (waiting l target) ∷ x.waiting) w.memory frames left) [] 0 s.memory
         → Entered (activity_of f tree graph again top (length w.memory) (here_at x ops end (waiting l target) ∷ x.waiting) w.memory frames left) tree (at x (unit.Call target (unit-called.Function f) all ∷ ops) end l w) w.seen s.memory

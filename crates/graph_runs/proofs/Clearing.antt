@@ -58,13 +58,13 @@ room size count (inl e) = subst (λ k. count ≤ 4 * ((count * k + 3) / 4) / k) 
 room size count (inr (inl e)) = subst (λ k. count ≤ 4 * ((count * k + 3) / 4) / k) (sym e) (omega arith)
 room size count (inr (inr e)) = subst (λ k. count ≤ 4 * ((count * k + 3) / 4) / k) (sym e) (omega arith)
 
-none_left : {A : Type 0} (n : ℕ) (xs : List A) → length xs ≤ n → drop n xs ≡ []
+pub none_left : {A : Type 0} (n : ℕ) (xs : List A) → length xs ≤ n → drop n xs ≡ []
 none_left zero [] le = refl
 none_left (suc n) [] le = refl
 none_left zero (x ∷ xs) le = absurd (omega (arith, le))
 none_left (suc n) (x ∷ xs) le = none_left n xs (omega (arith, le))
 
-zeros_same : (p : ProgramTree) (memory : SourceMemory) (others : Memory) (stars : ℕ) (sc : Scalar) → sc.stars ≡ stars → (count : ℕ) → SameValues p memory others (replicate count (zero_of sc)) (replicate count (Number 0))
+pub zeros_same : (p : ProgramTree) (memory : SourceMemory) (others : Memory) (stars : ℕ) (sc : Scalar) → sc.stars ≡ stars → (count : ℕ) → SameValues p memory others (replicate count (zero_of sc)) (replicate count (Number 0))
 zeros_same p memory others stars sc e zero = tt
 zeros_same p memory others stars sc e (suc count) = (zero_same p memory others sc.stars, zeros_same p memory others stars sc e count)
 

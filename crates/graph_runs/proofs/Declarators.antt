@@ -93,7 +93,7 @@ module _ (k : Activity) (law : Lawful k) (d : DeclaredTree) (a : AutomaticTree) 
         )
 
 -- a size is one in both
-type_sizes : (base : IntegerType) (stars : ℕ) → type_size (record { base = base; stars = stars }) ≡ size_by_stars base stars
+pub type_sizes : (base : IntegerType) (stars : ℕ) → type_size (record { base = base; stars = stars }) ≡ size_by_stars base stars
 type_sizes Char zero = refl
 type_sizes SignedChar zero = refl
 type_sizes UnsignedChar zero = refl
@@ -108,7 +108,7 @@ type_sizes base (suc stars) = ap (λ b. if b then integer_bytes base else 4) (so
     some_stars : (n : ℕ) → (suc n == 0) ≡ false
     some_stars n = grind (arith, nat_tests)
 
-some_words : (n size : ℕ) → 1 ≤ n → 1 ≤ size → nat_le ((n * size + 3) / 4) 0 ≡ false
+pub some_words : (n size : ℕ) → 1 ≤ n → 1 ≤ size → nat_le ((n * size + 3) / 4) 0 ≡ false
 some_words n size le ge = none ((n * size + 3) / 4) (quarter (n * size) (product n size le ge))
   where
     product : (n m : ℕ) → 1 ≤ n → 1 ≤ m → 1 ≤ n * m
@@ -120,7 +120,7 @@ some_words n size le ge = none ((n * size + 3) / 4) (quarter (n * size) (product
     none : (x : ℕ) → 1 ≤ x → nat_le x 0 ≡ false
     none x h = grind (arith, nat_tests, h)
 
-some_size : (base : IntegerType) (stars : ℕ) → 1 ≤ size_by_stars base stars
+pub some_size : (base : IntegerType) (stars : ℕ) → 1 ≤ size_by_stars base stars
 some_size base stars = elim (sizes base stars) [
   | inl e ↦ omega (arith, e)
   | inr more ↦ elim more [

@@ -45,7 +45,7 @@ use Rattle.graph_runs.proofs.Keeping.{Stays, KeptBy, KeepsOn, kept_since, place_
 use Rattle.graph_runs.proofs.AtPlaces.{Works, Begins, begun_above, going_comes, value_runs}
 use Rattle.graph_runs.proofs.Making.{last_is, zero_typed, live_open, sound_begun, new_in, with_new, made_is, grown_made, ready_made, sound_made, fits_made}
 
-set_twice : {A : Type 0} (xs : List A) (n : ℕ) (a b : A) → slice_set (slice_set xs n a) n b ≡ slice_set xs n b
+pub set_twice : {A : Type 0} (xs : List A) (n : ℕ) (a b : A) → slice_set (slice_set xs n a) n b ≡ slice_set xs n b
 set_twice [] n a b = refl
 set_twice (x ∷ xs) zero a b = refl
 set_twice (x ∷ xs) (suc n) a b = ap (λ ys. x ∷ ys) (set_twice xs n a b)

@@ -44,18 +44,22 @@ use Rattle.graph_runs.proofs.Outcomes.{Holding}
 use Rattle.graph_runs.proofs.Stops.{Lawful}
 use Rattle.graph_runs.proofs.AtPlaces.{Begins}
 use Rattle.graph_runs.proofs.Exits.{ReturnsFit, AllReturnsFit, never_ends, never_gives}
+use Rattle.graph_runs.proofs.OwnObjects.{dropped_is}
 use Rattle.graph_runs.proofs.Binding.{binds_from}
 use Rattle.graph_runs.proofs.Closing.{closing_operand}
-use Rattle.graph_runs.proofs.Calls.{activity_of, Entered, FunctionIs}
-use Rattle.graph_runs.proofs.Forming.{PartStands, ArePlaces, StatementsFit, all_formed}
+use Rattle.graph_runs.proofs.Calls.{activity_of, FunctionIs}
+use Rattle.graph_runs.proofs.Entry.{EntryStands}
+use Rattle.graph_runs.proofs.Entering.{Binds, can_enter}
+use Rattle.graph_runs.proofs.Forming.{PartStands, ArePlaces, all_formed}
+use Rattle.graph_runs.proofs.Fitting.{StatementsStand, statements_fit}
 
 module _ (p : ProgramTree) (f : TypedFunctionTree) where
-  abbrev handed : Bool
+  abbrev pub handed : Bool
   handed = not (is_void f.result)
 
   mutual
     -- A function that gives nothing returns nothing.
-    returns_fit : (b c : Bool) (s : TypedStatementTree) → is_statement p f b c s ≡ true → ReturnsFit handed s
+    pub returns_fit : (b c : Bool) (s : TypedStatementTree) → is_statement p f b c s ≡ true → ReturnsFit handed s
     returns_fit b c (Block all) h = all_returns_fit b c None all h
     returns_fit b c (Declaration all) h = tt
     returns_fit b c (Empty spot) h = tt
@@ -71,22 +75,17 @@ module _ (p : ProgramTree) (f : TypedFunctionTree) where
     returns_fit b c (Return spot None) h = tt
     returns_fit b c (Return spot (Some e)) h = (two_true handed (is_of (kind_of p f e) f.result) h).0
 
-    all_returns_fit : (b c : Bool) (tested : Option IntegerType) (all : TypedStatementTrees) → are_statements p f b c tested all ≡ true → AllReturnsFit handed all
+    pub all_returns_fit : (b c : Bool) (tested : Option IntegerType) (all : TypedStatementTrees) → are_statements p f b c tested all ≡ true → AllReturnsFit handed all
     all_returns_fit b c tested statement.none h = tt
     all_returns_fit b c tested (statement.first s rest) h = let t = three_true (may_stand tested s) (is_statement p f b c s) (are_statements p f b c tested rest) h in (returns_fit b c s t.1, all_returns_fit b c tested rest t.2)
     all_returns_fit b c tested (case z rest) h = all_returns_fit b c tested rest (two_true (is_label tested z) (are_statements p f b c tested rest) h).1
     all_returns_fit b c tested (default rest) h = all_returns_fit b c tested rest (two_true (is_switch tested) (are_statements p f b c tested rest) h).1
 
 -- a type without values, by both words for it
-both_void : (t : ValueType) → value-types.is_void t ≡ true → not (is_void t) ≡ false
+pub both_void : (t : ValueType) → value-types.is_void t ≡ true → not (is_void t) ≡ false
 both_void Void h = refl
 both_void (Integer t) h = cc
 both_void (Pointer of) h = cc
-
-dropped_is : {A : Type 0} (xs : List A) (n i : ℕ) → slice_get xs (n + i) ≡ slice_get (drop n xs) i
-dropped_is xs zero i = let e : 0 + i ≡ i = omega arith in ap (slice_get xs) e
-dropped_is [] (suc n) i = refl
-dropped_is (x ∷ xs) (suc n) i = let e : suc n + i ≡ suc (n + i) = omega arith in ap (slice_get (x ∷ xs)) e ∙ dropped_is xs n i
 
 module _ (p : ProgramTree) (u : UnitForm) where
   -- What is asked of a function: its blocks stand, its statements are well typed and keep to their places, and it is entered and left as it should be.
@@ -98,25 +97,39 @@ module _ (p : ProgramTree) (u : UnitForm) where
     pub there : slice_get p.functions f ≡ Some tree
     pub small : AreSmall p
     pub typed : are_statements p tree false false None tree.body ≡ true
-    pub parameters : tree.parameters ≤ length (drop tree.first_variable p.automatics)
     pub part : Part
     pub lawful : (first : ℕ) (ws : List Activation) (objects : Memory) (frames : List Frame) (left : ℕ) → Lawful (activity_of p u f tree graph again top first ws objects frames left)
     pub out : (first : ℕ) (ws : List Activation) (objects : Memory) (frames : List Frame) (left place : ℕ) (began : SourceMemory) → LaidOut (placed (activity_of p u f tree graph again top first ws objects frames left) place began)
     pub places : (first : ℕ) (ws : List Activation) (objects : Memory) (frames : List Frame) (left : ℕ) → ArePlaces (activity_of p u f tree graph again top first ws objects frames left) (places_of_all f (parameters_of tree) tree.body)
-    pub fit : (first : ℕ) (ws : List Activation) (objects : Memory) (frames : List Frame) (left : ℕ) → StatementsFit (activity_of p u f tree graph again top first ws objects frames left) (tree.first_variable + tree.parameters) tree.body
+    pub fit : (first : ℕ) (ws : List Activation) (objects : Memory) (frames : List Frame) (left : ℕ) → StatementsStand (activity_of p u f tree graph again top first ws objects frames left) (tree.first_variable + tree.parameters) tree.body
     pub stands : (first : ℕ) (ws : List Activation) (objects : Memory) (frames : List Frame) (left : ℕ)
         → PartStands (activity_of p u f tree graph again top first ws objects frames left) (add_all (coding_in (activity_of p u f tree graph again top first ws objects frames left)) tree.body (length graph.scalars) (ways_of_body tree) part)
     pub closes : (first : ℕ) (ws : List Activation) (objects : Memory) (frames : List Frame) (left : ℕ) → reaches_end tree.body ≡ true
         → Begins (activity_of p u f tree graph again top first ws objects frames left) (parameters_of tree ++ brought_by_body tree.body) tree.close.at (λ t i. ends_with (Returning (closing_operand (f == p.main))) i)
     pub main_is : (f == p.main) ≡ true → (memory : SourceMemory) → IsOf memory tree.result (source.Number (pos 0))
-    pub enters : (x : Setting) → x.program ≡ p → x.unit ≡ u → (target : Option ℕ) (all : List Operand) (ops : List Instruction) (end : End) (l : Local) (w : World) (s : State) (vs : List source-value.Value) (frames : List Frame) (left : ℕ) → length x.waiting + 1 + 1 + left ≡ 1024
-        → Sound p s.memory s → Fits x None s l w → AreOf s.memory (taken_by p (called.Function f)) vs → SameValues p s.memory w.memory vs (map (value u.statics l.names) all)
-        → Holding (activity_of p u f tree graph again top (length w.memory) (here_at x ops end (waiting l target) ∷ x.waiting) w.memory frames left) [] 0 s.memory
-        → Entered p u (activity_of p u f tree graph again top (length w.memory) (here_at x ops end (waiting l target) ∷ x.waiting) w.memory frames left) tree (at x (unit.Call target (unit-called.Function f) all ∷ ops) end l w) w.seen s.memory
-        (record s { memory = bind (here_in (activity_of p u f tree graph again top (length w.memory) (here_at x ops end (waiting l target) ∷ x.waiting) w.memory frames left)) (parameters_of tree) vs s.memory })
+    pub entry : EntryStands p tree graph again top
+
+  -- Its parameters are bound to objects of their own.
+  pub function_binds : (f : ℕ) (tree : TypedFunctionTree) (h : FunctionStands f tree) → Binds p u f tree h.graph h.again h.top
+  function_binds f tree h first ws objects frames left vs s sound held are =
+      let k = activity_of p u f tree h.graph h.again h.top first ws objects frames left in
+      let types = subst (λ r. AreOf s.memory (types_of (parameters_in p.automatics r)) vs) h.there are in
+      let under : Under s.memory (depth_in k.setting) tree.first_variable = λ n o v d found alive owner. (let c = held.under n o v d found alive owner in (c.0, λ e. (let less = c.1 e in absurd (omega (arith, less))))) in
+      let r = binds_from k (frames_length p u s.memory frames ws held.frames) tree.parameters tree.first_variable (drop tree.first_variable p.automatics) (λ i. dropped_is p.automatics tree.first_variable i) h.entry.enough vs s sound under types in
+      let after = bind (here_in k) (parameters_of tree) vs s.memory in
+      let le : tree.first_variable ≤ tree.first_variable + tree.parameters = omega arith in
+      record {
+        sound = r.sound;
+        grown = grown_wider (depth_in k.setting) 0 tree.first_variable (tree.first_variable + tree.parameters) (tree.first_variable + tree.parameters) s.memory after (omega arith) (omega arith) r.grown;
+        holding = record {
+          under = under_grown (depth_in k.setting) tree.first_variable (tree.first_variable + tree.parameters) s.memory after le under r.grown;
+          scoped = r.live;
+          frames = frames_later p u s.memory after r.grown.later frames ws held.frames;
+        };
+      }
 
   -- It can be called.
-  pub function_is : (f : ℕ) (tree : TypedFunctionTree) → FunctionStands f tree → FunctionIs p u f tree
+  unfoldable pub function_is : (f : ℕ) (tree : TypedFunctionTree) → FunctionStands f tree → FunctionIs p u f tree
   function_is f tree h = record {
     graph = h.graph;
     again = h.again;
@@ -124,27 +137,14 @@ module _ (p : ProgramTree) (u : UnitForm) where
     is = h.is;
     lawful = h.lawful;
     formed = λ first ws objects frames left good.
-        (all_formed (activity_of p u f tree h.graph h.again h.top first ws objects frames left) (h.lawful first ws objects frames left) (h.out first ws objects frames left) h.small good false false None (ways_of_body tree) (parameters_of tree) tree.body (length h.graph.scalars)
-        (tree.first_variable + tree.parameters) h.part (omega arith) h.typed (h.places first ws objects frames left) (h.fit first ws objects frames left) (h.stands first ws objects frames left)).0;
+        (let k = activity_of p u f tree h.graph h.again h.top first ws objects frames left in
+        let fit = statements_fit k (h.lawful first ws objects frames left) (h.out first ws objects frames left) h.small good false false None (tree.first_variable + tree.parameters) tree.body h.typed (h.fit first ws objects frames left) in
+        (all_formed k (h.lawful first ws objects frames left) (h.out first ws objects frames left) h.small good false false None (ways_of_body tree) (parameters_of tree) tree.body (length h.graph.scalars) (tree.first_variable + tree.parameters) h.part (omega arith) h.typed (h.places first ws objects frames left) fit
+        (h.stands first ws objects frames left)).0);
     closes = h.closes;
     never = λ ends calls here s s2 e. never_ends (handed p tree) calls here tree.body (all_returns_fit p tree false false None tree.body h.typed) ends s s2 e;
     nothing = λ void calls here s s2 v e. never_gives (handed p tree) (both_void tree.result void) calls here tree.body (all_returns_fit p tree false false None tree.body h.typed) s s2 v e;
     main_is = h.main_is;
-    binds = λ first ws objects frames left vs s sound held are.
-        (let k = activity_of p u f tree h.graph h.again h.top first ws objects frames left in
-        let types = subst (λ r. AreOf s.memory (types_of (parameters_in p.automatics r)) vs) h.there are in
-        let under : Under s.memory (depth_in k.setting) tree.first_variable = λ n o v d found alive owner. (let c = held.under n o v d found alive owner in (c.0, λ e. (let less = c.1 e in absurd (omega (arith, less))))) in
-        let r = binds_from k (frames_length p u s.memory frames ws held.frames) tree.parameters tree.first_variable (drop tree.first_variable p.automatics) (λ i. dropped_is p.automatics tree.first_variable i) h.parameters vs s sound under types in
-        let after = bind (here_in k) (parameters_of tree) vs s.memory in
-        let le : tree.first_variable ≤ tree.first_variable + tree.parameters = omega arith in
-        record {
-          sound = r.sound;
-          grown = grown_wider (depth_in k.setting) 0 tree.first_variable (tree.first_variable + tree.parameters) (tree.first_variable + tree.parameters) s.memory after (omega arith) (omega arith) r.grown;
-          holding = record {
-            under = under_grown (depth_in k.setting) tree.first_variable (tree.first_variable + tree.parameters) s.memory after le under r.grown;
-            scoped = r.live;
-            frames = frames_later p u s.memory after r.grown.later frames ws held.frames;
-          };
-        });
-    enters = h.enters;
+    binds = function_binds f tree h;
+    enters = can_enter p u f tree h.graph h.again h.top h.is h.there h.entry h.lawful (function_binds f tree h);
   }

@@ -177,7 +177,7 @@ module _ (p : ProgramTree) (u : UnitForm) (all_are : FunctionsAre p u) where
             let fits1 : Fits x None s1 l w = record { own = fits.own; outer = fits.outer; placed = fits.placed; differ = fits.differ; above = fits.above; later = fits.later; statics = fits.statics; input = fits.input; events = fits.events } in
             let bound = fb.binds (length w.memory) (a ∷ ws) w.memory (record { function = f; place = place } ∷ frames) left vs s1 now held are in
             let deep : length ws + 1 + 1 + left ≡ 1024 = omega (arith, count) in
-            let entered = fb.enters x refl refl target args ops end l w s1 vs (record { function = f; place = place } ∷ frames) left deep now fits1 are same held in
+            let entered = fb.enters x refl refl is_f target args ops end l w s1 vs (record { function = f; place = place } ∷ frames) left deep now fits1 are same held in
             let formed = fb.formed (length w.memory) (a ∷ ws) w.memory (record { function = f; place = place } ∷ frames) left (good n b is fb (length w.memory) a w.memory) in
             let lawful = fb.lawful (length w.memory) (a ∷ ws) w.memory (record { function = f; place = place } ∷ frames) left in
             let memory = bind (source_here n) (parameters_of b) vs s.memory in
