@@ -30,8 +30,7 @@ use Rattle.graph_runs.proofs.Fitting.{StatementsStand}
 use Rattle.graph_runs.proofs.Program.{program_does}
 use Rattle.graph_runs.proofs.Functions.{FunctionStands, function_is}
 use Rattle.graph_runs.proofs.Main.{main_is_there}
-use Rattle.graph_program.specs.Parameters.{HasScalarParameters}
-use Rattle.graph_program.specs.Statics.{HasPlainLiterals, HasSoundStatics}
+use Rattle.graph_program.specs.Statics.{HasPlainLiterals}
 use Rattle.graph_program.proofs.Accepted.{ProgramFacts, facts_of}
 use Rattle.graph_program.proofs.Homes.{object_there}
 use Rattle.graph_program.proofs.Settings.{graph_is, running}
@@ -57,7 +56,7 @@ all_there : (k : Activity) (number : ℕ) (xs : List Place) → ((i : ℕ) (q : 
 all_there k number [] h = tt
 all_there k number (x ∷ xs) h = (h 0 x refl, all_there k number xs (λ i q e. h (suc i) q e))
 
-module _ (p : ProgramTree) (u : UnitForm) (facts : ProgramFacts p) (unit : IsUnitOf p u) (scalars : HasScalarParameters p) (plain_literals : HasPlainLiterals p) where
+module _ (p : ProgramTree) (u : UnitForm) (facts : ProgramFacts p) (unit : IsUnitOf p u) (plain_literals : HasPlainLiterals p) where
   module _ (f : ℕ) (tree : TypedFunctionTree) (is : slice_get p.functions f ≡ Some tree) where
     module _ (first : ℕ) (ws : List Activation) (objects : Memory) (frames : List Frame) (left : ℕ) where
       abbrev k : Activity
@@ -111,15 +110,15 @@ module _ (p : ProgramTree) (u : UnitForm) (facts : ProgramFacts p) (unit : IsUni
       stands = body_stands p u f tree is facts.ascend;
       closes = close_begins p u f tree is facts.ascend;
       main_is = main_gives p facts f tree is;
-      entry = entry_stands p facts scalars f tree is;
+      entry = entry_stands p facts f tree is;
     }
 
   -- So does each.
   pub functions_are : FunctionsAre p u
   functions_are f tree is = function_is p u f tree (function_stands f tree is)
 
--- The unit of a well-formed program does what the program does, where parameters are scalars, and static storage and literals are sound.
-pub does_program : (p : ProgramTree) (u : UnitForm) → IsWellFormed p → HasScalarParameters p → HasSoundStatics p → HasPlainLiterals p → IsUnitOf p u → DoesProgram p u
-does_program p u well scalars sound literals unit =
+-- The unit of a well-formed program does what the program does, where literals that initialise arrays are of numbers below 128.
+pub does_program : (p : ProgramTree) (u : UnitForm) → IsWellFormed p → HasPlainLiterals p → IsUnitOf p u → DoesProgram p u
+does_program p u well literals unit =
     let facts = facts_of p well in
-    program_does p u (functions_are p u facts unit scalars literals) (main_is_there p u (main_stands p u facts unit sound (function_stands p u facts unit scalars literals)))
+    program_does p u (functions_are p u facts unit literals) (main_is_there p u (main_stands p u facts unit (function_stands p u facts unit literals)))

@@ -1,2 +1,1 @@
-pub mod Parameters
 pub mod Statics
