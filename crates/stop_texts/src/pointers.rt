@@ -15,7 +15,9 @@ use image_form::{ElementType, Image, Storage, Variable};
 use line_form::{frame_pointer, literal_pointer, null_text, static_pointer, unknown_pointer};
 use rv_machine::Machine;
 use std::alloc::{AllocError, Global};
-use stop_tables::{Tables, VariableLists, calling_place, depth, frame_of, greatest_depth, stack_pointer};
+use stop_tables::{
+    Tables, VariableLists, calling_place, depth, frame_of, greatest_depth, stack_pointer,
+};
 use stop_view::Target;
 
 /// How many bytes an element has.
