@@ -1,0 +1,16 @@
+pub mod Bringing
+pub mod Comparing
+pub mod Ended
+pub mod Ends
+pub mod Keeping
+pub mod Leaving
+pub mod Loading
+pub mod Markers
+pub mod Outer
+pub mod Passing
+pub mod Placed
+pub mod Restoring
+pub mod ReturnEnds
+pub mod Returning
+pub mod Same
+pub mod Stepping
