@@ -7,19 +7,20 @@ use Rattle.graph_core.specs.Paths.{Among}
 use Rattle.graph_core.specs.Runs.{Activation, Configuration}
 use Rattle.graph_homes.specs.declared.home.Home.{Home}
 use Rattle.graph_homes.specs.declared.home.Home.TheVariants.{Register, Slot}
-use Rattle.homed_unit.specs.Homed.{IsHomeRegister, IsHomeAmong}
+use Rattle.homed_unit.specs.Homed.{IsHomeRegister, IsHomeAmong, home_number}
 use Rattle.rv_code.specs.declared.instruction.Instruction.{Instruction as MachineInstruction}
 use Rattle.emit_pieces.specs.declared.piece.Held.{Held}
 use Rattle.machine_steps.specs.Holding.{Holding}
 use Rattle.machine_steps.specs.Doing.{done_by_all}
 use Rattle.emit_moves.specs.Doing.{HoldsAll as HoldsAllOf, IsLeft, IsNoHome}
+use Rattle.emit_memory.specs.Meaning.{Means}
 use Rattle.emit_memory.specs.Frames.{Setting, IsStorage, AreScratch, HoldsFrame, IsOutside, IsNoTarget, Performs}
 use Rattle.emit_memory.proofs.Arrays.{those_same}
 use Rattle.emit_memory.proofs.Objects.{AreThose, WasThere}
 use Rattle.emit_calls.specs.Keeping.{IsTargetAmong, IsSaved, LeavesRest}
 use Rattle.emit_calls.specs.Settings.{IsKept}
 use Rattle.emit_calls.specs.Waiting.{FunctionCode, IsFunctionCode, setting_of, HoldsWaiting, HoldsAll}
-use Rattle.emit_calls.proofs.Loading.{kept_0, kept_2, kept_3, kept_4, kept_home, frame_reheld}
+use Rattle.emit_calls.proofs.Loading.{kept_0, kept_2, kept_3, kept_4, kept_home, held_but_a0, home_as_it_was, frame_reheld}
 use Rattle.emit_calls.proofs.Outer.{IsNoObject, Grown, LeavesAbove, waiting_kept}
 use Rattle.emit_calls.proofs.Restoring.{low_no_home}
 use Rattle.emit_calls.proofs.Same.{SameActivation}
@@ -85,10 +86,11 @@ grown_those addresses memory later those longer = record {
 
 module _ (codes : ℕ → FunctionCode) (u : UnitForm) (valid : (k : ℕ) → IsFunctionCode u (codes k)) (addresses : ℕ → ℕ) (resumes : Activation → ℕ → Type 0) where
   -- The activation that goes on is one of the same function, in the same place among all.
-  moved_waiting : (c d : Configuration) (t : Holding) → SameActivation c d → HoldsWaiting codes u addresses resumes d.memory d.input (codes c.here.function) t c.waiting → HoldsWaiting codes u addresses resumes d.memory d.input (codes d.here.function) t d.waiting
+  moved_waiting : (c d : Configuration) (t : Holding) → SameActivation c d → HoldsWaiting codes u addresses resumes d.memory d.input (codes c.here.function) c.here.first_object t c.waiting → HoldsWaiting codes u addresses resumes d.memory d.input (codes d.here.function) d.here.first_object t d.waiting
   moved_waiting c d t same holds =
-      subst (λ k. HoldsWaiting codes u addresses resumes d.memory d.input (codes k) t d.waiting) (sym same.function)
-      (subst (λ all. HoldsWaiting codes u addresses resumes d.memory d.input (codes c.here.function) t all) (sym same.waiting) holds)
+      subst (λ k. HoldsWaiting codes u addresses resumes d.memory d.input (codes k) d.here.first_object t d.waiting) (sym same.function)
+      (subst (λ n. HoldsWaiting codes u addresses resumes d.memory d.input (codes c.here.function) n t d.waiting) (sym same.first)
+      (subst (λ all. HoldsWaiting codes u addresses resumes d.memory d.input (codes c.here.function) c.here.first_object t all) (sym same.waiting) holds))
 
   -- A step of the innermost activation, behind which the machine holds its frame, keeps them all.
   pub all_kept : (held later : List Held) (c d : Configuration) (h t : Holding) (target : Option Home) → HoldsAll codes u addresses resumes held c h → LeavesRest (setting_of u addresses held (codes c.here.function)) c h t target
@@ -102,12 +104,16 @@ module _ (codes : ℕ → FunctionCode) (u : UnitForm) (valid : (k : ℕ) → Is
       let many : length d.waiting ≡ length c.waiting = ap (λ (l : List Activation). length l) same.waiting in
       record {
         here = frame;
-        waiting = moved_waiting c d t same (waiting_kept codes u valid addresses addresses resumes c.memory d.memory 0 grown frame.laid c.waiting f h t c.input d.input (valid c.here.function) above (omega arith) frame.objects all.waiting);
+        waiting = moved_waiting c d t same (waiting_kept codes u valid addresses addresses resumes c.memory d.memory 0 grown frame.laid c.waiting f c.here.first_object h t c.input d.input (valid c.here.function) above (omega arith) (let many = all.objects in omega (arith, many)) frame.objects all.waiting);
         depth = let deep = all.depth in omega (arith, tp, many, deep);
         room = let room = all.room in omega (arith, sp, many, room);
         objects = subst (λ k. k + length (codes d.here.function).graph.objects ≤ length d.memory) (sym same.first)
             (subst (λ k. c.here.first_object + length (codes k).graph.objects ≤ length d.memory) (sym same.function) (let most = all.objects in let longer = same.longer in omega (arith, most, longer)));
         input = input;
+        below = λ n o is live.
+            let was : WasThere c.memory n o = same.those.were n o is in
+            subst (λ s. (addresses n + bytes_of o ≤ 5242880) ⊎ (s ≤ addresses n)) (sym sp)
+            (subst (λ k. (addresses n + k ≤ 5242880) ⊎ (h.registers 2 ≤ addresses n)) (sym was.bytes) (all.below n was.object was.is (was.live live)));
       }
 
   -- What scratch registers hold is no part of what waits: registers but t0 to t2, s0 and a0 to a7, and memory are as they were.
@@ -118,3 +124,24 @@ module _ (codes : ℕ → FunctionCode) (u : UnitForm) (valid : (k : ℕ) → Is
       (record { function = refl; first = refl; waiting = refl; those = those_same c.memory; longer = omega arith })
       (frame_reheld (setting_of u addresses held (codes c.here.function)) c h t later kept memory has scratch all.here)
       (input ∙ all.input)
+
+  -- Which input is left is no part of what waits.
+  pub input_changed : (held : List Held) (c : Configuration) (h : Holding) (input : List ℕ) → HoldsAll codes u addresses resumes held c h → HoldsAll codes u addresses resumes held (record c { input = input }) (record h { input = input })
+  input_changed held c h input all =
+      all_kept held held c (record c { input = input }) h (record h { input = input }) None all (record { registers = λ q none is. refl; memory = λ b out. refl }) tt tt
+      (record { function = refl; first = refl; waiting = refl; those = those_same c.memory; longer = omega arith })
+      (record {
+        fetch = record { fits = all.here.fetch.fits; none = all.here.fetch.none; gp = all.here.fetch.gp; all = held_but_a0 held h (record h { input = input }) (λ q ne. refl) all.here.scratch all.here.fetch.all; left = all.here.fetch.left };
+        scratch = all.here.scratch;
+        aligned = all.here.aligned;
+        low = all.here.low;
+        high = all.here.high;
+        homes = λ home among. subst (λ x. Means addresses c.memory (c.here.names (home_number home)) x) (sym (home_as_it_was (setting_of u addresses held (codes c.here.function)) h (record h { input = input }) home refl (λ r is. refl) refl among)) (all.here.homes home among);
+        objects = all.here.objects;
+        laid = all.here.laid;
+        free = all.here.free;
+        own = all.here.own;
+        static = all.here.static;
+        arrays = all.here.arrays;
+      })
+      refl

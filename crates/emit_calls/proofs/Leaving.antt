@@ -1,18 +1,15 @@
 -- The code with which a function ends restores what its frame keeps, leaves the frame and returns.
-use Rattle.std.proofs.Common.{◌≡◌, ◌≢◌, ℕ, ◌+◌, ◌*◌, ◌%◌, ◌<◌, ◌≤◌, ◌⊎◌, inl, inr, sym, ap, ◌∙◌, subst, arith, refl, Bool, true, false, cond, not, ◌&&◌, ◌||◌, List, [], ◌∷◌, ◌++◌, append_assoc, length, length-append}
-use Rattle.std.specs.Prelude.{◌==◌}
+use Rattle.std.proofs.Common.{◌≡◌, ◌≢◌, ℕ, ◌+◌, ◌*◌, ◌%◌, ◌<◌, ◌≤◌, ◌⊎◌, inl, inr, sym, ap, ◌∙◌, subst, arith, refl, Bool, true, false, cond, List, [], ◌∷◌, ◌++◌, append_assoc, length, length-append}
 use Rattle.std.specs.List.{AllByRecursion}
-use Rattle.std.proofs.lemmas.Bool.{eqb-true}
-use Rattle.word_base.specs.Arithmetic.{subtracted}
 use Rattle.rv_code.specs.declared.instruction.Instruction.{Instruction}
-use Rattle.rv_code.specs.declared.instruction.Instruction.TheVariants.{Lui, Load, Immediate, Register, Jalr}
+use Rattle.rv_code.specs.declared.instruction.Instruction.TheVariants.{Load, Immediate, Register, Jalr}
 use Rattle.rv_code.specs.declared.instruction.LoadOperation.TheVariants.{Lw}
 use Rattle.rv_code.specs.declared.instruction.ImmediateOperation.TheVariants.{Addi}
 use Rattle.rv_code.specs.declared.instruction.RegisterOperation.TheVariants.{Add}
 use Rattle.rv_machine.specs.State.{State, word}
 use Rattle.rv_machine.specs.Table.{operated, operated_immediate}
 use Rattle.homed_unit.specs.Homed.{IsHomeRegister}
-use Rattle.emit_words.specs.Constants.{is_small, low_part, high_part, constant_code}
+use Rattle.emit_words.specs.Constants.{is_small, constant_code}
 use Rattle.machine_steps.specs.Holding.{Holding, word_at, with_register, IsDataAt}
 use Rattle.machine_steps.specs.Doing.{done_by_all, CanDoAll, writing}
 use Rattle.machine_steps.specs.Programs.{Program, address_of, IsAt, CodeAt, behind, Stands}
@@ -22,32 +19,12 @@ use Rattle.machine_steps.proofs.Registers.{register_same, register_other}
 use Rattle.machine_steps.proofs.Jumping.{return_does}
 use Rattle.machine_steps.proofs.Straight.{code_does}
 use Rattle.emit_moves.specs.Doing.{Brings}
-use Rattle.emit_moves.proofs.Constants.{addi_brings, lui_brings, both_bring}
-use Rattle.emit_moves.proofs.Parts.{high_part_alone, parts_make}
+use Rattle.emit_memory.proofs.Limits.{constant_alone}
 use Rattle.emit_calls.specs.Leaving.{moving_code, restoring_code, leaving_front, leaving_code}
 use Rattle.emit_calls.specs.Waiting.{restored}
 use Rattle.emit_calls.proofs.Restoring.{low_no_home, home_some, restored_low, restored_agree}
 
 -- ---- sp moves
-
--- A constant is made from nothing.
-pub made_alone : (h : Holding) (r n : ℕ) → 0 < r → n < 4294967296 → h.registers 0 ≡ 0 → Brings (constant_code r n 0) h r r n
-made_alone h r n some fits none = by_tests (is_small n) (low_part n == 0) (is_small (subtracted n 0)) refl refl refl
-  where
-    same : subtracted n 0 ≡ n
-    same = omega arith
-
-    code_by : (small alone near : Bool) → List Instruction
-    code_by s z m =
-        cond (cond (s || (z || (not s && (not z && m)))) 1 2 == 1)
-        (cond s (Immediate Addi r 0 n) (cond (not s && (not z && m)) (Immediate Addi r 3 (subtracted n 0)) (Lui r (high_part n))) ∷ [])
-        (Lui r (high_part n) ∷ Immediate Addi r r (low_part n) ∷ [])
-
-    by_tests : (s z m : Bool) → is_small n ≡ s → (low_part n == 0) ≡ z → is_small (subtracted n 0) ≡ m → Brings (code_by s z m) h r r n
-    by_tests true z m es ez em = addi_brings h r 0 n n some (ap (λ x. word (x + n)) none ∙ (omega arith))
-    by_tests false true m es ez em = lui_brings h r (high_part n) n some (high_part_alone n fits (eqb-true (low_part n) 0 ez))
-    by_tests false false true es ez em = let clash : false ≡ true = sym es ∙ ap is_small (sym same) ∙ em in cc
-    by_tests false false false es ez em = both_bring h r (high_part n) (low_part n) n some (parts_make n fits)
 
 -- A word is added to sp, and no other register but t0 is written.
 pub moved : (h : Holding) (n : ℕ) → n < 4294967296 → h.registers 0 ≡ 0 → Brings (moving_code n) h 2 2 (word (h.registers 2 + n))
@@ -64,7 +41,7 @@ moved h n fits none = by_test (is_small n)
     }
     by_test false =
         let front = constant_code 5 n 0 in
-        let a : Brings front h 5 5 n = made_alone h 5 n (omega arith) fits none in
+        let a : Brings front h 5 5 n = constant_alone h 5 n (omega arith) fits none in
         let t : Holding = done_by_all front h in
         let v : ℕ = word (t.registers 2 + t.registers 5) in
         let both : done_by_all (front ++ Register Add 2 2 5 ∷ []) h ≡ writing 2 v t = done_by_both front (Register Add 2 2 5 ∷ []) h in

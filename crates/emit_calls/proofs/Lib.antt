@@ -2,8 +2,10 @@ pub mod Bringing
 pub mod Comparing
 pub mod Ended
 pub mod Ends
+pub mod Entering
 pub mod Keeping
 pub mod Leaving
+pub mod Library
 pub mod Loading
 pub mod Markers
 pub mod Outer

@@ -50,6 +50,10 @@ kept_home r (inr (low, high)) = record { left = home_left r (inr (low, high)); s
 pub kept_no_a0 : (q : ℕ) → IsKept q → q ≢ 10
 kept_no_a0 q kept = λ e. ⊎_elim (λ (l : q < 10). omega (arith, l, e)) (λ (u : 17 < q). omega (arith, u, e)) kept.arguments
 
+-- None of them is a7.
+pub kept_no_a7 : (q : ℕ) → IsKept q → q ≢ 17
+kept_no_a7 q kept = λ e. ⊎_elim (λ (l : q < 10). omega (arith, l, e)) (λ (u : 17 < q). omega (arith, u, e)) kept.arguments
+
 -- None of them is a scratch register.
 pub kept_no_scratch : (q r : ℕ) → IsKept q → IsScratch r → q ≢ r
 kept_no_scratch q r kept (inl is) = λ e. kept.s0 (e ∙ is)
@@ -78,7 +82,7 @@ array_found w c h t held n all memory has = record {
   apart = has.apart;
 }
 
-home_as_it_was : (w : Setting) (h t : Holding) (home : Home) → t.registers 2 ≡ h.registers 2 → ((r : ℕ) → IsHomeRegister r → t.registers r ≡ h.registers r) → t.memory ≡ h.memory → IsHomeAmong w.slots home → value_of_home w.storage t home ≡ value_of_home w.storage h home
+pub home_as_it_was : (w : Setting) (h t : Holding) (home : Home) → t.registers 2 ≡ h.registers 2 → ((r : ℕ) → IsHomeRegister r → t.registers r ≡ h.registers r) → t.memory ≡ h.memory → IsHomeAmong w.slots home → value_of_home w.storage t home ≡ value_of_home w.storage h home
 home_as_it_was w h t (Register r) sp homes memory among = homes r among
 home_as_it_was w h t (Slot k) sp homes memory among = ap (λ s. word_at t.memory (s + slot_at w.storage k)) sp ∙ ap (λ (m : ℕ → ℕ). word_at m (h.registers 2 + slot_at w.storage k)) memory
 
@@ -129,6 +133,15 @@ held_one_more (y ∷ held) x h all is = (all.0, held_one_more held x h all.1 is)
 scratch_one_more : (held : List Held) (x : Held) → AreScratch held → IsScratch x.register → AreScratch (held ++ x ∷ [])
 scratch_one_more [] x scratch is = (is, tt)
 scratch_one_more (y ∷ held) x scratch is = (scratch.0, scratch_one_more held x scratch.1 is)
+
+scratch_no_a0 : (r : ℕ) → IsScratch r → r ≢ 10
+scratch_no_a0 r (inl is) = λ e. omega (arith, is, e)
+scratch_no_a0 r (inr (low, high)) = λ e. omega (arith, low, e)
+
+-- Where no other register than a0 is written.
+pub held_but_a0 : (held : List Held) (h t : Holding) → ((q : ℕ) → q ≢ 10 → t.registers q ≡ h.registers q) → AreScratch held → HoldsAll held h → HoldsAll held t
+held_but_a0 [] h t kept scratch all = tt
+held_but_a0 (x ∷ more) h t kept scratch all = (kept x.register (scratch_no_a0 x.register scratch.0) ∙ all.0, held_but_a0 more h t kept scratch.1 all.1)
 
 -- Behind words these constants are held. Registers but t0 and scratch registers, memory and input are as they were.
 pub record Loads (code : List Instruction) (h : Holding) (later : List Held) : Type 0 where

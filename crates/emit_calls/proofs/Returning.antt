@@ -13,7 +13,7 @@ use Rattle.rv_machine.specs.Table.{operated_immediate}
 use Rattle.graph_core.specs.declared.value.Value.{Value}
 use Rattle.graph_core.specs.declared.value.Value.TheVariants.{Number, Pointer, Odd}
 use Rattle.graph_core.specs.Graphs.{UnitForm}
-use Rattle.graph_core.specs.Memory.{Memory, ended_from}
+use Rattle.graph_core.specs.Memory.{Memory, bytes_of, ended_from}
 use Rattle.graph_core.specs.Runs.{Activation, Configuration, Event, Exited, Stepped, Goes, Shows, Ends as EndsUnit, Wild, take_value, take_wanted, exited, returned, leave}
 use Rattle.graph_homes.specs.declared.home.Home.{Home}
 use Rattle.graph_homes.specs.declared.home.Home.TheVariants.{Register, Slot}
@@ -42,7 +42,7 @@ use Rattle.emit_calls.specs.Returns.{IsShownAs, exited as exited_so, Resumes, En
 use Rattle.emit_calls.specs.Settings.{IsKept}
 use Rattle.emit_calls.specs.Waiting.{FunctionCode, IsFunctionCode, setting_of, restored, behind_frame, Waits, HoldsWaiting, HoldsAll}
 use Rattle.emit_calls.proofs.Bringing.{home_made}
-use Rattle.emit_calls.proofs.Ended.{those_ended, objects_ended, length_ended, frame_those}
+use Rattle.emit_calls.proofs.Ended.{IsEndedOr, ended_or, those_ended, objects_ended, length_ended, frame_those}
 use Rattle.emit_calls.proofs.Ends.{going_goes, going_short}
 use Rattle.emit_calls.proofs.Keeping.{grown_those, performed_leaves, all_kept}
 use Rattle.emit_calls.proofs.Leaving.{IsLeftBy, Leaves, CanLeave, leaving_leaves, leaving_returns}
@@ -139,8 +139,8 @@ module _ (p : Program) (codes : ℕ → FunctionCode) (u : UnitForm) (valid : (k
     abbrev later : Memory
     later = ended_from c.here.first_object c.memory
 
-    both : HoldsWaiting codes u addresses (Resumes p codes goes_on) c.memory c.input (codes c.here.function) h (a ∷ waiting)
-    both = subst (λ l. HoldsWaiting codes u addresses (Resumes p codes goes_on) c.memory c.input (codes c.here.function) h l) waits all.waiting
+    both : HoldsWaiting codes u addresses (Resumes p codes goes_on) c.memory c.input (codes c.here.function) c.here.first_object h (a ∷ waiting)
+    both = subst (λ l. HoldsWaiting codes u addresses (Resumes p codes goes_on) c.memory c.input (codes c.here.function) c.here.first_object h l) waits all.waiting
 
     found_none : t.registers 0 ≡ (behind_frame f h).registers 0
     found_none = left.others 0 (λ e. cc) (λ e. cc) (λ e. cc) (λ e. cc)
@@ -182,22 +182,26 @@ module _ (p : Program) (codes : ℕ → FunctionCode) (u : UnitForm) (valid : (k
         let grown = grown_those addresses c.memory later (those_ended c.here.first_object c.memory) (let same = length_ended c.here.first_object c.memory in omega (arith, same)) in
         record {
           here = ended_frame;
-          waiting = waiting_kept codes u valid addresses addresses (Resumes p codes goes_on) c.memory later 0 grown ended_frame.laid waiting (codes a.function) (behind_frame f h) t c.input c.input (valid a.function) leaves (omega arith) ended_objects both.1;
+          waiting = waiting_kept codes u valid addresses addresses (Resumes p codes goes_on) c.memory later 0 grown ended_frame.laid waiting (codes a.function) a.first_object (behind_frame f h) t c.input c.input (valid a.function) leaves (omega arith) (let many = both.0.objects in omega (arith, many)) ended_objects both.1;
           depth = let tp = left.depth in let deep = all.depth in let many = ap (λ (l : List Activation). length l) waits in omega (arith, tp, deep, many);
           room = let sp = left.sp in let room = both.0.room in omega (arith, sp, room);
           objects = let same = length_ended c.here.first_object c.memory in let most = both.0.objects in omega (arith, same, most);
           input = left.input ∙ all.input;
+          below = λ n o is live.
+              let was : IsEndedOr c.here.first_object c.memory n o = ended_or c.here.first_object c.memory n o is in
+              subst (λ s. (addresses n + bytes_of o ≤ 5242880) ⊎ (s ≤ addresses n)) (sym left.sp)
+              (both.0.below n o (was.low live) (was.is ∙ ap (λ q. Some q) (was.live live)) live);
         }
 
   -- ---- The result is written
 
   module _ (held : List Held) (c : Configuration) (h : Holding) (a : Activation) (v : Value) (all : HoldsAll codes u addresses (Resumes p codes goes_on) held c h) (here : c.here ≡ a) where
     -- The words that write the result do, and go on to what stands behind them.
-    pub answered_comes : (s : State) (i : ℕ) (target : Option Home) → a.wants ≡ option_map home_number target → IsTargetAmong (codes a.function).slots target → IsSaved (codes a.function).saved target → Stands p s i h
+    pub answered_comes : (s : State) (i : ℕ) (wanted : Option ℕ) (target : Option Home) → wanted ≡ option_map home_number target → IsTargetAmong (codes a.function).slots target → IsSaved (codes a.function).saved target → Stands p s i h
         → CodeAt p i false (answer_code (codes a.function).storage target) → Means addresses c.memory v (h.registers 10)
-        → AllCome p s i false (length (answer_code (codes a.function).storage target)) (i + length (answer_code (codes a.function).storage target)) false codes u addresses (Resumes p codes goes_on) held (record c { here = take_wanted a.wants v a })
-    answered_comes s i None wants among saved stands code means =
-        let same : take_wanted a.wants v a ≡ c.here = ap (λ o. take_wanted o v a) wants ∙ sym here in
+        → AllCome p s i false (length (answer_code (codes a.function).storage target)) (i + length (answer_code (codes a.function).storage target)) false codes u addresses (Resumes p codes goes_on) held (record c { here = take_wanted wanted v a })
+    answered_comes s i wanted None wants among saved stands code means =
+        let same : take_wanted wanted v a ≡ c.here = ap (λ o. take_wanted o v a) wants ∙ sym here in
         let e : i ≡ i + 0 = omega arith in
         subst (λ (q : Activation). AllCome p s i false 0 (i + 0) false codes u addresses (Resumes p codes goes_on) held (record c { here = q })) (sym same)
         (record {
@@ -207,9 +211,9 @@ module _ (p : Program) (codes : ℕ → FunctionCode) (u : UnitForm) (valid : (k
           reaches = code_does p s i h false [] stands tt tt;
           all = all;
         })
-    answered_comes s i (Some home) wants among saved stands code means =
+    answered_comes s i wanted (Some home) wants among saved stands code means =
         let f : FunctionCode = codes c.here.function in
-        let same : take_wanted a.wants v a ≡ take_value (home_number home) v c.here = ap (λ o. take_wanted o v a) wants ∙ ap (take_value (home_number home) v) (sym here) in
+        let same : take_wanted wanted v a ≡ take_value (home_number home) v c.here = ap (λ o. take_wanted o v a) wants ∙ ap (take_value (home_number home) v) (sym here) in
         subst (λ (q : Activation). AllCome p s i false (length (home_written (codes a.function).storage home 10)) (i + length (home_written (codes a.function).storage home 10)) false codes u addresses (Resumes p codes goes_on) held (record c { here = q })) (sym same)
         (subst (λ (q : Activation). AllCome p s i false (length (home_written (codes q.function).storage home 10)) (i + length (home_written (codes q.function).storage home 10)) false codes u addresses (Resumes p codes goes_on) held (record c { here = take_value (home_number home) v c.here })) here
         (by_home (subst (λ (q : Activation). IsTargetAmong (codes q.function).slots (Some home)) (sym here) among) (subst (λ (q : Activation). IsSaved (codes q.function).saved (Some home)) (sym here) saved)
@@ -261,7 +265,7 @@ module _ (p : Program) (codes : ℕ → FunctionCode) (u : UnitForm) (valid : (k
         let held = caller_all c h g a waiting all waits leaves_front.left in
         let resumed = wait.resumes in
         let value_means : Means addresses later v (g.registers 10) = subst (λ x. Means addresses later v x) (sym result_kept) (means_later addresses c.memory later (those_ended c.here.first_object c.memory) v (h.registers 10) means) in
-        let rest = answered_comes [] c1 g a v held refl gone.reaches.state wait.index resumed.target resumed.wants resumed.among resumed.saved gone.reaches.stands resumed.code value_means in
+        let rest = answered_comes [] c1 g a v held refl gone.reaches.state wait.index a.wants resumed.target resumed.wants resumed.among resumed.saved gone.reaches.stands resumed.code value_means in
         let short = answer_short (codes a.function).storage resumed.target in
         record {
           caller = a;
@@ -283,7 +287,7 @@ module _ (p : Program) (codes : ℕ → FunctionCode) (u : UnitForm) (valid : (k
     from_main : (n : ℕ) → v ≡ Number n → c.waiting ≡ [] → EndsRun p s b (4 + length (leaving_code (codes c.here.function).saved (codes c.here.function).size)) (Exited n)
     unfolding operated_immediate
     from_main n is none =
-        let top = subst (λ l. HoldsWaiting codes u addresses (Resumes p codes goes_on) c.memory c.input (codes c.here.function) h l) none all.waiting in
+        let top = subst (λ l. HoldsWaiting codes u addresses (Resumes p codes goes_on) c.memory c.input (codes c.here.function) c.here.first_object h l) none all.waiting in
         let gone : GoesTo p s b (1 + length (leaving_code (codes c.here.function).saved (codes c.here.function).size)) 3 g =
         leave_goes p t s i b h (codes c.here.function).saved (codes c.here.function).size end next room j 3 inside (can_leave c h all) stands there follows ending top.0 (omega arith) in
         let one = code_does p gone.reaches.state 3 g false (Immediate Addi 17 0 10 ∷ []) gone.reaches.stands (main.0, tt) (tt, tt) in
