@@ -82,10 +82,7 @@ below_one x = by_test (nat_lt x 2147483648)
   where
     low : (n : ℕ) → nat_lt n 1 ≡ not (nat_lt 0 n)
     low zero = refl
-    low (suc n) = none n
-      where
-        none : (m : ℕ) → nat_lt (suc m) 1 ≡ false
-        none m = le-ltb (suc m) 1 (omega arith)
+    low (suc n) = le-ltb (suc n) 1 (omega arith) ∙ sym (ap not (lt-ltb 0 (suc n) (omega arith)))
 
     by_test : (b : Bool) → int_lt (sel b (pos x) (negsuc (4294967296 - suc x))) (signed 1) ≡ not (int_lt (signed 0) (sel b (pos x) (negsuc (4294967296 - suc x))))
     by_test true = low x
@@ -104,7 +101,7 @@ above_minus_one x = by_test (nat_lt x 2147483648)
 
 unsigned_below_one : (x : ℕ) → nat_lt x 1 ≡ (x == 0)
 unsigned_below_one zero = refl
-unsigned_below_one (suc n) = le-ltb (suc n) 1 (omega arith)
+unsigned_below_one (suc n) = le-ltb (suc n) 1 (omega arith) ∙ sym (ne_eqb (suc n) 0 (λ e. omega (arith, e)))
 
 -- The word that is read.
 is_the_word : (g : StorageForm) (h : Holding) (n : ℕ) (source : Source) → is_word n source ≡ true → value_of g h source ≡ n

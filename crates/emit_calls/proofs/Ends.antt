@@ -85,15 +85,15 @@ going_by_goes p t s i h b op l r if_true if_false next j test inside stands ther
     by_tests : (same : Bool) → (if_true == next) ≡ same
         → PiecesAt p t i b (cond same (piece.Branch (opposite op) l r (record { 0 = if_false }) ∷ []) (piece.Branch op l r (record { 0 = if_true }) ∷ going false if_false next)) j
         → (c : Bool) → taken op (h.registers l) (h.registers r) ≡ c → GoesTo p s b 2 (t.label (cond c if_true if_false)) h
-    by_tests true e (k, at, end) true yes =
-        let off : taken (opposite op) (h.registers l) (h.registers r) ≡ false = opposite_taken op (h.registers l) (h.registers r) ∙ ap not yes in
+    by_tests true e (k, at, end) true taken_so =
+        let off : taken (opposite op) (h.registers l) (h.registers r) ≡ false = opposite_taken op (h.registers l) (h.registers r) ∙ ap not taken_so in
         let there : k ≡ t.label if_true = sym end ∙ follows ∙ ap t.label (sym (eqb-true if_true next e)) in
         record { count = 1; few = omega arith; reaches = subst (λ n. Reaches p 1 (record { state = s; shown = b }) [] n false h) there (not_taken_goes p t s i h b (opposite op) l r if_false k stands at off) }
-    by_tests true e (k, at, end) false no =
-        taken_goes p t s i h b (opposite op) l r if_false k stands at (inside.labels if_false) (opposite_taken op (h.registers l) (h.registers r) ∙ ap not no)
-    by_tests false e (k, at, rest) true yes = taken_goes p t s i h b op l r if_true k stands at (inside.labels if_true) yes
-    by_tests false e (k, at, rest) false no =
-        let first = not_taken_goes p t s i h b op l r if_true k stands at no in
+    by_tests true e (k, at, end) false not_so =
+        taken_goes p t s i h b (opposite op) l r if_false k stands at (inside.labels if_false) (opposite_taken op (h.registers l) (h.registers r) ∙ ap not not_so)
+    by_tests false e (k, at, rest) true taken_so = taken_goes p t s i h b op l r if_true k stands at (inside.labels if_true) taken_so
+    by_tests false e (k, at, rest) false not_so =
+        let first = not_taken_goes p t s i h b op l r if_true k stands at not_so in
         let second : GoesTo p first.state false (length (going false if_false next)) (t.label if_false) h = going_goes p t first.state k h false if_false next j inside first.stands rest follows in
         record {
           count = 1 + second.count;
@@ -204,7 +204,7 @@ storage_reheld w held storage = record { homes = storage.homes; aligned = storag
 
 length_words : (code : List MachineInstruction) → length (words code) ≡ length code
 length_words [] = refl
-length_words (x ∷ code) = ap (λ n. 1 + n) (length_words code)
+length_words (x ∷ code) = let same = length_words code in omega (arith, same)
 
 module _ (p : Program) (t : Targets) (s : State) (i : ℕ) (b : Bool) (w : Setting) (c : Configuration) (h : Holding) (inside : AreInCode t) (storage : IsStorage w) (frame : HoldsFrame w c h) (stands : Stands p s i h) (loads : List Held) (fit : AreLoads loads)
     (next j : ℕ) (follows : j ≡ t.label next) where

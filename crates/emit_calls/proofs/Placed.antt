@@ -13,13 +13,17 @@ use Rattle.machine_steps.specs.Doing.{writing}
 use Rattle.machine_steps.specs.Programs.{Program, address_of, distance, IsAt, CodeAt, behind, Stands}
 use Rattle.machine_steps.specs.Points.{Leads, Reaches}
 use Rattle.machine_steps.proofs.Leading.{leads_nowhere}
-use Rattle.machine_steps.proofs.Placing.{behind_none, reaches_then}
+use Rattle.machine_steps.proofs.Placing.{reaches_then}
 use Rattle.machine_steps.proofs.Standing.{index_low}
 use Rattle.machine_steps.proofs.Jumping.{distance_leads, jump_does, branch_taken, branch_not_taken}
 use Rattle.emit_calls.specs.Ends.{words}
 use Rattle.emit_calls.specs.Pieces.{Targets, opposite, IsNear, IsFar, PieceAt, PiecesAt}
 
 -- ---- Words among pieces
+
+pub behind_none : (code : List Instruction) → behind false code ≡ false
+behind_none [] = refl
+behind_none (x ∷ code) = refl
 
 -- Words that stand as pieces, and others behind them.
 pub record WordsFirst (p : Program) (t : Targets) (i : ℕ) (b : Bool) (code : List Instruction) (rest : List Piece) (j : ℕ) : Type 0 where

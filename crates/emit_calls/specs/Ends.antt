@@ -138,8 +138,7 @@ room_of x = 6 - most_words_of_source x.left - most_words_of_source x.right
 abbrev pub comparing_code : StorageForm → List Held → (loads : List Held) → Compared → List Instruction
 comparing_code g held loads x =
     loading_code g.base (room_of x) loads held
-    ++ fetched_source g (loading_held g.base (room_of x) loads held) x.left 6
-    ++ fetched_source g (loading_held g.base (room_of x) loads held) x.right 7
+    ++ (fetched_source g (loading_held g.base (room_of x) loads held) x.left 6 ++ fetched_source g (loading_held g.base (room_of x) loads held) x.right 7)
 
 -- Constants are loaded, and control goes to one label where a comparison holds, and else to another.
 abbrev pub branching : StorageForm → List Held → (loads : List Held) → Compared → (if_true if_false next : ℕ) → List Piece
