@@ -1,5 +1,12 @@
 pub mod Comparing
-pub mod Placed
-pub mod Loading
+pub mod Ended
 pub mod Ends
+pub mod Keeping
+pub mod Leaving
+pub mod Loading
 pub mod Markers
+pub mod Outer
+pub mod Placed
+pub mod Restoring
+pub mod Same
+pub mod Stepping
