@@ -69,7 +69,7 @@ going_goes p t s i h b to next j inside stands there follows = by_test (to == ne
     }
     by_test false e c (k, (at, next_is), end) = record { count = 1; few = omega arith; reaches = jump_goes p s i h c (t.label to) stands at (inside.labels to) }
 
-going_short : (b : Bool) (to next : ℕ) → length (going b to next) ≤ 1
+pub going_short : (b : Bool) (to next : ℕ) → length (going b to next) ≤ 1
 going_short b to next = by_test (to == next) b
   where
     by_test : (same c : Bool) → length (cond same (cond c (piece.Word (instruction.Immediate Addi 0 0 0) ∷ []) []) (piece.Jump (record { 0 = to }) ∷ [])) ≤ 1

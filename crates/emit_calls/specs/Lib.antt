@@ -1,7 +1,10 @@
+pub mod Beginning
 pub mod Ends
 pub mod Keeping
 pub mod Leaving
 pub mod Markers
+pub mod Passing
 pub mod Pieces
+pub mod Returns
 pub mod Settings
 pub mod Waiting
