@@ -32,13 +32,13 @@ pub performed_leaves : (w : Setting) (c d : Configuration) (h : Holding) (target
 performed_leaves w c d h target code done = record { registers = λ q none kept. done.kept q none kept.left; memory = done.outside }
 
 -- x0, sp, gp and tp are no target.
-low_no_target : (slots : ℕ) (target : Option Home) (q : ℕ) → q ≤ 4 → IsTargetAmong slots target → IsNoTarget target q
+pub low_no_target : (slots : ℕ) (target : Option Home) (q : ℕ) → q ≤ 4 → IsTargetAmong slots target → IsNoTarget target q
 low_no_target slots None q low among = tt
 low_no_target slots (Some (Register r)) q low among = low_no_home q r low among
 low_no_target slots (Some (Slot k)) q low among = tt
 
 -- A home register is as it was, or is one that the frame keeps.
-home_or_saved : (saved : List ℕ) (target : Option Home) (h t : Holding) (r : ℕ) → IsSaved saved target → IsHomeRegister r → ((q : ℕ) → IsNoTarget target q → IsKept q → t.registers q ≡ h.registers q) → (t.registers r ≡ h.registers r) ⊎ Among r saved
+pub home_or_saved : (saved : List ℕ) (target : Option Home) (h t : Holding) (r : ℕ) → IsSaved saved target → IsHomeRegister r → ((q : ℕ) → IsNoTarget target q → IsKept q → t.registers q ≡ h.registers q) → (t.registers r ≡ h.registers r) ⊎ Among r saved
 home_or_saved saved None h t r is home kept = inl (kept r tt (kept_home r home))
 home_or_saved saved (Some (Slot k)) h t r is home kept = inl (kept r tt (kept_home r home))
 home_or_saved saved (Some (Register q)) h t r is home kept = ⊎_elim

@@ -1,9 +1,12 @@
 pub mod Binding
+pub mod Bindings
 pub mod Bringing
 pub mod Comparing
 pub mod Ended
 pub mod Ends
 pub mod Entering
+pub mod Filling
+pub mod Growing
 pub mod Keeping
 pub mod Leaving
 pub mod Library

@@ -78,7 +78,9 @@ module _ (p : Program) (codes : ℕ → FunctionCode) (u : UnitForm) (valid : (k
         → DoesReturn p s i b (result_words (codes c.here.function).storage held (option_map (source_of (codes c.here.function).storage) v) + (4 + length (leaving_code (codes c.here.function).saved (codes c.here.function).size))) codes u addresses goes_on c
         (execute_end u (placed_end (home_at (codes c.here.function).storage) (Return v)) c)
     returns_with None legal fits there =
-        return_done p codes u valid addresses goes_on t inside s i b c h (all_reheld codes u valid addresses (Resumes p codes goes_on) held [] c h h all (λ q kept. refl) refl refl tt tt) stands end next j 9 there follows ending main Odd tt
+        let more : 4 + length (leaving_code (codes c.here.function).saved (codes c.here.function).size) ≡ 0 + (4 + length (leaving_code (codes c.here.function).saved (codes c.here.function).size)) = omega arith in
+        subst (λ n. DoesReturn p s i b n codes u addresses goes_on c (leave c Odd)) more
+        (return_done p codes u valid addresses goes_on t inside s i b c h (all_reheld codes u valid addresses (Resumes p codes goes_on) held [] c h h all (λ q kept. refl) refl refl tt tt) stands end next j 9 there follows ending main Odd tt)
     returns_with (Some a) legal fits there =
         let f : FunctionCode = codes c.here.function in
         let w : Setting = setting_of u addresses held f in

@@ -53,7 +53,7 @@ straight_no_call home (CopyWords object bytes words) straight = tt
 straight_no_call home (Call target f all) straight = absurd straight
 
 -- What is left of the block is no part of what is kept.
-same_going_on : (c d : Configuration) (rest : List Instruction) → SameActivation (going_on c rest) d → SameActivation c d
+pub same_going_on : (c d : Configuration) (rest : List Instruction) → SameActivation (going_on c rest) d → SameActivation c d
 same_going_on c d rest same = record { function = same.function; first = same.first; waiting = same.waiting; those = same.those; longer = same.longer }
 
 -- The machine comes behind words, in at most so many instructions, unseen, and holds a configuration.
