@@ -72,7 +72,7 @@ argument_no_target slots (Some (Register r)) q low high (inl is) = λ e. omega (
 argument_no_target slots (Some (Register r)) q low high (inr (least, most)) = λ e. omega (arith, high, least, e)
 argument_no_target slots (Some (Slot k)) q low high among = tt
 
-argument_is : (n : ℕ) → n < 8 → argument_register n ≡ 10 + n
+pub argument_is : (n : ℕ) → n < 8 → argument_register n ≡ 10 + n
 argument_is n lt = ap (λ b. cond b (10 + n) 17) (lt-ltb n 8 lt)
 
 bound_among : (w : Setting) (b : Binding) → IsStorage w → IsBindable w.graph b → IsTargetAmong w.slots (bound_home w.storage b)

@@ -87,11 +87,11 @@ pub record CanEnter (saved : List ℕ) (size : ℕ) (h : Holding) : Type 0 where
   pub registers : AllByRecursion IsHomeRegister saved
 
 -- What was saved of registers is what it was, where those registers are the same.
-saved_same : (saved : List ℕ) (a : ℕ) (m before after : ℕ → ℕ) → AllByRecursion IsHomeRegister saved → ((r : ℕ) → IsHomeRegister r → after r ≡ before r) → AreSaved saved a m after → AreSaved saved a m before
+pub saved_same : (saved : List ℕ) (a : ℕ) (m before after : ℕ → ℕ) → AllByRecursion IsHomeRegister saved → ((r : ℕ) → IsHomeRegister r → after r ≡ before r) → AreSaved saved a m after → AreSaved saved a m before
 saved_same [] a m before after all same have = tt
 saved_same (r ∷ more) a m before after all same have = (have.0 ∙ same r all.0, saved_same more (a + 4) m before after all.1 same have.1)
 
-home_no_scratch : (r : ℕ) → IsHomeRegister r → (r ≢ 2) × (r ≢ 5)
+pub home_no_scratch : (r : ℕ) → IsHomeRegister r → (r ≢ 2) × (r ≢ 5)
 home_no_scratch r (inl is) = (λ e. omega (arith, is, e), λ e. omega (arith, is, e))
 home_no_scratch r (inr (low, high)) = (λ e. omega (arith, low, e), λ e. omega (arith, low, e))
 

@@ -1,3 +1,4 @@
+pub mod Beginning
 pub mod Binding
 pub mod Bindings
 pub mod Bringing

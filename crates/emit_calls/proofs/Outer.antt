@@ -47,7 +47,7 @@ pub record LeavesAbove (f : FunctionCode) (addresses : ℕ → ℕ) (memory : Me
   pub above : (b : ℕ) → h.registers 2 + f.size ≤ b → IsNoObject addresses memory b → t.memory b ≡ h.memory b
   pub statics : (b : ℕ) → b < 5242880 → IsNoObject addresses memory b → t.memory b ≡ h.memory b
 
-means_grown : (addresses after : ℕ → ℕ) (memory later : Memory) (limit : ℕ) → Grown addresses after memory later limit → (v : Value) (x : ℕ) → Means addresses memory v x → Means after later v x
+pub means_grown : (addresses after : ℕ → ℕ) (memory later : Memory) (limit : ℕ) → Grown addresses after memory later limit → (v : Value) (x : ℕ) → Means addresses memory v x → Means after later v x
 means_grown addresses after memory later limit grown (Number n) x means = means
 means_grown addresses after memory later limit grown (Pointer object size offset) x (at, le, is) =
     let both = grown.kept object size at in
