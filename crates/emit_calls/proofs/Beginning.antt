@@ -89,7 +89,7 @@ given_grown addresses after memory later limit h t n (v ∷ more) few grown kept
       given_grown addresses after memory later limit h t (n + 1) more (omega (arith, few)) grown kept given.2,
     )
 
-length_mapped : {A B : Type 0} (f : A → B) (xs : List A) → length (map f xs) ≡ length xs
+pub length_mapped : {A B : Type 0} (f : A → B) (xs : List A) → length (map f xs) ≡ length xs
 length_mapped f [] = refl
 length_mapped f (x ∷ xs) = let same = length_mapped f xs in omega (arith, same)
 
@@ -130,13 +130,13 @@ module _ (codes : ℕ → FunctionCode) (u : UnitForm) (valid : (k : ℕ) → Is
   enters : Enters (codes function).saved (codes function).size g
   enters = entering_enters (codes function).saved (codes function).size g can_enter
 
-  abbrev t : Holding
+  abbrev pub t : Holding
   t = done_by_all (entering_code (codes function).saved (codes function).size) g
 
-  abbrev now : ℕ → ℕ
+  abbrev pub now : ℕ → ℕ
   now = addresses_with addresses (length c.memory) (t.registers 2) (codes function)
 
-  abbrev memory : Memory
+  abbrev pub memory : Memory
   memory = c.memory ++ map (new_object (length (c.here ∷ c.waiting) + 1)) (codes function).graph.objects
 
   sp_is : t.registers 2 + (codes function).size ≡ h.registers 2
@@ -174,7 +174,7 @@ module _ (codes : ℕ → FunctionCode) (u : UnitForm) (valid : (k : ℕ) → Is
   found q n2 n4 n5 = enters.by.kept q n2 n5 ∙ same q n4
 
   -- The activation as it begins, before its parameters are bound.
-  abbrev bare : Graph → Block → (wanted : Option ℕ) → Configuration
+  abbrev pub bare : Graph → Block → (wanted : Option ℕ) → Configuration
   bare graph b wanted = record {
     memory = memory;
     input = c.input;
@@ -248,7 +248,7 @@ module _ (codes : ℕ → FunctionCode) (u : UnitForm) (valid : (k : ℕ) → Is
 
   module _ (graph : Graph) (block : Block) (wanted : Option ℕ) (vs : List Value) (is_main : Bool) (given : AreGiven addresses c.memory h 0 vs) (many : length vs ≡ length (codes function).graph.parameters) (few : length (codes function).graph.parameters ≤ 8)
       (bindable : AreBindable (codes function).storage (codes function).graph (codes function).saved (codes function).graph.parameters) (resume : resumes (record c.here { wants = wanted }) index) where
-    abbrev w : Setting
+    abbrev pub w : Setting
     w = setting_of u now [] (codes function)
 
     abbrev base : List MachineInstruction
@@ -263,7 +263,7 @@ module _ (codes : ℕ → FunctionCode) (u : UnitForm) (valid : (k : ℕ) → Is
     sets : Brings (base_code is_main (codes function).storage.base) t 3 3 (codes function).storage.base
     sets = base_set is_main (codes function).storage.base t (let fits_it = framed.fetch.fits in omega (arith, fits_it)) framed.fetch.none framed.fetch.gp
 
-    abbrev t4 : Holding
+    abbrev pub t4 : Holding
     t4 = done_by_all (base_code is_main (codes function).storage.base) t
 
     frame4 : HoldsFrame w (bare graph block wanted) t4
@@ -277,14 +277,14 @@ module _ (codes : ℕ → FunctionCode) (u : UnitForm) (valid : (k : ℕ) → Is
     binds = all_bind w (codes function).saved (codes function).graph.parameters 0 vs (bare graph block wanted) t4 (fits.storage now []) frame4
         (own_new u (codes function) fits addresses c.memory (length (c.here ∷ c.waiting) + 1) (t.registers 2) h.memory t.memory sp_aligned sp_low sp_high all.here.laid lies_above) (omega (arith, few)) many bindable given4
 
-    abbrev t5 : Holding
+    abbrev pub t5 : Holding
     t5 = done_by_all (bindings_code (codes function).storage (codes function).graph 0 (codes function).graph.parameters) t4
 
     -- The activation with its parameters bound.
-    abbrev bound_memory : Memory
+    abbrev pub bound_memory : Memory
     bound_memory = bind_objects (length c.memory) (map (placed_binding (home_at (codes function).storage)) (codes function).graph.parameters) vs memory
 
-    abbrev begun_here : Configuration
+    abbrev pub begun_here : Configuration
     begun_here = record (bare graph block wanted) {
       memory = bound_memory;
       here = record (bare graph block wanted).here { names = bind_names (map (placed_binding (home_at (codes function).storage)) (codes function).graph.parameters) vs (λ x. Odd) };

@@ -20,7 +20,7 @@ use Rattle.emit_memory.proofs.Objects.{AreThose, WasThere}
 use Rattle.emit_calls.specs.Keeping.{IsTargetAmong, IsSaved, LeavesRest}
 use Rattle.emit_calls.specs.Settings.{IsKept}
 use Rattle.emit_calls.specs.Waiting.{FunctionCode, IsFunctionCode, setting_of, HoldsWaiting, HoldsAll}
-use Rattle.emit_calls.proofs.Loading.{kept_0, kept_2, kept_3, kept_4, kept_home, held_but_a0, home_as_it_was, frame_reheld}
+use Rattle.emit_calls.proofs.Loading.{kept_0, kept_2, kept_3, kept_4, kept_home, held_but_a0, home_as_it_was, frame_found, frame_reheld}
 use Rattle.emit_calls.proofs.Outer.{IsNoObject, Grown, LeavesAbove, waiting_kept}
 use Rattle.emit_calls.proofs.Restoring.{low_no_home}
 use Rattle.emit_calls.proofs.Same.{SameActivation}
@@ -145,3 +145,32 @@ module _ (codes : ℕ → FunctionCode) (u : UnitForm) (valid : (k : ℕ) → Is
         arrays = all.here.arrays;
       })
       refl
+
+  -- The frame of the activation looks at no other registers than x0, sp, gp and those that may be homes, and how many may still begin is in tp.
+  pub all_found : (held : List Held) (c : Configuration) (h t : Holding) → HoldsAll codes u addresses resumes held c h → ((q : ℕ) → q ≤ 4 → q ≢ 1 → t.registers q ≡ h.registers q) → ((r : ℕ) → IsHomeRegister r → t.registers r ≡ h.registers r) → t.memory ≡ h.memory → t.input ≡ h.input
+      → HoldsAll codes u addresses resumes [] c t
+  all_found held c h t all low homes memory input =
+      let sp : t.registers 2 ≡ h.registers 2 = low 2 (omega arith) (λ e. cc) in
+      let none : t.registers 0 ≡ h.registers 0 = low 0 (omega arith) (λ e. cc) in
+      let gp : t.registers 3 ≡ h.registers 3 = low 3 (omega arith) (λ e. cc) in
+      let tp : t.registers 4 ≡ h.registers 4 = low 4 (omega arith) (λ e. cc) in
+      let frame = frame_found (setting_of u addresses held (codes c.here.function)) c h t [] none sp gp homes memory tt tt all.here in
+      let leaves : LeavesAbove (codes c.here.function) addresses c.memory h t = record {
+        sp = sp;
+        none = none;
+        gp = gp;
+        homes = λ r is. inl (homes r is);
+        kept = λ b least most. ap (λ (m : ℕ → ℕ). m b) memory;
+        above = λ b least out. ap (λ (m : ℕ → ℕ). m b) memory;
+        statics = λ b lt out. ap (λ (m : ℕ → ℕ). m b) memory;
+      } in
+      record {
+        here = frame;
+        waiting = waiting_kept codes u valid addresses addresses resumes c.memory c.memory 0 (grown_those addresses c.memory c.memory (those_same c.memory) (omega arith)) frame.laid c.waiting (codes c.here.function) c.here.first_object h t c.input c.input (valid c.here.function) leaves (omega arith)
+            (let many = all.objects in omega (arith, many)) frame.objects all.waiting;
+        depth = ap (λ x. x + (length c.waiting + 1)) tp ∙ all.depth;
+        room = subst (λ s. 33554432 ≤ s + 16384 * (length c.waiting + 1)) (sym sp) all.room;
+        objects = all.objects;
+        input = input ∙ all.input;
+        below = λ n o is live. subst (λ s. (addresses n + bytes_of o ≤ 5242880) ⊎ (s ≤ addresses n)) (sym sp) (all.below n o is live);
+      }
