@@ -21,4 +21,5 @@ pub mod Restoring
 pub mod ReturnEnds
 pub mod Returning
 pub mod Same
+pub mod Starting
 pub mod Stepping
