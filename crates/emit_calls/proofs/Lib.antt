@@ -20,6 +20,7 @@ pub mod Placed
 pub mod Restoring
 pub mod ReturnEnds
 pub mod Returning
+pub mod Running
 pub mod Same
 pub mod Starting
 pub mod Stepping
