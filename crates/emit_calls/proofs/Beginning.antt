@@ -11,22 +11,21 @@ use Rattle.graph_core.specs.Paths.{Among}
 use Rattle.graph_core.specs.Runs.{Activation, Configuration, bind_names, bind_objects}
 use Rattle.homed_unit.specs.Homed.{IsHomeRegister, placed_binding}
 use Rattle.emit_instructions.specs.Calls.{argument_register}
-use Rattle.emit_storage.specs.Storages.{StorageForm, home_at, object_at, array_bytes_at}
-use Rattle.emit_words.specs.Constants.{constant_code}
+use Rattle.emit_storage.specs.Storages.{home_at, object_at, array_bytes_at}
 use Rattle.machine_steps.specs.Holding.{Holding, word_at}
 use Rattle.machine_steps.specs.Doing.{done_by_all, CanDoAll}
 use Rattle.machine_steps.specs.Programs.{address_of}
 use Rattle.machine_steps.proofs.Placing.{done_by_both, can_do_both}
 use Rattle.emit_moves.specs.Doing.{Brings}
 use Rattle.emit_memory.specs.Meaning.{Means, HoldsObjects}
-use Rattle.emit_memory.specs.Frames.{Setting, IsStorage, HasArray, HoldsFrame}
+use Rattle.emit_memory.specs.Frames.{Setting, HasArray, HoldsFrame}
 use Rattle.emit_memory.proofs.Elements.{word_kept}
 use Rattle.emit_memory.proofs.Limits.{constant_alone}
 use Rattle.emit_memory.proofs.Objects.{AreThose, WasThere}
 use Rattle.emit_calls.specs.Beginning.{base_code, entering_code, bindings_code, beginning_behind}
-use Rattle.emit_calls.specs.Waiting.{FunctionCode, IsFunctionCode, setting_of, behind_frame, Waits, HoldsWaiting, HoldsAll}
+use Rattle.emit_calls.specs.Waiting.{FunctionCode, IsFunctionCode, setting_of, behind_frame, Waits, HoldsAll}
 use Rattle.emit_calls.proofs.Bindings.{AreGiven, argument_is, all_bound, bound_is, AreBindable, Binds, all_bind}
-use Rattle.emit_calls.proofs.Entering.{EntersBy, Enters, CanEnter, saved_same, home_no_scratch, entering_enters}
+use Rattle.emit_calls.proofs.Entering.{Enters, CanEnter, saved_same, home_no_scratch, entering_enters}
 use Rattle.emit_calls.proofs.Growing.{addresses_with, grown_new, laid_new, objects_new, own_new, below_new, free_new}
 use Rattle.emit_calls.proofs.Loading.{frame_found}
 use Rattle.emit_calls.proofs.Outer.{IsNoObject, Grown, LeavesAbove, means_grown, frame_grown, waiting_kept}
@@ -82,8 +81,7 @@ given_grown : (addresses after : ℕ → ℕ) (memory later : Memory) (limit : �
 given_grown addresses after memory later limit h t n [] few grown kept given = tt
 given_grown addresses after memory later limit h t n (v ∷ more) few grown kept given =
     let is : argument_register n ≡ 10 + n = argument_is n (omega (arith, few)) in
-    let same : t.registers (argument_register n) ≡ h.registers (argument_register n) = kept (argument_register n) (omega (arith, is)) (omega (arith, is, few)) in
-    (
+    let same : t.registers (argument_register n) ≡ h.registers (argument_register n) = kept (argument_register n) (omega (arith, is)) (omega (arith, is, few)) in (
       subst (λ x. Means after later v x) (sym same) (means_grown addresses after memory later limit grown v _ given.0),
       subst (λ x. x < 4294967296) (sym same) given.1,
       given_grown addresses after memory later limit h t (n + 1) more (omega (arith, few)) grown kept given.2,
@@ -426,9 +424,11 @@ module _ (codes : ℕ → FunctionCode) (u : UnitForm) (valid : (k : ℕ) → Is
     pub begins : HoldsAll codes u now resumes [] begun_here t5
     begins = record {
       here = frame5;
-      waiting = (caller_waits,
-          waiting_kept codes u valid addresses now resumes c.memory bound_memory (t.registers 2 + (codes function).size) grown5 frame5.laid c.waiting (codes c.here.function) c.here.first_object h (behind_frame (codes function) t5) c.input c.input (valid c.here.function) leaves
-          (let top = sp_is in omega (arith, top)) (let most = all.objects in omega (arith, most)) frame5.objects all.waiting);
+      waiting = (
+        caller_waits,
+        waiting_kept codes u valid addresses now resumes c.memory bound_memory (t.registers 2 + (codes function).size) grown5 frame5.laid c.waiting (codes c.here.function) c.here.first_object h (behind_frame (codes function) t5) c.input c.input (valid c.here.function) leaves
+            (let top = sp_is in omega (arith, top)) (let most = all.objects in omega (arith, most)) frame5.objects all.waiting,
+      );
       depth = let tp = low5 4 (omega arith) (λ e. cc) in let tp2 = enters.by.kept 4 (λ e. cc) (λ e. cc) in let left = one_less in let was = all.depth in omega (arith, tp, tp2, left, was);
       room = let at = sp5 in let top = sp_is in let small = fits.small in let was = all.room in omega (arith, at, top, small, was);
       objects = let size = length-append c.memory (map (new_object (length (c.here ∷ c.waiting) + 1)) (codes function).graph.objects) in let each = length_mapped (new_object (length (c.here ∷ c.waiting) + 1)) (codes function).graph.objects in let whole = same_length in omega (arith, size, each, whole);

@@ -1,11 +1,10 @@
 -- The words that bind a parameter give its scalar or the first element of its object the value that was passed.
-use Rattle.std.proofs.Common.{◌≡◌, ◌≢◌, ℕ, ◌+◌, ◌*◌, ◌/◌, ◌%◌, ◌<◌, ◌≤◌, ◌⊎◌, ⊎_elim, inl, inr, sym, ap, ◌∙◌, subst, arith, refl, Option, Some, None, Bool, true, false, cond, ◌&&◌, List, [], ◌∷◌, ◌++◌, length, slice_get, slice_set}
+use Rattle.std.proofs.Common.{◌≡◌, ◌≢◌, ℕ, ◌+◌, ◌*◌, ◌/◌, ◌%◌, ◌<◌, ◌≤◌, ⊎_elim, sym, ap, ◌∙◌, subst, arith, refl, Option, Some, None, Bool, true, false, cond, ◌&&◌, [], length, slice_get, slice_set}
 use Rattle.std.specs.Prelude.{◌==◌, nat_lt, nat_le, option_map, option_and_then}
 use Rattle.std.specs.Option.{option_map_or}
 use Rattle.std.proofs.lemmas.Bool.{lt-ltb, le-leb, cases_eq}
 use Rattle.std.proofs.lemmas.List.{length-set}
 use Rattle.std.proofs.lemmas.Option.{slice_get_within}
-use Rattle.rv_code.specs.declared.instruction.Instruction.{Instruction as MachineInstruction}
 use Rattle.graph_core.specs.declared.graph.MemoryObject.{MemoryObject}
 use Rattle.graph_core.specs.declared.instruction.Element.{Element}
 use Rattle.graph_core.specs.declared.instruction.Element.TheVariants.{Unsigned8, Signed8, Unsigned16, Signed16, Word}
@@ -14,15 +13,14 @@ use Rattle.graph_core.specs.declared.value.Value.TheVariants.{Pointer, Odd}
 use Rattle.graph_core.specs.Graphs.{Binding, ToScalar, ToObject, Graph, Automatic}
 use Rattle.graph_core.specs.Values.{size_of, pointer_at, as_element}
 use Rattle.graph_core.specs.Memory.{Memory, Object, bytes_of, address_of, write, write_in, written_in, with_value, index_in}
-use Rattle.graph_core.specs.Runs.{Configuration, put, set_first, take_value}
+use Rattle.graph_core.specs.Runs.{Configuration, set_first, take_value}
 use Rattle.graph_core.specs.Validity.{IsInObject}
 use Rattle.graph_homes.specs.declared.home.Home.{Home}
-use Rattle.homed_unit.specs.Homed.{IsHomeAmong, home_number, placed_binding}
+use Rattle.homed_unit.specs.Homed.{home_number}
 use Rattle.emit_storage.specs.Storages.{StorageForm, home_at, object_at}
 use Rattle.emit_words.specs.Operands.{home_written}
-use Rattle.emit_instructions.specs.Memory.{frame_reach, reach_of, storing}
+use Rattle.emit_instructions.specs.Memory.{frame_reach, storing}
 use Rattle.machine_steps.specs.Holding.{Holding}
-use Rattle.machine_steps.specs.Doing.{done_by_all, CanDoAll}
 use Rattle.emit_memory.specs.Meaning.{Means}
 use Rattle.emit_memory.specs.Frames.{Setting, IsStorage, HoldsFrame, Performs}
 use Rattle.emit_memory.proofs.Accesses.{Hits}

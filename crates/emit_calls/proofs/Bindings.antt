@@ -1,31 +1,28 @@
 -- The words that bind all parameters give them the values that were passed, and leave what waits as it is.
-use Rattle.std.proofs.Common.{◌≡◌, ◌≢◌, ℕ, ◌+◌, ◌*◌, ◌%◌, ◌<◌, ◌≤◌, ◌⊎◌, ⊎_elim, inl, inr, sym, ap, ◌∙◌, subst, arith, refl, Option, Some, None, true, Bool, cond, List, [], ◌∷◌, ◌++◌, length, map, slice_get}
-use Rattle.std.specs.List.{AllByRecursion}
-use Rattle.std.proofs.lemmas.Bool.{lt-ltb, cases_eq}
+use Rattle.std.proofs.Common.{◌≡◌, ℕ, ◌+◌, ◌*◌, ◌<◌, ◌≤◌, ◌⊎◌, ⊎_elim, inl, inr, sym, ap, ◌∙◌, subst, arith, refl, Option, Some, None, cond, List, [], ◌∷◌, ◌++◌, length, map}
+use Rattle.std.proofs.lemmas.Bool.{lt-ltb}
 use Rattle.rv_code.specs.declared.instruction.Instruction.{Instruction as MachineInstruction}
 use Rattle.graph_core.specs.declared.value.Value.{Value}
-use Rattle.graph_core.specs.Graphs.{Binding, ToScalar, ToObject, Graph, UnitForm}
-use Rattle.graph_core.specs.Memory.{Memory, Object, bytes_of, words_of}
+use Rattle.graph_core.specs.Graphs.{Binding, ToScalar, ToObject, Graph}
+use Rattle.graph_core.specs.Memory.{Memory, words_of}
 use Rattle.graph_core.specs.Paths.{Among}
 use Rattle.graph_core.specs.Runs.{Configuration, bind_names, bind_objects}
 use Rattle.graph_homes.specs.declared.home.Home.{Home}
 use Rattle.graph_homes.specs.declared.home.Home.TheVariants.{Register, Slot}
-use Rattle.homed_unit.specs.Homed.{IsHomeRegister, IsHomeAmong, placed_binding}
+use Rattle.homed_unit.specs.Homed.{IsHomeRegister, placed_binding}
 use Rattle.emit_storage.specs.Storages.{StorageForm, home_at}
 use Rattle.emit_instructions.specs.Calls.{argument_register}
 use Rattle.machine_steps.specs.Holding.{Holding}
 use Rattle.machine_steps.specs.Doing.{done_by_all, CanDoAll}
 use Rattle.machine_steps.proofs.Placing.{done_by_both, can_do_both}
-use Rattle.emit_moves.specs.Doing.{IsLeft, IsNoHome}
+use Rattle.emit_moves.specs.Doing.{IsLeft}
 use Rattle.emit_memory.specs.Meaning.{Means}
 use Rattle.emit_memory.specs.Frames.{Setting, IsStorage, HoldsFrame, IsNoTarget, IsOutside, Performs}
 use Rattle.emit_memory.proofs.Objects.{AreThose, WasThere, means_later}
 use Rattle.emit_calls.specs.Beginning.{binding_code, bindings_code}
-use Rattle.emit_calls.specs.Keeping.{IsTargetAmong, IsSaved, LeavesRest}
-use Rattle.emit_calls.specs.Settings.{IsKept}
+use Rattle.emit_calls.specs.Keeping.{IsTargetAmong, IsSaved}
 use Rattle.emit_calls.proofs.Binding.{AreOwnObjects, IsBindable, bound, bound_home, binding_performs, binding_those, binding_own}
 use Rattle.emit_calls.proofs.Keeping.{low_no_target, home_or_saved}
-use Rattle.emit_calls.proofs.Loading.{kept_home}
 
 -- The values that were passed are in the registers of arguments, from one of this number on.
 abbrev pub AreGiven : (addresses : ℕ → ℕ) → Memory → Holding → (number : ℕ) → List Value → Type 0
@@ -88,8 +85,7 @@ given_later : (w : Setting) (c d : Configuration) (h t : Holding) (n : ℕ) (vs 
 given_later w c d h t n [] few those kept given = tt
 given_later w c d h t n (v ∷ more) few those kept given =
     let is : argument_register n ≡ 10 + n = argument_is n (omega (arith, few)) in
-    let same : t.registers (argument_register n) ≡ h.registers (argument_register n) = kept (argument_register n) (omega (arith, is)) (omega (arith, is, few)) in
-    (
+    let same : t.registers (argument_register n) ≡ h.registers (argument_register n) = kept (argument_register n) (omega (arith, is)) (omega (arith, is, few)) in (
       subst (λ x. Means w.addresses d.memory v x) (sym same) (means_later w.addresses c.memory d.memory those v _ given.0),
       subst (λ x. x < 4294967296) (sym same) given.1,
       given_later w c d h t (n + 1) more (omega (arith, few)) those kept given.2,

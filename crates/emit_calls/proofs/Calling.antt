@@ -1,7 +1,7 @@
 -- The code of a call of a function passes its arguments, goes to where the function begins and makes its frame; or the run ends where as many activations live as may.
-use Rattle.std.proofs.Common.{◌≡◌, ◌≢◌, ℕ, ◌+◌, ◌*◌, ◌%◌, ◌<◌, ◌≤◌, ◌⊎◌, ⊎_elim, inl, inr, sym, ap, ◌∙◌, subst, arith, refl, Option, Some, None, Bool, true, false, cond, not, List, [], ◌∷◌, ◌++◌, length, map, slice_get}
+use Rattle.std.proofs.Common.{◌≡◌, ◌≢◌, ℕ, ◌+◌, ◌<◌, ◌≤◌, ◌⊎◌, ⊎_elim, inl, inr, sym, ap, ◌∙◌, subst, arith, refl, Option, Some, Bool, true, false, cond, not, List, [], ◌∷◌, length, map, slice_get}
 use Rattle.std.specs.Prelude.{◌==◌, option_map, option_and_then}
-use Rattle.std.specs.List.{AllByRecursion, list_any}
+use Rattle.std.specs.List.{AllByRecursion}
 use Rattle.std.proofs.lemmas.Bool.{eqb-true, eq-eqb, ne_eqb, cases_lt}
 use Rattle.rv_code.specs.declared.instruction.Instruction.{Instruction as MachineInstruction}
 use Rattle.rv_code.specs.declared.instruction.Instruction.TheVariants as instruction
@@ -12,32 +12,31 @@ use Rattle.rv_machine.specs.Run.{TooDeep}
 use Rattle.rv_machine.specs.Table.{taken, operated_immediate}
 use Rattle.graph_core.specs.declared.value.Value.{Value}
 use Rattle.graph_core.specs.Graphs.{Operand, Block, Graph, UnitForm}
-use Rattle.graph_core.specs.Values.{is_odd}
 use Rattle.graph_core.specs.Runs.{Activation, Configuration, TooDeep as DepthExceeded, Stepped, Goes, Shows, Ends as EndsUnit, Wild, value, begun, enter, goes_if, call_function}
 use Rattle.graph_core.specs.Validity.{IsOperand}
 use Rattle.homed_unit.specs.Homed.{IsHomeRegister, placed_operand, placed_graph}
 use Rattle.emit_pieces.specs.declared.piece.Held.{Held}
-use Rattle.emit_storage.specs.Storages.{StorageForm, home_at, source_of}
+use Rattle.emit_storage.specs.Storages.{home_at, source_of}
 use Rattle.emit_instructions.specs.Calls.{argument_register}
 use Rattle.machine_steps.specs.Holding.{Holding}
 use Rattle.machine_steps.specs.Doing.{done_by_all, writing}
 use Rattle.machine_steps.specs.Programs.{Program, address_of, distance, IsAt, CodeAt, behind, Stands}
-use Rattle.machine_steps.specs.Points.{Ends, Reaches}
+use Rattle.machine_steps.specs.Points.{Reaches}
 use Rattle.machine_steps.proofs.Calling.{ends_too_deep}
 use Rattle.machine_steps.proofs.Jumping.{distance_leads, jump_does, branch_taken, branch_not_taken}
-use Rattle.machine_steps.proofs.Placing.{code_rest, reaches_then, reaches_end}
+use Rattle.machine_steps.proofs.Placing.{reaches_then, reaches_end}
 use Rattle.machine_steps.proofs.Registers.{register_other}
 use Rattle.machine_steps.proofs.Standing.{index_low}
 use Rattle.machine_steps.proofs.Straight.{code_does}
-use Rattle.emit_moves.specs.Doing.{IsReadable, value_of}
+use Rattle.emit_moves.specs.Doing.{value_of}
 use Rattle.emit_memory.specs.Meaning.{Means}
 use Rattle.emit_memory.specs.Frames.{Setting, IsStorage, HoldsFrame}
 use Rattle.emit_memory.proofs.Operands.{operand_readable, operand_means}
-use Rattle.emit_calls.specs.Beginning.{guard_code, beginning_behind, beginning_code}
+use Rattle.emit_calls.specs.Beginning.{beginning_behind, beginning_code}
 use Rattle.emit_calls.specs.Passing.{passing_code, passing_held, ArePassed, AreWords}
 use Rattle.emit_calls.specs.Returns.{deep as deep_so}
 use Rattle.emit_calls.specs.Waiting.{FunctionCode, IsFunctionCode, setting_of, HoldsAll}
-use Rattle.emit_calls.proofs.Beginning.{ShareStatics, length_mapped, now, begun_here, t5, begins, beginning_can}
+use Rattle.emit_calls.proofs.Beginning.{ShareStatics, length_mapped, now, t5, begins, beginning_can}
 use Rattle.emit_calls.proofs.Bindings.{AreGiven, AreBindable, argument_is}
 use Rattle.emit_calls.proofs.Bringing.{HoldsWords, words_in_range, read_fits}
 use Rattle.emit_calls.proofs.Keeping.{all_found}
@@ -52,8 +51,7 @@ given_passed : (w : Setting) (c : Configuration) (h t : Holding) (n : ℕ) (all 
 given_passed w c h t n [] storage frame range few legal fit passed v = tt
 given_passed w c h t n (a ∷ more) storage frame range few legal fit passed v =
     let is : argument_register n ≡ 10 + n = argument_is n (omega (arith, few)) in
-    let same : (writing 1 v t).registers (argument_register n) ≡ value_of w.storage h (source_of w.storage a) = register_other 1 v (argument_register n) t.registers (λ e. omega (arith, e, is)) ∙ passed.0 in
-    (
+    let same : (writing 1 v t).registers (argument_register n) ≡ value_of w.storage h (source_of w.storage a) = register_other 1 v (argument_register n) t.registers (λ e. omega (arith, e, is)) ∙ passed.0 in (
       subst (λ x. Means w.addresses c.memory (value w.unit.statics c.here.names (placed_operand (home_at w.storage) a)) x) (sym same) (operand_means w c h a storage frame legal.0),
       subst (λ x. x < 4294967296) (sym same) (read_fits w.storage h (source_of w.storage a) range (operand_readable w c h a storage frame legal.0 fit.0)),
       given_passed w c h t (n + 1) more storage frame range (omega (arith, few)) legal.1 fit.1 passed.1 v,

@@ -1,7 +1,7 @@
 -- Words that mean values compare as the values do.
-use Rattle.std.proofs.Common.{◌≡◌, ◌≢◌, ℕ, zero, suc, ◌-◌, ◌<◌, sym, ap, ◌∙◌, subst, arith, refl, Option, Some, None, Bool, true, false, cond, not}
-use Rattle.std.specs.Prelude.{◌==◌, nat_lt, nat_le, int_lt, pos, negsuc, option_map}
-use Rattle.std.proofs.lemmas.Bool.{eqb-true, eq-eqb, ne_eqb, lt-ltb, le-ltb}
+use Rattle.std.proofs.Common.{◌≡◌, ℕ, zero, suc, ◌-◌, ◌<◌, sym, ap, ◌∙◌, arith, refl, Option, Some, None, Bool, true, false, cond, not}
+use Rattle.std.specs.Prelude.{◌==◌, nat_lt, int_lt, pos, negsuc, option_map}
+use Rattle.std.proofs.lemmas.Bool.{eqb-true, ne_eqb, lt-ltb, le-ltb}
 use mir.Val.{sel}
 use Rattle.word_base.specs.Words.{signed, word_of_test}
 use Rattle.word_base.specs.WordOperations.{operated}

@@ -1,13 +1,12 @@
 -- Memory in which the objects of an activation have ended.
-use Rattle.std.proofs.Common.{◌≡◌, ℕ, zero, suc, ◌+◌, ◌*◌, ◌<◌, ◌≤◌, ◌⊎◌, ⊎_elim, inl, inr, sym, ap, ◌∙◌, subst, arith, refl, Option, Some, None, true, false, List, [], ◌∷◌, ◌++◌, length, take, drop, slice_get}
-use Rattle.std.specs.Prelude.{map, option_map}
-use Rattle.graph_core.specs.declared.value.Value.{Value}
+use Rattle.std.proofs.Common.{◌≡◌, ℕ, zero, suc, ◌+◌, ◌*◌, ◌<◌, ◌≤◌, ◌⊎◌, sym, ap, ◌∙◌, subst, arith, refl, Some, true, false, [], ◌∷◌, length, slice_get}
+use Rattle.std.specs.Prelude.{map}
 use Rattle.graph_core.specs.Values.{size_of}
 use Rattle.graph_core.specs.Memory.{Memory, Object, bytes_of, ended, ended_from}
 use Rattle.graph_core.specs.Runs.{Configuration}
 use Rattle.machine_steps.specs.Holding.{Holding}
-use Rattle.emit_memory.specs.Meaning.{size_at, HoldsBits, bits_at, HoldsObjects}
-use Rattle.emit_memory.specs.Frames.{Setting, HasArray, HoldsFrame}
+use Rattle.emit_memory.specs.Meaning.{size_at, HoldsObjects}
+use Rattle.emit_memory.specs.Frames.{Setting, HoldsFrame}
 use Rattle.emit_memory.proofs.Arrays.{array_stays}
 use Rattle.emit_memory.proofs.Objects.{AreThose, WasThere, means_later, holds_later, laid_later}
 

@@ -1,6 +1,6 @@
 -- The code of an end that goes on to a block leads where the unit's step leads, unseen, and the frame stands there.
-use Rattle.std.proofs.Common.{◌≡◌, ℕ, ◌+◌, ◌*◌, ◌<◌, ◌≤◌, ◌⊎◌, inl, inr, sym, ap, ◌∙◌, subst, arith, refl, Option, Some, None, Bool, true, false, cond, not, List, [], ◌∷◌, ◌++◌, length, length-append, slice_get}
-use Rattle.std.specs.Prelude.{◌==◌, map}
+use Rattle.std.proofs.Common.{◌≡◌, ℕ, ◌+◌, ◌≤◌, sym, ap, ◌∙◌, subst, arith, refl, Option, Some, None, Bool, true, false, cond, not, List, [], ◌∷◌, ◌++◌, length, length-append, slice_get}
+use Rattle.std.specs.Prelude.{◌==◌}
 use Rattle.std.proofs.lemmas.Bool.{eqb-true}
 use Rattle.rv_code.specs.declared.instruction.Instruction.{Instruction as MachineInstruction}
 use Rattle.rv_code.specs.declared.instruction.Instruction.TheVariants as instruction
@@ -9,27 +9,26 @@ use Rattle.rv_code.specs.declared.instruction.ImmediateOperation.TheVariants.{Ad
 use Rattle.rv_machine.specs.State.{State}
 use Rattle.rv_machine.specs.Table.{taken}
 use Rattle.graph_core.specs.declared.block.Comparison.{Comparison}
-use Rattle.graph_core.specs.Graphs.{Operand, Name, Constant, StaticAddress, End, Jump, Branch, Return, Block}
+use Rattle.graph_core.specs.Graphs.{Operand, End, Jump, Branch, Return, Block}
 use Rattle.graph_core.specs.Values.{holds}
 use Rattle.graph_core.specs.Memory.{is_live}
 use Rattle.graph_core.specs.Runs.{Configuration, Stepped, Goes, Shows, Ends, Wild, value, entered, go_to, branched, execute_end, step, step_from}
 use Rattle.graph_core.specs.Validity.{IsOperand, AreOperandsOfEnd}
 use Rattle.homed_unit.specs.Homed.{placed_operand, placed_end}
 use Rattle.emit_pieces.specs.declared.piece.Held.{Held}
-use Rattle.emit_pieces.specs.declared.piece.Piece.{Piece}
 use Rattle.emit_pieces.specs.declared.piece.Piece.TheVariants as piece
 use Rattle.emit_storage.specs.declared.storage.Source.{Source}
 use Rattle.emit_storage.specs.declared.storage.Source.TheVariants.{Home as OfHome, Word}
-use Rattle.emit_storage.specs.Storages.{StorageForm, home_at, source_of}
+use Rattle.emit_storage.specs.Storages.{home_at, source_of}
 use Rattle.emit_words.specs.Operands.{source_register, fetched_source}
 use Rattle.machine_steps.specs.Holding.{Holding, AreInRange}
-use Rattle.machine_steps.specs.Doing.{done_by_all, CanDoAll}
-use Rattle.machine_steps.specs.Programs.{Program, CodeAt, behind, Stands}
+use Rattle.machine_steps.specs.Doing.{done_by_all}
+use Rattle.machine_steps.specs.Programs.{Program, behind, Stands}
 use Rattle.machine_steps.specs.Points.{Reaches}
 use Rattle.machine_steps.proofs.Leading.{leads_nowhere}
 use Rattle.machine_steps.proofs.Placing.{code_front, reaches_then, done_by_both, can_do_both}
 use Rattle.machine_steps.proofs.Straight.{code_does}
-use Rattle.emit_moves.specs.Doing.{IsReadable, IsLeft, value_of}
+use Rattle.emit_moves.specs.Doing.{IsReadable, value_of}
 use Rattle.emit_moves.proofs.Computing.{both_found, BothFound}
 use Rattle.emit_moves.proofs.Moves.{value_fits}
 use Rattle.emit_memory.specs.Meaning.{Means}

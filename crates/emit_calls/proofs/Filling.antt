@@ -1,9 +1,8 @@
 -- Where the words of an instruction stand that sets an object to zero or to bytes that are known, the machine does its step, and holds all activations behind it.
-use Rattle.std.proofs.Common.{◌≡◌, ℕ, ◌+◌, ◌*◌, ◌≤◌, sym, ap, ◌∙◌, subst, arith, refl, Option, Some, None, Bool, List, [], ◌∷◌, length}
+use Rattle.std.proofs.Common.{◌≡◌, ℕ, ◌+◌, ◌*◌, sym, ap, ◌∙◌, subst, None, Bool, List, ◌∷◌, length}
 use Rattle.rv_code.specs.declared.instruction.Instruction.{Instruction as MachineInstruction}
 use Rattle.rv_machine.specs.State.{State}
 use Rattle.graph_core.specs.Graphs.{Instruction, Zero, CopyWords, UnitForm}
-use Rattle.graph_core.specs.Memory.{Memory}
 use Rattle.graph_core.specs.Runs.{Activation, Configuration, Goes, step, step_from, execute}
 use Rattle.graph_core.specs.Validity.{IsInstruction}
 use Rattle.homed_unit.specs.Homed.{placed_instruction}
@@ -12,7 +11,7 @@ use Rattle.emit_storage.specs.Storages.{home_at}
 use Rattle.emit_instructions.specs.Filling.{zero_code, copy_code}
 use Rattle.machine_steps.specs.Holding.{Holding}
 use Rattle.machine_steps.specs.Programs.{Program, CodeAt, behind, Stands}
-use Rattle.emit_memory.specs.Frames.{Setting, IsStorage, HoldsFrame, IsOutside}
+use Rattle.emit_memory.specs.Frames.{Setting, HoldsFrame}
 use Rattle.emit_memory.proofs.Steps.{going_on, zero_arrives, copy_arrives}
 use Rattle.emit_memory.proofs.Zeros.{Comes}
 use Rattle.emit_calls.specs.Waiting.{FunctionCode, IsFunctionCode, setting_of, HoldsAll}

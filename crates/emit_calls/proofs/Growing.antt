@@ -1,22 +1,22 @@
 -- Memory with the objects of an activation that begins: they lie in its frame, below all that lives in the stack.
-use Rattle.std.proofs.Common.{◌≡◌, ◌≢◌, ℕ, zero, suc, ◌+◌, ◌-◌, ◌*◌, ◌%◌, ◌<◌, ◌≤◌, ◌⊎◌, ⊎_elim, inl, inr, sym, ap, ◌∙◌, subst, arith, refl, Option, Some, None, Bool, true, false, cond, List, [], ◌∷◌, ◌++◌, length, length-append, slice_get}
+use Rattle.std.proofs.Common.{◌≡◌, ◌≢◌, ℕ, zero, suc, ◌+◌, ◌-◌, ◌*◌, ◌%◌, ◌<◌, ◌≤◌, ◌⊎◌, ⊎_elim, inl, inr, sym, ap, ◌∙◌, subst, arith, refl, Option, Some, None, true, cond, List, [], ◌∷◌, ◌++◌, length, length-append, slice_get}
 use Rattle.std.specs.Prelude.{map, option_map, nat_lt, replicate}
-use Rattle.std.proofs.lemmas.Bool.{lt-ltb, le-ltb, cases_lt}
+use Rattle.std.proofs.lemmas.Bool.{lt-ltb, le-ltb}
 use Rattle.std.proofs.lemmas.List.{length-replicate}
 use Rattle.std.proofs.lemmas.Option.{slice_get_within}
 use Rattle.graph_core.specs.declared.graph.MemoryObject.{MemoryObject}
 use Rattle.graph_core.specs.declared.value.Value.{Value}
 use Rattle.graph_core.specs.declared.value.Value.TheVariants.{Number, Pointer, Odd}
-use Rattle.graph_core.specs.Graphs.{UnitForm, StaticObject}
+use Rattle.graph_core.specs.Graphs.{UnitForm}
 use Rattle.graph_core.specs.Values.{size_of}
-use Rattle.graph_core.specs.Memory.{Memory, Object, bytes_of, words_of, new_object}
+use Rattle.graph_core.specs.Memory.{Memory, Object, bytes_of, new_object}
 use Rattle.emit_storage.specs.Storages.{object_at}
-use Rattle.emit_memory.specs.Meaning.{size_at, Means, bits_at, HoldsBits, HoldsObjects, IsInMemory, AreLaid}
+use Rattle.emit_memory.specs.Meaning.{size_at, bits_at, HoldsBits, HoldsObjects, IsInMemory, AreLaid}
 use Rattle.emit_memory.proofs.Elements.{bits_kept}
 use Rattle.emit_memory.proofs.Objects.{WasThere, element_within}
 use Rattle.emit_calls.specs.Waiting.{FunctionCode, IsFunctionCode, LiesInFrame, bytes_in}
-use Rattle.emit_calls.proofs.Binding.{IsOwnObject, AreOwnObjects}
-use Rattle.emit_calls.proofs.Outer.{IsNoObject, Grown}
+use Rattle.emit_calls.proofs.Binding.{AreOwnObjects}
+use Rattle.emit_calls.proofs.Outer.{Grown}
 
 -- ---- A list behind another
 

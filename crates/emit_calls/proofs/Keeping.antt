@@ -1,20 +1,20 @@
 -- Behind a step of the innermost activation the machine holds all activations.
-use Rattle.std.proofs.Common.{◌≡◌, ◌≢◌, ℕ, ◌+◌, ◌*◌, ◌%◌, ◌<◌, ◌≤◌, ◌⊎◌, ⊎_elim, inl, inr, sym, ap, ◌∙◌, subst, arith, refl, Option, Some, None, true, List, [], ◌∷◌, length, slice_get}
+use Rattle.std.proofs.Common.{◌≡◌, ◌≢◌, ℕ, ◌+◌, ◌*◌, ◌%◌, ◌<◌, ◌≤◌, ◌⊎◌, ⊎_elim, inl, inr, sym, ap, ◌∙◌, subst, arith, refl, Option, Some, None, List, [], length}
 use Rattle.std.proofs.lemmas.Bool.{cases_eq}
 use Rattle.graph_core.specs.Graphs.{UnitForm}
-use Rattle.graph_core.specs.Memory.{Memory, Object, bytes_of, words_of}
+use Rattle.graph_core.specs.Memory.{Memory, bytes_of}
 use Rattle.graph_core.specs.Paths.{Among}
 use Rattle.graph_core.specs.Runs.{Activation, Configuration}
 use Rattle.graph_homes.specs.declared.home.Home.{Home}
 use Rattle.graph_homes.specs.declared.home.Home.TheVariants.{Register, Slot}
-use Rattle.homed_unit.specs.Homed.{IsHomeRegister, IsHomeAmong, home_number}
+use Rattle.homed_unit.specs.Homed.{IsHomeRegister, home_number}
 use Rattle.rv_code.specs.declared.instruction.Instruction.{Instruction as MachineInstruction}
 use Rattle.emit_pieces.specs.declared.piece.Held.{Held}
 use Rattle.machine_steps.specs.Holding.{Holding}
 use Rattle.machine_steps.specs.Doing.{done_by_all}
-use Rattle.emit_moves.specs.Doing.{HoldsAll as HoldsAllOf, IsLeft, IsNoHome}
+use Rattle.emit_moves.specs.Doing.{HoldsAll as HoldsAllOf}
 use Rattle.emit_memory.specs.Meaning.{Means}
-use Rattle.emit_memory.specs.Frames.{Setting, IsStorage, AreScratch, HoldsFrame, IsOutside, IsNoTarget, Performs}
+use Rattle.emit_memory.specs.Frames.{Setting, AreScratch, HoldsFrame, IsNoTarget, Performs}
 use Rattle.emit_memory.proofs.Arrays.{those_same}
 use Rattle.emit_memory.proofs.Objects.{AreThose, WasThere}
 use Rattle.emit_calls.specs.Keeping.{IsTargetAmong, IsSaved, LeavesRest}

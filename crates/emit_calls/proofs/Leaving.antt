@@ -1,5 +1,5 @@
 -- The code with which a function ends restores what its frame keeps, leaves the frame and returns.
-use Rattle.std.proofs.Common.{◌≡◌, ◌≢◌, ℕ, ◌+◌, ◌*◌, ◌%◌, ◌<◌, ◌≤◌, ◌⊎◌, inl, inr, sym, ap, ◌∙◌, subst, arith, refl, Bool, true, false, cond, List, [], ◌∷◌, ◌++◌, append_assoc, length, length-append}
+use Rattle.std.proofs.Common.{◌≡◌, ◌≢◌, ℕ, ◌+◌, ◌*◌, ◌%◌, ◌<◌, ◌≤◌, inl, inr, sym, ap, ◌∙◌, subst, arith, refl, Bool, true, false, cond, List, [], ◌∷◌, ◌++◌, length, length-append}
 use Rattle.std.specs.List.{AllByRecursion}
 use Rattle.rv_code.specs.declared.instruction.Instruction.{Instruction}
 use Rattle.rv_code.specs.declared.instruction.Instruction.TheVariants.{Load, Immediate, Register, Jalr}
@@ -15,14 +15,14 @@ use Rattle.machine_steps.specs.Doing.{done_by_all, CanDoAll, writing}
 use Rattle.machine_steps.specs.Programs.{Program, address_of, IsAt, CodeAt, behind, Stands}
 use Rattle.machine_steps.specs.Points.{Reaches}
 use Rattle.machine_steps.proofs.Placing.{code_front, code_rest, done_by_both, can_do_both, reaches_then}
-use Rattle.machine_steps.proofs.Registers.{register_same, register_other}
+use Rattle.machine_steps.proofs.Registers.{register_other}
 use Rattle.machine_steps.proofs.Jumping.{return_does}
 use Rattle.machine_steps.proofs.Straight.{code_does}
 use Rattle.emit_moves.specs.Doing.{Brings}
 use Rattle.emit_memory.proofs.Limits.{constant_alone}
 use Rattle.emit_calls.specs.Leaving.{moving_code, restoring_code, leaving_front, leaving_code}
 use Rattle.emit_calls.specs.Waiting.{restored}
-use Rattle.emit_calls.proofs.Restoring.{low_no_home, home_some, restored_low, restored_agree}
+use Rattle.emit_calls.proofs.Restoring.{low_no_home, restored_low, restored_agree}
 
 -- ---- sp moves
 

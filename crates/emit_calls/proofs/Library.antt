@@ -1,8 +1,8 @@
 -- Calls of the environment do the unit's steps: a byte is put out, a byte is read, the run ends.
-use Rattle.std.proofs.Common.{◌≡◌, ◌≢◌, ℕ, ◌+◌, ◌%◌, ◌<◌, ◌≤◌, ◌⊎◌, ⊎_elim, inl, inr, sym, ap, ◌∙◌, subst, arith, refl, Option, Some, None, Bool, true, false, cond, List, [], ◌∷◌, ◌++◌, append_assoc, length}
-use Rattle.std.specs.Prelude.{option_map, map}
+use Rattle.std.proofs.Common.{◌≡◌, ◌≢◌, ℕ, ◌+◌, ◌%◌, ◌<◌, ◌≤◌, ⊎_elim, inl, inr, sym, ap, ◌∙◌, subst, arith, refl, Option, Bool, false, List, [], ◌∷◌, ◌++◌, append_assoc, length}
+use Rattle.std.specs.Prelude.{option_map}
 use Rattle.std.specs.Int.{cast_signed, w32}
-use Rattle.std.specs.List.{AllByRecursion, list_any}
+use Rattle.std.specs.List.{AllByRecursion}
 use Rattle.rv_code.specs.declared.instruction.Instruction.{Instruction as MachineInstruction}
 use Rattle.rv_code.specs.declared.instruction.Instruction.TheVariants.{Immediate, Ecall}
 use Rattle.rv_code.specs.declared.instruction.ImmediateOperation.TheVariants.{Addi}
@@ -12,14 +12,14 @@ use Rattle.rv_machine.specs.Table.{operated_immediate}
 use Rattle.graph_core.specs.declared.value.Value.{Value}
 use Rattle.graph_core.specs.declared.value.Value.TheVariants.{Number, Pointer, Odd}
 use Rattle.graph_core.specs.Graphs.{Operand, UnitForm}
-use Rattle.graph_core.specs.Runs.{Activation, Configuration, Event, Put, Exited, Stepped, Goes, Shows, Ends as EndsUnit, Wild, value, take_wanted, exited, put_out, got, first_of}
+use Rattle.graph_core.specs.Runs.{Activation, Configuration, Event, Stepped, Goes, Shows, Ends as EndsUnit, Wild, value, take_wanted, exited, put_out, got}
 use Rattle.graph_core.specs.Validity.{IsOperand}
 use Rattle.graph_homes.specs.declared.home.Home.{Home}
 use Rattle.homed_unit.specs.Homed.{home_number, placed_operand}
 use Rattle.emit_pieces.specs.declared.piece.Held.{Held}
 use Rattle.emit_storage.specs.Storages.{StorageForm, home_at, source_of}
 use Rattle.emit_words.specs.Growing.{forgotten}
-use Rattle.machine_steps.specs.Holding.{Holding, with_register}
+use Rattle.machine_steps.specs.Holding.{Holding}
 use Rattle.machine_steps.specs.Doing.{done_by_all, writing}
 use Rattle.machine_steps.specs.Programs.{Program, IsAt, CodeAt, behind, Stands}
 use Rattle.machine_steps.specs.Points.{Ends, Reaches}
@@ -27,18 +27,18 @@ use Rattle.machine_steps.proofs.Calling.{end_of_input_read, byte_read, byte_put,
 use Rattle.machine_steps.proofs.Placing.{code_front, code_rest, done_by_both, can_do_both, reaches_then, reaches_end}
 use Rattle.machine_steps.proofs.Registers.{register_other}
 use Rattle.machine_steps.proofs.Straight.{code_does}
-use Rattle.emit_moves.specs.Doing.{HoldsAll as HoldsAllOf, AreLeft, value_of}
+use Rattle.emit_moves.specs.Doing.{HoldsAll as HoldsAllOf, value_of}
 use Rattle.emit_memory.specs.Meaning.{Means}
 use Rattle.emit_memory.specs.Frames.{Setting, IsStorage, AreScratch, HoldsFrame}
 use Rattle.emit_memory.proofs.Operands.{operand_means}
 use Rattle.emit_calls.specs.Keeping.{IsTargetAmong, IsSaved}
 use Rattle.emit_calls.specs.Leaving.{answer_code}
-use Rattle.emit_calls.specs.Passing.{passing_code, passing_held, ArePassed, AreWords, environment_code, calling_environment}
+use Rattle.emit_calls.specs.Passing.{passing_code, passing_held, ArePassed, AreWords}
 use Rattle.emit_calls.specs.Returns.{IsShownAs, byte as byte_so, exited as exited_so, Resumes}
 use Rattle.emit_calls.specs.Settings.{IsKept}
-use Rattle.emit_calls.specs.Waiting.{FunctionCode, IsFunctionCode, setting_of, HoldsWaiting, HoldsAll}
+use Rattle.emit_calls.specs.Waiting.{FunctionCode, IsFunctionCode, setting_of, HoldsAll}
 use Rattle.emit_calls.proofs.Bringing.{words_in_range}
-use Rattle.emit_calls.proofs.Keeping.{all_kept, all_reheld, input_changed}
+use Rattle.emit_calls.proofs.Keeping.{all_reheld, input_changed}
 use Rattle.emit_calls.proofs.Loading.{all_left, held_forgotten, scratch_forgotten, kept_no_a0, kept_no_a7, held_but_a0}
 use Rattle.emit_calls.proofs.Passing.{Passes, arguments_pass}
 use Rattle.emit_calls.proofs.Returning.{EndsRun, answered_comes}

@@ -1,8 +1,8 @@
 -- The words that load constants into scratch registers do so, and the frame stands behind them.
 use Rattle.std.proofs.Common.{◌≡◌, ◌≢◌, ℕ, ◌+◌, ◌-◌, ◌*◌, ◌%◌, ◌<◌, ◌≤◌, ◌⊎◌, ⊎_elim, inl, inr, sym, ap, ◌∙◌, subst, arith, refl, Option, Some, None, Bool, true, false, cond, not, List, [], ◌∷◌, ◌++◌}
-use Rattle.std.specs.Prelude.{◌==◌, nat_le, filter}
+use Rattle.std.specs.Prelude.{◌==◌, nat_le}
 use Rattle.std.specs.Option.{option_map_or}
-use Rattle.std.proofs.lemmas.Bool.{eqb-true, eq-eqb}
+use Rattle.std.proofs.lemmas.Bool.{eq-eqb}
 use Rattle.rv_code.specs.declared.instruction.Instruction.{Instruction}
 use Rattle.rv_code.specs.declared.instruction.Instruction.TheVariants.{Immediate}
 use Rattle.rv_code.specs.declared.instruction.ImmediateOperation.TheVariants.{Addi}
@@ -12,13 +12,13 @@ use Rattle.graph_homes.specs.declared.home.Home.{Home}
 use Rattle.graph_homes.specs.declared.home.Home.TheVariants.{Register, Slot}
 use Rattle.homed_unit.specs.Homed.{IsHomeRegister, IsHomeAmong, home_number}
 use Rattle.emit_pieces.specs.declared.piece.Held.{Held}
-use Rattle.emit_storage.specs.Storages.{StorageForm, slot_at, object_at, array_bytes_at}
+use Rattle.emit_storage.specs.Storages.{slot_at, object_at, array_bytes_at}
 use Rattle.emit_words.specs.Growing.{holder_of, forgotten}
 use Rattle.emit_words.specs.Constants.{words_of_constant, constant_by}
 use Rattle.machine_steps.specs.Holding.{Holding, word_at}
 use Rattle.machine_steps.specs.Doing.{done_by_all, CanDoAll}
 use Rattle.machine_steps.proofs.Placing.{done_by_both, can_do_both}
-use Rattle.emit_moves.specs.Doing.{Brings, CanFetch, HoldsAll, AreLeft, IsLeft, value_of_home}
+use Rattle.emit_moves.specs.Doing.{Brings, HoldsAll, AreLeft, IsLeft, value_of_home}
 use Rattle.emit_moves.proofs.Constants.{addi_brings, constant_brings}
 use Rattle.emit_moves.proofs.Fetching.{holder_holds}
 use Rattle.emit_moves.proofs.Computing.{left_0, left_2, left_3}

@@ -1,11 +1,10 @@
 -- A marker has no word, but for one that does nothing where the place before it has none; the stop at the word behind it is shown where the unit shows one, and the frame stands.
-use Rattle.std.proofs.Common.{◌≡◌, ℕ, ◌+◌, sym, ap, ◌∙◌, subst, arith, refl, Bool, true, false, cond, not, inl, inr, List, [], ◌∷◌, ◌++◌, length}
+use Rattle.std.proofs.Common.{◌≡◌, ℕ, ◌+◌, sym, ap, ◌∙◌, subst, arith, refl, Bool, true, false, cond, not, inl, inr, List, [], ◌∷◌, length}
 use Rattle.std.specs.Prelude.{◌==◌, map}
-use Rattle.rv_code.specs.declared.instruction.Instruction.{Instruction as MachineInstruction}
 use Rattle.rv_machine.specs.State.{State}
 use Rattle.rv_machine.specs.Run.{Arrival, is_stop}
 use Rattle.graph_core.specs.Graphs.{Instruction, Marker}
-use Rattle.graph_core.specs.Runs.{Configuration, Event, Stop, Stepped, Goes, Shows, Ends, Wild, frame as shown_frame, marked, at_place, step, step_from}
+use Rattle.graph_core.specs.Runs.{Configuration, Stop, Goes, Shows, frame as shown_frame, marked, at_place, step, step_from}
 use Rattle.homed_unit.specs.Homed.{placed_instruction}
 use Rattle.emit_pieces.specs.declared.piece.Piece.{Piece}
 use Rattle.emit_pieces.specs.declared.piece.Piece.TheVariants as piece
@@ -20,7 +19,7 @@ use Rattle.machine_steps.proofs.Straight.{code_does}
 use Rattle.emit_memory.specs.Frames.{Setting, HoldsFrame}
 use Rattle.emit_memory.proofs.Steps.{going_on, rest_framed}
 use Rattle.emit_calls.specs.Pieces.{Targets, PiecesAt}
-use Rattle.emit_calls.specs.Markers.{marking_code, StopShown, DoesMarker}
+use Rattle.emit_calls.specs.Markers.{marking_code, DoesMarker}
 
 -- The word of a marker is the one that it becomes.
 pub marker_appended : (g : StorageForm) (entry place : ℕ) (s : CodeState) → with_instruction g entry (Marker place) s ≡ record (with_code (marking_code s.begins) s) { owner = place; begins = not (place == entry) }

@@ -1,23 +1,21 @@
 -- Frames of activations that wait stand as they stood where nothing writes them: behind steps of the innermost one, calls and returns.
-use Rattle.std.proofs.Common.{◌≡◌, ◌≢◌, ℕ, ◌+◌, ◌*◌, ◌%◌, ◌<◌, ◌≤◌, ◌⊎◌, ⊎_elim, inl, inr, sym, ap, ◌∙◌, subst, arith, refl, Some, true, List, [], ◌∷◌, length, slice_get}
+use Rattle.std.proofs.Common.{◌≡◌, ◌≢◌, ℕ, ◌+◌, ◌*◌, ◌%◌, ◌<◌, ◌≤◌, ◌⊎◌, ⊎_elim, inl, inr, sym, ap, ◌∙◌, subst, arith, Some, true, List, [], ◌∷◌, length, slice_get}
 use Rattle.std.proofs.lemmas.Bool.{cases_eq}
 use Rattle.graph_core.specs.declared.value.Value.{Value}
 use Rattle.graph_core.specs.declared.value.Value.TheVariants.{Number, Pointer, Odd}
-use Rattle.graph_core.specs.Graphs.{UnitForm, StaticObject}
+use Rattle.graph_core.specs.Graphs.{UnitForm}
 use Rattle.graph_core.specs.Memory.{Memory, Object, bytes_of, words_of}
-use Rattle.graph_core.specs.Paths.{Among, front, behind}
-use Rattle.graph_core.specs.Runs.{Activation, Configuration}
+use Rattle.graph_core.specs.Paths.{Among}
+use Rattle.graph_core.specs.Runs.{Activation}
 use Rattle.graph_homes.specs.declared.home.Home.{Home}
 use Rattle.graph_homes.specs.declared.home.Home.TheVariants.{Register, Slot}
 use Rattle.homed_unit.specs.Homed.{IsHomeRegister, IsHomeAmong, home_number}
 use Rattle.emit_pieces.specs.declared.piece.Held.{Held}
 use Rattle.emit_storage.specs.Storages.{slot_at, object_at, array_bytes_at}
-use Rattle.machine_steps.specs.Holding.{Holding, word_at, with_register}
-use Rattle.machine_steps.specs.Programs.{address_of}
-use Rattle.machine_steps.proofs.Registers.{register_same, register_other}
+use Rattle.machine_steps.specs.Holding.{Holding, word_at}
 use Rattle.emit_moves.specs.Doing.{value_of_home}
 use Rattle.emit_memory.specs.Meaning.{size_at, Means, HoldsObjects, AreLaid}
-use Rattle.emit_memory.specs.Frames.{Setting, IsStorage, HasArray, HoldsFrame}
+use Rattle.emit_memory.specs.Frames.{Setting, HasArray, HoldsFrame}
 use Rattle.emit_memory.proofs.Arrays.{array_apart}
 use Rattle.emit_memory.proofs.Elements.{word_kept}
 use Rattle.emit_memory.proofs.Homes.{slot_is}
@@ -201,8 +199,8 @@ module _ (codes : ℕ → FunctionCode) (u : UnitForm) (valid : (k : ℕ) → Is
   waiting_kept [] f first h t input output fits leaves limited most objects (returns, top) =
       let same = leaves.sp in (
         ap (λ s. word_at t.memory s) leaves.sp
-        ∙ word_kept h.memory t.memory (h.registers 2) (leaves.kept _ (omega arith) (omega arith)) (leaves.kept _ (omega arith) (omega arith)) (leaves.kept _ (omega arith) (omega arith)) (leaves.kept _ (omega arith) (omega arith))
-        ∙ returns,
+            ∙ word_kept h.memory t.memory (h.registers 2) (leaves.kept _ (omega arith) (omega arith)) (leaves.kept _ (omega arith) (omega arith)) (leaves.kept _ (omega arith) (omega arith)) (leaves.kept _ (omega arith) (omega arith))
+            ∙ returns,
         omega (arith, top, same),
       )
   waiting_kept (a ∷ waiting) f first h t input output fits leaves limited most objects (wait, rest) = (

@@ -1,6 +1,5 @@
 -- The words that pass arguments bring each into its register, and leave the frame as it stands.
-use Rattle.std.proofs.Common.{◌≡◌, ◌≢◌, ℕ, ◌+◌, ◌*◌, ◌<◌, ◌≤◌, ◌⊎◌, ⊎_elim, inl, inr, sym, ap, ◌∙◌, subst, arith, refl, Bool, true, false, cond, not, List, [], ◌∷◌, ◌++◌, length, append_assoc}
-use Rattle.std.specs.Prelude.{nat_lt}
+use Rattle.std.proofs.Common.{◌≡◌, ◌≢◌, ℕ, ◌+◌, ◌<◌, ◌≤◌, ◌⊎◌, ⊎_elim, inl, inr, sym, ap, ◌∙◌, subst, arith, refl, cond, List, [], ◌∷◌, ◌++◌, length}
 use Rattle.std.specs.List.{AllByRecursion}
 use Rattle.std.proofs.lemmas.Bool.{lt-ltb, cases_eq}
 use Rattle.rv_code.specs.declared.instruction.Instruction.{Instruction}
@@ -21,12 +20,11 @@ use Rattle.emit_instructions.specs.Calls.{argument_register, passed, passed_from
 use Rattle.machine_steps.specs.Holding.{Holding, word_at}
 use Rattle.machine_steps.specs.Doing.{done_by_all, CanDoAll}
 use Rattle.machine_steps.proofs.Placing.{done_by_both, can_do_both}
-use Rattle.emit_moves.specs.Doing.{Brings, CanFetch, HoldsAll, AreLeft, IsLeft, IsReadable, value_of}
+use Rattle.emit_moves.specs.Doing.{Brings, CanFetch, HoldsAll, IsLeft, IsReadable, value_of}
 use Rattle.emit_moves.proofs.Computing.{left_0, left_2, left_3, readable_stays}
-use Rattle.emit_memory.specs.Frames.{Setting, IsStorage, AreScratch, HoldsFrame, IsWord}
+use Rattle.emit_memory.specs.Frames.{Setting, IsStorage, AreScratch, HoldsFrame}
 use Rattle.emit_memory.proofs.Operands.{operand_readable}
 use Rattle.emit_calls.specs.Passing.{passing_code, passing_held, ArePassed, AreWords}
-use Rattle.emit_calls.specs.Settings.{IsKept}
 use Rattle.emit_calls.proofs.Bringing.{HoldsWords, read_fits, source_brought}
 use Rattle.emit_calls.proofs.Loading.{all_left, held_forgotten, scratch_forgotten}
 

@@ -1,5 +1,5 @@
 -- Pieces that stand in the code: words among them, and where control goes from jumps and branches.
-use Rattle.std.proofs.Common.{◌≡◌, ℕ, ◌+◌, ◌*◌, ◌<◌, ◌≤◌, ◌⊎◌, inl, inr, ⊎_elim, sym, ap, ◌∙◌, subst, arith, refl, List, [], ◌∷◌, ◌++◌, length, Bool, true, false, not}
+use Rattle.std.proofs.Common.{◌≡◌, ℕ, ◌+◌, ◌<◌, ◌≤◌, ◌⊎◌, inl, inr, sym, ap, ◌∙◌, subst, arith, refl, List, [], ◌∷◌, ◌++◌, length, Bool, true, false, not}
 use Rattle.rv_code.specs.declared.instruction.Instruction.{Instruction}
 use Rattle.rv_code.specs.declared.instruction.Instruction.TheVariants as instruction
 use Rattle.rv_code.specs.declared.instruction.BranchOperation.{BranchOperation}
@@ -7,17 +7,14 @@ use Rattle.rv_code.specs.declared.instruction.BranchOperation.TheVariants.{Beq, 
 use Rattle.rv_machine.specs.State.{State, word}
 use Rattle.rv_machine.specs.Table.{taken}
 use Rattle.emit_pieces.specs.declared.piece.Piece.{Piece}
-use Rattle.emit_pieces.specs.declared.piece.Piece.TheVariants as piece
 use Rattle.machine_steps.specs.Holding.{Holding}
-use Rattle.machine_steps.specs.Doing.{writing}
 use Rattle.machine_steps.specs.Programs.{Program, address_of, distance, IsAt, CodeAt, behind, Stands}
-use Rattle.machine_steps.specs.Points.{Leads, Reaches}
-use Rattle.machine_steps.proofs.Leading.{leads_nowhere}
+use Rattle.machine_steps.specs.Points.{Reaches}
 use Rattle.machine_steps.proofs.Placing.{reaches_then}
 use Rattle.machine_steps.proofs.Standing.{index_low}
 use Rattle.machine_steps.proofs.Jumping.{distance_leads, jump_does, branch_taken, branch_not_taken}
 use Rattle.emit_calls.specs.Ends.{words}
-use Rattle.emit_calls.specs.Pieces.{Targets, opposite, IsNear, IsFar, PieceAt, PiecesAt}
+use Rattle.emit_calls.specs.Pieces.{Targets, opposite, IsNear, IsFar, PiecesAt}
 
 -- ---- Words among pieces
 

@@ -1,11 +1,11 @@
 -- The code of an end that returns does the unit's step.
-use Rattle.std.proofs.Common.{◌≡◌, ℕ, ◌+◌, ◌<◌, ◌≤◌, sym, ap, ◌∙◌, subst, arith, refl, Option, Some, None, Bool, false, List, [], ◌∷◌, ◌++◌, length}
+use Rattle.std.proofs.Common.{◌≡◌, ℕ, ◌+◌, sym, subst, arith, refl, Option, Some, None, Bool, false, List, [], ◌∷◌, length}
 use Rattle.std.specs.Prelude.{option_map}
 use Rattle.rv_machine.specs.State.{State}
 use Rattle.graph_core.specs.declared.value.Value.TheVariants.{Odd}
-use Rattle.graph_core.specs.Graphs.{Operand, End, Return, UnitForm}
+use Rattle.graph_core.specs.Graphs.{Operand, Return, UnitForm}
 use Rattle.graph_core.specs.Runs.{Activation, Configuration, Stepped, Goes, Shows, Ends, Wild, value, leave, execute_end, step, step_from}
-use Rattle.graph_core.specs.Validity.{IsOperand, AreOperandsOfEnd}
+use Rattle.graph_core.specs.Validity.{AreOperandsOfEnd}
 use Rattle.homed_unit.specs.Homed.{placed_operand, placed_end}
 use Rattle.emit_pieces.specs.declared.piece.Held.{Held}
 use Rattle.emit_storage.specs.declared.storage.Source.{Source}
@@ -24,13 +24,12 @@ use Rattle.emit_memory.proofs.Operands.{operand_readable, operand_means}
 use Rattle.emit_calls.specs.Leaving.{leaving_code, leaving, room_behind, return_pieces}
 use Rattle.emit_calls.specs.Pieces.{Targets, AreInCode, PiecesAt}
 use Rattle.emit_calls.specs.Returns.{Resumes, EndsMain}
-use Rattle.emit_calls.specs.Settings.{IsKept}
 use Rattle.emit_calls.specs.Waiting.{FunctionCode, IsFunctionCode, setting_of, HoldsAll}
 use Rattle.emit_calls.proofs.Bringing.{source_brought, words_in_range}
 use Rattle.emit_calls.proofs.Keeping.{all_reheld}
 use Rattle.emit_calls.proofs.Loading.{kept_no_a0}
 use Rattle.emit_calls.proofs.Placed.{WordsFirst, words_first}
-use Rattle.emit_calls.proofs.Returning.{Returned, EndsRun, DoesReturn, return_done}
+use Rattle.emit_calls.proofs.Returning.{DoesReturn, return_done}
 
 -- The same of what is done behind other words.
 returned_behind : (p : Program) (s : State) (i : ℕ) (b : Bool) (n j : ℕ) (last : Bool) (g : Holding) (most : ℕ) (codes : ℕ → FunctionCode) (u : UnitForm) (addresses : ℕ → ℕ) (goes_on : Activation → ℕ → Type 0) (c : Configuration) (q : Stepped)

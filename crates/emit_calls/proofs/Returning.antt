@@ -1,9 +1,8 @@
 -- The code of a return restores what the caller is to find, and goes on behind its call, or ends the run with the result of main.
-use Rattle.std.proofs.Common.{◌≡◌, ◌≢◌, ℕ, ◌+◌, ◌*◌, ◌%◌, ◌<◌, ◌≤◌, ◌⊎◌, inl, inr, sym, ap, ◌∙◌, subst, arith, refl, Option, Some, None, Bool, true, false, cond, not, List, [], ◌∷◌, ◌++◌, length}
+use Rattle.std.proofs.Common.{◌≡◌, ◌≢◌, ℕ, ◌+◌, ◌<◌, ◌≤◌, ◌⊎◌, inl, inr, sym, ap, ◌∙◌, subst, arith, refl, Option, Some, None, Bool, true, false, cond, not, List, [], ◌∷◌, length}
 use Rattle.std.specs.Prelude.{◌==◌, ◌||◌, nat_le, nat_lt, option_map}
 use Rattle.std.specs.Int.{cast_signed, w32}
-use Rattle.rv_code.specs.declared.instruction.Instruction.{Instruction as MachineInstruction}
-use Rattle.rv_code.specs.declared.instruction.Instruction.TheVariants.{Lui, Store, Immediate, Register as OnRegisters, Ecall}
+use Rattle.rv_code.specs.declared.instruction.Instruction.TheVariants.{Lui, Store, Immediate, Register as OnRegisters}
 use Rattle.rv_code.specs.declared.instruction.ImmediateOperation.TheVariants.{Addi}
 use Rattle.rv_code.specs.declared.instruction.StoreOperation.TheVariants.{Sw}
 use Rattle.rv_code.specs.declared.instruction.RegisterOperation.TheVariants.{Add}
@@ -24,23 +23,21 @@ use Rattle.emit_pieces.specs.declared.piece.Held.{Held}
 use Rattle.emit_words.specs.Operands.{home_written}
 use Rattle.machine_steps.specs.Holding.{Holding, word_at}
 use Rattle.machine_steps.specs.Doing.{done_by_all}
-use Rattle.machine_steps.specs.Programs.{Program, address_of, CodeAt, behind, Stands}
-use Rattle.machine_steps.specs.Points.{Leads, Ends, Reaches}
+use Rattle.machine_steps.specs.Programs.{Program, address_of, CodeAt, Stands}
+use Rattle.machine_steps.specs.Points.{Ends, Reaches}
 use Rattle.machine_steps.proofs.Calling.{ends_with_status}
 use Rattle.machine_steps.proofs.Placing.{reaches_then, reaches_end}
-use Rattle.machine_steps.proofs.Registers.{register_other}
 use Rattle.machine_steps.proofs.Straight.{code_does}
 use Rattle.emit_memory.specs.Meaning.{Means, HoldsObjects}
 use Rattle.emit_memory.specs.Frames.{Setting, IsStorage, HoldsFrame, Performs}
 use Rattle.emit_memory.proofs.Homes.{can_write, home_performed}
 use Rattle.emit_memory.proofs.Objects.{means_later}
 use Rattle.emit_calls.specs.Ends.{words, going}
-use Rattle.emit_calls.specs.Keeping.{IsTargetAmong, IsSaved, LeavesRest}
+use Rattle.emit_calls.specs.Keeping.{IsTargetAmong, IsSaved}
 use Rattle.emit_calls.specs.Leaving.{words_of_moving, leaving_front, leaving_code, leaving, answer_code}
 use Rattle.emit_calls.specs.Pieces.{Targets, AreInCode, PiecesAt}
 use Rattle.emit_calls.specs.Returns.{IsShownAs, exited as exited_so, Resumes, EndsMain}
-use Rattle.emit_calls.specs.Settings.{IsKept}
-use Rattle.emit_calls.specs.Waiting.{FunctionCode, IsFunctionCode, setting_of, restored, behind_frame, Waits, HoldsWaiting, HoldsAll}
+use Rattle.emit_calls.specs.Waiting.{FunctionCode, IsFunctionCode, setting_of, behind_frame, HoldsWaiting, HoldsAll}
 use Rattle.emit_calls.proofs.Bringing.{home_made}
 use Rattle.emit_calls.proofs.Ended.{IsEndedOr, ended_or, those_ended, objects_ended, length_ended, frame_those}
 use Rattle.emit_calls.proofs.Ends.{going_goes, going_short}
@@ -49,7 +46,7 @@ use Rattle.emit_calls.proofs.Leaving.{IsLeftBy, Leaves, CanLeave, leaving_leaves
 use Rattle.emit_calls.proofs.Loading.{frame_found}
 use Rattle.emit_calls.proofs.Outer.{LeavesAbove, waiting_kept}
 use Rattle.emit_calls.proofs.Placed.{behind_none, GoesTo, words_alone}
-use Rattle.emit_calls.proofs.Restoring.{low_no_home, home_some, restored_a0, behind_other}
+use Rattle.emit_calls.proofs.Restoring.{low_no_home, restored_a0, behind_other}
 use Rattle.emit_calls.proofs.Same.{SameActivation}
 use Rattle.emit_memory.proofs.Arrays.{those_same}
 use Rattle.emit_calls.proofs.Stepping.{AllCome}

@@ -1,16 +1,16 @@
 -- A run begins: the words before all functions and those with which main begins come, in as many instructions, unseen, to where the machine holds the first configuration of the unit's run.
-use Rattle.std.proofs.Common.{◌≡◌, ◌≢◌, ℕ, ◌+◌, ◌*◌, ◌%◌, ◌<◌, ◌≤◌, sym, ap, ◌∙◌, subst, arith, refl, Option, Some, None, Bool, true, false, not, List, [], ◌∷◌, ◌++◌, length, map, slice_get}
-use Rattle.std.specs.Prelude.{◌==◌, option_map, option_and_then}
+use Rattle.std.proofs.Common.{◌≡◌, ◌≢◌, ℕ, ◌+◌, ◌<◌, ◌≤◌, sym, ap, ◌∙◌, subst, arith, refl, Some, true, false, not, List, [], ◌∷◌, ◌++◌, length, slice_get}
+use Rattle.std.specs.Prelude.{option_map, option_and_then}
 use Rattle.std.proofs.lemmas.Bool.{ne_eqb}
 use Rattle.rv_code.specs.declared.instruction.Instruction.{Instruction as MachineInstruction}
 use Rattle.rv_code.specs.declared.instruction.Instruction.TheVariants as instruction
 use Rattle.rv_code.specs.declared.instruction.BranchOperation.TheVariants.{Bne}
 use Rattle.rv_code.specs.declared.instruction.ImmediateOperation.TheVariants.{Addi}
-use Rattle.rv_machine.specs.State.{State, word}
+use Rattle.rv_machine.specs.State.{State}
 use Rattle.rv_machine.specs.Table.{taken, operated_immediate}
 use Rattle.graph_core.specs.declared.value.Value.{Value}
 use Rattle.graph_core.specs.declared.value.Value.TheVariants.{Odd}
-use Rattle.graph_core.specs.Graphs.{Binding, ToScalar, ToObject, Block, Graph, UnitForm}
+use Rattle.graph_core.specs.Graphs.{Binding, Block, Graph, UnitForm}
 use Rattle.graph_core.specs.Memory.{Memory, first_memory}
 use Rattle.graph_core.specs.Runs.{Activation, Configuration, begun, enter, bind_names, bind_objects, with_objects}
 use Rattle.homed_unit.specs.Homed.{placed_graph}
@@ -21,10 +21,9 @@ use Rattle.machine_steps.specs.Programs.{Program, address_of, distance, IsAt, Co
 use Rattle.machine_steps.specs.Points.{Reaches}
 use Rattle.machine_steps.proofs.Jumping.{distance_leads, jump_does, branch_taken}
 use Rattle.machine_steps.proofs.Placing.{code_front, reaches_then}
-use Rattle.machine_steps.proofs.Registers.{register_other}
 use Rattle.machine_steps.proofs.Standing.{index_low}
 use Rattle.machine_steps.proofs.Straight.{code_does}
-use Rattle.emit_calls.specs.Beginning.{guard_code, base_code, entering_code, bindings_code, beginning_code}
+use Rattle.emit_calls.specs.Beginning.{base_code, entering_code, bindings_code, beginning_code}
 use Rattle.emit_calls.specs.Waiting.{FunctionCode, IsFunctionCode, HoldsAll}
 use Rattle.emit_calls.proofs.Placed.{behind_none}
 use Rattle.emit_calls.proofs.Starting.{IsLoaded, first, t4, now, starts, starting_can}

@@ -1,14 +1,14 @@
 -- A step of an instruction that is no call keeps the activation, those that wait, and the objects.
-use Rattle.std.proofs.Common.{◌≡◌, ℕ, ◌+◌, ◌*◌, ◌/◌, ◌≤◌, sym, ap, ◌∙◌, subst, arith, refl, Option, Some, None, Bool, true, false, cond, List, [], ◌∷◌, length, slice_get, slice_set}
+use Rattle.std.proofs.Common.{◌≡◌, ℕ, ◌+◌, ◌*◌, ◌/◌, ◌≤◌, ap, subst, arith, refl, Option, Some, None, Bool, true, false, cond, List, ◌∷◌, length, slice_get, slice_set}
 use Rattle.std.specs.Prelude.{◌==◌, nat_le, option_map, option_and_then, map, replicate}
 use Rattle.std.proofs.lemmas.List.{length-set}
 use Rattle.graph_core.specs.declared.value.Value.{Value}
 use Rattle.graph_core.specs.declared.value.Value.TheVariants.{Number}
 use Rattle.graph_core.specs.declared.instruction.Element.{Element}
-use Rattle.graph_core.specs.Graphs.{Instruction, Marker, Note, Is, Gone, NoteValue, Move, Operate, Truncate, Same, Address, Load, Store, Zero, CopyWords, Call, UnitForm}
+use Rattle.graph_core.specs.Graphs.{Instruction, Marker, Note, Is, Gone, Move, Operate, Truncate, Same, Address, Load, Store, Zero, CopyWords, Call, UnitForm}
 use Rattle.graph_core.specs.Values.{size_of, as_element, is_odd}
 use Rattle.graph_core.specs.Memory.{Memory, Object, words_of, read, write, zeroed, copied, with_value, filled, with_object, elements_from}
-use Rattle.graph_core.specs.Runs.{Configuration, Stepped, Goes, Shows, Ends, Wild, Stop, frame as shown_frame, value, pointed, wrote_some, with_memory, noted, recipe_value, put, marked, at_place, execute}
+use Rattle.graph_core.specs.Runs.{Configuration, Stepped, Goes, Shows, Ends, Wild, Stop, frame as shown_frame, value, pointed, wrote_some, with_memory, recipe_value, put, at_place, execute}
 use Rattle.graph_core.specs.declared.value.Shadow.TheVariants as shadow
 use Rattle.emit_memory.proofs.Accesses.{WritesTo, write_writes}
 use Rattle.emit_memory.proofs.Arrays.{those_same}

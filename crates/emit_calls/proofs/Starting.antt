@@ -1,43 +1,28 @@
 -- Where a run begins the machine comes to hold the activation of main: the words before all functions set sp and tp and call it, and its own make its frame and set gp.
-use Rattle.std.proofs.Common.{◌≡◌, ◌≢◌, ℕ, zero, suc, ◌+◌, ◌-◌, ◌*◌, ◌%◌, ◌<◌, ◌≤◌, ◌⊎◌, ⊎_elim, inl, inr, sym, ap, ◌∙◌, subst, arith, refl, Option, Some, None, Bool, true, false, cond, not, List, [], ◌∷◌, ◌++◌, length, length-append, map, slice_get, slice_index}
-use Rattle.std.specs.Prelude.{option_map}
+use Rattle.std.proofs.Common.{◌≡◌, ℕ, zero, suc, ◌+◌, ◌-◌, ◌*◌, ◌%◌, ◌<◌, ◌≤◌, ◌⊎◌, ⊎_elim, inl, inr, sym, ap, ◌∙◌, subst, arith, refl, Some, None, true, cond, List, [], ◌∷◌, ◌++◌, length, length-append, map, slice_get}
 use Rattle.std.proofs.lemmas.Bool.{le-ltb}
-use Rattle.rv_code.specs.declared.instruction.Instruction.{Instruction as MachineInstruction}
-use Rattle.rv_code.specs.declared.instruction.Instruction.TheVariants as instruction
-use Rattle.rv_code.specs.declared.instruction.BranchOperation.TheVariants.{Bne}
-use Rattle.rv_code.specs.declared.instruction.ImmediateOperation.TheVariants.{Addi}
-use Rattle.rv_machine.specs.State.{State, word}
-use Rattle.rv_machine.specs.Table.{taken, operated_immediate}
-use Rattle.graph_core.specs.declared.value.Value.{Value}
 use Rattle.graph_core.specs.declared.value.Value.TheVariants.{Odd}
 use Rattle.graph_core.specs.declared.value.Shadow.TheVariants as shadow
 use Rattle.graph_core.specs.Graphs.{Block, Graph, UnitForm, StaticObject}
 use Rattle.graph_core.specs.Values.{size_of}
 use Rattle.graph_core.specs.Memory.{Memory, Object, bytes_of, words_of, static_bytes, static_objects, first_values, first_memory, new_object}
-use Rattle.graph_core.specs.Runs.{Activation, Configuration, begun, with_objects}
-use Rattle.homed_unit.specs.Homed.{placed_graph}
-use Rattle.emit_storage.specs.Storages.{StorageForm, home_at, object_at, static_object_at, array_bytes_at}
+use Rattle.graph_core.specs.Runs.{Activation, Configuration}
+use Rattle.emit_storage.specs.Storages.{StorageForm, object_at, static_object_at, array_bytes_at}
 use Rattle.machine_steps.specs.Holding.{Holding, word_at}
-use Rattle.machine_steps.specs.Doing.{done_by_all, CanDoAll, writing}
-use Rattle.machine_steps.specs.Programs.{Program, address_of, distance, IsAt, CodeAt, behind, Stands}
-use Rattle.machine_steps.specs.Points.{Reaches}
-use Rattle.machine_steps.proofs.Jumping.{distance_leads, jump_does, branch_taken}
-use Rattle.machine_steps.proofs.Placing.{done_by_both, can_do_both, reaches_then}
-use Rattle.machine_steps.proofs.Standing.{index_low}
-use Rattle.machine_steps.proofs.Straight.{code_does}
+use Rattle.machine_steps.specs.Doing.{done_by_all, CanDoAll}
+use Rattle.machine_steps.specs.Programs.{address_of}
+use Rattle.machine_steps.proofs.Placing.{done_by_both, can_do_both}
 use Rattle.emit_moves.specs.Doing.{Brings}
 use Rattle.emit_memory.specs.Meaning.{size_at, HoldsObjects, AreLaid}
-use Rattle.emit_memory.specs.Frames.{Setting, IsStorage, HasArray, HoldsFrame}
-use Rattle.emit_memory.proofs.Elements.{word_kept}
+use Rattle.emit_memory.specs.Frames.{Setting, HasArray, HoldsFrame}
 use Rattle.emit_memory.proofs.Limits.{constant_alone}
 use Rattle.emit_memory.proofs.Objects.{WasThere}
-use Rattle.emit_calls.specs.Beginning.{base_code, entering_code, beginning_behind, beginning_code}
+use Rattle.emit_calls.specs.Beginning.{base_code, entering_code}
 use Rattle.emit_calls.specs.Waiting.{FunctionCode, IsFunctionCode, setting_of, HoldsAll}
 use Rattle.emit_calls.proofs.Beginning.{length_mapped}
 use Rattle.emit_calls.proofs.Entering.{Enters, CanEnter, entering_enters}
 use Rattle.emit_calls.proofs.Growing.{addresses_with, grown_new, laid_new, objects_new, below_new, free_new}
 use Rattle.emit_calls.proofs.Outer.{Grown}
-use Rattle.emit_calls.proofs.Placed.{behind_none}
 
 -- ---- Static memory
 

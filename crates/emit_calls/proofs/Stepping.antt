@@ -1,15 +1,15 @@
 -- Where the words of an instruction that goes straight on stand, the machine does its step, and holds all activations behind it.
-use Rattle.std.proofs.Common.{◌≡◌, ℕ, ◌+◌, ◌≤◌, sym, ap, ◌∙◌, subst, arith, refl, Option, Some, None, List, [], ◌∷◌, length, Bool}
+use Rattle.std.proofs.Common.{◌≡◌, ℕ, ◌+◌, ◌≤◌, sym, ap, ◌∙◌, subst, arith, List, [], ◌∷◌, length, Bool}
 use Rattle.std.specs.Prelude.{option_map}
 use Rattle.rv_machine.specs.State.{State}
-use Rattle.graph_core.specs.Graphs.{Instruction, Marker, Note, Move, Operate, Truncate, Same, Address, Load, Store, Zero, CopyWords, Call, Graph, UnitForm}
+use Rattle.graph_core.specs.Graphs.{Instruction, Marker, Note, Move, Operate, Truncate, Same, Address, Load, Store, Zero, CopyWords, Call, UnitForm}
 use Rattle.graph_core.specs.Runs.{Activation, Configuration, Goes, step, step_from, execute}
 use Rattle.graph_core.specs.Uses.{target_of}
 use Rattle.graph_core.specs.Validity.{IsInstruction}
 use Rattle.graph_homes.specs.declared.home.Home.{Home}
 use Rattle.homed_unit.specs.Homed.{placed_instruction}
 use Rattle.emit_pieces.specs.declared.piece.Held.{Held}
-use Rattle.emit_storage.specs.Storages.{StorageForm, home_at}
+use Rattle.emit_storage.specs.Storages.{home_at}
 use Rattle.machine_steps.specs.Holding.{Holding}
 use Rattle.machine_steps.specs.Doing.{done_by_all}
 use Rattle.machine_steps.specs.Programs.{Program, CodeAt, behind, Stands}

@@ -1,5 +1,5 @@
 -- The code with which a function begins. Registers 0, 1, 2, 3, 4 and 17 are the one that is 0, ra, sp, gp, tp and a7.
-use Rattle.std.specs.Prelude.{ℕ, ◌+◌, ◌==◌, Bool, if◌then◌else◌, List, [], ◌∷◌, ◌++◌, slice_get}
+use Rattle.std.specs.Prelude.{ℕ, ◌+◌, Bool, if◌then◌else◌, List, [], ◌∷◌, ◌++◌, slice_get}
 use Rattle.std.specs.Option.{option_map_or}
 use Rattle.word_base.specs.Arithmetic.{subtracted}
 use Rattle.rv_code.specs.declared.instruction.Instruction.{Instruction}

@@ -1,27 +1,25 @@
 -- The code of the ends of blocks. Registers 1, 2, 4, 6, 7 and 10 are ra, sp, tp, t1, t2 and a0.
-use Rattle.std.specs.Prelude.{ℕ, ◌+◌, ◌-◌, ◌*◌, ◌==◌, ◌||◌, not, nat_lt, nat_le, int_lt, Bool, true, false, if◌then◌else◌, Option, Some, None, List, [], ◌∷◌, ◌++◌, length, map}
+use Rattle.std.specs.Prelude.{ℕ, ◌-◌, ◌==◌, not, nat_lt, nat_le, int_lt, Bool, false, if◌then◌else◌, List, [], ◌∷◌, ◌++◌, map}
 use Rattle.std.specs.Option.{option_map_or}
 use Rattle.word_base.specs.Words.{signed}
 use Rattle.rv_code.specs.declared.instruction.Instruction.{Instruction}
 use Rattle.rv_code.specs.declared.instruction.Instruction.TheVariants as instruction
 use Rattle.rv_code.specs.declared.instruction.BranchOperation.{BranchOperation}
 use Rattle.rv_code.specs.declared.instruction.BranchOperation.TheVariants.{Beq, Bne, Blt, Bge, Bltu, Bgeu}
-use Rattle.rv_code.specs.declared.instruction.LoadOperation.TheVariants.{Lw}
 use Rattle.rv_code.specs.declared.instruction.ImmediateOperation.TheVariants.{Addi}
-use Rattle.rv_code.specs.declared.instruction.RegisterOperation.TheVariants as on
 use Rattle.graph_core.specs.declared.block.Comparison.{Comparison}
 use Rattle.graph_core.specs.declared.block.Comparison.TheVariants.{Equal, NotEqual, Less, AtLeast, LessUnsigned, AtLeastUnsigned}
-use Rattle.graph_core.specs.Graphs.{Operand, End, Jump, Branch, Return}
+use Rattle.graph_core.specs.Graphs.{End, Jump, Branch, Return}
 use Rattle.emit_pieces.specs.declared.piece.Held.{Held}
 use Rattle.emit_pieces.specs.declared.piece.Piece.{Piece}
 use Rattle.emit_pieces.specs.declared.piece.Piece.TheVariants as piece
 use Rattle.emit_storage.specs.declared.storage.Source.{Source}
 use Rattle.emit_storage.specs.declared.storage.Source.TheVariants.{Home as OfHome, Word}
 use Rattle.emit_storage.specs.Storages.{StorageForm, source_of}
-use Rattle.emit_words.specs.Fetching.{most_words_of_source, most_words_to_bring}
+use Rattle.emit_words.specs.Fetching.{most_words_of_source}
 use Rattle.emit_words.specs.Growing.{holder_of, forgotten}
-use Rattle.emit_words.specs.Constants.{is_small, words_of_constant, constant_by, constant_code}
-use Rattle.emit_words.specs.Operands.{source_register, fetched_source, bringing}
+use Rattle.emit_words.specs.Constants.{words_of_constant, constant_by}
+use Rattle.emit_words.specs.Operands.{source_register, fetched_source}
 use Rattle.machine_steps.specs.Programs.{behind}
 use Rattle.emit_calls.specs.Pieces.{opposite}
 

@@ -4,7 +4,6 @@ use Rattle.rv_code.specs.declared.instruction.Instruction.{Instruction}
 use Rattle.rv_code.specs.declared.instruction.Instruction.TheVariants.{Immediate, Ecall}
 use Rattle.rv_code.specs.declared.instruction.ImmediateOperation.TheVariants.{Addi}
 use Rattle.graph_core.specs.Graphs.{Operand}
-use Rattle.graph_homes.specs.declared.home.Home.{Home}
 use Rattle.emit_pieces.specs.declared.piece.Held.{Held}
 use Rattle.emit_storage.specs.Storages.{StorageForm, source_of}
 use Rattle.emit_words.specs.Growing.{forgotten}

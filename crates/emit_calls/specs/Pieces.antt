@@ -1,6 +1,5 @@
 -- Where pieces of code stand in the code of the machine.
 use Rattle.std.specs.Prelude.{◌≡◌, ℕ, ◌+◌, ◌≤◌, ◌⊎◌, Bool, false, List, [], ◌∷◌}
-use Rattle.rv_code.specs.declared.instruction.Instruction.{Instruction}
 use Rattle.rv_code.specs.declared.instruction.Instruction.TheVariants as instruction
 use Rattle.rv_code.specs.declared.instruction.BranchOperation.{BranchOperation}
 use Rattle.rv_code.specs.declared.instruction.BranchOperation.TheVariants.{Beq, Bne, Blt, Bge, Bltu, Bgeu}

@@ -1,5 +1,5 @@
 -- Code where scratch registers hold other constants, and registers that are left as they are.
-use Rattle.std.specs.Prelude.{◌≢◌, ℕ, ◌+◌, ◌<◌, ◌⊎◌, List, [], ◌∷◌}
+use Rattle.std.specs.Prelude.{◌≢◌, ℕ, ◌<◌, ◌⊎◌, List, [], ◌∷◌}
 use Rattle.emit_pieces.specs.declared.piece.Held.{Held}
 use Rattle.emit_moves.specs.Doing.{IsLeft}
 use Rattle.emit_memory.specs.Frames.{Setting, IsScratch}
