@@ -2,6 +2,7 @@ pub mod Beginning
 pub mod Binding
 pub mod Bindings
 pub mod Bringing
+pub mod CallSteps
 pub mod Calling
 pub mod Comparing
 pub mod Ended
