@@ -23,5 +23,6 @@ pub mod ReturnEnds
 pub mod Returning
 pub mod Running
 pub mod Same
+pub mod Saved
 pub mod Starting
 pub mod Stepping
