@@ -11,6 +11,7 @@ pub mod Entering
 pub mod Filling
 pub mod Growing
 pub mod Keeping
+pub mod LaidOut
 pub mod Leaving
 pub mod Library
 pub mod Loading
