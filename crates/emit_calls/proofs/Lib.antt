@@ -1,3 +1,4 @@
+pub mod Appended
 pub mod Beginning
 pub mod Binding
 pub mod Bindings

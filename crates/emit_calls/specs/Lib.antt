@@ -5,6 +5,7 @@ pub mod Leaving
 pub mod Markers
 pub mod Passing
 pub mod Pieces
+pub mod Placed
 pub mod Returns
 pub mod Settings
 pub mod Waiting
