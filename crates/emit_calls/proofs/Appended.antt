@@ -1,13 +1,13 @@
 -- Pieces that were appended to code stand behind it, where all of it stands.
-use Rattle.std.proofs.Common.{◌≡◌, ℕ, ◌+◌, sym, ap, ◌∙◌, subst, refl, append_assoc, append-nil, Bool, false, Option, Some, None, List, [], ◌∷◌, ◌++◌}
+use Rattle.std.proofs.Common.{◌≡◌, ℕ, sym, ◌∙◌, refl, append_assoc, append-nil, Bool, false, None, List, [], ◌∷◌, ◌++◌}
 use Rattle.rv_code.specs.declared.instruction.Instruction.{Instruction}
 use Rattle.emit_pieces.specs.declared.piece.Piece.{Piece}
 use Rattle.emit_pieces.specs.declared.piece.Piece.TheVariants as piece
 use Rattle.emit_pieces.specs.declared.piece.PlacedPiece.{PlacedPiece}
 use Rattle.emit_words.specs.Growing.{CodeState, with_code, with_piece, marked}
-use Rattle.machine_steps.specs.Programs.{Program, CodeAt}
+use Rattle.machine_steps.specs.Programs.{Program}
 use Rattle.emit_calls.specs.Ends.{words}
-use Rattle.emit_calls.specs.Pieces.{Targets, PieceAt, PiecesAt}
+use Rattle.emit_calls.specs.Pieces.{Targets, PiecesAt}
 use Rattle.emit_calls.specs.Placed.{with_pieces, placed_pieces, PlacedAt}
 
 -- Words are pieces.

@@ -1,5 +1,5 @@
 -- Where the words of a call stand, the machine does the unit's step: a function begins, a byte is put out or read, the run ends.
-use Rattle.std.proofs.Common.{◌≡◌, ℕ, ◌+◌, ◌<◌, ◌≤◌, sym, ap, ◌∙◌, subst, arith, refl, Option, Some, None, Bool, true, false, cond, List, [], ◌∷◌, ◌++◌, length, map, slice_get}
+use Rattle.std.proofs.Common.{◌≡◌, ℕ, ◌+◌, ◌<◌, ◌≤◌, sym, subst, refl, Option, Some, None, Bool, true, false, cond, List, [], ◌∷◌, ◌++◌, length, map, slice_get}
 use Rattle.std.specs.Prelude.{option_map}
 use Rattle.std.specs.List.{AllByRecursion, list_any}
 use Rattle.rv_code.specs.declared.instruction.Instruction.TheVariants as instruction
@@ -8,7 +8,7 @@ use Rattle.rv_machine.specs.State.{State}
 use Rattle.graph_core.specs.declared.value.Value.{Value}
 use Rattle.graph_core.specs.declared.instruction.Callee.{Callee}
 use Rattle.graph_core.specs.declared.instruction.Callee.TheVariants as callee
-use Rattle.graph_core.specs.Graphs.{Operand, Instruction, Call, Block, Graph, UnitForm}
+use Rattle.graph_core.specs.Graphs.{Operand, Instruction, Call, Block, UnitForm}
 use Rattle.graph_core.specs.Values.{is_odd}
 use Rattle.graph_core.specs.Runs.{Activation, Configuration, Stepped, Wild, value, first_of, put_out, exited, call, step, step_from}
 use Rattle.graph_core.specs.Validity.{IsOperand, IsWanted}

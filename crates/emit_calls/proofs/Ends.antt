@@ -36,7 +36,7 @@ use Rattle.emit_memory.specs.Frames.{Setting, IsStorage, HoldsFrame, IsWord}
 use Rattle.emit_memory.proofs.Homes.{frame_stays}
 use Rattle.emit_memory.proofs.Operands.{operand_readable, operand_means}
 use Rattle.emit_calls.specs.Pieces.{Targets, AreInCode, opposite, PiecesAt}
-use Rattle.emit_calls.specs.Ends.{words, loading_code, loading_held, going, going_by, jumping, Compared, branch_operation, word_test, with_zero, room_of, comparing_code, branching, choosing, choosing_held, end_pieces, end_held}
+use Rattle.emit_calls.specs.Ends.{words, loading_code, loading_held, going, going_by, jumping, Compared, branch_operation, word_test, with_zero, room_of, comparing_code, branching, choosing, choosing_held, end_pieces, end_held, IsGoing}
 use Rattle.emit_calls.specs.Settings.{with_held, IsKept, AreLoads}
 use Rattle.emit_calls.proofs.Comparing.{branch_tests, comparison_means, with_zero_tests, with_zero_readable}
 use Rattle.emit_calls.proofs.Placed.{WordsFirst, words_first, opposite_taken, GoesTo, jump_goes, taken_goes, not_taken_goes}
@@ -188,12 +188,6 @@ comes_within {p} {s} {b} {most} {to} {w} {h} {d} comes = record {
   memory = comes.memory;
   input = comes.input;
 }
-
--- An end is no return, and its constants are words.
-abbrev pub IsGoing : End → Type 0
-IsGoing (Jump to) = Unit {0}
-IsGoing (Branch k x y if_true if_false) = IsWord x × IsWord y
-IsGoing (Return v) = ⊥
 
 -- Which constants are held is no part of where values are found.
 pub storage_reheld : (w : Setting) (held : List Held) → IsStorage w → IsStorage (with_held held w)

@@ -1,13 +1,10 @@
 -- A frame that is laid out as frames are has room for all that it is to have.
-use Rattle.std.proofs.Common.{◌≡◌, ◌≢◌, ℕ, zero, suc, ◌+◌, ◌*◌, ◌/◌, ◌%◌, ◌<◌, ◌≤◌, ◌⊎◌, ⊎_elim, inl, inr, sym, ap, ◌∙◌, subst, arith, refl, Option, Some, None, List, [], ◌∷◌, length, slice_get, slice_index}
+use Rattle.std.proofs.Common.{◌≡◌, ◌≢◌, ℕ, zero, suc, ◌+◌, ◌%◌, ◌<◌, ◌≤◌, ⊎_elim, inl, inr, sym, ap, ◌∙◌, subst, arith, refl, Some, List, [], ◌∷◌, length, slice_get, slice_index}
 use Rattle.std.specs.List.{AllByRecursion}
-use Rattle.std.specs.Option.{option_map_or}
 use Rattle.std.proofs.lemmas.Bool.{cases_lt}
 use Rattle.graph_core.specs.declared.graph.MemoryObject.{MemoryObject}
 use Rattle.graph_core.specs.Graphs.{UnitForm}
 use Rattle.graph_core.specs.Validity.{total, taken_by_object}
-use Rattle.graph_homes.specs.declared.home.Home.{Home}
-use Rattle.graph_homes.specs.declared.home.Home.TheVariants.{Register, Slot}
 use Rattle.homed_unit.specs.Frames.{slots_start, objects_start, object_offsets, frame_size, saved}
 use Rattle.homed_unit.specs.Homed.{IsHomeRegister, IsHomeAmong}
 use Rattle.emit_storage.specs.Storages.{home_at, object_at}

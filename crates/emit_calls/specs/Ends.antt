@@ -21,6 +21,7 @@ use Rattle.emit_words.specs.Growing.{holder_of, forgotten}
 use Rattle.emit_words.specs.Constants.{words_of_constant, constant_by}
 use Rattle.emit_words.specs.Operands.{source_register, fetched_source}
 use Rattle.machine_steps.specs.Programs.{behind}
+use Rattle.emit_memory.specs.Frames.{IsWord}
 use Rattle.emit_calls.specs.Pieces.{opposite}
 
 -- Words as pieces.
@@ -170,3 +171,9 @@ end_held g held loads (Branch k x y if_true if_false) =
     if if_true == if_false then loading_held g.base 8 loads held
     else choosing_held g held loads k (source_of g x) (source_of g y)
 end_held g held loads (Return v) = []
+
+-- An end is no return, and its constants are words.
+abbrev pub IsGoing : End → Type 0
+IsGoing (Jump to) = Unit {0}
+IsGoing (Branch k x y if_true if_false) = IsWord x × IsWord y
+IsGoing (Return v) = ⊥
