@@ -2,6 +2,7 @@ pub mod Appended
 pub mod Beginning
 pub mod Binding
 pub mod Bindings
+pub mod Blocks
 pub mod Bringing
 pub mod CallSteps
 pub mod Calling

@@ -38,7 +38,7 @@ stop_stands p t i b (piece.Branch op l r to) more j (k, inl (at, next), rest) = 
 stop_stands p t i b (piece.Branch op l r to) more j (k, inr (at, over, next), rest) = at.stop
 
 -- Which place is in force is no part of the frame.
-place_framed : (w : Setting) (c : Configuration) (h : Holding) (place : ℕ) → HoldsFrame w c h → HoldsFrame w (at_place place c) h
+pub place_framed : (w : Setting) (c : Configuration) (h : Holding) (place : ℕ) → HoldsFrame w c h → HoldsFrame w (at_place place c) h
 place_framed w c h place frame = record {
   fetch = frame.fetch;
   scratch = frame.scratch;
