@@ -11,7 +11,9 @@ use Rattle.c_law_types.specs.Statements.{are_statements}
 use Rattle.c_law_counts.specs.Nodes.{statements_nodes}
 use Rattle.c_laws.specs.Orders.{ascends, is_numbered, never_falls}
 use Rattle.c_laws.specs.Declarations.{declared_in_all}
+use Rattle.c_laws.specs.Parameters.{parameters_single}
 use Rattle.c_laws.specs.Plain.{are_plain}
+use Rattle.c_laws.specs.Statics.{literals_sound, statics_sound}
 use Rattle.c_laws.specs.Objects.{are_ended, are_static, arrays_are_kept}
 
 -- Places ascend strictly in the text, and their lines do not fall.
@@ -69,10 +71,15 @@ is_within p = nat_le (length p.functions) 256 && nat_le (weight_of p.functions) 
 abbrev pub are_objects : ProgramTree → Bool
 are_objects p = arrays_are_kept p.automatics && are_static p p.statics && are_ended p.literals && are_ended p.array_literals
 
+-- Its static storage is sound.
+abbrev pub is_sound : ProgramTree → Bool
+is_sound p = statics_sound p.statics && literals_sound p.literals
+
 -- A program is well formed: it keeps each of these laws.
 abbrev pub is_well_formed : ProgramTree → Bool
 is_well_formed p =
     objects_ascend p && follow 0 (length p.automatics) p.functions && is_main (slice_get p.functions p.main) && are_objects p && are_functions p p.functions && is_within p && places_ascend (places_of_program p)
+    && parameters_single p.automatics p.functions && is_sound p
 
 -- A program that keeps each of these laws.
 abbrev pub IsWellFormed : ProgramTree → Type 0

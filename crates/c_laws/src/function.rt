@@ -80,7 +80,7 @@ fn memory_room(variables: &[AutomaticVariable]) -> Result<u64, AllocError>
 }
 
 /// So many elements from one on, as far as there are.
-fn stretch(all: &[AutomaticVariable], first: u32, count: u32) -> &[AutomaticVariable]
+pub fn stretch(all: &[AutomaticVariable], first: u32, count: u32) -> &[AutomaticVariable]
     ensures { result.now ≡ take count (drop first all.now) }
 {
     let first = first as usize;

@@ -11,6 +11,8 @@ ghost use Rattle.c_laws.specs.Laws.{IsWellFormed, are_objects, is_well_formed, i
 use crate::function::{are_functions, follow, is_main, weight_of};
 use crate::objects::{are_ended, are_static, arrays_are_kept};
 use crate::order::{ascends, never_falls};
+use crate::parameters::parameters_single;
+use crate::sound::is_sound;
 use c_places::{Place, places_of_program};
 use c_tree::{AutomaticVariable, Program, StaticVariable, StringLiteral};
 use c_type_bounds::program_breach;
@@ -160,7 +162,9 @@ fn keeps_laws(alloc: Global, program: &Program) -> Result<bool, AllocError>
             && objects
             && functions
             && within
-            && places,
+            && places
+            && parameters_single(&program.automatics, &program.functions)
+            && is_sound(program),
     )
 }
 

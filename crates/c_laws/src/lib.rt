@@ -6,6 +6,8 @@ mod function;
 mod law;
 mod objects;
 mod order;
+mod parameters;
 mod plain;
+mod sound;
 
 pub use law::is_well_formed;

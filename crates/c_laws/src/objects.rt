@@ -14,7 +14,7 @@ use c_type_rules::{loaded, object_size, same_value, scalar_size};
 use std::alloc::{AllocError, Global};
 
 /// The type of a scalar, or of an array's elements.
-fn element_of(of: ObjectType) -> Scalar
+pub fn element_of(of: ObjectType) -> Scalar
     ensures { result ≡ element_of of }
 {
     match of {

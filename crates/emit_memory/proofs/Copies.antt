@@ -31,7 +31,7 @@ use Rattle.emit_moves.specs.Doing.{Brings, CanFetch, IsLeft}
 use Rattle.emit_moves.proofs.Computing.{can_fetch_stays}
 use Rattle.emit_moves.proofs.Moves.{constant_set}
 use Rattle.emit_memory.specs.Meaning.{bits_at, low_bits, HoldsBits}
-use Rattle.emit_memory.specs.Frames.{Setting, IsStorage, HasArray, HoldsFrame}
+use Rattle.emit_memory.specs.Frames.{Setting, IsStorage, HasArray, HoldsFrame, IsOutside}
 use Rattle.emit_memory.proofs.Elements.{kept_means}
 use Rattle.emit_memory.proofs.Filled.{filled_framed}
 use Rattle.emit_memory.proofs.Limits.{address_brings, limit_brings}
@@ -182,6 +182,16 @@ module _ (p : Program) (s : State) (index : ℕ) (b : Bool) (w : Setting) (c : C
       (λ (above : array_bytes_at w.storage source + 4 * words_of (length all) ≤ w.addresses (c.here.first_object + object)). inl (omega (arith, above, few, here)))
       (has.apart (c.here.first_object + object) is_copied.filling.object is_copied.filling.there is_copied.filling.live)
 
+  -- A byte outside of the words of live objects is none of those that are set.
+  beside : (y : ℕ) → IsOutside w c h y → (y < to) ⊎ (to + 4 * words ≤ y)
+  beside y out =
+      let few = is_copied.filling.few in
+      let here = own in
+      ⊎_elim
+      (λ (low : y < w.addresses (c.here.first_object + object)). inl (omega (arith, low, here)))
+      (λ (past : w.addresses (c.here.first_object + object) + 4 * words_of (bytes_of is_copied.filling.object) ≤ y). inr (omega (arith, past, here, few)))
+      (out.1 (c.here.first_object + object) is_copied.filling.object is_copied.filling.there is_copied.filling.live)
+
   framed : (t : Holding) → ((x : ℕ) → t.memory x < 256) → ((q : ℕ) → IsLeft q → q ≢ 10 → t.registers q ≡ h.registers q) → AreCopied to from words h.memory t.memory → HoldsFrame w (record c { memory = later }) t
   framed t small kept copies = copies_framed w c h storage frame (c.here.first_object + object) words all source later is_copied has t small kept (subst (λ a. AreCopied a from words h.memory t.memory) (sym own) copies)
 
@@ -204,7 +214,7 @@ module _ (p : Program) (s : State) (index : ℕ) (b : Bool) (w : Setting) (c : C
 
   ends : (k : ℕ) → words ≡ suc k → IsCopySetUp setup h to from words → (first : Reaches p (length setup) (record { state = s; shown = b }) [] (index + length setup) (behind b setup) (done_by_all setup h))
       → LoopDone p first.state (index + length setup) ((4 + 1) * (k + 1)) (index + length setup + 4 + 1) (CopiesLeft (done_by_all setup h) to from words)
-      → Comes p s index b (length (setup ++ loop) + 5 * words) (setup ++ loop) w h (record c { memory = later })
+      → Comes p s index b (length (setup ++ loop) + 5 * words) (setup ++ loop) w c.memory h (record c { memory = later })
   ends k m up first done =
       let t : Holding = done_by_all setup h in
       let u : Holding = done.holding in
@@ -215,18 +225,20 @@ module _ (p : Program) (s : State) (index : ℕ) (b : Bool) (w : Setting) (c : C
       let end : index + length setup + 4 + 1 ≡ index + length (setup ++ loop) = omega (arith, size) in
       let kept : (q : ℕ) → IsLeft q → q ≢ 10 → u.registers q ≡ h.registers q = λ q left other. done.left.kept q left ∙ up.kept q left other in
       let full : done.left.done ≡ words = let sum = done.left.sum in omega (arith, sum) in
+      let set : AreCopied to from words h.memory u.memory = subst (λ m2. AreCopied to from words m2 u.memory) up.memory (subst (λ d. AreCopied to from d t.memory u.memory) full done.left.memory) in
       record {
         count = length setup + (4 + 1) * (k + 1);
         few = omega (arith, size, m);
         holding = u;
         reaches = subst (λ x. Reaches p (length setup + (4 + 1) * (k + 1)) (record { state = s; shown = b }) [] (index + length (setup ++ loop)) x u) (sym (setup_behind loop))
             (subst (λ i. Reaches p (length setup + (4 + 1) * (k + 1)) (record { state = s; shown = b }) [] i false u) end whole);
-        frame = framed u done.left.small kept (subst (λ m2. AreCopied to from words m2 u.memory) up.memory (subst (λ d. AreCopied to from d t.memory u.memory) full done.left.memory));
+        frame = framed u done.left.small kept set;
         kept = kept;
+        outside = λ y out. set.outside y (beside y out);
         input = done.left.input ∙ up.input;
       }
 
-  looping : (k : ℕ) → words ≡ suc k → CodeAt p index b (setup ++ loop) → Comes p s index b (length (setup ++ loop) + 5 * words) (setup ++ loop) w h (record c { memory = later })
+  looping : (k : ℕ) → words ≡ suc k → CodeAt p index b (setup ++ loop) → Comes p s index b (length (setup ++ loop) + 5 * words) (setup ++ loop) w c.memory h (record c { memory = later })
   looping k more code =
       let high = has.high in
       let up : IsCopySetUp setup h to from words = copy_set_up w h (object_at w.storage object) from words frame.fetch (omega (arith, high)) to_fits in
@@ -248,14 +260,14 @@ module _ (p : Program) (s : State) (index : ℕ) (b : Bool) (w : Setting) (c : C
       (loop_done p (index + length setup) copy_body 10 (CopiesLeft t to from words) (copy_turns t to from words to_fits from_fits apart to_stands from_stands) body_there k first.state t first.stands start)
 
   -- The words of the instruction.
-  pub copy_comes : CodeAt p index b (copy_code w.storage w.held object source words) → Comes p s index b (length (copy_code w.storage w.held object source words) + 5 * words) (copy_code w.storage w.held object source words) w h (record c { memory = later })
+  pub copy_comes : CodeAt p index b (copy_code w.storage w.held object source words) → Comes p s index b (length (copy_code w.storage w.held object source words) + 5 * words) (copy_code w.storage w.held object source words) w c.memory h (record c { memory = later })
   copy_comes = by_test (words == 0) refl
     where
-      by_count : (k : ℕ) → words ≡ k → (words == 0) ≡ false → CodeAt p index b (setup ++ loop) → Comes p s index b (length (setup ++ loop) + 5 * words) (setup ++ loop) w h (record c { memory = later })
+      by_count : (k : ℕ) → words ≡ k → (words == 0) ≡ false → CodeAt p index b (setup ++ loop) → Comes p s index b (length (setup ++ loop) + 5 * words) (setup ++ loop) w c.memory h (record c { memory = later })
       by_count zero e is code = let clash : true ≡ false = sym (eq-eqb words 0 e) ∙ is in cc
       by_count (suc k) e is code = looping k e code
 
-      nothing : words ≡ 0 → Comes p s index b (0 + 5 * words) [] w h (record c { memory = later })
+      nothing : words ≡ 0 → Comes p s index b (0 + 5 * words) [] w c.memory h (record c { memory = later })
       nothing none = record {
         count = 0;
         few = omega arith;
@@ -263,9 +275,10 @@ module _ (p : Program) (s : State) (index : ℕ) (b : Bool) (w : Setting) (c : C
         reaches = code_does p s index h b [] stands tt tt;
         frame = framed h stands.in_range.bytes (λ q left other. refl) (subst (λ k. AreCopied to from k h.memory h.memory) (sym none) (none_copied to from h.memory));
         kept = λ q left other. refl;
+        outside = λ y out. refl;
         input = refl;
       }
 
-      by_test : (z : Bool) → (words == 0) ≡ z → CodeAt p index b (cond z [] (setup ++ loop)) → Comes p s index b (length (cond z [] (setup ++ loop)) + 5 * words) (cond z [] (setup ++ loop)) w h (record c { memory = later })
+      by_test : (z : Bool) → (words == 0) ≡ z → CodeAt p index b (cond z [] (setup ++ loop)) → Comes p s index b (length (cond z [] (setup ++ loop)) + 5 * words) (cond z [] (setup ++ loop)) w c.memory h (record c { memory = later })
       by_test true is code = nothing (eqb-true words 0 is)
       by_test false is code = by_count words refl is code

@@ -88,7 +88,7 @@ address_computes h rd offset some fits = by_tests (nat_lt offset 2048) (low_part
 -- ---- Stores
 
 -- A register, in which words brought a value, is stored where other words find the element.
-element_stored : (w : Setting) (c : Configuration) (h : Holding) → IsStorage w → HoldsFrame w c h → (front : List MachineInstruction) (r : Reach) (e : Element) (rs x : ℕ) (p v : Value) (n : ℕ) (o : Object) (i : ℕ)
+pub element_stored : (w : Setting) (c : Configuration) (h : Holding) → IsStorage w → HoldsFrame w c h → (front : List MachineInstruction) (r : Reach) (e : Element) (rs x : ℕ) (p v : Value) (n : ℕ) (o : Object) (i : ℕ)
     → Hits c.memory e p n o i → CanDoAll front h → (done_by_all front h).registers rs ≡ x → ((q : ℕ) → IsLeft q → (done_by_all front h).registers q ≡ h.registers q) → (done_by_all front h).memory ≡ h.memory
     → (done_by_all front h).input ≡ h.input → Finds r (done_by_all front h) (w.addresses n + i * size_of o.element) → rs ≢ 5 → rs ≢ 7 → Means w.addresses c.memory v x → x < 4294967296
     → Performs w c h None (front ++ storing e r rs) (record c { memory = slice_set c.memory n (with_value i v o) })

@@ -59,7 +59,7 @@ address_brings h r offset some apart fits = by_tests (nat_lt offset 2048) (low_p
         }
 
 -- A constant by no other register: it is never near 0 where it is not small.
-constant_alone : (h : Holding) (r n : ℕ) → 0 < r → n < 4294967296 → h.registers 0 ≡ 0 → Brings (constant_code r n 0) h r r n
+pub constant_alone : (h : Holding) (r n : ℕ) → 0 < r → n < 4294967296 → h.registers 0 ≡ 0 → Brings (constant_code r n 0) h r r n
 constant_alone h r n some fits none = by_tests (is_small n) (low_part n == 0) (is_small (subtracted n 0)) refl refl refl
   where
     same : subtracted n 0 ≡ n

@@ -28,12 +28,12 @@ get_set (x ∷ xs) (suc n) (suc m) y z h = elim (get_set xs n m y z h) [
   | inr both ↦ inr ((λ e. both.0 (omega (arith, e))), both.1)
 ]
 
-set_here : {A : Type 0} (xs : List A) (n : ℕ) (x y : A) → slice_get xs n ≡ Some x → slice_get (slice_set xs n y) n ≡ Some y
+pub set_here : {A : Type 0} (xs : List A) (n : ℕ) (x y : A) → slice_get xs n ≡ Some x → slice_get (slice_set xs n y) n ≡ Some y
 set_here [] n x y h = cc
 set_here (z ∷ xs) zero x y h = refl
 set_here (z ∷ xs) (suc n) x y h = set_here xs n x y h
 
-set_elsewhere : {A : Type 0} (xs : List A) (n m : ℕ) (y : A) → m ≢ n → slice_get (slice_set xs n y) m ≡ slice_get xs m
+pub set_elsewhere : {A : Type 0} (xs : List A) (n m : ℕ) (y : A) → m ≢ n → slice_get (slice_set xs n y) m ≡ slice_get xs m
 set_elsewhere [] n m y ne = refl
 set_elsewhere (z ∷ xs) zero zero y ne = absurd (ne refl)
 set_elsewhere (z ∷ xs) zero (suc m) y ne = refl

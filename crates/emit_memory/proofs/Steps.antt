@@ -79,16 +79,16 @@ step_arrives p s index b w c d h x rest storage frame stands there is valid stra
 -- Where the words stand that set an object to zero, the machine comes behind them, in at most as many instructions as they are and three for each word, unseen, and holds the frame of the configuration to which the step leads.
 pub zero_arrives : (p : Program) (s : State) (index : ℕ) (b : Bool) (w : Setting) (c d : Configuration) (h : Holding) (object words : ℕ) (rest : List Instruction) → IsStorage w → HoldsFrame w c h → Stands p s index h
     → CodeAt p index b (zero_code w.storage object words) → c.here.rest ≡ placed_instruction (home_at w.storage) (Zero object words) ∷ rest → IsInstruction w.unit w.graph (Zero object words) → step w.unit c ≡ Goes d
-    → Comes p s index b (length (zero_code w.storage object words) + 3 * words) (zero_code w.storage object words) w h d
+    → Comes p s index b (length (zero_code w.storage object words) + 3 * words) (zero_code w.storage object words) w c.memory h d
 zero_arrives p s index b w c d h object words rest storage frame stands there is valid goes =
     by_memory (zeroed c.memory (c.here.first_object + object) words) refl (ap (λ all. step_from w.unit all c) (sym is) ∙ goes)
   where
     by_memory : (later : Option Memory) → zeroed c.memory (c.here.first_object + object) words ≡ later → with_memory (going_on c rest) later ≡ Goes d
-        → Comes p s index b (length (zero_code w.storage object words) + 3 * words) (zero_code w.storage object words) w h d
+        → Comes p s index b (length (zero_code w.storage object words) + 3 * words) (zero_code w.storage object words) w c.memory h d
     by_memory None made e = cc
     by_memory (Some later) made e =
         let same : record (going_on c rest) { memory = later } ≡ d = cc in
-        subst (λ q. Comes p s index b (length (zero_code w.storage object words) + 3 * words) (zero_code w.storage object words) w h q) same
+        subst (λ q. Comes p s index b (length (zero_code w.storage object words) + 3 * words) (zero_code w.storage object words) w c.memory h q) same
         (zero_comes p s index b w (going_on c rest) h storage (rest_framed w c h rest frame) object words later valid stands made there)
 
 pub zero_appended : (g : StorageForm) (entry object words : ℕ) (s : CodeState) → with_instruction g entry (Zero object words) s ≡ with_code (zero_code g object words) s
@@ -97,20 +97,20 @@ zero_appended g entry object words s = refl
 -- The same of the words that copy an array's bytes, with five instructions for each word.
 pub copy_arrives : (p : Program) (s : State) (index : ℕ) (b : Bool) (w : Setting) (c d : Configuration) (h : Holding) (object bytes words : ℕ) (rest : List Instruction) → IsStorage w → HoldsFrame w c h → Stands p s index h
     → CodeAt p index b (copy_code w.storage w.held object bytes words) → c.here.rest ≡ placed_instruction (home_at w.storage) (CopyWords object bytes words) ∷ rest → IsInstruction w.unit w.graph (CopyWords object bytes words) → step w.unit c ≡ Goes d
-    → Comes p s index b (length (copy_code w.storage w.held object bytes words) + 5 * words) (copy_code w.storage w.held object bytes words) w h d
+    → Comes p s index b (length (copy_code w.storage w.held object bytes words) + 5 * words) (copy_code w.storage w.held object bytes words) w c.memory h d
 copy_arrives p s index b w c d h object bytes words rest storage frame stands code is valid goes =
     by_array (slice_get w.unit.array_bytes bytes) refl (ap (λ all. step_from w.unit all c) (sym is) ∙ goes)
   where
     by_memory : (all : List ℕ) → slice_get w.unit.array_bytes bytes ≡ Some all → (later : Option Memory) → copied c.memory (c.here.first_object + object) all words ≡ later → with_memory (going_on c rest) later ≡ Goes d
-        → Comes p s index b (length (copy_code w.storage w.held object bytes words) + 5 * words) (copy_code w.storage w.held object bytes words) w h d
+        → Comes p s index b (length (copy_code w.storage w.held object bytes words) + 5 * words) (copy_code w.storage w.held object bytes words) w c.memory h d
     by_memory all there None made e = cc
     by_memory all there (Some later) made e =
         let same : record (going_on c rest) { memory = later } ≡ d = cc in
-        subst (λ q. Comes p s index b (length (copy_code w.storage w.held object bytes words) + 5 * words) (copy_code w.storage w.held object bytes words) w h q) same
+        subst (λ q. Comes p s index b (length (copy_code w.storage w.held object bytes words) + 5 * words) (copy_code w.storage w.held object bytes words) w c.memory h q) same
         (copy_comes p s index b w (going_on c rest) h storage (rest_framed w c h rest frame) object bytes words all later valid.0 there stands made code)
 
     by_array : (found : Option (List ℕ)) → slice_get w.unit.array_bytes bytes ≡ found → with_memory (going_on c rest) (option_and_then (λ all. copied c.memory (c.here.first_object + object) all words) found) ≡ Goes d
-        → Comes p s index b (length (copy_code w.storage w.held object bytes words) + 5 * words) (copy_code w.storage w.held object bytes words) w h d
+        → Comes p s index b (length (copy_code w.storage w.held object bytes words) + 5 * words) (copy_code w.storage w.held object bytes words) w c.memory h d
     by_array None there e = cc
     by_array (Some all) there e = by_memory all there (copied c.memory (c.here.first_object + object) all words) refl e
 

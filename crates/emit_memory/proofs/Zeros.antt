@@ -1,5 +1,5 @@
 -- The words that set an object to zero do the unit's step.
-use Rattle.std.proofs.Common.{◌≡◌, ◌≢◌, ℕ, zero, suc, ◌+◌, ◌*◌, ◌/◌, ◌%◌, ◌<◌, ◌≤◌, ⊎_elim, inl, inr, sym, ap, ◌∙◌, subst, arith, refl, List, [], ◌∷◌, ◌++◌, length, slice_get, slice_set, Option, Some, None, Bool, true, false, cond, length-append, append_assoc}
+use Rattle.std.proofs.Common.{◌≡◌, ◌≢◌, ℕ, zero, suc, ◌+◌, ◌*◌, ◌/◌, ◌%◌, ◌<◌, ◌≤◌, ◌⊎◌, ⊎_elim, inl, inr, sym, ap, ◌∙◌, subst, arith, refl, List, [], ◌∷◌, ◌++◌, length, slice_get, slice_set, Option, Some, None, Bool, true, false, cond, length-append, append_assoc}
 use Rattle.std.specs.Prelude.{◌==◌, ◌||◌, ◌&&◌, nat_le, nat_lt, replicate, option_map, option_and_then}
 use Rattle.std.proofs.lemmas.Bool.{eq-eqb, leb-true}
 use Rattle.std.proofs.lemmas.List.{length-replicate}
@@ -30,7 +30,7 @@ use Rattle.machine_steps.proofs.Straight.{code_does}
 use Rattle.machine_steps.proofs.Placing.{code_front, code_rest, done_by_both, can_do_both, reaches_then}
 use Rattle.emit_moves.specs.Doing.{Brings, IsLeft}
 use Rattle.emit_memory.specs.Meaning.{bits_at, low_bits, HoldsBits}
-use Rattle.emit_memory.specs.Frames.{Setting, IsStorage, HoldsFrame}
+use Rattle.emit_memory.specs.Frames.{Setting, IsStorage, HoldsFrame, IsOutside}
 use Rattle.emit_memory.proofs.Elements.{bits_kept}
 use Rattle.emit_memory.proofs.Filled.{with_front, filled_framed}
 use Rattle.emit_memory.proofs.Limits.{address_brings, limit_brings}
@@ -138,14 +138,16 @@ module _ (w : Setting) (c : Configuration) (h : Holding) (storage : IsStorage w)
       (λ (high : (16777216 ≤ w.addresses n) × (w.addresses n + bytes_of is.object + 4 ≤ 33554432)). omega (arith, high.1, few))
       (frame.laid.lie n is.object is.there)
 
--- The machine comes behind the words of an instruction, in at most so many instructions, unseen, and holds the frame of a configuration. Registers but t0 to t2 and a0, and the input, are as they were.
-pub record Comes (p : Program) (s : State) (index : ℕ) (b : Bool) (most : ℕ) (code : List Instruction) (w : Setting) (h : Holding) (d : Configuration) : Type 0 where
+-- The machine comes behind the words of an instruction, in at most so many instructions, unseen, and holds the frame of a configuration. Registers but t0 to t2 and a0, and the input, are as they were,
+-- and so is memory outside of the slots and of the words of the objects that lived before.
+pub record Comes (p : Program) (s : State) (index : ℕ) (b : Bool) (most : ℕ) (code : List Instruction) (w : Setting) (before : Memory) (h : Holding) (d : Configuration) : Type 0 where
   pub count : ℕ
   pub few : count ≤ most
   pub holding : Holding
   pub reaches : Reaches p count (record { state = s; shown = b }) [] (index + length code) (behind b code) holding
   pub frame : HoldsFrame w d holding
   pub kept : (q : ℕ) → IsLeft q → q ≢ 10 → holding.registers q ≡ h.registers q
+  pub outside : (b : ℕ) → IsOutside w (record d { memory = before }) h b → holding.memory b ≡ h.memory b
   pub input : holding.input ≡ h.input
 
 -- ---- The words of a loop
@@ -211,11 +213,21 @@ module _ (p : Program) (s : State) (index : ℕ) (b : Bool) (w : Setting) (c : C
       (λ (high : (16777216 ≤ w.addresses (c.here.first_object + object)) × (w.addresses (c.here.first_object + object) + bytes_of is_filled.object + 4 ≤ 33554432)). omega (arith, here, high.1, few))
       (frame.laid.lie (c.here.first_object + object) is_filled.object is_filled.there)
 
+  -- A byte outside of the words of live objects is none of those that are set.
+  beside : (y : ℕ) → IsOutside w c h y → (y < h.registers 2 + object_at w.storage object) ⊎ (h.registers 2 + object_at w.storage object + 4 * words ≤ y)
+  beside y out =
+      let few = is_filled.few in
+      let here = own in
+      ⊎_elim
+      (λ (low : y < w.addresses (c.here.first_object + object)). inl (omega (arith, low, here)))
+      (λ (past : w.addresses (c.here.first_object + object) + 4 * words_of (bytes_of is_filled.object) ≤ y). inr (omega (arith, past, here, few)))
+      (out.1 (c.here.first_object + object) is_filled.object is_filled.there is_filled.live)
+
   framed : (t : Holding) → ((q : ℕ) → IsLeft q → t.registers q ≡ h.registers q) → AreZeroed (h.registers 2 + object_at w.storage object) words h.memory t.memory → HoldsFrame w (record c { memory = later }) t
   framed t kept zeroes = zeros_framed w c h storage frame (c.here.first_object + object) words later is_filled t kept (subst (λ a. AreZeroed a words h.memory t.memory) (sym own) zeroes)
 
   -- One by one.
-  singly : CodeAt p index b (zeros_code (object_at w.storage object) words) → Comes p s index b (length (zeros_code (object_at w.storage object) words) + 3 * words) (zeros_code (object_at w.storage object) words) w h (record c { memory = later })
+  singly : CodeAt p index b (zeros_code (object_at w.storage object) words) → Comes p s index b (length (zeros_code (object_at w.storage object) words) + 3 * words) (zeros_code (object_at w.storage object) words) w c.memory h (record c { memory = later })
   singly there =
       let code = zeros_code (object_at w.storage object) words in
       let z : Zeroes code h (h.registers 2 + object_at w.storage object) words = zeros_done h (object_at w.storage object) words frame.fetch.none in_reach stand in
@@ -226,6 +238,7 @@ module _ (p : Program) (s : State) (index : ℕ) (b : Bool) (w : Setting) (c : C
         reaches = code_does p s index h b code stands there z.can;
         frame = framed (done_by_all code h) (λ q left. z.kept q) z.memory;
         kept = λ q left other. z.kept q;
+        outside = λ y out. z.memory.outside y (beside y out);
         input = z.input;
       }
 
@@ -236,7 +249,7 @@ module _ (p : Program) (s : State) (index : ℕ) (b : Bool) (w : Setting) (c : C
   abbrev loop : List Instruction
   loop = Store Sw 0 6 0 ∷ Immediate Addi 6 6 4 ∷ Branch Bne 6 7 (subtracted 0 8) ∷ []
 
-  looping : (k : ℕ) → words ≡ suc k → CodeAt p index b (setup ++ loop) → Comes p s index b (length (setup ++ loop) + 3 * words) (setup ++ loop) w h (record c { memory = later })
+  looping : (k : ℕ) → words ≡ suc k → CodeAt p index b (setup ++ loop) → Comes p s index b (length (setup ++ loop) + 3 * words) (setup ++ loop) w c.memory h (record c { memory = later })
   looping k more there =
       let up : IsSetUp setup h 7 (h.registers 2 + object_at w.storage object) words = set_up h 7 (object_at w.storage object) words (omega arith) (λ e. cc) (λ e. cc) (λ e. cc) frame.fetch.none in_reach in
       let t : Holding = done_by_all setup h in
@@ -259,7 +272,7 @@ module _ (p : Program) (s : State) (index : ℕ) (b : Bool) (w : Setting) (c : C
       ends : (k2 : ℕ) → words ≡ suc k2 → (up : IsSetUp setup h 7 (h.registers 2 + object_at w.storage object) words)
           → (first : Reaches p (length setup) (record { state = s; shown = b }) [] (index + length setup) (behind b setup) (done_by_all setup h)) → behind b setup ≡ false
           → LoopDone p first.state (index + length setup) ((2 + 1) * (k2 + 1)) (index + length setup + 2 + 1) (ZerosLeft (done_by_all setup h) (h.registers 2 + object_at w.storage object) words)
-          → Comes p s index b (length (setup ++ loop) + 3 * words) (setup ++ loop) w h (record c { memory = later })
+          → Comes p s index b (length (setup ++ loop) + 3 * words) (setup ++ loop) w c.memory h (record c { memory = later })
       ends k2 m up first none_behind done =
           let t : Holding = done_by_all setup h in
           let u : Holding = done.holding in
@@ -272,28 +285,30 @@ module _ (p : Program) (s : State) (index : ℕ) (b : Bool) (w : Setting) (c : C
           sym (ap (behind b) (append_assoc (address_code 6 6 (object_at w.storage object)) (limit_code 7 (words * 4 % 4294967296)) loop) ∙ behind_setup b 6 (object_at w.storage object) (limit_code 7 (words * 4 % 4294967296) ++ loop)) in
           let kept : (q : ℕ) → IsLeft q → u.registers q ≡ h.registers q = λ q left. done.left.kept q left ∙ up.kept q left.t1 left.t2 left.t0 in
           let full : done.left.done ≡ words = let sum = done.left.sum in omega (arith, sum) in
+          let set : AreZeroed (h.registers 2 + object_at w.storage object) words h.memory u.memory =
+          subst (λ m2. AreZeroed (h.registers 2 + object_at w.storage object) words m2 u.memory) up.memory (subst (λ d. AreZeroed (h.registers 2 + object_at w.storage object) d t.memory u.memory) full done.left.memory) in
           record {
             count = length setup + (2 + 1) * (k2 + 1);
             few = omega (arith, size, m);
             holding = u;
             reaches = subst (λ x. Reaches p (length setup + (2 + 1) * (k2 + 1)) (record { state = s; shown = b }) [] (index + length (setup ++ loop)) x u) none
                 (subst (λ i. Reaches p (length setup + (2 + 1) * (k2 + 1)) (record { state = s; shown = b }) [] i false u) end all);
-            frame = framed u kept (subst (λ m2. AreZeroed (h.registers 2 + object_at w.storage object) words m2 u.memory) up.memory
-                (subst (λ d. AreZeroed (h.registers 2 + object_at w.storage object) d t.memory u.memory) full done.left.memory));
+            frame = framed u kept set;
             kept = λ q left other. kept q left;
+            outside = λ y out. set.outside y (beside y out);
             input = done.left.input ∙ up.input;
           }
 
   -- The words of the instruction.
-  pub zero_comes : CodeAt p index b (zero_code w.storage object words) → Comes p s index b (length (zero_code w.storage object words) + 3 * words) (zero_code w.storage object words) w h (record c { memory = later })
+  pub zero_comes : CodeAt p index b (zero_code w.storage object words) → Comes p s index b (length (zero_code w.storage object words) + 3 * words) (zero_code w.storage object words) w c.memory h (record c { memory = later })
   zero_comes = by_tests (words == 0) (nat_le words 4 && nat_lt (object_at w.storage object) 2032) refl
     where
-      by_count : (k : ℕ) → words ≡ k → (words == 0) ≡ false → CodeAt p index b (setup ++ loop) → Comes p s index b (length (setup ++ loop) + 3 * words) (setup ++ loop) w h (record c { memory = later })
+      by_count : (k : ℕ) → words ≡ k → (words == 0) ≡ false → CodeAt p index b (setup ++ loop) → Comes p s index b (length (setup ++ loop) + 3 * words) (setup ++ loop) w c.memory h (record c { memory = later })
       by_count zero e is there = let clash : true ≡ false = sym (eq-eqb words 0 e) ∙ is in cc
       by_count (suc k) e is there = looping k e there
 
       by_tests : (z m : Bool) → (words == 0) ≡ z → CodeAt p index b (cond (z || m) (zeros_code (object_at w.storage object) words) (setup ++ loop))
-          → Comes p s index b (length (cond (z || m) (zeros_code (object_at w.storage object) words) (setup ++ loop)) + 3 * words) (cond (z || m) (zeros_code (object_at w.storage object) words) (setup ++ loop)) w h (record c { memory = later })
+          → Comes p s index b (length (cond (z || m) (zeros_code (object_at w.storage object) words) (setup ++ loop)) + 3 * words) (cond (z || m) (zeros_code (object_at w.storage object) words) (setup ++ loop)) w c.memory h (record c { memory = later })
       by_tests true m is there = singly there
       by_tests false true is there = singly there
       by_tests false false is there = by_count words refl is there

@@ -12,9 +12,11 @@ use Rattle.c_type_bounds.specs.Visible.{visible_pairs}
 use Rattle.c_law_types.specs.Statements.{are_statements}
 use Rattle.c_laws.specs.Orders.{ascends, ascends_behind, is_numbered, never_falls}
 use Rattle.c_laws.specs.Declarations.{declared_in_all}
+use Rattle.c_laws.specs.Parameters.{parameters_single}
 use Rattle.c_laws.specs.Plain.{are_plain}
+use Rattle.c_laws.specs.Statics.{literals_sound, statics_sound}
 use Rattle.c_laws.specs.Objects.{is_kept_array, arrays_are_kept, are_ended, are_static}
-use Rattle.c_laws.specs.Laws.{IsWellFormed, objects_ascend, follow, is_main, are_objects, are_functions, is_function, declares_its_own, are_in_memory, keeps_limits, is_within, weight_of, places_ascend}
+use Rattle.c_laws.specs.Laws.{IsWellFormed, objects_ascend, follow, is_main, are_objects, are_functions, is_function, declares_its_own, are_in_memory, keeps_limits, is_within, is_sound, weight_of, places_ascend}
 use Rattle.c_law_counts.specs.Nodes.{statements_nodes}
 use Rattle.graph_counts.proofs.WellFormed.{and_both}
 use Rattle.graph_marking.proofs.Ascending.{Ascend, AllAscend}
@@ -119,6 +121,8 @@ pub record ProgramFacts (p : ProgramTree) : Type 0 where
   pub main : is_main (slice_get p.functions p.main) ≡ true
   pub arrays : (x : ℕ) (a : AutomaticTree) → slice_get p.automatics x ≡ Some a → is_kept_array a.in_memory a.of ≡ true
   pub statics : are_static p p.statics ≡ true
+  pub singles : parameters_single p.automatics p.functions ≡ true
+  pub sound : is_sound p ≡ true
   pub room : objects_room p ≤ 1048576
   pub ascend : AllAscend (places_of_program p)
 
@@ -136,7 +140,10 @@ pub facts_of : (p : ProgramTree) → IsWellFormed p → ProgramFacts p
 facts_of p h =
     let follows = follow 0 (length p.automatics) p.functions in
     let main = is_main (slice_get p.functions p.main) in
-    let a = and_both (objects_ascend p && follows && main && are_objects p && are_functions p p.functions && is_within p) (places_ascend (places_of_program p)) h in
+    let singles = parameters_single p.automatics p.functions in
+    let last = and_both (objects_ascend p && follows && main && are_objects p && are_functions p p.functions && is_within p && places_ascend (places_of_program p) && singles) (is_sound p) h in
+    let front = and_both (objects_ascend p && follows && main && are_objects p && are_functions p p.functions && is_within p && places_ascend (places_of_program p)) singles last.0 in
+    let a = and_both (objects_ascend p && follows && main && are_objects p && are_functions p p.functions && is_within p) (places_ascend (places_of_program p)) front.0 in
     let b = and_both (objects_ascend p && follows && main && are_objects p && are_functions p p.functions) (is_within p) a.0 in
     let c = and_both (objects_ascend p && follows && main && are_objects p) (are_functions p p.functions) b.0 in
     let d = and_both (objects_ascend p && follows && main) (are_objects p) c.0 in
@@ -152,6 +159,8 @@ facts_of p h =
       main = e.1;
       arrays = arrays_at p.automatics r.0;
       statics = r.1;
+      singles = front.1;
+      sound = last.1;
       room = program_room p w.1;
       ascend = all_ascend (places_of_program p) (and_both (ascends (spots (places_of_program p))) (never_falls 1 (map (λ (q : Place). q.spot.line) (places_of_program p))) a.1).0;
     }

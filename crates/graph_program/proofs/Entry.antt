@@ -23,7 +23,7 @@ use Rattle.graph_values.proofs.Later.{some_same}
 use Rattle.graph_stores.proofs.Shapes.{two_true}
 use Rattle.graph_runs.proofs.Parameters.{bound_as, bound_to}
 use Rattle.graph_runs.proofs.Entry.{note_if, noting, coding_for, entry_made, IsObjectOf, EntryStands}
-use Rattle.graph_program.specs.Parameters.{is_single, are_single, parameters_single, HasScalarParameters}
+use Rattle.c_laws.specs.Parameters.{is_single, are_single, parameters_single}
 use Rattle.graph_program.proofs.Accepted.{ProgramFacts}
 use Rattle.graph_program.proofs.Homes.{dropped_at, taken_at}
 use Rattle.graph_program.proofs.Scalars.{mapped_at}
@@ -80,7 +80,7 @@ singles_at all [] h f tree e = cc
 singles_at all (g ∷ more) h zero tree e = subst (λ z. are_single (take z.parameters (drop z.first_variable all)) ≡ true) (some_same e) (two_true (are_single (take g.parameters (drop g.first_variable all))) (parameters_single all more) h).0
 singles_at all (g ∷ more) h (suc f) tree e = singles_at all more (two_true (are_single (take g.parameters (drop g.first_variable all))) (parameters_single all more) h).1 f tree e
 
-module _ (p : ProgramTree) (facts : ProgramFacts p) (scalars : HasScalarParameters p) (f : ℕ) (tree : TypedFunctionTree) (is : slice_get p.functions f ≡ Some tree) where
+module _ (p : ProgramTree) (facts : ProgramFacts p) (f : ℕ) (tree : TypedFunctionTree) (is : slice_get p.functions f ≡ Some tree) where
   abbrev again : Bool
   again = is_again p tree
 
@@ -139,5 +139,5 @@ module _ (p : ProgramTree) (facts : ProgramFacts p) (scalars : HasScalarParamete
         (let i = v - tree.first_variable in
         let same : tree.first_variable + i ≡ v = omega (arith, from) in
         let found = taken_at (drop tree.first_variable p.automatics) tree.parameters i (omega (arith, from, below)) ∙ dropped_at p.automatics tree.first_variable i ∙ ap (slice_get p.automatics) same ∙ at in
-        single_at (take tree.parameters (drop tree.first_variable p.automatics)) (singles_at p.automatics p.functions scalars f tree is) i a found);
+        single_at (take tree.parameters (drop tree.first_variable p.automatics)) (singles_at p.automatics p.functions facts.singles f tree is) i a found);
   }

@@ -30,8 +30,6 @@ use Rattle.graph_runs.proofs.Fitting.{StatementsStand}
 use Rattle.graph_runs.proofs.Program.{program_does}
 use Rattle.graph_runs.proofs.Functions.{FunctionStands, function_is}
 use Rattle.graph_runs.proofs.Main.{main_is_there}
-use Rattle.graph_program.specs.Parameters.{HasScalarParameters}
-use Rattle.graph_program.specs.Statics.{HasSoundStatics}
 use Rattle.graph_program.proofs.Accepted.{ProgramFacts, facts_of}
 use Rattle.graph_program.proofs.Homes.{object_there}
 use Rattle.graph_program.proofs.Settings.{graph_is, running}
@@ -56,7 +54,7 @@ all_there : (k : Activity) (number : ℕ) (xs : List Place) → ((i : ℕ) (q : 
 all_there k number [] h = tt
 all_there k number (x ∷ xs) h = (h 0 x refl, all_there k number xs (λ i q e. h (suc i) q e))
 
-module _ (p : ProgramTree) (u : UnitForm) (facts : ProgramFacts p) (unit : IsUnitOf p u) (scalars : HasScalarParameters p) where
+module _ (p : ProgramTree) (u : UnitForm) (facts : ProgramFacts p) (unit : IsUnitOf p u) where
   module _ (f : ℕ) (tree : TypedFunctionTree) (is : slice_get p.functions f ≡ Some tree) where
     module _ (first : ℕ) (ws : List Activation) (objects : Memory) (frames : List Frame) (left : ℕ) where
       abbrev k : Activity
@@ -108,15 +106,15 @@ module _ (p : ProgramTree) (u : UnitForm) (facts : ProgramFacts p) (unit : IsUni
       stands = body_stands p u f tree is facts.ascend;
       closes = close_begins p u f tree is facts.ascend;
       main_is = main_gives p facts f tree is;
-      entry = entry_stands p facts scalars f tree is;
+      entry = entry_stands p facts f tree is;
     }
 
   -- So does each.
   pub functions_are : FunctionsAre p u
   functions_are f tree is = function_is p u f tree (function_stands f tree is)
 
--- The unit of a well-formed program does what the program does, where parameters are scalars and static storage is sound.
-pub does_program : (p : ProgramTree) (u : UnitForm) → IsWellFormed p → HasScalarParameters p → HasSoundStatics p → IsUnitOf p u → DoesProgram p u
-does_program p u well scalars sound unit =
+-- The unit of a well-formed program does what the program does.
+pub does_program : (p : ProgramTree) (u : UnitForm) → IsWellFormed p → IsUnitOf p u → DoesProgram p u
+does_program p u well unit =
     let facts = facts_of p well in
-    program_does p u (functions_are p u facts unit scalars) (main_is_there p u (main_stands p u facts unit sound (function_stands p u facts unit scalars)))
+    program_does p u (functions_are p u facts unit) (main_is_there p u (main_stands p u facts unit (function_stands p u facts unit)))

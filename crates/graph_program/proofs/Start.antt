@@ -19,7 +19,6 @@ use Rattle.graph_stores.proofs.Shapes.{two_true}
 use Rattle.graph_runs.proofs.StaticObjects.{object_element, object_count, static_number, relocation_of, static_of, literal_of, statics_of}
 use Rattle.graph_runs.proofs.Functions.{FunctionStands}
 use Rattle.graph_runs.proofs.Main.{MainStands}
-use Rattle.graph_program.specs.Statics.{HasSoundStatics}
 use Rattle.graph_program.proofs.Accepted.{ProgramFacts}
 use Rattle.graph_program.proofs.Statics.{statics_fit}
 
@@ -64,7 +63,7 @@ module _ (p : ProgramTree) where
       ap (λ l. l ++ map unit.literal_of p.literals) (all_alike (unit.static_of p) (static_of p) static_alike p.statics) ∙ ap (λ l. map (static_of p) p.statics ++ l) (all_alike unit.literal_of literal_of (λ l. refl) p.literals)
 
 -- `main` stands in the unit.
-pub main_stands : (p : ProgramTree) (u : UnitForm) → ProgramFacts p → IsUnitOf p u → HasSoundStatics p → ((f : ℕ) (tree : TypedFunctionTree) → slice_get p.functions f ≡ Some tree → FunctionStands p u f tree) → MainStands p u
-main_stands p u facts is_unit sound stands =
+pub main_stands : (p : ProgramTree) (u : UnitForm) → ProgramFacts p → IsUnitOf p u → ((f : ℕ) (tree : TypedFunctionTree) → slice_get p.functions f ≡ Some tree → FunctionStands p u f tree) → MainStands p u
+main_stands p u facts is_unit stands =
     let m = main_found (slice_get p.functions p.main) facts.main in
-    record { tree = m.0; is = m.1; function = stands p.main m.0 m.1; takes_none = m.2; number = is_unit.main; statics = is_unit.statics ∙ statics_alike p; fit = statics_fit p facts.statics sound }
+    record { tree = m.0; is = m.1; function = stands p.main m.0 m.1; takes_none = m.2; number = is_unit.main; statics = is_unit.statics ∙ statics_alike p; fit = statics_fit p facts.statics facts.sound }

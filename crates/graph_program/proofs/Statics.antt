@@ -23,7 +23,8 @@ use Rattle.graph_values.proofs.Types.{value_is}
 use Rattle.graph_stores.proofs.Shapes.{two_true, three_true, four_true}
 use Rattle.graph_runs.proofs.Clearing.{sizes}
 use Rattle.graph_runs.proofs.StaticValues.{Bytes, IsAddress, AreAddresses, StaticFits, StaticsFit}
-use Rattle.graph_program.specs.Statics.{are_bytes, suits, all_suit, statics_sound, literals_sound, HasSoundStatics}
+use Rattle.c_laws.specs.Laws.{is_sound}
+use Rattle.c_laws.specs.Statics.{are_bytes, suits, all_suit, statics_sound, literals_sound}
 use Rattle.graph_program.proofs.Sizes.{type_sizes, bytes_by_type}
 
 is_less : (a b : ℕ) → nat_lt a b ≡ true → a < b
@@ -136,7 +137,7 @@ literals_fit (k ∷ more) h zero l e = subst (λ z. Bytes z.bytes) (some_same e)
 literals_fit (k ∷ more) h (suc n) l e = literals_fit more (two_true (are_bytes k.bytes) (literals_sound more) h).1 n l e
 
 -- Static storage fits.
-pub statics_fit : (p : ProgramTree) → are_static p p.statics ≡ true → HasSoundStatics p → StaticsFit p
+pub statics_fit : (p : ProgramTree) → are_static p p.statics ≡ true → is_sound p ≡ true → StaticsFit p
 statics_fit p h sound =
     let b = two_true (statics_sound p.statics) (literals_sound p.literals) sound in
     record { statics = all_fit p p.statics h b.0; literals = literals_fit p.literals b.1 }

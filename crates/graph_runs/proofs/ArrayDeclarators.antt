@@ -1,15 +1,14 @@
 -- Declarators of arrays with initializers do what they mean.
-use Rattle.std.proofs.Common.{◌≡◌, ℕ, ◌+◌, ◌*◌, ◌/◌, ◌≤◌, List, [], ◌∷◌, length, replicate, Option, Some, None, true, false, slice_get, slice_set, refl, sym, ap, ◌∙◌, subst, arith, pos}
-use Rattle.std.specs.Prelude.{if◌then◌else◌, nat_le, min}
+use Rattle.std.proofs.Common.{◌≡◌, ℕ, ◌+◌, ◌*◌, ◌/◌, ◌≤◌, List, [], ◌∷◌, length, replicate, Option, Some, None, true, slice_get, slice_set, refl, sym, ap, ◌∙◌, subst, arith, pos}
+use Rattle.std.specs.Prelude.{if◌then◌else◌, min}
 use Rattle.std.specs.Option.{option_map_or}
 use Rattle.std.proofs.lemmas.List.{length-replicate}
 use Rattle.debug_records.specs.declared.source.Spot.{Spot}
 use Rattle.c_tree.specs.declared.types.IntegerType.TheVariants.{Char}
 use Rattle.c_tree.specs.declared.object_type.Scalar.{Scalar}
-use Rattle.c_tree.specs.declared.object_type.ObjectType.{ObjectType}
 use Rattle.c_tree.specs.declared.object_type.ObjectType.TheVariants as of-object
 use Rattle.c_tree.specs.TypedExpressions.{RvalueTree}
-use Rattle.c_tree.specs.TypedStatements.{InitialTree, DeclaredTree, Elements, Literal}
+use Rattle.c_tree.specs.TypedStatements.{DeclaredTree, Elements, Literal}
 use Rattle.c_tree.specs.Programs.{AutomaticTree, LiteralTree}
 use Rattle.c_type_rules.specs.Integers.{scalar_size as type_size}
 use Rattle.c_memory.specs.declared.value.Phase.TheVariants.{Initialising, Live}
@@ -23,11 +22,11 @@ use Rattle.graph_core.specs.Graphs as unit
 use Rattle.graph_core.specs.Memory.{words_of}
 use Rattle.graph_core.specs.Runs.{Goes, step, with_memory}
 use Rattle.graph_names.specs.Names.{scalar_of, object_of}
-use Rattle.graph_drafts.specs.Drafts.{Made, before}
+use Rattle.graph_drafts.specs.Drafts.{before}
 use Rattle.graph_steps.specs.Steps.{or_zero}
 use Rattle.graph_coding.specs.Coding.{begun, going}
 use Rattle.graph_declarators.specs.Declaring.{object_type_of, cleared, store_elements, copied_words, declare_array, declare_kept, declare_as}
-use Rattle.graph_values.proofs.Leads.{names_in, depth_in, World, goes, stays, then_leads}
+use Rattle.graph_values.proofs.Leads.{names_in, World, goes, stays, then_leads}
 use Rattle.graph_runs.proofs.Activities.{Activity, coding_in, here_in, place_at, before_in}
 use Rattle.graph_runs.proofs.Living.{frames_length}
 use Rattle.graph_runs.proofs.Outcomes.{Runs, GoesOn, runs_since}

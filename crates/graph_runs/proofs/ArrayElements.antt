@@ -1,9 +1,7 @@
 -- Declarators of arrays with elements do what they mean: the array is zero, and then its elements are stored in order.
-use Rattle.std.proofs.Common.{◌≡◌, ◌≢◌, ℕ, zero, suc, ◌+◌, ◌*◌, ◌/◌, ◌<◌, ◌≤◌, ◌⊎◌, inl, inr, List, [], ◌∷◌, ◌++◌, length, replicate, Option, Some, None, Bool, true, false, not, ◌||◌, slice_get, slice_set, refl, sym, ap, ◌∙◌, subst, arith, ℤ}
+use Rattle.std.proofs.Common.{◌≡◌, ℕ, zero, suc, ◌+◌, ◌*◌, ◌<◌, ◌≤◌, ◌⊎◌, inl, inr, List, [], ◌∷◌, length, Option, Some, None, Bool, true, false, not, ◌||◌, slice_get, slice_set, refl, sym, ap, ◌∙◌, subst, arith, ℤ}
 use Rattle.std.specs.Prelude.{◌==◌, if◌then◌else◌}
-use Rattle.std.specs.List.{AllByRecursion}
 use Rattle.std.proofs.lemmas.Bool.Decides.{nat_tests}
-use Rattle.std.proofs.lemmas.List.{length-replicate}
 use Rattle.debug_records.specs.declared.source.Spot.{Spot}
 use Rattle.word_base.specs.Types.{holds}
 use Rattle.c_tree.specs.declared.types.IntegerType.{IntegerType}
@@ -13,8 +11,7 @@ use Rattle.c_tree.specs.declared.object_type.ObjectType.TheVariants as of-object
 use Rattle.c_tree.specs.declared.object_type.ValueType.{ValueType}
 use Rattle.c_tree.specs.declared.object_type.ValueType.TheVariants.{Void, Integer, Pointer}
 use Rattle.c_tree.specs.TypedExpressions.{RvalueTree, Constant, Null, Load, Decay, AddressOf, Convert, Discard, Signed, Not, Arithmetic, Compare, ComparePointers, Move, MoveFrom, Difference, And, Or, Conditional, Comma, Assign, Update, UpdatePointer, Step, StepPointer, Call}
-use Rattle.c_tree.specs.TypedStatements.{Elements}
-use Rattle.c_tree.specs.Programs.{AutomaticTree, ProgramTree}
+use Rattle.c_tree.specs.Programs.{AutomaticTree}
 use Rattle.c_type_rules.specs.Integers.{integer, wrapped, scalar_size as type_size}
 use Rattle.c_type_rules.specs.Types.{loaded, pointed_to, same_value}
 use Rattle.c_law_types.specs.declared.kind.Kind.{Kind}
@@ -23,20 +20,15 @@ use Rattle.c_law_types.specs.Kinds.{is_of, of_if, is_integer}
 use Rattle.c_law_types.specs.Expressions.{kind_of}
 use Rattle.c_memory.specs.declared.value.Value as source-value
 use Rattle.c_memory.specs.declared.value.Value.TheVariants as source
-use Rattle.c_memory.specs.declared.value.Phase.TheVariants.{Initialising, Live, Ended}
-use Rattle.c_memory.specs.Types.{element_of, count_of, scalar_size, zero_of}
+use Rattle.c_memory.specs.Types.{element_of, count_of}
 use Rattle.c_memory.specs.Memory.{Memory as SourceMemory, set_value}
 use Rattle.c_memory.specs.Operations.{convert}
-use Rattle.c_states.specs.declared.event.Ending.TheVariants as ending
-use Rattle.c_states.specs.States.{State, Evaluated, Gives, Leaves, Ends, mapped, given, Outcome, Next, Ended as EndedBy, on_value}
-use Rattle.c_activations.specs.Activations as activations
-use Rattle.c_meaning.specs.Statements.{value_at, initialise_elements, declare_with}
+use Rattle.c_states.specs.States.{State, Evaluated, Gives, Leaves, Ends, mapped, given, Outcome, on_value}
+use Rattle.c_meaning.specs.Statements.{value_at, initialise_elements}
 use Rattle.c_flow.specs.declared.edge.Ways.{Ways}
-use Rattle.graph_core.specs.declared.value.Value.{Value}
 use Rattle.graph_core.specs.declared.value.Value.TheVariants.{Number}
 use Rattle.graph_core.specs.Graphs as unit
 use Rattle.graph_core.specs.Graphs.{Automatic, Store}
-use Rattle.graph_core.specs.Memory.{Memory}
 use Rattle.graph_core.specs.Runs.{Configuration, Event, Goes, step, value}
 use Rattle.graph_core.specs.Values.{as_element}
 use Rattle.graph_scale.specs.Conversions.{word_of, is_narrow, is_within}
@@ -46,7 +38,7 @@ use Rattle.graph_names.specs.Names.{object_of, pick}
 use Rattle.graph_drafts.specs.Rules as rule
 use Rattle.graph_drafts.specs.Drafts.{Made, To, before}
 use Rattle.graph_code.specs.Code.{code}
-use Rattle.graph_coding.specs.Coding.{begun, going}
+use Rattle.graph_coding.specs.Coding.{going}
 use Rattle.graph_coding.specs.Reached.{bare}
 use Rattle.graph_declarators.specs.Declaring.{store_elements}
 use Rattle.graph_values.specs.Typed.{IsOf}
@@ -64,13 +56,12 @@ use Rattle.graph_values.proofs.Converting.{truncated_word, kept_word}
 use Rattle.graph_values.proofs.Wrapping.{wrapped_holds}
 use Rattle.graph_values.proofs.Arithmetic.{pick_between}
 use Rattle.graph_runs.proofs.Activities.{Activity, coding_in, here_in, place_at, before_in}
-use Rattle.graph_runs.proofs.Living.{Grown, grown_since, grown_trans}
+use Rattle.graph_runs.proofs.Living.{grown_since}
 use Rattle.graph_runs.proofs.Outcomes.{Runs, runs_since, grown_none}
 use Rattle.graph_runs.proofs.Stops.{Lawful, Ready}
 use Rattle.graph_runs.proofs.AtPlaces.{Works, going_comes, value_runs}
-use Rattle.graph_runs.proofs.Keeping.{KeptBy, kept_since, value_kept}
 use Rattle.graph_runs.proofs.Declarators.{type_sizes}
-use Rattle.graph_runs.proofs.Arrays.{ready_since, IsArray, array_later, Taken, ElementStored, element_stored, set_is, since_set, sound_element}
+use Rattle.graph_runs.proofs.Arrays.{ready_since, IsArray, array_later, Taken, element_stored, set_is, since_set, sound_element}
 
 -- An element is stored without its conversion.
 pub bare_cases : (e : RvalueTree) → ((t : IntegerType) × (b : RvalueTree) × (e ≡ Convert t b)) ⊎ (bare e ≡ e)

@@ -1,5 +1,5 @@
 -- What a program's run keeps is kept by declarators of arrays with elements.
-use Rattle.std.proofs.Common.{◌≡◌, ℕ, ◌+◌, ◌<◌, ◌≤◌, ◌⊎◌, inl, inr, List, [], ◌∷◌, length, Option, Some, true, slice_get, slice_set, refl, sym, ap, subst, arith}
+use Rattle.std.proofs.Common.{◌≡◌, ℕ, ◌+◌, inl, inr, List, [], ◌∷◌, Some, true, slice_get, slice_set, sym, subst, arith}
 use Rattle.debug_records.specs.declared.source.Spot.{Spot}
 use Rattle.c_tree.specs.declared.types.IntegerType.{IntegerType}
 use Rattle.c_tree.specs.declared.object_type.Scalar.{Scalar}
@@ -13,7 +13,7 @@ use Rattle.c_law_types.specs.Kinds.{is_of, is_integer}
 use Rattle.c_law_types.specs.Expressions.{kind_of}
 use Rattle.c_memory.specs.declared.value.Value as source-value
 use Rattle.c_memory.specs.declared.value.Value.TheVariants as source
-use Rattle.c_memory.specs.Types.{element_of, count_of}
+use Rattle.c_memory.specs.Types.{element_of}
 use Rattle.c_memory.specs.Memory.{set_value}
 use Rattle.c_memory.specs.Operations.{convert}
 use Rattle.c_states.specs.States.{State, given, Outcome, on_value}

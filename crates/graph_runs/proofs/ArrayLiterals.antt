@@ -1,9 +1,7 @@
 -- What an array that a string literal initialises holds: the literal's bytes, and zeros behind them.
-use Rattle.std.proofs.Common.{◌≡◌, ℕ, zero, suc, ◌+◌, ◌*◌, ◌/◌, ◌%◌, ◌<◌, ◌≤◌, ◌⊎◌, inl, inr, List, [], ◌∷◌, ◌++◌, length, map, take, drop, replicate, Some, None, Bool, true, false, ◌&&◌, slice_get, slice_set, refl, sym, ap, ◌∙◌, subst, arith, pos}
-use Rattle.std.specs.Prelude.{if◌then◌else◌, nat_le, min, option_map, option_and_then}
+use Rattle.std.proofs.Common.{◌≡◌, ℕ, zero, suc, ◌+◌, ◌*◌, ◌%◌, ◌<◌, ◌≤◌, ◌⊎◌, inl, inr, List, [], ◌∷◌, ◌++◌, length, map, take, drop, replicate, slice_set, refl, sym, ap, ◌∙◌, subst, arith, pos}
 use Rattle.std.specs.List.{AllByRecursion}
 use Rattle.std.specs.Option.{option_map_or}
-use Rattle.std.proofs.lemmas.Bool.Decides.{nat_tests}
 use Rattle.word_base.specs.WordOperations.{sign_extended, truncated}
 use Rattle.c_tree.specs.declared.types.IntegerType.{IntegerType}
 use Rattle.c_tree.specs.declared.types.IntegerType.TheVariants.{Char, SignedChar, UnsignedChar, Short, UnsignedShort, Int, UnsignedInt, Long, UnsignedLong}
@@ -171,25 +169,23 @@ module _ (p : ProgramTree) (memory : SourceMemory) (others : Memory) (sc : Scala
       no_more : (xs : List ℕ) → length xs ≤ 0 → xs ≡ []
       no_more [] le = refl
       no_more (x ∷ xs) le = absurd (omega (arith, le))
-  copied_same (suc count) (suc many) index [] (x ∷ old) is size covers =
-      (
-        subst (SameValue p memory others zero_value) (sym (behind_bytes index is)) zero_kept,
-        copied_same count many (index + 1) [] old (none_behind bytes index is) (omega (arith, size)) (elim covers [
-          | inl le ↦ inl (omega (arith, le))
-          | inr both ↦ inr (behind_zero count x old both.0, omega arith)
-        ]),
-      )
+  copied_same (suc count) (suc many) index [] (x ∷ old) is size covers = (
+    subst (SameValue p memory others zero_value) (sym (behind_bytes index is)) zero_kept,
+    copied_same count many (index + 1) [] old (none_behind bytes index is) (omega (arith, size)) (elim covers [
+      | inl le ↦ inl (omega (arith, le))
+      | inr both ↦ inr (behind_zero count x old both.0, omega arith)
+    ]),
+  )
     where
       behind_zero : (count : ℕ) (x : Value) (old : List Value) → x ∷ old ≡ replicate (suc count) (Number 0) → old ≡ replicate count (Number 0)
       behind_zero count x old h = cc
-  copied_same (suc count) (suc many) index (b ∷ rest) (x ∷ old) is size covers =
-      (
-        subst (SameValue p memory others (number b)) (sym (at_byte index b rest is)) (byte_kept b),
-        copied_same count many (index + 1) rest old (drop_next bytes index b rest is) (omega (arith, size)) (elim covers [
-          | inl le ↦ inl (omega (arith, le))
-          | inr both ↦ let le = both.1 in inr (behind_zero count x old both.0, omega (arith, le))
-        ]),
-      )
+  copied_same (suc count) (suc many) index (b ∷ rest) (x ∷ old) is size covers = (
+    subst (SameValue p memory others (number b)) (sym (at_byte index b rest is)) (byte_kept b),
+    copied_same count many (index + 1) rest old (drop_next bytes index b rest is) (omega (arith, size)) (elim covers [
+      | inl le ↦ inl (omega (arith, le))
+      | inr both ↦ let le = both.1 in inr (behind_zero count x old both.0, omega (arith, le))
+    ]),
+  )
     where
       behind_zero : (count : ℕ) (x : Value) (old : List Value) → x ∷ old ≡ replicate (suc count) (Number 0) → old ≡ replicate count (Number 0)
       behind_zero count x old h = cc

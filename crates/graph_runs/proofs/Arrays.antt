@@ -8,7 +8,7 @@ use Rattle.std.proofs.lemmas.List.{length-set, length-replicate}
 use Rattle.std.proofs.lemmas.Option.{slice_get_within}
 use Rattle.word_base.specs.Owners.{Variable}
 use Rattle.c_tree.specs.declared.object_type.Scalar.{Scalar}
-use Rattle.c_tree.specs.Programs.{AutomaticTree, ProgramTree}
+use Rattle.c_tree.specs.Programs.{AutomaticTree}
 use Rattle.c_type_rules.specs.Types.{loaded}
 use Rattle.c_memory.specs.declared.value.Value as source-value
 use Rattle.c_memory.specs.declared.value.Phase.TheVariants.{Initialising, Live, Ended}
@@ -18,7 +18,7 @@ use Rattle.c_states.specs.States.{State}
 use Rattle.graph_core.specs.declared.value.Value.{Value}
 use Rattle.graph_core.specs.declared.value.Value.TheVariants.{Pointer, Odd}
 use Rattle.graph_core.specs.Graphs.{Operand, Instruction, End, Automatic, Store}
-use Rattle.graph_core.specs.Memory.{Object, Memory, bytes_of, write, write_in, written_in}
+use Rattle.graph_core.specs.Memory.{Memory, bytes_of, write, write_in, written_in}
 use Rattle.graph_core.specs.Runs.{Goes, step, value}
 use Rattle.graph_core.specs.Values.{is_odd, as_element, pointer_at, size_of}
 use Rattle.graph_names.specs.Names.{object_of}

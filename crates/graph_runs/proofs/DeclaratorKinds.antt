@@ -1,5 +1,5 @@
 -- A well-typed declarator whose blocks stand does what it means, whatever its initial value is.
-use Rattle.std.proofs.Common.{◌≡◌, ℕ, ◌+◌, ◌<◌, ◌≤◌, ◌⊎◌, inl, inr, List, [], ◌∷◌, length, Option, Some, None, Bool, true, false, ◌&&◌, slice_get, refl, sym, ap, ◌∙◌, subst, arith}
+use Rattle.std.proofs.Common.{◌≡◌, ℕ, ◌+◌, ◌<◌, ◌≤◌, inl, inr, List, [], ◌∷◌, length, Option, Some, None, true, false, slice_get, refl, sym, ◌∙◌, subst, arith}
 use Rattle.std.specs.Prelude.{◌==◌, nat_le, nat_lt}
 use Rattle.std.proofs.lemmas.Bool.{leb-true, eqb-true}
 use Rattle.std.proofs.lemmas.Bool.Decides.{nat_tests}
@@ -14,17 +14,15 @@ use Rattle.c_tree.specs.Programs.{AutomaticTree, LiteralTree}
 use Rattle.c_type_rules.specs.Integers.{scalar_size as type_size}
 use Rattle.c_type_rules.specs.Types.{loaded}
 use Rattle.c_law_types.specs.declared.kind.Kind.{Kind}
-use Rattle.c_law_types.specs.Kinds.{is_of, is_typed, is_integer, of_if}
+use Rattle.c_law_types.specs.Kinds.{is_of, is_typed, is_integer}
 use Rattle.c_law_types.specs.Expressions.{kind_of}
 use Rattle.c_law_types.specs.Statements.{same_spot, literal_fits, are_elements, initialises, declares_as, is_declared}
 use Rattle.c_memory.specs.Memory.{Memory as SourceMemory}
-use Rattle.c_memory.specs.Types.{element_of, scalar_size}
+use Rattle.c_memory.specs.Types.{element_of}
 use Rattle.graph_names.specs.Names.{scalar_of, object_of}
 use Rattle.graph_coding.specs.Reached.{bare}
 use Rattle.graph_values.proofs.Leads.{names_in}
-use Rattle.graph_values.proofs.Noting.{ScalarsApart}
 use Rattle.graph_values.proofs.Homes.{object_inside}
-use Rattle.graph_values.proofs.Operands.{Apart}
 use Rattle.graph_stores.proofs.Moving.{AreSmall}
 use Rattle.graph_stores.proofs.Shapes.{typed_of, two_true, three_true, any_integer}
 use Rattle.graph_stores.proofs.Apartness.{assigned_apart}

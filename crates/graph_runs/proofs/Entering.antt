@@ -1,5 +1,5 @@
 -- A call leads to the body of the function that it begins, and so does the beginning of a run.
-use Rattle.std.proofs.Common.{◌≡◌, ℕ, zero, suc, ◌+◌, ◌<◌, ◌≤◌, List, [], ◌∷◌, ◌++◌, length, map, take, drop, Option, Some, None, Bool, true, false, slice_get, refl, sym, ap, ◌∙◌, subst, arith}
+use Rattle.std.proofs.Common.{◌≡◌, ℕ, zero, suc, ◌+◌, ◌<◌, ◌≤◌, List, [], ◌∷◌, length, map, take, drop, Option, Some, None, Bool, false, slice_get, refl, ap, ◌∙◌, subst, arith}
 use Rattle.std.specs.Prelude.{◌==◌, if◌then◌else◌, option_map, option_and_then}
 use Rattle.std.proofs.lemmas.Bool.Decides.{nat_tests}
 use Rattle.c_tree.specs.declared.typed_expression.Callee.TheVariants as called
@@ -8,7 +8,6 @@ use Rattle.c_flow.specs.Flow.{start_of_all, ways_of_body}
 use Rattle.c_law_types.specs.Kinds.{taken_by, types_of, parameters_in}
 use Rattle.c_places.specs.Places.{numbers_from, parameters_of}
 use Rattle.c_memory.specs.declared.value.Value as source-value
-use Rattle.c_memory.specs.Memory.{Memory as SourceMemory}
 use Rattle.c_states.specs.declared.event.Frame.{Frame}
 use Rattle.c_states.specs.States.{State}
 use Rattle.c_activations.specs.Calls.{bind}

@@ -1,6 +1,6 @@
 -- Where an activation begins, what runs keep is kept: its parameters hold their arguments, and its objects stand behind those before them.
-use Rattle.std.proofs.Common.{◌≡◌, ◌≢◌, ℕ, zero, suc, ◌+◌, ◌-◌, ◌<◌, ◌≤◌, ◌⊎◌, inl, inr, List, [], ◌∷◌, ◌++◌, length, map, take, drop, replicate, Option, Some, None, Bool, true, false, slice_get, slice_set, refl, sym, ap, ◌∙◌, subst, arith}
-use Rattle.std.specs.Prelude.{option_map, if◌then◌else◌}
+use Rattle.std.proofs.Common.{◌≡◌, ℕ, zero, suc, ◌+◌, ◌-◌, ◌<◌, ◌≤◌, ◌⊎◌, inl, inr, List, [], ◌∷◌, ◌++◌, length, map, take, drop, replicate, Option, Some, None, Bool, true, false, slice_get, slice_set, refl, sym, ap, ◌∙◌, subst, arith}
+use Rattle.std.specs.Prelude.{option_map}
 use Rattle.std.proofs.lemmas.Bool.{cases_eq}
 use Rattle.std.proofs.lemmas.Option.{slice_get-map, slice_get_within}
 use Rattle.std.proofs.lemmas.List.{length-replicate}
@@ -18,7 +18,6 @@ use Rattle.c_states.specs.States.{State}
 use Rattle.c_activations.specs.Calls.{bind}
 use Rattle.graph_core.specs.declared.value.Value.{Value}
 use Rattle.graph_core.specs.declared.value.Value.TheVariants.{Odd}
-use Rattle.graph_core.specs.declared.value.Owner.{Owner}
 use Rattle.graph_core.specs.declared.value.Owner.TheVariants.{Automatic}
 use Rattle.graph_core.specs.declared.value.Shadow.{Shadow}
 use Rattle.graph_core.specs.declared.value.Shadow.TheVariants.{Known, Gone}
@@ -27,27 +26,26 @@ use Rattle.graph_core.specs.Graphs as unit
 use Rattle.graph_core.specs.Graphs.{Graph, UnitForm, Marker, Binding}
 use Rattle.graph_core.specs.Memory.{Object, Memory, new_object}
 use Rattle.graph_core.specs.Values.{is_odd}
-use Rattle.graph_core.specs.Runs.{Activation, Event, put, bind_names, bind_objects, with_objects, set_first}
+use Rattle.graph_core.specs.Runs.{Activation, Event, put, bind_names, bind_objects, with_objects}
 use Rattle.graph_names.specs.Names.{Names, names_of, scalar_of, object_of}
 use Rattle.graph_drafts.specs.Rules as rule
 use Rattle.graph_drafts.specs.Drafts.{Made, note}
 use Rattle.graph_coding.specs.Coding.{Coding, going}
 use Rattle.event_runs.specs.Agreement.{Pairs}
 use Rattle.graph_values.specs.Typed.{IsOf}
-use Rattle.graph_values.specs.Correspondence.{variable_of, owner_of, SameObject, SameValue, SameValues, IsInMemory, SameEvent}
-use Rattle.graph_values.proofs.Leads.{names_in, depth_in, Local, World, put_here, put_elsewhere}
-use Rattle.graph_values.proofs.Later.{some_same, get_set, Later, value_later, OthersLater, others_trans}
-use Rattle.graph_values.proofs.Kept.{ScalarIs, ObjectIs, Own, Outer, Placed, ArePlaced, LiveDiffer, NoneDeeper, StaticsStand, Fits}
+use Rattle.graph_values.specs.Correspondence.{variable_of, SameValue, SameValues, IsInMemory, SameEvent}
+use Rattle.graph_values.proofs.Leads.{names_in, depth_in, put_here, put_elsewhere}
+use Rattle.graph_values.proofs.Later.{some_same, Later, value_later, OthersLater, others_trans}
+use Rattle.graph_values.proofs.Kept.{ScalarIs, ObjectIs, Outer, Placed, ArePlaced, LiveDiffer, NoneDeeper, StaticsStand, Fits}
 use Rattle.graph_values.proofs.Noting.{other_number, known_value, outer_later, placed_later}
 use Rattle.graph_values.proofs.Elements.{element_keeps}
 use Rattle.graph_values.proofs.Arguments.{AreOf}
-use Rattle.graph_runs.proofs.Activities.{Activity, coding_in, here_in}
+use Rattle.graph_runs.proofs.Activities.{Activity, here_in}
 use Rattle.graph_runs.proofs.Outcomes.{Holding}
 use Rattle.graph_runs.proofs.Stops.{Lawful}
 use Rattle.graph_runs.proofs.Making.{front_stays}
-use Rattle.graph_runs.proofs.OwnObjects.{dropped_is, object_no_scalar, object_one, object_if_no_scalar}
+use Rattle.graph_runs.proofs.OwnObjects.{object_one, object_if_no_scalar}
 use Rattle.graph_runs.proofs.Parameters.{bindings, names_at, objects_later, objects_before, objects_back, objects_at}
-use Rattle.graph_runs.proofs.Binding.{parameter}
 use Rattle.graph_runs.proofs.Bound.{IsParameter, bound_found, Argument, argument}
 
 -- The notes of the parameters that are scalars, before what follows.
@@ -312,8 +310,8 @@ module _ (k : Activity) (law : Lawful k) (same_depth : length k.frames ≡ lengt
       let q = new_object depth m.object in
       let size : length q.values ≡ 1 = length-replicate m.object.count Odd ∙ m.count ∙ single in
       let homes : (v2 : ℕ) → low ≤ v2 → v2 < low + count → scalar_of N v2 ≡ None → (j : ℕ) × (object_of N v2 ≡ Some j) = λ v2 le2 lt2 none2. (let b = argument_of (v2 - low) (omega (arith, le2, lt2)) in
-          let place2 : low + (v2 - low) ≡ v2 = omega (arith, le2) in
-          object_if_no_scalar P k.setting.tree k.setting.again v2 b.tree le2 (omega (arith, lt2, among)) (ap (slice_get P.automatics) (sym place2) ∙ b.is) none2) in
+      let place2 : low + (v2 - low) ≡ v2 = omega (arith, le2) in
+      object_if_no_scalar P k.setting.tree k.setting.again v2 b.tree le2 (omega (arith, lt2, among)) (ap (slice_get P.automatics) (sym place2) ∙ b.is) none2) in
       let filled = objects_at N low (low + count) homes (object_one P k.setting.tree k.setting.again) (length others) v home.0 home.1 none q (element_of a.of) refl m.element size r.other keeps low count new.index new.at new.within (omega arith) (omega arith) ws r.there made (new_there home.0 m.object m.is) in
       let holds = set_single (count_of a.of) (zero_of (element_of a.of)) new.value single in
       subst (Placed P entered_source entered_memory) (sym new.object)

@@ -1,9 +1,8 @@
 -- A function whose blocks stand is one that can be called, if it is entered and left as it should be.
-use Rattle.std.proofs.Common.{◌≡◌, ℕ, zero, suc, ◌+◌, ◌≤◌, List, [], ◌∷◌, ◌++◌, length, map, drop, Option, Some, None, Bool, true, false, not, slice_get, refl, ap, ◌∙◌, subst, arith, pos}
+use Rattle.std.proofs.Common.{◌≡◌, ℕ, ◌+◌, ◌≤◌, List, ◌++◌, length, drop, Option, Some, None, Bool, true, false, not, slice_get, refl, subst, arith, pos}
 use Rattle.std.specs.Prelude.{◌==◌}
 use Rattle.c_tree.specs.declared.object_type.ValueType.{ValueType}
 use Rattle.c_tree.specs.declared.object_type.ValueType.TheVariants.{Void, Integer, Pointer}
-use Rattle.c_tree.specs.declared.typed_expression.Callee.TheVariants as called
 use Rattle.c_tree.specs.TypedStatements as statement
 use Rattle.c_tree.specs.TypedStatements.{TypedStatementTree, Block, Declaration, Empty, Run, If, IfElse, While, DoWhile, For, Switch, Break, Continue, Return, TypedStatementTrees, case, default}
 use Rattle.c_tree.specs.declared.types.IntegerType.{IntegerType}
@@ -11,36 +10,28 @@ use Rattle.c_tree.specs.Programs.{TypedFunctionTree, ProgramTree}
 use Rattle.c_facts.specs.Flow.{reaches_end}
 use Rattle.c_places.specs.Places.{places_of_all, parameters_of, brought_by_body}
 use Rattle.c_value_types.specs.ValueTypes as value-types
-use Rattle.c_law_types.specs.Kinds.{is_of, is_scalar, taken_by, parameters_in, types_of}
+use Rattle.c_law_types.specs.Kinds.{is_of, is_scalar, parameters_in, types_of}
 use Rattle.c_law_types.specs.Expressions.{kind_of}
 use Rattle.c_law_types.specs.Statements.{tested_type, is_label, is_switch, may_stand, is_void, is_start, is_step, is_condition, is_statement, are_statements}
-use Rattle.c_memory.specs.declared.value.Value as source-value
 use Rattle.c_memory.specs.declared.value.Value.TheVariants as source
 use Rattle.c_memory.specs.Memory.{Memory as SourceMemory}
 use Rattle.c_states.specs.declared.event.Frame.{Frame}
-use Rattle.c_states.specs.States.{State}
 use Rattle.c_activations.specs.Calls.{bind}
 use Rattle.c_flow.specs.Flow.{ways_of_body}
-use Rattle.graph_core.specs.declared.instruction.Callee.TheVariants as unit-called
-use Rattle.graph_core.specs.Graphs as unit
-use Rattle.graph_core.specs.Graphs.{Graph, UnitForm, Operand, Instruction, End, Return as Returning}
+use Rattle.graph_core.specs.Graphs.{Graph, UnitForm, Return as Returning}
 use Rattle.graph_core.specs.Memory.{Memory}
-use Rattle.graph_core.specs.Runs.{Activation, value}
+use Rattle.graph_core.specs.Runs.{Activation}
 use Rattle.graph_drafts.specs.Drafts.{ending as ends_with}
 use Rattle.graph_coding.specs.Coding.{Part}
 use Rattle.graph_forms.specs.Forms.{add_all}
 use Rattle.graph_values.specs.Typed.{IsOf}
-use Rattle.graph_values.specs.Correspondence.{SameValues}
-use Rattle.graph_values.proofs.Leads.{Setting, depth_in, Local, World, here_at, at}
-use Rattle.graph_values.proofs.Kept.{Sound, Fits}
+use Rattle.graph_values.proofs.Leads.{depth_in}
 use Rattle.graph_values.proofs.Arguments.{AreOf}
-use Rattle.graph_values.proofs.Calling.{waiting}
 use Rattle.graph_stores.proofs.Moving.{AreSmall}
 use Rattle.graph_stores.proofs.Shapes.{two_true, three_true, four_true}
 use Rattle.graph_stores.proofs.Coding.{LaidOut}
 use Rattle.graph_runs.proofs.Activities.{coding_in, here_in, placed}
 use Rattle.graph_runs.proofs.Living.{frames_length, frames_later, Under, under_grown, grown_wider}
-use Rattle.graph_runs.proofs.Outcomes.{Holding}
 use Rattle.graph_runs.proofs.Stops.{Lawful}
 use Rattle.graph_runs.proofs.AtPlaces.{Begins}
 use Rattle.graph_runs.proofs.Exits.{ReturnsFit, AllReturnsFit, never_ends, never_gives}

@@ -1,5 +1,5 @@
 -- Declarators of arrays with string literals do what they mean.
-use Rattle.std.proofs.Common.{◌≡◌, ℕ, zero, suc, ◌+◌, ◌*◌, ◌/◌, ◌<◌, ◌≤◌, ◌⊎◌, inl, inr, List, [], ◌∷◌, ◌++◌, length, map, take, drop, replicate, Option, Some, None, Bool, true, false, ◌&&◌, slice_get, slice_set, refl, sym, ap, ◌∙◌, subst, arith, pos}
+use Rattle.std.proofs.Common.{◌≡◌, ℕ, zero, suc, ◌+◌, ◌*◌, ◌/◌, ◌<◌, ◌≤◌, ◌⊎◌, inl, inr, List, [], ◌∷◌, ◌++◌, length, map, take, drop, replicate, Some, None, Bool, true, false, ◌&&◌, slice_get, slice_set, refl, sym, ap, ◌∙◌, subst, arith, pos}
 use Rattle.std.specs.Prelude.{if◌then◌else◌, nat_le, min, option_map, option_and_then}
 use Rattle.std.specs.List.{AllByRecursion}
 use Rattle.std.specs.Option.{option_map_or}
@@ -38,7 +38,6 @@ use Rattle.graph_values.specs.Typed.{IsOf}
 use Rattle.graph_values.specs.Correspondence.{SameValues}
 use Rattle.graph_values.proofs.Leads.{names_in, Local, World, Leads, goes, stays, then_leads}
 use Rattle.graph_values.proofs.Later.{set_here}
-use Rattle.graph_values.proofs.Kept.{Sound, Fits}
 use Rattle.graph_values.proofs.Elements.{element_size}
 use Rattle.graph_values.proofs.Wrapping.{wrapped_holds}
 use Rattle.graph_runs.proofs.Activities.{Activity, coding_in, here_in, place_at, before_in}
@@ -50,7 +49,7 @@ use Rattle.graph_runs.proofs.Keeping.{KeptBy, KeepsOn, place_kept}
 use Rattle.graph_runs.proofs.Making.{new_in, with_new, made_is, zero_typed}
 use Rattle.graph_runs.proofs.Declared.{set_twice}
 use Rattle.graph_runs.proofs.Clearing.{zeroed_is}
-use Rattle.graph_runs.proofs.Arrays.{array_of, with_array, sound_array, grown_array, lives_array, fits_array}
+use Rattle.graph_runs.proofs.Arrays.{with_array, sound_array, grown_array, lives_array, fits_array}
 use Rattle.graph_runs.proofs.ArrayLiterals.{filled_with, filled_length, filled_all, values_set_in, copied_same}
 
 elements_length : (bytes : List ℕ) (e : Element) (index count : ℕ) → length (elements_from bytes e index count) ≡ count

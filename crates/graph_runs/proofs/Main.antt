@@ -1,34 +1,31 @@
 -- A program's `main` is there, and both runs come to its body, where its blocks stand and static storage is the program's.
-use Rattle.std.proofs.Common.{◌≡◌, ℕ, zero, suc, ◌+◌, ◌<◌, ◌≤◌, List, [], ◌∷◌, length, take, drop, Option, Some, None, slice_get, refl, sym, ap, ◌∙◌, subst, arith}
+use Rattle.std.proofs.Common.{◌≡◌, ℕ, ◌+◌, List, [], ◌∷◌, length, take, drop, Some, None, slice_get, refl, sym, ap, ◌∙◌, subst}
 use Rattle.c_tree.specs.Programs.{AutomaticTree, TypedFunctionTree, ProgramTree}
 use Rattle.c_law_types.specs.Kinds.{types_of}
 use Rattle.c_places.specs.Places.{numbers_from, parameters_of}
 use Rattle.c_memory.specs.Memory.{Memory as SourceMemory}
-use Rattle.c_states.specs.States.{State}
 use Rattle.c_activations.specs.Activations.{Activation as SourceActivation}
 use Rattle.c_activations.specs.Calls.{bind}
 use Rattle.c_activations.specs.StaticStorage.{first_memory}
 use Rattle.graph_core.specs.Graphs as unit
 use Rattle.graph_core.specs.Graphs.{UnitForm, Marker}
-use Rattle.graph_core.specs.Memory.{Memory, first_memory as unit_memory}
+use Rattle.graph_core.specs.Memory.{first_memory as unit_memory}
 use Rattle.graph_core.specs.Runs.{Configuration, begun, enter}
-use Rattle.graph_values.specs.Correspondence.{AreBytes}
+use Rattle.graph_values.specs.Correspondence.{DoesProgram}
 use Rattle.graph_values.proofs.Leads.{depth_in, stays}
 use Rattle.graph_values.proofs.Later.{Later, later_refl, others_refl}
-use Rattle.graph_values.proofs.Kept.{Sound}
 use Rattle.graph_values.proofs.Arguments.{AreOf}
 use Rattle.graph_runs.proofs.Activities.{Activity, here_in}
 use Rattle.graph_runs.proofs.Living.{AllLive}
 use Rattle.graph_runs.proofs.Outcomes.{Holding, grown_none}
-use Rattle.graph_runs.proofs.Calls.{activity_of, Entered, Bound}
-use Rattle.graph_runs.proofs.Entry.{entry_made, EntryStands, Awaits}
+use Rattle.graph_runs.proofs.Calls.{activity_of, Bound}
+use Rattle.graph_runs.proofs.Entry.{entry_made, Awaits}
 use Rattle.graph_runs.proofs.Entering.{entered_from, enters_there}
 use Rattle.graph_runs.proofs.Functions.{FunctionStands, function_is}
 use Rattle.graph_runs.proofs.StaticObjects.{statics_of}
 use Rattle.graph_runs.proofs.StaticValues.{StaticsFit}
-use Rattle.graph_runs.proofs.StaticAddresses.{others_first}
 use Rattle.graph_runs.proofs.StaticStorage.{awaits_first, never_variable, sound_first}
-use Rattle.graph_runs.proofs.Program.{MainIs, begun_with}
+use Rattle.graph_runs.proofs.Program.{MainIs, begun_with, program_does}
 
 -- without arguments nothing is bound
 bound_nothing : (here : SourceActivation) (all : List ℕ) (memory : SourceMemory) → bind here all [] memory ≡ memory
@@ -100,3 +97,7 @@ module _ (p : ProgramTree) (u : UnitForm) (h : MainStands p u) where
       holding = record { under = λ n o v d is alive owner. never_variable p h.fit n o v d is owner; scoped = parameters_none (first_memory p) (depth_in main_activity.setting); frames = tt };
     });
   }
+
+-- A unit does what its program does, where the blocks of each function stand and static storage is the program's.
+pub unit_does : (p : ProgramTree) (u : UnitForm) → ((f : ℕ) (tree : TypedFunctionTree) → slice_get p.functions f ≡ Some tree → FunctionStands p u f tree) → MainStands p u → DoesProgram p u
+unit_does p u stand main = program_does p u (λ f tree is. function_is p u f tree (stand f tree is)) (main_is_there p u main)

@@ -69,7 +69,7 @@ object_no_scalar n v j h = by (home_of n v) h
     by None h = cc
 
 module _ (p : ProgramTree) (f : TypedFunctionTree) (again : Bool) where
-  object_home : (v j : ℕ) → object_of (names_of p f again) v ≡ Some j → (f.first_variable ≤ v) × (slice_get (homes_of p.automatics f.first_variable f.variables) (v - f.first_variable) ≡ Some (home.Object j))
+  pub object_home : (v j : ℕ) → object_of (names_of p f again) v ≡ Some j → (f.first_variable ≤ v) × (slice_get (homes_of p.automatics f.first_variable f.variables) (v - f.first_variable) ≡ Some (home.Object j))
   object_home v j h = by (nat_le f.first_variable v) refl h
     where
       home_is : (o : Option Home) → object_in o ≡ Some j → o ≡ Some (home.Object j)

@@ -1,5 +1,5 @@
 -- The values of static variables as a run begins: numbers, and addresses of objects of static storage.
-use Rattle.std.proofs.Common.{◌≡◌, ◌≢◌, ℕ, zero, suc, ◌+◌, ◌*◌, ◌<◌, ◌≤◌, List, [], ◌∷◌, length, map, take, drop, Option, Some, None, Bool, true, false, slice_get, refl, sym, ap, ◌∙◌, subst, arith, pos}
+use Rattle.std.proofs.Common.{◌≡◌, ◌≢◌, ℕ, zero, suc, ◌+◌, ◌*◌, ◌<◌, ◌≤◌, List, [], ◌∷◌, length, map, take, drop, Some, Bool, true, false, slice_get, refl, sym, ap, ◌∙◌, subst, arith, pos}
 use Rattle.std.specs.Prelude.{◌==◌, if◌then◌else◌, nat_le, option_map}
 use Rattle.std.specs.List.{AllByRecursion}
 use Rattle.std.specs.Option.{option_map_or}
@@ -7,7 +7,6 @@ use Rattle.std.proofs.lemmas.Bool.Decides.{nat_tests}
 use Rattle.std.proofs.lemmas.List.{length-map}
 use Rattle.word_base.specs.Types.{holds, number_of}
 use Rattle.c_tree.specs.declared.types.IntegerType.{IntegerType}
-use Rattle.c_tree.specs.declared.types.IntegerType.TheVariants.{Char}
 use Rattle.c_tree.specs.declared.object_type.Scalar.{Scalar}
 use Rattle.c_tree.specs.declared.object_type.ObjectType.TheVariants as of-object
 use Rattle.c_tree.specs.declared.object_type.Object as designator
@@ -22,13 +21,11 @@ use Rattle.c_memory.specs.declared.value.Value as source-value
 use Rattle.c_memory.specs.declared.value.Value.TheVariants as source
 use Rattle.c_memory.specs.declared.value.Phase.TheVariants.{Live, Ended}
 use Rattle.c_memory.specs.Types.{element_of, count_of, scalar_size, size_by_stars, integer_size}
-use Rattle.c_memory.specs.Memory.{Memory as SourceMemory}
 use Rattle.c_activations.specs.StaticStorage as source-storage
 use Rattle.c_activations.specs.StaticStorage.{static_object, literal_object, first_memory}
 use Rattle.graph_core.specs.declared.value.Value.{Value}
 use Rattle.graph_core.specs.declared.value.Value.TheVariants as unit
 use Rattle.graph_core.specs.declared.instruction.Element as declared-element
-use Rattle.graph_core.specs.declared.instruction.Element.TheVariants.{Word}
 use Rattle.graph_core.specs.Graphs.{StaticObject}
 use Rattle.graph_core.specs.Memory as unit-memory
 use Rattle.graph_core.specs.Memory.{Object, Memory, bytes_of, static_bytes}
@@ -38,7 +35,7 @@ use Rattle.graph_drafts.specs.Rules as rule
 use Rattle.graph_values.specs.Typed.{IsOf, IsPointerTo, PointsInto}
 use Rattle.graph_values.specs.Correspondence.{SameObject, SamePointer, points, SameValue, SameValues}
 use Rattle.graph_values.proofs.Elements.{word_element, element_size}
-use Rattle.graph_runs.proofs.StaticObjects.{object_element, object_count, static_number, relocation_of, static_of, literal_of, statics_of, element_same, count_same, unit_object, unit_there, unit_length, static_there, literal_there, unit_static, unit_literal}
+use Rattle.graph_runs.proofs.StaticObjects.{object_count, static_number, relocation_of, static_of, literal_of, statics_of, element_same, count_same, unit_object, unit_there, unit_length, static_there, literal_there, unit_static, unit_literal}
 use Rattle.graph_runs.proofs.StaticValues.{IsAddress, AreAddresses, Bytes, StaticFits, taken_all, dropped_all, spelled_zero, both_spell, numbered}
 
 pub numbers_length : (from count : ℕ) → length (numbers_from from count) ≡ count

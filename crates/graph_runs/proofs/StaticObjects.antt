@@ -1,29 +1,22 @@
 -- The objects of static storage as a run begins, in a program's run and in its unit's.
-use Rattle.std.proofs.Common.{◌≡◌, ℕ, zero, suc, ◌+◌, ◌*◌, ◌<◌, ◌≤◌, ◌⊎◌, inl, inr, List, [], ◌∷◌, ◌++◌, length, map, Some, None, true, slice_get, refl, sym, ap, ◌∙◌, subst, arith, pos}
+use Rattle.std.proofs.Common.{◌≡◌, ℕ, zero, suc, ◌+◌, ◌⊎◌, inl, inr, List, [], ◌∷◌, ◌++◌, length, map, Some, true, slice_get, refl, sym, ap, ◌∙◌, arith}
 use Rattle.std.specs.Prelude.{option_map}
 use Rattle.std.proofs.lemmas.Option.{slice_get-map}
 use Rattle.std.proofs.lemmas.List.{length-map}
-use Rattle.word_base.specs.Owners.{Static, Literal}
-use Rattle.c_tree.specs.declared.types.IntegerType.TheVariants.{Char}
-use Rattle.c_tree.specs.declared.object_type.Scalar.{Scalar}
 use Rattle.c_tree.specs.declared.object_type.ObjectType.{ObjectType}
 use Rattle.c_tree.specs.declared.object_type.ObjectType.TheVariants as of-object
 use Rattle.c_tree.specs.declared.object_type.Object as designator
 use Rattle.c_tree.specs.declared.object_type.Object.TheVariants as object
 use Rattle.c_tree.specs.declared.program.Relocation as source-relocation
 use Rattle.c_tree.specs.Programs.{StaticTree, LiteralTree, ProgramTree}
-use Rattle.c_places.specs.Places.{numbers_from}
-use Rattle.c_memory.specs.declared.value.Value.TheVariants as source
 use Rattle.c_memory.specs.Types.{element_of, count_of}
 use Rattle.c_memory.specs.Memory.{Object as SourceObject}
-use Rattle.c_activations.specs.StaticStorage as source-storage
 use Rattle.c_activations.specs.StaticStorage.{static_object, literal_object, static_objects, literal_objects, first_memory}
-use Rattle.graph_core.specs.declared.value.Value.{Value}
 use Rattle.graph_core.specs.declared.value.Owner.TheVariants as unit-owner
 use Rattle.graph_core.specs.declared.instruction.Element as declared-element
 use Rattle.graph_core.specs.declared.instruction.Element.TheVariants.{Unsigned8}
 use Rattle.graph_core.specs.declared.unit.Relocation.{Relocation}
-use Rattle.graph_core.specs.Graphs.{StaticObject, UnitForm}
+use Rattle.graph_core.specs.Graphs.{StaticObject}
 use Rattle.graph_core.specs.Memory as unit-memory
 use Rattle.graph_core.specs.Memory.{Object}
 use Rattle.graph_drafts.specs.Rules as rule

@@ -1,31 +1,30 @@
 -- Both memories as a run begins: what runs keep holds of them.
-use Rattle.std.proofs.Common.{◌≡◌, ◌≢◌, ℕ, ◌+◌, ◌*◌, ◌%◌, ◌<◌, ◌≤◌, ◌⊎◌, inl, inr, List, [], ◌∷◌, length, map, Some, true, slice_get, refl, sym, ap, ◌∙◌, subst, arith, pos}
+use Rattle.std.proofs.Common.{◌≡◌, ℕ, ◌+◌, ◌*◌, ◌%◌, ◌<◌, inl, inr, List, [], ◌∷◌, length, map, Some, true, slice_get, refl, sym, ap, ◌∙◌, subst, arith, pos}
 use Rattle.std.specs.List.{AllByRecursion}
 use Rattle.std.proofs.lemmas.Option.{slice_get_within}
 use Rattle.std.proofs.lemmas.List.{length-map}
-use Rattle.word_base.specs.Owners.{Static, Literal, Variable}
+use Rattle.word_base.specs.Owners.{Variable}
 use Rattle.word_base.specs.Types.{holds}
 use Rattle.c_tree.specs.declared.types.IntegerType.TheVariants.{Char}
-use Rattle.c_tree.specs.Programs.{StaticTree, LiteralTree, ProgramTree}
+use Rattle.c_tree.specs.Programs.{ProgramTree}
 use Rattle.c_type_rules.specs.Integers.{integer}
 use Rattle.c_type_rules.specs.Types.{loaded}
 use Rattle.c_places.specs.Places.{numbers_from}
 use Rattle.c_memory.specs.declared.value.Value.TheVariants as source
-use Rattle.c_memory.specs.declared.value.Phase.TheVariants.{Live, Ended}
 use Rattle.c_memory.specs.Types.{element_of, count_of, scalar_size}
 use Rattle.c_memory.specs.Memory.{Object as SourceObject, Memory as SourceMemory}
 use Rattle.c_states.specs.States.{State}
 use Rattle.c_activations.specs.StaticStorage as source-storage
 use Rattle.c_activations.specs.StaticStorage.{static_object, literal_object, first_memory}
 use Rattle.graph_core.specs.declared.value.Owner.TheVariants as unit-owner
-use Rattle.graph_core.specs.Graphs.{StaticObject, UnitForm}
+use Rattle.graph_core.specs.Graphs.{UnitForm}
 use Rattle.graph_core.specs.Memory as unit-memory
 use Rattle.graph_core.specs.Memory.{Object}
 use Rattle.graph_values.specs.Typed.{IsOf}
-use Rattle.graph_values.specs.Correspondence.{owner_of, SameValues, AreBytes, IsInMemory}
+use Rattle.graph_values.specs.Correspondence.{owner_of, SameValues, AreBytes}
 use Rattle.graph_values.proofs.Wrapping.{wrapped_holds}
 use Rattle.graph_values.proofs.Later.{later_refl}
-use Rattle.graph_values.proofs.Kept.{IsDeclared, Sound, Placed, StaticIs}
+use Rattle.graph_values.proofs.Kept.{IsDeclared, Sound, Placed}
 use Rattle.graph_runs.proofs.Entry.{Awaits}
 use Rattle.graph_runs.proofs.StaticObjects.{static_of, literal_of, statics_of, unit_object, unit_found, unit_length, count_same, first_found, unit_static, unit_literal}
 use Rattle.graph_runs.proofs.StaticValues.{Bytes, StaticsFit, literal_values}

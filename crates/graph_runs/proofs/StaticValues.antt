@@ -1,49 +1,35 @@
 -- What static storage holds as a run begins is the same in a program's run and in its unit's.
-use Rattle.std.proofs.Common.{◌≡◌, ◌≢◌, ℕ, zero, suc, ◌+◌, ◌-◌, ◌*◌, ◌%◌, ◌<◌, ◌≤◌, List, [], ◌∷◌, ◌++◌, length, map, take, drop, Option, Some, None, Bool, true, false, slice_get, refl, sym, ap, ◌∙◌, subst, arith, pos}
-use Rattle.std.specs.Prelude.{◌==◌, if◌then◌else◌, nat_le, option_map}
+use Rattle.std.proofs.Common.{◌≡◌, ◌≢◌, ℕ, zero, suc, ◌+◌, ◌*◌, ◌%◌, ◌<◌, ◌≤◌, List, [], ◌∷◌, length, map, take, drop, Some, true, slice_get, refl, sym, ap, ◌∙◌, subst, arith, pos}
 use Rattle.std.specs.List.{AllByRecursion}
-use Rattle.std.specs.Option.{option_map_or}
-use Rattle.std.proofs.lemmas.Bool.Decides.{nat_tests}
-use Rattle.std.proofs.lemmas.List.{length-map}
-use Rattle.word_base.specs.Owners.{Static, Literal}
 use Rattle.word_base.specs.Types.{holds, number_of}
 use Rattle.word_base.specs.WordOperations.{truncated}
 use Rattle.c_tree.specs.declared.types.IntegerType.{IntegerType}
 use Rattle.c_tree.specs.declared.types.IntegerType.TheVariants.{Char, SignedChar, UnsignedChar, Short, UnsignedShort, Int, UnsignedInt, Long, UnsignedLong}
 use Rattle.c_tree.specs.declared.object_type.Scalar.{Scalar}
-use Rattle.c_tree.specs.declared.object_type.ObjectType.TheVariants as of-object
 use Rattle.c_tree.specs.declared.object_type.Object as designator
 use Rattle.c_tree.specs.declared.object_type.Object.TheVariants as object
-use Rattle.c_tree.specs.declared.object_type.ValueType.TheVariants.{Integer, Pointer}
 use Rattle.c_tree.specs.declared.program.Relocation as source-relocation
 use Rattle.c_tree.specs.Programs.{StaticTree, LiteralTree, ProgramTree}
 use Rattle.c_type_rules.specs.Integers.{integer}
-use Rattle.c_type_rules.specs.Types.{loaded, pointed_to}
-use Rattle.c_places.specs.Places.{numbers_from}
-use Rattle.c_memory.specs.declared.value.Value as source-value
+use Rattle.c_type_rules.specs.Types.{pointed_to}
 use Rattle.c_memory.specs.declared.value.Value.TheVariants as source
-use Rattle.c_memory.specs.declared.value.Phase.TheVariants.{Live, Ended}
 use Rattle.c_memory.specs.Types.{element_of, count_of, scalar_size, integer_size}
 use Rattle.c_memory.specs.Memory.{Memory as SourceMemory}
 use Rattle.c_activations.specs.StaticStorage as source-storage
 use Rattle.c_activations.specs.StaticStorage.{static_object, literal_object, first_memory}
-use Rattle.graph_core.specs.declared.value.Value.{Value}
 use Rattle.graph_core.specs.declared.value.Value.TheVariants as unit
-use Rattle.graph_core.specs.declared.instruction.Element as declared-element
-use Rattle.graph_core.specs.declared.instruction.Element.TheVariants.{Word, Unsigned8}
-use Rattle.graph_core.specs.Graphs.{StaticObject, UnitForm}
+use Rattle.graph_core.specs.declared.instruction.Element.TheVariants.{Unsigned8}
+use Rattle.graph_core.specs.Graphs.{StaticObject}
 use Rattle.graph_core.specs.Memory as unit-memory
 use Rattle.graph_core.specs.Memory.{Object, Memory, bytes_of, static_bytes, element_in}
-use Rattle.graph_core.specs.Values.{as_element, pointer_at, size_of}
+use Rattle.graph_core.specs.Values.{as_element}
 use Rattle.graph_scale.specs.Conversions.{word_of}
 use Rattle.graph_drafts.specs.Rules as rule
 use Rattle.graph_drafts.specs.Rules.{truncation_to}
-use Rattle.graph_values.specs.Typed.{IsOf, PointsInto}
-use Rattle.graph_values.specs.Correspondence.{SameObject, SamePointer, points, SameValue, SameValues}
-use Rattle.graph_values.proofs.Elements.{word_element, element_size}
+use Rattle.graph_values.specs.Correspondence.{SameValues}
 use Rattle.graph_values.proofs.Converting.{truncated_word, kept_word}
 use Rattle.graph_values.proofs.Wrapping.{wrapped_holds}
-use Rattle.graph_runs.proofs.StaticObjects.{object_element, object_count, static_number, relocation_of, static_of, literal_of, statics_of, element_same, count_same, unit_object, unit_there, unit_length, static_there, literal_there, unit_static, unit_literal}
+use Rattle.graph_runs.proofs.StaticObjects.{literal_of}
 
 -- A word of a static object of pointers holds the address of an object of static storage: of an element of a static one, or directly behind the last, or the beginning of a literal.
 abbrev pub IsAddress : ProgramTree → (pointer : Scalar) → (offset : ℕ) → designator.Object → Type 0

@@ -5,7 +5,8 @@ use Rattle.std.specs.List.{AllByRecursion}
 use Rattle.std.proofs.lemmas.Bool.Decides.{nat_tests}
 use Rattle.std.proofs.lemmas.List.{length-append, length-replicate}
 use Rattle.c_tree.specs.Programs.{AutomaticTree, LiteralTree, ProgramTree, StaticTree, TypedFunctionTree}
-use Rattle.c_laws.specs.Laws.{IsWellFormed, are_functions, are_objects, follow, is_main, is_within, objects_ascend, places_ascend}
+use Rattle.c_laws.specs.Laws.{IsWellFormed, are_functions, are_objects, follow, is_main, is_sound, is_within, objects_ascend, places_ascend}
+use Rattle.c_laws.specs.Parameters.{parameters_single}
 use Rattle.c_places.specs.Places.{places_of_program}
 use Rattle.image_form.specs.Decoding.{owner_of}
 use Rattle.image_form.specs.Form.{Form}
@@ -39,7 +40,10 @@ owned_behind (f ∷ more) number next count h =
 pub all_owned : (p : ProgramTree) → IsWellFormed p → length (owned_from 0 p.functions) ≡ length p.automatics
 all_owned p h =
     let ordered = objects_ascend p in
-    let a = and_both (ordered && follow 0 (length p.automatics) p.functions && is_main (slice_get p.functions p.main) && are_objects p && are_functions p p.functions && is_within p) (places_ascend (places_of_program p)) h in
+    let singles = parameters_single p.automatics p.functions in
+    let last = and_both (ordered && follow 0 (length p.automatics) p.functions && is_main (slice_get p.functions p.main) && are_objects p && are_functions p p.functions && is_within p && places_ascend (places_of_program p) && singles) (is_sound p) h in
+    let front = and_both (ordered && follow 0 (length p.automatics) p.functions && is_main (slice_get p.functions p.main) && are_objects p && are_functions p p.functions && is_within p && places_ascend (places_of_program p)) singles last.0 in
+    let a = and_both (ordered && follow 0 (length p.automatics) p.functions && is_main (slice_get p.functions p.main) && are_objects p && are_functions p p.functions && is_within p) (places_ascend (places_of_program p)) front.0 in
     let b = and_both (ordered && follow 0 (length p.automatics) p.functions && is_main (slice_get p.functions p.main) && are_objects p && are_functions p p.functions) (is_within p) a.0 in
     let c = and_both (ordered && follow 0 (length p.automatics) p.functions && is_main (slice_get p.functions p.main) && are_objects p) (are_functions p p.functions) b.0 in
     let d = and_both (ordered && follow 0 (length p.automatics) p.functions && is_main (slice_get p.functions p.main)) (are_objects p) c.0 in

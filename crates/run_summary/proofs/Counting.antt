@@ -9,12 +9,12 @@ use Rattle.rv_machine.specs.declared.event.Event.{Event}
 use Rattle.rv_machine.specs.declared.event.Event.TheVariants.{Went, Out, Exited, Depth, Fault}
 use Rattle.stop_engine.specs.AtStop.{locals_at}
 use Rattle.stop_engine.specs.Halting.{halt_at, halt_of}
-use Rattle.stop_engine.specs.Sight.{sight_of}
 use Rattle.stop_engine.specs.Transcript.{AnyStop, Ending, Exits, NestsTooDeep, Faults, Limit, Position, Fresh, Standing, Over, Reach, is_aim, ran, reached}
 use Rattle.stop_engine.specs.Visible.{visible_of}
 use Rattle.stop_engine.specs.declared.halt.Halt.{Halt}
 use Rattle.stop_engine.specs.declared.halt.Halt.TheVariants as halt
 use Rattle.stop_engine.specs.declared.locals.Local.{Local}
+use Rattle.stop_texts.specs.Sight.{sight_of}
 use Rattle.stop_view.specs.Reading.{depth, place_at}
 use Rattle.run_summary.specs.declared.lines.PairCounts.{PairCounts}
 use Rattle.run_summary.specs.declared.summary.Counts.{Counts}

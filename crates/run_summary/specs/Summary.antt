@@ -3,15 +3,15 @@ use Rattle.std.specs.Prelude.{◌≡◌, ℕ, ◌+◌, min, Some, List, [], ◌�
 use Rattle.image_form.specs.Form.{Form}
 use Rattle.run_summary.specs.declared.lines.PairCounts.{PairCounts}
 use Rattle.rv_machine.specs.Run.{MachineEvent}
-use Rattle.stop_view.specs.Run.{image_run}
 use Rattle.stop_engine.specs.AtStop.{locals_at}
 use Rattle.stop_engine.specs.EngineState.{HasRun, RunState}
 use Rattle.stop_engine.specs.Halting.{halt_at, halt_of}
-use Rattle.stop_engine.specs.declared.halt.Halt.{Halt}
-use Rattle.stop_engine.specs.declared.halt.Halt.TheVariants as halt
-use Rattle.stop_engine.specs.Sight.{Sight, NoStop, NoName, Value, Recovered, Noncurrent, Nonresident}
 use Rattle.stop_engine.specs.Transcript.{AnyStop, Ending, Position, Fresh, Standing, Over, Reach, ran}
 use Rattle.stop_engine.specs.Visible.{Visible}
+use Rattle.stop_engine.specs.declared.halt.Halt.{Halt}
+use Rattle.stop_engine.specs.declared.halt.Halt.TheVariants as halt
+use Rattle.stop_texts.specs.Sight.{Sight, NoStop, NoName, Value, Recovered, Noncurrent, Nonresident}
+use Rattle.stop_view.specs.Run.{image_run}
 use Rattle.run_summary.specs.declared.summary.Counts.{Counts}
 use Rattle.run_summary.specs.declared.summary.Summary.{Summary}
 

@@ -4,8 +4,8 @@ ghost use Rattle.std.specs.Prelude.{◌≡◌, ◌↔◌, IfOk, IsTrue, OnOk, ma
 ghost use Rattle.stop_engine.specs.AtStop.{locals_at};
 ghost use Rattle.image_form.specs.Form.{form};
 ghost use Rattle.image_form.specs.Rules.{IsImage};
-ghost use Rattle.stop_engine.specs.Sight.{sight_of};
 ghost use Rattle.stop_engine.specs.Visible.{visible_of};
+ghost use Rattle.stop_texts.specs.Sight.{sight_of};
 ghost use Rattle.run_summary.specs.Summary.{IsOneStep, IsStop, IsSummed, counted, counted_all, counted_here, nothing};
 
 use crate::lines::PairCounts;

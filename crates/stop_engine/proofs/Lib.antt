@@ -3,13 +3,8 @@ mod Followers
 mod Called
 mod MarkBounds
 mod MarkLaws
-mod NameBounds
-mod NameStartLaws
-mod Slots
 mod Stepping
 mod StopTables
 mod ActivationLaws
-mod ValidRows
 mod VisibleLaws
-mod VariableListLaws
 mod StopsByLine

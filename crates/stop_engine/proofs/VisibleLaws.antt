@@ -1,16 +1,16 @@
--- What is said of the rows of a place is what is said of the place's among all rows.
-use Rattle.std.proofs.Common.{◌≡◌, ℕ, ◌==◌, true, false, Bool, Some, List, [], ◌∷◌, map, refl, sym, ap, ◌∙◌, if◌then◌else◌}
+-- The lines of the rows of a place are those of the place's among all rows.
+use Rattle.std.proofs.Common.{◌≡◌, ℕ, ◌==◌, true, false, Bool, List, [], ◌∷◌, map, refl, ap, ◌∙◌, if◌then◌else◌}
 use Rattle.image_form.specs.Form.{Form, form}
 use Rattle.image_form.specs.declared.verdicts.VisibleRow.{VisibleRow}
 use Rattle.rv_machine.specs.State.{State}
-use Rattle.stop_engine.specs.declared.locals.Local.{Local}
-use Rattle.stop_engine.specs.declared.run.Stop.{Stop}
 use Rattle.stop_engine.specs.EngineState.{RunState}
-use Rattle.stop_engine.specs.Shown.{is_row_of, lines_of_rows, locals_lines, or_no_locals, row_line, row_of}
+use Rattle.stop_engine.specs.Shown.{lines_of_rows, locals_lines, or_no_locals, row_line}
 use Rattle.stop_engine.specs.Stopping.{IsStopOf}
 use Rattle.stop_engine.specs.Transcript.{at_stop}
-use Rattle.stop_view.specs.Rows.{rows_at}
 use Rattle.stop_engine.specs.Visible.{visible_at, visible_line, visible_of, visible_of_row}
+use Rattle.stop_engine.specs.declared.locals.Local.{Local}
+use Rattle.stop_engine.specs.declared.run.Stop.{Stop}
+use Rattle.stop_view.specs.Rows.{rows_at}
 use Rattle.stop_engine.proofs.Answering.{at_stop-said}
 
 -- the lines of the variables that are visible at a place
@@ -21,17 +21,6 @@ lines_of_place m s place (r ∷ rows) = by_test (r.place == place) refl (lines_o
     by_test : (b : Bool) → (r.place == place) ≡ b → map visible_line (map (visible_of_row m s) (rows_at place rows)) ≡ lines_of_rows m s place rows
         → map visible_line (map (visible_of_row m s) (rows_at place (r ∷ rows))) ≡ lines_of_rows m s place (r ∷ rows)
     by_test true t rest = rw t (ap (λ l. row_line m s r ∷ l) rest)
-    by_test false t rest = rw t rest
-
--- the first row of a name
-pub row_of_place : (m : Form) (place : ℕ) (name : List ℕ) (rows : List VisibleRow) → row_of m place name (rows_at place rows) ≡ row_of m place name rows
-row_of_place m place name [] = refl
-row_of_place m place name (r ∷ rows) = by_test (r.place == place) refl (row_of_place m place name rows)
-  where
-    by_test : (b : Bool) → (r.place == place) ≡ b → row_of m place name (rows_at place rows) ≡ row_of m place name rows → row_of m place name (rows_at place (r ∷ rows)) ≡ row_of m place name (r ∷ rows)
-    by_test true t rest =
-        let first : rows_at place (r ∷ rows) ≡ r ∷ rows_at place rows = rw t refl in
-        ap (row_of m place name) first ∙ ap (λ o. if is_row_of m place name r then Some r else o) rest
     by_test false t rest = rw t rest
 
 -- the lines of `locals`, by what is seen of the variables

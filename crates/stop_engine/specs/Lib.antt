@@ -9,12 +9,8 @@ pub mod Standing
 pub mod StopTable
 pub mod EngineState
 pub mod Frames
-pub mod Rows
 pub mod Shown
-pub mod Tables
-pub mod Sight
 pub mod Visible
 pub mod Activations
 pub mod AtStop
-pub mod VariableLists
 pub mod FunctionNames

@@ -9,11 +9,12 @@ use Rattle.rv_machine.specs.State.{State}
 use Rattle.rv_machine.specs.Run.{MachineEvent, Byte, Arrival, Exit, TooDeep, Faulted}
 use Rattle.line_form.specs.Lines.{line, out_lines, stop_line, exit_line, depth_line, fault_line, limit_line, no_stop_line, break_line, no_place_line, no_function_line}
 use Rattle.script_form.specs.Script.{Order, Break, Step, Continue, Print, Locals, Where, Quit, Mark, OnLine, InFunction}
-use Rattle.stop_view.specs.Run.{image_run}
-use Rattle.stop_view.specs.Reading.{place_at, depth}
 use Rattle.stop_engine.specs.Breaks.{break_places}
-use Rattle.stop_engine.specs.Shown.{name_sight, locals_lines, where_lines}
-use Rattle.stop_engine.specs.Sight.{Sight, NoStop, sight_line}
+use Rattle.stop_engine.specs.Shown.{locals_lines, where_lines}
+use Rattle.stop_texts.specs.Shown.{name_sight}
+use Rattle.stop_texts.specs.Sight.{Sight, NoStop, sight_line}
+use Rattle.stop_view.specs.Reading.{place_at, depth}
+use Rattle.stop_view.specs.Run.{image_run}
 
 -- why a run is over: it exited with a status, its calls nested too deep, it faulted at an address, or its instructions are used up
 pub data Ending : Type 0 where

@@ -8,11 +8,11 @@ ghost use Rattle.stop_engine.specs.Passing.{IsAimed, PassesBy};
 ghost use Rattle.stop_view.specs.Run.{stop_addresses};
 
 use crate::halt::Halt;
-use crate::reading::depth;
 use crate::stop_table::StopTable;
 use crate::stops::Stops;
 use rv_machine::{Event, Machine};
 use std::alloc::AllocError;
+use stop_tables::depth;
 
 /// How many bytes of output a run takes room for at a time.
 pub const ROOM: usize = 65_536;

@@ -12,11 +12,11 @@ ghost use Rattle.stop_engine.specs.EngineState.{Answers, HasMarked, HasRun, Leav
 ghost use Rattle.stop_engine.specs.Halting.{halt_at};
 ghost use Rattle.stop_engine.specs.Marking.{aim_of};
 ghost use Rattle.stop_engine.specs.Shown.{locals_lines, where_lines};
-ghost use Rattle.stop_engine.specs.Sight.{sight_line, sight_of};
 ghost use Rattle.stop_engine.specs.Stopping.{IsAtNoStop};
-ghost use Rattle.stop_engine.specs.Tables.{AreTablesOf};
 ghost use Rattle.stop_engine.specs.Transcript.{at_stop, marked_line, ran, run_lines, sight};
 ghost use Rattle.stop_engine.specs.Visible.{visible_of};
+ghost use Rattle.stop_tables.specs.Tables.{AreTablesOf};
+ghost use Rattle.stop_texts.specs.Sight.{sight_line, sight_of};
 
 use crate::activations::{Frame, activation_lines, activations};
 use crate::breaks::{break_places, marked_line};
@@ -25,15 +25,14 @@ use crate::halt::Halt;
 use crate::lines::halt_line;
 use crate::locals::{Local, locals_lines, visible_at};
 use crate::run::Run;
-use crate::shown::{Shown, shown_line};
 use crate::stops::{Marks, Stops};
-use crate::tables::{Tables, tables_of};
-use crate::views::name_shown;
 use image_form::Image;
 use line_form::{no_stop_line, out_lines};
 use script_form::{Command, Target};
 use std::alloc::{AllocError, Global};
 use std::marker::Model;
+use stop_tables::{Tables, tables_of};
+use stop_texts::{Shown, name_shown, shown_line};
 
 /// A run of an image from halt to halt, what is seen where it stands, and the answers to the commands of a script.
 #[derive(Drop)]
@@ -49,7 +48,7 @@ impl<'a> Model for Engine<'a> {
     ghost use Rattle.std.specs.Prelude.{◌≡◌, ◌+◌, length};
     ghost use Rattle.stop_engine.specs.EngineState.{EngineState};
     ghost use Rattle.stop_engine.specs.FunctionNames.{AreFunctionNamesOf};
-    ghost use Rattle.stop_engine.specs.Tables.{AreTablesOf};
+    ghost use Rattle.stop_tables.specs.Tables.{AreTablesOf};
 
     ghost Value = { EngineState };
 

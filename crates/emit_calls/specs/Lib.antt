@@ -1,0 +1,11 @@
+pub mod Beginning
+pub mod Ends
+pub mod Keeping
+pub mod Leaving
+pub mod Markers
+pub mod Passing
+pub mod Pieces
+pub mod Placed
+pub mod Returns
+pub mod Settings
+pub mod Waiting

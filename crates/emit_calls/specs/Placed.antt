@@ -1,0 +1,22 @@
+-- Pieces with what their words stand for, as they stand in the code of the machine, and code to which pieces are appended.
+use Rattle.std.specs.Prelude.{◌≡◌, ℕ, Bool, false, None, List, [], ◌∷◌}
+use Rattle.emit_pieces.specs.declared.piece.Piece.{Piece}
+use Rattle.emit_pieces.specs.declared.piece.PlacedPiece.{PlacedPiece}
+use Rattle.emit_words.specs.Growing.{CodeState, with_piece}
+use Rattle.machine_steps.specs.Programs.{Program}
+use Rattle.emit_calls.specs.Pieces.{Targets, PieceAt}
+
+-- Pieces are appended, one behind the other.
+abbrev pub with_pieces : List Piece → CodeState → CodeState
+with_pieces [] s = s
+with_pieces (x ∷ more) s = with_pieces more (with_piece x s)
+
+-- What is appended: pieces of a place, at the first of which there is a stop or none.
+abbrev pub placed_pieces : (owner : ℕ) → (stops : Bool) → List Piece → List PlacedPiece
+placed_pieces owner b [] = []
+placed_pieces owner b (x ∷ more) = (record { piece = x; owner = owner; is_stop = b; writes = None }) ∷ placed_pieces owner false more
+
+-- Pieces stand one behind the other from an index on, up to another, each with a stop at its first word if it is one.
+abbrev pub PlacedAt : Program → Targets → (index : ℕ) → List PlacedPiece → (behind : ℕ) → Type 0
+PlacedAt p t i [] j = j ≡ i
+PlacedAt p t i (x ∷ more) j = (k : ℕ) × PieceAt p t i x.is_stop x.piece k × PlacedAt p t k more j

@@ -1,0 +1,4 @@
+pub mod NameBounds
+mod NameStartLaws
+mod Slots
+pub mod VariableListLaws
