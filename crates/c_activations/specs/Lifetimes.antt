@@ -1,10 +1,14 @@
 -- The objects that declarators and blocks begin and end (ISO/IEC 9899:2011, 6.2.4, 6.7.9).
 use Rattle.std.specs.Prelude.{ℕ, ◌+◌, pos, List, [], ◌∷◌, ◌++◌, map, slice_get}
 use Rattle.std.specs.Option.{option_map_or}
+use Rattle.c_tree.specs.declared.types.IntegerType.{IntegerType}
+use Rattle.c_tree.specs.declared.types.IntegerType.TheVariants.{Char}
 use Rattle.c_tree.specs.Programs.{AutomaticTree, LiteralTree}
+use Rattle.c_type_rules.specs.Integers.{wrapped}
 use Rattle.c_memory.specs.declared.value.Value.{Value}
 use Rattle.c_memory.specs.declared.value.Value.TheVariants.{Number}
 use Rattle.c_memory.specs.declared.value.Phase.{Phase}
+use Rattle.c_memory.specs.Types.{element_of}
 use Rattle.c_memory.specs.Memory.{Object, Memory, new_object, set_value, ended_from}
 use Rattle.c_states.specs.States.{State, Outcome, Next, Broken, Continued, Returned, Ended}
 use Rattle.c_activations.specs.Activations.{Activation, owner_of}
@@ -29,9 +33,17 @@ objects_of here phase x = option_map_or (λ (a : AutomaticTree). new_object (own
 abbrev pub made : Activation → Phase → ℕ → State → State
 made here phase x s = record s { memory = s.memory ++ objects_of here phase x }
 
--- the values of a literal that initialises an array, if the program has it
-abbrev pub literal_values : List LiteralTree → ℕ → List Value
-literal_values all n = option_map_or (λ (l : LiteralTree). map (λ byte. Number (pos byte)) l.bytes) (slice_get all n) []
+-- the integer type of a variable's elements; `char` where the program has no such variable
+abbrev pub element_type : Activation → ℕ → IntegerType
+element_type here x = option_map_or (λ (a : AutomaticTree). (element_of a.of).base) (slice_get here.program.automatics x) Char
+
+-- The value of an element that a byte of a literal initialises: the byte, converted to the element's type (6.7.9p14, 6.3.1.3).
+abbrev pub element_value : IntegerType → ℕ → Value
+element_value t byte = Number (wrapped t (pos byte))
+
+-- the values of a literal that initialises an array of elements of a type, if the program has it
+abbrev pub literal_values : List LiteralTree → IntegerType → ℕ → List Value
+literal_values all t n = option_map_or (λ (l : LiteralTree). map (element_value t) l.bytes) (slice_get all n) []
 
 -- values from an index on
 abbrev pub set_values : Memory → ℕ → (index : ℕ) → List Value → Memory

@@ -1,19 +1,19 @@
 //! The objects that declarators, parameters and blocks begin and end (ISO/IEC 9899:2011, 6.2.4, 6.7.9).
 
-ghost use Rattle.std.specs.Prelude.{◌≡◌, MatchOption, None, OnOk, Some, map, pos, slice_get};
+ghost use Rattle.std.specs.Prelude.{◌≡◌, MatchOption, None, OnOk, Some, map, slice_get};
 ghost use Rattle.c_tree.specs.Programs.{automatic_view, literal_view, program_view};
-ghost use Rattle.c_memory.specs.declared.value.Value.TheVariants.{Number};
 ghost use Rattle.c_memory.specs.Memory.{begun, set_value};
 ghost use Rattle.c_activations.specs.Views.{activation_view};
 ghost use Rattle.c_states.specs.Views.{evaluated_view, outcome_view, state_view};
 ghost use Rattle.c_memory.specs.Views.{object_view};
-ghost use Rattle.c_activations.specs.Lifetimes.{closed, ending_from, literal_values, made, set_values};
+ghost use Rattle.c_activations.specs.Lifetimes.{closed, element_type, element_value, ending_from, literal_values, made, set_values};
 ghost use Rattle.c_activations.specs.Calls.{forgotten};
 
 use crate::activation::Activation;
-use c_memory::{Object, Owner, Phase, Value, begin, end_from, set_value};
+use c_memory::{Object, Owner, Phase, Value, begin, element_of, end_from, set_value};
 use c_states::{Evaluated, Outcome, State};
-use c_tree::{AutomaticVariable, Program, StringLiteral};
+use c_tree::{AutomaticVariable, IntegerType, Program, StringLiteral};
+use c_type_rules::wrapped;
 use std::alloc::{AllocError, Global};
 
 /// The automatic variable of a number.
@@ -95,9 +95,19 @@ pub fn store_element(object: usize, index: usize, value: Value, state: &mut Stat
     set_value(&mut state.memory, object, index, value);
 }
 
+/// The integer type of a variable's elements; `char` where the program has no such variable.
+pub fn element_type(here: &Activation, variable: usize) -> IntegerType
+    ensures { result ≡ element_type (activation_view here.now) variable }
+{
+    match variable_at(here.program, variable) {
+        None => IntegerType::Char,
+        Some(found) => element_of(found.of).base,
+    }
+}
+
 /// The bytes of a literal, by its number; none where there is none of that number.
-fn literal_bytes(literals: &[StringLiteral], number: u32) -> &[u8]
-    ensures { map (λ byte. Number (pos byte)) result.now ≡ literal_values (map literal_view literals.now) number }
+fn literal_bytes(literals: &[StringLiteral], of: IntegerType, number: u32) -> &[u8]
+    ensures { map (element_value of) result.now ≡ literal_values (map literal_view literals.now) of number }
 {
     match literal_at(literals, number) {
         None => &[],
@@ -105,28 +115,34 @@ fn literal_bytes(literals: &[StringLiteral], number: u32) -> &[u8]
     }
 }
 
-/// Values from an index on.
-fn set_bytes(object: usize, bytes: &[u8], memory: &mut Vec<Object>)
-    ensures { map object_view memory.new.items ≡ set_values (map object_view memory.old.items) object 0 (map (λ byte. Number (pos byte)) bytes.now) }
+/// Elements of a type get the values of bytes, from the first on.
+fn set_bytes(object: usize, of: IntegerType, bytes: &[u8], memory: &mut Vec<Object>)
+    ensures { map object_view memory.new.items ≡ set_values (map object_view memory.old.items) object 0 (map (element_value of) bytes.now) }
 {
     for index in 0..bytes.len() {
         set_value(
             memory,
             object,
             index,
-            Value::Number(i64::from(bytes[index])),
+            Value::Number(wrapped(of, i128::from(bytes[index]))),
         );
     }
 }
 
-/// An array gets the bytes of a literal.
+/// An array of elements of a type gets the bytes of a literal.
 pub fn initialise_by_literal(
     literals: &[StringLiteral],
+    of: IntegerType,
     number: u32,
     object: usize,
     state: &mut State,
 )
-    ensures { state_view state.new ≡ record (state_view state.old) { memory = set_values (state_view state.old).memory object 0 (literal_values (map literal_view literals.now) number) } }
+    ensures { state_view state.new ≡ record (state_view state.old) { memory = set_values (state_view state.old).memory object 0 (literal_values (map literal_view literals.now) of number) } }
 {
-    set_bytes(object, literal_bytes(literals, number), &mut state.memory);
+    set_bytes(
+        object,
+        of,
+        literal_bytes(literals, of, number),
+        &mut state.memory,
+    );
 }

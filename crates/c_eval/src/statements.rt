@@ -11,7 +11,9 @@ ghost use Rattle.c_states.specs.States as states;
 ghost use Rattle.c_meaning.specs.Statements.{do_round, for_round, loop, while_round};
 
 use crate::execution::evaluate;
-use c_activations::{Activation, close, initialise, initialise_by_literal, make, store_element};
+use c_activations::{
+    Activation, close, element_type, initialise, initialise_by_literal, make, store_element,
+};
 use c_meaning::{Round, behind_body, behind_step, labelled, left_switch};
 use c_memory::{Phase, Value};
 use c_places::number_at;
@@ -186,7 +188,8 @@ fn declare(
         }
         Initial::Literal(number) => {
             make(alloc, here, Phase::Live, d.variable as usize, state)?;
-            initialise_by_literal(&here.program.array_literals, *number, object, state);
+            let of = element_type(here, d.variable as usize);
+            initialise_by_literal(&here.program.array_literals, of, *number, object, state);
             Ok(Outcome::Next)
         }
     }

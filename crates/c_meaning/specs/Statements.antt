@@ -12,7 +12,7 @@ use Rattle.c_memory.specs.Memory.{set_value, begun}
 use Rattle.c_places.specs.Places.{number_at}
 use Rattle.c_states.specs.States.{State, Evaluated, Outcome, Next, Broken, Continued, Returned, Ended, on_value, on_effect, Tested, Holds, tested, choose}
 use Rattle.c_meaning.specs.Expressions.{Calls, evaluate}
-use Rattle.c_activations.specs.Lifetimes.{closed, made, literal_values, set_values}
+use Rattle.c_activations.specs.Lifetimes.{closed, element_type, made, literal_values, set_values}
 use Rattle.c_activations.specs.Activations.{Activation, depth_of, at}
 
 -- the next statement, where control goes on
@@ -100,7 +100,7 @@ module _ (calls : ℕ → Calls) (here : Activation) where
   declare_with spot x (Elements all) s = initialise_elements spot (length s.memory) 0 all (made here Live x s)
   declare_with spot x (Literal n) s =
       let t = made here Live x s in
-      Next (record t { memory = set_values t.memory (length s.memory) 0 (literal_values here.program.array_literals n) })
+      Next (record t { memory = set_values t.memory (length s.memory) 0 (literal_values here.program.array_literals (element_type here x) n) })
 
   abbrev pub declare : DeclaredTree → State → Outcome
   declare d s = at here d.spot s (declare_with d.spot d.variable d.initial)

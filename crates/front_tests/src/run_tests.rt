@@ -51,7 +51,7 @@ struct Row {
     ending: Ending,
 }
 
-static ROWS: [Row; 13] = [
+static ROWS: [Row; 14] = [
     Row {
         text: b"#include <stdio.h>\nint main(void){int x=2; x=x+3; putchar(65); return x;}",
         turns: TURNS,
@@ -122,6 +122,15 @@ static ROWS: [Row; 13] = [
         stops: &[2],
         bytes: b"",
         ending: Ending::Exit(119),
+    },
+    // a byte of a literal is converted to the type of the array's elements (6.7.9p14, 6.3.1.3)
+    Row {
+        text: b"int main(void){signed char a[2]=\"\\xff\"; return a[0]==-1;}",
+        turns: TURNS,
+        input: b"",
+        stops: &[2, 3],
+        bytes: b"",
+        ending: Ending::Exit(1),
     },
     // the end of the input (7.21.7.6)
     Row {

@@ -13,6 +13,5 @@ pub mod Declared
 pub mod Fitting
 pub mod Entry
 pub mod Statics
-pub mod Literals
 pub mod Start
 pub mod Program

@@ -30,7 +30,6 @@ use Rattle.graph_runs.proofs.Fitting.{StatementsStand}
 use Rattle.graph_runs.proofs.Program.{program_does}
 use Rattle.graph_runs.proofs.Functions.{FunctionStands, function_is}
 use Rattle.graph_runs.proofs.Main.{main_is_there}
-use Rattle.graph_program.specs.Statics.{HasPlainLiterals}
 use Rattle.graph_program.proofs.Accepted.{ProgramFacts, facts_of}
 use Rattle.graph_program.proofs.Homes.{object_there}
 use Rattle.graph_program.proofs.Settings.{graph_is, running}
@@ -40,7 +39,6 @@ use Rattle.graph_program.proofs.Keeping.{got_mapped, is_lawful, variable_is, lai
 use Rattle.graph_program.proofs.Sizes.{are_small, main_gives}
 use Rattle.graph_program.proofs.Kept.{InIt, laid}
 use Rattle.graph_program.proofs.Fitting.{DeclaratorsAre, all_fit}
-use Rattle.graph_program.proofs.Literals.{plain_literal, plain_bytes, plain_numbers}
 use Rattle.graph_program.proofs.Entry.{entry_stands}
 use Rattle.graph_program.proofs.Start.{main_stands}
 
@@ -56,7 +54,7 @@ all_there : (k : Activity) (number : ℕ) (xs : List Place) → ((i : ℕ) (q : 
 all_there k number [] h = tt
 all_there k number (x ∷ xs) h = (h 0 x refl, all_there k number xs (λ i q e. h (suc i) q e))
 
-module _ (p : ProgramTree) (u : UnitForm) (facts : ProgramFacts p) (unit : IsUnitOf p u) (plain_literals : HasPlainLiterals p) where
+module _ (p : ProgramTree) (u : UnitForm) (facts : ProgramFacts p) (unit : IsUnitOf p u) where
   module _ (f : ℕ) (tree : TypedFunctionTree) (is : slice_get p.functions f ≡ Some tree) where
     module _ (first : ℕ) (ws : List Activation) (objects : Memory) (frames : List Frame) (left : ℕ) where
       abbrev k : Activity
@@ -82,8 +80,6 @@ module _ (p : ProgramTree) (u : UnitForm) (facts : ProgramFacts p) (unit : IsUni
         laid = laid;
         arrays = λ a sc n is one. arrays_kept a.in_memory sc n (subst (λ of. is_kept_array a.in_memory of ≡ true) one (facts.arrays d.variable a is));
         copied = λ m l init e. ap (λ xs. slice_get xs m) unit.array_bytes ∙ got_mapped (λ (q : LiteralTree). q.bytes) p.array_literals m l e;
-        bytes = λ m l init e. plain_bytes l.bytes (plain_literal p.array_literals plain_literals m l e);
-        numbers = λ m l a sc n init e is one. plain_numbers sc.base l.bytes (plain_literal p.array_literals plain_literals m l e);
       }
 
       statements_stand : StatementsStand k (tree.first_variable + tree.parameters) tree.body
@@ -117,8 +113,8 @@ module _ (p : ProgramTree) (u : UnitForm) (facts : ProgramFacts p) (unit : IsUni
   pub functions_are : FunctionsAre p u
   functions_are f tree is = function_is p u f tree (function_stands f tree is)
 
--- The unit of a well-formed program does what the program does, where literals that initialise arrays are of numbers below 128.
-pub does_program : (p : ProgramTree) (u : UnitForm) → IsWellFormed p → HasPlainLiterals p → IsUnitOf p u → DoesProgram p u
-does_program p u well literals unit =
+-- The unit of a well-formed program does what the program does.
+pub does_program : (p : ProgramTree) (u : UnitForm) → IsWellFormed p → IsUnitOf p u → DoesProgram p u
+does_program p u well unit =
     let facts = facts_of p well in
-    program_does p u (functions_are p u facts unit literals) (main_is_there p u (main_stands p u facts unit (function_stands p u facts unit literals)))
+    program_does p u (functions_are p u facts unit) (main_is_there p u (main_stands p u facts unit (function_stands p u facts unit)))

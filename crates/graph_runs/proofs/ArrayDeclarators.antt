@@ -1,18 +1,16 @@
 -- Declarators of arrays with initializers do what they mean.
-use Rattle.std.proofs.Common.{◌≡◌, ℕ, ◌+◌, ◌*◌, ◌/◌, ◌≤◌, List, [], ◌∷◌, length, replicate, Option, Some, None, true, slice_get, slice_set, refl, sym, ap, ◌∙◌, subst, arith, pos}
-use Rattle.std.specs.Prelude.{if◌then◌else◌, min}
-use Rattle.std.specs.List.{AllByRecursion}
+use Rattle.std.proofs.Common.{◌≡◌, ℕ, ◌+◌, ◌*◌, ◌/◌, ◌≤◌, List, [], ◌∷◌, length, replicate, Option, Some, None, true, false, slice_get, slice_set, refl, sym, ap, ◌∙◌, subst, arith, pos}
+use Rattle.std.specs.Prelude.{if◌then◌else◌, nat_le, min}
 use Rattle.std.specs.Option.{option_map_or}
 use Rattle.std.proofs.lemmas.List.{length-replicate}
 use Rattle.debug_records.specs.declared.source.Spot.{Spot}
-use Rattle.word_base.specs.Types.{holds}
 use Rattle.c_tree.specs.declared.types.IntegerType.TheVariants.{Char}
 use Rattle.c_tree.specs.declared.object_type.Scalar.{Scalar}
 use Rattle.c_tree.specs.declared.object_type.ObjectType.TheVariants as of-object
 use Rattle.c_tree.specs.TypedExpressions.{RvalueTree}
 use Rattle.c_tree.specs.TypedStatements.{DeclaredTree, Elements, Literal}
 use Rattle.c_tree.specs.Programs.{AutomaticTree, LiteralTree}
-use Rattle.c_type_rules.specs.Integers.{integer, scalar_size as type_size}
+use Rattle.c_type_rules.specs.Integers.{scalar_size as type_size}
 use Rattle.c_memory.specs.declared.value.Phase.TheVariants.{Initialising, Live}
 use Rattle.c_memory.specs.Types.{element_of, count_of, scalar_size, zero_of}
 use Rattle.c_states.specs.States.{State}
@@ -42,7 +40,6 @@ use Rattle.graph_runs.proofs.Declarators.{type_sizes, some_words, some_size}
 use Rattle.graph_runs.proofs.Arrays.{IsArray, fits_array}
 use Rattle.graph_runs.proofs.ArrayElements.{ElementsWork, elements_go}
 use Rattle.graph_runs.proofs.ArrayKept.{elements_keep}
-use Rattle.graph_runs.proofs.StaticValues.{Bytes}
 use Rattle.graph_runs.proofs.LiteralArrays.{literal_goes, literal_keeps}
 
 module _ (k : Activity) (law : Lawful k) (v j : ℕ) (a : AutomaticTree) (is : slice_get k.setting.program.automatics v ≡ Some a) (named : object_of (names_in k.setting) v ≡ Some j) (inside : a.in_memory ≡ true) (scope : List ℕ) (low : ℕ) (w : Ways) (spot : Spot) (le : low ≤ v) (all : List RvalueTree) (room : length all ≤ count_of a.of)
@@ -135,8 +132,8 @@ module _ (k : Activity) (law : Lawful k) (d : DeclaredTree) (a : AutomaticTree) 
       )
 
   -- and with a literal.
-  pub array_literal : (m : ℕ) (l : LiteralTree) → d.initial ≡ Literal m → slice_get k.setting.program.array_literals m ≡ Some l → slice_get k.setting.unit.array_bytes m ≡ Some l.bytes → scalar_size sc ≡ 1 → Bytes l.bytes → AllByRecursion (λ b. holds (integer sc.base) (pos b) ≡ true) l.bytes → DeclaratorDoes k d
-  array_literal m l init literal_is unit_bytes single below typed scope low w le b =
+  pub array_literal : (m : ℕ) (l : LiteralTree) → d.initial ≡ Literal m → slice_get k.setting.program.array_literals m ≡ Some l → slice_get k.setting.unit.array_bytes m ≡ Some l.bytes → scalar_size sc ≡ 1 → DeclaratorDoes k d
+  array_literal m l init literal_is unit_bytes single scope low w le b =
       let b1 = array_begins scope w.next b in
       let b2 = subst (λ q. Begins k scope d.spot.at (λ t i. declare_array (coding_in k) d.spot.at j sc (n * scalar_size sc) q t (going (coding_in k) w.next i))) init b1 in
       let bytes : n * scalar_size sc ≡ count_of a.of = ap (λ z. n * z) single ∙ omega arith ∙ sym counts in
@@ -144,10 +141,9 @@ module _ (k : Activity) (law : Lawful k) (d : DeclaredTree) (a : AutomaticTree) 
       let count = count_of a.of in
       let words : copied_words (coding_in k) m count ≡ min (words_of count) (words_of (length l.bytes)) = ap (λ r. option_map_or (λ (q : LiteralTree). min (words_of count) (words_of (length q.bytes))) r 0) literal_is in
       let b4 = subst (λ x. Begins k scope d.spot.at (λ t i. cleared j count x (before (unit.CopyWords j m x) (going (coding_in k) w.next i)))) words b3 in
-      let single2 = ap scalar_size elements ∙ single in
-      let typed2 = subst (λ s. AllByRecursion (λ b. holds (integer s.base) (pos b) ≡ true) l.bytes) (sym elements) typed in (
+      let single2 = ap scalar_size elements ∙ single in (
         subst (λ q. GoesOn k low (d.variable + 1) (d.variable ∷ []) w scope (Some d.spot.at) (λ s. activations.at (here_in k) d.spot s (declare_with k.calls (here_in k) d.spot d.variable q))) (sym init)
-            (literal_goes k law d.variable j a is named inside scope low w d.spot le m l literal_is unit_bytes single2 below typed2 b4),
+            (literal_goes k law d.variable j a is named inside scope low w d.spot le m l literal_is unit_bytes single2 b4),
         subst (λ q. KeepsOn k low (d.variable + 1) (d.variable ∷ []) scope (λ s. activations.at (here_in k) d.spot s (declare_with k.calls (here_in k) d.spot d.variable q))) (sym init)
-            (literal_keeps k law d.variable j a is named inside scope low w d.spot le m l literal_is unit_bytes single2 below typed2 b.here),
+            (literal_keeps k law d.variable j a is named inside scope low w d.spot le m l literal_is unit_bytes single2 b.here),
       )

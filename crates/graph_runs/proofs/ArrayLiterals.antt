@@ -2,14 +2,17 @@
 use Rattle.std.proofs.Common.{◌≡◌, ℕ, zero, suc, ◌+◌, ◌*◌, ◌%◌, ◌<◌, ◌≤◌, ◌⊎◌, inl, inr, List, [], ◌∷◌, ◌++◌, length, map, take, drop, replicate, slice_set, refl, sym, ap, ◌∙◌, subst, arith, pos}
 use Rattle.std.specs.List.{AllByRecursion}
 use Rattle.std.specs.Option.{option_map_or}
+use Rattle.std.proofs.lemmas.Bool.Decides.{nat_tests}
+use Rattle.word_base.specs.WordOperations.{sign_extended, truncated}
+use Rattle.c_tree.specs.declared.types.IntegerType.{IntegerType}
+use Rattle.c_tree.specs.declared.types.IntegerType.TheVariants.{Char, SignedChar, UnsignedChar, Short, UnsignedShort, Int, UnsignedInt, Long, UnsignedLong}
 use Rattle.c_tree.specs.declared.object_type.Scalar.{Scalar}
 use Rattle.c_tree.specs.Programs.{ProgramTree}
-use Rattle.c_type_rules.specs.Types.{loaded}
+use Rattle.c_type_rules.specs.Integers.{wrapped}
 use Rattle.c_memory.specs.declared.value.Value as source-value
-use Rattle.c_memory.specs.declared.value.Value.TheVariants as source
-use Rattle.c_memory.specs.Types.{scalar_size, zero_of}
+use Rattle.c_memory.specs.Types.{integer_size, scalar_size, size_by_stars, zero_of}
 use Rattle.c_memory.specs.Memory.{Object as SourceObject, Memory as SourceMemory, set_value, with_value}
-use Rattle.c_activations.specs.Lifetimes.{set_values}
+use Rattle.c_activations.specs.Lifetimes.{element_value, set_values}
 use Rattle.graph_core.specs.declared.value.Value.{Value}
 use Rattle.graph_core.specs.declared.value.Value.TheVariants.{Number}
 use Rattle.graph_core.specs.declared.instruction.Element.{Element}
@@ -18,13 +21,14 @@ use Rattle.graph_core.specs.Memory.{Object, Memory, bytes_of, words_of, with_obj
 use Rattle.graph_core.specs.Values.{as_element, size_of}
 use Rattle.graph_scale.specs.Conversions.{word_of}
 use Rattle.graph_drafts.specs.Rules as rule
-use Rattle.graph_values.specs.Typed.{IsOf}
+use Rattle.graph_drafts.specs.Rules.{truncation_to}
 use Rattle.graph_values.specs.Correspondence.{SameValue, SameValues}
+use Rattle.graph_values.proofs.Converting.{truncated_word}
 use Rattle.graph_values.proofs.Elements.{element_keeps, element_size}
 use Rattle.graph_runs.proofs.Making.{last_is, zero_typed}
 use Rattle.graph_runs.proofs.Declared.{set_last, zero_same}
 use Rattle.graph_runs.proofs.Clearing.{none_left}
-use Rattle.graph_runs.proofs.StaticValues.{Bytes, drop_next}
+use Rattle.graph_runs.proofs.StaticValues.{drop_next}
 
 -- Values, and so many of another behind them.
 abbrev pub filled_with : (count : ℕ) → source-value.Value → List source-value.Value → List source-value.Value
@@ -71,13 +75,42 @@ set_object memory o index (v ∷ vs) = ap (λ m. set_values m (length memory) (i
 pub values_set_in : (memory : SourceMemory) (o : SourceObject) (count : ℕ) (z : source-value.Value) → o.values ≡ replicate count z → (vs : List source-value.Value) → set_values (memory ++ o ∷ []) (length memory) 0 vs ≡ memory ++ record o { values = filled_with count z vs } ∷ []
 values_set_in memory o count z zeros vs = set_object memory o 0 vs ∙ ap (λ xs. memory ++ record o { values = set_all xs 0 vs } ∷ []) zeros ∙ ap (λ xs. memory ++ record o { values = xs } ∷ []) (set_is_filled count z vs)
 
+-- What a truncation to a type of one byte leaves hangs on the word alone.
+truncated_alike : (t : IntegerType) (b : ℕ) → integer_size t ≡ 1 → truncated (truncation_to t) b ≡ truncated (truncation_to t) (b % 4294967296)
+unfolding truncated
+truncated_alike Char b single = omega arith
+truncated_alike UnsignedChar b single = omega arith
+truncated_alike SignedChar b single = let low : b % 256 ≡ b % 4294967296 % 256 = omega arith in ap (λ k. sign_extended k 256) low
+truncated_alike Short b single = cc
+truncated_alike UnsignedShort b single = cc
+truncated_alike Int b single = cc
+truncated_alike UnsignedInt b single = cc
+truncated_alike Long b single = cc
+truncated_alike UnsignedLong b single = cc
+
+-- A byte, as an element of a type of one byte keeps it, is the word of the converted number.
+number_kept : (t : IntegerType) (b : ℕ) → integer_size t ≡ 1 → as_element (rule.element_of (record { base = t; stars = 0 })) (Number b) ≡ Number (word_of (wrapped t (pos b)))
+number_kept Char b single = ap Number (truncated_alike Char b single ∙ truncated_word Char (pos b) refl)
+number_kept UnsignedChar b single = ap Number (truncated_alike UnsignedChar b single ∙ truncated_word UnsignedChar (pos b) refl)
+number_kept SignedChar b single = ap Number (truncated_alike SignedChar b single ∙ truncated_word SignedChar (pos b) refl)
+number_kept Short b single = cc
+number_kept UnsignedShort b single = cc
+number_kept Int b single = cc
+number_kept UnsignedInt b single = cc
+number_kept Long b single = cc
+number_kept UnsignedLong b single = cc
+
+scalar_kept : (base : IntegerType) (stars b : ℕ) → size_by_stars base stars ≡ 1 → as_element (rule.element_of (record { base = base; stars = stars })) (Number b) ≡ Number (word_of (wrapped base (pos b)))
+scalar_kept base zero b single = number_kept base b single
+scalar_kept base (suc stars) b single = cc
+
 -- The bytes of a literal as elements of one byte keep them.
 module _ (p : ProgramTree) (memory : SourceMemory) (others : Memory) (sc : Scalar) (single : scalar_size sc ≡ 1) (bytes : List ℕ) where
   abbrev el : Element
   el = rule.element_of sc
 
   abbrev number : ℕ → source-value.Value
-  number b = source.Number (pos b)
+  number b = element_value sc.base b
 
   abbrev zero_value : source-value.Value
   zero_value = zero_of sc
@@ -85,10 +118,8 @@ module _ (p : ProgramTree) (memory : SourceMemory) (others : Memory) (sc : Scala
   width : size_of el ≡ 1
   width = element_size sc ∙ single
 
-  byte_kept : (b : ℕ) → b < 256 → IsOf memory (loaded sc) (number b) → SameValue p memory others (number b) (as_element el (Number b))
-  byte_kept b lt typed =
-      let word : b % 4294967296 ≡ b = omega (arith, lt) in
-      ap (λ n. as_element el (Number n)) (sym word) ∙ element_keeps p memory others sc (number b) (Number (word_of (pos b))) typed refl
+  byte_kept : (b : ℕ) → SameValue p memory others (number b) (as_element el (Number b))
+  byte_kept b = scalar_kept sc.base sc.stars b single
 
   zero_kept : SameValue p memory others zero_value (as_element el (Number 0))
   zero_kept = let same = zero_same p memory others sc.stars in subst (SameValue p memory others zero_value) (sym (element_keeps p memory others sc zero_value (Number 0) (zero_typed memory sc.base sc.stars) same)) same
@@ -120,16 +151,16 @@ module _ (p : ProgramTree) (memory : SourceMemory) (others : Memory) (sc : Scala
   none_behind (x ∷ xs) (suc n) h = let e : suc n + 1 ≡ suc (n + 1) = omega arith in ap (λ k. drop k (x ∷ xs)) e ∙ none_behind xs n h
 
   -- Elements that bytes hold, before what stood there: what they do not cover is zero.
-  pub copied_same : (count many index : ℕ) (rest : List ℕ) (old : List Value) → drop index bytes ≡ rest → Bytes rest → AllByRecursion (λ b. IsOf memory (loaded sc) (number b)) rest → length old ≡ count → (count ≤ many) ⊎ ((old ≡ replicate count (Number 0)) × (length rest ≤ many))
+  pub copied_same : (count many index : ℕ) (rest : List ℕ) (old : List Value) → drop index bytes ≡ rest → length old ≡ count → (count ≤ many) ⊎ ((old ≡ replicate count (Number 0)) × (length rest ≤ many))
       → SameValues p memory others (filled_with count zero_value (map number rest)) (take count (elements_from bytes el index many) ++ drop many old)
-  copied_same zero many index rest [] is below typed size covers = subst (SameValues p memory others []) (sym (none_taken (elements_from bytes el index many) (drop many []) (none_left many [] (omega arith)))) tt
+  copied_same zero many index rest [] is size covers = subst (SameValues p memory others []) (sym (none_taken (elements_from bytes el index many) (drop many []) (none_left many [] (omega arith)))) tt
     where
       none_taken : (xs ys : List Value) → ys ≡ [] → take 0 xs ++ ys ≡ []
       none_taken [] ys h = h
       none_taken (x ∷ xs) ys h = h
-  copied_same zero many index rest (x ∷ old) is below typed size covers = absurd (omega (arith, size))
-  copied_same (suc count) many index rest [] is below typed size covers = absurd (omega (arith, size))
-  copied_same (suc count) zero index rest (x ∷ old) is below typed size covers = elim covers [
+  copied_same zero many index rest (x ∷ old) is size covers = absurd (omega (arith, size))
+  copied_same (suc count) many index rest [] is size covers = absurd (omega (arith, size))
+  copied_same (suc count) zero index rest (x ∷ old) is size covers = elim covers [
     | inl le ↦ absurd (omega (arith, le))
     | inr both ↦
         let none : rest ≡ [] = no_more rest both.1 in
@@ -139,23 +170,25 @@ module _ (p : ProgramTree) (memory : SourceMemory) (others : Memory) (sc : Scala
       no_more : (xs : List ℕ) → length xs ≤ 0 → xs ≡ []
       no_more [] le = refl
       no_more (x ∷ xs) le = absurd (omega (arith, le))
-  copied_same (suc count) (suc many) index [] (x ∷ old) is below typed size covers = (
-    subst (SameValue p memory others zero_value) (sym (behind_bytes index is)) zero_kept,
-    copied_same count many (index + 1) [] old (none_behind bytes index is) tt tt (omega (arith, size)) (elim covers [
-      | inl le ↦ inl (omega (arith, le))
-      | inr both ↦ inr (behind_zero count x old both.0, omega arith)
-    ]),
-  )
+  copied_same (suc count) (suc many) index [] (x ∷ old) is size covers =
+      (
+        subst (SameValue p memory others zero_value) (sym (behind_bytes index is)) zero_kept,
+        copied_same count many (index + 1) [] old (none_behind bytes index is) (omega (arith, size)) (elim covers [
+          | inl le ↦ inl (omega (arith, le))
+          | inr both ↦ inr (behind_zero count x old both.0, omega arith)
+        ]),
+      )
     where
       behind_zero : (count : ℕ) (x : Value) (old : List Value) → x ∷ old ≡ replicate (suc count) (Number 0) → old ≡ replicate count (Number 0)
       behind_zero count x old h = cc
-  copied_same (suc count) (suc many) index (b ∷ rest) (x ∷ old) is below typed size covers = (
-    subst (SameValue p memory others (number b)) (sym (at_byte index b rest is)) (byte_kept b below.0 typed.0),
-    copied_same count many (index + 1) rest old (drop_next bytes index b rest is) below.1 typed.1 (omega (arith, size)) (elim covers [
-      | inl le ↦ inl (omega (arith, le))
-      | inr both ↦ let le = both.1 in inr (behind_zero count x old both.0, omega (arith, le))
-    ]),
-  )
+  copied_same (suc count) (suc many) index (b ∷ rest) (x ∷ old) is size covers =
+      (
+        subst (SameValue p memory others (number b)) (sym (at_byte index b rest is)) (byte_kept b),
+        copied_same count many (index + 1) rest old (drop_next bytes index b rest is) (omega (arith, size)) (elim covers [
+          | inl le ↦ inl (omega (arith, le))
+          | inr both ↦ let le = both.1 in inr (behind_zero count x old both.0, omega (arith, le))
+        ]),
+      )
     where
       behind_zero : (count : ℕ) (x : Value) (old : List Value) → x ∷ old ≡ replicate (suc count) (Number 0) → old ≡ replicate count (Number 0)
       behind_zero count x old h = cc

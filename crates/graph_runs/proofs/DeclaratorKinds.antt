@@ -1,10 +1,8 @@
 -- A well-typed declarator whose blocks stand does what it means, whatever its initial value is.
-use Rattle.std.proofs.Common.{◌≡◌, ℕ, ◌+◌, ◌<◌, ◌≤◌, inl, inr, List, [], ◌∷◌, length, Option, Some, None, true, false, slice_get, refl, sym, ◌∙◌, subst, arith, pos}
+use Rattle.std.proofs.Common.{◌≡◌, ℕ, ◌+◌, ◌<◌, ◌≤◌, ◌⊎◌, inl, inr, List, [], ◌∷◌, length, Option, Some, None, Bool, true, false, ◌&&◌, slice_get, refl, sym, ap, ◌∙◌, subst, arith}
 use Rattle.std.specs.Prelude.{◌==◌, nat_le, nat_lt}
-use Rattle.std.specs.List.{AllByRecursion}
 use Rattle.std.proofs.lemmas.Bool.{leb-true, eqb-true}
 use Rattle.std.proofs.lemmas.Bool.Decides.{nat_tests}
-use Rattle.word_base.specs.Types.{holds}
 use Rattle.c_tree.specs.declared.types.IntegerType.{IntegerType}
 use Rattle.c_tree.specs.declared.object_type.Scalar.{Scalar}
 use Rattle.c_tree.specs.declared.object_type.ObjectType.{ObjectType}
@@ -13,7 +11,7 @@ use Rattle.c_tree.specs.declared.object_type.ValueType.TheVariants.{Integer}
 use Rattle.c_tree.specs.TypedExpressions.{RvalueTree, Convert}
 use Rattle.c_tree.specs.TypedStatements.{InitialTree, Zero, Scalar as scalar-initial, Elements, Literal, DeclaredTree}
 use Rattle.c_tree.specs.Programs.{AutomaticTree, LiteralTree}
-use Rattle.c_type_rules.specs.Integers.{integer, scalar_size as type_size}
+use Rattle.c_type_rules.specs.Integers.{scalar_size as type_size}
 use Rattle.c_type_rules.specs.Types.{loaded}
 use Rattle.c_law_types.specs.declared.kind.Kind.{Kind}
 use Rattle.c_law_types.specs.Kinds.{is_of, is_typed, is_integer}
@@ -38,7 +36,6 @@ use Rattle.graph_runs.proofs.OwnObjects.{object_if_no_scalar}
 use Rattle.graph_runs.proofs.Declarators.{named_initialised, named_zero, kept_initialised, kept_zero, array_zero, type_sizes}
 use Rattle.graph_runs.proofs.ArrayElements.{bare_cases, converted_fits, ElementsWork}
 use Rattle.graph_runs.proofs.ArrayDeclarators.{array_elements, array_literal}
-use Rattle.graph_runs.proofs.StaticValues.{Bytes}
 
 -- no pointers are subtracted in what initialises
 abbrev pub LaidAll : Activity → List RvalueTree → Type 0
@@ -51,14 +48,11 @@ LaidInitial k (scalar-initial e) = LaidAt k e
 LaidInitial k (Elements all) = LaidAll k all
 LaidInitial k (Literal m) = Unit {0}
 
--- What is asked of a declarator beside its types: an array has elements and is in memory, and of a literal the unit has the bytes, which are numbers of the array's type.
+-- What is asked of a declarator beside its types: an array has elements and is in memory, and of a literal the unit has the bytes.
 pub record DeclaratorStands (k : Activity) (d : DeclaredTree) : Type 0 where
   pub laid : LaidInitial k d.initial
   pub arrays : (a : AutomaticTree) (sc : Scalar) (n : ℕ) → slice_get k.setting.program.automatics d.variable ≡ Some a → a.of ≡ of-object.Array sc n → (a.in_memory ≡ true) × (1 ≤ n)
   pub copied : (m : ℕ) (l : LiteralTree) → d.initial ≡ Literal m → slice_get k.setting.program.array_literals m ≡ Some l → slice_get k.setting.unit.array_bytes m ≡ Some l.bytes
-  pub bytes : (m : ℕ) (l : LiteralTree) → d.initial ≡ Literal m → slice_get k.setting.program.array_literals m ≡ Some l → Bytes l.bytes
-  pub numbers : (m : ℕ) (l : LiteralTree) (a : AutomaticTree) (sc : Scalar) (n : ℕ) → d.initial ≡ Literal m → slice_get k.setting.program.array_literals m ≡ Some l → slice_get k.setting.program.automatics d.variable ≡ Some a → a.of ≡ of-object.Array sc n
-      → AllByRecursion (λ b. holds (integer sc.base) (pos b) ≡ true) l.bytes
 
 module _ (k : Activity) (law : Lawful k) (out : (place : ℕ) (began : SourceMemory) → LaidOut (placed k place began)) (small : AreSmall k.setting.program) (good : CallsGood k) where
   abbrev kind : RvalueTree → Kind
@@ -126,7 +120,7 @@ module _ (k : Activity) (law : Lawful k) (out : (place : ℕ) (began : SourceMem
         by None e h = cc
         by (Some l) e h =
             let c = two_true (type_size sc == 1) (nat_le (length l.bytes) (n + 1)) h in
-            array_literal k law d a is j sc n nowhere named inside one m l init e (stands.copied m l init e) (sym (type_sizes sc.base sc.stars) ∙ eqb-true (type_size sc) 1 c.0) (stands.bytes m l init e) (stands.numbers m l a sc n init e is one)
+            array_literal k law d a is j sc n nowhere named inside one m l init e (stands.copied m l init e) (sym (type_sizes sc.base sc.stars) ∙ eqb-true (type_size sc) 1 c.0)
 
     by_home : (o : Option ℕ) → scalar_of (names_in k.setting) d.variable ≡ o → k.setting.tree.first_variable ≤ d.variable → d.variable < k.setting.tree.first_variable + k.setting.tree.variables → Initialises a.of d.initial → DeclaratorDoes k d
     by_home (Some j) named le lt h = by_name j named a.of refl d.initial refl h

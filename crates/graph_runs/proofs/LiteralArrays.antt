@@ -7,21 +7,19 @@ use Rattle.std.proofs.lemmas.Bool.{leb-true}
 use Rattle.std.proofs.lemmas.Bool.Decides.{nat_tests}
 use Rattle.std.proofs.lemmas.List.{length-replicate}
 use Rattle.debug_records.specs.declared.source.Spot.{Spot}
-use Rattle.word_base.specs.Types.{holds}
 use Rattle.c_tree.specs.declared.types.IntegerType.{IntegerType}
+use Rattle.c_tree.specs.declared.types.IntegerType.TheVariants.{Char}
 use Rattle.c_tree.specs.declared.object_type.Scalar.{Scalar}
 use Rattle.c_tree.specs.TypedStatements.{Literal}
 use Rattle.c_tree.specs.Programs.{AutomaticTree, LiteralTree}
-use Rattle.c_type_rules.specs.Integers.{integer}
 use Rattle.c_type_rules.specs.Types.{loaded}
 use Rattle.c_memory.specs.declared.value.Value as source-value
-use Rattle.c_memory.specs.declared.value.Value.TheVariants as source
 use Rattle.c_memory.specs.declared.value.Phase.TheVariants.{Initialising, Live}
 use Rattle.c_memory.specs.Types.{element_of, count_of, scalar_size, size_by_stars, zero_of}
 use Rattle.c_memory.specs.Memory.{Memory as SourceMemory}
 use Rattle.c_states.specs.States.{State, Next}
 use Rattle.c_activations.specs.Activations as activations
-use Rattle.c_activations.specs.Lifetimes.{literal_values, set_values}
+use Rattle.c_activations.specs.Lifetimes.{element_type, element_value, literal_values, set_values}
 use Rattle.c_meaning.specs.Statements.{declare_with}
 use Rattle.c_flow.specs.declared.edge.Ways.{Ways}
 use Rattle.graph_core.specs.declared.value.Value.{Value}
@@ -41,6 +39,7 @@ use Rattle.graph_values.specs.Correspondence.{SameValues}
 use Rattle.graph_values.proofs.Leads.{names_in, Local, World, Leads, goes, stays, then_leads}
 use Rattle.graph_values.proofs.Later.{set_here}
 use Rattle.graph_values.proofs.Elements.{element_size}
+use Rattle.graph_values.proofs.Wrapping.{wrapped_holds}
 use Rattle.graph_runs.proofs.Activities.{Activity, coding_in, here_in, place_at, before_in}
 use Rattle.graph_runs.proofs.Living.{frames_length}
 use Rattle.graph_runs.proofs.Outcomes.{Runs, GoesOn}
@@ -50,8 +49,7 @@ use Rattle.graph_runs.proofs.Keeping.{KeptBy, KeepsOn, place_kept}
 use Rattle.graph_runs.proofs.Making.{new_in, with_new, made_is, zero_typed}
 use Rattle.graph_runs.proofs.Declared.{set_twice}
 use Rattle.graph_runs.proofs.Clearing.{zeroed_is}
-use Rattle.graph_runs.proofs.Arrays.{with_array, sound_array, grown_array, lives_array, fits_array}
-use Rattle.graph_runs.proofs.StaticValues.{Bytes}
+use Rattle.graph_runs.proofs.Arrays.{array_of, with_array, sound_array, grown_array, lives_array, fits_array}
 use Rattle.graph_runs.proofs.ArrayLiterals.{filled_with, filled_length, filled_all, values_set_in, copied_same}
 
 elements_length : (bytes : List ℕ) (e : Element) (index count : ℕ) → length (elements_from bytes e index count) ≡ count
@@ -100,13 +98,13 @@ module _ (memory : Memory) (m : ℕ) (q : Object) (sc : Scalar) (count words : �
       ∙ ap (λ b. option_map (with_object memory m) (if b then Some (record q { values = take (length q.values) (elements_from bytes q.element 0 (4 * words / size_of q.element)) ++ drop (length (elements_from bytes q.element 0 (4 * words / size_of q.element))) q.values }) else None)) can
       ∙ ap (λ vs. Some (slice_set memory m (record q { values = vs }))) values_are
 
--- a byte is a number of an array's type
-byte_typed : (memory : SourceMemory) (base : IntegerType) (stars b : ℕ) → size_by_stars base stars ≡ 1 → holds (integer base) (pos b) ≡ true → IsOf memory (loaded (record { base = base; stars = stars })) (source.Number (pos b))
-byte_typed memory base zero b single h = h
-byte_typed memory base (suc stars) b single h = cc
+-- a byte becomes a number of an array's type
+byte_typed : (memory : SourceMemory) (base : IntegerType) (stars b : ℕ) → size_by_stars base stars ≡ 1 → IsOf memory (loaded (record { base = base; stars = stars })) (element_value base b)
+byte_typed memory base zero b single = wrapped_holds base (pos b)
+byte_typed memory base (suc stars) b single = cc
 
 module _ (k : Activity) (law : Lawful k) (v j : ℕ) (a : AutomaticTree) (is : slice_get k.setting.program.automatics v ≡ Some a) (named : object_of (names_in k.setting) v ≡ Some j) (inside : a.in_memory ≡ true) (scope : List ℕ) (low : ℕ) (w : Ways) (spot : Spot) (le : low ≤ v)
-    (n : ℕ) (l : LiteralTree) (literal_is : slice_get k.setting.program.array_literals n ≡ Some l) (bytes_are : slice_get k.setting.unit.array_bytes n ≡ Some l.bytes) (single : scalar_size (element_of a.of) ≡ 1) (below : Bytes l.bytes) (typed : AllByRecursion (λ b. holds (integer (element_of a.of).base) (pos b) ≡ true) l.bytes) where
+    (n : ℕ) (l : LiteralTree) (literal_is : slice_get k.setting.program.array_literals n ≡ Some l) (bytes_are : slice_get k.setting.unit.array_bytes n ≡ Some l.bytes) (single : scalar_size (element_of a.of) ≡ 1) where
   abbrev element : Scalar
   element = element_of a.of
 
@@ -114,7 +112,7 @@ module _ (k : Activity) (law : Lawful k) (v j : ℕ) (a : AutomaticTree) (is : s
   count = count_of a.of
 
   abbrev given_values : List source-value.Value
-  given_values = map (λ byte. source.Number (pos byte)) l.bytes
+  given_values = map (element_value element.base) l.bytes
 
   abbrev values : List source-value.Value
   values = filled_with count (zero_of element) given_values
@@ -123,22 +121,22 @@ module _ (k : Activity) (law : Lawful k) (v j : ℕ) (a : AutomaticTree) (is : s
   abbrev words : ℕ
   words = min (words_of count) (words_of (length l.bytes))
 
-  all_typed : (memory : SourceMemory) (bytes : List ℕ) → AllByRecursion (λ b. holds (integer element.base) (pos b) ≡ true) bytes → AllByRecursion (λ b. IsOf memory (loaded element) (source.Number (pos b))) bytes
-  all_typed memory [] h = tt
-  all_typed memory (b ∷ bytes) h = (byte_typed memory element.base element.stars b single h.0, all_typed memory bytes h.1)
-
-  mapped_typed : (memory : SourceMemory) (bytes : List ℕ) → AllByRecursion (λ b. holds (integer element.base) (pos b) ≡ true) bytes → AllByRecursion (IsOf memory (loaded element)) (map (λ byte. source.Number (pos byte)) bytes)
-  mapped_typed memory [] h = tt
-  mapped_typed memory (b ∷ bytes) h = (byte_typed memory element.base element.stars b single h.0, mapped_typed memory bytes h.1)
+  mapped_typed : (memory : SourceMemory) (bytes : List ℕ) → AllByRecursion (IsOf memory (loaded element)) (map (element_value element.base) bytes)
+  mapped_typed memory [] = tt
+  mapped_typed memory (b ∷ bytes) = (byte_typed memory element.base element.stars b single, mapped_typed memory bytes)
 
   values_typed : (memory : SourceMemory) → AllByRecursion (IsOf memory (loaded element)) values
-  values_typed memory = filled_all (IsOf memory (loaded element)) count (zero_of element) given_values (zero_typed memory element.base element.stars) (mapped_typed memory l.bytes typed)
+  values_typed memory = filled_all (IsOf memory (loaded element)) count (zero_of element) given_values (zero_typed memory element.base element.stars) (mapped_typed memory l.bytes)
+
+  type_is : element_type (here_in k) v ≡ element.base
+  type_is = ap (λ r. option_map_or (λ (q : AutomaticTree). (element_of q.of).base) r Char) is
 
   -- the program's run behind the declarator
   declared_is : (s : State) → length k.frames ≡ length k.setting.waiting → declare_with k.calls (here_in k) spot v (Literal n) s ≡ Next (record s { memory = with_array k v a is values s.memory })
   declared_is s same_depth =
-      ap (λ t. Next (record t { memory = set_values t.memory (length s.memory) 0 (literal_values k.setting.program.array_literals n) })) (made_is k v a is Live s same_depth)
-      ∙ ap (λ vs. Next (record s { memory = set_values (with_new k v a is Live s.memory) (length s.memory) 0 vs })) (ap (λ r. option_map_or (λ (q : LiteralTree). map (λ byte. source.Number (pos byte)) q.bytes) r []) literal_is)
+      ap (λ t. Next (record t { memory = set_values t.memory (length s.memory) 0 (literal_values k.setting.program.array_literals (element_type (here_in k) v) n) })) (made_is k v a is Live s same_depth)
+      ∙ ap (λ vs. Next (record s { memory = set_values (with_new k v a is Live s.memory) (length s.memory) 0 vs }))
+          (ap (λ t. literal_values k.setting.program.array_literals t n) type_is ∙ ap (λ r. option_map_or (λ (q : LiteralTree). map (element_value element.base) q.bytes) r []) literal_is)
       ∙ ap (λ m. Next (record s { memory = m })) (values_set_in s.memory (new_in k v a is Live) count (zero_of element) refl given_values)
 
   -- The unit's run has copied the literal over what the object held, or over zeros.
@@ -209,7 +207,7 @@ module _ (k : Activity) (law : Lawful k) (v j : ℕ) (a : AutomaticTree) (is : s
       let copies = copy_leads c es l2 u place q.object q.is q.lives q.element q.count g leads in
       let ws = take count (elements_from l.bytes (rule.element_of element) 0 (4 * words)) ++ drop (4 * words) copies.old in
       arrives ws (taken_length count (4 * words) (elements_from l.bytes (rule.element_of element) 0 (4 * words)) copies.old (elements_length l.bytes (rule.element_of element) 0 (4 * words)) copies.size)
-      (copied_same p before_memory u.memory element single l.bytes count (4 * words) 0 l.bytes copies.old refl below (all_typed before_memory l.bytes typed) copies.size copies.covers) copies.leads))
+      (copied_same p before_memory u.memory element single l.bytes count (4 * words) 0 l.bytes copies.old refl copies.size copies.covers) copies.leads))
 
   -- and what is kept by it.
   pub literal_keeps : PlaceIs k scope spot.at → KeepsOn k low (v + 1) (v ∷ []) scope (λ s. activations.at (here_in k) spot s (declare_with k.calls (here_in k) spot v (Literal n)))
