@@ -92,7 +92,7 @@ module _ (u : HomedForm) (table : declared-table.PlaceTable) where
           subst (λ k. ArePlaced d k table) (sym e) (subst (λ (c : Graph). ArePlaced c count table) same next.placed)
 
 -- the homes of a function
-names_at : (h : declared-homed.HomedUnit) (f : ℕ) (one : declared-homes.FunctionHomes) → slice_get h.homes.items f ≡ Some one → homes_in (homed_view h) f ≡ one.homes.items
+pub names_at : (h : declared-homed.HomedUnit) (f : ℕ) (one : declared-homes.FunctionHomes) → slice_get h.homes.items f ≡ Some one → homes_in (homed_view h) f ≡ one.homes.items
 names_at h f one e =
     ap (λ (o : Option (List Home)). option_map_or (λ (homes : List Home). homes) o []) (slice_get-map (λ (z : declared-homes.FunctionHomes). z.homes.items) h.homes.items f ∙ ap (λ o. option_map (λ (z : declared-homes.FunctionHomes). z.homes.items) o) e)
 
