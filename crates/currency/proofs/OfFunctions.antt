@@ -1,13 +1,13 @@
 -- What is told of functions, one after the other.
-use Rattle.std.proofs.Common.{◌≡◌, ◌≢◌, inl, inr, ℕ, zero, suc, ◌+◌, ◌<◌, Option, Some, None, List, [], length, get_or, map, refl, sym, ap, subst, ◌∙◌, arith}
-use Rattle.std.specs.Prelude.{slice_get, ◌⊎◌}
+use Rattle.std.proofs.Common.{◌≡◌, ◌≢◌, inl, inr, ℕ, ◌+◌, ◌<◌, Option, Some, List, [], length, get_or, sym, ap, subst, ◌∙◌, arith}
+use Rattle.std.specs.Prelude.{slice_get}
 use Rattle.std.proofs.lemmas.Bool.Decides.{eqb_tells}
-use Rattle.std.proofs.lemmas.Option.{none-some, same_Some}
+use Rattle.std.proofs.lemmas.Option.{same_Some}
 use Rattle.places.specs.declared.table.PlaceRow as declared-row
 use Rattle.places.specs.declared.table.PlaceTable as declared-table
 use Rattle.graph_homes.specs.declared.home.Home.{Home}
 use Rattle.graph_homes.specs.Homes.{HoldsOnAllPaths}
-use Rattle.graph_core.specs.Graphs.{Graph, Of, Name, Recipe, recipe_view}
+use Rattle.graph_core.specs.Graphs.{Graph, Of, Name}
 use Rattle.graph_core.specs.Paths.{Among}
 use Rattle.graph_core.specs.WellMarked.{IsVariable}
 use Rattle.std.specs.Prelude.{option_map}
@@ -26,7 +26,7 @@ use Rattle.currency.specs.declared.telling.Told as declared-told
 use Rattle.currency.specs.declared.telling.Told.TheVariants as told
 use Rattle.currency.specs.declared.telling.ToldVariable as declared-variable
 use Rattle.currency.specs.declared.told.ToldPlaces as declared-places
-use Rattle.currency.specs.Telling.{told_at, IsFunctionTold, IsSomethingTold, IsToldRight}
+use Rattle.currency.specs.Telling.{told_at, IsFunctionTold, IsToldRight}
 use Rattle.currency.specs.Sound.{AreFunctionsTold, AreSo}
 
 -- one place is of one function

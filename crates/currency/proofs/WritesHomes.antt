@@ -1,5 +1,5 @@
 -- What writes the homes of variables, as it was read.
-use Rattle.std.proofs.Common.{◌≡◌, ◌≢◌, ℕ, ◌<◌, true, Option, Some, None, List, [], ◌∷◌, length, get_or, map, take, refl, sym, ap, subst, ◌∙◌}
+use Rattle.std.proofs.Common.{◌≡◌, ◌≢◌, ℕ, ◌<◌, true, Option, Some, None, List, [], ◌∷◌, length, get_or, take, refl, sym, ap, subst, ◌∙◌}
 use Rattle.std.specs.Prelude.{option_map, slice_get}
 use Rattle.std.proofs.lemmas.Option.{slice_get-map, slice_get-get_or}
 use Rattle.graph_homes.specs.declared.home.Home.{Home}
@@ -11,11 +11,10 @@ use Rattle.graph_core.specs.declared.graph.Scalar as declared-scalar
 use Rattle.graph_core.specs.declared.instruction.Instr as declared-instr
 use Rattle.graph_core.specs.Graphs.{Scalar, ToScalar, binding_view, block_view, graph_view, instruction_view, scalar_view}
 use Rattle.graph_core.specs.Uses.{target_of}
-use Rattle.graph_core.specs.Paths.{Among}
 use Rattle.graph_core.specs.WellMarked.{IsVariable}
 use Rattle.homed_unit.specs.declared.homed.FunctionHomes as declared-homes
 use Rattle.homed_unit.specs.declared.homed.HomedUnit as declared-homed
-use Rattle.homed_unit.specs.Homed.{HomedForm, home_of, homed_view, homes_in}
+use Rattle.homed_unit.specs.Homed.{HomedForm, home_of, homed_view}
 use Rattle.note_state.specs.Homes.{home_in}
 use Rattle.hiding_changes.specs.declared.writers.Writer as declared-writer
 use Rattle.hiding_changes.specs.declared.writers.Writer.TheVariants as writer

@@ -1,4 +1,4 @@
-use Rattle.std.proofs.Common.{◌∙◌, Option, arith, ap, sym}
+use Rattle.std.proofs.Common.{◌∙◌, arith, ap, sym}
 use Rattle.std.specs.Prelude.{option_map}
 use Rattle.graph_core.specs.declared.name.Name as declared-name
 use Rattle.currency.proofs.WritesHomes.{instruction_read}
