@@ -3,3 +3,4 @@ mod Entries
 mod Logged
 mod OfFunctions
 mod OnRows
+mod WritesHomes

@@ -4,7 +4,6 @@ use Rattle.std.specs.Prelude.{option_map}
 use Rattle.std.proofs.lemmas.Option.{slice_get-map, slice_get-get_or}
 use Rattle.debug_records.specs.declared.change.Change.{Change}
 use Rattle.graph_core.specs.Graphs.{Logged, logged}
-use Rattle.graph_core.specs.Paths.{Among}
 use Rattle.currency.specs.declared.verdict.PlaceVerdict as declared-row
 use Rattle.currency.specs.Named.{AreNamed, IsNumbered}
 

@@ -1,13 +1,13 @@
 -- What is told of functions, one after the other.
-use Rattle.std.proofs.Common.{◌≡◌, ◌≢◌, inl, inr, ℕ, zero, suc, ◌+◌, ◌<◌, Option, Some, None, List, [], length, get_or, map, refl, sym, ap, subst, ◌∙◌, arith}
-use Rattle.std.specs.Prelude.{slice_get, ◌⊎◌}
+use Rattle.std.proofs.Common.{◌≡◌, ◌≢◌, inl, inr, ℕ, ◌+◌, ◌<◌, Option, Some, List, [], length, get_or, sym, ap, subst, ◌∙◌, arith}
+use Rattle.std.specs.Prelude.{slice_get}
 use Rattle.std.proofs.lemmas.Bool.Decides.{eqb_tells}
-use Rattle.std.proofs.lemmas.Option.{none-some, same_Some}
+use Rattle.std.proofs.lemmas.Option.{same_Some}
 use Rattle.places.specs.declared.table.PlaceRow as declared-row
 use Rattle.places.specs.declared.table.PlaceTable as declared-table
 use Rattle.graph_homes.specs.declared.home.Home.{Home}
 use Rattle.graph_homes.specs.Homes.{HoldsOnAllPaths}
-use Rattle.graph_core.specs.Graphs.{Graph, Of, Name, Recipe, recipe_view}
+use Rattle.graph_core.specs.Graphs.{Graph, Of, Name}
 use Rattle.graph_core.specs.Paths.{Among}
 use Rattle.graph_core.specs.WellMarked.{IsVariable}
 use Rattle.std.specs.Prelude.{option_map}
@@ -26,7 +26,7 @@ use Rattle.currency.specs.declared.telling.Told as declared-told
 use Rattle.currency.specs.declared.telling.Told.TheVariants as told
 use Rattle.currency.specs.declared.telling.ToldVariable as declared-variable
 use Rattle.currency.specs.declared.told.ToldPlaces as declared-places
-use Rattle.currency.specs.Telling.{told_at, IsFunctionTold, IsSomethingTold, IsToldRight}
+use Rattle.currency.specs.Telling.{told_at, IsFunctionTold, IsToldRight}
 use Rattle.currency.specs.Sound.{AreFunctionsTold, AreSo}
 
 -- one place is of one function
@@ -92,7 +92,7 @@ module _ (u : HomedForm) (table : declared-table.PlaceTable) where
           subst (λ k. ArePlaced d k table) (sym e) (subst (λ (c : Graph). ArePlaced c count table) same next.placed)
 
 -- the homes of a function
-names_at : (h : declared-homed.HomedUnit) (f : ℕ) (one : declared-homes.FunctionHomes) → slice_get h.homes.items f ≡ Some one → homes_in (homed_view h) f ≡ one.homes.items
+pub names_at : (h : declared-homed.HomedUnit) (f : ℕ) (one : declared-homes.FunctionHomes) → slice_get h.homes.items f ≡ Some one → homes_in (homed_view h) f ≡ one.homes.items
 names_at h f one e =
     ap (λ (o : Option (List Home)). option_map_or (λ (homes : List Home). homes) o []) (slice_get-map (λ (z : declared-homes.FunctionHomes). z.homes.items) h.homes.items f ∙ ap (λ o. option_map (λ (z : declared-homes.FunctionHomes). z.homes.items) o) e)
 

@@ -1,9 +1,9 @@
 -- What verdicts say, row by row.
-use Rattle.std.proofs.Common.{◌≡◌, ◌≢◌, inl, inr, ℕ, zero, suc, ◌+◌, ◌-◌, ◌<◌, ◌≤◌, Option, Some, None, List, [], ◌∷◌, ◌++◌, length, get_or, map, take, drop, refl, sym, ap, subst, ◌∙◌, arith}
+use Rattle.std.proofs.Common.{◌≡◌, inl, inr, ℕ, ◌+◌, ◌-◌, ◌<◌, ◌≤◌, Option, Some, None, List, [], ◌∷◌, ◌++◌, length, get_or, map, take, drop, refl, sym, ap, subst, ◌∙◌, arith}
 use Rattle.std.specs.Prelude.{slice_get, slice_set, MatchOption, ◌⊎◌}
 use Rattle.std.proofs.lemmas.Bool.Decides.{eqb_tells}
 use Rattle.std.proofs.lemmas.List.{get_or-set_same, get_or-set_other}
-use Rattle.std.proofs.lemmas.Option.{none-some, same_Some, slice_get_within, slice_get-get_or, get_or_from_slice_get}
+use Rattle.std.proofs.lemmas.Option.{same_Some, slice_get_within}
 use Rattle.debug_records.specs.declared.change.Var as declared-var
 use Rattle.places.specs.declared.table.PlaceRow as declared-place
 use Rattle.places.specs.declared.table.PlaceTable as declared-table
@@ -13,7 +13,7 @@ use Rattle.graph_core.specs.Graphs.{Graph, Of, Name, Recipe, recipe_view}
 use Rattle.graph_core.specs.Paths.{Among}
 use Rattle.graph_core.specs.WellMarked.{IsVariable}
 use Rattle.homed_unit.specs.Homed.{HomedForm, home_of}
-use Rattle.note_state.proofs.Lists.{among_at, at_among, among_parts, among_one, drop_end, drop_more, get_among, get_any, take_whole}
+use Rattle.note_state.proofs.Lists.{among_at, among_parts, among_one, drop_end, drop_more, get_among, get_any, take_whole}
 use Rattle.std.proofs.lemmas.List.{take_more}
 use Rattle.currency.specs.Visible.{Sight, next, sight, sights_at, sights_from}
 use Rattle.note_flow.specs.Shown.{IsVisible}
@@ -25,7 +25,7 @@ use Rattle.currency.specs.declared.verdict.Verdict as declared-verdict
 use Rattle.currency.specs.declared.verdict.Verdict.TheVariants as verdict
 use Rattle.currency.specs.declared.verdict.PlaceVerdict as declared-row
 use Rattle.currency.specs.Telling.{told_at, AreRowsTold, AreSlotted, AreTold, IsNoneTold, IsRowTold, IsToldOf, IsToldRight, IsVerdictOf, IsVerdictOn}
-use Rattle.currency.specs.Sound.{AreFunctionsTold, AreHome, AreRecovered, AreSo}
+use Rattle.currency.specs.Sound.{AreHome, AreRecovered, AreSo}
 
 -- slots of the first of what is told
 abbrev pub AreSlottedTo : List declared-variable.ToldVariable → List ℕ → (count : ℕ) → Type 0

@@ -2,3 +2,4 @@ pub mod Visible
 pub mod Telling
 pub mod Sound
 pub mod Named
+pub mod Written

@@ -6,6 +6,7 @@ mod rows;
 mod telling;
 mod told;
 mod verdict;
+mod written;
 
 pub use hiding_changes::Writer;
 pub use rows::verdicts;

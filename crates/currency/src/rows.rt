@@ -5,12 +5,14 @@ ghost use Rattle.homed_unit.specs.Homed.{homed_view};
 ghost use Rattle.currency.specs.Telling.{AreRowsTold, AreSlotted, AreTold, IsNoneTold, IsToldOf, IsVerdictOn, told_at};
 ghost use Rattle.currency.specs.Named.{AreNamed};
 ghost use Rattle.currency.specs.Sound.{AreHome, AreRecovered, AreSo};
+ghost use Rattle.currency.specs.Written.{AreWritten};
 ghost use Rattle.currency.specs.Visible.{sight, sights_at, sights_from};
 
 use crate::named::are_named;
 use crate::telling::ToldVariable;
 use crate::told::{Surroundings, ToldPlaces};
 use crate::verdict::{PlaceVerdict, Verdict};
+use crate::written::are_written;
 use debug_records::{Place, Var};
 use hiding_changes::Teller;
 use homed_unit::HomedUnit;
@@ -177,7 +179,7 @@ fn told_of_all<'a>(
 ///
 /// The places and their flow are the unit's, and its homes are those that are assigned by rule. None where a variable is not shown and nothing hides it, or a recipe
 /// shows its value and no change removed an assignment of it, or what was found of paths is not borne out (`not_shown` of `note_flow`), or the log has not the change that a
-/// verdict names, which no unit that the passes make of a program is known to meet. The only error is want of memory.
+/// verdict names, or what it says to write a home does not, which no unit that the passes make of a program is known to meet. The only error is want of memory.
 pub fn verdicts(
     alloc: Global,
     homed: &HomedUnit,
@@ -188,6 +190,7 @@ pub fn verdicts(
     ensures home { IfOk result (λ o. IfSome o (λ v. AreHome (homed_view homed.now) v.items)) }
     ensures recovered { IfOk result (λ o. IfSome o (λ v. AreRecovered (homed_view homed.now) v.items)) }
     ensures named { IfOk result (λ o. IfSome o (λ v. AreNamed (homed_view homed.now).unit.log v.items)) }
+    ensures written { IfOk result (λ o. IfSome o (λ v. AreWritten (homed_view homed.now) v.items)) }
 {
     let changes = homed.unit.log.changes();
     let removals = Removals::new(alloc, changes)?;
@@ -197,7 +200,7 @@ pub fn verdicts(
     let Some(rows) = rows_of(alloc, places, &told, variable_count(homed))? else {
         return Ok(None);
     };
-    if !are_named(changes, &rows) {
+    if !are_named(changes, &rows) || !are_written(homed, &rows) {
         return Ok(None);
     }
     Ok(Some(rows))

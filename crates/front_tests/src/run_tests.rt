@@ -123,9 +123,9 @@ static ROWS: [Row; 14] = [
         bytes: b"",
         ending: Ending::Exit(119),
     },
-    // a byte of a literal is converted to the type of the array's elements (6.7.9p14, 6.3.1.3)
+    // a byte of a literal becomes a number of the array's type, and `char` has no negative ones (6.7.9p14, 6.3.1.3)
     Row {
-        text: b"int main(void){signed char a[2]=\"\\xff\"; return a[0]==-1;}",
+        text: b"int main(void){char a[2]=\"\\xff\"; return a[0]==255;}",
         turns: TURNS,
         input: b"",
         stops: &[2, 3],

@@ -16,13 +16,13 @@ use c_place_table::place_table;
 use c_tree::Program;
 use currency::verdicts;
 use debug_records::{Mode, PassName};
-use graph_build::build;
 use graph_core::Unit;
 use home_assign::assign;
 use homed_unit::HomedUnit;
 use image_form::Image;
 use image_tables::{Parts, image_of};
 use pass_runs::{UnitPass, run_passes};
+use program_unit::program_unit;
 use rv_emit::emit;
 use std::alloc::{AllocError, Global};
 
@@ -44,11 +44,12 @@ pub fn unit_of(
     passes: &[Box<dyn UnitPass>],
     names: &[PassName],
 ) -> Result<Option<Unit>, AllocError>
-    requires { Fits32 (program_view program.now) }
+    requires fits { Fits32 (program_view program.now) }
+    requires laws { IsWellFormed (program_view program.now) }
     ensures valid { IfOk result (λ o. IfSome o (λ u. IsValid (unit_view u))) }
     ensures shape { IfOk result (λ o. IfSome o (λ u. HasShapeOf (program_view program.now) (unit_view u))) }
 {
-    let Some(unit) = build(alloc, program)? else {
+    let Some(unit) = program_unit(alloc, program)? else {
         return Ok(None);
     };
     run_passes(alloc, passes, names, unit)

@@ -1,5 +1,5 @@
-use Rattle.std.proofs.Common.{arith, inl, map, take, subst, sym}
-use Rattle.currency.specs.Visible.{sight, sights_at}
+use Rattle.std.proofs.Common.{arith, inl, map}
+use Rattle.currency.specs.Visible.{sight}
 use Rattle.currency.proofs.OnRows.{sights_all, sights_first, sights_next, told_next}
 use Rattle.currency.proofs.rows.push_place.Goals as goal
 

@@ -1,5 +1,5 @@
 use Rattle.std.proofs.Common.{◌≡◌, ◌++◌, map, take}
-use Rattle.currency.specs.Telling.{AreSlotted, AreTold}
+use Rattle.currency.specs.Telling.{AreTold}
 use Rattle.currency.specs.Visible.{sight, sights_at}
 use Rattle.currency.proofs.rows.push_place.Given as goal
 

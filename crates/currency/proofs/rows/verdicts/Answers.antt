@@ -1,9 +1,8 @@
-use Rattle.std.proofs.Common.{◌≡◌, map, subst}
+use Rattle.std.proofs.Common.{subst}
 use Rattle.std.specs.Prelude.{IfSome}
 use Rattle.homed_unit.specs.Homed.{homed_view}
 use Rattle.currency.specs.Telling.{AreRowsTold}
 use Rattle.currency.specs.Sound.{AreSo}
-use Rattle.currency.specs.Visible.{sight, sights_from}
 use Rattle.currency.proofs.OnRows.{are_home, are_recovered}
 use Rattle.currency.proofs.rows.verdicts.Goals as goal
 
