@@ -136,7 +136,7 @@ module _ (k : Activity) (law : Lawful k) (v j : ℕ) (a : AutomaticTree) (is : s
   declared_is s same_depth =
       ap (λ t. Next (record t { memory = set_values t.memory (length s.memory) 0 (literal_values k.setting.program.array_literals (element_type (here_in k) v) n) })) (made_is k v a is Live s same_depth)
       ∙ ap (λ vs. Next (record s { memory = set_values (with_new k v a is Live s.memory) (length s.memory) 0 vs }))
-          (ap (λ t. literal_values k.setting.program.array_literals t n) type_is ∙ ap (λ r. option_map_or (λ (q : LiteralTree). map (element_value element.base) q.bytes) r []) literal_is)
+      (ap (λ t. literal_values k.setting.program.array_literals t n) type_is ∙ ap (λ r. option_map_or (λ (q : LiteralTree). map (element_value element.base) q.bytes) r []) literal_is)
       ∙ ap (λ m. Next (record s { memory = m })) (values_set_in s.memory (new_in k v a is Live) count (zero_of element) refl given_values)
 
   -- The unit's run has copied the literal over what the object held, or over zeros.
