@@ -1,0 +1,4 @@
+pub mod Same
+pub mod Growing
+pub mod Fitting
+pub mod Values

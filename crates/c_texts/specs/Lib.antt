@@ -1,0 +1,4 @@
+pub mod Constants
+pub mod Findings
+pub mod Values
+pub mod Known
