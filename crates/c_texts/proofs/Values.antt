@@ -92,7 +92,7 @@ module _ (p : ProgramTree) (f : TypedFunctionTree) where
       by (Pointer of) e = record { place = of_pointer v of h e; is = refl; elements = ap leads_to_elements (sym e) ∙ h.elements }
 
   -- an index
-  counted_typed : (t : IntegerType) (v : ValueTree) → IsTyped p f v → v.of ≡ Integer t → is_counted (kind_of p f (to_integer (promoted t) v).tree) ≡ true
+  pub counted_typed : (t : IntegerType) (v : ValueTree) → IsTyped p f v → v.of ≡ Integer t → is_counted (kind_of p f (to_integer (promoted t) v).tree) ≡ true
   counted_typed t v h e = counted_kind (kind_of p f (to_integer (promoted t) v).tree) (promoted t) (to_integer_kind (promoted t) t v h e) (promoted_once t)
 
   -- `a[b]`
