@@ -6,3 +6,4 @@ pub mod Writing
 pub mod Judging
 pub mod Calling
 pub mod Expressions
+pub mod Coming

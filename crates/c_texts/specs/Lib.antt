@@ -2,3 +2,5 @@ pub mod Constants
 pub mod Findings
 pub mod Values
 pub mod Known
+pub mod Formed
+pub mod Progress
