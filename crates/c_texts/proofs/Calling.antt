@@ -33,11 +33,11 @@ rest_from [] n x h = cc
 rest_from (y ∷ xs) zero x h = let e : y ≡ x = cc in ap (λ q. q ∷ xs) e
 rest_from (y ∷ xs) (suc n) x h = rest_from xs n x h
 
-module _ (p : ProgramTree) (f : TypedFunctionTree) where
+module _ (K : Type 0) (p : ProgramTree) (f : TypedFunctionTree) where
   -- Arguments from a parameter on: where the source is accepted and each fits, they are passed.
   pub record ArePassed (parameters : List Scalar) (at : ℕ) (s : FoundTree) (q : Passed) (t : FoundTree) : Type 0 where
     pub grows : Grows s t
-    pub passed : Accepts p t → q.fit ≡ true → are_passed p f (map loaded (drop at parameters)) q.trees ≡ true
+    pub passed : Accepts K p t → q.fit ≡ true → are_passed p f (map loaded (drop at parameters)) q.trees ≡ true
 
   abbrev pub Pass : List Scalar → ℕ → FoundTree → Checked Passed → Type 0
   Pass parameters at s (gives q t) = ArePassed parameters at s q t
@@ -56,7 +56,7 @@ module _ (p : ProgramTree) (f : TypedFunctionTree) where
       by None g fit = cc
       by (Some r) g fit = (s, refl, g)
 
-  pub one_passed : (parameters : List Scalar) (at : ℕ) (z : Bool) (s t : FoundTree) (v : Option ValueTree) (q : Checked Passed) → Good p (IsTyped p f) s v t → Pass parameters (at + 1) t q
+  pub one_passed : (parameters : List Scalar) (at : ℕ) (z : Bool) (s t : FoundTree) (v : Option ValueTree) (q : Checked Passed) → Good K p (IsTyped p f) s v t → Pass parameters (at + 1) t q
       → Pass parameters at s (next q (before (passed_to (slice_get parameters at) v z)))
   one_passed parameters at z s t v (gives q u) h g =
       record {
@@ -71,7 +71,7 @@ module _ (p : ProgramTree) (f : TypedFunctionTree) where
       }
 
   -- an argument before others
-  pub argument_passed : (parameters : List Scalar) (at : ℕ) (z : Bool) (s : FoundTree) (v : Checked (Option ValueTree)) (others : FoundTree → Checked Passed) → IsGood p (IsTyped p f) s v
+  pub argument_passed : (parameters : List Scalar) (at : ℕ) (z : Bool) (s : FoundTree) (v : Checked (Option ValueTree)) (others : FoundTree → Checked Passed) → IsGood K p (IsTyped p f) s v
       → ((t : FoundTree) → Pass parameters (at + 1) t (others t)) → Pass parameters at s (next v (λ m t. next (others t) (before (passed_to (slice_get parameters at) m z))))
   argument_passed parameters at z s (gives v t) others h each = one_passed parameters at z s t v (others t) h (each t)
 
@@ -85,29 +85,29 @@ module _ (p : ProgramTree) (f : TypedFunctionTree) where
       let fine = both (is_callee p c) (are_passed p f (taken_by p c) all) k.there (ap (λ l. are_passed p f l all) k.takes ∙ h) in
       ap (λ t. is_of (of_if (is_callee p c && are_passed p f (taken_by p c) all) t) g.result) k.gives ∙ given_kind (is_callee p c && are_passed p f (taken_by p c) all) g.result fine
 
-  function_called : (g : SignatureTree) (first : Spot) (last : ℕ) (s : FoundTree) (q : Checked Passed) → Pass g.parameters 0 (noted g.callee first s) q → ((c : Callee) → g.callee ≡ Some c → IsCalled p g c)
-      → IsGood p (Means p f) s (next q (called g first last))
+  function_called : (g : SignatureTree) (first : Spot) (last : ℕ) (s : FoundTree) (q : Checked Passed) → Pass g.parameters 0 (noted g.callee first s) q → (K → (c : Callee) → g.callee ≡ Some c → IsCalled p g c)
+      → IsGood K p (Means p f) s (next q (called g first last))
   function_called g first last s (gives q t) h known =
       let on = faulted_if q.fit ARGUMENTS first last t in
-      given p (Means p f) s (if q.fit then t else faulted ARGUMENTS first last t) _ (grows_on (noted_grows g.callee first s) (grows_on h.grows on))
+      given K p (Means p f) s (if q.fit then t else faulted ARGUMENTS first last t) _ (grows_on (noted_grows g.callee first s) (grows_on h.grows on))
       (λ e.
       let d = accepts_before on e in
       let passed = h.passed d (fine_if q.fit ARGUMENTS first last t e.faults) in
       let result = by g.callee refl passed (accepts_before h.grows d) in
       record { is = result.0; elements = result.1 })
     where
-      by : (c : Option Callee) → g.callee ≡ c → are_passed p f (map loaded g.parameters) q.trees ≡ true → Accepts p (noted c first s)
+      by : (c : Option Callee) → g.callee ≡ c → are_passed p f (map loaded g.parameters) q.trees ≡ true → Accepts K p (noted c first s)
           → (is_of (kind_of p f (call_tree c q.trees)) g.result ≡ true) × (leads_to_elements g.result ≡ true)
-      by (Some c) is passed e = let k = known c is in (call_kind g c q.trees k passed, k.elements)
+      by (Some c) is passed e = let k = known e.given c is in (call_kind g c q.trees k passed, k.elements)
       by None is passed e = absurd (more_is_some s.undefined first e.undefined)
 
   -- a call of what is no function
-  other_called : (first : Spot) (last : ℕ) (r s : FoundTree) (m : Option ValueTree) (q : Checked Passed) → Good p (IsTyped p f) r m s → Pass [] 0 s q → IsGood p (Means p f) r (next q (λ (all : Passed). uncallable first last m))
-  other_called first last r s (Some v) (gives q t) h g = earlier p (Means p f) r t _ None (grows_on h.grows g.grows) (refused p (Means p f) t _ first last)
+  other_called : (first : Spot) (last : ℕ) (r s : FoundTree) (m : Option ValueTree) (q : Checked Passed) → Good K p (IsTyped p f) r m s → Pass [] 0 s q → IsGood K p (Means p f) r (next q (λ (all : Passed). uncallable first last m))
+  other_called first last r s (Some v) (gives q t) h g = earlier K p (Means p f) r t _ None (grows_on h.grows g.grows) (refused K p (Means p f) t _ first last)
   other_called first last r s None (gives q t) h g = record { grows = grows_on h.grows g.grows; there = λ e. h.there (no_fault_before g.grows e); holds = λ e. tt }
 
   pub call_good : (o : Option SignatureTree) (operand : Checked (Option ValueTree)) (arguments : List Scalar → ℕ → FoundTree → Checked Passed) (first : Spot) (last : ℕ) (s : FoundTree)
-      → ((g : SignatureTree) (c : Callee) → o ≡ Some g → g.callee ≡ Some c → IsCalled p g c) → IsGood p (IsTyped p f) s operand
-      → ((parameters : List Scalar) (at : ℕ) (t : FoundTree) → Pass parameters at t (arguments parameters at t)) → IsGood p (Means p f) s (call_of o operand arguments first last s)
-  call_good (Some g) operand arguments first last s known h each = function_called g first last s (arguments g.parameters 0 (noted g.callee first s)) (each g.parameters 0 (noted g.callee first s)) (λ c is. known g c refl is)
+      → (K → (g : SignatureTree) (c : Callee) → o ≡ Some g → g.callee ≡ Some c → IsCalled p g c) → IsGood K p (IsTyped p f) s operand
+      → ((parameters : List Scalar) (at : ℕ) (t : FoundTree) → Pass parameters at t (arguments parameters at t)) → IsGood K p (Means p f) s (call_of o operand arguments first last s)
+  call_good (Some g) operand arguments first last s known h each = function_called g first last s (arguments g.parameters 0 (noted g.callee first s)) (each g.parameters 0 (noted g.callee first s)) (λ k c is. known k g c refl is)
   call_good None (gives m t) arguments first last s known h each = other_called first last s t m (arguments [] 0 t) h (each [] 0 t)

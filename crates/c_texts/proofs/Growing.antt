@@ -42,9 +42,10 @@ grows_on {s = s} {t = t} {u = u} g h =
 pub no_fault_before : {s t : FoundTree} → Grows s t → t.faults ≡ [] → s.faults ≡ []
 no_fault_before {s = s} {t = t} g h = begins_nothing s.faults g.faults.0 (sym h ∙ g.faults.1)
 
-pub accepts_before : {p : ProgramTree} {s t : FoundTree} → Grows s t → Accepts p t → Accepts p s
-accepts_before {p = p} {s = s} {t = t} g a =
+pub accepts_before : {K : Type 0} {p : ProgramTree} {s t : FoundTree} → Grows s t → Accepts K p t → Accepts K p s
+accepts_before {K = K} {p = p} {s = s} {t = t} g a =
     record {
+      given = a.given;
       faults = no_fault_before g a.faults;
       undefined = begins_nothing s.undefined g.undefined.0 (sym a.undefined ∙ g.undefined.1);
       literals = begins_on s.literals t.literals p.literals g.literals a.literals;
@@ -86,54 +87,54 @@ grows_restored s t g =
       literals = ([], ap (take (length s.literals)) g.literals.1 ∙ take_beginning s.literals g.literals.0 ∙ sym (append-nil s.literals));
     }
 
-module _ (p : ProgramTree) where
-  pub given : {A : Type 0} (P : A → Type 0) (s t : FoundTree) (a : A) → Grows s t → (Accepts p t → P a) → Good p P s (Some a) t
+module _ (K : Type 0) (p : ProgramTree) where
+  pub given : {A : Type 0} (P : A → Type 0) (s t : FoundTree) (a : A) → Grows s t → (Accepts K p t → P a) → Good K p P s (Some a) t
   given P s t a g holds = record { grows = g; there = λ h. tt; holds = holds }
 
   -- nothing, where a fault is found
-  pub refused : {A : Type 0} (P : A → Type 0) (s : FoundTree) (code : Code) (first : Spot) (last : ℕ) → Good p P s None (faulted code first last s)
+  pub refused : {A : Type 0} (P : A → Type 0) (s : FoundTree) (code : Code) (first : Spot) (last : ℕ) → Good K p P s None (faulted code first last s)
   refused P s code first last = record { grows = grows_fault code first last s; there = λ h. more_is_some s.faults _ h; holds = λ h. tt }
 
   -- from an earlier point on
-  pub earlier : {A : Type 0} (P : A → Type 0) (r s t : FoundTree) (m : Option A) → Grows r s → Good p P s m t → Good p P r m t
+  pub earlier : {A : Type 0} (P : A → Type 0) (r s t : FoundTree) (m : Option A) → Grows r s → Good K p P s m t → Good K p P r m t
   earlier P r s t m g h = record { grows = grows_on g h.grows; there = h.there; holds = h.holds }
 
-  pub from_earlier : {A : Type 0} (P : A → Type 0) (r s : FoundTree) (q : Checked (Option A)) → Grows r s → IsGood p P s q → IsGood p P r q
+  pub from_earlier : {A : Type 0} (P : A → Type 0) (r s : FoundTree) (q : Checked (Option A)) → Grows r s → IsGood K p P s q → IsGood K p P r q
   from_earlier P r s (gives m t) g h = earlier P r s t m g h
 
   -- a check, and another one behind it
-  pub next_good : {A B : Type 0} (P : A → Type 0) (Q : B → Type 0) (r s : FoundTree) (q : Checked (Option A)) (g : Option A → FoundTree → Checked (Option B)) → IsGood p P s q
-      → ((m : Option A) (t : FoundTree) → Good p P s m t → IsGood p Q r (g m t)) → IsGood p Q r (next q g)
+  pub next_good : {A B : Type 0} (P : A → Type 0) (Q : B → Type 0) (r s : FoundTree) (q : Checked (Option A)) (g : Option A → FoundTree → Checked (Option B)) → IsGood K p P s q
+      → ((m : Option A) (t : FoundTree) → Good K p P s m t → IsGood K p Q r (g m t)) → IsGood K p Q r (next q g)
   next_good P Q r s (gives m t) g h k = k m t h
 
-  pub one_good : {A B : Type 0} (P : A → Type 0) (Q : B → Type 0) (s t : FoundTree) (m : Option A) (g : A → FoundTree → Checked (Option B)) → Good p P s m t
-      → ((a : A) → (Accepts p t → P a) → IsGood p Q t (g a t)) → IsGood p Q s (with_one m g t)
+  pub one_good : {A B : Type 0} (P : A → Type 0) (Q : B → Type 0) (s t : FoundTree) (m : Option A) (g : A → FoundTree → Checked (Option B)) → Good K p P s m t
+      → ((a : A) → (Accepts K p t → P a) → IsGood K p Q t (g a t)) → IsGood K p Q s (with_one m g t)
   one_good P Q s t None g h k = record { grows = h.grows; there = h.there; holds = λ e. tt }
   one_good P Q s t (Some a) g h k = from_earlier Q s t (g a t) h.grows (k a h.holds)
 
-  pub two_good : {A B C : Type 0} (P : A → Type 0) (Q : B → Type 0) (R : C → Type 0) (s t u : FoundTree) (m : Option A) (n : Option B) (g : A → B → FoundTree → Checked (Option C)) → Good p P s m t → Good p Q t n u
-      → ((a : A) (b : B) → (Accepts p u → P a) → (Accepts p u → Q b) → IsGood p R u (g a b u)) → IsGood p R s (with_two m n g u)
+  pub two_good : {A B C : Type 0} (P : A → Type 0) (Q : B → Type 0) (R : C → Type 0) (s t u : FoundTree) (m : Option A) (n : Option B) (g : A → B → FoundTree → Checked (Option C)) → Good K p P s m t → Good K p Q t n u
+      → ((a : A) (b : B) → (Accepts K p u → P a) → (Accepts K p u → Q b) → IsGood K p R u (g a b u)) → IsGood K p R s (with_two m n g u)
   two_good P Q R s t u None None g h k f = record { grows = grows_on h.grows k.grows; there = k.there; holds = λ e. tt }
   two_good P Q R s t u None (Some b) g h k f = record { grows = grows_on h.grows k.grows; there = λ e. h.there (no_fault_before k.grows e); holds = λ e. tt }
   two_good P Q R s t u (Some a) None g h k f = record { grows = grows_on h.grows k.grows; there = k.there; holds = λ e. tt }
   two_good P Q R s t u (Some a) (Some b) g h k f = from_earlier R s u (g a b u) (grows_on h.grows k.grows) (f a b (λ e. h.holds (accepts_before k.grows e)) k.holds)
 
   pub three_good : {A B C D : Type 0} (P : A → Type 0) (Q : B → Type 0) (R : C → Type 0) (S : D → Type 0) (s t u v : FoundTree) (l : Option A) (m : Option B) (n : Option C) (g : A → B → C → FoundTree → Checked (Option D))
-      → Good p P s l t → Good p Q t m u → Good p R u n v
-      → ((a : A) (b : B) (c : C) → (Accepts p v → P a) → (Accepts p v → Q b) → (Accepts p v → R c) → IsGood p S v (g a b c v)) → IsGood p S s (with_three l m n g v)
+      → Good K p P s l t → Good K p Q t m u → Good K p R u n v
+      → ((a : A) (b : B) (c : C) → (Accepts K p v → P a) → (Accepts K p v → Q b) → (Accepts K p v → R c) → IsGood K p S v (g a b c v)) → IsGood K p S s (with_three l m n g v)
   three_good P Q R S s t u v None m n g h k j f = lost
     where
-      lost : IsGood p S s (with_three None m n g v)
+      lost : IsGood K p S s (with_three None m n g v)
       lost = record { grows = grows_on h.grows (grows_on k.grows j.grows); there = λ e. h.there (no_fault_before (grows_on k.grows j.grows) e); holds = λ e. tt }
   three_good P Q R S s t u v (Some a) None n g h k j f = lost
     where
-      lost : IsGood p S s (with_three (Some a) None n g v)
+      lost : IsGood K p S s (with_three (Some a) None n g v)
       lost = record { grows = grows_on h.grows (grows_on k.grows j.grows); there = λ e. k.there (no_fault_before j.grows e); holds = λ e. tt }
   three_good P Q R S s t u v (Some a) (Some b) None g h k j f = record { grows = grows_on h.grows (grows_on k.grows j.grows); there = j.there; holds = λ e. tt }
   three_good P Q R S s t u v (Some a) (Some b) (Some c) g h k j f =
       from_earlier S s v (g a b c v) (grows_on h.grows (grows_on k.grows j.grows)) (f a b c (λ e. h.holds (accepts_before (grows_on k.grows j.grows) e)) (λ e. k.holds (accepts_before j.grows e)) j.holds)
 
   -- what a rule makes has a property where the source is accepted
-  pub judged_good : {A : Type 0} (P : A → Type 0) (o : Option A) (code : Code) (first : Spot) (last : ℕ) (s : FoundTree) → (Accepts p s → HoldsOf P o) → IsGood p P s (judged o code first last s)
+  pub judged_good : {A : Type 0} (P : A → Type 0) (o : Option A) (code : Code) (first : Spot) (last : ℕ) (s : FoundTree) → (Accepts K p s → HoldsOf P o) → IsGood K p P s (judged o code first last s)
   judged_good P None code first last s holds = refused P s code first last
   judged_good P (Some a) code first last s holds = given P s s a (grows_itself s) holds

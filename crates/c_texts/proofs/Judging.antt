@@ -69,7 +69,7 @@ length_ended : (bytes : List ℕ) → length (bytes ++ 0 ∷ []) ≡ length byte
 length_ended [] = refl
 length_ended (b ∷ bytes) = omega (arith, length_ended bytes)
 
-module _ (p : ProgramTree) (f : TypedFunctionTree) where
+module _ (K : Type 0) (p : ProgramTree) (f : TypedFunctionTree) where
   -- a number of an integer type
   pub number_typed : (t : IntegerType) (z : ℤ) → fits t z ≡ true → Means p f (number_of t z)
   number_typed t z h = record { is = given_kind (fits t z) (Integer t) h; elements = refl }
@@ -82,73 +82,72 @@ module _ (p : ProgramTree) (f : TypedFunctionTree) where
   sizes_typed (Some n) g = size_typed (g n)
 
   -- a name
-  pub named_good : (m : Option Meaning) (spot : Spot) (s : FoundTree) → ((o : Object) (of : ObjectType) → m ≡ Some (Variable o of) → IsKnown p f o of) → IsGood p (Means p f) s (named m spot s)
+  pub named_good : (m : Option Meaning) (spot : Spot) (s : FoundTree) → (K → (o : Object) (of : ObjectType) → m ≡ Some (Variable o of) → IsKnown p f o of) → IsGood K p (Means p f) s (named m spot s)
   named_good (Some (Variable o of)) spot s known =
-      let k = known o of refl in
-      given p (Means p f) s s _ (grows_itself s) (λ e. record { place = k.is; is = refl; elements = k.elements })
-  named_good (Some EndOfFile) spot s known = given p (Means p f) s s _ (grows_itself s) (λ e. number_typed Int (negsuc 0) refl)
-  named_good (Some (Function k)) spot s known = refused p (Means p f) s _ spot spot.at
-  named_good None spot s known = refused p (Means p f) s _ spot spot.at
+      given K p (Means p f) s s _ (grows_itself s) (λ e. let k = known e.given o of refl in record { place = k.is; is = refl; elements = k.elements })
+  named_good (Some EndOfFile) spot s known = given K p (Means p f) s s _ (grows_itself s) (λ e. number_typed Int (negsuc 0) refl)
+  named_good (Some (Function k)) spot s known = refused K p (Means p f) s _ spot spot.at
+  named_good None spot s known = refused K p (Means p f) s _ spot spot.at
 
   -- a string literal
   literal_there : (bytes : List ℕ) (o : Option LiteralTree) (l : LiteralTree) → o ≡ Some l → length l.bytes ≡ length bytes + 1 → literal_is o (literal_type bytes) ≡ true
   literal_there bytes o l e n = rw (e, n) (object_itself (literal_type bytes))
 
-  pub literal_good : (first : Spot) (bytes : List ℕ) (s : FoundTree) → IsGood p (Means p f) s (literal_met first bytes s)
+  pub literal_good : (first : Spot) (bytes : List ℕ) (s : FoundTree) → IsGood K p (Means p f) s (literal_met first bytes s)
   literal_good first bytes s =
-      given p (Means p f) s (with_literal first bytes s) _ (grows_literal first bytes s)
+      given K p (Means p f) s (with_literal first bytes s) _ (grows_literal first bytes s)
       (λ e.
       let l : LiteralTree = record { spot = first; bytes = bytes ++ 0 ∷ [] } in
       let stands : slice_get p.literals (length s.literals) ≡ Some l = ap (λ q. slice_get q (length s.literals)) e.literals.1 ∙ at_end s.literals e.literals.0 l in
       record { place = literal_there bytes (slice_get p.literals (length s.literals)) l stands (length_ended bytes); is = refl; elements = le_true 1 (length bytes + 1) (omega arith) })
 
   -- `++` and `--`
-  pub stepping_good : (d : Direction) (g : Given) (first : Spot) (last : ℕ) (m : MeantTree) (s : FoundTree) → (Accepts p s → Means p f m) → IsGood p (Means p f) s (stepping d g first last m s)
+  pub stepping_good : (d : Direction) (g : Given) (first : Spot) (last : ℕ) (m : MeantTree) (s : FoundTree) → (Accepts K p s → Means p f m) → IsGood K p (Means p f) s (stepping d g first last m s)
   stepping_good d g first last m s h = by (operation.is_scalar (meant_type m))
     where
-      by : (b : Bool) → IsGood p (Means p f) s (if b then gives (Some (IsValue (stepped d g m))) (writing (is_modifiable m) first last s) else gives None (faulted OPERAND_TYPES first last s))
+      by : (b : Bool) → IsGood K p (Means p f) s (if b then gives (Some (IsValue (stepped d g m))) (writing (is_modifiable m) first last s) else gives None (faulted OPERAND_TYPES first last s))
       by true =
-          given p (Means p f) s (writing (is_modifiable m) first last s) _ (grows_writing (is_modifiable m) first last s)
+          given K p (Means p f) s (writing (is_modifiable m) first last s) _ (grows_writing (is_modifiable m) first last s)
           (λ e. stepped_typed p f d g m (writing_fine (is_modifiable m) first last s e.faults) (h (accepts_before (grows_writing (is_modifiable m) first last s) e)))
-      by false = refused p (Means p f) s _ first last
+      by false = refused K p (Means p f) s _ first last
 
   -- the operators before an operand
-  pub prefixed_good : (o : PrefixOperator) (first : Spot) (last : ℕ) (m : MeantTree) (s : FoundTree) → (Accepts p s → Means p f m) → IsGood p (Means p f) s (prefixed o first last m s)
-  prefixed_good prefix.AddressOf first last m s h = judged_good p (Means p f) (option_map IsValue (address m)) _ first last s (λ e. address_typed p f m (h e))
-  prefixed_good prefix.Indirection first last m s h = judged_good p (Means p f) (dereferenced (as_value m)) _ first last s (λ e. dereferenced_typed p f (as_value m) (as_value_typed p f m (h e)))
-  prefixed_good prefix.Plus first last m s h = judged_good p (Means p f) _ _ first last s (λ e. signed_typed p f _ (as_value m) (as_value_typed p f m (h e)))
-  prefixed_good prefix.Minus first last m s h = judged_good p (Means p f) _ _ first last s (λ e. signed_typed p f _ (as_value m) (as_value_typed p f m (h e)))
-  prefixed_good prefix.Complement first last m s h = judged_good p (Means p f) _ _ first last s (λ e. signed_typed p f _ (as_value m) (as_value_typed p f m (h e)))
-  prefixed_good prefix.Not first last m s h = judged_good p (Means p f) _ _ first last s (λ e. negated_typed p f (as_value m) (as_value_typed p f m (h e)))
+  pub prefixed_good : (o : PrefixOperator) (first : Spot) (last : ℕ) (m : MeantTree) (s : FoundTree) → (Accepts K p s → Means p f m) → IsGood K p (Means p f) s (prefixed o first last m s)
+  prefixed_good prefix.AddressOf first last m s h = judged_good K p (Means p f) (option_map IsValue (address m)) _ first last s (λ e. address_typed p f m (h e))
+  prefixed_good prefix.Indirection first last m s h = judged_good K p (Means p f) (dereferenced (as_value m)) _ first last s (λ e. dereferenced_typed p f (as_value m) (as_value_typed p f m (h e)))
+  prefixed_good prefix.Plus first last m s h = judged_good K p (Means p f) _ _ first last s (λ e. signed_typed p f _ (as_value m) (as_value_typed p f m (h e)))
+  prefixed_good prefix.Minus first last m s h = judged_good K p (Means p f) _ _ first last s (λ e. signed_typed p f _ (as_value m) (as_value_typed p f m (h e)))
+  prefixed_good prefix.Complement first last m s h = judged_good K p (Means p f) _ _ first last s (λ e. signed_typed p f _ (as_value m) (as_value_typed p f m (h e)))
+  prefixed_good prefix.Not first last m s h = judged_good K p (Means p f) _ _ first last s (λ e. negated_typed p f (as_value m) (as_value_typed p f m (h e)))
   prefixed_good prefix.Increment first last m s h = stepping_good _ _ first last m s h
   prefixed_good prefix.Decrement first last m s h = stepping_good _ _ first last m s h
 
   -- a cast
-  cast_from_good : (u : ValueType) (t : IntegerType) (first : Spot) (last : ℕ) (v : ValueTree) (s : FoundTree) → v.of ≡ u → (Accepts p s → IsTyped p f v) → IsGood p (Means p f) s (cast_from u t first last v s)
-  cast_from_good (Integer u) t first last v s e h = given p (Means p f) s s _ (grows_itself s) (λ a. cast_typed p f t u v _ (h a) e)
-  cast_from_good (Pointer of) t first last v s e h = refused p (Means p f) s _ first last
-  cast_from_good Void t first last v s e h = refused p (Means p f) s _ first last
+  cast_from_good : (u : ValueType) (t : IntegerType) (first : Spot) (last : ℕ) (v : ValueTree) (s : FoundTree) → v.of ≡ u → (Accepts K p s → IsTyped p f v) → IsGood K p (Means p f) s (cast_from u t first last v s)
+  cast_from_good (Integer u) t first last v s e h = given K p (Means p f) s s _ (grows_itself s) (λ a. cast_typed p f t u v _ (h a) e)
+  cast_from_good (Pointer of) t first last v s e h = refused K p (Means p f) s _ first last
+  cast_from_good Void t first last v s e h = refused K p (Means p f) s _ first last
 
-  cast_to_good : (to : Base) (first : Spot) (last : ℕ) (v : ValueTree) (s : FoundTree) → (Accepts p s → IsTyped p f v) → IsGood p (Means p f) s (cast_to to first last v s)
-  cast_to_good base.Void first last v s h = given p (Means p f) s s _ (grows_itself s) (λ a. discarded_typed p f v (h a))
+  cast_to_good : (to : Base) (first : Spot) (last : ℕ) (v : ValueTree) (s : FoundTree) → (Accepts K p s → IsTyped p f v) → IsGood K p (Means p f) s (cast_to to first last v s)
+  cast_to_good base.Void first last v s h = given K p (Means p f) s s _ (grows_itself s) (λ a. discarded_typed p f v (h a))
   cast_to_good (base.Integer t) first last v s h = cast_from_good v.of t first last v s refl h
 
-  pub cast_good : (to : TypeName) (first : Spot) (last : ℕ) (m : Option ValueTree) (r s : FoundTree) → Good p (IsTyped p f) r m s → IsGood p (Means p f) r (cast to first last m s)
+  pub cast_good : (to : TypeName) (first : Spot) (last : ℕ) (m : Option ValueTree) (r s : FoundTree) → Good K p (IsTyped p f) r m s → IsGood K p (Means p f) r (cast to first last m s)
   cast_good to first last m r s h = by (to.stars == 0)
     where
-      by : (b : Bool) → IsGood p (Means p f) r (if b then with_one m (cast_to to.base first last) s else gives None (faulted UNEXPECTED_KEYWORD first last s))
-      by true = one_good p (IsTyped p f) (Means p f) r s m (cast_to to.base first last) h (λ v k. cast_to_good to.base first last v s k)
-      by false = earlier p (Means p f) r s _ None h.grows (refused p (Means p f) s _ first last)
+      by : (b : Bool) → IsGood K p (Means p f) r (if b then with_one m (cast_to to.base first last) s else gives None (faulted UNEXPECTED_KEYWORD first last s))
+      by true = one_good K p (IsTyped p f) (Means p f) r s m (cast_to to.base first last) h (λ v k. cast_to_good to.base first last v s k)
+      by false = earlier K p (Means p f) r s _ None h.grows (refused K p (Means p f) s _ first last)
 
   -- `=`
-  assigning_good : (o : Option ValueTree) (first : Spot) (last : ℕ) (m : MeantTree) (s : FoundTree) → (Accepts p s → Means p f m) → (Accepts p s → HoldsOf (λ (r : ValueTree). is_of (kind_of p f r.tree) (meant_type m) ≡ true) o)
-      → IsGood p (Means p f) s (assigning o first last m s)
+  assigning_good : (o : Option ValueTree) (first : Spot) (last : ℕ) (m : MeantTree) (s : FoundTree) → (Accepts K p s → Means p f m) → (Accepts K p s → HoldsOf (λ (r : ValueTree). is_of (kind_of p f r.tree) (meant_type m) ≡ true) o)
+      → IsGood K p (Means p f) s (assigning o first last m s)
   assigning_good (Some v) first last m s h g =
-      given p (Means p f) s (writing (is_modifiable m) first last s) _ (grows_writing (is_modifiable m) first last s)
+      given K p (Means p f) s (writing (is_modifiable m) first last s) _ (grows_writing (is_modifiable m) first last s)
       (λ e. assigned_typed p f m v (writing_fine (is_modifiable m) first last s e.faults) (h (accepts_before (grows_writing (is_modifiable m) first last s) e)) (g (accepts_before (grows_writing (is_modifiable m) first last s) e)))
   assigning_good None first last m s h g =
       let t = faulted OPERAND_TYPES first last s in
-      given p (Means p f) s (writing (is_modifiable m) first last t) _ (grows_on (grows_fault _ first last s) (grows_writing (is_modifiable m) first last t))
+      given K p (Means p f) s (writing (is_modifiable m) first last t) _ (grows_on (grows_fault _ first last s) (grows_writing (is_modifiable m) first last t))
       (λ e. absurd (more_is_some s.faults _ (no_fault_before (grows_writing (is_modifiable m) first last t) e.faults)))
 
   assignable_typed : (to : ValueType) (v : ValueTree) (null : Bool) → IsTyped p f v → HoldsOf (λ (r : ValueTree). is_of (kind_of p f r.tree) to ≡ true) (assignable to v null)
@@ -157,18 +156,18 @@ module _ (p : ProgramTree) (f : TypedFunctionTree) where
   assignable_typed (Pointer o) v null h = converted_typed p f v (Pointer o) null h
 
   -- `+=` and the like
-  updating_good : (o : Arithmetic) (first : Spot) (last : ℕ) (m : MeantTree) (v : ValueTree) (s : FoundTree) → (Accepts p s → Means p f m) → (Accepts p s → IsTyped p f v) → IsGood p (Means p f) s (updating o first last m v s)
+  updating_good : (o : Arithmetic) (first : Spot) (last : ℕ) (m : MeantTree) (v : ValueTree) (s : FoundTree) → (Accepts K p s → Means p f m) → (Accepts K p s → IsTyped p f v) → IsGood K p (Means p f) s (updating o first last m v s)
   updating_good o first last m v s h g =
       let fit = is_updatable o (meant_type m) v.of in
       let code = OPERAND_TYPES in
       let t : FoundTree = if fit then s else faulted code first last s in
       let on = grows_writing (is_modifiable m) first last t in
       let from = faulted_if fit code first last s in
-      given p (Means p f) s (writing (is_modifiable m) first last t) _ (grows_on from on)
+      given K p (Means p f) s (writing (is_modifiable m) first last t) _ (grows_on from on)
       (λ e.
       updated_typed p f o m v (writing_fine (is_modifiable m) first last t e.faults) (fine_if fit code first last s (no_fault_before on e.faults)) (h (accepts_before from (accepts_before on e))) (g (accepts_before from (accepts_before on e))))
 
-  pub assignment_good : (o : AssignmentOperator) (null : Bool) (first : Spot) (last : ℕ) (m : MeantTree) (v : ValueTree) (s : FoundTree) → (Accepts p s → Means p f m) → (Accepts p s → IsTyped p f v)
-      → IsGood p (Means p f) s (assignment_by o null first last m v s)
+  pub assignment_good : (o : AssignmentOperator) (null : Bool) (first : Spot) (last : ℕ) (m : MeantTree) (v : ValueTree) (s : FoundTree) → (Accepts K p s → Means p f m) → (Accepts K p s → IsTyped p f v)
+      → IsGood K p (Means p f) s (assignment_by o null first last m v s)
   assignment_good assignment.Assign null first last m v s h g = assigning_good (assignable (meant_type m) v null) first last m s h (λ e. assignable_typed (meant_type m) v null (g e))
   assignment_good (assignment.With o) null first last m v s h g = updating_good o first last m v s h g

@@ -13,8 +13,9 @@ pub record Grows (s t : FoundTree) : Type 0 where
   pub undefined : Begins s.undefined t.undefined
   pub literals : Begins s.literals t.literals
 
--- No rule is broken and no undefined function is called up to here, and the literals so far are a program's first ones.
-pub record Accepts (p : ProgramTree) (t : FoundTree) : Type 0 where
+-- In a case that is given, no rule is broken and no undefined function is called up to here, and the literals so far are a program's first ones.
+pub record Accepts (K : Type 0) (p : ProgramTree) (t : FoundTree) : Type 0 where
+  pub given : K
   pub faults : t.faults ≡ []
   pub undefined : t.undefined ≡ []
   pub literals : Begins t.literals p.literals
@@ -29,12 +30,12 @@ abbrev pub HoldsOf : {A : Type 0} → (A → Type 0) → Option A → Type 0
 HoldsOf P None = Unit {0}
 HoldsOf P (Some a) = P a
 
--- A check begins with some findings and gives a result and its own: they only grow, without a fault there is a result, and in an accepted source it has a property.
-pub record Good {A : Type 0} (p : ProgramTree) (P : A → Type 0) (s : FoundTree) (m : Option A) (t : FoundTree) : Type 0 where
+-- A check begins with some findings and gives a result and its own: they only grow, without a fault there is a result, and in an accepted source it has a property in a case.
+pub record Good {A : Type 0} (K : Type 0) (p : ProgramTree) (P : A → Type 0) (s : FoundTree) (m : Option A) (t : FoundTree) : Type 0 where
   pub grows : Grows s t
   pub there : t.faults ≡ [] → IsThere m
-  pub holds : Accepts p t → HoldsOf P m
+  pub holds : Accepts K p t → HoldsOf P m
 
 -- a check is a good one
-abbrev pub IsGood : {A : Type 0} → ProgramTree → (A → Type 0) → FoundTree → Checked (Option A) → Type 0
-IsGood p P s (gives m t) = Good p P s m t
+abbrev pub IsGood : {A : Type 0} → (K : Type 0) → ProgramTree → (A → Type 0) → FoundTree → Checked (Option A) → Type 0
+IsGood K p P s (gives m t) = Good K p P s m t

@@ -29,7 +29,7 @@ StandAmong some all = (x : ℕ) (a : AutomaticTree) → slice_get some x ≡ Som
 
 -- What is declared and found so far is a program's, and of a function its variables.
 pub record Stands (p : ProgramTree) (f : TypedFunctionTree) (t : ProgressTree) : Type 0 where
-  pub accepts : Accepts p t.found
+  pub accepts : Accepts (Unit {0}) p t.found
   pub automatics : StandAmong t.automatics p.automatics
   pub array_literals : Begins t.array_literals p.array_literals
   pub within : length t.automatics ≤ f.first_variable + f.variables
