@@ -7,3 +7,4 @@ pub mod Judging
 pub mod Calling
 pub mod Expressions
 pub mod Coming
+pub mod Looking

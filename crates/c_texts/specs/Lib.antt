@@ -4,3 +4,4 @@ pub mod Values
 pub mod Known
 pub mod Formed
 pub mod Progress
+pub mod Making
