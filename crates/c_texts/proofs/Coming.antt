@@ -28,7 +28,7 @@ pub outer_itself : (xs : List Scope) → KeepsOuter xs xs
 outer_itself xs = λ outer inner e. (inner, e)
 
 pub advances_itself : (q : ProgressTree) → Advances q q
-advances_itself q = record { found = grows_itself q.found; automatics = begins_itself q.automatics; array_literals = begins_itself q.array_literals; statics = refl; signatures = refl; scopes = outer_itself q.names.scopes }
+advances_itself q = record { found = grows_itself q.found; automatics = begins_itself q.automatics; array_literals = begins_itself q.array_literals; statics = refl; signatures = refl; scopes = outer_itself q.names.scopes; kept = λ h. h; ended = λ h. h }
 
 pub advances_on : {q t u : ProgressTree} → Advances q t → Advances t u → Advances q u
 advances_on {q = q} {t = t} {u = u} g h =
@@ -39,11 +39,13 @@ advances_on {q = q} {t = t} {u = u} g h =
       statics = h.statics ∙ g.statics;
       signatures = h.signatures ∙ g.signatures;
       scopes = λ outer inner e. let c = g.scopes outer inner e in h.scopes outer c.0 c.1;
+      kept = λ e. h.kept (g.kept e);
+      ended = λ e. h.ended (g.ended e);
     }
 
 -- an advance in what is found alone
 pub found_advances : (q : ProgressTree) (s : FoundTree) → Grows q.found s → Advances q (record q { found = s })
-found_advances q s g = record { found = g; automatics = begins_itself q.automatics; array_literals = begins_itself q.array_literals; statics = refl; signatures = refl; scopes = outer_itself q.names.scopes }
+found_advances q s g = record { found = g; automatics = begins_itself q.automatics; array_literals = begins_itself q.array_literals; statics = refl; signatures = refl; scopes = outer_itself q.names.scopes; kept = λ h. h; ended = λ h. h }
 
 pub breaks_advances : (code : Code) (extent : Extent) (q : ProgressTree) → Advances q (breaks code extent q)
 breaks_advances code extent q = found_advances q _ (grows_fault code extent.first extent.last q.found)

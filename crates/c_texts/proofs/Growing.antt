@@ -1,11 +1,14 @@
 -- Checks of expressions, one behind the other: what is found grows, and each part is good where the whole is accepted.
-use Rattle.std.proofs.Common.{◌≡◌, ◌≢◌, ℕ, List, [], ◌∷◌, ◌++◌, length, take, Bool, true, false, Option, Some, None, refl, sym, ap, ◌∙◌, append_assoc, append-nil}
+use Rattle.std.proofs.Common.{◌≡◌, ◌≢◌, ℕ, List, [], ◌∷◌, ◌++◌, length, take, ◌+◌, nat_le, Bool, true, false, ◌&&◌, Option, Some, None, refl, sym, ap, ◌∙◌, append_assoc, append-nil, length-append, arith}
 use Rattle.std.specs.Prelude.{if◌then◌else◌}
+use Rattle.std.proofs.lemmas.Bool.Decides.{nat_tests}
 use Rattle.debug_records.specs.declared.source.Spot.{Spot}
 use Rattle.debug_records.specs.declared.code.Code.{Code}
-use Rattle.c_tree.specs.Programs.{ProgramTree}
+use Rattle.c_tree.specs.Programs.{LiteralTree, ProgramTree}
+use Rattle.c_laws.specs.Objects.{are_ended}
 use Rattle.c_type_expressions.specs.Findings.{FoundTree, Checked, gives, next, with_one, with_two, with_three, judged, faulted, with_undefined, with_literal, restored}
 use Rattle.c_type_expressions.specs.Judgements.{writing}
+use Rattle.c_texts.proofs.Same.{two_true, both}
 use Rattle.c_texts.specs.Findings.{Begins, Grows, Accepts, IsThere, HoldsOf, Good, IsGood}
 
 pub begins_itself : {A : Type 0} (xs : List A) → Begins xs xs
@@ -23,12 +26,23 @@ pub more_is_some : {A : Type 0} (xs : List A) (x : A) → xs ++ x ∷ [] ≡ [] 
 more_is_some [] x h = cc
 more_is_some (y ∷ xs) x h = cc
 
+-- literals with one more that has its final zero
+pub ended_push : (xs : List LiteralTree) (l : LiteralTree) → are_ended xs ≡ true → nat_le 1 (length l.bytes) ≡ true → are_ended (xs ++ l ∷ []) ≡ true
+ended_push [] l h g = rw g refl
+ended_push (x ∷ xs) l h g = let c = two_true (nat_le 1 (length x.bytes)) (are_ended xs) h in both (nat_le 1 (length x.bytes)) (are_ended (xs ++ l ∷ [])) c.0 (ended_push xs l c.1 g)
+
+pub ended_bytes : (bytes : List ℕ) → nat_le 1 (length (bytes ++ 0 ∷ [])) ≡ true
+ended_bytes bytes = let e : length (bytes ++ 0 ∷ []) ≡ length bytes + 1 = length-append bytes (0 ∷ []) in rw e (some (length bytes))
+  where
+    some : (n : ℕ) → nat_le 1 (n + 1) ≡ true
+    some n = grind (arith, nat_tests)
+
 take_beginning : {A : Type 0} (xs more : List A) → take (length xs) (xs ++ more) ≡ xs
 take_beginning [] more = refl
 take_beginning (x ∷ xs) more = ap (λ q. x ∷ q) (take_beginning xs more)
 
 pub grows_itself : (s : FoundTree) → Grows s s
-grows_itself s = record { faults = begins_itself s.faults; undefined = begins_itself s.undefined; literals = begins_itself s.literals }
+grows_itself s = record { faults = begins_itself s.faults; undefined = begins_itself s.undefined; literals = begins_itself s.literals; ended = λ h. h }
 
 pub grows_on : {s t u : FoundTree} → Grows s t → Grows t u → Grows s u
 grows_on {s = s} {t = t} {u = u} g h =
@@ -36,6 +50,7 @@ grows_on {s = s} {t = t} {u = u} g h =
       faults = begins_on s.faults t.faults u.faults g.faults h.faults;
       undefined = begins_on s.undefined t.undefined u.undefined g.undefined h.undefined;
       literals = begins_on s.literals t.literals u.literals g.literals h.literals;
+      ended = λ e. h.ended (g.ended e);
     }
 
 -- without a fault later there is none before
@@ -53,13 +68,13 @@ accepts_before {K = K} {p = p} {s = s} {t = t} g a =
 
 -- one more fault, call or literal
 pub grows_fault : (code : Code) (first : Spot) (last : ℕ) (s : FoundTree) → Grows s (faulted code first last s)
-grows_fault code first last s = record { faults = (record { last = last; code = code; first = first } ∷ [], refl); undefined = begins_itself s.undefined; literals = begins_itself s.literals }
+grows_fault code first last s = record { faults = (record { last = last; code = code; first = first } ∷ [], refl); undefined = begins_itself s.undefined; literals = begins_itself s.literals; ended = λ h. h }
 
 pub grows_undefined : (first : Spot) (s : FoundTree) → Grows s (with_undefined first s)
-grows_undefined first s = record { faults = begins_itself s.faults; undefined = (first ∷ [], refl); literals = begins_itself s.literals }
+grows_undefined first s = record { faults = begins_itself s.faults; undefined = (first ∷ [], refl); literals = begins_itself s.literals; ended = λ h. h }
 
 pub grows_literal : (first : Spot) (bytes : List ℕ) (s : FoundTree) → Grows s (with_literal first bytes s)
-grows_literal first bytes s = record { faults = begins_itself s.faults; undefined = begins_itself s.undefined; literals = (record { spot = first; bytes = bytes ++ 0 ∷ [] } ∷ [], refl) }
+grows_literal first bytes s = record { faults = begins_itself s.faults; undefined = begins_itself s.undefined; literals = (record { spot = first; bytes = bytes ++ 0 ∷ [] } ∷ [], refl); ended = λ h. ended_push s.literals (record { spot = first; bytes = bytes ++ 0 ∷ [] }) h (ended_bytes bytes) }
 
 pub grows_writing : (fine : Bool) (first : Spot) (last : ℕ) (s : FoundTree) → Grows s (writing fine first last s)
 grows_writing true first last s = grows_itself s
@@ -85,6 +100,7 @@ grows_restored s t g =
       faults = g.faults;
       undefined = ([], ap (take (length s.undefined)) g.undefined.1 ∙ take_beginning s.undefined g.undefined.0 ∙ sym (append-nil s.undefined));
       literals = ([], ap (take (length s.literals)) g.literals.1 ∙ take_beginning s.literals g.literals.0 ∙ sym (append-nil s.literals));
+      ended = λ h. ap are_ended (ap (take (length s.literals)) g.literals.1 ∙ take_beginning s.literals g.literals.0) ∙ h;
     }
 
 module _ (K : Type 0) (p : ProgramTree) where

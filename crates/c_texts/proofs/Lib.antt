@@ -8,3 +8,4 @@ pub mod Calling
 pub mod Expressions
 pub mod Coming
 pub mod Looking
+pub mod Numbering

@@ -5,3 +5,4 @@ pub mod Known
 pub mod Formed
 pub mod Progress
 pub mod Making
+pub mod Numbers

@@ -1,9 +1,10 @@
 -- How the check of a function's block goes on: what is found and what is declared grows, and comes to a program's objects.
-use Rattle.std.specs.Prelude.{◌≡◌, ℕ, ◌+◌, ◌≤◌, List, [], ◌∷◌, ◌++◌, length, Option, Some, slice_get}
+use Rattle.std.specs.Prelude.{◌≡◌, true, ℕ, ◌+◌, ◌≤◌, List, [], ◌∷◌, ◌++◌, length, Option, Some, slice_get}
 use Rattle.c_tree.specs.declared.object_type.Object.{Object}
 use Rattle.c_tree.specs.declared.object_type.ObjectType.{ObjectType}
 use Rattle.c_tree.specs.declared.typed_expression.Callee.{Callee}
 use Rattle.c_tree.specs.Programs.{AutomaticTree, TypedFunctionTree, ProgramTree}
+use Rattle.c_laws.specs.Objects.{are_ended, arrays_are_kept}
 use Rattle.c_type_expressions.specs.declared.names.Meaning.TheVariants.{Variable}
 use Rattle.c_type_expressions.specs.Names.{Scope, SignatureTree}
 use Rattle.c_type_declarations.specs.Progress.{ProgressTree, Met, means}
@@ -14,7 +15,7 @@ use Rattle.c_texts.specs.Known.{IsKnown, IsCalled}
 abbrev pub KeepsOuter : List Scope → List Scope → Type 0
 KeepsOuter before behind = (outer : List Scope) (inner : Scope) → before ≡ outer ++ inner ∷ [] → (changed : Scope) × (behind ≡ outer ++ changed ∷ [])
 
--- A check comes from one point of a function's block to another.
+-- A check comes from one point of a function's block to another. Arrays are in memory, and literals have their final zeros.
 pub record Advances (q t : ProgressTree) : Type 0 where
   pub found : Grows q.found t.found
   pub automatics : Begins q.automatics t.automatics
@@ -22,6 +23,8 @@ pub record Advances (q t : ProgressTree) : Type 0 where
   pub statics : t.statics ≡ q.statics
   pub signatures : t.names.signatures ≡ q.names.signatures
   pub scopes : KeepsOuter q.names.scopes t.names.scopes
+  pub kept : arrays_are_kept q.automatics ≡ true → arrays_are_kept t.automatics ≡ true
+  pub ended : are_ended q.array_literals ≡ true → are_ended t.array_literals ≡ true
 
 -- each variable stands among others with its type and its spot; whether it is in memory may be told later
 abbrev pub StandAmong : List AutomaticTree → List AutomaticTree → Type 0
