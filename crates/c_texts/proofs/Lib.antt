@@ -9,3 +9,5 @@ pub mod Expressions
 pub mod Coming
 pub mod Looking
 pub mod Numbering
+pub mod Sizing
+pub mod Initialising

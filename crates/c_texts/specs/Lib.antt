@@ -4,5 +4,5 @@ pub mod Values
 pub mod Known
 pub mod Formed
 pub mod Progress
-pub mod Making
 pub mod Numbers
+pub mod Making

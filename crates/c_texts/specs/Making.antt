@@ -9,6 +9,7 @@ use Rattle.c_law_types.specs.Kinds.{is_of}
 use Rattle.c_law_types.specs.Expressions.{kind_of}
 use Rattle.c_texts.specs.Findings.{IsThere, HoldsOf}
 use Rattle.c_texts.specs.Progress.{Stands, Inside, Comes}
+use Rattle.c_texts.specs.Numbers.{Numbers}
 
 -- A check comes on and declares no variable.
 pub record Looks (p : ProgramTree) (f : TypedFunctionTree) (low : ℕ) (q t : ProgressTree) : Type 0 where
@@ -29,3 +30,9 @@ pub record MakesIfAny {A : Type 0} (p : ProgramTree) (f : TypedFunctionTree) (lo
 -- a value is one that an object of a scalar type holds
 abbrev pub IsHeldIn : ProgramTree → TypedFunctionTree → Scalar → ValueTree → Type 0
 IsHeldIn p f s v = is_of (kind_of p f v.tree) (loaded s) ≡ true
+
+-- Declarators declare variables, and in an accepted program they are well typed.
+pub record DeclaresAll {A : Type 0} (p : ProgramTree) (f : TypedFunctionTree) (low : ℕ) (variables : A → List ℕ → List ℕ) (P : A → Type 0) (q : ProgressTree) (a : A) (t : ProgressTree) : Type 0 where
+  pub comes : Comes p f low q t
+  pub numbers : Numbers q t (variables a)
+  pub holds : Inside p f low q → Stands p f t → P a
