@@ -11,3 +11,4 @@ pub mod Looking
 pub mod Numbering
 pub mod Sizing
 pub mod Initialising
+pub mod Declaring
