@@ -12,3 +12,4 @@ pub mod Numbering
 pub mod Sizing
 pub mod Initialising
 pub mod Declaring
+pub mod Conditions

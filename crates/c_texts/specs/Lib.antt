@@ -6,3 +6,4 @@ pub mod Formed
 pub mod Progress
 pub mod Numbers
 pub mod Making
+pub mod Stating
