@@ -13,3 +13,5 @@ pub mod Sizing
 pub mod Initialising
 pub mod Declaring
 pub mod Conditions
+pub mod Wrapping
+pub mod Labelling
