@@ -15,3 +15,4 @@ pub mod Declaring
 pub mod Conditions
 pub mod Wrapping
 pub mod Labelling
+pub mod Statements

@@ -35,10 +35,14 @@ abbrev pub FitAt : Place → List PartTree → Type 0
 FitAt Outside parts = Unit {0}
 FitAt (Inside kind ls) parts = is_kind kind ≡ true → labels_fit kind parts ≡ true
 
--- What a statement means; where it is no declaration, it may stand directly in the block of a `switch`.
-pub record States (p : ProgramTree) (f : TypedFunctionTree) (g : Setting) (plain : Bool) (q : ProgressTree) (s : TypedStatementTree) (t : ProgressTree) : Type 0 where
-  pub declares : DeclaresAll p f (f.first_variable + f.parameters) declared_in (λ (one : TypedStatementTree). is_statement p f g.may_break g.may_continue one ≡ true) q s t
+-- A statement is well typed where it stands; where it is no declaration, it may stand directly in the block of a `switch`.
+pub record IsStated (p : ProgramTree) (f : TypedFunctionTree) (g : Setting) (plain : Bool) (s : TypedStatementTree) : Type 0 where
+  pub is : is_statement p f g.may_break g.may_continue s ≡ true
   pub stands : plain ≡ true → (tested : IntegerType) → may_stand (Some tested) s ≡ true
+
+-- what a statement means
+abbrev pub States : ProgramTree → TypedFunctionTree → Setting → Bool → ProgressTree → TypedStatementTree → ProgressTree → Type 0
+States p f g plain q s t = DeclaresAll p f (f.first_variable + f.parameters) declared_in (IsStated p f g plain) q s t
 
 -- what the statements of a block mean
 abbrev pub StatesAll : ProgramTree → TypedFunctionTree → Setting → ProgressTree → TypedStatementTrees → ProgressTree → Type 0
@@ -51,6 +55,6 @@ StatesParts p f g kind q all t =
 
 -- What a statement with its labels means.
 pub record StatesLabeled (p : ProgramTree) (f : TypedFunctionTree) (place : Place) (g : Setting) (plain : Bool) (q : ProgressTree) (x : Labeled) (t : ProgressTree) : Type 0 where
-  pub declares : DeclaresAll p f (f.first_variable + f.parameters) (λ (y : Labeled). declared_in y.statement) (λ (y : Labeled). (is_statement p f g.may_break g.may_continue y.statement ≡ true) × FitAt place y.before) q x t
+  pub states : States p f g plain q x.statement t
   pub labels : are_labels x.before ≡ true
-  pub stands : plain ≡ true → (tested : IntegerType) → may_stand (Some tested) x.statement ≡ true
+  pub fit : FitAt place x.before
