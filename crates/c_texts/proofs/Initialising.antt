@@ -48,7 +48,7 @@ char_size s h =
 
 module _ (p : ProgramTree) (f : TypedFunctionTree) (low : ℕ) where
   -- there are no more initializers than elements
-  within_looks : (given size : ℕ) (extent : Extent) (q : ProgressTree) → Looks p f low q (within_count given size extent q)
+  pub within_looks : (given size : ℕ) (extent : Extent) (q : ProgressTree) → Looks p f low q (within_count given size extent q)
   within_looks given size extent q = by (nat_lt size given)
     where
       by : (b : Bool) → Looks p f low q (if b then breaks INITIALIZER extent q else q)
@@ -98,6 +98,7 @@ module _ (p : ProgramTree) (f : TypedFunctionTree) (low : ℕ) where
           inside = λ i e. record { scopes = i.scopes; functions = i.functions; begun = i.begun };
         };
         same = refl;
+        names = refl;
       }
 
   abbrev Writes : ProgressTree → ObjectType → InitialTree → ProgressTree → Type 0

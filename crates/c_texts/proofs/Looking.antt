@@ -31,13 +31,13 @@ use Rattle.c_texts.proofs.Coming.{next_ensures, stands_before, inside_knows, com
 
 module _ (p : ProgramTree) (f : TypedFunctionTree) (low : ℕ) where
   pub looks_itself : (q : ProgressTree) → Looks p f low q q
-  looks_itself q = record { comes = comes_itself p f low q; same = refl }
+  looks_itself q = record { comes = comes_itself p f low q; same = refl; names = refl }
 
   pub looks_on : {q t u : ProgressTree} → Looks p f low q t → Looks p f low t u → Looks p f low q u
-  looks_on g h = record { comes = comes_on p f g.comes h.comes; same = h.same ∙ g.same }
+  looks_on g h = record { comes = comes_on p f g.comes h.comes; same = h.same ∙ g.same; names = h.names ∙ g.names }
 
   pub breaks_looks : (code : Code) (extent : Extent) (q : ProgressTree) → Looks p f low q (breaks code extent q)
-  breaks_looks code extent q = record { comes = breaks_comes p f low code extent q; same = refl }
+  breaks_looks code extent q = record { comes = breaks_comes p f low code extent q; same = refl; names = refl }
 
   -- no rule is broken
   pub breaks_never : {A : Type 0} (code : Code) (extent : Extent) (q : ProgressTree) → (breaks code extent q).found.faults ≡ [] → A
@@ -53,7 +53,7 @@ module _ (p : ProgramTree) (f : TypedFunctionTree) (low : ℕ) where
       by : (c : Checked (Option ValueTree)) → IsGood (Inside p f low q) p (IsTyped p f) q.found c → Ensures (MakesIfAny p f low (IsTyped p f) q) (within q c)
       by (gives v s) h =
           record {
-            looks = record { comes = found_comes p f low q s h.grows; same = refl };
+            looks = record { comes = found_comes p f low q s h.grows; same = refl; names = refl };
             there = h.there;
             holds = λ i stands. h.holds (record { given = i; faults = stands.accepts.faults; undefined = stands.accepts.undefined; literals = stands.accepts.literals });
           }

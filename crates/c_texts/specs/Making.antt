@@ -11,10 +11,11 @@ use Rattle.c_texts.specs.Findings.{IsThere, HoldsOf}
 use Rattle.c_texts.specs.Progress.{Stands, Inside, Comes}
 use Rattle.c_texts.specs.Numbers.{Numbers}
 
--- A check comes on and declares no variable.
+-- A check comes on and declares nothing.
 pub record Looks (p : ProgramTree) (f : TypedFunctionTree) (low : ℕ) (q t : ProgressTree) : Type 0 where
   pub comes : Comes p f low q t
   pub same : t.automatics ≡ q.automatics
+  pub names : t.names ≡ q.names
 
 -- A part declares no variable, and in an accepted program what it means has a property.
 pub record Makes {A : Type 0} (p : ProgramTree) (f : TypedFunctionTree) (low : ℕ) (P : A → Type 0) (q : ProgressTree) (a : A) (t : ProgressTree) : Type 0 where
