@@ -16,3 +16,4 @@ pub mod Conditions
 pub mod Wrapping
 pub mod Labelling
 pub mod Statements
+pub mod Bodies

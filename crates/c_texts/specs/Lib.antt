@@ -7,3 +7,4 @@ pub mod Progress
 pub mod Numbers
 pub mod Making
 pub mod Stating
+pub mod Files
