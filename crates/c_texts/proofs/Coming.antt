@@ -88,7 +88,7 @@ module _ (p : ProgramTree) (f : TypedFunctionTree) where
   known_push [] scope k h = (h, tt)
   known_push (s ∷ scopes) scope k h = (k.0, known_push scopes scope k.1 h)
 
-  known_take : (n : ℕ) (scopes : List Scope) → AreScopesKnown p f scopes → AreScopesKnown p f (take n scopes)
+  pub known_take : (n : ℕ) (scopes : List Scope) → AreScopesKnown p f scopes → AreScopesKnown p f (take n scopes)
   known_take zero scopes k = tt
   known_take (suc n) [] k = tt
   known_take (suc n) (s ∷ scopes) k = (k.0, known_take n scopes k.1)
@@ -96,7 +96,7 @@ module _ (p : ProgramTree) (f : TypedFunctionTree) where
   pub empty_known : IsScopeKnown p f empty_scope
   empty_known name o of h = cc
 
-  known_at : (scopes : List Scope) (n : ℕ) → AreScopesKnown p f scopes → IsScopeKnown p f (unwrap_or (slice_get scopes n) empty_scope)
+  pub known_at : (scopes : List Scope) (n : ℕ) → AreScopesKnown p f scopes → IsScopeKnown p f (unwrap_or (slice_get scopes n) empty_scope)
   known_at [] n k = empty_known
   known_at (s ∷ scopes) zero k = k.0
   known_at (s ∷ scopes) (suc n) k = known_at scopes n k.1
@@ -132,7 +132,7 @@ module _ (p : ProgramTree) (f : TypedFunctionTree) where
   breaks_if_comes low None code extent q = comes_itself low q
 
 -- the scopes around the innermost one
-take_all_but_one : {A : Type 0} (xs : List A) (x : A) → take (length (xs ++ x ∷ []) - 1) (xs ++ x ∷ []) ≡ xs
+pub take_all_but_one : {A : Type 0} (xs : List A) (x : A) → take (length (xs ++ x ∷ []) - 1) (xs ++ x ∷ []) ≡ xs
 take_all_but_one xs x = ap (λ n. take n (xs ++ x ∷ [])) (let e = length-append xs (x ∷ []) in omega arith) ∙ go xs
   where
     go : (ys : List _) → take (length ys) (ys ++ x ∷ []) ≡ ys

@@ -37,7 +37,7 @@ ended_bytes bytes = let e : length (bytes ++ 0 ∷ []) ≡ length bytes + 1 = le
     some : (n : ℕ) → nat_le 1 (n + 1) ≡ true
     some n = grind (arith, nat_tests)
 
-take_beginning : {A : Type 0} (xs more : List A) → take (length xs) (xs ++ more) ≡ xs
+pub take_beginning : {A : Type 0} (xs more : List A) → take (length xs) (xs ++ more) ≡ xs
 take_beginning [] more = refl
 take_beginning (x ∷ xs) more = ap (λ q. x ∷ q) (take_beginning xs more)
 

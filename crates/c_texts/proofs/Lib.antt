@@ -17,3 +17,5 @@ pub mod Wrapping
 pub mod Labelling
 pub mod Statements
 pub mod Bodies
+pub mod Filing
+pub mod Items

@@ -67,6 +67,12 @@ pub record Reaches (p : ProgramTree) (t : ProgressTree) : Type 0 where
 abbrev pub IsFileKnown : ProgramTree → ProgressTree → Type 0
 IsFileKnown p q = (f : TypedFunctionTree) → AreScopesKnown p f q.names.scopes
 
+-- A check comes from one point of a source to another, at file scope, and declares no automatic variable.
+pub record Passes (p : ProgramTree) (q t : ProgressTree) : Type 0 where
+  pub extends : Extends q t
+  pub known : IsFileKnown p q → Begins t.statics p.statics → IsFileKnown p t
+  pub same : t.automatics ≡ q.automatics
+
 -- functions are well typed, and declare their own variables
 abbrev pub are_typed : ProgramTree → List TypedFunctionTree → Bool
 are_typed p [] = true
