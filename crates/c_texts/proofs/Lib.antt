@@ -19,3 +19,4 @@ pub mod Statements
 pub mod Bodies
 pub mod Filing
 pub mod Items
+pub mod Marking
