@@ -20,3 +20,4 @@ pub mod Bodies
 pub mod Filing
 pub mod Items
 pub mod Marking
+pub mod Programs
