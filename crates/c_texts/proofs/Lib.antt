@@ -21,3 +21,4 @@ pub mod Filing
 pub mod Items
 pub mod Marking
 pub mod Programs
+pub mod Keeping
