@@ -22,3 +22,7 @@ pub mod Items
 pub mod Marking
 pub mod Programs
 pub mod Keeping
+pub mod Functions
+pub mod Weighing
+pub mod PlainTexts
+pub mod PlainFunctions

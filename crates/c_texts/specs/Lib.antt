@@ -8,3 +8,4 @@ pub mod Numbers
 pub mod Making
 pub mod Stating
 pub mod Files
+pub mod Plain
