@@ -1,5 +1,5 @@
 -- The function that a block makes is well typed, and its variables are those that the block declares.
-use Rattle.std.proofs.Common.{◌≡◌, ◌≤◌, ℕ, zero, suc, ◌+◌, ◌-◌, List, [], ◌∷◌, ◌++◌, length, slice_get, Bool, true, false, ◌&&◌, Option, Some, None, refl, sym, ap, ◌∙◌, subst, arith, append-nil, length-append}
+use Rattle.std.proofs.Common.{◌≡◌, ℕ, ◌+◌, ◌-◌, List, [], ◌∷◌, length, slice_get, true, false, ◌&&◌, Option, Some, None, refl, sym, ap, ◌∙◌, subst, arith, append-nil, length-append}
 use Rattle.std.specs.Prelude.{◌==◌}
 use Rattle.std.specs.Option.{option_map_or}
 use Rattle.std.proofs.lemmas.Bool.{eq-eqb}
@@ -22,17 +22,14 @@ use Rattle.c_type.specs.Functions.{parameter_type, parameter_named, parameter_me
 use Rattle.c_law_types.specs.Statements.{are_statements}
 use Rattle.c_laws.specs.Declarations.{declared_in_all}
 use Rattle.c_laws.specs.Orders.{is_numbered}
-use Rattle.c_laws.specs.Laws.{declares_its_own, follow}
+use Rattle.c_laws.specs.Laws.{declares_its_own}
 use Rattle.c_texts.specs.Findings.{Begins}
 use Rattle.c_texts.specs.Formed.{AreFormed}
-use Rattle.c_texts.specs.Files.{has_name, HaveNames, Extends, Reaches, IsFileKnown, are_typed, Defined}
-use Rattle.c_texts.specs.Numbers.{Numbers}
-use Rattle.c_texts.specs.Progress.{Advances, AreScopesKnown, Stands, Inside, Comes, Ensures}
-use Rattle.c_texts.specs.Making.{DeclaresAll}
+use Rattle.c_texts.specs.Files.{has_name, HaveNames, Defined}
+use Rattle.c_texts.specs.Progress.{AreScopesKnown, Stands, Inside, Comes, Ensures}
 use Rattle.c_texts.specs.Stating.{StatesAll}
 use Rattle.c_texts.proofs.Same.{both, itself}
-use Rattle.c_texts.proofs.Growing.{begins_itself}
-use Rattle.c_texts.proofs.Coming.{next_ensures, advances_on, stands_before, known_push, empty_known, closed_scopes, comes_itself, comes_on}
+use Rattle.c_texts.proofs.Coming.{advances_on, stands_before, known_push, empty_known, closed_scopes, comes_itself, comes_on}
 use Rattle.c_texts.proofs.Declaring.{declares_comes, declares_count}
 use Rattle.c_texts.proofs.Statements.{all_states}
 

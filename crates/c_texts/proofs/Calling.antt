@@ -1,28 +1,26 @@
 -- Calls: the arguments that fit are passed, and a call of a function gives what its type says.
-use Rattle.std.proofs.Common.{◌≡◌, ◌≤◌, ℕ, zero, suc, ◌+◌, List, [], ◌∷◌, ◌++◌, length, drop, slice_get, nat_le, Bool, true, false, ◌&&◌, Option, Some, None, refl, sym, ap, ◌∙◌, subst, arith, add-one, drop_of_length-le}
+use Rattle.std.proofs.Common.{◌≡◌, ℕ, zero, suc, ◌+◌, List, [], ◌∷◌, length, drop, slice_get, nat_le, Bool, true, ◌&&◌, Option, Some, None, refl, sym, ap, ◌∙◌, add-one, drop_of_length-le}
 use Rattle.std.specs.Prelude.{if◌then◌else◌, map}
 use Rattle.debug_records.specs.declared.source.Spot.{Spot}
 use Rattle.debug_records.specs.declared.code.TheConstants.Code.{ARGUMENTS}
 use Rattle.c_tree.specs.declared.object_type.Scalar.{Scalar}
-use Rattle.c_tree.specs.declared.object_type.ValueType.{ValueType}
 use Rattle.c_tree.specs.declared.typed_expression.Callee.{Callee}
 use Rattle.c_tree.specs.TypedExpressions.{RvalueTree, ArgumentTrees}
 use Rattle.c_tree.specs.TypedExpressions as argument
 use Rattle.c_tree.specs.Programs.{TypedFunctionTree, ProgramTree}
 use Rattle.c_type_rules.specs.Types.{loaded}
 use Rattle.c_type_values.specs.Values.{ValueTree, converted}
-use Rattle.c_value_types.specs.ValueTypes.{given_by, results_of}
 use Rattle.c_law_types.specs.Kinds.{of_if, is_callee, is_of, taken_by}
 use Rattle.c_law_types.specs.Expressions.{kind_of, are_passed}
-use Rattle.c_type_expressions.specs.Names.{Names, SignatureTree}
-use Rattle.c_type_expressions.specs.Findings.{FoundTree, Checked, gives, next, faulted, with_undefined}
+use Rattle.c_type_expressions.specs.Names.{SignatureTree}
+use Rattle.c_type_expressions.specs.Findings.{FoundTree, Checked, gives, next, faulted}
 use Rattle.c_type_expressions.specs.Judgements.{Passed, passed_as, passed_to, before, uncallable, noted, call_tree, called}
-use Rattle.c_type_expressions.specs.Expressions.{function_at, call_of}
+use Rattle.c_type_expressions.specs.Expressions.{call_of}
 use Rattle.c_texts.specs.Findings.{Grows, Accepts, IsThere, HoldsOf, Good, IsGood}
 use Rattle.c_texts.specs.Values.{leads_to_elements, IsTyped, Means}
-use Rattle.c_texts.specs.Known.{IsCalled, Knows}
+use Rattle.c_texts.specs.Known.{IsCalled}
 use Rattle.c_texts.proofs.Same.{two_true, both}
-use Rattle.c_texts.proofs.Growing.{grows_itself, grows_on, no_fault_before, accepts_before, grows_fault, grows_undefined, more_is_some, faulted_if, fine_if, given, refused, earlier}
+use Rattle.c_texts.proofs.Growing.{grows_itself, grows_on, no_fault_before, accepts_before, grows_undefined, more_is_some, faulted_if, fine_if, given, refused, earlier}
 use Rattle.c_texts.proofs.Fitting.{given_kind}
 use Rattle.c_texts.proofs.Values.{converted_typed}
 use Rattle.c_texts.proofs.Judging.{le_is}

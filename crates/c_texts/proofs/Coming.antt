@@ -1,21 +1,21 @@
 -- The check of a function's block comes on, step by step.
-use Rattle.std.proofs.Common.{◌≡◌, ◌≤◌, ◌<◌, ℕ, zero, suc, ◌+◌, ◌-◌, List, [], ◌∷◌, ◌++◌, length, take, slice_get, cond, Bool, true, false, Option, Some, None, refl, sym, ap, ◌∙◌, subst, arith, append_assoc, append-nil, length-append}
-use Rattle.std.specs.Prelude.{unwrap_or, if◌then◌else◌}
+use Rattle.std.proofs.Common.{◌≡◌, ◌≤◌, ℕ, zero, suc, ◌+◌, ◌-◌, List, [], ◌∷◌, ◌++◌, length, take, slice_get, cond, Bool, true, false, Option, Some, None, refl, ap, ◌∙◌, subst, arith, length-append}
+use Rattle.std.specs.Prelude.{unwrap_or}
 use Rattle.std.specs.Str.{bytes_eq}
 use Rattle.debug_records.specs.declared.code.Code.{Code}
 use Rattle.c_tree.specs.declared.extent.Extent.{Extent}
 use Rattle.c_tree.specs.declared.object_type.Object.{Object}
 use Rattle.c_tree.specs.declared.object_type.ObjectType.{ObjectType}
-use Rattle.c_tree.specs.Programs.{AutomaticTree, TypedFunctionTree, ProgramTree}
+use Rattle.c_tree.specs.Programs.{TypedFunctionTree, ProgramTree}
 use Rattle.c_type_expressions.specs.declared.names.Meaning.{Meaning}
 use Rattle.c_type_expressions.specs.declared.names.Meaning.TheVariants.{Variable}
-use Rattle.c_type_expressions.specs.Names.{Scope, Names, or_else, found_in, meaning_of}
+use Rattle.c_type_expressions.specs.Names.{Scope, Names, or_else, found_in}
 use Rattle.c_type_expressions.specs.Findings.{FoundTree}
-use Rattle.c_type_declarations.specs.Scopes.{empty_scope, with_meaning, innermost, with_innermost, declared, declared_here}
-use Rattle.c_type_declarations.specs.Progress.{ProgressTree, Met, means, next_met, breaks, breaks_if, with_name, declares, opened, closed}
-use Rattle.c_texts.specs.Findings.{Begins, Grows, Accepts}
+use Rattle.c_type_declarations.specs.Scopes.{empty_scope, with_meaning, innermost, declared}
+use Rattle.c_type_declarations.specs.Progress.{ProgressTree, Met, means, next_met, breaks, breaks_if, opened, closed}
+use Rattle.c_texts.specs.Findings.{Begins, Grows}
 use Rattle.c_texts.specs.Known.{IsKnown, Knows}
-use Rattle.c_texts.specs.Progress.{KeepsOuter, Advances, StandAmong, Stands, IsScopeKnown, AreScopesKnown, Inside, Comes, Ensures}
+use Rattle.c_texts.specs.Progress.{KeepsOuter, Advances, Stands, IsScopeKnown, AreScopesKnown, Inside, Comes, Ensures}
 use Rattle.c_texts.proofs.Growing.{begins_itself, begins_on, grows_itself, grows_on, grows_fault, accepts_before}
 
 -- an element of a beginning

@@ -1,5 +1,5 @@
 -- Conditions, results, steps and scopes of statements in an accepted program.
-use Rattle.std.proofs.Common.{◌≡◌, ◌≤◌, ℕ, ◌+◌, List, [], ◌∷◌, ◌++◌, length, Bool, true, false, ◌&&◌, not, Option, Some, None, refl, sym, ap, ◌∙◌, subst}
+use Rattle.std.proofs.Common.{◌≡◌, ℕ, ◌+◌, List, [], Bool, true, false, ◌&&◌, not, Option, Some, None, refl, sym, ap, ◌∙◌, subst}
 use Rattle.std.specs.Prelude.{if◌then◌else◌}
 use Rattle.debug_records.specs.declared.code.Code.{Code}
 use Rattle.debug_records.specs.declared.code.TheConstants.Code.{OPERAND_TYPES, RETURN_MISMATCH}
@@ -14,12 +14,11 @@ use Rattle.c_tree.specs.TypedExpressions.{RvalueTree}
 use Rattle.c_tree.specs.TypedStatements.{DeclaredTree, TypedStartTree, StepTree}
 use Rattle.c_tree.specs.TypedStatements as typed-tree
 use Rattle.c_tree.specs.Programs.{TypedFunctionTree, ProgramTree}
-use Rattle.c_type_values.specs.Values.{ValueTree, converted}
+use Rattle.c_type_values.specs.Values.{ValueTree}
 use Rattle.c_type_values.specs.Operations as operation
-use Rattle.c_type_expressions.specs.Names.{Scope}
 use Rattle.c_type_expressions.specs.Expressions.{is_zero}
 use Rattle.c_type_declarations.specs.Scopes.{empty_scope}
-use Rattle.c_type_declarations.specs.Progress.{ProgressTree, Met, means, next_met, value_met, breaks, opened, closed}
+use Rattle.c_type_declarations.specs.Progress.{ProgressTree, Met, value_met, breaks, opened, closed}
 use Rattle.c_type_declarations.specs.Initials.{tree_of}
 use Rattle.c_type_declarations.specs.Declarations.{declaration_met}
 use Rattle.c_type_statements.specs.Settings as setting
@@ -33,10 +32,8 @@ use Rattle.c_texts.specs.Constants.{HasNumbers}
 use Rattle.c_texts.specs.Findings.{IsThere, HoldsOf}
 use Rattle.c_texts.specs.Formed.{HasNumbersIfAny, IsStartFormed}
 use Rattle.c_texts.specs.Values.{IsTyped}
-use Rattle.c_texts.specs.Numbers.{Numbers}
-use Rattle.c_texts.specs.Progress.{KeepsOuter, Advances, Stands, Inside, Comes, Ensures, AreScopesKnown}
+use Rattle.c_texts.specs.Progress.{Stands, Inside, Comes, Ensures, AreScopesKnown}
 use Rattle.c_texts.specs.Making.{Looks, Makes, MakesIfAny, DeclaresAll}
-use Rattle.c_texts.proofs.Same.{both}
 use Rattle.c_texts.proofs.Growing.{no_fault_before}
 use Rattle.c_texts.proofs.Fitting.{typed_kind, scalar_kind}
 use Rattle.c_texts.proofs.Values.{converted_typed}

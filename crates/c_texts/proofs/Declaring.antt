@@ -1,6 +1,6 @@
 -- Declarators of a function's block declare its variables, with values of their types.
-use Rattle.std.proofs.Common.{◌≡◌, ◌≤◌, ◌<◌, ℕ, zero, suc, ◌+◌, List, [], ◌∷◌, ◌++◌, length, slice_get, nat_le, nat_lt, Bool, true, false, ◌&&◌, Option, Some, None, refl, sym, ap, ◌∙◌, subst, arith, append-nil, length-append}
-use Rattle.std.specs.Prelude.{◌==◌, if◌then◌else◌}
+use Rattle.std.proofs.Common.{◌≡◌, ◌≤◌, ◌<◌, ℕ, ◌+◌, List, [], ◌∷◌, ◌++◌, length, slice_get, nat_le, nat_lt, true, Option, Some, None, refl, sym, ap, ◌∙◌, arith, append-nil, length-append}
+use Rattle.std.specs.Prelude.{◌==◌}
 use Rattle.std.proofs.lemmas.Bool.Decides.{nat_tests}
 use Rattle.debug_records.specs.declared.source.Spot.{Spot}
 use Rattle.debug_records.specs.declared.code.TheConstants.Code.{REDECLARED}
@@ -17,11 +17,11 @@ use Rattle.c_tree.specs.Programs.{AutomaticTree, TypedFunctionTree, ProgramTree}
 use Rattle.c_type_expressions.specs.declared.names.Meaning.TheVariants.{Variable}
 use Rattle.c_type_expressions.specs.declared.names.Meaning.{Meaning}
 use Rattle.c_type_declarations.specs.Scopes.{declared_here}
-use Rattle.c_type_declarations.specs.Progress.{ProgressTree, Met, means, next_met, breaks, breaks_if, with_name, declares}
+use Rattle.c_type_declarations.specs.Progress.{ProgressTree, breaks_if, with_name, declares}
 use Rattle.c_type_declarations.specs.Objects.{type_met}
 use Rattle.c_type_declarations.specs.Initials.{initial_met}
 use Rattle.c_type_declarations.specs.Declarations.{is_array, with_automatic, automatic_of_type, automatic_met, automatics_met, declaration_met}
-use Rattle.c_law_types.specs.Kinds.{automatic_is, is_variable, is_object}
+use Rattle.c_law_types.specs.Kinds.{automatic_is, is_variable}
 use Rattle.c_law_types.specs.Statements.{same_spot, initialises, declares_as, is_declared, are_declared}
 use Rattle.c_laws.specs.Declarations.{declared_by}
 use Rattle.c_type_rules.specs.Types.{same_object}
@@ -29,8 +29,7 @@ use Rattle.c_laws.specs.Objects.{is_kept_array, arrays_are_kept}
 use Rattle.c_texts.specs.Values.{has_elements}
 use Rattle.c_texts.specs.Formed.{IsDeclaratorFormed, AreDeclaratorsFormed}
 use Rattle.c_texts.specs.Known.{IsKnown}
-use Rattle.c_texts.specs.Numbers.{Numbers}
-use Rattle.c_texts.specs.Progress.{Advances, Stands, Inside, Comes, Ensures}
+use Rattle.c_texts.specs.Progress.{Stands, Comes, Ensures}
 use Rattle.c_texts.specs.Making.{Looks, Makes, DeclaresAll}
 use Rattle.c_texts.proofs.Same.{two_true, both, all_three, itself, object_itself}
 use Rattle.c_texts.proofs.Growing.{begins_itself, grows_itself}

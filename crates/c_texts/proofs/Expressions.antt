@@ -1,7 +1,6 @@
 -- What an expression of an accepted source means is well typed.
-use Rattle.std.proofs.Common.{◌≡◌, ℕ, ◌+◌, ◌*◌, List, length, slice_get, Bool, Option, Some, None, refl}
+use Rattle.std.proofs.Common.{◌≡◌, ℕ, ◌+◌, ◌*◌, List, length, slice_get, Option, Some, None}
 use Rattle.std.specs.Prelude.{pos}
-use Rattle.std.specs.Option.{option_map}
 use Rattle.debug_records.specs.declared.source.Spot.{Spot}
 use Rattle.c_tree.specs.declared.object_type.Scalar.{Scalar}
 use Rattle.c_tree.specs.declared.typed_expression.Callee.{Callee}
@@ -9,14 +8,14 @@ use Rattle.c_tree.specs.Expressions.{ExpressionTree, ExpressionTrees, Name, Cons
 use Rattle.c_tree.specs.Ends.{first_of, last_of}
 use Rattle.c_tree.specs.Programs.{TypedFunctionTree, ProgramTree}
 use Rattle.c_type_rules.specs.Integers.{scalar_size}
-use Rattle.c_type_values.specs.Values.{ValueTree, MeantTree, as_value}
-use Rattle.c_type_values.specs.Operations.{operation_of, sequenced}
+use Rattle.c_type_values.specs.Values.{MeantTree}
+use Rattle.c_type_values.specs.Operations.{operation_of}
 use Rattle.c_type_expressions.specs.Names.{Names, SignatureTree, meaning_of}
-use Rattle.c_type_expressions.specs.Findings.{FoundTree, Checked, gives, next, with_one, restored}
-use Rattle.c_type_expressions.specs.Judgements.{Meant, valued, measured, sized, size_of, count_of}
+use Rattle.c_type_expressions.specs.Findings.{FoundTree, gives, with_one, restored}
+use Rattle.c_type_expressions.specs.Judgements.{Meant, valued, measured, size_of, count_of}
 use Rattle.c_type_expressions.specs.Expressions.{function_at, function_number, function_named, is_zero, typed, typed_all}
 use Rattle.c_texts.specs.Constants.{HasNumbers, HaveNumbers}
-use Rattle.c_texts.specs.Findings.{Grows, Accepts, HoldsOf, Good, IsGood}
+use Rattle.c_texts.specs.Findings.{HoldsOf, Good, IsGood}
 use Rattle.c_texts.specs.Values.{IsTyped, Means}
 use Rattle.c_texts.specs.Known.{IsCalled, Knows}
 use Rattle.c_texts.proofs.Growing.{grows_itself, grows_restored, given, next_good, one_good, two_good, three_good, judged_good}

@@ -1,6 +1,5 @@
 -- What is declared at file scope: static variables and the names of functions.
-use Rattle.std.proofs.Common.{◌≡◌, ◌≤◌, ℕ, zero, suc, ◌+◌, ◌-◌, List, [], ◌∷◌, ◌++◌, length, take, slice_get, cond, Bool, true, false, ◌&&◌, ◌||◌, Option, Some, None, refl, sym, ap, ◌∙◌, subst, arith, append-nil, length-append}
-use Rattle.std.specs.Prelude.{if◌then◌else◌, is_some, codes}
+use Rattle.std.proofs.Common.{◌≡◌, ℕ, ◌-◌, List, [], ◌∷◌, ◌++◌, length, take, slice_get, cond, Bool, true, false, Option, Some, None, refl, sym, ap, ◌∙◌, subst}
 use Rattle.std.specs.Option.{option_map_or}
 use Rattle.std.specs.Str.{bytes_eq}
 use Rattle.debug_records.specs.declared.source.Spot.{Spot}
@@ -14,29 +13,26 @@ use Rattle.c_tree.specs.declared.object_type.Object.TheVariants as designator
 use Rattle.c_tree.specs.declared.object_type.ObjectType.{ObjectType}
 use Rattle.c_tree.specs.declared.object_type.ObjectType.TheVariants as object
 use Rattle.c_tree.specs.declared.object_type.ValueType.TheVariants.{Void}
-use Rattle.c_tree.specs.declared.program.Relocation.{Relocation}
 use Rattle.c_tree.specs.Expressions.{NameTree}
 use Rattle.c_tree.specs.Declarations.{InitializerTree, InitializerTrees, Value, Braces, none, first, DeclaratorTree}
 use Rattle.c_tree.specs.TypedStatements as typed-tree
 use Rattle.c_tree.specs.Programs.{StaticTree, TypedFunctionTree, ProgramTree}
 use Rattle.c_type_rules.specs.declared.constancy.Constancy.{Constancy}
 use Rattle.c_type_rules.specs.declared.constancy.Constancy.TheVariants.{Varies, Formed, Known, Address}
-use Rattle.c_type_rules.specs.Types.{same_object}
 use Rattle.c_type_values.specs.Values.{ValueTree}
 use Rattle.c_law_types.specs.Kinds.{static_is}
 use Rattle.c_type_expressions.specs.declared.names.Meaning.{Meaning}
-use Rattle.c_type_expressions.specs.declared.names.Meaning.TheVariants.{Variable, Function, EndOfFile}
-use Rattle.c_type_expressions.specs.Names.{Scope, SignatureTree, Names}
-use Rattle.c_type_declarations.specs.Scopes.{with_meaning, innermost, declared, declared_here}
-use Rattle.c_type_declarations.specs.Progress.{ProgressTree, Met, means, next_met, reached_by, breaks, breaks_if, with_name, declares}
+use Rattle.c_type_expressions.specs.declared.names.Meaning.TheVariants.{Variable}
+use Rattle.c_type_expressions.specs.Names.{Scope, Names}
+use Rattle.c_type_declarations.specs.Scopes.{with_meaning, innermost, declared_here}
+use Rattle.c_type_declarations.specs.Progress.{ProgressTree, Met, means, next_met, reached_by, breaks, breaks_if, with_name}
 use Rattle.c_type_declarations.specs.Objects.{literal_for, count, type_met}
 use Rattle.c_type_declarations.specs.Initials.{scalar_met, within_count}
 use Rattle.c_type_declarations.specs.Statics.{Contents, nothing, literal_bytes, constant_met, filled, fills_met, list_contents, put_met, contents_met}
 use Rattle.c_type_declarations.specs.Declarations.{with_static, static_of_type, static_met, statics_met}
-use Rattle.c_texts.specs.Findings.{Begins, Grows}
 use Rattle.c_texts.specs.Values.{has_elements}
 use Rattle.c_texts.specs.Formed.{IsInitializerFormed, AreInitializersFormed, IsInitialFormed, IsDeclaratorFormed, AreDeclaratorsFormed}
-use Rattle.c_texts.specs.Files.{Extends, IsFileKnown, Passes}
+use Rattle.c_texts.specs.Files.{Extends, Passes}
 use Rattle.c_texts.specs.Known.{IsKnown}
 use Rattle.c_texts.specs.Progress.{Advances, IsScopeKnown, AreScopesKnown, Ensures}
 use Rattle.c_texts.specs.Making.{Looks, MakesIfAny, IsHeldIn}

@@ -1,5 +1,5 @@
 -- Kinds of values that are of types.
-use Rattle.std.proofs.Common.{◌≡◌, ◌≤◌, ℕ, Bool, true, false, ◌&&◌, not, nat_le, refl, sym, ap, ◌∙◌, subst}
+use Rattle.std.proofs.Common.{◌≡◌, Bool, true, false, ◌&&◌, not, refl, sym, ap, subst}
 use Rattle.std.specs.Prelude.{◌==◌, nat_lt, if◌then◌else◌}
 use Rattle.c_tree.specs.declared.types.IntegerType.{IntegerType}
 use Rattle.c_tree.specs.declared.types.IntegerType.TheVariants.{Char, SignedChar, UnsignedChar, Short, UnsignedShort, Int, UnsignedInt, Long, UnsignedLong}
@@ -11,13 +11,13 @@ use Rattle.c_tree.specs.declared.object_type.ValueType.TheVariants.{Void, Intege
 use Rattle.c_tree.specs.declared.typed_expression.Arithmetic.{Arithmetic}
 use Rattle.c_tree.specs.declared.typed_expression.Arithmetic.TheVariants.{ShiftLeft, ShiftRight}
 use Rattle.c_type_rules.specs.Integers.{is_signed, unsigned_of, joined as joined_integers, promoted, common, rank}
-use Rattle.c_type_rules.specs.Types.{loaded, pointed_to, same_integer, same_value}
+use Rattle.c_type_rules.specs.Types.{loaded, pointed_to, same_value}
 use Rattle.c_type_values.specs.Operations as operation
 use Rattle.c_law_types.specs.declared.kind.Kind.{Kind}
 use Rattle.c_law_types.specs.declared.kind.Kind.TheVariants.{Wrong, NullPointer, Of}
 use Rattle.c_law_types.specs.Kinds.{of_if, is_pointer_type, is_promoted, is_of, is_typed, is_scalar, is_pointer, is_integer, is_counted, joined, is_operand}
-use Rattle.c_texts.specs.Values.{has_elements, leads_to_elements}
-use Rattle.c_texts.proofs.Same.{integer_is, value_is, integer_itself, value_itself}
+use Rattle.c_texts.specs.Values.{leads_to_elements}
+use Rattle.c_texts.proofs.Same.{value_is, integer_itself, value_itself}
 
 pub of_if_true : (b : Bool) (t : ValueType) → b ≡ true → of_if b t ≡ Of t
 of_if_true b t h = rw h refl

@@ -1,5 +1,5 @@
 -- Each function of the program of an accepted source: it is well typed, what has to stand in memory does, and it keeps its limits.
-use Rattle.std.proofs.Common.{◌≡◌, ◌≤◌, ◌<◌, ℕ, zero, suc, ◌+◌, List, [], ◌∷◌, length, slice_get, nat_le, Bool, true, false, ◌&&◌, Option, Some, None, refl, sym, ap, ◌∙◌, subst, arith}
+use Rattle.std.proofs.Common.{◌≡◌, ◌≤◌, ℕ, zero, suc, ◌+◌, List, [], ◌∷◌, length, slice_get, nat_le, true, false, ◌&&◌, Some, None, sym, ap, ◌∙◌, subst, arith}
 use Rattle.std.specs.Prelude.{◌==◌}
 use Rattle.std.proofs.lemmas.Bool.{eqb-true}
 use Rattle.c_tree.specs.Trees.{ItemTree}
@@ -9,7 +9,7 @@ use Rattle.c_law_types.specs.Statements.{are_statements}
 use Rattle.c_laws.specs.Laws.{are_in_memory, declares_its_own, follow}
 use Rattle.c_texts.specs.Files.{AreItemsFormed, are_typed}
 use Rattle.c_texts.proofs.Same.{two_true}
-use Rattle.c_texts.proofs.Marking.{AreBelow, AreMarked, AllMarked, Limits, one, none, each_kept, are_marked}
+use Rattle.c_texts.proofs.Marking.{AreBelow, AllMarked, one, none, each_kept, are_marked}
 use Rattle.c_texts.proofs.Keeping.{statements_own}
 use Rattle.c_texts.proofs.Programs.{Accepted, AreLinked, marks_of, marks, variables_are, functions_typed, functions_follow}
 

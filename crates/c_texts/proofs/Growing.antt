@@ -1,5 +1,5 @@
 -- Checks of expressions, one behind the other: what is found grows, and each part is good where the whole is accepted.
-use Rattle.std.proofs.Common.{◌≡◌, ◌≢◌, ℕ, List, [], ◌∷◌, ◌++◌, length, take, ◌+◌, nat_le, Bool, true, false, ◌&&◌, Option, Some, None, refl, sym, ap, ◌∙◌, append_assoc, append-nil, length-append, arith}
+use Rattle.std.proofs.Common.{◌≡◌, ℕ, List, [], ◌∷◌, ◌++◌, length, take, ◌+◌, nat_le, Bool, true, false, Option, Some, None, refl, sym, ap, ◌∙◌, append_assoc, append-nil, length-append, arith}
 use Rattle.std.specs.Prelude.{if◌then◌else◌}
 use Rattle.std.proofs.lemmas.Bool.Decides.{nat_tests}
 use Rattle.debug_records.specs.declared.source.Spot.{Spot}
@@ -9,7 +9,7 @@ use Rattle.c_laws.specs.Objects.{are_ended}
 use Rattle.c_type_expressions.specs.Findings.{FoundTree, Checked, gives, next, with_one, with_two, with_three, judged, faulted, with_undefined, with_literal, restored}
 use Rattle.c_type_expressions.specs.Judgements.{writing}
 use Rattle.c_texts.proofs.Same.{two_true, both}
-use Rattle.c_texts.specs.Findings.{Begins, Grows, Accepts, IsThere, HoldsOf, Good, IsGood}
+use Rattle.c_texts.specs.Findings.{Begins, Grows, Accepts, HoldsOf, Good, IsGood}
 
 pub begins_itself : {A : Type 0} (xs : List A) → Begins xs xs
 begins_itself xs = ([], sym (append-nil xs))

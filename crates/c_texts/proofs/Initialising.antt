@@ -1,5 +1,5 @@
 -- What the initializers of automatic objects write fits the objects.
-use Rattle.std.proofs.Common.{◌≡◌, ◌≤◌, ℕ, zero, suc, ◌+◌, List, [], ◌∷◌, ◌++◌, length, slice_get, nat_le, nat_lt, Bool, true, false, ◌&&◌, Option, Some, None, refl, sym, ap, ◌∙◌, subst, arith, length-append}
+use Rattle.std.proofs.Common.{◌≡◌, ℕ, ◌+◌, List, [], ◌∷◌, ◌++◌, length, slice_get, nat_le, nat_lt, Bool, true, false, Option, Some, None, refl, ap, ◌∙◌, arith, length-append}
 use Rattle.std.specs.Prelude.{if◌then◌else◌, ◌==◌}
 use Rattle.std.specs.Option.{option_map_or}
 use Rattle.std.proofs.lemmas.Bool.Decides.{nat_tests}
@@ -17,20 +17,18 @@ use Rattle.c_tree.specs.TypedStatements as typed-tree
 use Rattle.c_tree.specs.Programs.{LiteralTree, TypedFunctionTree, ProgramTree}
 use Rattle.c_type_rules.specs.Integers.{size, scalar_size}
 use Rattle.c_type_rules.specs.Types.{loaded, same_integer}
-use Rattle.c_type_values.specs.Values.{ValueTree}
 use Rattle.c_law_types.specs.Kinds.{is_of}
 use Rattle.c_law_types.specs.Expressions.{kind_of}
 use Rattle.c_law_types.specs.Statements.{literal_fits, are_elements, initialises}
-use Rattle.c_type_declarations.specs.Progress.{ProgressTree, Met, means, next_met, breaks}
+use Rattle.c_type_declarations.specs.Progress.{ProgressTree, breaks}
 use Rattle.c_type_declarations.specs.Objects.{is_char, only_literal, literal_for, count}
-use Rattle.c_type_declarations.specs.Initials.{scalar_met, tree_of, elements_met, within_count, with_array_literal, array_literal_met, misfit_met, list_met, written_met, initial_met}
-use Rattle.c_texts.specs.Findings.{IsThere, HoldsOf}
+use Rattle.c_type_declarations.specs.Initials.{scalar_met, tree_of, elements_met, within_count, with_array_literal, array_literal_met, list_met, written_met, initial_met}
 use Rattle.c_texts.specs.Formed.{IsInitializerFormed, AreInitializersFormed, IsInitialFormed}
-use Rattle.c_texts.specs.Progress.{Advances, Stands, Inside, Comes, Ensures}
+use Rattle.c_texts.specs.Progress.{Ensures}
 use Rattle.c_texts.specs.Making.{Looks, Makes, MakesIfAny, IsHeldIn}
 use Rattle.c_texts.proofs.Same.{two_true, both, integer_is}
 use Rattle.c_texts.proofs.Growing.{begins_itself, grows_itself, ended_push, ended_bytes, no_fault_before}
-use Rattle.c_texts.proofs.Judging.{le_true, at_end}
+use Rattle.c_texts.proofs.Judging.{at_end}
 use Rattle.c_texts.proofs.Coming.{next_ensures, stands_before, outer_itself}
 use Rattle.c_texts.proofs.Looking.{looks_itself, looks_on, breaks_looks, breaks_never, misfit_looks, misfit_never, scalar_makes, tree_held}
 

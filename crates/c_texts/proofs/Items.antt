@@ -1,5 +1,5 @@
 -- The items of a source define well typed functions, whose variables follow one another.
-use Rattle.std.proofs.Common.{◌≡◌, ◌≤◌, ℕ, zero, suc, ◌+◌, ◌-◌, List, [], ◌∷◌, ◌++◌, length, take, slice_get, cond, Bool, true, false, ◌&&◌, ◌||◌, Option, Some, None, refl, sym, ap, ◌∙◌, subst, arith, append-nil, append_assoc, length-append}
+use Rattle.std.proofs.Common.{◌≡◌, ℕ, ◌+◌, List, [], ◌∷◌, ◌++◌, length, take, slice_get, Bool, true, false, ◌&&◌, Option, Some, None, refl, sym, ap, ◌∙◌, subst, append-nil, append_assoc}
 use Rattle.std.specs.Prelude.{if◌then◌else◌, is_some, codes, ◌==◌}
 use Rattle.std.proofs.lemmas.Bool.{eqb-true, eq-eqb}
 use Rattle.debug_records.specs.declared.source.Spot.{Spot}
@@ -7,8 +7,6 @@ use Rattle.debug_records.specs.declared.code.TheConstants.Code.{REDECLARED}
 use Rattle.c_tree.specs.declared.extent.Extent.{Extent}
 use Rattle.c_tree.specs.declared.declaration.Header.{Header}
 use Rattle.c_tree.specs.declared.declaration.Header.TheVariants as header
-use Rattle.c_tree.specs.declared.object_type.Object.{Object}
-use Rattle.c_tree.specs.declared.object_type.ObjectType.{ObjectType}
 use Rattle.c_tree.specs.declared.object_type.ValueType.TheVariants.{Void}
 use Rattle.c_tree.specs.declared.typed_expression.Callee.{Callee}
 use Rattle.c_tree.specs.declared.typed_expression.Callee.TheVariants as callee
@@ -20,25 +18,23 @@ use Rattle.c_tree.specs.Programs.{TypedFunctionTree, ProgramTree}
 use Rattle.c_type_expressions.specs.declared.names.Meaning.{Meaning}
 use Rattle.c_type_expressions.specs.declared.names.Meaning.TheVariants.{Variable, Function, EndOfFile}
 use Rattle.c_type_expressions.specs.Names.{SignatureTree, meaning_of}
-use Rattle.c_type_declarations.specs.Progress.{ProgressTree, Met, means, next_met, reached_by, breaks, with_name, opened, closed}
+use Rattle.c_type_declarations.specs.Progress.{ProgressTree, Met, means, next_met, reached_by, breaks, opened, closed}
 use Rattle.c_type_declarations.specs.Objects.{size_met}
-use Rattle.c_type.specs.Headers.{is_library_name, with_function, library, is_library, same_type, stands_with, stands, placed, library_met, end_beside, end_met, at_spot, included}
-use Rattle.c_type.specs.Functions.{parameter_size, parameter_sizes, parameters_met, defined, signature_of, agrees_with, known_as, name_met, without_new, declared_only, rest_met, function_met}
-use Rattle.c_type.specs.Items.{item_met, behind_item, items_met, beginning, source_met}
+use Rattle.c_type.specs.Headers.{is_library_name, with_function, library, is_library, same_type, stands_with, stands, placed, library_met, end_beside, at_spot, included}
+use Rattle.c_type.specs.Functions.{parameter_size, parameter_sizes, parameters_met, defined, signature_of, agrees_with, known_as, name_met, without_new, rest_met, function_met}
+use Rattle.c_type.specs.Items.{item_met, items_met, beginning, source_met}
 use Rattle.c_law_types.specs.Statements.{are_statements}
 use Rattle.c_laws.specs.Laws.{declares_its_own, follow}
 use Rattle.c_laws.specs.Objects.{arrays_are_kept}
-use Rattle.c_texts.specs.Findings.{Begins, Grows}
 use Rattle.c_texts.specs.Formed.{IsSizeFormed}
 use Rattle.c_texts.specs.Files.{AreSizesFormed, IsBodyFormed, IsItemFormed, AreItemsFormed, Extends, Reaches, IsFileKnown, Passes, are_typed, Defined}
-use Rattle.c_texts.specs.Progress.{Advances, StandAmong, AreScopesKnown, Ensures}
-use Rattle.c_texts.specs.Making.{Looks}
-use Rattle.c_texts.proofs.Same.{two_true, both, itself}
+use Rattle.c_texts.specs.Progress.{AreScopesKnown, Ensures}
+use Rattle.c_texts.proofs.Same.{two_true, both}
 use Rattle.c_texts.proofs.Growing.{begins_itself, begins_on, take_beginning, grows_itself, accepts_before}
 use Rattle.c_texts.proofs.Coming.{slice_more, closed_scopes}
 use Rattle.c_texts.proofs.Sizing.{Counts, size_some}
 use Rattle.c_texts.proofs.Bodies.{begins_same, parameters_come, body_defines}
-use Rattle.c_texts.proofs.Filing.{extends_itself, extends_on, passes_itself, passes_on, breaks_passes, looks_passes, other_passes, statics_pass}
+use Rattle.c_texts.proofs.Filing.{extends_on, passes_itself, passes_on, breaks_passes, looks_passes, other_passes, statics_pass}
 
 -- functions behind functions
 follow_on : (a b c : ℕ) (fs gs : List TypedFunctionTree) → follow a b fs ≡ true → follow b c gs ≡ true → follow a c (fs ++ gs) ≡ true

@@ -1,13 +1,12 @@
 -- What each construct of an expression gives is well typed where its parts are.
-use Rattle.std.proofs.Common.{◌≡◌, ◌≤◌, ◌<◌, ℕ, zero, suc, ◌+◌, ◌*◌, ◌%◌, ◌^◌, ℤ, pos, negsuc, List, [], ◌∷◌, ◌++◌, length, drop, slice_get, nat_le, Bool, true, false, ◌&&◌, Option, Some, None, refl, sym, ap, ◌∙◌, subst, arith, add-one, add-zero, mod-lt, drop_of_length-le}
-use Rattle.std.specs.Prelude.{◌==◌, if◌then◌else◌, map}
+use Rattle.std.proofs.Common.{◌≡◌, ◌≤◌, ◌<◌, ℕ, ◌+◌, ◌%◌, ◌^◌, ℤ, pos, negsuc, List, [], ◌∷◌, ◌++◌, length, slice_get, nat_le, Bool, true, false, Option, Some, None, refl, ap, ◌∙◌, arith}
+use Rattle.std.specs.Prelude.{◌==◌, if◌then◌else◌}
 use Rattle.std.specs.Option.{option_map}
 use Rattle.std.proofs.lemmas.Bool.Decides.{nat_tests}
 use Rattle.debug_records.specs.declared.source.Spot.{Spot}
-use Rattle.debug_records.specs.declared.code.Code.{Code}
 use Rattle.debug_records.specs.declared.code.TheConstants.Code.{OPERAND_TYPES, UNEXPECTED_KEYWORD}
 use Rattle.c_tree.specs.declared.types.IntegerType.{IntegerType}
-use Rattle.c_tree.specs.declared.types.IntegerType.TheVariants.{Char, Int, UnsignedInt}
+use Rattle.c_tree.specs.declared.types.IntegerType.TheVariants.{Int, UnsignedInt}
 use Rattle.c_tree.specs.declared.types.Base.{Base}
 use Rattle.c_tree.specs.declared.types.Base.TheVariants as base
 use Rattle.c_tree.specs.declared.types.TypeName.{TypeName}
@@ -16,30 +15,26 @@ use Rattle.c_tree.specs.declared.operator.PrefixOperator.TheVariants as prefix
 use Rattle.c_tree.specs.declared.operator.AssignmentOperator.{AssignmentOperator}
 use Rattle.c_tree.specs.declared.operator.AssignmentOperator.TheVariants as assignment
 use Rattle.c_tree.specs.declared.object_type.Object.{Object}
-use Rattle.c_tree.specs.declared.object_type.Object.TheVariants as designator
 use Rattle.c_tree.specs.declared.object_type.ObjectType.{ObjectType}
-use Rattle.c_tree.specs.declared.object_type.ObjectType.TheVariants as object
 use Rattle.c_tree.specs.declared.object_type.ValueType.{ValueType}
 use Rattle.c_tree.specs.declared.object_type.ValueType.TheVariants.{Void, Integer, Pointer}
 use Rattle.c_tree.specs.declared.typed_expression.Arithmetic.{Arithmetic}
 use Rattle.c_tree.specs.declared.typed_expression.Direction.{Direction}
 use Rattle.c_tree.specs.declared.typed_expression.Given.{Given}
-use Rattle.c_tree.specs.TypedExpressions.{Named, Constant}
 use Rattle.c_tree.specs.Programs.{LiteralTree, TypedFunctionTree, ProgramTree}
 use Rattle.c_type_rules.specs.Integers.{fits}
-use Rattle.c_type_rules.specs.Types.{same_object}
-use Rattle.c_type_values.specs.Values.{ValueTree, MeantTree, IsObject, IsValue, as_value, meant_type, converted}
+use Rattle.c_type_values.specs.Values.{ValueTree, MeantTree, IsValue, as_value, meant_type}
 use Rattle.c_type_values.specs.Operations as operation
 use Rattle.c_type_values.specs.Pointers.{address, dereferenced}
-use Rattle.c_type_values.specs.Writing.{is_modifiable, is_updatable, updated, stepped}
-use Rattle.c_law_types.specs.Kinds.{is_of, is_object, literal_is}
+use Rattle.c_type_values.specs.Writing.{is_modifiable, is_updatable, stepped}
+use Rattle.c_law_types.specs.Kinds.{is_of, literal_is}
 use Rattle.c_law_types.specs.Expressions.{kind_of}
 use Rattle.c_type_expressions.specs.declared.names.Meaning.{Meaning}
 use Rattle.c_type_expressions.specs.declared.names.Meaning.TheVariants.{Variable, Function, EndOfFile}
-use Rattle.c_type_expressions.specs.Findings.{FoundTree, Checked, gives, with_one, judged, faulted, with_literal}
-use Rattle.c_type_expressions.specs.Judgements.{Meant, valued, number_of, address_of, named, literal_type, literal_met, writing, stepping, prefixed, cast_from, cast_to, cast, size_value, assignable, assigning, updating, assignment_by}
-use Rattle.c_texts.specs.Findings.{Begins, Grows, Accepts, IsThere, HoldsOf, Good, IsGood}
-use Rattle.c_texts.specs.Values.{IsTyped, Designates, Means}
+use Rattle.c_type_expressions.specs.Findings.{FoundTree, gives, with_one, faulted, with_literal}
+use Rattle.c_type_expressions.specs.Judgements.{number_of, named, literal_type, literal_met, writing, stepping, prefixed, cast_from, cast_to, cast, size_value, assignable, assigning, updating, assignment_by}
+use Rattle.c_texts.specs.Findings.{Accepts, HoldsOf, Good, IsGood}
+use Rattle.c_texts.specs.Values.{IsTyped, Means}
 use Rattle.c_texts.specs.Known.{IsKnown}
 use Rattle.c_texts.proofs.Same.{object_itself}
 use Rattle.c_texts.proofs.Growing.{grows_itself, grows_on, no_fault_before, accepts_before, grows_fault, grows_literal, grows_writing, writing_fine, faulted_if, fine_if, given, refused, one_good, judged_good, earlier, more_is_some}

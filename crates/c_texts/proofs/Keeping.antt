@@ -1,5 +1,5 @@
 -- The variables that well typed expressions and statements keep in memory are their function's.
-use Rattle.std.proofs.Common.{◌≡◌, ◌<◌, ℕ, ◌+◌, List, [], ◌∷◌, ◌++◌, length, slice_get, nat_le, nat_lt, Bool, true, false, ◌&&◌, not, Option, Some, None, refl, sym, ap, ◌∙◌, arith}
+use Rattle.std.proofs.Common.{◌≡◌, ◌<◌, ℕ, ◌+◌, List, [], ◌∷◌, ◌++◌, length, slice_get, nat_le, nat_lt, Bool, true, false, ◌&&◌, not, Option, Some, None, refl, arith}
 use Rattle.std.specs.Prelude.{if◌then◌else◌}
 use Rattle.std.proofs.lemmas.Bool.Decides.{nat_tests}
 use Rattle.c_tree.specs.declared.types.IntegerType.{IntegerType}
@@ -15,13 +15,13 @@ use Rattle.c_tree.specs.TypedExpressions.{RvalueTree, LvalueTree, ArgumentTrees,
 use Rattle.c_tree.specs.TypedStatements.{InitialTree, DeclaredTree, TypedStartTree, StepTree, TypedStatementTree, TypedStatementTrees}
 use Rattle.c_tree.specs.TypedStatements as statement
 use Rattle.c_tree.specs.Programs.{AutomaticTree, TypedFunctionTree, ProgramTree}
-use Rattle.c_type_rules.specs.Types.{loaded, same_integer, same_value}
+use Rattle.c_type_rules.specs.Types.{loaded, same_integer}
 use Rattle.c_type_rules.specs.Integers.{promoted}
 use Rattle.c_facts.specs.Memory.{named, named_if, keeps, kept_in, kept_all, kept_values, kept_initial, kept_declared, kept_start, kept_option, kept_step, kept_by, kept_by_all}
 use Rattle.c_value_types.specs.ValueTypes.{object_type}
 use Rattle.c_law_types.specs.declared.kind.Kind.{Kind}
 use Rattle.c_law_types.specs.declared.kind.Kind.TheVariants.{Wrong, NullPointer, Of}
-use Rattle.c_law_types.specs.Kinds.{of_if, is_promoted, is_of, is_typed, is_scalar, is_pointer, is_pointer_type, is_integer, is_counted, joined, is_operand, holds_scalar, holds_integer, holds_pointer, is_array, automatic_is, is_variable, is_callee, taken_by}
+use Rattle.c_law_types.specs.Kinds.{of_if, is_promoted, is_of, is_typed, is_scalar, is_pointer, is_integer, is_counted, joined, is_operand, holds_scalar, holds_integer, holds_pointer, is_array, automatic_is, is_variable, is_callee, taken_by}
 use Rattle.c_law_types.specs.Expressions.{kind_of, is_place, are_passed}
 use Rattle.c_law_types.specs.Statements.{same_spot, initialises, are_elements, declares_as, is_declared, are_declared, is_start, is_step, is_condition, is_returned, is_void, tested_type, is_switch, is_label, may_stand, is_statement, are_statements}
 use Rattle.c_texts.proofs.Same.{two_true}

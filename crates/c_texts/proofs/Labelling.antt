@@ -1,5 +1,5 @@
 -- Labels of a `switch` have numbers of the type that it tests.
-use Rattle.std.proofs.Common.{◌≡◌, ℕ, ◌+◌, ℤ, List, [], ◌∷◌, ◌++◌, length, Bool, true, false, ◌&&◌, not, Option, Some, None, refl, sym, ap, ◌∙◌, subst}
+use Rattle.std.proofs.Common.{◌≡◌, ℕ, ℤ, List, [], ◌∷◌, ◌++◌, Bool, true, not, Option, Some, None, refl, ap, ◌∙◌}
 use Rattle.std.specs.Prelude.{if◌then◌else◌}
 use Rattle.debug_records.specs.declared.code.TheConstants.Code.{MISPLACED_JUMP, OPERAND_TYPES, REPEATED_LABEL}
 use Rattle.c_tree.specs.declared.extent.Extent.{Extent}
@@ -9,27 +9,23 @@ use Rattle.c_tree.specs.declared.object_type.ValueType.TheVariants.{Void, Intege
 use Rattle.c_tree.specs.Expressions.{ExpressionTree}
 use Rattle.c_tree.specs.Statements.{LabelTree, CaseLabel, DefaultLabel}
 use Rattle.c_tree.specs.TypedStatements.{TypedStatementTree, TypedStatementTrees}
-use Rattle.c_tree.specs.TypedStatements as typed-tree
 use Rattle.c_tree.specs.Programs.{TypedFunctionTree, ProgramTree}
 use Rattle.c_type_rules.specs.declared.constancy.Constancy.{Constancy}
-use Rattle.c_type_rules.specs.declared.constancy.Constancy.TheVariants.{Varies, Formed, Known, Address}
+use Rattle.c_type_rules.specs.declared.constancy.Constancy.TheVariants.{Known}
 use Rattle.c_type_rules.specs.Integers.{promoted}
 use Rattle.c_type_values.specs.Values.{ValueTree, to_integer}
-use Rattle.c_type_declarations.specs.Progress.{ProgressTree, Met, means, next_met, reached_by, value_met, breaks}
-use Rattle.c_type_statements.specs.declared.setting.Setting.{Setting}
-use Rattle.c_type_statements.specs.Settings.{unless}
+use Rattle.c_type_declarations.specs.Progress.{ProgressTree, value_met, breaks}
 use Rattle.c_type_statements.specs.Switches.{Chosen, chosen_by, chosen, chosen_met, Labels, is_among, in_kind, case_value, PartTree, Case, Default, Statement, put_all, Parts, case_numbered, case_by, case_met, default_met, label_met, misplaced_one, Place, Outside, behind_label, label_at}
 use Rattle.c_type_statements.specs.Switches as switch
 use Rattle.c_law_types.specs.declared.kind.Kind.{Kind}
 use Rattle.c_law_types.specs.declared.kind.Kind.TheVariants.{Of}
-use Rattle.c_law_types.specs.Kinds.{is_promoted}
 use Rattle.c_law_types.specs.Expressions.{kind_of}
 use Rattle.c_law_types.specs.Statements.{tested_type, is_label, is_switch, may_stand, is_statement, are_statements}
 use Rattle.c_laws.specs.Declarations.{declared_in, declared_in_all}
 use Rattle.c_texts.specs.Constants.{HasNumbers}
-use Rattle.c_texts.specs.Findings.{IsThere, HoldsOf}
+use Rattle.c_texts.specs.Findings.{HoldsOf}
 use Rattle.c_texts.specs.Values.{IsTyped}
-use Rattle.c_texts.specs.Progress.{Stands, Inside, Comes, Ensures}
+use Rattle.c_texts.specs.Progress.{Stands, Inside, Ensures}
 use Rattle.c_texts.specs.Making.{Looks, Makes, MakesIfAny}
 use Rattle.c_texts.specs.Stating.{is_kind, are_labels, labels_fit, FitAt}
 use Rattle.c_texts.proofs.Same.{two_true, both, all_three}

@@ -1,6 +1,5 @@
 -- Parts of a function's block that declare no variable: values, and what scalars are initialised with.
-use Rattle.std.proofs.Common.{◌≡◌, ◌≢◌, ℕ, List, [], ◌∷◌, ◌++◌, Bool, true, false, Option, Some, None, refl, sym, ap, ◌∙◌, subst}
-use Rattle.std.specs.Prelude.{if◌then◌else◌}
+use Rattle.std.proofs.Common.{◌≡◌, ℕ, [], Bool, true, Option, Some, None, refl, ◌∙◌, subst}
 use Rattle.debug_records.specs.declared.code.Code.{Code}
 use Rattle.debug_records.specs.declared.code.TheConstants.Code.{INITIALIZER}
 use Rattle.c_tree.specs.declared.extent.Extent.{Extent}
@@ -12,22 +11,22 @@ use Rattle.c_type_rules.specs.Types.{loaded}
 use Rattle.c_type_values.specs.Values.{ValueTree, converted}
 use Rattle.c_law_types.specs.Kinds.{is_of}
 use Rattle.c_law_types.specs.Expressions.{kind_of}
-use Rattle.c_type_expressions.specs.Findings.{FoundTree, Checked, gives}
+use Rattle.c_type_expressions.specs.Findings.{Checked, gives}
 use Rattle.c_type_expressions.specs.Judgements.{valued}
 use Rattle.c_type_expressions.specs.Expressions.{typed, is_zero}
-use Rattle.c_type_declarations.specs.Progress.{ProgressTree, Met, means, next_met, reached_by, within, value_met, breaks}
+use Rattle.c_type_declarations.specs.Progress.{ProgressTree, Met, means, reached_by, within, value_met, breaks}
 use Rattle.c_type_declarations.specs.Objects.{only_in}
 use Rattle.c_type_declarations.specs.Initials.{or_misfit, fitted, fitting, looked_at_one, looked_at, misfit_met, braces_met, scalar_met, tree_of}
 use Rattle.c_texts.specs.Constants.{HasNumbers}
-use Rattle.c_texts.specs.Findings.{Grows, Accepts, IsThere, HoldsOf, Good, IsGood}
+use Rattle.c_texts.specs.Findings.{IsThere, HoldsOf, IsGood}
 use Rattle.c_texts.specs.Values.{IsTyped}
 use Rattle.c_texts.specs.Formed.{IsInitializerFormed, AreInitializersFormed}
-use Rattle.c_texts.specs.Progress.{Stands, Inside, Comes, Ensures}
-use Rattle.c_texts.specs.Making.{Looks, Makes, MakesIfAny, IsHeldIn}
-use Rattle.c_texts.proofs.Growing.{more_is_some, grows_fault, no_fault_before}
+use Rattle.c_texts.specs.Progress.{Stands, Inside, Ensures}
+use Rattle.c_texts.specs.Making.{Looks, MakesIfAny, IsHeldIn}
+use Rattle.c_texts.proofs.Growing.{more_is_some, no_fault_before}
 use Rattle.c_texts.proofs.Values.{converted_typed}
 use Rattle.c_texts.proofs.Expressions.{valued_good, typed_good}
-use Rattle.c_texts.proofs.Coming.{next_ensures, stands_before, inside_knows, comes_itself, comes_on, found_comes, breaks_comes}
+use Rattle.c_texts.proofs.Coming.{next_ensures, inside_knows, comes_itself, comes_on, found_comes, breaks_comes}
 
 module _ (p : ProgramTree) (f : TypedFunctionTree) (low : ℕ) where
   pub looks_itself : (q : ProgressTree) → Looks p f low q q

@@ -1,5 +1,5 @@
 -- Variables that are marked to be kept in memory are the same ones otherwise.
-use Rattle.std.proofs.Common.{◌≡◌, ◌≤◌, ◌<◌, ℕ, zero, suc, ◌+◌, List, [], ◌∷◌, ◌++◌, length, slice_get, take, drop, nat_le, nat_lt, Bool, true, false, ◌&&◌, ◌||◌, Option, Some, None, Result, Ok, Err, refl, sym, ap, ◌∙◌, subst, arith}
+use Rattle.std.proofs.Common.{◌≡◌, ◌≤◌, ◌<◌, ℕ, zero, suc, ◌+◌, List, [], ◌∷◌, length, slice_get, nat_le, nat_lt, Bool, true, false, ◌||◌, Option, Some, None, Result, Ok, Err, refl, sym, ap, ◌∙◌, subst, arith}
 use Rattle.std.specs.Prelude.{if◌then◌else◌}
 use Rattle.std.proofs.lemmas.Bool.Decides.{nat_tests}
 use Rattle.debug_records.specs.declared.code.Code.{Code}
@@ -8,10 +8,9 @@ use Rattle.c_tree.specs.declared.object_type.ObjectType.{ObjectType}
 use Rattle.c_tree.specs.declared.object_type.ObjectType.TheVariants as object
 use Rattle.c_tree.specs.Programs.{AutomaticTree, TypedFunctionTree}
 use Rattle.c_facts.specs.Memory.{kept_by_all}
-use Rattle.c_type_bounds.specs.Bounds.{kept, kept_all, memory_room, variables_of, function_breach, with_kept, or_breach, behind_function, behind_functions}
+use Rattle.c_type_bounds.specs.Bounds.{kept, kept_all, memory_room, variables_of, with_kept, or_breach, behind_function, behind_functions}
 use Rattle.c_laws.specs.Laws.{is_in_memory, are_in_memory}
 use Rattle.c_laws.specs.Objects.{is_kept_array, arrays_are_kept}
-use Rattle.c_texts.specs.Progress.{StandAmong}
 use Rattle.c_texts.proofs.Same.{two_true, both}
 
 -- One variable, and the same one as it is marked.

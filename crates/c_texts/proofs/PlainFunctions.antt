@@ -1,14 +1,13 @@
 -- No function of an accepted source has a declaration alone as the body of an `if`, an `else` or a loop.
-use Rattle.std.proofs.Common.{◌≡◌, ℕ, ◌+◌, List, [], ◌∷◌, ◌++◌, length, Bool, true, false, ◌&&◌, Option, Some, None, refl, sym, ap, ◌∙◌, subst}
+use Rattle.std.proofs.Common.{◌≡◌, ℕ, List, [], ◌∷◌, ◌++◌, length, Bool, true, ◌&&◌, Option, Some, None, refl, ap, ◌∙◌, subst}
 use Rattle.c_tree.specs.Statements.{BlockTree, chain}
 use Rattle.c_tree.specs.Trees.{FunctionTree, ItemTree, Include, Declares, Defines}
 use Rattle.c_tree.specs.TypedStatements.{TypedStatementTrees}
 use Rattle.c_tree.specs.Programs.{TypedFunctionTree, ProgramTree}
 use Rattle.c_type_expressions.specs.Names.{SignatureTree}
 use Rattle.c_type_declarations.specs.Progress.{ProgressTree, Met, means, next_met, opened}
-use Rattle.c_type_statements.specs.Statements.{statements_met}
-use Rattle.c_type.specs.Functions.{defined, parameters_met, function_made, setting_of, body_met, rest_met, signature_of, name_met, parameter_sizes}
-use Rattle.c_type.specs.Items.{item_met, items_met, beginning, source_met}
+use Rattle.c_type.specs.Functions.{defined, parameters_met, function_made, setting_of, rest_met, signature_of, name_met, parameter_sizes}
+use Rattle.c_type.specs.Items.{item_met, items_met, beginning}
 use Rattle.c_texts.specs.Plain.{are_plain}
 use Rattle.c_texts.specs.Files.{IsBodyFormed, IsItemFormed, AreItemsFormed}
 use Rattle.c_texts.specs.Progress.{Ensures}

@@ -1,6 +1,5 @@
 -- No statement of a source has a declaration alone as the body of an `if`, an `else` or a loop.
-use Rattle.std.proofs.Common.{◌≡◌, ℕ, ℤ, List, [], ◌∷◌, ◌++◌, length, Bool, true, false, ◌&&◌, Option, Some, None, refl, sym, ap, ◌∙◌, subst}
-use Rattle.debug_records.specs.declared.source.Spot.{Spot}
+use Rattle.std.proofs.Common.{◌≡◌, ℤ, List, [], ◌∷◌, ◌++◌, Bool, true, false, Option, Some, None, refl}
 use Rattle.c_tree.specs.declared.extent.Extent.{Extent}
 use Rattle.c_tree.specs.declared.types.IntegerType.{IntegerType}
 use Rattle.c_tree.specs.Ends.{first_of}

@@ -1,7 +1,6 @@
 -- The program of an accepted source: what it is made of, and the laws that it keeps.
-use Rattle.std.proofs.Common.{◌≡◌, ◌≤◌, ◌<◌, ℕ, zero, suc, ◌+◌, List, [], ◌∷◌, ◌++◌, length, slice_get, nat_le, Bool, true, false, ◌&&◌, Option, Some, None, is_none, Result, Ok, Err, refl, sym, ap, ◌∙◌, subst, arith, append-nil, IsTrue}
-use Rattle.std.specs.Prelude.{if◌then◌else◌, ◌==◌}
-use Rattle.std.specs.Option.{option_map, option_map_or}
+use Rattle.std.proofs.Common.{◌≡◌, ℕ, List, [], ◌∷◌, length, slice_get, nat_le, true, Option, Some, None, is_none, Result, Ok, Err, refl, sym, ap, ◌∙◌, subst, arith, append-nil}
+use Rattle.std.specs.Option.{option_map_or}
 use Rattle.debug_records.specs.declared.source.Spot.{Spot}
 use Rattle.debug_records.specs.declared.code.Code.{Code}
 use Rattle.c_tree.specs.declared.typed_expression.Callee.{Callee}
@@ -9,20 +8,16 @@ use Rattle.c_tree.specs.Trees.{ItemTree}
 use Rattle.c_tree.specs.Programs.{AutomaticTree, TypedFunctionTree, ProgramTree}
 use Rattle.c_type_expressions.specs.declared.findings.Fault.{Fault}
 use Rattle.c_type_expressions.specs.Names.{SignatureTree}
-use Rattle.c_type_bounds.specs.Bounds.{behind_functions, program_breach, variables_of, with_kept, memory_room}
+use Rattle.c_type_bounds.specs.Bounds.{behind_functions, program_breach}
 use Rattle.c_type_declarations.specs.Progress.{ProgressTree, Met, means}
 use Rattle.c_type.specs.Faults.{earlier, first_behind, first_fault}
 use Rattle.c_type.specs.Programs.{Refusal, or_else, fault_refusal, undefined_refusal, main_definition, main_refusal, program_of, within_program_limits, within_function_limits, names_refusal, unless_refused, accepted, checked}
 use Rattle.c_type.specs.Items.{beginning, source_met}
-use Rattle.c_law_types.specs.Statements.{are_statements}
-use Rattle.c_laws.specs.Laws.{declares_its_own, follow}
+use Rattle.c_laws.specs.Laws.{follow}
 use Rattle.c_laws.specs.Objects.{are_ended, arrays_are_kept}
-use Rattle.c_texts.specs.Findings.{Begins, Accepts}
-use Rattle.c_texts.specs.Files.{AreItemsFormed, Extends, Reaches, are_typed, Defined}
+use Rattle.c_texts.specs.Files.{AreItemsFormed, Reaches, are_typed}
 use Rattle.c_texts.specs.Known.{IsCalled}
-use Rattle.c_texts.specs.Progress.{StandAmong, Ensures}
-use Rattle.c_texts.proofs.Same.{two_true}
-use Rattle.c_texts.proofs.Growing.{begins_itself}
+use Rattle.c_texts.specs.Progress.{Ensures}
 use Rattle.c_texts.proofs.Judging.{le_true}
 use Rattle.c_texts.proofs.Items.{AllDefined, source_defined, beginning_known}
 use Rattle.c_texts.proofs.Marking.{Marks, AllMarked, functions_mark, marked_marks, few}

@@ -1,22 +1,21 @@
 -- The types of declared objects: an array has elements.
-use Rattle.std.proofs.Common.{◌≡◌, ◌≤◌, ℕ, zero, suc, ◌+◌, ◌^◌, pos, negsuc, max, List, length, nat_le, nat_lt, Bool, true, false, Option, Some, None, refl, arith}
+use Rattle.std.proofs.Common.{◌≡◌, ℕ, suc, ◌+◌, ◌^◌, pos, max, List, length, nat_le, nat_lt, Bool, true, false, Option, Some, None, refl, arith}
 use Rattle.std.specs.Prelude.{if◌then◌else◌}
 use Rattle.debug_records.specs.declared.code.TheConstants.Code.{UNEXPECTED_KEYWORD}
 use Rattle.debug_records.specs.declared.source.Spot.{Spot}
 use Rattle.c_tree.specs.declared.extent.Extent.{Extent}
 use Rattle.c_tree.specs.declared.object_type.Scalar.{Scalar}
 use Rattle.c_tree.specs.declared.object_type.ObjectType.{ObjectType}
-use Rattle.c_tree.specs.declared.object_type.ObjectType.TheVariants as object
 use Rattle.c_tree.specs.declared.object_type.ValueType.{ValueType}
-use Rattle.c_tree.specs.declared.object_type.ValueType.TheVariants.{Void, Integer, Pointer}
+use Rattle.c_tree.specs.declared.object_type.ValueType.TheVariants.{Integer}
 use Rattle.c_tree.specs.Expressions.{ExpressionTree}
 use Rattle.c_tree.specs.Declarations.{BracketsTree, Absent, Empty, Sized, InitializerTree, Value, Braces, DeclaratorTree}
 use Rattle.c_tree.specs.Programs.{TypedFunctionTree, ProgramTree}
 use Rattle.c_type_rules.specs.declared.constancy.Constancy.{Constancy}
-use Rattle.c_type_rules.specs.declared.constancy.Constancy.TheVariants.{Varies, Formed, Known, Address}
+use Rattle.c_type_rules.specs.declared.constancy.Constancy.TheVariants.{Known}
 use Rattle.c_type_values.specs.Values.{ValueTree}
 use Rattle.c_type_expressions.specs.Judgements.{count_of}
-use Rattle.c_type_declarations.specs.Progress.{ProgressTree, Met, means, next_met, value_met, breaks}
+use Rattle.c_type_declarations.specs.Progress.{ProgressTree, means, value_met, breaks}
 use Rattle.c_type_declarations.specs.Objects.{count, literal_for, initialized_count, implied_count, counted, count_or, sized_by, size_met, type_by, type_met}
 use Rattle.c_texts.specs.Constants.{HasNumbers}
 use Rattle.c_texts.specs.Findings.{HoldsOf}

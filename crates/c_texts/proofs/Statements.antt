@@ -1,11 +1,9 @@
 -- What the statements of an accepted source mean is well typed, and they declare the variables that come next.
-use Rattle.std.proofs.Common.{◌≡◌, ◌≤◌, ℕ, ◌+◌, List, [], ◌∷◌, ◌++◌, length, Bool, true, false, ◌&&◌, Option, Some, None, refl, sym, ap, ◌∙◌, subst}
+use Rattle.std.proofs.Common.{◌≡◌, ℕ, ◌+◌, List, [], ◌∷◌, ◌++◌, Bool, true, false, ◌&&◌, Option, Some, None, refl, ap, ◌∙◌}
 use Rattle.debug_records.specs.declared.source.Spot.{Spot}
 use Rattle.debug_records.specs.declared.code.TheConstants.Code.{MISPLACED_JUMP}
-use Rattle.c_tree.specs.declared.extent.Extent.{Extent}
 use Rattle.c_tree.specs.declared.types.IntegerType.{IntegerType}
 use Rattle.c_tree.specs.Ends.{first_of}
-use Rattle.c_tree.specs.Expressions.{ExpressionTree}
 use Rattle.c_tree.specs.Statements.{CaseLabel, DefaultLabel, StartTree, StatementTree, StatementTrees}
 use Rattle.c_tree.specs.Statements as tree
 use Rattle.c_tree.specs.TypedExpressions.{RvalueTree}
@@ -21,11 +19,10 @@ use Rattle.c_type_statements.specs.Switches as switch
 use Rattle.c_type_statements.specs.Statements.{to_end, head_of, in_scope, met, statements_met, items_met}
 use Rattle.c_law_types.specs.Kinds.{is_typed, is_scalar}
 use Rattle.c_law_types.specs.Expressions.{kind_of}
-use Rattle.c_law_types.specs.Statements.{tested_type, is_switch, may_stand, are_declared, is_start, is_step, is_condition, is_returned, is_statement, are_statements}
+use Rattle.c_law_types.specs.Statements.{is_switch, may_stand, are_declared, is_start, is_step, is_condition, is_returned, is_statement, are_statements}
 use Rattle.c_laws.specs.Declarations.{declared_by, declared_by_start, declared_in, declared_in_all}
 use Rattle.c_texts.specs.Formed.{is_no_declaration, declare_nothing, IsFormed, AreFormed}
-use Rattle.c_texts.specs.Numbers.{Numbers}
-use Rattle.c_texts.specs.Progress.{Stands, Inside, Comes, Ensures}
+use Rattle.c_texts.specs.Progress.{Stands, Inside, Ensures}
 use Rattle.c_texts.specs.Making.{Looks, Makes, DeclaresAll}
 use Rattle.c_texts.specs.Stating.{is_kind, FitAt, IsStated, States, StatesAll, StatesParts, StatesLabeled}
 use Rattle.c_texts.proofs.Same.{both, all_three, all_four}

@@ -1,10 +1,9 @@
 -- What operators, conversions and addresses make of well typed values is well typed.
-use Rattle.std.proofs.Common.{◌≡◌, ℕ, Bool, true, false, ◌&&◌, Option, Some, None, refl, sym, ap, ◌∙◌, subst}
-use Rattle.std.specs.Prelude.{◌==◌, if◌then◌else◌}
+use Rattle.std.proofs.Common.{◌≡◌, Bool, true, false, ◌&&◌, Some, None, refl, sym, ap, ◌∙◌, subst}
+use Rattle.std.specs.Prelude.{if◌then◌else◌}
 use Rattle.std.specs.Option.{option_map}
 use Rattle.c_tree.specs.declared.types.IntegerType.{IntegerType}
 use Rattle.c_tree.specs.declared.types.IntegerType.TheVariants.{Int}
-use Rattle.c_tree.specs.declared.object_type.Scalar.{Scalar}
 use Rattle.c_tree.specs.declared.object_type.ObjectType.{ObjectType}
 use Rattle.c_tree.specs.declared.object_type.ObjectType.TheVariants as object
 use Rattle.c_tree.specs.declared.object_type.ValueType.{ValueType}
@@ -14,7 +13,7 @@ use Rattle.c_tree.specs.declared.typed_expression.Arithmetic.TheVariants as arit
 use Rattle.c_tree.specs.declared.typed_expression.Comparison.{Comparison}
 use Rattle.c_tree.specs.declared.typed_expression.Sign.{Sign}
 use Rattle.c_tree.specs.declared.typed_expression.Direction.{Direction}
-use Rattle.c_tree.specs.TypedExpressions.{RvalueTree, LvalueTree, Load, Decay, AddressOf, Convert, Discard, Signed, Not, Null, Arithmetic, Compare, ComparePointers, Move, MoveFrom, Difference, And, Or, Conditional, Comma}
+use Rattle.c_tree.specs.TypedExpressions.{Convert, Not, And, Or}
 use Rattle.c_tree.specs.Programs.{TypedFunctionTree, ProgramTree}
 use Rattle.c_type_rules.specs.declared.constancy.Constancy.{Constancy}
 use Rattle.c_type_rules.specs.Integers.{common, promoted}
@@ -23,18 +22,18 @@ use Rattle.c_type_rules.specs.declared.constancy.Constancy.TheVariants.{Varies}
 use Rattle.c_type_rules.specs.Constancies.{converted_constant, not_constant, and_constant, or_constant}
 use Rattle.c_type_values.specs.declared.operation.Operation as declared-operation
 use Rattle.c_type_values.specs.declared.operation.Operation.TheVariants.{Calculates, Compares, Both, Either}
-use Rattle.c_type_values.specs.Values.{ValueTree, MeantTree, IsObject, IsValue, as_value, is_of as is_integer_of, to_integer, null, unchanged, converted_from, converted}
+use Rattle.c_type_values.specs.Values.{ValueTree, MeantTree, IsObject, IsValue, as_value, is_of as is_integer_of, to_integer, null, converted_from, converted}
 use Rattle.c_type_values.specs.Operations as operation
 use Rattle.c_type_values.specs.Operations.{is_shift, is_equality, signed_as, signed_value, negated, discarded, in_types, arithmetic_value, moved, moved_from, moved_by, moved_behind, difference_by, calculated_as, calculated_value, pointers_compared, integers_compared, compared_as, compared_value, both as both_values, either, combined, sequenced, chosen, chosen_integer, chosen_as, conditional}
 use Rattle.c_type_values.specs.Pointers.{address, target_of, dereferenced, elements, element_of}
 use Rattle.c_value_types.specs.ValueTypes.{object_type}
 use Rattle.c_law_types.specs.declared.kind.Kind.{Kind}
-use Rattle.c_law_types.specs.declared.kind.Kind.TheVariants.{Wrong, NullPointer, Of}
+use Rattle.c_law_types.specs.declared.kind.Kind.TheVariants.{NullPointer, Of}
 use Rattle.c_law_types.specs.Kinds.{of_if, is_promoted, is_of, is_typed, is_scalar, is_pointer, is_integer, is_counted, joined, is_operand, holds_scalar, is_array}
 use Rattle.c_law_types.specs.Expressions.{kind_of, is_place}
 use Rattle.c_texts.specs.Findings.{HoldsOf}
-use Rattle.c_texts.specs.Values.{has_elements, leads_to_elements, IsTyped, Designates, Means}
-use Rattle.c_texts.proofs.Same.{two_true, both, all_three, integer_is, object_is, value_is, integer_itself, scalar_itself, object_itself, value_itself}
+use Rattle.c_texts.specs.Values.{leads_to_elements, IsTyped, Means}
+use Rattle.c_texts.proofs.Same.{two_true, both, all_three, integer_is, object_is, value_is, scalar_itself}
 use Rattle.c_texts.proofs.Fitting.{of_if_true, given_kind, integer_kind, typed_kind, scalar_kind, pointer_kind, joined_kinds, promoted_once, common_promoted, counted_kind, integer_in_kind, of_integer_kind, operand_by, loaded_elements}
 
 module _ (p : ProgramTree) (f : TypedFunctionTree) where

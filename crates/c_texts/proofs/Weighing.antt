@@ -1,5 +1,5 @@
 -- The functions of a program weigh no more than the program.
-use Rattle.std.proofs.Common.{◌≡◌, ◌≤◌, ◌<◌, ℕ, zero, suc, ◌+◌, ◌-◌, ◌^◌, min, List, [], ◌∷◌, ◌++◌, length, nat_le, nat_lt, Bool, true, false, Option, Some, None, refl, sym, ap, ◌∙◌, subst, arith}
+use Rattle.std.proofs.Common.{◌≡◌, ◌≤◌, ℕ, ◌+◌, List, [], ◌∷◌, ◌++◌, length, nat_le, nat_lt, Bool, true, false, Option, Some, None, refl, ap, subst, arith}
 use Rattle.std.specs.Prelude.{if◌then◌else◌}
 use Rattle.std.proofs.lemmas.Bool.Decides.{nat_tests}
 use Rattle.std.proofs.lemmas.List.Sums.{sum_by-cons}
@@ -14,8 +14,8 @@ use Rattle.c_type_bounds.specs.Counts.{capped}
 use Rattle.c_type_bounds.specs.Weights.{definition_weight, function_weight, item_weight, items_weight}
 use Rattle.c_type_bounds.specs.Bounds.{program_breach}
 use Rattle.c_type_declarations.specs.Progress.{ProgressTree, Met, means, next_met}
-use Rattle.c_type.specs.Functions.{defined, function_made, body_met, rest_met, signature_of, name_met, parameter_sizes}
-use Rattle.c_type.specs.Items.{item_met, items_met, beginning, source_met}
+use Rattle.c_type.specs.Functions.{defined, function_made, rest_met, signature_of, name_met, parameter_sizes}
+use Rattle.c_type.specs.Items.{item_met, items_met, beginning}
 use Rattle.c_laws.specs.Laws.{weight_of}
 use Rattle.c_texts.specs.Progress.{Ensures}
 use Rattle.c_texts.proofs.Judging.{le_true}

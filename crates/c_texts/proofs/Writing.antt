@@ -1,5 +1,5 @@
 -- What assignments, `++` and `--` make of well typed operands is well typed.
-use Rattle.std.proofs.Common.{◌≡◌, ℕ, Bool, true, false, ◌&&◌, Option, Some, None, refl, sym, ap, ◌∙◌, subst}
+use Rattle.std.proofs.Common.{◌≡◌, Bool, true, false, ◌&&◌, Some, refl, ap, ◌∙◌, subst}
 use Rattle.std.specs.Prelude.{◌==◌, if◌then◌else◌}
 use Rattle.c_tree.specs.declared.types.IntegerType.{IntegerType}
 use Rattle.c_tree.specs.declared.object_type.Scalar.{Scalar}
@@ -14,14 +14,14 @@ use Rattle.c_tree.specs.TypedExpressions.{LvalueTree, Step, StepPointer}
 use Rattle.c_tree.specs.Programs.{TypedFunctionTree, ProgramTree}
 use Rattle.c_type_rules.specs.Integers.{common, promoted}
 use Rattle.c_type_rules.specs.Types.{loaded, pointed_to, same_integer, same_value}
-use Rattle.c_type_values.specs.Values.{ValueTree, MeantTree, IsObject, IsValue, as_value, meant_type, to_integer}
+use Rattle.c_type_values.specs.Values.{ValueTree, MeantTree, IsObject, IsValue, meant_type, to_integer}
 use Rattle.c_type_values.specs.Operations.{is_shift}
 use Rattle.c_type_values.specs.Writing.{is_modifiable, stepped, assigned, is_updatable, update_type, integer_updated, pointer_updated, updated_by, updated}
 use Rattle.c_value_types.specs.ValueTypes.{object_type}
 use Rattle.c_law_types.specs.Kinds.{is_promoted, is_of, is_counted, is_operand, holds_scalar, holds_integer, holds_pointer}
 use Rattle.c_law_types.specs.Expressions.{kind_of, is_place}
 use Rattle.c_texts.specs.Values.{IsTyped, Designates, Means}
-use Rattle.c_texts.proofs.Same.{both, all_three, all_four, integer_itself, scalar_itself, object_itself, value_itself}
+use Rattle.c_texts.proofs.Same.{both, all_three, all_four, integer_itself, scalar_itself, value_itself}
 use Rattle.c_texts.proofs.Fitting.{given_kind, promoted_once, common_promoted, loaded_elements}
 use Rattle.c_texts.proofs.Values.{counted_typed, operand_typed}
 

@@ -4,7 +4,7 @@ use Rattle.c_tree.specs.declared.typed_expression.Callee.{Callee}
 use Rattle.c_tree.specs.Expressions.{NameTree}
 use Rattle.c_tree.specs.Declarations.{ParameterTree}
 use Rattle.c_tree.specs.Statements.{BlockTree, chain}
-use Rattle.c_tree.specs.Trees.{FunctionTree, ItemTree, Include, Declares, Defines}
+use Rattle.c_tree.specs.Trees.{ItemTree, Include, Declares, Defines}
 use Rattle.c_tree.specs.Programs.{TypedFunctionTree, ProgramTree}
 use Rattle.c_type_expressions.specs.Names.{SignatureTree}
 use Rattle.c_type_declarations.specs.Progress.{ProgressTree}

@@ -1,5 +1,5 @@
 -- What the names of a scope mean in a program: its objects and its functions.
-use Rattle.std.specs.Prelude.{◌≡◌, ℕ, List, true, Option, Some, map, slice_get}
+use Rattle.std.specs.Prelude.{◌≡◌, ℕ, List, true, Some, map, slice_get}
 use Rattle.c_tree.specs.declared.object_type.Object.{Object}
 use Rattle.c_tree.specs.declared.object_type.ObjectType.{ObjectType}
 use Rattle.c_tree.specs.declared.typed_expression.Callee.{Callee}

@@ -1,5 +1,5 @@
 -- What statements mean in an accepted program: well typed statements that declare the variables which come next.
-use Rattle.std.specs.Prelude.{◌≡◌, ℕ, ◌+◌, ◌&&◌, List, [], ◌∷◌, Bool, true, false, Option, Some, None}
+use Rattle.std.specs.Prelude.{◌≡◌, ◌+◌, ◌&&◌, List, [], ◌∷◌, Bool, true, false, Option, Some, None}
 use Rattle.c_tree.specs.declared.types.IntegerType.{IntegerType}
 use Rattle.c_tree.specs.TypedStatements.{TypedStatementTree, TypedStatementTrees}
 use Rattle.c_tree.specs.Programs.{TypedFunctionTree, ProgramTree}
