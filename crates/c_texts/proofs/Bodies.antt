@@ -92,16 +92,16 @@ module _ (p : ProgramTree) (f : FunctionTree) (g : SignatureTree) (b : BlockTree
         known = λ k e one. subst (AreScopesKnown p one) (sym scopes) (k one);
         follows = both (length q.automatics == length q.automatics) (length q.automatics + (length t.automatics - length q.automatics) == length t.automatics) (itself (length q.automatics)) (eq-eqb _ _ (omega (arith, longer)));
         typed = λ k e.
-          let stands : Stands p fun t = record { accepts = e.accepts; automatics = e.automatics; array_literals = e.array_literals; within = omega (arith, longer) } in
-          let calls = λ (k : ℕ) (s : SignatureTree) (c : Callee) (h : slice_get q.names.signatures k ≡ Some s) (is : s.callee ≡ Some c). e.functions k s c (ap (λ l. slice_get l k) a.signatures ∙ h) is in
-          let here : Inside p fun fun.first_variable (opened q) = record { scopes = known_push p fun q.names.scopes empty_scope (k fun) (empty_known p fun); functions = calls; begun = omega arith } in
-          let within = come.inside here (stands_before states.comes.advances stands) in
-          let body = states.holds (record { scopes = within.scopes; functions = within.functions; begun = omega (arith, first) }) stands in
-          both (are_statements p fun false false None ts && declares_its_own fun) true
+            let stands : Stands p fun t = record { accepts = e.accepts; automatics = e.automatics; array_literals = e.array_literals; within = omega (arith, longer) } in
+            let calls = λ (k : ℕ) (s : SignatureTree) (c : Callee) (h : slice_get q.names.signatures k ≡ Some s) (is : s.callee ≡ Some c). e.functions k s c (ap (λ l. slice_get l k) a.signatures ∙ h) is in
+            let here : Inside p fun fun.first_variable (opened q) = record { scopes = known_push p fun q.names.scopes empty_scope (k fun) (empty_known p fun); functions = calls; begun = omega arith } in
+            let within = come.inside here (stands_before states.comes.advances stands) in
+            let body = states.holds (record { scopes = within.scopes; functions = within.functions; begun = omega (arith, first) }) stands in
+            both (are_statements p fun false false None ts && declares_its_own fun) true
             (both (are_statements p fun false false None ts) (declares_its_own fun) body
-              (both (is_numbered (length q.automatics + length f.parameters) (declared_in_all ts [])) (length (declared_in_all ts []) + length f.parameters == length t.automatics - length q.automatics)
-                (ap (is_numbered (length q.automatics + length f.parameters)) own ∙ subst (λ m. is_numbered m n.more ≡ true) first n.numbered)
-                (eq-eqb _ _ (let l = ap length own in let c = n.count in omega (arith, first))))) refl;
+            (both (is_numbered (length q.automatics + length f.parameters) (declared_in_all ts [])) (length (declared_in_all ts []) + length f.parameters == length t.automatics - length q.automatics)
+            (ap (is_numbered (length q.automatics + length f.parameters)) own ∙ subst (λ m. is_numbered m n.more ≡ true) first n.numbered)
+            (eq-eqb _ _ (let l = ap length own in let c = n.count in omega (arith, first))))) refl;
       }
 
   -- a function's block defines it

@@ -60,11 +60,11 @@ module _ (K : Type 0) (p : ProgramTree) (f : TypedFunctionTree) where
       record {
         grows = grows_on h.grows g.grows;
         passed = λ e fit.
-          let c = two_true (passed_to (slice_get parameters at) v z).1 q.fit fit in
-          let d = accepts_before g.grows e in
-          let one = one_fits (slice_get parameters at) v z (h.holds d) (h.there d.faults) c.0 in
-          let rest : drop at parameters ≡ one.0 ∷ drop (at + 1) parameters = rest_from parameters at one.0 one.1 ∙ ap (λ k. one.0 ∷ drop k parameters) (sym (add-one at)) in
-          ap (λ l. are_passed p f (map loaded l) (argument.first (passed_to (slice_get parameters at) v z).0 q.trees)) rest
+            let c = two_true (passed_to (slice_get parameters at) v z).1 q.fit fit in
+            let d = accepts_before g.grows e in
+            let one = one_fits (slice_get parameters at) v z (h.holds d) (h.there d.faults) c.0 in
+            let rest : drop at parameters ≡ one.0 ∷ drop (at + 1) parameters = rest_from parameters at one.0 one.1 ∙ ap (λ k. one.0 ∷ drop k parameters) (sym (add-one at)) in
+            ap (λ l. are_passed p f (map loaded l) (argument.first (passed_to (slice_get parameters at) v z).0 q.trees)) rest
             ∙ both (is_of (kind_of p f (passed_to (slice_get parameters at) v z).0) (loaded one.0)) (are_passed p f (map loaded (drop (at + 1) parameters)) q.trees) one.2 (g.passed e c.1);
       }
 

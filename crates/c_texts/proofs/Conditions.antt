@@ -137,9 +137,9 @@ module _ (p : ProgramTree) (f : TypedFunctionTree) (low : ℕ) where
       record {
         advances = record { found = a.found; automatics = a.automatics; array_literals = a.array_literals; statics = a.statics; signatures = a.signatures; scopes = λ outer inner e. (inner, same ∙ e); kept = a.kept; ended = a.ended };
         inside = λ i s.
-          let open_stands : Stands p f t = record { accepts = s.accepts; automatics = s.automatics; array_literals = s.array_literals; within = s.within } in
-          let o = c.inside (record { scopes = known_push p f q.names.scopes empty_scope i.scopes (empty_known p f); functions = i.functions; begun = i.begun }) open_stands in
-          record { scopes = subst (AreScopesKnown p f) (sym same) i.scopes; functions = o.functions; begun = o.begun };
+            let open_stands : Stands p f t = record { accepts = s.accepts; automatics = s.automatics; array_literals = s.array_literals; within = s.within } in
+            let o = c.inside (record { scopes = known_push p f q.names.scopes empty_scope i.scopes (empty_known p f); functions = i.functions; begun = i.begun }) open_stands in
+            record { scopes = subst (AreScopesKnown p f) (sym same) i.scopes; functions = o.functions; begun = o.begun };
       }
 
   pub scoped : {A : Type 0} (V : A → List ℕ → List ℕ) (P : A → Type 0) (m : ProgressTree → Met A) (q : ProgressTree) → Ensures (DeclaresAll p f low V P (opened q)) (m (opened q)) → Ensures (DeclaresAll p f low V P q) (in_scope m q)
@@ -150,8 +150,8 @@ module _ (p : ProgramTree) (f : TypedFunctionTree) (low : ℕ) where
         comes = closed_comes q t made.comes;
         numbers = record { more = made.numbers.more; adds = made.numbers.adds; numbered = made.numbers.numbered; count = made.numbers.count };
         holds = λ i s.
-          made.holds (record { scopes = known_push p f q.names.scopes empty_scope i.scopes (empty_known p f); functions = i.functions; begun = i.begun })
-          (record { accepts = s.accepts; automatics = s.automatics; array_literals = s.array_literals; within = s.within });
+            made.holds (record { scopes = known_push p f q.names.scopes empty_scope i.scopes (empty_known p f); functions = i.functions; begun = i.begun })
+            (record { accepts = s.accepts; automatics = s.automatics; array_literals = s.array_literals; within = s.within });
       })
 
 -- the first part of a `for`

@@ -82,8 +82,8 @@ module _ (p : ProgramTree) (f : TypedFunctionTree) where
   placed_known x n of low h c =
       record {
         is = both (is_variable f x) (automatic_is (slice_get p.automatics x) of)
-          (both (nat_le f.first_variable x) (nat_lt x (f.first_variable + f.variables)) (le_true f.first_variable x low) (lt_true x (f.first_variable + f.variables) c.within))
-          (ap (λ o. automatic_is o of) c.is ∙ ap (λ t. same_object t of) c.of_is ∙ object_itself of);
+            (both (nat_le f.first_variable x) (nat_lt x (f.first_variable + f.variables)) (le_true f.first_variable x low) (lt_true x (f.first_variable + f.variables) c.within))
+            (ap (λ o. automatic_is o of) c.is ∙ ap (λ t. same_object t of) c.of_is ∙ object_itself of);
         elements = h;
       }
 
@@ -103,12 +103,12 @@ module _ (p : ProgramTree) (f : TypedFunctionTree) where
             ended = λ k. k;
           };
           inside = λ i s.
-            record {
-              scopes = declared_known p f n.name (designator.Automatic x) of r.names
-                (placed_known x n of (let b = i.begun in omega (arith, first)) h (placed r n of x (Variable (designator.Automatic x) of) e s)) i.scopes;
-              functions = i.functions;
-              begun = let b = i.begun in let n = length-append r.automatics (new_variable n of ∷ []) in omega arith;
-            };
+              record {
+                scopes = declared_known p f n.name (designator.Automatic x) of r.names
+                    (placed_known x n of (let b = i.begun in omega (arith, first)) h (placed r n of x (Variable (designator.Automatic x) of) e s)) i.scopes;
+                functions = i.functions;
+                begun = let b = i.begun in let n = length-append r.automatics (new_variable n of ∷ []) in omega arith;
+              };
         }
 
     -- one more variable, of a construct that may declare a name again
@@ -145,7 +145,7 @@ module _ (p : ProgramTree) (f : TypedFunctionTree) where
       let d : DeclaredTree = record { variable = x; spot = n.spot; initial = i } in
       all_three (nat_le (f.first_variable + f.parameters) x) (nat_lt x (f.first_variable + f.variables)) (declares_as p f d (slice_get p.automatics x)) (le_true (f.first_variable + f.parameters) x b) (lt_true x (f.first_variable + f.variables) c.within)
       (ap (declares_as p f d) c.is
-        ∙ both (same_spot n.spot c.variable.spot) (initialises p f c.variable.of i) (ap (same_spot n.spot) c.spot_is ∙ spot_itself n.spot) (ap (λ t. initialises p f t i) c.of_is ∙ h))
+      ∙ both (same_spot n.spot c.variable.spot) (initialises p f c.variable.of i) (ap (same_spot n.spot) c.spot_is ∙ spot_itself n.spot) (ap (λ t. initialises p f t i) c.of_is ∙ h))
 
   of_type_declares : (d : DeclaratorTree) (q : ProgressTree) (of : ObjectType) (t : ProgressTree) → IsDeclaratorFormed d → Looks p f low q t → has_elements of ≡ true → Ensures (DeclaresOne q) (automatic_of_type d of t)
   of_type_declares d q of t formed l h =
@@ -161,9 +161,9 @@ module _ (p : ProgramTree) (f : TypedFunctionTree) where
         comes = comes_on p f l.comes (comes_on p f here made.looks.comes);
         numbers = one_numbered q u (one_variable (record { variable = x; spot = d.name.spot; initial = i })) (ap length made.looks.same ∙ declares_count p f low first_low d.extent d.name of m t ∙ ap (λ z. length z + 1) l.same) (λ vs. ap (λ z. vs ++ length z ∷ []) l.same);
         holds = λ inside e.
-          let before = stands_before made.looks.comes.advances e in
-          let there = l.comes.inside inside (stands_before here.advances before) in
-          declared_fits x d.name of i there.begun (placed p f s d.name of x m at before) (made.holds (here.inside there before) e);
+            let before = stands_before made.looks.comes.advances e in
+            let there = l.comes.inside inside (stands_before here.advances before) in
+            declared_fits x d.name of i there.begun (placed p f s d.name of x m at before) (made.holds (here.inside there before) e);
       })
 
   one_declares : (t : IntegerType) (d : DeclaratorTree) (q : ProgressTree) → IsDeclaratorFormed d → Ensures (DeclaresOne q) (automatic_met t d q)
@@ -181,8 +181,8 @@ module _ (p : ProgramTree) (f : TypedFunctionTree) where
         comes = comes_on p f here.comes more.comes;
         numbers = both_numbered (one_variable one) (declared_by rest) (declared_by (one ∷ rest)) (λ vs. refl) here.numbers more.numbers;
         holds = λ i e.
-          let before = stands_before more.comes.advances e in
-          both (is_declared p f one) (are_declared p f rest) (here.holds i before) (more.holds (here.comes.inside i before) e);
+            let before = stands_before more.comes.advances e in
+            both (is_declared p f one) (are_declared p f rest) (here.holds i before) (more.holds (here.comes.inside i before) e);
       }))
 
   pub declaration_declares : (d : DeclarationTree) (q : ProgressTree) → AreDeclaratorsFormed d.declarators → Ensures (DeclaresMany q) (declaration_met d q)

@@ -100,8 +100,8 @@ module _ (p : ProgramTree) where
       record {
         extends = record { found = grows_itself q.found; automatics = begins_itself q.automatics; array_literals = begins_itself q.array_literals; statics = begins_itself q.statics; signatures = begins_itself q.names.signatures; kept = λ h. h; ended = λ h. h };
         known = λ k b one.
-          known_push p one (take (length q.names.scopes - 1) q.names.scopes) _ (known_take p one (length q.names.scopes - 1) q.names.scopes (k one))
-          (other_known one name m (innermost q.names.scopes) never (known_at p one q.names.scopes (length q.names.scopes - 1) (k one)));
+            known_push p one (take (length q.names.scopes - 1) q.names.scopes) _ (known_take p one (length q.names.scopes - 1) q.names.scopes (k one))
+            (other_known one name m (innermost q.names.scopes) never (known_at p one q.names.scopes (length q.names.scopes - 1) (k one)));
         same = refl;
       }
 
@@ -176,9 +176,9 @@ module _ (p : ProgramTree) where
           ended = λ h. two.ended (one.ended h);
         };
         known = λ k b f.
-          let at : slice_get p.statics (length q.statics) ≡ Some v = ap (λ l. slice_get l (length q.statics)) (b.1 ∙ ap (λ l. (l ++ v ∷ []) ++ b.0) stays) ∙ at_end q.statics b.0 v in
-          let is : IsKnown p f (designator.Static (length q.statics)) of = record { is = ap (λ o. static_is o of) at ∙ object_itself of; elements = elements } in
-          subst (λ (m : Names). AreScopesKnown p f m.scopes) (sym later) (declared_known p f n.name (designator.Static (length q.statics)) of r.names is (subst (λ (m : Names). AreScopesKnown p f m.scopes) (sym names) (k f)));
+            let at : slice_get p.statics (length q.statics) ≡ Some v = ap (λ l. slice_get l (length q.statics)) (b.1 ∙ ap (λ l. (l ++ v ∷ []) ++ b.0) stays) ∙ at_end q.statics b.0 v in
+            let is : IsKnown p f (designator.Static (length q.statics)) of = record { is = ap (λ o. static_is o of) at ∙ object_itself of; elements = elements } in
+            subst (λ (m : Names). AreScopesKnown p f m.scopes) (sym later) (declared_known p f n.name (designator.Static (length q.statics)) of r.names is (subst (λ (m : Names). AreScopesKnown p f m.scopes) (sym names) (k f)));
         same = behind.same ∙ before.same;
       }
 
@@ -196,8 +196,10 @@ module _ (p : ProgramTree) where
     where
       r : ProgressTree
       r = breaks_if (declared_here q.names d.name.name) REDECLARED d.extent q
+
       s : ProgressTree
       s = with_name d.name.name (Variable (designator.Static (length q.statics)) of) r
+
       by : (m : Met Contents) → Ensures (Contained (any_function d.name.spot) 0 s) m → Passes p q (reached_by m (with_static d.name of))
       by (means c u) l =
           static_passes d.name of q r u c elements (breaks_if_passes (declared_here q.names d.name.name) REDECLARED d.extent q) (breaks_if_names (declared_here q.names d.name.name) REDECLARED d.extent q)

@@ -70,13 +70,15 @@ module _ (p : ProgramTree) (f : TypedFunctionTree) (low : ℕ) where
       next_ensures (MakesIfAny p f low (IsHeldIn p f s) q) (Elements q s (count (first i more))) (scalar_met s extent i q) _ (scalar_makes p f low s extent i q h.0)
       (λ v t one.
       next_ensures (Elements t s (count more)) (Elements q s (count (first i more))) (elements_met s extent more t) _ (elements_make s extent more t h.1)
-      (λ vs u rest.
-      (record {
-        looks = looks_on p f low one.looks rest.0.looks;
-        holds = λ i e.
-          let before = stands_before rest.0.looks.comes.advances e in
-          both (is_of (kind_of p f (tree_of v)) (loaded s)) (are_elements p f s vs) (tree_held p f low s v (one.there before.accepts.faults) (one.holds i before)) (rest.0.holds (one.looks.comes.inside i before) e);
-      }, let n = rest.1 in omega arith)))
+      (λ vs u rest. (
+        record {
+          looks = looks_on p f low one.looks rest.0.looks;
+          holds = λ i e.
+              let before = stands_before rest.0.looks.comes.advances e in
+              both (is_of (kind_of p f (tree_of v)) (loaded s)) (are_elements p f s vs) (tree_held p f low s v (one.there before.accepts.faults) (one.holds i before)) (rest.0.holds (one.looks.comes.inside i before) e);
+        },
+        let n = rest.1 in omega arith,
+      )))
 
   -- a literal that initialises an array
   literal_looks : (spot : Spot) (bytes : List ℕ) (q : ProgressTree) → Looks p f low q (with_array_literal spot bytes q)
@@ -112,11 +114,11 @@ module _ (p : ProgramTree) (f : TypedFunctionTree) (low : ℕ) where
       record {
         looks = looks;
         holds = λ i e.
-          let lit : LiteralTree = record { spot = l.0; bytes = l.1 ++ 0 ∷ [] } in
-          let same = array_same (length l.1) size extent q in
-          let at : slice_get p.array_literals (length q.array_literals) ≡ Some lit =
+            let lit : LiteralTree = record { spot = l.0; bytes = l.1 ++ 0 ∷ [] } in
+            let same = array_same (length l.1) size extent q in
+            let at : slice_get p.array_literals (length q.array_literals) ≡ Some lit =
             ap (λ z. slice_get z (length q.array_literals)) (e.array_literals.1 ∙ ap (λ z. (z ++ lit ∷ []) ++ e.array_literals.0) same) ∙ at_end q.array_literals e.array_literals.0 lit in
-          literal_fitting s size l.1 (slice_get p.array_literals (length q.array_literals)) lit at (length-append l.1 (0 ∷ [])) char (within_fits (length l.1) size extent q (no_fault_before (literal_looks l.0 l.1 r).comes.advances.found e.accepts.faults));
+            literal_fitting s size l.1 (slice_get p.array_literals (length q.array_literals)) lit at (length-append l.1 (0 ∷ [])) char (within_fits (length l.1) size extent q (no_fault_before (literal_looks l.0 l.1 r).comes.advances.found e.accepts.faults));
       }
     where
       array_same : (given size : ℕ) (extent : Extent) (q : ProgressTree) → (within_count given size extent q).array_literals ≡ q.array_literals
@@ -135,8 +137,8 @@ module _ (p : ProgramTree) (f : TypedFunctionTree) (low : ℕ) where
       record {
         looks = looks_on p f low (within_looks (count all) size extent q) made.0.looks;
         holds = λ i e.
-          let before = stands_before made.0.looks.comes.advances e in
-          both (nat_le (length vs) size) (are_elements p f s vs) (ap (λ n. nat_le n size) made.1 ∙ within_fits (count all) size extent q before.accepts.faults)
+            let before = stands_before made.0.looks.comes.advances e in
+            both (nat_le (length vs) size) (are_elements p f s vs) (ap (λ n. nat_le n size) made.1 ∙ within_fits (count all) size extent q before.accepts.faults)
             (made.0.holds ((within_looks (count all) size extent q).comes.inside i before) e);
       })
   list_makes s size extent (Value e) q h = record { looks = misfit_looks p f low extent e q h; holds = λ i stands. misfit_never p f low extent e q stands.accepts.faults }
@@ -151,6 +153,7 @@ module _ (p : ProgramTree) (f : TypedFunctionTree) (low : ℕ) where
       char_by : (b : Bool) (o : Option (Spot × List ℕ)) (l : Spot × List ℕ) → (if b then o else None) ≡ Some l → b ≡ true
       char_by true o l e = refl
       char_by false o l e = cc
+
       by : (o : Option (Spot × List ℕ)) → literal_for s i ≡ o → Ensures (Writes q (object.Array s size)) (option_map_or (λ l. array_literal_met size extent l q) o (list_met s size extent i q))
       by (Some l) is = array_literal_makes s size extent l q (char_by (is_char s) (only_literal i) l is)
       by None is = list_makes s size extent i q h

@@ -80,8 +80,8 @@ module _ (p : ProgramTree) where
         known = λ k b. d.known (c.known k (begins_on r.statics t.statics p.statics d.extends.statics b)) b;
         follows = follow_on (length q.automatics) (length r.automatics) (length t.automatics) fs gs c.follows d.follows;
         typed = λ k e.
-          let before = reaches_before d.extends e in
-          typed_on p fs gs (c.typed k before) (d.typed (c.known k before.statics) e);
+            let before = reaches_before d.extends e in
+            typed_on p fs gs (c.typed k before) (d.typed (c.known k before.statics) e);
       }
 
   -- the name of a function
@@ -89,11 +89,11 @@ module _ (p : ProgramTree) where
   with_function_passes name g q =
       let r : ProgressTree = record q { names = record (q.names) { signatures = q.names.signatures ++ g ∷ [] } } in
       let here : Passes p q r =
-        record {
-          extends = record { found = grows_itself q.found; automatics = begins_itself q.automatics; array_literals = begins_itself q.array_literals; statics = begins_itself q.statics; signatures = (g ∷ [], refl); kept = λ h. h; ended = λ h. h };
-          known = λ k b. k;
-          same = refl;
-        } in
+      record {
+        extends = record { found = grows_itself q.found; automatics = begins_itself q.automatics; array_literals = begins_itself q.array_literals; statics = begins_itself q.statics; signatures = (g ∷ [], refl); kept = λ h. h; ended = λ h. h };
+        known = λ k b. k;
+        same = refl;
+      } in
       passes_on p here (other_passes p name (Function (length q.names.signatures)) r (λ o of e. cc))
 
   known_as_passes : (k : ℕ) (f : FunctionTree) (g : SignatureTree) (m : Option Meaning) (q : ProgressTree) → Passes p q (known_as k f g m q)
@@ -217,6 +217,7 @@ module _ (p : ProgramTree) where
     where
       later : (more : List TypedFunctionTree) (t : ProgressTree) (m : Met (List TypedFunctionTree)) → Defined p q more t → Ensures (AllDefined (fs ++ more) t) m → Ensures (AllDefined fs q) m
       later more t (means gs u) d all = record { more = more ++ all.more; is = all.is ∙ append_assoc fs more all.more; defined = both_defined q t more all.more u d all.defined }
+
       by : (m : Met (List TypedFunctionTree)) → Ensures (Defined p q) m → ((gs : List TypedFunctionTree) (t : ProgressTree) → Ensures (AllDefined gs t) (items_met names gs rest t))
           → Ensures (AllDefined fs q) (next_met (next_met m (λ more. means (fs ++ more))) (λ gs. items_met names gs rest))
       by (means more t) d all = later more t (items_met names (fs ++ more) rest t) d (all (fs ++ more) t)

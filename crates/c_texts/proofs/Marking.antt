@@ -33,9 +33,9 @@ marks_on g h =
     record {
       count = h.count ∙ g.count;
       each = λ x a e.
-        let b = g.each x a e in
-        let c = h.each x b.0 b.1 in
-        (c.0, c.1, record { of = c.2.of ∙ b.2.of; spot = c.2.spot ∙ b.2.spot; in_memory = λ m. c.2.in_memory (b.2.in_memory m) });
+          let b = g.each x a e in
+          let c = h.each x b.0 b.1 in
+          (c.0, c.1, record { of = c.2.of ∙ b.2.of; spot = c.2.spot ∙ b.2.spot; in_memory = λ m. c.2.in_memory (b.2.in_memory m) });
       arrays = λ e. h.arrays (g.arrays e);
     }
 

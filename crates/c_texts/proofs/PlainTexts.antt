@@ -83,56 +83,56 @@ mutual
   met_plain place g (tree.If spot c s) q h =
       unlabeled_plain (labels_at place) true _
       (next_any (Plain true) _ _
-        (λ r t.
-          next_ensures (Plain (is_no_declaration s)) (Plain true) (bare (met Outside g s t)) _ (bare_plain (is_no_declaration s) (met Outside g s t) (met_plain Outside g s t h.1))
-          (λ a u d. plain_as (typed-tree.If (first_of c) r a) u (both (is_body a) (is_plain a) (d.may h.2) d.plain) refl)))
+      (λ r t.
+      next_ensures (Plain (is_no_declaration s)) (Plain true) (bare (met Outside g s t)) _ (bare_plain (is_no_declaration s) (met Outside g s t) (met_plain Outside g s t h.1))
+      (λ a u d. plain_as (typed-tree.If (first_of c) r a) u (both (is_body a) (is_plain a) (d.may h.2) d.plain) refl)))
   met_plain place g (tree.IfElse spot c s o) q h =
       unlabeled_plain (labels_at place) true _
       (next_any (Plain true) _ _
-        (λ r t.
-          next_ensures (Plain (is_no_declaration s)) (Plain true) (bare (met Outside g s t)) _ (bare_plain (is_no_declaration s) (met Outside g s t) (met_plain Outside g s t h.1))
-          (λ a u d.
-            next_ensures (Plain (is_no_declaration o)) (Plain true) (bare (met Outside g o u)) _ (bare_plain (is_no_declaration o) (met Outside g o u) (met_plain Outside g o u h.2))
-            (λ b v e. plain_as (typed-tree.IfElse (first_of c) r a b) v (all_four (is_body a) (is_plain a) (is_body b) (is_plain b) (d.may h.3) d.plain (e.may h.4) e.plain) refl))))
+      (λ r t.
+      next_ensures (Plain (is_no_declaration s)) (Plain true) (bare (met Outside g s t)) _ (bare_plain (is_no_declaration s) (met Outside g s t) (met_plain Outside g s t h.1))
+      (λ a u d.
+      next_ensures (Plain (is_no_declaration o)) (Plain true) (bare (met Outside g o u)) _ (bare_plain (is_no_declaration o) (met Outside g o u) (met_plain Outside g o u h.2))
+      (λ b v e. plain_as (typed-tree.IfElse (first_of c) r a b) v (all_four (is_body a) (is_plain a) (is_body b) (is_plain b) (d.may h.3) d.plain (e.may h.4) e.plain) refl))))
   met_plain place g (tree.While spot c s) q h =
       unlabeled_plain (labels_at place) true _
       (next_any (Plain true) _ _
-        (λ r t.
-          next_ensures (Plain (is_no_declaration s)) (Plain true) (bare (met Outside (in_loop g) s t)) _ (bare_plain (is_no_declaration s) (met Outside (in_loop g) s t) (met_plain Outside (in_loop g) s t h.1))
-          (λ a u d. plain_as (typed-tree.While (first_of c) r a) u (both (is_body a) (is_plain a) (d.may h.2) d.plain) refl)))
+      (λ r t.
+      next_ensures (Plain (is_no_declaration s)) (Plain true) (bare (met Outside (in_loop g) s t)) _ (bare_plain (is_no_declaration s) (met Outside (in_loop g) s t) (met_plain Outside (in_loop g) s t h.1))
+      (λ a u d. plain_as (typed-tree.While (first_of c) r a) u (both (is_body a) (is_plain a) (d.may h.2) d.plain) refl)))
   met_plain place g (tree.DoWhile extent s c) q h =
       unlabeled_plain (labels_at place) true _
       (next_ensures (Plain (is_no_declaration s)) (Plain true) (bare (met Outside (in_loop g) s q)) _ (bare_plain (is_no_declaration s) (met Outside (in_loop g) s q) (met_plain Outside (in_loop g) s q h.0))
-        (λ a t d. next_any (Plain true) _ _ (λ r u. plain_as (typed-tree.DoWhile a (first_of c) r) u (both (is_body a) (is_plain a) (d.may h.2) d.plain) refl)))
+      (λ a t d. next_any (Plain true) _ _ (λ r u. plain_as (typed-tree.DoWhile a (first_of c) r) u (both (is_body a) (is_plain a) (d.may h.2) d.plain) refl)))
   met_plain place g (tree.For spot start c step s) q h =
       unlabeled_plain (labels_at place) true _
       (next_ensures (λ (a : TypedStatementTree) t. (is_plain a ≡ true) × (is_body a ≡ true)) (Plain true) _ _
-        (next_any (λ (a : TypedStatementTree) t. (is_plain a ≡ true) × (is_body a ≡ true)) _ _
-          (λ a t.
-            next_any (λ (a : TypedStatementTree) t. (is_plain a ≡ true) × (is_body a ≡ true)) _ _
-            (λ b u.
-              next_any (λ (a : TypedStatementTree) t. (is_plain a ≡ true) × (is_body a ≡ true)) _ _
-              (λ d v.
-                next_ensures (Plain (is_no_declaration s)) (λ (a : TypedStatementTree) t. (is_plain a ≡ true) × (is_body a ≡ true)) (bare (met Outside (in_loop g) s v)) _ (bare_plain (is_no_declaration s) (met Outside (in_loop g) s v) (met_plain Outside (in_loop g) s v h.3))
-                (λ m w e. (both (is_body m) (is_plain m) (e.may h.4) e.plain, refl))))))
-        (λ a t c. plain_as a _ c.0 c.1))
+      (next_any (λ (a : TypedStatementTree) t. (is_plain a ≡ true) × (is_body a ≡ true)) _ _
+      (λ a t.
+      next_any (λ (a : TypedStatementTree) t. (is_plain a ≡ true) × (is_body a ≡ true)) _ _
+      (λ b u.
+      next_any (λ (a : TypedStatementTree) t. (is_plain a ≡ true) × (is_body a ≡ true)) _ _
+      (λ d v.
+      next_ensures (Plain (is_no_declaration s)) (λ (a : TypedStatementTree) t. (is_plain a ≡ true) × (is_body a ≡ true)) (bare (met Outside (in_loop g) s v)) _ (bare_plain (is_no_declaration s) (met Outside (in_loop g) s v) (met_plain Outside (in_loop g) s v h.3))
+      (λ m w e. (both (is_body m) (is_plain m) (e.may h.4) e.plain, refl))))))
+      (λ a t c. plain_as a _ c.0 c.1))
   met_plain place g (tree.Switch spot e opening all closing) q h =
       unlabeled_plain (labels_at place) true _
       (next_any (Plain true) _ _
-        (λ ch t.
-          next_ensures ArePlain (Plain true) (in_scope (items_met (in_switch g) ch.kind all no_labels) t) _
-          (next_ensures ArePlain ArePlain (items_met (in_switch g) ch.kind all no_labels (opened t)) _ (parts_plain (in_switch g) ch.kind all no_labels (opened t) h.1) (λ ts u c. c))
-          (λ ts u c. plain_as (typed-tree.Switch (first_of e) ch.tree ts) u c refl)))
+      (λ ch t.
+      next_ensures ArePlain (Plain true) (in_scope (items_met (in_switch g) ch.kind all no_labels) t) _
+      (next_ensures ArePlain ArePlain (items_met (in_switch g) ch.kind all no_labels (opened t)) _ (parts_plain (in_switch g) ch.kind all no_labels (opened t) h.1) (λ ts u c. c))
+      (λ ts u c. plain_as (typed-tree.Switch (first_of e) ch.tree ts) u c refl)))
   met_plain place g (tree.Case extent e s) q h =
       next_ensures (λ (l : Parts) t. are_labels l.parts ≡ true) (PlainLabeled true) (label_at place (CaseLabel extent e) q) _ (label_labels place (CaseLabel extent e) q)
       (λ l t c.
-        next_ensures (PlainLabeled (is_no_declaration s)) (PlainLabeled true) (met (behind_label place l.labels) g s t) _ (met_plain (behind_label place l.labels) g s t h.1)
-        (λ x u d. record { labels = labels_on l.parts x.before c d.labels; plain = d.plain; may = λ k. d.may h.2 }))
+      next_ensures (PlainLabeled (is_no_declaration s)) (PlainLabeled true) (met (behind_label place l.labels) g s t) _ (met_plain (behind_label place l.labels) g s t h.1)
+      (λ x u d. record { labels = labels_on l.parts x.before c d.labels; plain = d.plain; may = λ k. d.may h.2 }))
   met_plain place g (tree.Default extent s) q h =
       next_ensures (λ (l : Parts) t. are_labels l.parts ≡ true) (PlainLabeled true) (label_at place (DefaultLabel extent) q) _ (label_labels place (DefaultLabel extent) q)
       (λ l t c.
-        next_ensures (PlainLabeled (is_no_declaration s)) (PlainLabeled true) (met (behind_label place l.labels) g s t) _ (met_plain (behind_label place l.labels) g s t h.0)
-        (λ x u d. record { labels = labels_on l.parts x.before c d.labels; plain = d.plain; may = λ k. d.may h.1 }))
+      next_ensures (PlainLabeled (is_no_declaration s)) (PlainLabeled true) (met (behind_label place l.labels) g s t) _ (met_plain (behind_label place l.labels) g s t h.0)
+      (λ x u d. record { labels = labels_on l.parts x.before c d.labels; plain = d.plain; may = λ k. d.may h.1 }))
   met_plain place g (tree.Break extent) q h = unlabeled_plain (labels_at place) true _ (plain_as (typed-tree.Break extent.first) _ refl refl)
   met_plain place g (tree.Continue extent) q h = unlabeled_plain (labels_at place) true _ (plain_as (typed-tree.Continue extent.first) _ refl refl)
   met_plain place g (tree.Return extent e) q h = unlabeled_plain (labels_at place) true _ (next_any (Plain true) _ _ (λ r t. plain_as (typed-tree.Return extent.first r) t refl refl))

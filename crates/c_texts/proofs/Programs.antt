@@ -84,6 +84,7 @@ accepted_parts items p h = by (source_met items) refl h
         let c = within_program (program_of items fs q vs) p h in
         record { functions = fs; progress = q; variables = vs; is = e; faults = no_fault q.found.faults a.0; undefined = no_undefined q.found.undefined b.0; main = b.1; marked = marked; program = c.0; breach = c.1 }
     behind fs q e names (Err r) marked h = cc
+
     by : (m : Met (List TypedFunctionTree)) → source_met items ≡ m → answer items m ≡ Ok p → Accepted items p
     by (means fs q) e h = let c = unrefused (names_refusal items q) (within_function_limits items fs q) p h in behind fs q e c.0 (behind_functions 0 fs q.automatics) refl c.1
 

@@ -63,8 +63,8 @@ module _ (p : ProgramTree) (f : TypedFunctionTree) where
         comes = comes_on p f l.comes states.comes;
         numbers = same_numbered (declared_in a) (declared_in whole) same (numbered_from (declared_in a) l.same states.numbers);
         holds = λ i e.
-          let before = stands_before states.comes.advances e in
-          record { is = is (has i before) (states.holds (l.comes.inside i before) e).is; stands = λ h. stands };
+            let before = stands_before states.comes.advances e in
+            record { is = is (has i before) (states.holds (l.comes.inside i before) e).is; stands = λ h. stands };
       }
 
   -- two statements behind a value
@@ -75,13 +75,13 @@ module _ (p : ProgramTree) (f : TypedFunctionTree) where
         comes = comes_on p f made.looks.comes (comes_on p f one.comes rest.comes);
         numbers = numbered_from (declared_in (typed-tree.IfElse spot r a b)) made.looks.same (both_numbered (declared_in a) (declared_in b) (declared_in (typed-tree.IfElse spot r a b)) (λ vs. refl) one.numbers rest.numbers);
         holds = λ i e.
-          let last = stands_before rest.comes.advances e in
-          let first = stands_before one.comes.advances last in
-          let inside = made.looks.comes.inside i first in
-          record {
-            is = all_three (is_scalar (kind_of p f r)) (is_statement p f g.may_break g.may_continue a) (is_statement p f g.may_break g.may_continue b) (made.holds i first) (one.holds inside last).is (rest.holds (one.comes.inside inside last) e).is;
-            stands = λ h tested. refl;
-          };
+            let last = stands_before rest.comes.advances e in
+            let first = stands_before one.comes.advances last in
+            let inside = made.looks.comes.inside i first in
+            record {
+              is = all_three (is_scalar (kind_of p f r)) (is_statement p f g.may_break g.may_continue a) (is_statement p f g.may_break g.may_continue b) (made.holds i first) (one.holds inside last).is (rest.holds (one.comes.inside inside last) e).is;
+              stands = λ h tested. refl;
+            };
       }
 
   -- a loop that tests behind its body
@@ -91,8 +91,8 @@ module _ (p : ProgramTree) (f : TypedFunctionTree) where
         comes = comes_on p f states.comes made.looks.comes;
         numbers = numbered_to (declared_in (typed-tree.DoWhile a spot r)) (same_numbered (declared_in a) (declared_in (typed-tree.DoWhile a spot r)) (λ vs. refl) states.numbers) made.looks.same;
         holds = λ i e.
-          let before = stands_before made.looks.comes.advances e in
-          record { is = both (is_scalar (kind_of p f r)) (is_statement p f true true a) (made.holds (states.comes.inside i before) e) (states.holds i before).is; stands = λ h tested. refl };
+            let before = stands_before made.looks.comes.advances e in
+            record { is = both (is_scalar (kind_of p f r)) (is_statement p f true true a) (made.holds (states.comes.inside i before) e) (states.holds i before).is; stands = λ h tested. refl };
       }
 
   -- a `for` within its scope
@@ -104,15 +104,15 @@ module _ (p : ProgramTree) (f : TypedFunctionTree) where
         comes = comes_on p f start.comes (comes_on p f looks.comes body.comes);
         numbers = both_numbered (declared_by_start a) (declared_in s) (declared_in (typed-tree.For a spot b d s)) (λ vs. refl) start.numbers (numbered_from (declared_in s) looks.same body.numbers);
         holds = λ i e.
-          let at_body = stands_before body.comes.advances e in
-          let at_step = stands_before step.looks.comes.advances at_body in
-          let at_start = stands_before condition.looks.comes.advances at_step in
-          let in_start = start.comes.inside i at_start in
-          let in_step = condition.looks.comes.inside in_start at_step in
-          record {
-            is = all_four (is_start p f a) (is_condition p f b) (is_step p f d) (is_statement p f true true s) (start.holds i at_start) (condition.holds in_start at_step) (step.holds in_step at_body) (body.holds (step.looks.comes.inside in_step at_body) e).is;
-            stands = λ h tested. refl;
-          };
+            let at_body = stands_before body.comes.advances e in
+            let at_step = stands_before step.looks.comes.advances at_body in
+            let at_start = stands_before condition.looks.comes.advances at_step in
+            let in_start = start.comes.inside i at_start in
+            let in_step = condition.looks.comes.inside in_start at_step in
+            record {
+              is = all_four (is_start p f a) (is_condition p f b) (is_step p f d) (is_statement p f true true s) (start.holds i at_start) (condition.holds in_start at_step) (step.holds in_step at_body) (body.holds (step.looks.comes.inside in_step at_body) e).is;
+              stands = λ h tested. refl;
+            };
       }
 
   -- a `switch`
@@ -122,13 +122,13 @@ module _ (p : ProgramTree) (f : TypedFunctionTree) where
         comes = comes_on p f made.looks.comes parts.comes;
         numbers = same_numbered (declared_in_all ts) (declared_in (typed-tree.Switch spot ch.tree ts)) (λ vs. refl) (numbered_from (declared_in_all ts) made.looks.same parts.numbers);
         holds = λ i e.
-          let before = stands_before parts.comes.advances e in
-          let c = made.holds i before in
-          let all = parts.holds (made.looks.comes.inside i before) e c.kind in
-          record {
-            is = ap (λ k. is_switch k && are_statements p f true g.may_continue k ts) c.tested ∙ both (is_switch ch.kind) (are_statements p f true g.may_continue ch.kind ts) (kind_switch ch.kind c.kind) all;
-            stands = λ h tested. refl;
-          };
+            let before = stands_before parts.comes.advances e in
+            let c = made.holds i before in
+            let all = parts.holds (made.looks.comes.inside i before) e c.kind in
+            record {
+              is = ap (λ k. is_switch k && are_statements p f true g.may_continue k ts) c.tested ∙ both (is_switch ch.kind) (are_statements p f true g.may_continue ch.kind ts) (kind_switch ch.kind c.kind) all;
+              stands = λ h tested. refl;
+            };
       }
 
   -- a label before a statement
@@ -140,9 +140,9 @@ module _ (p : ProgramTree) (f : TypedFunctionTree) where
           comes = comes_on p f made.looks.comes states.states.comes;
           numbers = numbered_from (declared_in x.statement) made.looks.same states.states.numbers;
           holds = λ i e.
-            let before = stands_before states.states.comes.advances e in
-            let one = states.states.holds (made.looks.comes.inside i before) e in
-            record { is = one.is; stands = λ h. one.stands fine };
+              let before = stands_before states.states.comes.advances e in
+              let one = states.states.holds (made.looks.comes.inside i before) e in
+              record { is = one.is; stands = λ h. one.stands fine };
         };
         labels = labels_on l.parts x.before made.labels states.labels;
         fit = fit_behind place l.labels l.parts x.before made.fit states.fit;
@@ -155,8 +155,8 @@ module _ (p : ProgramTree) (f : TypedFunctionTree) where
         comes = comes_on p f one.comes rest.comes;
         numbers = both_numbered (declared_in s) (declared_in_all ts) (declared_in_all (typed-tree.first s ts)) (λ vs. refl) one.numbers rest.numbers;
         holds = λ i e.
-          let before = stands_before rest.comes.advances e in
-          both (is_statement p f g.may_break g.may_continue s) (are_statements p f g.may_break g.may_continue None ts) (one.holds i before).is (rest.holds (one.comes.inside i before) e);
+            let before = stands_before rest.comes.advances e in
+            both (is_statement p f g.may_break g.may_continue s) (are_statements p f g.may_break g.may_continue None ts) (one.holds i before).is (rest.holds (one.comes.inside i before) e);
       }
 
   -- a statement with its labels, before others of the block of a `switch`
@@ -171,9 +171,9 @@ module _ (p : ProgramTree) (f : TypedFunctionTree) where
         comes = comes_on p f one.states.comes rest.comes;
         numbers = both_numbered (declared_in x.statement) (declared_in_all ts) (declared_in_all (put_all (x.before ++ Statement x.statement ∷ []) ts)) (λ vs. put_declared x.before x.statement ts vs one.labels) one.states.numbers rest.numbers;
         holds = λ i e k.
-          let before = stands_before rest.comes.advances e in
-          let here = one.states.holds i before in
-          put_typed p f g.may_break g.may_continue kind x.before x.statement ts (one.fit k) (stand_in kind x.statement k (here.stands fine)) here.is (rest.holds (one.states.comes.inside i before) e k);
+            let before = stands_before rest.comes.advances e in
+            let here = one.states.holds i before in
+            put_typed p f g.may_break g.may_continue kind x.before x.statement ts (one.fit k) (stand_in kind x.statement k (here.stands fine)) here.is (rest.holds (one.states.comes.inside i before) e k);
       }
 
   mutual
@@ -182,86 +182,86 @@ module _ (p : ProgramTree) (f : TypedFunctionTree) where
     met_states place g (tree.Compound opening all closing) q h r =
         unlabeled_states place g true q _
         (next_ensures (StatesAll p f g q) (States p f g true q) (in_scope (statements_met g all) q) _
-          (scoped p f low declared_in_all (λ (them : TypedStatementTrees). are_statements p f g.may_break g.may_continue None them ≡ true) (statements_met g all) q (all_states g all (opened q) h r))
-          (λ ts t all_made.
-            record {
-              comes = all_made.comes;
-              numbers = same_numbered (declared_in_all ts) (declared_in (typed-tree.Block ts)) (λ vs. refl) all_made.numbers;
-              holds = λ i e. record { is = all_made.holds i e; stands = λ k tested. refl };
-            }))
+        (scoped p f low declared_in_all (λ (them : TypedStatementTrees). are_statements p f g.may_break g.may_continue None them ≡ true) (statements_met g all) q (all_states g all (opened q) h r))
+        (λ ts t all_made.
+        record {
+          comes = all_made.comes;
+          numbers = same_numbered (declared_in_all ts) (declared_in (typed-tree.Block ts)) (λ vs. refl) all_made.numbers;
+          holds = λ i e. record { is = all_made.holds i e; stands = λ k tested. refl };
+        }))
     met_states place g (tree.Declare d) q h r =
         unlabeled_states place g false q _
         (next_ensures (DeclaresAll p f low declared_by (λ (all : List DeclaredTree). are_declared p f all ≡ true) q) (States p f g false q) (declaration_met d q) _ (declaration_declares p f d q h)
-          (λ all t made.
-            record {
-              comes = made.comes;
-              numbers = same_numbered (declared_by all) (declared_in (typed-tree.Declaration all)) (λ vs. refl) made.numbers;
-              holds = λ i e. record { is = made.holds i e; stands = λ k. cc };
-            }))
+        (λ all t made.
+        record {
+          comes = made.comes;
+          numbers = same_numbered (declared_by all) (declared_in (typed-tree.Declaration all)) (λ vs. refl) made.numbers;
+          holds = λ i e. record { is = made.holds i e; stands = λ k. cc };
+        }))
     met_states place g (tree.Empty spot) q h r = unlabeled_states place g true q _ (simple g q (typed-tree.Empty spot) q (looks_itself p f low q) (λ vs. refl) (λ i e. refl) (λ tested. refl))
     met_states place g (tree.Run e last) q h r =
         unlabeled_states place g true q _
         (next_ensures (Makes p f low (λ (v : RvalueTree). is_typed (kind_of p f v) ≡ true) q) (States p f g true q) (run_met e q) _ (run_makes p f low e q h)
-          (λ v t made. simple g q (typed-tree.Run (first_of e) v) t made.looks (λ vs. refl) made.holds (λ tested. refl)))
+        (λ v t made. simple g q (typed-tree.Run (first_of e) v) t made.looks (λ vs. refl) made.holds (λ tested. refl)))
     met_states place g (tree.If spot c s) q h r =
         unlabeled_states place g true q _
         (next_ensures (Makes p f low (λ (v : RvalueTree). is_scalar (kind_of p f v) ≡ true) q) (States p f g true q) (condition_met (to_end spot s) c q) _ (condition_makes p f low (to_end spot s) c q h.0)
-          (λ v t made.
-            next_ensures (States p f g (is_no_declaration s) t) (States p f g true q) (bare (met Outside g s t)) _ (bare_states g (is_no_declaration s) t (met Outside g s t) (met_states Outside g s t h.1 r))
-            (λ a u body.
-              behind_value (is_scalar (kind_of p f v) ≡ true) g g (is_no_declaration s) q t u a (typed-tree.If (first_of c) v a) made.looks made.holds body (λ vs. refl)
-              (λ k m. both (is_scalar (kind_of p f v)) (is_statement p f g.may_break g.may_continue a) k m) (λ tested. refl))))
+        (λ v t made.
+        next_ensures (States p f g (is_no_declaration s) t) (States p f g true q) (bare (met Outside g s t)) _ (bare_states g (is_no_declaration s) t (met Outside g s t) (met_states Outside g s t h.1 r))
+        (λ a u body.
+        behind_value (is_scalar (kind_of p f v) ≡ true) g g (is_no_declaration s) q t u a (typed-tree.If (first_of c) v a) made.looks made.holds body (λ vs. refl)
+        (λ k m. both (is_scalar (kind_of p f v)) (is_statement p f g.may_break g.may_continue a) k m) (λ tested. refl))))
     met_states place g (tree.IfElse spot c s o) q h r =
         unlabeled_states place g true q _
         (next_ensures (Makes p f low (λ (v : RvalueTree). is_scalar (kind_of p f v) ≡ true) q) (States p f g true q) (condition_met (to_end spot o) c q) _ (condition_makes p f low (to_end spot o) c q h.0)
-          (λ v t made.
-            next_ensures (States p f g (is_no_declaration s) t) (States p f g true q) (bare (met Outside g s t)) _ (bare_states g (is_no_declaration s) t (met Outside g s t) (met_states Outside g s t h.1 r))
-            (λ a u one.
-              next_ensures (States p f g (is_no_declaration o) u) (States p f g true q) (bare (met Outside g o u)) _ (bare_states g (is_no_declaration o) u (met Outside g o u) (met_states Outside g o u h.2 r))
-              (λ b w rest. both_behind_value g (is_no_declaration s) (is_no_declaration o) q t u w v a b (first_of c) made one rest))))
+        (λ v t made.
+        next_ensures (States p f g (is_no_declaration s) t) (States p f g true q) (bare (met Outside g s t)) _ (bare_states g (is_no_declaration s) t (met Outside g s t) (met_states Outside g s t h.1 r))
+        (λ a u one.
+        next_ensures (States p f g (is_no_declaration o) u) (States p f g true q) (bare (met Outside g o u)) _ (bare_states g (is_no_declaration o) u (met Outside g o u) (met_states Outside g o u h.2 r))
+        (λ b w rest. both_behind_value g (is_no_declaration s) (is_no_declaration o) q t u w v a b (first_of c) made one rest))))
     met_states place g (tree.While spot c s) q h r =
         unlabeled_states place g true q _
         (next_ensures (Makes p f low (λ (v : RvalueTree). is_scalar (kind_of p f v) ≡ true) q) (States p f g true q) (condition_met (to_end spot s) c q) _ (condition_makes p f low (to_end spot s) c q h.0)
-          (λ v t made.
-            next_ensures (States p f (in_loop g) (is_no_declaration s) t) (States p f g true q) (bare (met Outside (in_loop g) s t)) _ (bare_states (in_loop g) (is_no_declaration s) t (met Outside (in_loop g) s t) (met_states Outside (in_loop g) s t h.1 r))
-            (λ a u body.
-              behind_value (is_scalar (kind_of p f v) ≡ true) g (in_loop g) (is_no_declaration s) q t u a (typed-tree.While (first_of c) v a) made.looks made.holds body (λ vs. refl)
-              (λ k m. both (is_scalar (kind_of p f v)) (is_statement p f true true a) k m) (λ tested. refl))))
+        (λ v t made.
+        next_ensures (States p f (in_loop g) (is_no_declaration s) t) (States p f g true q) (bare (met Outside (in_loop g) s t)) _ (bare_states (in_loop g) (is_no_declaration s) t (met Outside (in_loop g) s t) (met_states Outside (in_loop g) s t h.1 r))
+        (λ a u body.
+        behind_value (is_scalar (kind_of p f v) ≡ true) g (in_loop g) (is_no_declaration s) q t u a (typed-tree.While (first_of c) v a) made.looks made.holds body (λ vs. refl)
+        (λ k m. both (is_scalar (kind_of p f v)) (is_statement p f true true a) k m) (λ tested. refl))))
     met_states place g (tree.DoWhile extent s c) q h r =
         unlabeled_states place g true q _
         (next_ensures (States p f (in_loop g) (is_no_declaration s) q) (States p f g true q) (bare (met Outside (in_loop g) s q)) _ (bare_states (in_loop g) (is_no_declaration s) q (met Outside (in_loop g) s q) (met_states Outside (in_loop g) s q h.0 r))
-          (λ a t body.
-            next_ensures (Makes p f low (λ (v : RvalueTree). is_scalar (kind_of p f v) ≡ true) t) (States p f g true q) (condition_met extent c t) _ (condition_makes p f low extent c t h.1)
-            (λ v u made. before_value g (is_no_declaration s) q t u a v (first_of c) body made)))
+        (λ a t body.
+        next_ensures (Makes p f low (λ (v : RvalueTree). is_scalar (kind_of p f v) ≡ true) t) (States p f g true q) (condition_met extent c t) _ (condition_makes p f low extent c t h.1)
+        (λ v u made. before_value g (is_no_declaration s) q t u a v (first_of c) body made)))
     met_states place g (tree.For spot start c step s) q h r =
         unlabeled_states place g true q _
         (scoped p f low declared_in (IsStated p f g true)
-          (λ o. next_met (start_met start o) (λ a t. next_met (condition_if_any (to_end spot s) c t) (λ b u. next_met (step_met step u) (λ d v. next_met (bare (met Outside (in_loop g) s v)) (λ m. means (typed-tree.For a (head_of spot c) b d m)))))) q
-          (next_ensures (Starts p f (opened q)) (States p f g true (opened q)) (start_met start (opened q)) _ (start_states p f start (opened q) h.0)
-            (λ a t one.
-              next_ensures (Makes p f low (λ (v : Option RvalueTree). is_condition p f v ≡ true) t) (States p f g true (opened q)) (condition_if_any (to_end spot s) c t) _ (any_condition_makes p f low (to_end spot s) c t h.1)
-              (λ b u two.
-                next_ensures (Makes p f low (λ (v : Option StepTree). is_step p f v ≡ true) u) (States p f g true (opened q)) (step_met step u) _ (step_makes p f low step u h.2)
-                (λ d v three.
-                  next_ensures (States p f (in_loop g) (is_no_declaration s) v) (States p f g true (opened q)) (bare (met Outside (in_loop g) s v)) _ (bare_states (in_loop g) (is_no_declaration s) v (met Outside (in_loop g) s v) (met_states Outside (in_loop g) s v h.3 r))
-                  (λ m w four. for_states g (is_no_declaration s) (opened q) t u v w a b d m (head_of spot c) one two three four))))))
+        (λ o. next_met (start_met start o) (λ a t. next_met (condition_if_any (to_end spot s) c t) (λ b u. next_met (step_met step u) (λ d v. next_met (bare (met Outside (in_loop g) s v)) (λ m. means (typed-tree.For a (head_of spot c) b d m)))))) q
+        (next_ensures (Starts p f (opened q)) (States p f g true (opened q)) (start_met start (opened q)) _ (start_states p f start (opened q) h.0)
+        (λ a t one.
+        next_ensures (Makes p f low (λ (v : Option RvalueTree). is_condition p f v ≡ true) t) (States p f g true (opened q)) (condition_if_any (to_end spot s) c t) _ (any_condition_makes p f low (to_end spot s) c t h.1)
+        (λ b u two.
+        next_ensures (Makes p f low (λ (v : Option StepTree). is_step p f v ≡ true) u) (States p f g true (opened q)) (step_met step u) _ (step_makes p f low step u h.2)
+        (λ d v three.
+        next_ensures (States p f (in_loop g) (is_no_declaration s) v) (States p f g true (opened q)) (bare (met Outside (in_loop g) s v)) _ (bare_states (in_loop g) (is_no_declaration s) v (met Outside (in_loop g) s v) (met_states Outside (in_loop g) s v h.3 r))
+        (λ m w four. for_states g (is_no_declaration s) (opened q) t u v w a b d m (head_of spot c) one two three four))))))
     met_states place g (tree.Switch spot e opening all closing) q h r =
         unlabeled_states place g true q _
         (next_ensures (Makes p f low (IsChosen p f low) q) (States p f g true q) (chosen_met (record { first = spot; last = closing.at }) e q) _ (chosen_makes p f low (record { first = spot; last = closing.at }) e q h.0)
-          (λ ch t made.
-            next_ensures (StatesParts p f (in_switch g) ch.kind t) (States p f g true q) (in_scope (items_met (in_switch g) ch.kind all no_labels) t) _
-            (scoped p f low declared_in_all (λ (them : TypedStatementTrees). is_kind ch.kind ≡ true → are_statements p f true g.may_continue ch.kind them ≡ true) (items_met (in_switch g) ch.kind all no_labels) t (parts_state (in_switch g) ch.kind all no_labels (opened t) h.1 h.2 r))
-            (λ ts u parts. switch_states g q t u ch ts (first_of e) made parts)))
+        (λ ch t made.
+        next_ensures (StatesParts p f (in_switch g) ch.kind t) (States p f g true q) (in_scope (items_met (in_switch g) ch.kind all no_labels) t) _
+        (scoped p f low declared_in_all (λ (them : TypedStatementTrees). is_kind ch.kind ≡ true → are_statements p f true g.may_continue ch.kind them ≡ true) (items_met (in_switch g) ch.kind all no_labels) t (parts_state (in_switch g) ch.kind all no_labels (opened t) h.1 h.2 r))
+        (λ ts u parts. switch_states g q t u ch ts (first_of e) made parts)))
     met_states place g (tree.Case extent e s) q h r =
         next_ensures (MakesLabels p f low place q) (StatesLabeled p f place g true q) (label_at place (CaseLabel extent e) q) _ (label_makes p f low place (CaseLabel extent e) q h.0)
         (λ l t made.
-          next_ensures (StatesLabeled p f (behind_label place l.labels) g (is_no_declaration s) t) (StatesLabeled p f place g true q) (met (behind_label place l.labels) g s t) _ (met_states (behind_label place l.labels) g s t h.1 r)
-          (λ x u states. labeled_states place g (is_no_declaration s) q t l x u h.2 made states))
+        next_ensures (StatesLabeled p f (behind_label place l.labels) g (is_no_declaration s) t) (StatesLabeled p f place g true q) (met (behind_label place l.labels) g s t) _ (met_states (behind_label place l.labels) g s t h.1 r)
+        (λ x u states. labeled_states place g (is_no_declaration s) q t l x u h.2 made states))
     met_states place g (tree.Default extent s) q h r =
         next_ensures (MakesLabels p f low place q) (StatesLabeled p f place g true q) (label_at place (DefaultLabel extent) q) _ (label_makes p f low place (DefaultLabel extent) q tt)
         (λ l t made.
-          next_ensures (StatesLabeled p f (behind_label place l.labels) g (is_no_declaration s) t) (StatesLabeled p f place g true q) (met (behind_label place l.labels) g s t) _ (met_states (behind_label place l.labels) g s t h.0 r)
-          (λ x u states. labeled_states place g (is_no_declaration s) q t l x u h.1 made states))
+        next_ensures (StatesLabeled p f (behind_label place l.labels) g (is_no_declaration s) t) (StatesLabeled p f place g true q) (met (behind_label place l.labels) g s t) _ (met_states (behind_label place l.labels) g s t h.0 r)
+        (λ x u states. labeled_states place g (is_no_declaration s) q t l x u h.1 made states))
     met_states place g (tree.Break extent) q h r =
         unlabeled_states place g true q _
         (simple g q (typed-tree.Break extent.first) (unless g.may_break MISPLACED_JUMP extent q) (unless_looks p f low g.may_break MISPLACED_JUMP extent q) (λ vs. refl) (λ i e. unless_fine p f low g.may_break MISPLACED_JUMP extent q e.accepts.faults) (λ tested. refl))
@@ -271,7 +271,7 @@ module _ (p : ProgramTree) (f : TypedFunctionTree) where
     met_states place g (tree.Return extent e) q h r =
         unlabeled_states place g true q _
         (next_ensures (Makes p f low (λ (v : Option RvalueTree). is_returned p f v ≡ true) q) (States p f g true q) (return_met g.result extent e q) _ (return_makes p f low g.result r extent e q h)
-          (λ v t made. simple g q (typed-tree.Return extent.first v) t made.looks (λ vs. refl) made.holds (λ tested. refl)))
+        (λ v t made. simple g q (typed-tree.Return extent.first v) t made.looks (λ vs. refl) made.holds (λ tested. refl)))
 
     -- statements one behind the other
     pub all_states : (g : Setting) (all : StatementTrees) (q : ProgressTree) → AreFormed all → g.result ≡ f.result → Ensures (StatesAll p f g q) (statements_met g all q)
@@ -286,5 +286,5 @@ module _ (p : ProgramTree) (f : TypedFunctionTree) where
     parts_state g kind (tree.first s rest) ls q h plain r =
         next_ensures (StatesLabeled p f (switch.Inside kind ls) g (is_no_declaration s) q) (StatesParts p f g kind q) (met (switch.Inside kind ls) g s q) _ (met_states (switch.Inside kind ls) g s q h.0 r)
         (λ x t one.
-          next_ensures (StatesParts p f g kind t) (StatesParts p f g kind q) (items_met g kind rest x.labels t) _ (parts_state g kind rest x.labels t h.1 plain.1 r)
-          (λ ts u more. part_states g kind ls (is_no_declaration s) q t u x ts plain.0 one more))
+        next_ensures (StatesParts p f g kind t) (StatesParts p f g kind q) (items_met g kind rest x.labels t) _ (parts_state g kind rest x.labels t h.1 plain.1 r)
+        (λ ts u more. part_states g kind ls (is_no_declaration s) q t u x ts plain.0 one more))

@@ -127,7 +127,7 @@ module _ (p : ProgramTree) (f : TypedFunctionTree) where
       by (Integer t) e =
           record {
             is = given_kind (is_promoted (promoted t) && is_of (kind_of p f (to_integer (promoted t) v).tree) (Integer (promoted t))) (Integer (promoted t))
-              (both (is_promoted (promoted t)) (is_of (kind_of p f (to_integer (promoted t) v).tree) (Integer (promoted t))) (promoted_once t) (of_integer_kind (kind_of p f (to_integer (promoted t) v).tree) (promoted t) (to_integer_kind (promoted t) t v h e)));
+                (both (is_promoted (promoted t)) (is_of (kind_of p f (to_integer (promoted t) v).tree) (Integer (promoted t))) (promoted_once t) (of_integer_kind (kind_of p f (to_integer (promoted t) v).tree) (promoted t) (to_integer_kind (promoted t) t v h e)));
             elements = refl;
           }
 
@@ -152,7 +152,7 @@ module _ (p : ProgramTree) (f : TypedFunctionTree) where
   in_types_typed o t a b promoted_t h g =
       record {
         is = given_kind (is_promoted t && is_of (kind a) (Integer t) && is_operand o t (kind b)) (Integer t)
-          (all_three (is_promoted t) (is_of (kind a) (Integer t)) (is_operand o t (kind b)) promoted_t (of_integer_kind (kind a) t h) g);
+            (all_three (is_promoted t) (is_of (kind a) (Integer t)) (is_operand o t (kind b)) promoted_t (of_integer_kind (kind a) t h) g);
         elements = refl;
       }
 
@@ -189,7 +189,7 @@ module _ (p : ProgramTree) (f : TypedFunctionTree) where
   moved_typed d o t a b h g e c =
       record {
         is = given_kind (is_of (kind a) (Pointer o) && is_counted (kind_of p f (to_integer (promoted t) b).tree)) (Pointer o)
-          (both (is_of (kind a) (Pointer o)) (is_counted (kind_of p f (to_integer (promoted t) b).tree)) (of_pointer a o h e) (counted_typed t b g c));
+            (both (is_of (kind a) (Pointer o)) (is_counted (kind_of p f (to_integer (promoted t) b).tree)) (of_pointer a o h e) (counted_typed t b g c));
         elements = ap leads_to_elements (sym e) ∙ h.elements;
       }
 
@@ -197,7 +197,7 @@ module _ (p : ProgramTree) (f : TypedFunctionTree) where
   moved_from_typed o t a b h g e c =
       record {
         is = given_kind (is_counted (kind_of p f (to_integer (promoted t) a).tree) && is_of (kind b) (Pointer o)) (Pointer o)
-          (both (is_counted (kind_of p f (to_integer (promoted t) a).tree)) (is_of (kind b) (Pointer o)) (counted_typed t a h e) (of_pointer b o g c));
+            (both (is_counted (kind_of p f (to_integer (promoted t) a).tree)) (is_of (kind b) (Pointer o)) (counted_typed t a h e) (of_pointer b o g c));
         elements = ap leads_to_elements (sym c) ∙ g.elements;
       }
 
@@ -250,7 +250,7 @@ module _ (p : ProgramTree) (f : TypedFunctionTree) where
       let j = kind_of p f (to_integer (common t u) b).tree in
       record {
         is = given_kind (is_promoted (common t u) && is_of k (Integer (common t u)) && is_of j (Integer (common t u))) (Integer Int)
-          (all_three (is_promoted (common t u)) (is_of k (Integer (common t u))) (is_of j (Integer (common t u))) (common_promoted t u)
+            (all_three (is_promoted (common t u)) (is_of k (Integer (common t u))) (is_of j (Integer (common t u))) (common_promoted t u)
             (of_integer_kind k (common t u) (to_integer_kind (common t u) t a h e)) (of_integer_kind j (common t u) (to_integer_kind (common t u) u b g d)));
         elements = refl;
       }
@@ -265,12 +265,15 @@ module _ (p : ProgramTree) (f : TypedFunctionTree) where
       if_same : (r q : ObjectType) → a.of ≡ Pointer r → b.of ≡ Pointer q → (s : Bool) → same_object r q ≡ s → HoldsOf (Means p f) (option_map IsValue (if s then Some (pointers_compared o a b) else None))
       if_same r q e d true s = pointers_typed o r a b (of_pointer a r h e) (same_pointer a b r q g d s)
       if_same r q e d false s = tt
+
       right_null : (r : ObjectType) → a.of ≡ Pointer r → (s : Bool) → HoldsOf (Means p f) (option_map IsValue (if s then Some (pointers_compared o a (null a.of)) else None))
       right_null r e true = pointers_typed o r a (null a.of) (of_pointer a r h e) refl
       right_null r e false = tt
+
       left_null : (r : ObjectType) → b.of ≡ Pointer r → (s : Bool) → HoldsOf (Means p f) (option_map IsValue (if s then Some (pointers_compared o (null b.of) b) else None))
       left_null r e true = pointers_typed o r (null b.of) b refl (of_pointer b r g e)
       left_null r e false = tt
+
       by : (t u : ValueType) → a.of ≡ t → b.of ≡ u → HoldsOf (Means p f) (option_map IsValue (compared_as t u o a b az bz))
       by (Integer t) (Integer u) e d = integers_typed o t u a b h g e d
       by (Pointer r) (Pointer q) e d = if_same r q e d (same_object r q) refl
@@ -326,16 +329,20 @@ module _ (p : ProgramTree) (f : TypedFunctionTree) where
           chosen_typed (Integer (common t u)) c (to_integer (common t u) a) (to_integer (common t u) b) _ s
           (of_integer_kind (kind_of p f (to_integer (common t u) a).tree) (common t u) (to_integer_kind (common t u) t a h e))
           (of_integer_kind (kind_of p f (to_integer (common t u) b).tree) (common t u) (to_integer_kind (common t u) u b g d)) refl
+
       right_null : (r : ObjectType) → a.of ≡ Pointer r → is_scalar (kind c) ≡ true → (z : Bool) → HoldsOf (Means p f) (option_map IsValue (if z then Some (chosen a.of c a (null a.of) Varies) else None))
       right_null r e s true = chosen_typed a.of c a (null a.of) Varies s h.is (subst (λ q. is_of NullPointer q ≡ true) (sym e) refl) h.elements
       right_null r e s false = tt
+
       left_null : (r : ObjectType) → b.of ≡ Pointer r → is_scalar (kind c) ≡ true → (z : Bool) → HoldsOf (Means p f) (option_map IsValue (if z then Some (chosen b.of c (null b.of) b Varies) else None))
       left_null r e s true = chosen_typed b.of c (null b.of) b Varies s (subst (λ q. is_of NullPointer q ≡ true) (sym e) refl) g.is g.elements
       left_null r e s false = tt
+
       one_type : (t u : ValueType) → a.of ≡ t → b.of ≡ u → is_scalar (kind c) ≡ true → (z : Bool) → same_value t u ≡ z → HoldsOf (Means p f) (option_map IsValue (if z then Some (chosen t c a b Varies) else None))
       one_type t u e d s true z =
           chosen_typed t c a b Varies s (subst (λ q. is_of (kind a) q ≡ true) e h.is) (subst (λ q. is_of (kind b) q ≡ true) (d ∙ sym (value_is t u z)) g.is) (ap leads_to_elements (sym e) ∙ h.elements)
       one_type t u e d s false z = tt
+
       arms : (t u : ValueType) → a.of ≡ t → b.of ≡ u → is_scalar (kind c) ≡ true → HoldsOf (Means p f) (option_map IsValue (chosen_as t u c a b az bz))
       arms (Integer t) (Integer u) e d s = integers t u e d s
       arms (Pointer r) (Integer u) e d s = right_null r e s bz
@@ -344,6 +351,7 @@ module _ (p : ProgramTree) (f : TypedFunctionTree) where
       arms (Integer t) Void e d s = one_type (Integer t) Void e d s (same_value (Integer t) Void) refl
       arms (Pointer r) Void e d s = one_type (Pointer r) Void e d s (same_value (Pointer r) Void) refl
       arms (Pointer r) (Pointer q) e d s = one_type (Pointer r) (Pointer q) e d s (same_value (Pointer r) (Pointer q)) refl
+
       by : (z : Bool) → operation.is_scalar c.of ≡ z → HoldsOf (Means p f) (option_map IsValue (if z then chosen_as a.of b.of c a b az bz else None))
       by true z = arms a.of b.of refl refl (scalar_kind (kind c) c.of i.is z)
       by false z = tt
@@ -355,9 +363,11 @@ module _ (p : ProgramTree) (f : TypedFunctionTree) where
       unchanged_typed : (to : ValueType) (z : Bool) → same_value v.of to ≡ z → HoldsOf (λ (r : ValueTree). is_of (kind_of p f r.tree) to ≡ true) (if z then Some v else None)
       unchanged_typed to true z = subst (λ q. is_of (kind v) q ≡ true) (value_is v.of to z) h.is
       unchanged_typed to false z = tt
+
       null_if : (o : ObjectType) (z : Bool) → HoldsOf (λ (r : ValueTree). is_of (kind_of p f r.tree) (Pointer o) ≡ true) (if z then Some (null (Pointer o)) else None)
       null_if o true = refl
       null_if o false = tt
+
       by : (to t : ValueType) → v.of ≡ t → HoldsOf (λ (r : ValueTree). is_of (kind_of p f r.tree) to ≡ true) (converted_from to t v zero)
       by (Integer t) (Integer u) e = of_integer_kind (kind_of p f (to_integer t v).tree) t (to_integer_kind t u v h e)
       by (Pointer o) (Integer u) e = null_if o zero

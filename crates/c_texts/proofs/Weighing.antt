@@ -53,6 +53,7 @@ items_weigh names fs (i ∷ rest) q = by (item_met names (length fs) i q) (item_
         let e = weight_on fs more in
         let sum : items_weight (i ∷ rest) ≡ item_weight i + items_weight rest = sum_by-cons item_weight i rest in
         omega (arith, le, k, e, sum)
+
     by : (m : Met (List TypedFunctionTree)) → Ensures (Weigh (item_weight i)) m → ((gs : List TypedFunctionTree) (t : ProgressTree) → Ensures (Weigh (weight_of gs + items_weight rest)) (items_met names gs rest t))
         → Ensures (Weigh (weight_of fs + items_weight (i ∷ rest))) (next_met (next_met m (λ more. means (fs ++ more))) (λ gs. items_met names gs rest))
     by (means more t) le all = later more (items_met names (fs ++ more) rest t) le (all (fs ++ more) t)

@@ -66,7 +66,7 @@ module _ (p : ProgramTree) (f : TypedFunctionTree) where
   assigned_typed (IsObject (object.Scalar s) l k) v fine h g =
       record {
         is = given_kind (holds_scalar (object_type l) s && is_place p f l && is_of (kind_of p f v.tree) (loaded s)) (loaded s)
-          (all_three (holds_scalar (object_type l) s) (is_place p f l) (is_of (kind_of p f v.tree) (loaded s)) (rw h.is (scalar_itself s)) h.place g);
+            (all_three (holds_scalar (object_type l) s) (is_place p f l) (is_of (kind_of p f v.tree) (loaded s)) (rw h.is (scalar_itself s)) h.place g);
         elements = loaded_elements s;
       }
 
@@ -85,7 +85,7 @@ module _ (p : ProgramTree) (f : TypedFunctionTree) where
       let k = kind_of p f (to_integer (if is_shift o then promoted u else common s.base u) v).tree in
       given_kind (holds_integer (object_type l) s.base && is_promoted (update_type o s.base u) && is_place p f l && is_operand o (update_type o s.base u) k) (Integer s.base)
       (all_four (holds_integer (object_type l) s.base) (is_promoted (update_type o s.base u)) (is_place p f l) (is_operand o (update_type o s.base u) k)
-        (own_integer (object_type l) s h.is z) (update_promoted o s.base u) h.place (operand_typed p f o s.base u v g e))
+      (own_integer (object_type l) s h.is z) (update_promoted o s.base u) h.place (operand_typed p f o s.base u v g e))
 
   pointer_updated_typed : (o : Arithmetic) (s : Scalar) (u : IntegerType) (l : LvalueTree) (v : ValueTree) → Designates p f l (object.Scalar s) → (s.stars == 0) ≡ false → IsTyped p f v → v.of ≡ Integer u
       → is_of (kind_of p f (pointer_updated o (pointed_to s) u l v)) (Pointer (object.Scalar (pointed_to s))) ≡ true
@@ -104,6 +104,7 @@ module _ (p : ProgramTree) (f : TypedFunctionTree) where
           → is_of (kind_of p f (if b then integer_updated o s.base u l v else pointer_updated o (pointed_to s) u l v)) (if b then Integer s.base else Pointer (object.Scalar (pointed_to s))) ≡ true
       of_scalar u e true z = integer_updated_typed o s u l v h z g e
       of_scalar u e false z = pointer_updated_typed o s u l v h z g e
+
       by : (t : ValueType) → v.of ≡ t → IsTyped p f (updated_by o (IsObject (object.Scalar s) l k) t v)
       by (Integer u) e = record { is = of_scalar u e (s.stars == 0) refl; elements = loaded_elements s }
       by Void e = let no : is_updatable o (loaded s) Void ≡ true = subst (λ q. is_updatable o (loaded s) q ≡ true) e fit in let other = void_right o (loaded s) in cc
