@@ -8,7 +8,7 @@ use Rattle.c_type_expressions.specs.Names.{SignatureTree}
 use Rattle.c_type_declarations.specs.Progress.{ProgressTree, Met, means, next_met, opened}
 use Rattle.c_type.specs.Functions.{defined, parameters_met, function_made, setting_of, rest_met, signature_of, name_met, parameter_sizes}
 use Rattle.c_type.specs.Items.{item_met, items_met, beginning}
-use Rattle.c_texts.specs.Plain.{are_plain}
+use Rattle.c_laws.specs.Plain.{are_plain}
 use Rattle.c_texts.specs.Files.{IsBodyFormed, IsItemFormed, AreItemsFormed}
 use Rattle.c_texts.specs.Progress.{Ensures}
 use Rattle.c_texts.proofs.Same.{two_true, both}

@@ -12,7 +12,7 @@ use Rattle.c_type_statements.specs.declared.setting.Setting.{Setting}
 use Rattle.c_type_statements.specs.Settings.{in_loop, in_switch}
 use Rattle.c_type_statements.specs.Switches.{case_value, case_numbered, case_by, Labels, no_labels, Place, Outside, Inside, labels_at, behind_label, label_at, Labeled, Parts, PartTree, Case, Default, Statement, unlabeled, bare, put_all}
 use Rattle.c_type_statements.specs.Statements.{in_scope, met, statements_met, items_met}
-use Rattle.c_texts.specs.Plain.{is_body, is_plain, are_plain}
+use Rattle.c_laws.specs.Plain.{is_body, is_plain, are_plain}
 use Rattle.c_texts.specs.Formed.{is_no_declaration, IsFormed, AreFormed}
 use Rattle.c_texts.specs.Progress.{Ensures}
 use Rattle.c_texts.specs.Stating.{are_labels}

@@ -8,4 +8,3 @@ pub mod Numbers
 pub mod Making
 pub mod Stating
 pub mod Files
-pub mod Plain
