@@ -6,9 +6,9 @@ use Rattle.emit_pieces.specs.declared.piece.Piece.TheVariants as piece
 use Rattle.emit_pieces.specs.declared.piece.PlacedPiece.{PlacedPiece}
 use Rattle.emit_words.specs.Growing.{CodeState, with_code, with_piece, marked}
 use Rattle.machine_steps.specs.Programs.{Program}
-use Rattle.emit_calls.specs.Ends.{words}
+use Rattle.emit_code.specs.Ends.{words, with_pieces}
 use Rattle.emit_calls.specs.Pieces.{Targets, PiecesAt}
-use Rattle.emit_calls.specs.Placed.{with_pieces, placed_pieces, PlacedAt}
+use Rattle.emit_calls.specs.Placed.{placed_pieces, PlacedAt}
 
 -- Words are pieces.
 pub words_appended : (code : List Instruction) (s : CodeState) → with_code code s ≡ with_pieces (words code) s

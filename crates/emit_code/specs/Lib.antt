@@ -1,1 +1,4 @@
+pub mod Beginning
+pub mod Ends
+pub mod Leaving
 pub mod Stops
