@@ -8,6 +8,7 @@ ghost use Rattle.graph_core.specs.Graphs.{binding_view, graph_view};
 ghost use Rattle.emit_storage.specs.Storages.{storage_view};
 ghost use Rattle.emit_words.specs.Growing.{code_state, with_code};
 ghost use Rattle.emit_instructions.specs.Calls.{argument_register};
+ghost use Rattle.emit_code.specs.Blocks.{no_code, with_stub};
 ghost use Rattle.emit_code.specs.Beginning.{binding_code, element_of, guard_code, saving_code, with_beginning, with_bindings};
 
 use crate::leaving::{move_sp, words_of_move};
@@ -127,6 +128,7 @@ fn put_beginning(
 fn put_stub(code: &mut Code, main: u32) -> Result<(), AllocError>
     ensures few { OnOk result (words_in code.new.pieces.items ≤ words_in code.old.pieces.items + 5) }
     ensures stops { OnOk result (shown code.new ≡ shown code.old) }
+    ensures grown { OnOk result (code_state code.new ≡ with_stub main (code_state code.old)) }
 {
     code.put(Instruction::Lui(register::SP, 8192))?;
     code.put_sum(register::TP, register::ZERO, 1024)?;
@@ -145,6 +147,7 @@ pub fn begin_of_function(
 ) -> Result<Vec<PlacedPiece>, AllocError>
     ensures few { IfOk result (λ pieces. words_in pieces.items ≤ length storage.now.frame.now.saved.items + (10 + 3 * length graph.now.parameters.items)) }
     ensures stops { IfOk result (λ pieces. stops_of pieces.items ≡ []) }
+    ensures code { IfOk result (λ pieces. pieces.items ≡ (with_beginning (storage_view storage.now) (graph_view graph.now) storage.now.frame.now.saved.items storage.now.frame.now.size is_main (no_code storage.now.entry.0 [])).pieces) }
 {
     let mut code = Code::new(alloc, storage.entry.0);
     put_beginning(&mut code, storage, graph, is_main)?;
@@ -156,6 +159,7 @@ pub fn begin_of_function(
 pub fn stub(alloc: Global, main: u32) -> Result<Vec<PlacedPiece>, AllocError>
     ensures few { IfOk result (λ pieces. words_in pieces.items ≤ 5) }
     ensures stops { IfOk result (λ pieces. stops_of pieces.items ≡ []) }
+    ensures code { IfOk result (λ pieces. pieces.items ≡ (with_stub main (no_code 0 [])).pieces) }
 {
     let mut code = Code::new(alloc, 0);
     put_stub(&mut code, main)?;

@@ -4,6 +4,7 @@ ghost use Rattle.std.specs.Prelude.{◌≡◌, ◌≤◌, ◌+◌, ◌⊎◌, On
 ghost use Rattle.emit_words.specs.Shown.{shown, stops_of};
 ghost use Rattle.emit_pieces.specs.Words.{words_in};
 ghost use Rattle.emit_words.specs.Growing.{code_state, with_code};
+ghost use Rattle.emit_code.specs.Blocks.{no_code};
 ghost use Rattle.emit_code.specs.Leaving.{moving_by, restoring_code, with_leaving, words_of_moving};
 
 use emit_pieces::{PlacedPiece, register};
@@ -74,6 +75,7 @@ pub(crate) fn put_leaving(code: &mut Code, frame: &Frame, moves: u32) -> Result<
 pub fn end_of_function(alloc: Global, frame: &Frame) -> Result<Vec<PlacedPiece>, AllocError>
     ensures few { IfOk result (λ pieces. words_in pieces.items ≤ length frame.now.saved.items + 6) }
     ensures stops { IfOk result (λ pieces. stops_of pieces.items ≡ []) }
+    ensures code { IfOk result (λ pieces. pieces.items ≡ (with_leaving (words_of_moving frame.now.size) frame.now.saved.items frame.now.size (no_code 0 [])).pieces) }
 {
     let mut code = Code::new(alloc, 0);
     put_leaving(&mut code, frame, words_of_move(frame.size))?;
