@@ -22,7 +22,7 @@ use Rattle.emit_code.proofs.Growing.{begins_then, moving_is}
 use Rattle.emit_calls.specs.Going.{IsGoing}
 use Rattle.emit_calls.specs.Pieces.{Targets, PiecesAt}
 use Rattle.emit_calls.specs.Placed.{placed_pieces, PlacedAt}
-use Rattle.emit_calls.proofs.Appended.{words_appended, pieces_appended, BothPlaced, both_placed, appended_there, marked_there}
+use Rattle.emit_calls.proofs.Appended.{words_appended, pieces_appended, BothPlaced, both_placed, placed_both, appended_there, marked_there}
 
 -- ---- Parts
 
@@ -95,10 +95,6 @@ return_appends g saved size end next (Some value) s =
     (subst (λ b. Appends t.pieces (with_leave saved size end next (room_behind g.base value) t).pieces b (leaving saved size b end next (room_behind g.base value))) (begins_then code s) (leave_appends saved size end next (room_behind g.base value) t))
 
 -- ---- Beginnings
-
-placed_both : (p : Program) (t : Targets) (i k j : ℕ) (front back : List PlacedPiece) → PlacedAt p t i front k → PlacedAt p t k back j → PlacedAt p t i (front ++ back) j
-placed_both p t i k j [] back here rest = subst (λ n. PlacedAt p t n back j) here rest
-placed_both p t i k j (x ∷ front) back (m, at, more) rest = (m, at, placed_both p t m k j front back more rest)
 
 -- Code behind a word that is marked stands as it does where that is not marked.
 unmarked : (p : Program) (t : Targets) (i j n : ℕ) (code : List Instruction) (s : CodeState) → PlacedAt p t i (with_code code (with_writer n s)).pieces j → PlacedAt p t i (with_code code s).pieces j

@@ -30,3 +30,4 @@ pub mod Same
 pub mod Saved
 pub mod Starting
 pub mod Stepping
+pub mod Unmarked
