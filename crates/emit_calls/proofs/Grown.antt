@@ -1,5 +1,5 @@
 -- What code appends for ends, returns and beginnings stands as their pieces do, where all of it stands.
-use Rattle.std.proofs.Common.{◌≡◌, ℕ, ◌+◌, ◌%◌, sym, ap, ◌∙◌, subst, refl, append_assoc, append-nil, Option, Some, None, Bool, true, false, cond, List, [], ◌∷◌, ◌++◌}
+use Rattle.std.proofs.Common.{◌≡◌, ℕ, ◌+◌, ◌%◌, sym, ap, ◌∙◌, subst, refl, append_assoc, Option, Some, None, Bool, true, false, cond, List, [], ◌∷◌, ◌++◌}
 use Rattle.rv_code.specs.declared.instruction.Instruction.{Instruction}
 use Rattle.rv_code.specs.declared.instruction.Instruction.TheVariants.{Load, Immediate, Jalr}
 use Rattle.rv_code.specs.declared.instruction.LoadOperation.TheVariants.{Lw}
@@ -16,7 +16,7 @@ use Rattle.emit_words.proofs.Appending.{with_code_then}
 use Rattle.emit_instructions.specs.Calls.{argument_register}
 use Rattle.machine_steps.specs.Programs.{Program}
 use Rattle.emit_code.specs.Ends.{words, with_pieces, begins_behind, going, end_pieces, end_held}
-use Rattle.emit_code.specs.Leaving.{moving_code, words_of_moving, moving_by, restoring_code, leaving_code, leaving, room_behind, return_pieces, of_no_place, with_leaving, with_leave, with_return, with_end}
+use Rattle.emit_code.specs.Leaving.{words_of_moving, moving_by, restoring_code, leaving_code, leaving, room_behind, return_pieces, of_no_place, with_leaving, with_leave, with_return, with_end}
 use Rattle.emit_code.specs.Beginning.{guard_code, entering_code, base_code, binding_code, bindings_code, beginning_code, with_writer, with_bindings, with_beginning}
 use Rattle.emit_code.proofs.Growing.{begins_then, moving_is}
 use Rattle.emit_calls.specs.Going.{IsGoing}

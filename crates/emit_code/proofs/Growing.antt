@@ -1,5 +1,5 @@
 -- Code of ends, of leaving and of beginnings, as it is appended in parts.
-use Rattle.std.proofs.Common.{◌≡◌, ℕ, ◌+◌, ◌-◌, ◌%◌, ◌<◌, ◌≤◌, sym, ap, ◌∙◌, subst, arith, refl, Option, Some, None, Bool, true, false, cond, List, [], ◌∷◌, ◌++◌, length, drop, map}
+use Rattle.std.proofs.Common.{◌≡◌, ℕ, ◌-◌, ◌<◌, ◌≤◌, sym, ap, ◌∙◌, subst, refl, Option, Some, None, Bool, true, false, cond, List, [], ◌∷◌, ◌++◌}
 use Rattle.std.specs.Prelude.{◌==◌, nat_le}
 use Rattle.std.proofs.lemmas.Bool.{le-leb, lt-leb}
 use Rattle.std.specs.Option.{option_map_or}
@@ -25,7 +25,7 @@ use Rattle.emit_words.specs.Fetching.{most_words_of_source}
 use Rattle.emit_words.proofs.Appending.{with_code_then}
 use Rattle.emit_operations.proofs.InParts.{in_two, word_then}
 use Rattle.emit_code.specs.Beginning.{guard_code, saving_code, entering_code, base_code, with_bindings, with_beginning}
-use Rattle.emit_code.specs.Ends.{words, with_pieces, begins_behind, holding_code, held_with, holding_held, loading_code, loading_held, with_loads, going, going_by, jumping, with_jump, Compared, branch_operation, room_of, comparing_code, branching, with_branch}
+use Rattle.emit_code.specs.Ends.{words, with_pieces, begins_behind, holding_code, held_with, holding_held, loading_code, loading_held, with_loads, going, going_by, with_jump, Compared, branch_operation, room_of, with_branch}
 use Rattle.emit_code.specs.Leaving.{moving_code, words_of_moving, moving_by, restoring_code, of_no_place, with_leaving}
 
 -- ---- Pieces

@@ -6,7 +6,6 @@ use Rattle.rv_code.specs.declared.instruction.LoadOperation.TheVariants.{Lw}
 use Rattle.rv_code.specs.declared.instruction.ImmediateOperation.TheVariants.{Addi}
 use Rattle.rv_code.specs.declared.instruction.RegisterOperation.TheVariants.{Add}
 use Rattle.graph_core.specs.Graphs.{End, Jump, Branch, Return}
-use Rattle.graph_homes.specs.declared.home.Home.{Home}
 use Rattle.emit_pieces.specs.declared.piece.Held.{Held}
 use Rattle.emit_pieces.specs.declared.piece.Piece.{Piece}
 use Rattle.emit_storage.specs.declared.storage.Source.{Source}

@@ -1,9 +1,7 @@
-use Rattle.std.proofs.Common.{◌≡◌, ◌-◌, ◌∙◌, ap}
 use Rattle.std.proofs.lemmas.Result.{on_ok_weaker}
 use Rattle.emit_storage.specs.Storages.{storage_view}
-use Rattle.emit_words.specs.Fetching.{most_words_of_source}
-use Rattle.emit_words.specs.Growing.{code_state, with_code}
-use Rattle.emit_code.specs.Ends.{Compared, with_zero, branch_operation, room_of}
+use Rattle.emit_words.specs.Growing.{code_state}
+use Rattle.emit_code.specs.Ends.{Compared, with_zero}
 use Rattle.emit_code.proofs.Growing.{branch_by_parts}
 use Rattle.emit_code.proofs.ending.branch.Goals as goal
 
