@@ -1,14 +1,14 @@
 -- Pieces that were appended to code stand behind it, where all of it stands.
-use Rattle.std.proofs.Common.{◌≡◌, ℕ, sym, ◌∙◌, refl, append_assoc, append-nil, Bool, false, None, List, [], ◌∷◌, ◌++◌}
+use Rattle.std.proofs.Common.{◌≡◌, ℕ, sym, ◌∙◌, subst, refl, append_assoc, append-nil, Bool, false, None, List, [], ◌∷◌, ◌++◌}
 use Rattle.rv_code.specs.declared.instruction.Instruction.{Instruction}
 use Rattle.emit_pieces.specs.declared.piece.Piece.{Piece}
 use Rattle.emit_pieces.specs.declared.piece.Piece.TheVariants as piece
 use Rattle.emit_pieces.specs.declared.piece.PlacedPiece.{PlacedPiece}
 use Rattle.emit_words.specs.Growing.{CodeState, with_code, with_piece, marked}
 use Rattle.machine_steps.specs.Programs.{Program}
-use Rattle.emit_calls.specs.Ends.{words}
+use Rattle.emit_code.specs.Ends.{words, with_pieces}
 use Rattle.emit_calls.specs.Pieces.{Targets, PiecesAt}
-use Rattle.emit_calls.specs.Placed.{with_pieces, placed_pieces, PlacedAt}
+use Rattle.emit_calls.specs.Placed.{placed_pieces, PlacedAt}
 
 -- Words are pieces.
 pub words_appended : (code : List Instruction) (s : CodeState) → with_code code s ≡ with_pieces (words code) s
@@ -35,6 +35,11 @@ both_placed p t i [] back j there = record { index = i; front_there = refl; back
 both_placed p t i (x ∷ front) back j (k, at, rest) =
     let later : BothPlaced p t k front back j = both_placed p t k front back j rest in
     record { index = later.index; front_there = (k, at, later.front_there); back_there = later.back_there }
+
+-- Where each of two parts does, all of it stands.
+pub placed_both : (p : Program) (t : Targets) (i k j : ℕ) (front back : List PlacedPiece) → PlacedAt p t i front k → PlacedAt p t k back j → PlacedAt p t i (front ++ back) j
+placed_both p t i k j [] back here rest = subst (λ n. PlacedAt p t n back j) here rest
+placed_both p t i k j (x ∷ front) back (m, at, more) rest = (m, at, placed_both p t m k j front back more rest)
 
 -- Appended pieces stand as pieces do.
 pub appended_there : (p : Program) (t : Targets) (i : ℕ) (owner : ℕ) (b : Bool) (more : List Piece) (j : ℕ) → PlacedAt p t i (placed_pieces owner b more) j → PiecesAt p t i b more j

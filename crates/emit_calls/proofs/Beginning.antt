@@ -22,7 +22,7 @@ use Rattle.emit_memory.specs.Frames.{Setting, HasArray, HoldsFrame}
 use Rattle.emit_memory.proofs.Elements.{word_kept}
 use Rattle.emit_memory.proofs.Limits.{constant_alone}
 use Rattle.emit_memory.proofs.Objects.{AreThose, WasThere}
-use Rattle.emit_calls.specs.Beginning.{base_code, entering_code, bindings_code, beginning_behind}
+use Rattle.emit_code.specs.Beginning.{base_code, entering_code, bindings_code, beginning_behind}
 use Rattle.emit_calls.specs.Waiting.{FunctionCode, IsFunctionCode, setting_of, behind_frame, Waits, HoldsAll}
 use Rattle.emit_calls.proofs.Bindings.{AreGiven, argument_is, all_bound, bound_is, AreBindable, Binds, all_bind}
 use Rattle.emit_calls.proofs.Entering.{Enters, CanEnter, saved_same, home_no_scratch, entering_enters}

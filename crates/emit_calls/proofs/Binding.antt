@@ -29,7 +29,7 @@ use Rattle.emit_memory.proofs.Homes.{can_write, home_performed}
 use Rattle.emit_memory.proofs.Instructions.{element_stored}
 use Rattle.emit_memory.proofs.Objects.{AreThose, those_set, set_here, set_elsewhere}
 use Rattle.emit_memory.proofs.Reaching.{Finds, location_found}
-use Rattle.emit_calls.specs.Beginning.{element_of, binding_code}
+use Rattle.emit_code.specs.Beginning.{element_of, binding_code}
 use Rattle.emit_calls.proofs.Bringing.{home_made}
 
 -- The objects of an activation are in memory, live, with their elements and as many of them.

@@ -1,5 +1,5 @@
 -- The words that bind all parameters give them the values that were passed, and leave what waits as it is.
-use Rattle.std.proofs.Common.{◌≡◌, ℕ, ◌+◌, ◌*◌, ◌<◌, ◌≤◌, ◌⊎◌, ⊎_elim, inl, inr, sym, ap, ◌∙◌, subst, arith, refl, Option, Some, None, cond, List, [], ◌∷◌, ◌++◌, length, map}
+use Rattle.std.proofs.Common.{◌≡◌, ℕ, ◌+◌, ◌*◌, ◌%◌, ◌<◌, ◌≤◌, ◌⊎◌, ⊎_elim, inl, inr, sym, ap, ◌∙◌, subst, arith, refl, Option, Some, None, cond, List, [], ◌∷◌, ◌++◌, length, map}
 use Rattle.std.proofs.lemmas.Bool.{lt-ltb}
 use Rattle.rv_code.specs.declared.instruction.Instruction.{Instruction as MachineInstruction}
 use Rattle.graph_core.specs.declared.value.Value.{Value}
@@ -19,7 +19,7 @@ use Rattle.emit_moves.specs.Doing.{IsLeft}
 use Rattle.emit_memory.specs.Meaning.{Means}
 use Rattle.emit_memory.specs.Frames.{Setting, IsStorage, HoldsFrame, IsNoTarget, IsOutside, Performs}
 use Rattle.emit_memory.proofs.Objects.{AreThose, WasThere, means_later}
-use Rattle.emit_calls.specs.Beginning.{binding_code, bindings_code}
+use Rattle.emit_code.specs.Beginning.{binding_code, bindings_code}
 use Rattle.emit_calls.specs.Keeping.{IsTargetAmong, IsSaved}
 use Rattle.emit_calls.proofs.Binding.{AreOwnObjects, IsBindable, bound, bound_home, binding_performs, binding_those, binding_own}
 use Rattle.emit_calls.proofs.Keeping.{low_no_target, home_or_saved}
@@ -127,7 +127,8 @@ all_bind w saved (b ∷ more) n (v ∷ vs) c h storage frame own few many legal 
     let is : r ≡ 10 + n = argument_is n (omega (arith, few)) in
     let target = bound_home w.storage b in
     let front = binding_code w.storage w.graph r b in
-    let back = bindings_code w.storage w.graph (n + 1) more in
+    let small : (n + 1) % 4294967296 ≡ n + 1 = omega (arith, few) in
+    let back = bindings_code w.storage w.graph ((n + 1) % 4294967296) more in
     let one : Performs w c h target front (bound w b v c) = binding_performs w c h storage frame own r (omega (arith, is)) v given.0 given.1 b legal.0 in
     let those = binding_those w c h storage frame own r (omega (arith, is)) v given.0 given.1 b legal.0 in
     let among : IsTargetAmong w.slots target = bound_among w b storage legal.0 in
@@ -138,7 +139,8 @@ all_bind w saved (b ∷ more) n (v ∷ vs) c h storage frame own few many legal 
     let d : Configuration = bound w b v c in
     let mine : AreOwnObjects d.memory d.here.first_object w.graph = subst (λ k. AreOwnObjects d.memory k w.graph) (sym (still_first w b v c)) (binding_own w c h storage frame own r (omega (arith, is)) v given.0 given.1 b legal.0) in
     let rest : Binds w saved back d (all_bound w more vs d) t =
-    all_bind w saved more (n + 1) vs d t storage one.frame mine (omega (arith, few)) (omega (arith, many)) legal.2 (given_later w c d h t (n + 1) vs (omega (arith, few, many)) those.0 arguments given.2) in
+    subst (λ k. Binds w saved (bindings_code w.storage w.graph k more) d (all_bound w more vs d) t) (sym small)
+    (all_bind w saved more (n + 1) vs d t storage one.frame mine (omega (arith, few)) (omega (arith, many)) legal.2 (given_later w c d h t (n + 1) vs (omega (arith, few, many)) those.0 arguments given.2)) in
     let both : done_by_all (front ++ back) h ≡ done_by_all back t = done_by_both front back h in
     record {
       can = can_do_both front back h one.can rest.can;

@@ -20,11 +20,10 @@ use Rattle.emit_words.specs.Growing.{forgotten}
 use Rattle.machine_steps.specs.Holding.{Holding}
 use Rattle.machine_steps.specs.Programs.{Program, distance, IsAt, CodeAt, behind, Stands}
 use Rattle.emit_memory.proofs.Steps.{going_on, rest_framed}
-use Rattle.emit_calls.specs.Beginning.{beginning_behind, beginning_code}
+use Rattle.emit_code.specs.Beginning.{beginning_behind, beginning_code}
 use Rattle.emit_calls.specs.Keeping.{IsTargetAmong, IsSaved}
-use Rattle.emit_calls.specs.Leaving.{answer_code}
 use Rattle.emit_calls.specs.Passing.{passing_code, passing_held, AreWords}
-use Rattle.emit_calls.specs.Returns.{Resumes}
+use Rattle.emit_calls.specs.Returns.{Resumes, answer_code}
 use Rattle.emit_calls.specs.Waiting.{FunctionCode, IsFunctionCode, setting_of, HoldsAll}
 use Rattle.emit_calls.proofs.Beginning.{ShareStatics}
 use Rattle.emit_calls.proofs.Bindings.{AreBindable}

@@ -32,7 +32,7 @@ use Rattle.emit_moves.specs.Doing.{value_of}
 use Rattle.emit_memory.specs.Meaning.{Means}
 use Rattle.emit_memory.specs.Frames.{Setting, IsStorage, HoldsFrame}
 use Rattle.emit_memory.proofs.Operands.{operand_readable, operand_means}
-use Rattle.emit_calls.specs.Beginning.{beginning_behind, beginning_code}
+use Rattle.emit_code.specs.Beginning.{beginning_behind, beginning_code}
 use Rattle.emit_calls.specs.Passing.{passing_code, passing_held, ArePassed, AreWords}
 use Rattle.emit_calls.specs.Returns.{deep as deep_so}
 use Rattle.emit_calls.specs.Waiting.{FunctionCode, IsFunctionCode, setting_of, HoldsAll}

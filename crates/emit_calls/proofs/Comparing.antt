@@ -20,7 +20,7 @@ use Rattle.machine_steps.specs.Holding.{Holding}
 use Rattle.emit_moves.specs.Doing.{IsReadable, value_of}
 use Rattle.emit_memory.specs.Meaning.{Means, AreLaid}
 use Rattle.emit_memory.proofs.Values.{operation_means, same_means}
-use Rattle.emit_calls.specs.Ends.{Compared, branch_operation, word_test, is_word, with_zero}
+use Rattle.emit_code.specs.Ends.{Compared, branch_operation, word_test, is_word, with_zero}
 
 -- The branch by a comparison is taken where it holds.
 pub branch_tests : (k : Comparison) (x y : ℕ) → taken (branch_operation k) x y ≡ word_test k x y

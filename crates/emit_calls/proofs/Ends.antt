@@ -35,11 +35,12 @@ use Rattle.emit_memory.specs.Meaning.{Means}
 use Rattle.emit_memory.specs.Frames.{Setting, IsStorage, HoldsFrame, IsWord}
 use Rattle.emit_memory.proofs.Homes.{frame_stays}
 use Rattle.emit_memory.proofs.Operands.{operand_readable, operand_means}
-use Rattle.emit_calls.specs.Pieces.{Targets, AreInCode, opposite, PiecesAt}
-use Rattle.emit_calls.specs.Ends.{words, loading_code, loading_held, going, going_by, jumping, Compared, branch_operation, word_test, with_zero, room_of, comparing_code, branching, choosing, choosing_held, end_pieces, end_held, IsGoing}
+use Rattle.emit_calls.specs.Pieces.{Targets, AreInCode, PiecesAt}
+use Rattle.emit_calls.specs.Going.{IsGoing}
+use Rattle.emit_code.specs.Ends.{words, loading_code, loading_held, going, going_by, jumping, Compared, branch_operation, word_test, with_zero, room_of, comparing_code, branching, choosing, choosing_held, end_pieces, end_held, opposite}
 use Rattle.emit_calls.specs.Settings.{with_held, IsKept, AreLoads}
 use Rattle.emit_calls.proofs.Comparing.{branch_tests, comparison_means, with_zero_tests, with_zero_readable}
-use Rattle.emit_calls.proofs.Placed.{WordsFirst, words_first, opposite_taken, GoesTo, jump_goes, taken_goes, not_taken_goes}
+use Rattle.emit_calls.proofs.Placed.{begins_is, WordsFirst, words_first, opposite_taken, GoesTo, jump_goes, taken_goes, not_taken_goes}
 use Rattle.emit_calls.proofs.Loading.{Loads, loading_loads, frame_reheld}
 
 -- ---- Where control goes
@@ -211,9 +212,9 @@ module _ (p : Program) (t : Targets) (s : State) (i : ℕ) (b : Bool) (w : Setti
       frame_reheld w c h (done_by_all (loading_code w.storage.base room loads w.held) h) (loading_held w.storage.base room loads w.held) l.kept l.memory l.all l.scratch frame
 
   -- A jump.
-  jump_comes : (to : ℕ) → PiecesAt p t i b (jumping w.storage w.held b loads to next) j
-      → ComesTo p s b (length (jumping w.storage w.held b loads to next)) (t.label to) (with_held (loading_held w.storage.base 8 loads w.held) w) h c
-  jump_comes to there =
+  jump_behind : (to : ℕ) → PiecesAt p t i b (words (loading_code w.storage.base 8 loads w.held) ++ going (behind b (loading_code w.storage.base 8 loads w.held)) to next) j
+      → ComesTo p s b (length (words (loading_code w.storage.base 8 loads w.held) ++ going (behind b (loading_code w.storage.base 8 loads w.held)) to next)) (t.label to) (with_held (loading_held w.storage.base 8 loads w.held) w) h c
+  jump_behind to there =
       let code = loading_code w.storage.base 8 loads w.held in
       let l = loaded 8 in
       let u : Holding = done_by_all code h in
@@ -230,6 +231,13 @@ module _ (p : Program) (t : Targets) (s : State) (i : ℕ) (b : Bool) (w : Setti
         memory = l.memory;
         input = l.input;
       }
+
+  jump_comes : (to : ℕ) → PiecesAt p t i b (jumping w.storage w.held b loads to next) j
+      → ComesTo p s b (length (jumping w.storage w.held b loads to next)) (t.label to) (with_held (loading_held w.storage.base 8 loads w.held) w) h c
+  jump_comes to there =
+      let code = loading_code w.storage.base 8 loads w.held in
+      subst (λ q. ComesTo p s b (length (words code ++ going q to next)) (t.label to) (with_held (loading_held w.storage.base 8 loads w.held) w) h c) (sym (begins_is b code))
+      (jump_behind to (subst (λ q. PiecesAt p t i b (words code ++ going q to next) j) (begins_is b code) there))
 
   -- A branch, by a comparison that the words of both operands decide.
   branch_comes : (x : Compared) (if_true if_false : ℕ) (test : Bool) → PiecesAt p t i b (branching w.storage w.held loads x if_true if_false next) j

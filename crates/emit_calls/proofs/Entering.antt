@@ -13,8 +13,8 @@ use Rattle.machine_steps.proofs.Apart.{byte_outside, word_stored}
 use Rattle.machine_steps.proofs.Placing.{done_by_both, can_do_both}
 use Rattle.emit_moves.specs.Doing.{Brings}
 use Rattle.emit_memory.proofs.Elements.{word_kept}
-use Rattle.emit_calls.specs.Beginning.{saving_code, entering_code}
-use Rattle.emit_calls.specs.Leaving.{moving_code}
+use Rattle.emit_code.specs.Beginning.{saving_code, entering_code}
+use Rattle.emit_code.specs.Leaving.{moving_code}
 use Rattle.emit_calls.proofs.Leaving.{moved}
 use Rattle.emit_calls.proofs.Restoring.{AreSaved}
 
@@ -37,8 +37,10 @@ saving_saves (r ∷ more) o h aligned low high words homes =
     let t : Holding = storing 4 (word (h.registers 2 + o)) (h.registers r) h in
     let a : ℕ = h.registers 2 + o in
     let made : t.memory ≡ with_bytes 4 a (h.registers r) h.memory = ap (λ x. with_bytes 4 x (h.registers r) h.memory) at in
-    let rest : Saves (saving_code more (o + 4)) t more (h.registers 2 + (o + 4)) = saving_saves more (o + 4) t (omega (arith, aligned)) low (omega (arith, high)) words homes.1 in
-    let n : ℕ → ℕ = (done_by_all (saving_code more (o + 4)) t).memory in
+    let small : (o + 4) % 4294967296 ≡ o + 4 = omega (arith, high) in
+    let rest : Saves (saving_code more ((o + 4) % 4294967296)) t more (h.registers 2 + (o + 4)) =
+    subst (λ k. Saves (saving_code more k) t more (h.registers 2 + (o + 4))) (sym small) (saving_saves more (o + 4) t (omega (arith, aligned)) low (omega (arith, high)) words homes.1) in
+    let n : ℕ → ℕ = (done_by_all (saving_code more ((o + 4) % 4294967296)) t).memory in
     let same : h.registers 2 + (o + 4) ≡ a + 4 = omega arith in
     let byte : (b : ℕ) → b < a + 4 → n b ≡ with_bytes 4 a (h.registers r) h.memory b = λ b lt. rest.memory b (inl (omega (arith, lt))) ∙ ap (λ (m : ℕ → ℕ). m b) made in
     record {

@@ -20,7 +20,7 @@ use Rattle.machine_steps.proofs.Jumping.{return_does}
 use Rattle.machine_steps.proofs.Straight.{code_does}
 use Rattle.emit_moves.specs.Doing.{Brings}
 use Rattle.emit_memory.proofs.Limits.{constant_alone}
-use Rattle.emit_calls.specs.Leaving.{moving_code, restoring_code, leaving_front, leaving_code}
+use Rattle.emit_code.specs.Leaving.{moving_code, restoring_code, leaving_front, leaving_code}
 use Rattle.emit_calls.specs.Waiting.{restored}
 use Rattle.emit_calls.proofs.Restoring.{low_no_home, restored_low, restored_agree}
 
@@ -72,7 +72,9 @@ restoring_does (r ∷ more) o h all aligned low high =
     let t : Holding = writing r v h in
     let sp : t.registers 2 ≡ h.registers 2 = register_other r v 2 h.registers (low_no_home 2 r (omega arith) all.0) in
     let there : IsDataAt 4 (word (h.registers 2 + o)) = (omega (arith, at, aligned), inr (omega (arith, at, low), omega (arith, at, high))) in
-    let rest : Restores (restoring_code more (o + 4)) t more (t.registers 2 + (o + 4)) = restoring_does more (o + 4) t all.1 (omega (arith, sp, aligned)) (omega (arith, sp, low)) (omega (arith, sp, high)) in
+    let small : (o + 4) % 4294967296 ≡ o + 4 = omega (arith, high) in
+    let rest : Restores (restoring_code more ((o + 4) % 4294967296)) t more (t.registers 2 + (o + 4)) =
+    subst (λ k. Restores (restoring_code more k) t more (t.registers 2 + (o + 4))) (sym small) (restoring_does more (o + 4) t all.1 (omega (arith, sp, aligned)) (omega (arith, sp, low)) (omega (arith, sp, high))) in
     record {
       can = (there, rest.can);
       registers = rest.registers ∙ ap (λ a. restored more a h.memory t.registers) (omega (arith, sp)) ∙ ap (λ x. restored more (h.registers 2 + o + 4) h.memory (with_register r x h.registers)) (ap (word_at h.memory) at);

@@ -12,6 +12,7 @@ pub mod Ends
 pub mod Entering
 pub mod Filling
 pub mod Growing
+pub mod Grown
 pub mod Keeping
 pub mod LaidOut
 pub mod Leaving
@@ -29,3 +30,4 @@ pub mod Same
 pub mod Saved
 pub mod Starting
 pub mod Stepping
+pub mod Unmarked

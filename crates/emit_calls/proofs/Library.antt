@@ -32,9 +32,8 @@ use Rattle.emit_memory.specs.Meaning.{Means}
 use Rattle.emit_memory.specs.Frames.{Setting, IsStorage, AreScratch, HoldsFrame}
 use Rattle.emit_memory.proofs.Operands.{operand_means}
 use Rattle.emit_calls.specs.Keeping.{IsTargetAmong, IsSaved}
-use Rattle.emit_calls.specs.Leaving.{answer_code}
 use Rattle.emit_calls.specs.Passing.{passing_code, passing_held, ArePassed, AreWords}
-use Rattle.emit_calls.specs.Returns.{IsShownAs, byte as byte_so, exited as exited_so, Resumes}
+use Rattle.emit_calls.specs.Returns.{IsShownAs, byte as byte_so, exited as exited_so, Resumes, answer_code}
 use Rattle.emit_calls.specs.Settings.{IsKept}
 use Rattle.emit_calls.specs.Waiting.{FunctionCode, IsFunctionCode, setting_of, HoldsAll}
 use Rattle.emit_calls.proofs.Bringing.{words_in_range}

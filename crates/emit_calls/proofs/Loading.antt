@@ -25,7 +25,7 @@ use Rattle.emit_moves.proofs.Computing.{left_0, left_2, left_3}
 use Rattle.emit_memory.specs.Meaning.{Means, HoldsObjects}
 use Rattle.emit_memory.specs.Frames.{Setting, IsScratch, AreScratch, HasArray, HoldsFrame}
 use Rattle.emit_memory.proofs.Homes.{home_left}
-use Rattle.emit_calls.specs.Ends.{holding_code, held_with, holding_held, loading_code, loading_held}
+use Rattle.emit_code.specs.Ends.{holding_code, held_with, holding_held, loading_code, loading_held}
 use Rattle.emit_calls.specs.Settings.{with_held, IsKept, AreLoads}
 
 -- ---- Registers that are kept

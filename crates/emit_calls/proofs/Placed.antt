@@ -13,14 +13,18 @@ use Rattle.machine_steps.specs.Points.{Reaches}
 use Rattle.machine_steps.proofs.Placing.{reaches_then}
 use Rattle.machine_steps.proofs.Standing.{index_low}
 use Rattle.machine_steps.proofs.Jumping.{distance_leads, jump_does, branch_taken, branch_not_taken}
-use Rattle.emit_calls.specs.Ends.{words}
-use Rattle.emit_calls.specs.Pieces.{Targets, opposite, IsNear, IsFar, PiecesAt}
+use Rattle.emit_code.specs.Ends.{words, begins_behind, opposite}
+use Rattle.emit_calls.specs.Pieces.{Targets, IsNear, IsFar, PiecesAt}
 
 -- ---- Words among pieces
 
 pub behind_none : (code : List Instruction) → behind false code ≡ false
 behind_none [] = refl
 behind_none (x ∷ code) = refl
+
+pub begins_is : (b : Bool) (code : List Instruction) → begins_behind b code ≡ behind b code
+begins_is b [] = refl
+begins_is b (x ∷ code) = refl
 
 -- Words that stand as pieces, and others behind them.
 pub record WordsFirst (p : Program) (t : Targets) (i : ℕ) (b : Bool) (code : List Instruction) (rest : List Piece) (j : ℕ) : Type 0 where

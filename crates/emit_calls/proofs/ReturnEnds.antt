@@ -1,5 +1,5 @@
 -- The code of an end that returns does the unit's step.
-use Rattle.std.proofs.Common.{◌≡◌, ℕ, ◌+◌, sym, subst, arith, refl, Option, Some, None, Bool, false, List, [], ◌∷◌, length}
+use Rattle.std.proofs.Common.{◌≡◌, ℕ, ◌+◌, sym, subst, arith, refl, Option, Some, None, Bool, false, List, [], ◌∷◌, ◌++◌, length}
 use Rattle.std.specs.Prelude.{option_map}
 use Rattle.rv_machine.specs.State.{State}
 use Rattle.graph_core.specs.declared.value.Value.TheVariants.{Odd}
@@ -21,14 +21,15 @@ use Rattle.emit_moves.specs.Doing.{Brings, IsReadable, value_of}
 use Rattle.emit_memory.specs.Meaning.{Means}
 use Rattle.emit_memory.specs.Frames.{Setting, IsStorage, IsWord}
 use Rattle.emit_memory.proofs.Operands.{operand_readable, operand_means}
-use Rattle.emit_calls.specs.Leaving.{leaving_code, leaving, room_behind, return_pieces}
+use Rattle.emit_code.specs.Ends.{words}
+use Rattle.emit_code.specs.Leaving.{leaving_code, leaving, room_behind, return_pieces}
 use Rattle.emit_calls.specs.Pieces.{Targets, AreInCode, PiecesAt}
 use Rattle.emit_calls.specs.Returns.{Resumes, EndsMain}
 use Rattle.emit_calls.specs.Waiting.{FunctionCode, IsFunctionCode, setting_of, HoldsAll}
 use Rattle.emit_calls.proofs.Bringing.{source_brought, words_in_range}
 use Rattle.emit_calls.proofs.Keeping.{all_reheld}
 use Rattle.emit_calls.proofs.Loading.{kept_no_a0}
-use Rattle.emit_calls.proofs.Placed.{WordsFirst, words_first}
+use Rattle.emit_calls.proofs.Placed.{begins_is, WordsFirst, words_first}
 use Rattle.emit_calls.proofs.Returning.{DoesReturn, return_done}
 
 -- The same of what is done behind other words.
@@ -90,7 +91,8 @@ module _ (p : Program) (codes : ℕ → FunctionCode) (u : UnitForm) (valid : (k
         let brings : Brings code h 10 10 (value_of f.storage h source) = source_brought f.storage held h 10 source (omega arith) all.here.fetch (words_in_range h stands.in_range) readable in
         let g : Holding = done_by_all code h in
         let v = value u.statics c.here.names (placed_operand (home_at f.storage) a) in
-        let first : WordsFirst p t i b code (leaving f.saved f.size (behind b code) end next (room_behind f.storage.base source)) j = words_first p t i b code (leaving f.saved f.size (behind b code) end next (room_behind f.storage.base source)) j there in
+        let first : WordsFirst p t i b code (leaving f.saved f.size (behind b code) end next (room_behind f.storage.base source)) j = words_first p t i b code (leaving f.saved f.size (behind b code) end next (room_behind f.storage.base source)) j
+        (subst (λ q. PiecesAt p t i b (words code ++ leaving f.saved f.size q end next (room_behind f.storage.base source)) j) (begins_is b code) there) in
         let one = code_does p s i h b code stands first.code_there brings.can in
         let all1 = all_reheld codes u valid addresses (Resumes p codes goes_on) held [] c h g all (λ q kept. brings.kept q (kept_no_a0 q kept) kept.left.t0) brings.memory brings.input tt tt in
         returned_behind p s i b (length code) (i + length code) (behind b code) g (4 + length (leaving_code f.saved f.size)) codes u addresses goes_on c (leave c v) one

@@ -32,11 +32,11 @@ use Rattle.emit_memory.specs.Meaning.{Means, HoldsObjects}
 use Rattle.emit_memory.specs.Frames.{Setting, IsStorage, HoldsFrame, Performs}
 use Rattle.emit_memory.proofs.Homes.{can_write, home_performed}
 use Rattle.emit_memory.proofs.Objects.{means_later}
-use Rattle.emit_calls.specs.Ends.{words, going}
+use Rattle.emit_code.specs.Ends.{words, going}
 use Rattle.emit_calls.specs.Keeping.{IsTargetAmong, IsSaved}
-use Rattle.emit_calls.specs.Leaving.{words_of_moving, leaving_front, leaving_code, leaving, answer_code}
+use Rattle.emit_code.specs.Leaving.{words_of_moving, leaving_front, leaving_code, leaving}
 use Rattle.emit_calls.specs.Pieces.{Targets, AreInCode, PiecesAt}
-use Rattle.emit_calls.specs.Returns.{IsShownAs, exited as exited_so, Resumes, EndsMain}
+use Rattle.emit_calls.specs.Returns.{IsShownAs, exited as exited_so, Resumes, EndsMain, answer_code}
 use Rattle.emit_calls.specs.Waiting.{FunctionCode, IsFunctionCode, setting_of, behind_frame, HoldsWaiting, HoldsAll}
 use Rattle.emit_calls.proofs.Bringing.{home_made}
 use Rattle.emit_calls.proofs.Ended.{IsEndedOr, ended_or, those_ended, objects_ended, length_ended, frame_those}

@@ -23,7 +23,7 @@ use Rattle.machine_steps.proofs.Jumping.{distance_leads, jump_does, branch_taken
 use Rattle.machine_steps.proofs.Placing.{code_front, reaches_then}
 use Rattle.machine_steps.proofs.Standing.{index_low}
 use Rattle.machine_steps.proofs.Straight.{code_does}
-use Rattle.emit_calls.specs.Beginning.{base_code, entering_code, bindings_code, beginning_code}
+use Rattle.emit_code.specs.Beginning.{base_code, entering_code, bindings_code, beginning_code}
 use Rattle.emit_calls.specs.Waiting.{FunctionCode, IsFunctionCode, HoldsAll}
 use Rattle.emit_calls.proofs.Placed.{behind_none}
 use Rattle.emit_calls.proofs.Starting.{IsLoaded, first, t4, now, starts, starting_can}

@@ -17,7 +17,7 @@ use Rattle.emit_memory.specs.Meaning.{size_at, HoldsObjects, AreLaid}
 use Rattle.emit_memory.specs.Frames.{Setting, HasArray, HoldsFrame}
 use Rattle.emit_memory.proofs.Limits.{constant_alone}
 use Rattle.emit_memory.proofs.Objects.{WasThere}
-use Rattle.emit_calls.specs.Beginning.{base_code, entering_code}
+use Rattle.emit_code.specs.Beginning.{base_code, entering_code}
 use Rattle.emit_calls.specs.Waiting.{FunctionCode, IsFunctionCode, setting_of, HoldsAll}
 use Rattle.emit_calls.proofs.Beginning.{length_mapped}
 use Rattle.emit_calls.proofs.Entering.{Enters, CanEnter, entering_enters}

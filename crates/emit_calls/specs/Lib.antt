@@ -1,7 +1,5 @@
-pub mod Beginning
-pub mod Ends
+pub mod Going
 pub mod Keeping
-pub mod Leaving
 pub mod Markers
 pub mod Passing
 pub mod Pieces

@@ -2,9 +2,9 @@
 use Rattle.std.specs.Prelude.{◌≡◌, ℕ, ◌+◌, ◌≤◌, ◌⊎◌, Bool, false, List, [], ◌∷◌}
 use Rattle.rv_code.specs.declared.instruction.Instruction.TheVariants as instruction
 use Rattle.rv_code.specs.declared.instruction.BranchOperation.{BranchOperation}
-use Rattle.rv_code.specs.declared.instruction.BranchOperation.TheVariants.{Beq, Bne, Blt, Bge, Bltu, Bgeu}
 use Rattle.emit_pieces.specs.declared.piece.Piece.{Piece}
 use Rattle.emit_pieces.specs.declared.piece.Piece.TheVariants.{Word, Jump, Branch, Call}
+use Rattle.emit_code.specs.Ends.{opposite}
 use Rattle.machine_steps.specs.Programs.{Program, distance, IsAt}
 
 -- The index of the code at which each label of a function stands, and that at which each function begins.
@@ -16,15 +16,6 @@ pub record Targets : Type 0 where
 pub record AreInCode (t : Targets) : Type 0 where
   pub labels : (l : ℕ) → t.label l ≤ 262144
   pub functions : (f : ℕ) → t.function f ≤ 262144
-
--- The branch that is taken where this one is not.
-abbrev pub opposite : BranchOperation → BranchOperation
-opposite Beq = Bne
-opposite Bne = Beq
-opposite Blt = Bge
-opposite Bge = Blt
-opposite Bltu = Bgeu
-opposite Bgeu = Bltu
 
 -- A branch in one word, which goes to its label.
 abbrev pub IsNear : Program → Targets → (index : ℕ) → (stops : Bool) → BranchOperation → (left right to behind : ℕ) → Type 0

@@ -1,15 +1,9 @@
--- Pieces with what their words stand for, as they stand in the code of the machine, and code to which pieces are appended.
+-- Pieces with what their words stand for, as they stand in the code of the machine.
 use Rattle.std.specs.Prelude.{◌≡◌, ℕ, Bool, false, None, List, [], ◌∷◌}
 use Rattle.emit_pieces.specs.declared.piece.Piece.{Piece}
 use Rattle.emit_pieces.specs.declared.piece.PlacedPiece.{PlacedPiece}
-use Rattle.emit_words.specs.Growing.{CodeState, with_piece}
 use Rattle.machine_steps.specs.Programs.{Program}
 use Rattle.emit_calls.specs.Pieces.{Targets, PieceAt}
-
--- Pieces are appended, one behind the other.
-abbrev pub with_pieces : List Piece → CodeState → CodeState
-with_pieces [] s = s
-with_pieces (x ∷ more) s = with_pieces more (with_piece x s)
 
 -- What is appended: pieces of a place, at the first of which there is a stop or none.
 abbrev pub placed_pieces : (owner : ℕ) → (stops : Bool) → List Piece → List PlacedPiece

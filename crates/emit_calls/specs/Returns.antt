@@ -1,15 +1,18 @@
 -- What a return is to do, and what stands behind a call.
-use Rattle.std.specs.Prelude.{◌≡◌, ℕ, ◌+◌, false, Option, option_map, [], ◌∷◌, length}
+use Rattle.std.specs.Prelude.{◌≡◌, ℕ, ◌+◌, false, Option, option_map, List, [], ◌∷◌, length}
+use Rattle.std.specs.Option.{option_map_or}
 use Rattle.std.specs.Int.{cast_signed, w32}
+use Rattle.rv_code.specs.declared.instruction.Instruction.{Instruction}
 use Rattle.rv_code.specs.declared.instruction.Instruction.TheVariants.{Immediate, Ecall}
 use Rattle.rv_code.specs.declared.instruction.ImmediateOperation.TheVariants.{Addi}
 use Rattle.rv_machine.specs.Run.{MachineEvent, Byte, Exit, TooDeep}
 use Rattle.graph_core.specs.Runs.{Activation, Event, Put, Exited, TooDeep as DepthExceeded}
 use Rattle.graph_homes.specs.declared.home.Home.{Home}
 use Rattle.homed_unit.specs.Homed.{home_number}
+use Rattle.emit_storage.specs.Storages.{StorageForm}
+use Rattle.emit_words.specs.Operands.{home_written}
 use Rattle.machine_steps.specs.Programs.{Program, CodeAt}
 use Rattle.emit_calls.specs.Keeping.{IsTargetAmong, IsSaved}
-use Rattle.emit_calls.specs.Leaving.{answer_code}
 use Rattle.emit_calls.specs.Waiting.{FunctionCode}
 
 -- An event of the unit is one that the machine shows: a byte, the end with a status, or a call too many.
@@ -17,6 +20,10 @@ pub data IsShownAs : Event → MachineEvent → Type 0 where
   byte : {n : ℕ} → IsShownAs (Put n) (Byte n)
   exited : {status : ℕ} → IsShownAs (Exited status) (Exit (cast_signed w32 status))
   deep : IsShownAs DepthExceeded TooDeep
+
+-- What the caller does with a result in a0: it writes its target, if it has one.
+abbrev pub answer_code : StorageForm → Option Home → List Instruction
+answer_code g target = option_map_or (λ home. home_written g home 10) target []
 
 -- The code behind the call at which an activation waits: its result is written to the target, if there is one, and then goes on what else stands there for this activation.
 pub record Resumes (p : Program) (codes : ℕ → FunctionCode) (goes_on : Activation → ℕ → Type 0) (a : Activation) (index : ℕ) : Type 0 where

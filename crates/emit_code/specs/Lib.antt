@@ -1,1 +1,5 @@
+pub mod Beginning
+pub mod Blocks
+pub mod Ends
+pub mod Leaving
 pub mod Stops

@@ -9,6 +9,10 @@ ghost use Rattle.std.specs.List.{filter};
 ghost use Rattle.emit_instructions.specs.Stops.{shown_behind};
 ghost use Rattle.emit_code.specs.Stops.{shown_after};
 ghost use Rattle.emit_instructions.specs.Words.{most_words_of};
+ghost use Rattle.graph_core.specs.Graphs.{block_view};
+ghost use Rattle.emit_storage.specs.Storages.{storage_view};
+ghost use Rattle.emit_words.specs.Growing.{code_state};
+ghost use Rattle.emit_code.specs.Blocks.{block_code, with_instructions, with_numbered};
 
 use crate::ending::put_end;
 use emit_instructions::put_instruction;
@@ -37,6 +41,7 @@ fn put_numbered(
 ) -> Result<(), AllocError>
     ensures few { OnOk result (words_in code.new.pieces.items ≤ words_in code.old.pieces.items + most_words_of (instruction_view instruction.now)) }
     ensures stops { OnOk result (shown code.new ≡ shown_behind storage.now.entry.0 (instruction_view instruction.now) (shown code.old)) }
+    ensures grown { OnOk result (code_state code.new ≡ with_numbered (storage_view storage.now) storage.now.entry.0 number (instruction_view instruction.now) (code_state code.old)) }
 {
     put_instruction(code, storage, instruction)?;
     if let Some(_target) = instruction.target() {
@@ -53,6 +58,7 @@ fn put_instructions(
 ) -> Result<(), AllocError>
     ensures few { OnOk result (words_in code.new.pieces.items ≤ words_in code.old.pieces.items + total most_words_of (map instruction_view instructions.now)) }
     ensures stops { OnOk result (shown code.new ≡ shown_after storage.now.entry.0 (map instruction_view instructions.now) (shown code.old)) }
+    ensures grown { OnOk result (code_state code.new ≡ with_instructions (storage_view storage.now) storage.now.entry.0 0 (map instruction_view instructions.now) (code_state code.old)) }
 {
     let mut left = instructions;
     let mut number = 0u32;
@@ -75,6 +81,8 @@ pub fn code_of_block(
 ) -> Result<BlockCode, AllocError>
     ensures few { IfOk result (λ made. words_in made.pieces.items ≤ total most_words_of (map instruction_view block.now.instructions.items) + 9) }
     ensures stops { IfOk result (λ made. stops_of made.pieces.items ≡ filter (λ p. not (p == storage.now.entry.0)) (markers_in (map instruction_view block.now.instructions.items))) }
+    ensures code { IfOk result (λ made. made.pieces.items ≡ (block_code (storage_view storage.now) storage.now.entry.0 storage.now.frame.now.saved.items storage.now.frame.now.size storage.now.end.0 next.0 known.now loads.now (block_view block.now)).pieces) }
+    ensures held { IfOk result (λ made. made.held.items ≡ (block_code (storage_view storage.now) storage.now.entry.0 storage.now.frame.now.saved.items storage.now.frame.now.size storage.now.end.0 next.0 known.now loads.now (block_view block.now)).held) }
 {
     let owner = match block.place {
         Some(place) => place.0,

@@ -1,9 +1,16 @@
 //! The ends of blocks.
 
-ghost use Rattle.std.specs.Prelude.{◌≡◌, ◌≤◌, ◌+◌, false, OnOk, length};
+ghost use Rattle.std.specs.Prelude.{◌≡◌, ◌≤◌, ◌+◌, ◌++◌, false, OnOk, IfOk, Some, length, option_map};
 ghost use Rattle.emit_words.specs.Shown.{shown};
 ghost use Rattle.emit_pieces.specs.Words.{words_in};
 ghost use Rattle.emit_words.specs.Fetching.{most_words_of_source, most_words_to_bring};
+ghost use Rattle.graph_core.specs.Graphs.{end_view, operand_view};
+ghost use Rattle.emit_storage.specs.Storages.{source_of, storage_view};
+ghost use Rattle.emit_words.specs.Growing.{code_state, with_code, with_piece};
+ghost use Rattle.emit_words.specs.Operands.{fetched_source, source_register};
+ghost use Rattle.emit_pieces.specs.declared.piece.Piece.TheVariants as piece;
+ghost use Rattle.emit_code.specs.Ends.{branch_operation, going, going_by, opposite, with_jump, with_branch, with_choice, with_loads, with_pieces, with_zero, word_test};
+ghost use Rattle.emit_code.specs.Leaving.{with_end, with_leave, with_return};
 
 use crate::leaving::{put_leaving, words_of_move};
 use emit_pieces::{Held, Piece, register};
@@ -27,7 +34,9 @@ struct Test {
 }
 
 /// The branch by a comparison.
-fn branch_operation(comparison: Comparison) -> BranchOperation {
+fn branch_operation(comparison: Comparison) -> BranchOperation
+    ensures { result ≡ branch_operation comparison }
+{
     match comparison {
         Comparison::Equal => BranchOperation::Beq,
         Comparison::NotEqual => BranchOperation::Bne,
@@ -39,7 +48,9 @@ fn branch_operation(comparison: Comparison) -> BranchOperation {
 }
 
 /// The branch that is taken where this one is not.
-pub fn opposite(operation: BranchOperation) -> BranchOperation {
+pub fn opposite(operation: BranchOperation) -> BranchOperation
+    ensures { result ≡ opposite operation }
+{
     match operation {
         BranchOperation::Beq => BranchOperation::Bne,
         BranchOperation::Bne => BranchOperation::Beq,
@@ -51,7 +62,9 @@ pub fn opposite(operation: BranchOperation) -> BranchOperation {
 }
 
 /// Whether a comparison of two words holds.
-fn holds(comparison: Comparison, left: u32, right: u32) -> bool {
+fn holds(comparison: Comparison, left: u32, right: u32) -> bool
+    ensures { result ≡ word_test comparison left right }
+{
     match comparison {
         Comparison::Equal => left == right,
         Comparison::NotEqual => left != right,
@@ -63,7 +76,11 @@ fn holds(comparison: Comparison, left: u32, right: u32) -> bool {
 }
 
 /// What is compared, with 0 in place of 1 on the right or of -1 on the left where another comparison then says the same.
-fn with_zero(comparison: Comparison, left: Source, right: Source) -> (Comparison, Source, Source) {
+fn with_zero(comparison: Comparison, left: Source, right: Source) -> (Comparison, Source, Source)
+    ensures comparison { result.0 ≡ (with_zero comparison left right).comparison }
+    ensures left { result.1 ≡ (with_zero comparison left right).left }
+    ensures right { result.2 ≡ (with_zero comparison left right).right }
+{
     let zero = Source::Word(0);
     match (comparison, left, right) {
         (Comparison::Less, left, Source::Word(1)) => (Comparison::AtLeast, zero, left),
@@ -102,6 +119,7 @@ fn words_to_bring(source: Source) -> u32
 fn load_held(code: &mut Code, base: u32, loads: &[Held], room: u32) -> Result<(), AllocError>
     ensures few { OnOk result (words_in code.new.pieces.items ≤ words_in code.old.pieces.items + room) }
     ensures stops { OnOk result (shown code.new ≡ shown code.old) }
+    ensures grown { OnOk result (code_state code.new ≡ with_loads base room loads.now (code_state code.old)) }
 {
     let mut left = room;
     for held in loads {
@@ -119,6 +137,7 @@ fn go(code: &mut Code, to: Label, next: Label) -> Result<(), AllocError>
     ensures few { OnOk result (words_in code.new.pieces.items ≤ words_in code.old.pieces.items + 1) }
     ensures stops { OnOk result (shown code.new ≡ shown code.old) }
     ensures begun { OnOk result (code.new.begins ≡ false) }
+    ensures grown { OnOk result (code_state code.new ≡ with_pieces (going code.old.begins to.0 next.0) (code_state code.old)) }
 {
     if to.0 == next.0 {
         code.settle()
@@ -138,6 +157,7 @@ fn branch_to(
     ensures few { OnOk result (words_in code.new.pieces.items ≤ words_in code.old.pieces.items + 2) }
     ensures stops { OnOk result (shown code.new ≡ shown code.old) }
     ensures begun { OnOk result (code.new.begins ≡ false) }
+    ensures grown { OnOk result (code_state code.new ≡ with_piece (piece.Branch operation left right to) (code_state code.old)) }
 {
     code.put_piece(Piece::Branch {
         operation,
@@ -158,6 +178,7 @@ fn go_by_test(
     ensures few { OnOk result (words_in code.new.pieces.items ≤ words_in code.old.pieces.items + 3) }
     ensures stops { OnOk result (shown code.new ≡ shown code.old) }
     ensures begun { OnOk result (code.new.begins ≡ false) }
+    ensures grown { OnOk result (code_state code.new ≡ with_pieces (going_by test.operation test.left test.right then.0 otherwise.0 next.0) (code_state code.old)) }
 {
     if then.0 == next.0 {
         return branch_to(
@@ -182,6 +203,10 @@ fn fetch_test(
 ) -> Result<Test, AllocError>
     ensures few { OnOk result (words_in code.new.pieces.items ≤ words_in code.old.pieces.items + (most_words_of_source left + most_words_of_source right)) }
     ensures stops { OnOk result (shown code.new ≡ shown code.old) }
+    ensures right { IfOk result (λ t. t.right ≡ source_register (storage_view storage.now) code.old.held.items right 7) }
+    ensures left { IfOk result (λ t. t.left ≡ source_register (storage_view storage.now) code.old.held.items left 6) }
+    ensures operation { IfOk result (λ t. t.operation ≡ branch_operation comparison) }
+    ensures grown { OnOk result (code_state code.new ≡ with_code (fetched_source (storage_view storage.now) code.old.held.items left 6 ++ fetched_source (storage_view storage.now) code.old.held.items right 7) (code_state code.old)) }
 {
     let left = code.fetch_source(storage, left, register::T1)?;
     let right = code.fetch_source(storage, right, register::T2)?;
@@ -203,6 +228,7 @@ fn jump(
     ensures few { OnOk result (words_in code.new.pieces.items ≤ words_in code.old.pieces.items + 9) }
     ensures stops { OnOk result (shown code.new ≡ shown code.old) }
     ensures begun { OnOk result (code.new.begins ≡ false) }
+    ensures grown { OnOk result (code_state code.new ≡ with_jump (storage_view storage.now) loads.now to.0 next.0 (code_state code.old)) }
 {
     load_held(code, storage.base, loads, MOST_WORDS - 1)?;
     go(code, to, next)
@@ -220,6 +246,7 @@ fn branch(
     ensures few { OnOk result (words_in code.new.pieces.items ≤ words_in code.old.pieces.items + 9) }
     ensures stops { OnOk result (shown code.new ≡ shown code.old) }
     ensures begun { OnOk result (code.new.begins ≡ false) }
+    ensures grown { OnOk result (code_state code.new ≡ with_branch (storage_view storage.now) loads.now (with_zero compared.0 compared.1 compared.2) targets.0.0 targets.1.0 next.0 (code_state code.old)) }
 {
     let (comparison, left, right) = with_zero(compared.0, compared.1, compared.2);
     let room = MOST_WORDS - 3 - words_of_fetch(left) - words_of_fetch(right);
@@ -240,6 +267,7 @@ fn branch_or_jump(
     ensures few { OnOk result (words_in code.new.pieces.items ≤ words_in code.old.pieces.items + 9) }
     ensures stops { OnOk result (shown code.new ≡ shown code.old) }
     ensures begun { OnOk result (code.new.begins ≡ false) }
+    ensures grown { OnOk result (code_state code.new ≡ with_choice (storage_view storage.now) loads.now compared.0 compared.1 compared.2 targets.0.0 targets.1.0 next.0 (code_state code.old)) }
 {
     if targets.0.0 == targets.1.0 {
         return jump(code, storage, targets.0, next, loads);
@@ -263,6 +291,7 @@ fn leave(code: &mut Code, storage: &Storage<'_>, next: Label, room: u32) -> Resu
     ensures few { OnOk result (words_in code.new.pieces.items ≤ words_in code.old.pieces.items + room) }
     ensures stops { OnOk result (shown code.new ≡ shown code.old) }
     ensures begun { OnOk result (code.new.begins ≡ false) }
+    ensures grown { OnOk result (code_state code.new ≡ with_leave storage.now.frame.now.saved.items storage.now.frame.now.size storage.now.end.0 next.0 room (code_state code.old)) }
 {
     let moves = words_of_move(storage.frame.size);
     let saved = storage.frame.saved.len();
@@ -282,6 +311,7 @@ fn put_return_of(
     ensures few { OnOk result (words_in code.new.pieces.items ≤ words_in code.old.pieces.items + 9) }
     ensures stops { OnOk result (shown code.new ≡ shown code.old) }
     ensures begun { OnOk result (code.new.begins ≡ false) }
+    ensures grown { OnOk result (code_state code.new ≡ with_return (storage_view storage.now) storage.now.frame.now.saved.items storage.now.frame.now.size storage.now.end.0 next.0 (Some value) (code_state code.old)) }
 {
     if let Source::Word(word) = value {
         let words = words_of_constant(word, storage.base);
@@ -302,6 +332,7 @@ fn put_return(
     ensures few { OnOk result (words_in code.new.pieces.items ≤ words_in code.old.pieces.items + 9) }
     ensures stops { OnOk result (shown code.new ≡ shown code.old) }
     ensures begun { OnOk result (code.new.begins ≡ false) }
+    ensures grown { OnOk result (code_state code.new ≡ with_return (storage_view storage.now) storage.now.frame.now.saved.items storage.now.frame.now.size storage.now.end.0 next.0 (option_map (source_of (storage_view storage.now)) (option_map operand_view value)) (code_state code.old)) }
 {
     match value {
         None => leave(code, storage, next, MOST_WORDS),
@@ -320,6 +351,7 @@ pub(crate) fn put_end(
     ensures few { OnOk result (words_in code.new.pieces.items ≤ words_in code.old.pieces.items + 9) }
     ensures stops { OnOk result (shown code.new ≡ shown code.old) }
     ensures begun { OnOk result (code.new.begins ≡ false) }
+    ensures grown { OnOk result (code_state code.new ≡ with_end (storage_view storage.now) storage.now.frame.now.saved.items storage.now.frame.now.size storage.now.end.0 next.0 loads.now (end_view end) (code_state code.old)) }
 {
     match end {
         End::Jump(to) => jump(code, storage, to, next, loads),

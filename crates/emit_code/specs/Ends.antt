@@ -17,16 +17,23 @@ use Rattle.emit_storage.specs.declared.storage.Source.{Source}
 use Rattle.emit_storage.specs.declared.storage.Source.TheVariants.{Home as OfHome, Word}
 use Rattle.emit_storage.specs.Storages.{StorageForm, source_of}
 use Rattle.emit_words.specs.Fetching.{most_words_of_source}
-use Rattle.emit_words.specs.Growing.{holder_of, forgotten}
+use Rattle.emit_words.specs.Growing.{CodeState, with_code, with_piece, holder_of, forgotten}
 use Rattle.emit_words.specs.Constants.{words_of_constant, constant_by}
 use Rattle.emit_words.specs.Operands.{source_register, fetched_source}
-use Rattle.machine_steps.specs.Programs.{behind}
-use Rattle.emit_memory.specs.Frames.{IsWord}
-use Rattle.emit_calls.specs.Pieces.{opposite}
 
 -- Words as pieces.
 abbrev pub words : List Instruction → List Piece
 words code = map (λ i. piece.Word i) code
+
+-- Pieces are appended, one behind the other.
+abbrev pub with_pieces : List Piece → CodeState → CodeState
+with_pieces [] s = s
+with_pieces (x ∷ more) s = with_pieces more (with_piece x s)
+
+-- Whether a stop has no word yet behind words, if it had none before them.
+abbrev pub begins_behind : (begins : Bool) → List Instruction → Bool
+begins_behind b [] = b
+begins_behind b (i ∷ more) = false
 
 -- ---- Constants that the next block holds
 
@@ -61,6 +68,10 @@ loading_held base room (x ∷ more) held =
     then loading_held base (room - words_of_constant x.word base) more (holding_held x held)
     else loading_held base room more held
 
+-- The words are appended, and those constants are held from then on.
+abbrev pub with_loads : (base room : ℕ) → (loads : List Held) → CodeState → CodeState
+with_loads base room loads s = record (with_code (loading_code base room loads s.held) s) { held = loading_held base room loads s.held }
+
 -- ---- Where control goes
 
 -- The pieces that go to a label behind which what stands next has another, where a stop that has no word yet is in force or is not.
@@ -68,6 +79,15 @@ abbrev pub going : (begins : Bool) → (to next : ℕ) → List Piece
 going b to next =
     if to == next then (if b then piece.Word (instruction.Immediate Addi 0 0 0) ∷ [] else [])
     else piece.Jump (record { 0 = to }) ∷ []
+
+-- The branch that is taken where this one is not.
+abbrev pub opposite : BranchOperation → BranchOperation
+opposite Beq = Bne
+opposite Bne = Beq
+opposite Blt = Bge
+opposite Bge = Blt
+opposite Bltu = Bgeu
+opposite Bgeu = Bltu
 
 -- To one label where a branch is taken, and else to another.
 abbrev pub going_by : BranchOperation → (left right if_true if_false next : ℕ) → List Piece
@@ -77,7 +97,7 @@ going_by op l r if_true if_false next =
 
 -- Constants are loaded, and control goes to a label.
 abbrev pub jumping : StorageForm → List Held → (begins : Bool) → (loads : List Held) → (to next : ℕ) → List Piece
-jumping g held b loads to next = words (loading_code g.base 8 loads held) ++ going (behind b (loading_code g.base 8 loads held)) to next
+jumping g held b loads to next = words (loading_code g.base 8 loads held) ++ going (begins_behind b (loading_code g.base 8 loads held)) to next
 
 -- ---- Comparisons
 
@@ -172,8 +192,18 @@ end_held g held loads (Branch k x y if_true if_false) =
     else choosing_held g held loads k (source_of g x) (source_of g y)
 end_held g held loads (Return v) = []
 
--- An end is no return, and its constants are words.
-abbrev pub IsGoing : End → Type 0
-IsGoing (Jump to) = Unit {0}
-IsGoing (Branch k x y if_true if_false) = IsWord x × IsWord y
-IsGoing (Return v) = ⊥
+-- ---- How code grows by them
+
+-- Constants are loaded, and control goes to a label.
+abbrev pub with_jump : StorageForm → (loads : List Held) → (to next : ℕ) → CodeState → CodeState
+with_jump g loads to next s = record (with_pieces (jumping g s.held s.begins loads to next) s) { held = loading_held g.base 8 loads s.held }
+
+-- Constants are loaded, and control goes to one label where a comparison holds, and else to another.
+abbrev pub with_branch : StorageForm → (loads : List Held) → Compared → (if_true if_false next : ℕ) → CodeState → CodeState
+with_branch g loads x if_true if_false next s = record (with_pieces (branching g s.held loads x if_true if_false next) s) { held = loading_held g.base (room_of x) loads s.held }
+
+-- The same where the labels may be one, and the comparison known.
+abbrev pub with_choice : StorageForm → (loads : List Held) → Comparison → (left right : Source) → (if_true if_false next : ℕ) → CodeState → CodeState
+with_choice g loads k l r if_true if_false next s =
+    if if_true == if_false then with_jump g loads if_true next s
+    else record (with_pieces (choosing g s.held s.begins loads k l r if_true if_false next) s) { held = choosing_held g s.held loads k l r }

@@ -1,5 +1,5 @@
 -- The code with which a function begins. Registers 0, 1, 2, 3, 4 and 17 are the one that is 0, ra, sp, gp, tp and a7.
-use Rattle.std.specs.Prelude.{ℕ, ◌+◌, Bool, if◌then◌else◌, List, [], ◌∷◌, ◌++◌, slice_get}
+use Rattle.std.specs.Prelude.{ℕ, ◌+◌, ◌%◌, Bool, if◌then◌else◌, List, [], ◌∷◌, ◌++◌, slice_get}
 use Rattle.std.specs.Option.{option_map_or}
 use Rattle.word_base.specs.Arithmetic.{subtracted}
 use Rattle.rv_code.specs.declared.instruction.Instruction.{Instruction}
@@ -12,11 +12,12 @@ use Rattle.graph_core.specs.declared.instruction.Element.{Element}
 use Rattle.graph_core.specs.declared.instruction.Element.TheVariants as element
 use Rattle.graph_core.specs.Graphs.{Graph, Binding, ToScalar, ToObject}
 use Rattle.emit_storage.specs.Storages.{StorageForm, home_at, object_at}
+use Rattle.emit_words.specs.Growing.{CodeState, with_code, marked}
 use Rattle.emit_words.specs.Constants.{constant_code}
 use Rattle.emit_words.specs.Operands.{home_written}
 use Rattle.emit_instructions.specs.Calls.{argument_register}
 use Rattle.emit_instructions.specs.Memory.{frame_reach, storing}
-use Rattle.emit_calls.specs.Leaving.{moving_code}
+use Rattle.emit_code.specs.Leaving.{moving_code}
 
 -- Where no activation may begin, the run ends; else one less may.
 abbrev pub guard_code : List Instruction
@@ -25,7 +26,7 @@ guard_code = Branch Bne 4 0 12 ∷ Immediate Addi 17 0 3 ∷ Ecall ∷ Immediate
 -- Registers are stored in the frame, one behind the other from an offset on.
 abbrev pub saving_code : List ℕ → (offset : ℕ) → List Instruction
 saving_code [] offset = []
-saving_code (r ∷ more) offset = Store Sw r 2 offset ∷ saving_code more (offset + 4)
+saving_code (r ∷ more) offset = Store Sw r 2 offset ∷ saving_code more ((offset + 4) % 4294967296)
 
 -- The frame is made, and the return address and the registers that it keeps are stored there.
 abbrev pub entering_code : (saved : List ℕ) → (size : ℕ) → List Instruction
@@ -47,7 +48,7 @@ binding_code s g r (ToObject k) = storing (element_of g k) (frame_reach (object_
 -- The parameters, from one of this number on.
 abbrev pub bindings_code : StorageForm → Graph → (number : ℕ) → List Binding → List Instruction
 bindings_code s g n [] = []
-bindings_code s g n (b ∷ more) = binding_code s g (argument_register n) b ++ bindings_code s g (n + 1) more
+bindings_code s g n (b ∷ more) = binding_code s g (argument_register n) b ++ bindings_code s g ((n + 1) % 4294967296) more
 
 -- All of it behind the guard, and with it.
 abbrev pub beginning_behind : StorageForm → Graph → (saved : List ℕ) → (size : ℕ) → (is_main : Bool) → List Instruction
@@ -55,3 +56,18 @@ beginning_behind s g saved size is_main = entering_code saved size ++ base_code 
 
 abbrev pub beginning_code : StorageForm → Graph → (saved : List ℕ) → (size : ℕ) → (is_main : Bool) → List Instruction
 beginning_code s g saved size is_main = guard_code ++ beginning_behind s g saved size is_main
+
+-- ---- How code grows by it
+
+-- The last word is marked as the one that binds the parameter of this number.
+abbrev pub with_writer : (number : ℕ) → CodeState → CodeState
+with_writer n s = record s { pieces = marked n s.pieces }
+
+-- The parameters, from one of this number on.
+abbrev pub with_bindings : StorageForm → Graph → (number : ℕ) → List Binding → CodeState → CodeState
+with_bindings g f n [] s = s
+with_bindings g f n (b ∷ more) s = with_bindings g f ((n + 1) % 4294967296) more (with_writer n (with_code (binding_code g f (argument_register n) b) s))
+
+-- The beginning of a function.
+abbrev pub with_beginning : StorageForm → Graph → (saved : List ℕ) → (size : ℕ) → (is_main : Bool) → CodeState → CodeState
+with_beginning g f saved size is_main s = with_bindings g f 0 f.parameters (with_code (guard_code ++ entering_code saved size ++ base_code is_main g.base) s)
