@@ -1,7 +1,7 @@
 use Rattle.c_tree.specs.Programs.{program_view}
 use Rattle.graph_marking.proofs.Following.{follow_flow}
 use Rattle.graph_program.proofs.Program.{does_program}
-use Rattle.program_unit.proofs.Built.{built_by}
+use Rattle.program_unit.proofs.OfForms.{built_by}
 use Rattle.program_unit.proofs.built.program_unit.Goals as goal
 
 pub returns-clause-built : goal.returns-clause-built
