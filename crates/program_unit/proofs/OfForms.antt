@@ -25,6 +25,7 @@ one_behind : {A : Type 0} (x : A) (xs : List A) (a : A) → Contains xs a → Co
 one_behind x xs a (k, within, is) = (suc k, omega (arith, within), is)
 
 among_contains : {A : Type 0} (xs : List A) (a : A) → Among a xs → Contains xs a
+among_contains [] a there = elim there [ ]
 among_contains (x ∷ xs) a front = (0, omega arith, refl)
 among_contains (x ∷ xs) a (behind there) = one_behind x xs a (among_contains xs a there)
 
