@@ -1,5 +1,5 @@
 -- Which elements the images of the elements of a list are.
-use Rattle.std.proofs.Common.{◌≡◌, ℕ, zero, suc, ◌+◌, ◌<◌, List, [], ◌∷◌, length, refl, subst, ap, ◌∙◌, arith}
+use Rattle.std.proofs.Common.{◌≡◌, zero, suc, List, [], ◌∷◌, refl, subst, ap, arith}
 use Rattle.std.specs.Prelude.{◌↔◌, map}
 use Rattle.std.specs.List.{Contains}
 

@@ -1,10 +1,10 @@
 -- To which functions the variables of an image belong.
-use Rattle.std.proofs.Common.{◌≡◌, ℕ, zero, suc, ◌+◌, ◌≤◌, ◌<◌, ◌^◌, Bool, true, false, Option, Some, None, List, [], ◌∷◌, ◌++◌, length, map, replicate, slice_get, get_or, refl, sym, ap, subst, ◌∙◌, arith}
+use Rattle.std.proofs.Common.{◌≡◌, ℕ, zero, suc, ◌+◌, ◌%◌, ◌<◌, ◌^◌, Bool, true, false, Option, Some, None, List, [], ◌∷◌, ◌++◌, length, map, replicate, slice_get, get_or, refl, sym, ap, subst, ◌∙◌, arith}
 use Rattle.std.specs.Prelude.{◌==◌, ◌&&◌, IsSomeAnd, if◌then◌else◌, unwrap_or}
 use Rattle.std.specs.List.{AllByRecursion}
 use Rattle.std.proofs.lemmas.Bool.Decides.{nat_tests}
 use Rattle.std.proofs.lemmas.List.{length-append, length-replicate}
-use Rattle.c_tree.specs.Programs.{AutomaticTree, LiteralTree, ProgramTree, StaticTree, TypedFunctionTree}
+use Rattle.c_tree.specs.Programs.{LiteralTree, ProgramTree, StaticTree, TypedFunctionTree}
 use Rattle.c_laws.specs.Laws.{IsWellFormed, are_functions, are_objects, follow, is_main, is_sound, is_within, objects_ascend, places_ascend}
 use Rattle.c_laws.specs.Parameters.{parameters_single}
 use Rattle.c_places.specs.Places.{places_of_program}
@@ -116,7 +116,7 @@ owned_told (f ∷ more) number few =
 owners_told : (p : ProgramTree) → length p.functions < 4294967295 → AllByRecursion IsTold (owners_of p)
 owners_told p few =
     told_both (map (λ (v : StaticTree). None) p.statics) (map (λ (l : LiteralTree). None) p.literals ++ owned_from 0 p.functions) (none_told p.statics)
-    (told_both (map (λ (l : LiteralTree). None) p.literals) (owned_from 0 p.functions) (none_told p.literals) (owned_told p.functions 0 few))
+    (told_both (map (λ (l : LiteralTree). None) p.literals) (owned_from 0 p.functions) (none_told p.literals) (owned_told p.functions 0 (omega (arith, few))))
 
 -- an image has so few functions
 few_functions : (m : Form) → size m < 2 ^ 32 → length m.functions < 4294967295

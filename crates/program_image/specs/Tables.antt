@@ -1,5 +1,5 @@
 -- What the tables of an image say of its program.
-use Rattle.std.specs.Prelude.{◌≡◌, ◌↔◌, ℕ, ◌+◌, Option, List, [], ◌∷◌, ◌++◌, length, map}
+use Rattle.std.specs.Prelude.{◌≡◌, ◌↔◌, ℕ, ◌+◌, List, [], ◌∷◌, ◌++◌, length, map}
 use Rattle.std.specs.List.{Contains}
 use Rattle.places.specs.declared.flow.Assignment.{Assignment}
 use Rattle.places.specs.declared.flow.FlowStep.{FlowStep}

@@ -1,5 +1,5 @@
 -- The unit that the forms give of a program is built of it.
-use Rattle.std.proofs.Common.{◌≡◌, zero, suc, List, [], ◌∷◌, refl, subst, arith}
+use Rattle.std.proofs.Common.{zero, suc, List, [], ◌∷◌, refl, subst, arith}
 use Rattle.std.specs.Prelude.{◌↔◌, IfOk, IfSome, Option, Some, None, Result, Ok, Err}
 use Rattle.std.specs.List.{Contains}
 use Rattle.places.specs.declared.flow.Assignment.{Assignment}

@@ -1,6 +1,7 @@
 use Rattle.std.proofs.Common.{◌≡◌, map, subst, ap, ◌∙◌}
 use Rattle.std.specs.Prelude.{IfSome}
-use Rattle.c_tree.specs.Programs.{program_view}
+use Rattle.std.proofs.lemmas.List.{length-map}
+use Rattle.c_tree.specs.Programs.{automatic_view, program_view}
 use Rattle.homed_unit.specs.Homed.{homed_view}
 use Rattle.image_form.specs.Form.{form}
 use Rattle.currency.specs.Visible.{sight, sights_from}
@@ -11,7 +12,7 @@ use Rattle.program_image.proofs.Units.{entries_seen}
 use Rattle.program_image.proofs.drafting.draft_of.Goals as goal
 
 pub image_of-requires-clause-owned : goal.image_of-requires-clause-owned
-image_of-requires-clause-owned c = all_owned (program_view c.args.program.now) c.requires.laws
+image_of-requires-clause-owned c = all_owned (program_view c.args.program.now) c.requires.laws ∙ length-map c.args.program.now.automatics.items automatic_view
 
 pub returns-clause-tables : goal.returns-clause-tables
 returns-clause-tables c =
