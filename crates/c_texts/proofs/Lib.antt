@@ -26,3 +26,4 @@ pub mod Functions
 pub mod Weighing
 pub mod PlainTexts
 pub mod PlainFunctions
+pub mod Main
