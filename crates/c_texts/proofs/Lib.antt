@@ -27,3 +27,4 @@ pub mod Weighing
 pub mod PlainTexts
 pub mod PlainFunctions
 pub mod Main
+pub mod Parameters

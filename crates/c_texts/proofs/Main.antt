@@ -2,7 +2,6 @@
 use Rattle.std.proofs.Common.{◌≡◌, ℕ, zero, suc, ◌+◌, List, [], ◌∷◌, ◌++◌, length, slice_get, Bool, true, false, ◌&&◌, Option, Some, None, refl, sym, ap, ◌∙◌, subst, add-one}
 use Rattle.std.specs.Prelude.{if◌then◌else◌, map, ◌==◌}
 use Rattle.std.specs.Option.{option_map, option_map_or}
-use Rattle.std.specs.Str.{bytes_eq}
 use Rattle.c_tree.specs.declared.types.IntegerType.TheVariants.{Int}
 use Rattle.c_tree.specs.declared.object_type.ValueType.{ValueType}
 use Rattle.c_tree.specs.declared.object_type.ValueType.TheVariants.{Integer}
@@ -14,9 +13,9 @@ use Rattle.c_tree.specs.Programs.{TypedFunctionTree, ProgramTree}
 use Rattle.c_type_rules.specs.Types.{same_value}
 use Rattle.c_type_expressions.specs.Names.{SignatureTree}
 use Rattle.c_type_declarations.specs.Progress.{ProgressTree, Met, means, next_met}
-use Rattle.c_type.specs.Functions.{result_type, names_if, defined_by, defined, number_of, function_made, rest_met, signature_of, name_met, parameter_sizes}
-use Rattle.c_type.specs.Items.{item_met, items_met, beginning, source_met}
-use Rattle.c_type.specs.Programs.{main, is_main, is_int, has_none, main_line, is_definition, main_definition, main_refusal, main_number}
+use Rattle.c_type.specs.Functions.{result_type, defined, number_of, function_made, rest_met, signature_of, name_met, parameter_sizes}
+use Rattle.c_type.specs.Items.{item_met, items_met, beginning}
+use Rattle.c_type.specs.Programs.{main, is_main, is_int, has_none, main_line, main_definition, main_refusal}
 use Rattle.c_laws.specs.Laws as law
 use Rattle.c_texts.specs.Progress.{Ensures}
 use Rattle.c_texts.proofs.Same.{both}
