@@ -133,7 +133,7 @@ module _ (p : ProgramTree) where
   pub library_passes : (extent : Extent) (name : List ℕ) (c : Callee) (q : ProgressTree) → Passes p q (library_met extent name c q)
   library_passes extent name c q = placed_passes extent name (library c) q.names.signatures (meaning_of q.names name) q
 
-  end_passes : (extent : Extent) (m : Option Meaning) (q : ProgressTree) → Passes p q (end_beside extent m q)
+  pub end_passes : (extent : Extent) (m : Option Meaning) (q : ProgressTree) → Passes p q (end_beside extent m q)
   end_passes extent None q = other_passes p (codes "EOF") EndOfFile q (λ o of e. cc)
   end_passes extent (Some EndOfFile) q = passes_itself p q
   end_passes extent (Some (Variable o of)) q = breaks_passes p REDECLARED extent q

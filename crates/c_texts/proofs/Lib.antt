@@ -28,3 +28,5 @@ pub mod PlainTexts
 pub mod PlainFunctions
 pub mod Main
 pub mod Parameters
+pub mod Linking
+pub mod Linked
