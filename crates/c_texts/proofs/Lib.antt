@@ -30,3 +30,4 @@ pub mod Main
 pub mod Parameters
 pub mod Linking
 pub mod Linked
+pub mod Callees

@@ -1,4 +1,4 @@
--- What is called in an accepted source is there, with its type: each declaration of a function agrees with its definition.
+-- What stands at file scope keeps what the names of functions mean.
 use Rattle.std.proofs.Common.{◌≡◌, ℕ, zero, suc, ◌+◌, List, [], ◌∷◌, ◌++◌, length, slice_get, Bool, true, false, ◌&&◌, Option, Some, None, refl, sym, ap, ◌∙◌, subst, append-nil, append_assoc}
 use Rattle.std.specs.Prelude.{if◌then◌else◌, is_some, map, unwrap_or, codes}
 use Rattle.std.specs.Option.{option_map_or}
@@ -132,12 +132,12 @@ module _ (p : ProgramTree) where
             links_same q (closed t) (closed_scopes q t a) a.signatures l
 
   -- items
-  abbrev IsItemNumbered : List (List ℕ) → ItemTree → Type 0
+  abbrev pub IsItemNumbered : List (List ℕ) → ItemTree → Type 0
   IsItemNumbered names (Include spot h) = Unit {0}
   IsItemNumbered names (Declares d) = Unit {0}
   IsItemNumbered names (Defines f) = IsNumbered names f.name.name f.body
 
-  abbrev AreNumbered : List (List ℕ) → List ItemTree → Type 0
+  abbrev pub AreNumbered : List (List ℕ) → List ItemTree → Type 0
   AreNumbered names [] = Unit {0}
   AreNumbered names (i ∷ rest) = IsItemNumbered names i × AreNumbered names rest
 
@@ -154,12 +154,12 @@ module _ (p : ProgramTree) where
       by None = tt
       by (Some b) = (length before, there_between before behind f.name.name)
 
-  items_numbered : (before : List (List ℕ)) (items : List ItemTree) → AreNumbered (before ++ defined items) items
+  pub items_numbered : (before : List (List ℕ)) (items : List ItemTree) → AreNumbered (before ++ defined items) items
   items_numbered before [] = tt
   items_numbered before (i ∷ rest) = (item_numbered before (defined rest) i, subst (λ ns. AreNumbered ns rest) (append_assoc before (defined_by i) (defined rest)) (items_numbered (before ++ defined_by i) rest))
 
   -- no library name is defined
-  abbrev OwnAll : List (List ℕ) → Type 0
+  abbrev pub OwnAll : List (List ℕ) → Type 0
   OwnAll [] = Unit {0}
   OwnAll (n ∷ ns) = (is_library_name n ≡ true → ⊥) × OwnAll ns
 
@@ -167,7 +167,7 @@ module _ (p : ProgramTree) where
   own_on [] ys h g = g
   own_on (x ∷ xs) ys h g = (h.0, own_on xs ys h.1 g)
 
-  own_at : (ns : List (List ℕ)) → OwnAll ns → AreOwn ns
+  pub own_at : (ns : List (List ℕ)) → OwnAll ns → AreOwn ns
   own_at [] h j n at is = cc
   own_at (m ∷ ns) h zero n at is = let e : m ≡ n = cc in h.0 (ap is_library_name e ∙ is)
   own_at (m ∷ ns) h (suc j) n at is = own_at ns h.1 j n at is
@@ -196,7 +196,7 @@ module _ (p : ProgramTree) where
       by : (m : Met (List TypedFunctionTree)) → Ensures (Defined p r) m → Ensures (λ (fs : List TypedFunctionTree) t. t.found.faults ≡ [] → OwnAll (names_if f)) m
       by (means fs t) d = λ h. name_own k f g s (no_fault_before d.extends.found h)
 
-  items_own : (names : List (List ℕ)) (fs : List TypedFunctionTree) (items : List ItemTree) (q : ProgressTree) → AreItemsFormed items → Ensures (λ (gs : List TypedFunctionTree) u. u.found.faults ≡ [] → OwnAll (defined items)) (items_met names fs items q)
+  pub items_own : (names : List (List ℕ)) (fs : List TypedFunctionTree) (items : List ItemTree) (q : ProgressTree) → AreItemsFormed items → Ensures (λ (gs : List TypedFunctionTree) u. u.found.faults ≡ [] → OwnAll (defined items)) (items_met names fs items q)
   unfolding next_met
   items_own names fs [] q formed = λ h. tt
   items_own names fs (i ∷ rest) q formed = by (item_met names (length fs) i q) (item_own names (length fs) i q formed.0) (λ gs t. items_defined p names gs rest t formed.1) (λ gs t. items_own names gs rest t formed.1)
@@ -224,7 +224,7 @@ module _ (p : ProgramTree) where
     included_links spot header.Stdlib q l h = library_links names own done (at_spot spot) (codes "exit") callee.Exit q refl refl refl l h
 
     -- what stands at file scope
-    item_links : (k : ℕ) (i : ItemTree) (q : ProgressTree) → IsItemFormed i → IsItemNumbered names i → Links names done q → Ensures (λ (fs : List TypedFunctionTree) t. t.found.faults ≡ [] → Links names (done ++ definitions_by i) t) (item_met names k i q)
+    pub item_links : (k : ℕ) (i : ItemTree) (q : ProgressTree) → IsItemFormed i → IsItemNumbered names i → Links names done q → Ensures (λ (fs : List TypedFunctionTree) t. t.found.faults ≡ [] → Links names (done ++ definitions_by i) t) (item_met names k i q)
     item_links k (Include spot h) q formed at l = λ e. subst (λ ds. Links names ds (included spot h q)) (sym (append-nil done)) (included_links spot h q l e)
     item_links k (Declares d) q formed at l = λ e. subst (λ ds. Links names ds (statics_met d.type d.declarators q)) (sym (append-nil done)) (statics_links names done d.type d.declarators q formed l e)
     item_links k (Defines f) q formed at l = by (rest_met f (signature_of names f) f.body r) (rest_defined p f (signature_of names f) f.body r formed.1) (λ links. rest_links names (done ++ definitions_by (Defines f)) f f.body r formed.1 links)
