@@ -31,3 +31,4 @@ pub mod Parameters
 pub mod Linking
 pub mod Linked
 pub mod Callees
+pub mod Rooms
