@@ -1,5 +1,5 @@
 -- What is called in an accepted source is there, with its type: each declaration of a function agrees with its definition.
-use Rattle.std.proofs.Common.{◌≡◌, ℕ, zero, suc, ◌+◌, List, [], ◌∷◌, ◌++◌, length, slice_get, true, Option, Some, None, refl, sym, ap, ◌∙◌, subst, append-nil, append_assoc}
+use Rattle.std.proofs.Common.{◌≡◌, ℕ, zero, suc, List, [], ◌∷◌, ◌++◌, length, slice_get, true, Option, Some, None, refl, sym, ap, ◌∙◌, subst, append-nil, append_assoc}
 use Rattle.std.specs.Prelude.{is_some, map, unwrap_or}
 use Rattle.std.specs.Option.{option_map_or}
 use Rattle.c_tree.specs.declared.types.Base.{Base}
@@ -8,7 +8,7 @@ use Rattle.c_tree.specs.declared.object_type.ValueType.TheVariants.{Void}
 use Rattle.c_tree.specs.declared.typed_expression.Callee.{Callee}
 use Rattle.c_tree.specs.declared.typed_expression.Callee.TheVariants as callee
 use Rattle.c_tree.specs.Statements.{BlockTree}
-use Rattle.c_tree.specs.Trees.{FunctionTree, ItemTree, Include, Declares, Defines}
+use Rattle.c_tree.specs.Trees.{ItemTree, Include, Declares, Defines}
 use Rattle.c_tree.specs.Programs.{AutomaticTree, TypedFunctionTree, ProgramTree}
 use Rattle.c_type_rules.specs.Types.{loaded}
 use Rattle.c_value_types.specs.ValueTypes.{results_of}
@@ -29,7 +29,7 @@ use Rattle.c_texts.proofs.Fitting.{loaded_elements}
 use Rattle.c_texts.proofs.Items.{item_defined}
 use Rattle.c_texts.proofs.Programs.{Accepted, AreLinked}
 use Rattle.c_texts.proofs.Parameters.{Definition, definition_of, definitions_by, definitions, IsAs, AreAs, as_types, functions_as}
-use Rattle.c_texts.proofs.Linking.{Links, IsMet, AreOwn}
+use Rattle.c_texts.proofs.Linking.{Links, AreOwn}
 use Rattle.c_texts.proofs.Linked.{AreNumbered, items_numbered, OwnAll, own_at, items_own, item_links}
 
 module _ (p : ProgramTree) (names : List (List ℕ)) (own : AreOwn names) where

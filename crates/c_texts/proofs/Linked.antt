@@ -1,60 +1,49 @@
 -- What stands at file scope keeps what the names of functions mean.
-use Rattle.std.proofs.Common.{◌≡◌, ℕ, zero, suc, ◌+◌, List, [], ◌∷◌, ◌++◌, length, slice_get, Bool, true, false, ◌&&◌, Option, Some, None, refl, sym, ap, ◌∙◌, subst, append-nil, append_assoc}
-use Rattle.std.specs.Prelude.{if◌then◌else◌, is_some, map, unwrap_or, codes}
+use Rattle.std.proofs.Common.{◌≡◌, ℕ, zero, suc, List, [], ◌∷◌, ◌++◌, length, slice_get, true, ◌&&◌, Option, Some, None, refl, sym, ap, ◌∙◌, subst, append-nil, append_assoc}
+use Rattle.std.specs.Prelude.{if◌then◌else◌, is_some, codes}
 use Rattle.std.specs.Option.{option_map_or}
 use Rattle.debug_records.specs.declared.source.Spot.{Spot}
 use Rattle.debug_records.specs.declared.code.TheConstants.Code.{REDECLARED}
 use Rattle.c_tree.specs.declared.extent.Extent.{Extent}
 use Rattle.c_tree.specs.declared.declaration.Header.{Header}
 use Rattle.c_tree.specs.declared.declaration.Header.TheVariants as header
-use Rattle.c_tree.specs.declared.types.Base.{Base}
-use Rattle.c_tree.specs.declared.types.Base.TheVariants as base
 use Rattle.c_tree.specs.declared.types.IntegerType.{IntegerType}
 use Rattle.c_tree.specs.declared.object_type.ObjectType.{ObjectType}
 use Rattle.c_tree.specs.declared.object_type.Object.TheVariants as designator
 use Rattle.c_tree.specs.declared.object_type.ValueType.TheVariants.{Void}
-use Rattle.c_tree.specs.declared.typed_expression.Callee.{Callee}
 use Rattle.c_tree.specs.declared.typed_expression.Callee.TheVariants as callee
 use Rattle.c_tree.specs.Declarations.{BracketsTree, Absent, Empty, Sized, ParameterTree, DeclaratorTree}
 use Rattle.c_tree.specs.Statements.{BlockTree, chain}
 use Rattle.c_tree.specs.Trees.{FunctionTree, ItemTree, Include, Declares, Defines}
 use Rattle.c_tree.specs.TypedStatements.{TypedStatementTrees}
 use Rattle.c_tree.specs.TypedStatements as typed-tree
-use Rattle.c_tree.specs.Programs.{AutomaticTree, TypedFunctionTree, ProgramTree}
-use Rattle.c_type_rules.specs.Types.{loaded}
-use Rattle.c_value_types.specs.ValueTypes.{results_of, given_by}
-use Rattle.c_law_types.specs.Kinds.{is_callee, taken_by, parameters_in, types_of}
+use Rattle.c_tree.specs.Programs.{TypedFunctionTree, ProgramTree}
 use Rattle.c_type_expressions.specs.declared.names.Meaning.{Meaning}
-use Rattle.c_type_expressions.specs.declared.names.Meaning.TheVariants.{Variable, Function}
-use Rattle.c_type_expressions.specs.Names.{Scope, SignatureTree, meaning_of}
-use Rattle.c_type_declarations.specs.Scopes.{empty_scope, innermost, declared_here}
+use Rattle.c_type_expressions.specs.declared.names.Meaning.TheVariants.{Variable}
+use Rattle.c_type_expressions.specs.Names.{SignatureTree, meaning_of}
+use Rattle.c_type_declarations.specs.Scopes.{innermost, declared_here}
 use Rattle.c_type_declarations.specs.Progress.{ProgressTree, Met, means, next_met, reached_by, breaks, breaks_if, with_name, opened, closed}
 use Rattle.c_type_declarations.specs.Objects.{size_met, type_met}
 use Rattle.c_type_declarations.specs.Statics.{Contents, contents_met}
 use Rattle.c_type_declarations.specs.Declarations.{with_static, static_of_type, static_met, statics_met}
 use Rattle.c_type_statements.specs.Statements.{statements_met}
-use Rattle.c_type.specs.Headers.{is_library_name, library, is_library, library_met, at_spot, included}
-use Rattle.c_type.specs.Functions.{parameter_size, parameter_sizes, parameters_met, result_type, names_if, defined_by, defined, setting_of, function_made, signature_of, known_as, name_met, without_new, rest_met, function_met}
-use Rattle.c_type.specs.Items.{item_met, items_met, beginning}
+use Rattle.c_type.specs.Headers.{is_library_name, library_met, at_spot, included}
+use Rattle.c_type.specs.Functions.{parameter_size, parameter_sizes, parameters_met, result_type, names_if, defined_by, defined, setting_of, function_made, signature_of, known_as, name_met, without_new, rest_met}
+use Rattle.c_type.specs.Items.{item_met, items_met}
 use Rattle.c_texts.specs.Formed.{IsSizeFormed, IsDeclaratorFormed, AreDeclaratorsFormed, IsInitialFormed}
 use Rattle.c_texts.specs.Files.{AreSizesFormed, IsBodyFormed, IsItemFormed, AreItemsFormed, Defined}
-use Rattle.c_texts.specs.Known.{IsCalled}
-use Rattle.c_texts.specs.Values.{leads_to_elements}
-use Rattle.c_texts.specs.Progress.{Advances, Ensures}
+use Rattle.c_texts.specs.Progress.{Ensures}
 use Rattle.c_texts.specs.Making.{Looks}
 use Rattle.c_texts.specs.Stating.{StatesAll}
 use Rattle.c_texts.proofs.Growing.{no_fault_before}
-use Rattle.c_texts.proofs.Fitting.{loaded_elements}
-use Rattle.c_texts.proofs.Judging.{at_end}
 use Rattle.c_texts.proofs.Coming.{advances_on, closed_scopes}
 use Rattle.c_texts.proofs.Sizing.{Counts, size_some, Types, type_elements}
 use Rattle.c_texts.proofs.Statements.{all_states}
 use Rattle.c_texts.proofs.Bodies.{parameters_come}
 use Rattle.c_texts.proofs.Filing.{contents_contained, statics_pass}
-use Rattle.c_texts.proofs.Items.{AllDefined, rest_defined, item_defined, items_defined, end_passes, library_passes}
-use Rattle.c_texts.proofs.Programs.{Accepted, AreLinked}
-use Rattle.c_texts.proofs.Parameters.{Definition, definition_of, definitions_by, definitions, IsAs, AreAs, as_types, functions_as}
-use Rattle.c_texts.proofs.Linking.{broken, Links, IsMet, links_same, links_name, free_none, IsNumbered, name_links, AreOwn, library_links, end_there}
+use Rattle.c_texts.proofs.Items.{AllDefined, rest_defined, items_defined, end_passes, library_passes}
+use Rattle.c_texts.proofs.Parameters.{Definition, definitions_by}
+use Rattle.c_texts.proofs.Linking.{broken, Links, links_same, links_name, free_none, IsNumbered, name_links, AreOwn, library_links, end_there}
 
 -- any function
 abbrev any_function : Spot → TypedFunctionTree

@@ -1,15 +1,12 @@
 -- What the names of functions mean while a source is checked at file scope: each name one function, of one type.
-use Rattle.std.proofs.Common.{◌≡◌, ℕ, zero, suc, ◌+◌, List, [], ◌∷◌, ◌++◌, length, take, slice_get, cond, Bool, true, false, ◌&&◌, Option, Some, None, refl, sym, ap, ◌∙◌, subst, append-nil, add-one}
+use Rattle.std.proofs.Common.{◌≡◌, ℕ, zero, suc, ◌+◌, List, [], ◌∷◌, ◌++◌, length, slice_get, cond, Bool, true, false, ◌&&◌, Option, Some, None, refl, sym, ap, ◌∙◌, subst, append-nil, add-one}
 use Rattle.std.specs.Prelude.{if◌then◌else◌, is_some, codes}
 use Rattle.std.specs.Option.{option_map}
 use Rattle.std.specs.Str.{bytes_eq}
 use Rattle.std.proofs.lemmas.Slice.Eq.{bytes_eq-Decides}
-use Rattle.debug_records.specs.declared.source.Spot.{Spot}
 use Rattle.debug_records.specs.declared.code.Code.{Code}
 use Rattle.debug_records.specs.declared.code.TheConstants.Code.{REDECLARED}
 use Rattle.c_tree.specs.declared.extent.Extent.{Extent}
-use Rattle.c_tree.specs.declared.declaration.Header.{Header}
-use Rattle.c_tree.specs.declared.declaration.Header.TheVariants as header
 use Rattle.c_tree.specs.declared.object_type.Scalar.{Scalar}
 use Rattle.c_tree.specs.declared.typed_expression.Callee.{Callee}
 use Rattle.c_tree.specs.declared.typed_expression.Callee.TheVariants as callee
@@ -21,7 +18,7 @@ use Rattle.c_type_expressions.specs.declared.names.Meaning.TheVariants.{Variable
 use Rattle.c_type_expressions.specs.Names.{Scope, SignatureTree, found_in, meaning_of}
 use Rattle.c_type_declarations.specs.Scopes.{with_meaning, innermost, with_innermost}
 use Rattle.c_type_declarations.specs.Progress.{ProgressTree, breaks, with_name}
-use Rattle.c_type.specs.Headers.{is_library_name, with_function, library, is_library, same_scalars, same_type, stands_with, stands, placed, library_met, end_beside, at_spot, included}
+use Rattle.c_type.specs.Headers.{is_library_name, with_function, library, is_library, same_scalars, same_type, stands_with, stands, placed, library_met, end_beside}
 use Rattle.c_type.specs.Functions.{number_of, callee_of, signature_of, is_first, agrees, agrees_with, known_as, name_met}
 use Rattle.c_texts.proofs.Same.{two_true, scalar_is, value_is}
 use Rattle.c_texts.proofs.Growing.{more_is_some}

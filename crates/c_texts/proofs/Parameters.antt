@@ -1,5 +1,5 @@
 -- The parameters of a function are its first variables, of the types that its declarator says.
-use Rattle.std.proofs.Common.{◌≡◌, ℕ, suc, ◌+◌, List, [], ◌∷◌, ◌++◌, length, take, drop, slice_get, true, ◌&&◌, Option, Some, None, refl, sym, ap, ◌∙◌, subst, add-one, append-nil, append_assoc}
+use Rattle.std.proofs.Common.{◌≡◌, ℕ, suc, List, [], ◌∷◌, ◌++◌, length, take, drop, slice_get, true, Option, Some, None, refl, sym, ap, ◌∙◌, subst, add-one, append-nil, append_assoc}
 use Rattle.std.specs.Prelude.{map}
 use Rattle.std.specs.Option.{option_map_or}
 use Rattle.c_tree.specs.declared.object_type.Scalar.{Scalar}
