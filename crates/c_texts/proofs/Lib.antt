@@ -32,3 +32,4 @@ pub mod Linking
 pub mod Linked
 pub mod Callees
 pub mod Rooms
+pub mod Counting
