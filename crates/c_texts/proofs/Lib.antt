@@ -33,3 +33,4 @@ pub mod Linked
 pub mod Callees
 pub mod Rooms
 pub mod Counting
+pub mod CountingTexts
