@@ -34,3 +34,5 @@ pub mod Callees
 pub mod Rooms
 pub mod Counting
 pub mod CountingTexts
+pub mod CountingParts
+pub mod CountingStatements
