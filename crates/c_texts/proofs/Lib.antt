@@ -36,3 +36,4 @@ pub mod Counting
 pub mod CountingTexts
 pub mod CountingParts
 pub mod CountingStatements
+pub mod WholeFunctions
