@@ -1,6 +1,5 @@
 -- What initializers, declarators and parts of statements mean has no more nodes than they weigh.
-use Rattle.std.proofs.Common.{◌≡◌, ◌≤◌, ℕ, ◌+◌, List, [], ◌∷◌, length, Bool, true, false, Option, Some, None, refl, ap, arith}
-use Rattle.std.specs.Prelude.{if◌then◌else◌}
+use Rattle.std.proofs.Common.{◌≡◌, ◌≤◌, ℕ, ◌+◌, List, [], ◌∷◌, Bool, Option, Some, None, refl, ap, arith}
 use Rattle.std.specs.Option.{option_map_or}
 use Rattle.std.proofs.lemmas.List.Sums.{sum_by-cons}
 use Rattle.debug_records.specs.declared.source.Spot.{Spot}
@@ -12,15 +11,14 @@ use Rattle.c_tree.specs.declared.object_type.ObjectType.TheVariants as object
 use Rattle.c_tree.specs.Expressions.{ExpressionTree}
 use Rattle.c_tree.specs.Declarations.{InitializerTree, InitializerTrees, Value, Braces, DeclaratorTree}
 use Rattle.c_tree.specs.Declarations as declaration
-use Rattle.c_tree.specs.TypedExpressions.{RvalueTree}
-use Rattle.c_tree.specs.TypedStatements.{InitialTree, DeclaredTree}
+use Rattle.c_tree.specs.TypedStatements.{DeclaredTree}
 use Rattle.c_type_rules.specs.Types.{loaded}
-use Rattle.c_type_bounds.specs.Weights.{weight_of, size_weight, initializer_weight, initializers_weight, initial_weight, declarator_weight, declarators_weight}
+use Rattle.c_type_bounds.specs.Weights.{weight_of, initializer_weight, initializers_weight, initial_weight, declarator_weight, declarators_weight}
 use Rattle.c_type_values.specs.Values.{ValueTree, converted}
 use Rattle.c_type_expressions.specs.Findings.{Checked, gives}
 use Rattle.c_type_expressions.specs.Judgements.{valued}
 use Rattle.c_type_expressions.specs.Expressions.{typed, is_zero}
-use Rattle.c_type_declarations.specs.Progress.{ProgressTree, Met, means, next_met, within, value_met}
+use Rattle.c_type_declarations.specs.Progress.{ProgressTree, within, value_met}
 use Rattle.c_type_declarations.specs.Objects.{literal_for, only_in, type_met}
 use Rattle.c_type_declarations.specs.Initials.{or_misfit, fitted, fitting, braces_met, scalar_met, tree_of, elements_met, array_literal_met, list_met, written_met, initial_met}
 use Rattle.c_type_declarations.specs.Declarations.{automatic_of_type, automatic_met, automatics_met}

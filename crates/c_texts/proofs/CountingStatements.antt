@@ -1,23 +1,19 @@
 -- What statements mean has no more nodes than they weigh.
-use Rattle.std.proofs.Common.{◌≡◌, ◌≤◌, ℕ, ◌+◌, ℤ, List, [], ◌∷◌, ◌++◌, Bool, true, false, Option, Some, None, refl, arith}
-use Rattle.std.specs.Prelude.{if◌then◌else◌}
+use Rattle.std.proofs.Common.{◌≡◌, ◌≤◌, ℕ, ◌+◌, ℤ, List, [], ◌∷◌, ◌++◌, Bool, Option, Some, None, arith}
 use Rattle.c_tree.specs.declared.extent.Extent.{Extent}
 use Rattle.c_tree.specs.declared.types.IntegerType.{IntegerType}
 use Rattle.c_tree.specs.declared.object_type.ValueType.{ValueType}
 use Rattle.c_tree.specs.declared.object_type.ValueType.TheVariants.{Void, Integer, Pointer}
-use Rattle.c_tree.specs.Ends.{first_of}
 use Rattle.c_tree.specs.Expressions.{ExpressionTree}
-use Rattle.c_tree.specs.Statements.{StartTree, LabelTree, CaseLabel, DefaultLabel, StatementTree, StatementTrees}
+use Rattle.c_tree.specs.Statements.{StartTree, CaseLabel, DefaultLabel, StatementTree, StatementTrees}
 use Rattle.c_tree.specs.Statements as tree
-use Rattle.c_tree.specs.TypedExpressions.{RvalueTree}
-use Rattle.c_tree.specs.TypedStatements.{TypedStatementTree, TypedStatementTrees, TypedStartTree, StepTree}
+use Rattle.c_tree.specs.TypedStatements.{TypedStatementTree, TypedStatementTrees}
 use Rattle.c_tree.specs.TypedStatements as typed-tree
 use Rattle.c_type_rules.specs.Integers.{promoted}
-use Rattle.c_type_bounds.specs.Weights.{weight_of, weight_if_any, start_weight, statement_weight, statements_weight, label_weight}
-use Rattle.c_type_values.specs.Values.{ValueTree, converted}
+use Rattle.c_type_bounds.specs.Weights.{weight_of, weight_if_any, start_weight, statement_weight, statements_weight}
+use Rattle.c_type_values.specs.Values.{ValueTree}
 use Rattle.c_type_expressions.specs.Expressions.{is_zero}
-use Rattle.c_type_declarations.specs.Progress.{ProgressTree, Met, means, next_met, opened, value_met}
-use Rattle.c_type_declarations.specs.Initials.{tree_of}
+use Rattle.c_type_declarations.specs.Progress.{ProgressTree, Met, means, opened, value_met}
 use Rattle.c_type_statements.specs.declared.setting.Setting.{Setting}
 use Rattle.c_type_statements.specs.Settings.{in_loop, in_switch, run_met, tested, condition_met, condition_if_any, start_met, step_met, returnable, given, returns, return_met}
 use Rattle.c_type_statements.specs.Switches.{Chosen, chosen_by, chosen, chosen_met, case_value, case_numbered, case_by, Labels, no_labels, Place, Outside, Inside, labels_at, behind_label, label_at, Labeled, Parts, PartTree, Case, Default, Statement, unlabeled, bare, put_all}

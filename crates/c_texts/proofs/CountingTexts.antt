@@ -1,5 +1,5 @@
 -- What an expression means has no more nodes than the expression weighs.
-use Rattle.std.proofs.Common.{◌≡◌, ◌≤◌, ℕ, ◌+◌, ◌*◌, List, [], ◌∷◌, length, slice_get, Bool, true, false, Option, Some, None, refl, arith}
+use Rattle.std.proofs.Common.{◌≤◌, ℕ, ◌+◌, ◌*◌, List, [], length, slice_get, Bool, true, false, Option, Some, None, arith}
 use Rattle.std.specs.Prelude.{if◌then◌else◌, ◌==◌}
 use Rattle.std.specs.Option.{option_map}
 use Rattle.debug_records.specs.declared.source.Spot.{Spot}
@@ -19,7 +19,6 @@ use Rattle.c_tree.specs.declared.object_type.ValueType.TheVariants.{Void, Intege
 use Rattle.c_tree.specs.declared.typed_expression.Callee.{Callee}
 use Rattle.c_tree.specs.declared.typed_expression.Direction.{Direction}
 use Rattle.c_tree.specs.declared.typed_expression.Given.{Given}
-use Rattle.c_tree.specs.TypedExpressions.{ArgumentTrees}
 use Rattle.c_tree.specs.Expressions.{ExpressionTree, ExpressionTrees, Name, Constant, Literal, Parenthesized, Index, Call, PostIncrement, PostDecrement, Prefix, Cast, SizeofExpression, SizeofType, SizeofArray, Binary, Conditional, Assignment, Comma}
 use Rattle.c_tree.specs.Expressions as expression
 use Rattle.c_tree.specs.Ends.{first_of, last_of}
@@ -35,7 +34,7 @@ use Rattle.c_type_expressions.specs.declared.names.Meaning.{Meaning}
 use Rattle.c_type_expressions.specs.declared.names.Meaning.TheVariants.{Variable, Function, EndOfFile}
 use Rattle.c_type_expressions.specs.Names.{Names, SignatureTree, meaning_of}
 use Rattle.c_type_expressions.specs.Findings.{FoundTree, Checked, gives, next, with_one, restored, faulted, judged}
-use Rattle.c_type_expressions.specs.Judgements.{Meant, valued, named, writing, stepping, prefixed, cast_from, cast_to, cast, size_value, size_of, count_of, assignable, assigning, assignment_by, Passed, passed_as, passed_to, before, uncallable, noted, call_tree, called}
+use Rattle.c_type_expressions.specs.Judgements.{valued, named, writing, stepping, prefixed, cast_from, cast_to, cast, size_value, size_of, count_of, assignable, assigning, assignment_by, Passed, passed_as, passed_to, before, uncallable, noted, call_tree, called}
 use Rattle.c_type_expressions.specs.Expressions.{function_named, call_of, is_zero, typed, typed_all}
 use Rattle.c_texts.proofs.Counting.{meant_nodes, value_nodes, Few, GivesFew, next_few, one_few, two_few, three_few, judged_few, as_value_nodes, valued_few, option_few, converted_few, address_few, dereferenced_few, element_few, signed_few, negated_few, combined_few, conditional_few, stepped_few, assigned_few, updated_few}
 

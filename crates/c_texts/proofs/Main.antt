@@ -87,6 +87,7 @@ items_headed names fs (i ∷ rest) q = by (item_met names (length fs) i q) (item
     later more (means gs u) e h =
         let here : map heading gs ≡ map heading (fs ++ more) ++ headings rest = h in
         here ∙ ap (λ z. z ++ headings rest) (map_on fs more) ∙ push_on (map heading fs) (map heading more) (headings rest) ∙ ap (λ z. map heading fs ++ (z ++ headings rest)) e ∙ ap (λ z. map heading fs ++ z) (sym (one_more i rest))
+
     by : (m : Met (List TypedFunctionTree)) → Ensures (Headed (headings_by i)) m → ((gs : List TypedFunctionTree) (t : ProgressTree) → Ensures (Headed (map heading gs ++ headings rest)) (items_met names gs rest t))
         → Ensures (Headed (map heading fs ++ headings (i ∷ rest))) (next_met (next_met m (λ more. means (fs ++ more))) (λ gs. items_met names gs rest))
     by (means more t) e all = later more (items_met names (fs ++ more) rest t) e (all (fs ++ more) t)
@@ -116,6 +117,7 @@ main_heading (Defines g ∷ rest) f h line = by g.body (is_main g.name.name) ref
   where
     this : Heading
     this = record { result = result_type g.base g.stars; parameters = length g.parameters }
+
     by : (b : Option BlockTree) (m : Bool) → is_main g.name.name ≡ m → (if option_map_or (λ x. is_main g.name.name) b false then Some g else main_definition rest) ≡ Some f
         → (main_definition rest ≡ Some f → (k : ℕ) × (number_of main (defined rest) ≡ Some k) × IsMainHeading (slice_get (headings rest) k))
         → (k : ℕ) × (number_of main (option_map_or (λ x. g.name.name ∷ []) b [] ++ defined rest) ≡ Some k) × IsMainHeading (slice_get (option_map_or (λ x. this ∷ []) b [] ++ headings rest) k)

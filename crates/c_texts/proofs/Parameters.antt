@@ -73,9 +73,10 @@ module _ (p : ProgramTree) where
   parameters_there f (d ∷ ds) q h =
       let one = parameter_there d q h.0 in
       let rest = (parameters_come p f ds (parameter_met d q)).advances.automatics in
-      let r = (parameter_met d q).automatics in
-      ((one.0, ap (λ l. slice_get l (length q.automatics)) rest.1 ∙ slice_more r rest.0 (length q.automatics) one.0 one.1, one.2),
-      subst (λ k. AreScalars (parameters_met ds (parameter_met d q)).automatics k (parameter_types ds)) (parameter_counts p f d q h.0 ∙ add-one (length q.automatics)) (parameters_there f ds (parameter_met d q) h.1))
+      let r = (parameter_met d q).automatics in (
+        (one.0, ap (λ l. slice_get l (length q.automatics)) rest.1 ∙ slice_more r rest.0 (length q.automatics) one.0 one.1, one.2),
+        subst (λ k. AreScalars (parameters_met ds (parameter_met d q)).automatics k (parameter_types ds)) (parameter_counts p f d q h.0 ∙ add-one (length q.automatics)) (parameters_there f ds (parameter_met d q) h.1),
+      )
 
 -- What a definition says of its function.
 pub record Definition : Type 0 where
@@ -146,9 +147,10 @@ module _ (p : ProgramTree) where
       by : (m : Met TypedStatementTrees) → ((fun : TypedFunctionTree) → result_type f.base f.stars ≡ fun.result → Ensures (StatesAll p fun (setting_of (signature_of names f)) begun) m)
           → Ensures (Fit (definition_of f ∷ [])) (next_met m (function_made f (signature_of names f) b (length q.automatics)))
       by (means ts t) h =
-          let states = h (any ts t) refl in
-          (record { result = refl; count = types_length f.parameters; scalars = scalars_more begun.automatics t.automatics (length q.automatics) (parameter_types f.parameters) states.comes.advances.automatics (parameters_there p (any ts t) f.parameters (opened q) formed.0) },
-          tt)
+          let states = h (any ts t) refl in (
+            record { result = refl; count = types_length f.parameters; scalars = scalars_more begun.automatics t.automatics (length q.automatics) (parameter_types f.parameters) states.comes.advances.automatics (parameters_there p (any ts t) f.parameters (opened q) formed.0) },
+            tt,
+          )
 
   rest_fits : (names : List (List ℕ)) (f : FunctionTree) (b : Option BlockTree) (q : ProgressTree) → IsBodyFormed f.parameters b → Ensures (Fit (definitions_if f b)) (rest_met f (signature_of names f) b q)
   rest_fits names f (Some b) q formed = body_fits names f b q formed
