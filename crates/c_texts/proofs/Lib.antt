@@ -37,3 +37,4 @@ pub mod CountingTexts
 pub mod CountingParts
 pub mod CountingStatements
 pub mod WholeFunctions
+pub mod WholePrograms
