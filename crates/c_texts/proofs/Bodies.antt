@@ -46,7 +46,7 @@ parameters_come p f [] q = comes_itself p f f.first_variable q
 parameters_come p f (d ∷ ds) q = comes_on p f (parameter_comes p f d q) (parameters_come p f ds (parameter_met d q))
 
 -- each parameter with a name is a variable
-parameter_counts : (p : ProgramTree) (f : TypedFunctionTree) (d : ParameterTree) (q : ProgressTree) → has_name d → length (parameter_met d q).automatics ≡ length q.automatics + 1
+pub parameter_counts : (p : ProgramTree) (f : TypedFunctionTree) (d : ParameterTree) (q : ProgressTree) → has_name d → length (parameter_met d q).automatics ≡ length q.automatics + 1
 parameter_counts p f d q h =
     ap (λ n. length (option_map_or (λ n. parameter_named d.extent (parameter_type d) n q) n q).automatics) h.1
     ∙ declares_count p f f.first_variable (omega arith) d.extent h.0 (object_type.Scalar (parameter_type d)) (Variable (object.Automatic (length q.automatics)) (object_type.Scalar (parameter_type d))) q

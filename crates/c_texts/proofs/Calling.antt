@@ -26,7 +26,7 @@ use Rattle.c_texts.proofs.Values.{converted_typed}
 use Rattle.c_texts.proofs.Judging.{le_is}
 
 -- the rest of a list from an element on
-rest_from : {A : Type 0} (xs : List A) (n : ℕ) (x : A) → slice_get xs n ≡ Some x → drop n xs ≡ x ∷ drop (suc n) xs
+pub rest_from : {A : Type 0} (xs : List A) (n : ℕ) (x : A) → slice_get xs n ≡ Some x → drop n xs ≡ x ∷ drop (suc n) xs
 rest_from [] n x h = cc
 rest_from (y ∷ xs) zero x h = let e : y ≡ x = cc in ap (λ q. q ∷ xs) e
 rest_from (y ∷ xs) (suc n) x h = rest_from xs n x h

@@ -9,7 +9,7 @@ use Rattle.c_law_types.specs.Statements.{are_statements}
 use Rattle.c_laws.specs.Laws.{are_in_memory, declares_its_own, follow}
 use Rattle.c_texts.specs.Files.{AreItemsFormed, are_typed}
 use Rattle.c_texts.proofs.Same.{two_true}
-use Rattle.c_texts.proofs.Marking.{AreBelow, AllMarked, one, none, each_kept, are_marked}
+use Rattle.c_texts.proofs.Marking.{AreBelow, AreWithin, AllMarked, one, none, each_kept, are_marked}
 use Rattle.c_texts.proofs.Keeping.{statements_own}
 use Rattle.c_texts.proofs.Programs.{Accepted, AreLinked, marks_of, marks, variables_are, functions_typed, functions_follow}
 
@@ -36,9 +36,9 @@ typed_at p (g ∷ fs) zero f h at =
     subst (λ z. (are_statements p z false false None z.body ≡ true) × (declares_its_own z ≡ true)) e (two_true (are_statements p g false false None g.body) (declares_its_own g) c.0)
 typed_at p (g ∷ fs) (suc k) f h at = typed_at p fs k f (two_true (are_statements p g false false None g.body && declares_its_own g) (are_typed p fs) h).1 at
 
-below_more : (m n : ℕ) (ks : List ℕ) → m ≤ n → AreBelow m ks → AreBelow n ks
-below_more m n [] le h = tt
-below_more m n (k ∷ ks) le h = ((let lt = h.0 in omega arith), below_more m n ks le h.1)
+below_more : (first m n : ℕ) (ks : List ℕ) → m ≤ n → AreWithin first m ks → AreBelow n ks
+below_more first m n [] le h = tt
+below_more first m n (k ∷ ks) le h = ((let lt = h.0.1 in omega arith), below_more first m n ks le h.1)
 
 pub limits_at : {n : ℕ} {fs : List TypedFunctionTree} {vs ws : List AutomaticTree} → AllMarked n fs vs ws → (k : ℕ) (f : TypedFunctionTree) → slice_get fs k ≡ Some f → (nat_le f.weight 3000 ≡ true) × (nat_le f.parameters 8 ≡ true)
 limits_at none k f h = cc
@@ -64,5 +64,5 @@ module _ (items : List ItemTree) (p : ProgramTree) (a : Accepted items p) where
         let within = follow_range 0 (length p.automatics) p.functions k f (functions_follow items p a formed) h in
         let same : length p.automatics ≡ length a.progress.automatics = ap length (variables_are items p a) ∙ (marks items p a).count in
         let own = statements_own p f false false None f.body [] (function_typed k f h).0 tt in
-        let below = below_more (f.first_variable + f.variables) (length a.progress.automatics) (kept_by_all f.body []) (omega arith) own in
+        let below = below_more f.first_variable (f.first_variable + f.variables) (length a.progress.automatics) (kept_by_all f.body []) (omega arith) own in
         ap (λ l. are_in_memory l (kept_by_all f.body [])) (variables_are items p a) ∙ are_marked a.variables (kept_by_all f.body []) (each_kept (marks_of items p a) k f (same_function k f h) below)

@@ -130,10 +130,10 @@ module _ (p : ProgramTree) where
   placed_passes extent name g functions (Some (Variable o of)) q = breaks_passes p REDECLARED extent q
   placed_passes extent name g functions (Some EndOfFile) q = breaks_passes p REDECLARED extent q
 
-  library_passes : (extent : Extent) (name : List ℕ) (c : Callee) (q : ProgressTree) → Passes p q (library_met extent name c q)
+  pub library_passes : (extent : Extent) (name : List ℕ) (c : Callee) (q : ProgressTree) → Passes p q (library_met extent name c q)
   library_passes extent name c q = placed_passes extent name (library c) q.names.signatures (meaning_of q.names name) q
 
-  end_passes : (extent : Extent) (m : Option Meaning) (q : ProgressTree) → Passes p q (end_beside extent m q)
+  pub end_passes : (extent : Extent) (m : Option Meaning) (q : ProgressTree) → Passes p q (end_beside extent m q)
   end_passes extent None q = other_passes p (codes "EOF") EndOfFile q (λ o of e. cc)
   end_passes extent (Some EndOfFile) q = passes_itself p q
   end_passes extent (Some (Variable o of)) q = breaks_passes p REDECLARED extent q
@@ -151,7 +151,7 @@ module _ (p : ProgramTree) where
   any_function spot = record { name = []; spot = spot; result = Void; first_variable = 0; parameters = 0; variables = 0; body = typed-tree.none; close = spot; weight = 0 }
 
   -- sizes in the brackets of parameters
-  size_passes : (extent : Extent) (b : BracketsTree) (q : ProgressTree) → IsSizeFormed b → Passes p q (parameter_size extent b q)
+  pub size_passes : (extent : Extent) (b : BracketsTree) (q : ProgressTree) → IsSizeFormed b → Passes p q (parameter_size extent b q)
   unfolding reached_by
   size_passes extent (Sized e) q h = by (size_met extent e q) (size_some p (any_function extent.first) 0 extent e q h)
     where
@@ -160,7 +160,7 @@ module _ (p : ProgramTree) where
   size_passes extent Absent q h = passes_itself p q
   size_passes extent Empty q h = passes_itself p q
 
-  sizes_pass : (ds : List ParameterTree) (q : ProgressTree) → AreSizesFormed ds → Passes p q (parameter_sizes ds q)
+  pub sizes_pass : (ds : List ParameterTree) (q : ProgressTree) → AreSizesFormed ds → Passes p q (parameter_sizes ds q)
   sizes_pass [] q h = passes_itself p q
   sizes_pass (d ∷ ds) q h = passes_on p (size_passes d.extent d.brackets q h.0) (sizes_pass ds (parameter_size d.extent d.brackets q) h.1)
 
@@ -185,7 +185,7 @@ module _ (p : ProgramTree) where
       }
 
   -- a function
-  rest_defined : (f : FunctionTree) (g : SignatureTree) (b : Option BlockTree) (q : ProgressTree) → IsBodyFormed f.parameters b → Ensures (Defined p q) (rest_met f g b q)
+  pub rest_defined : (f : FunctionTree) (g : SignatureTree) (b : Option BlockTree) (q : ProgressTree) → IsBodyFormed f.parameters b → Ensures (Defined p q) (rest_met f g b q)
   rest_defined f g (Some b) q h = body_defines p f g b q h.0 h.1
   rest_defined f g None q h = passes_defined q (without_new (length q.automatics) (closed (parameters_met f.parameters (opened q)))) (only_passes f q)
 
@@ -199,7 +199,7 @@ module _ (p : ProgramTree) where
       ensures_behind q r (rest_met f (signature_of names f) f.body r) (passes_on p (sizes_pass f.parameters q sizes) (name_passes k f (signature_of names f) s)) (rest_defined f (signature_of names f) f.body r formed)
 
   -- what stands at file scope
-  item_defined : (names : List (List ℕ)) (k : ℕ) (i : ItemTree) (q : ProgressTree) → IsItemFormed i → Ensures (Defined p q) (item_met names k i q)
+  pub item_defined : (names : List (List ℕ)) (k : ℕ) (i : ItemTree) (q : ProgressTree) → IsItemFormed i → Ensures (Defined p q) (item_met names k i q)
   item_defined names k (Include spot h) q formed = passes_defined q (included spot h q) (included_passes spot h q)
   item_defined names k (Declares d) q formed = passes_defined q _ (statics_pass p d.type d.declarators q formed)
   item_defined names k (Defines f) q formed = function_defined names k f q formed.0 formed.1

@@ -1,5 +1,5 @@
 -- The variables that well typed expressions and statements keep in memory are their function's.
-use Rattle.std.proofs.Common.{◌≡◌, ◌<◌, ℕ, ◌+◌, List, [], ◌∷◌, ◌++◌, length, slice_get, nat_le, nat_lt, Bool, true, false, ◌&&◌, not, Option, Some, None, refl, arith}
+use Rattle.std.proofs.Common.{◌≡◌, ◌≤◌, ◌<◌, ℕ, ◌+◌, List, [], ◌∷◌, ◌++◌, length, slice_get, nat_le, nat_lt, Bool, true, false, ◌&&◌, not, Option, Some, None, refl, arith}
 use Rattle.std.specs.Prelude.{if◌then◌else◌}
 use Rattle.std.proofs.lemmas.Bool.Decides.{nat_tests}
 use Rattle.c_tree.specs.declared.types.IntegerType.{IntegerType}
@@ -26,7 +26,8 @@ use Rattle.c_law_types.specs.Expressions.{kind_of, is_place, are_passed}
 use Rattle.c_law_types.specs.Statements.{same_spot, initialises, are_elements, declares_as, is_declared, are_declared, is_start, is_step, is_condition, is_returned, is_void, tested_type, is_switch, is_label, may_stand, is_statement, are_statements}
 use Rattle.c_texts.proofs.Same.{two_true}
 use Rattle.c_texts.proofs.Fitting.{typed_kind}
-use Rattle.c_texts.proofs.Marking.{AreBelow}
+use Rattle.c_texts.proofs.Judging.{le_is}
+use Rattle.c_texts.proofs.Marking.{AreWithin}
 
 three_true : (a b c : Bool) → a && b && c ≡ true → (a ≡ true) × (b ≡ true) × (c ≡ true)
 three_true true true true h = (refl, refl, refl)
@@ -89,23 +90,23 @@ switch_typed Wrong h = cc
 switch_typed NullPointer h = refl
 switch_typed (Of t) h = refl
 
-below_push : (n k : ℕ) (ks : List ℕ) → AreBelow n ks → k < n → AreBelow n (ks ++ k ∷ [])
-below_push n k [] h lt = (lt, tt)
-below_push n k (x ∷ ks) h lt = (h.0, below_push n k ks h.1 lt)
+within_push : (m n k : ℕ) (ks : List ℕ) → AreWithin m n ks → m ≤ k → k < n → AreWithin m n (ks ++ k ∷ [])
+within_push m n k [] h le lt = ((le, lt), tt)
+within_push m n k (x ∷ ks) h le lt = (h.0, within_push m n k ks h.1 le lt)
 
 lt_is : (a b : ℕ) → nat_lt a b ≡ true → a < b
 lt_is a b h = grind (arith, nat_tests)
 
 module _ (p : ProgramTree) (f : TypedFunctionTree) where
-  -- variables below the end of a function's
+  -- variables of a function
   abbrev pub AreOwn : List ℕ → Type 0
-  AreOwn ks = AreBelow (f.first_variable + f.variables) ks
+  AreOwn ks = AreWithin f.first_variable (f.first_variable + f.variables) ks
 
   named_own : (l : LvalueTree) (ks : List ℕ) → is_place p f l ≡ true → AreOwn ks → AreOwn (named l ks)
   named_own (Named (Automatic i) of) ks h own =
       let c = two_true (is_variable f i) (automatic_is (slice_get p.automatics i) of) h in
       let d = two_true (nat_le f.first_variable i) (nat_lt i (f.first_variable + f.variables)) c.0 in
-      below_push (f.first_variable + f.variables) i ks own (lt_is i (f.first_variable + f.variables) d.1)
+      within_push f.first_variable (f.first_variable + f.variables) i ks own (le_is f.first_variable i d.0) (lt_is i (f.first_variable + f.variables) d.1)
   named_own (Named (Static n) of) ks h own = own
   named_own (Named (Literal n) of) ks h own = own
   named_own (Target of a) ks h own = own

@@ -26,3 +26,15 @@ pub mod Functions
 pub mod Weighing
 pub mod PlainTexts
 pub mod PlainFunctions
+pub mod Main
+pub mod Parameters
+pub mod Linking
+pub mod Linked
+pub mod Callees
+pub mod Rooms
+pub mod Counting
+pub mod CountingTexts
+pub mod CountingParts
+pub mod CountingStatements
+pub mod WholeFunctions
+pub mod WholePrograms

@@ -85,6 +85,11 @@ abbrev pub AreBelow : ℕ → List ℕ → Type 0
 AreBelow n [] = Unit {0}
 AreBelow n (k ∷ ks) = (k < n) × AreBelow n ks
 
+-- each of some numbers is within others
+abbrev pub AreWithin : (first end : ℕ) → List ℕ → Type 0
+AreWithin first end [] = Unit {0}
+AreWithin first end (k ∷ ks) = ((first ≤ k) × (k < end)) × AreWithin first end ks
+
 abbrev pub AreMarked : List AutomaticTree → List ℕ → Type 0
 AreMarked vs [] = Unit {0}
 AreMarked vs (k ∷ ks) = (is_in_memory (slice_get vs k) ≡ true) × AreMarked vs ks

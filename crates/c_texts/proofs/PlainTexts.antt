@@ -21,7 +21,7 @@ use Rattle.c_texts.proofs.Coming.{next_ensures}
 use Rattle.c_texts.proofs.Labelling.{labels_on}
 
 -- whatever a part means
-next_any : {A B : Type 0} (S : B → ProgressTree → Type 0) (m : Met A) (g : A → ProgressTree → Met B) → ((a : A) (t : ProgressTree) → Ensures S (g a t)) → Ensures S (next_met m g)
+pub next_any : {A B : Type 0} (S : B → ProgressTree → Type 0) (m : Met A) (g : A → ProgressTree → Met B) → ((a : A) (t : ProgressTree) → Ensures S (g a t)) → Ensures S (next_met m g)
 unfolding next_met
 next_any S (means a t) g k = k a t
 
