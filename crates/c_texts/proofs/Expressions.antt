@@ -57,7 +57,7 @@ module _ (K : Type 0) (p : ProgramTree) (f : TypedFunctionTree) where
       pub typed_good : (e : ExpressionTree) (s : FoundTree) → HasNumbers e → IsGood K p (Means p f) s (typed names e s)
       typed_good (Name n) s h = named_good K p f (meaning_of names n.name) n.spot s (λ k o of is. (known k).variables n.name o of is)
       typed_good (Constant spot value type) s h = given K p (Means p f) s s _ (grows_itself s) (λ e. number_typed K p f type (pos value) h)
-      typed_good (Literal extent bytes) s h = literal_good K p f extent.first bytes s
+      typed_good (Literal extent bytes) s h = literal_good K p f extent.first bytes s h
       typed_good (Parenthesized extent e) s h = typed_good e s h
       typed_good (Index e i last) s h =
           next_good K p (IsTyped p f) (Means p f) s s (valued (typed names e s)) _ (valued_good s (typed names e s) (typed_good e s h.0))

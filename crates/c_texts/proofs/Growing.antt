@@ -1,11 +1,12 @@
 -- Checks of expressions, one behind the other: what is found grows, and each part is good where the whole is accepted.
-use Rattle.std.proofs.Common.{◌≡◌, ℕ, List, [], ◌∷◌, ◌++◌, length, take, ◌+◌, nat_le, Bool, true, false, Option, Some, None, refl, sym, ap, ◌∙◌, append_assoc, append-nil, length-append, arith}
+use Rattle.std.proofs.Common.{◌≡◌, ℕ, List, [], ◌∷◌, ◌++◌, length, take, ◌+◌, nat_le, nat_lt, Bool, true, false, Option, Some, None, refl, sym, ap, ◌∙◌, append_assoc, append-nil, length-append, arith}
 use Rattle.std.specs.Prelude.{if◌then◌else◌}
 use Rattle.std.proofs.lemmas.Bool.Decides.{nat_tests}
 use Rattle.debug_records.specs.declared.source.Spot.{Spot}
 use Rattle.debug_records.specs.declared.code.Code.{Code}
 use Rattle.c_tree.specs.Programs.{LiteralTree, ProgramTree}
 use Rattle.c_laws.specs.Objects.{are_ended}
+use Rattle.c_laws.specs.Statics.{are_bytes, literals_sound}
 use Rattle.c_type_expressions.specs.Findings.{FoundTree, Checked, gives, next, with_one, with_two, with_three, judged, faulted, with_undefined, with_literal, restored}
 use Rattle.c_type_expressions.specs.Judgements.{writing}
 use Rattle.c_texts.proofs.Same.{two_true, both}
@@ -37,12 +38,22 @@ ended_bytes bytes = let e : length (bytes ++ 0 ∷ []) ≡ length bytes + 1 = le
     some : (n : ℕ) → nat_le 1 (n + 1) ≡ true
     some n = grind (arith, nat_tests)
 
+-- bytes behind bytes are bytes
+pub bytes_on : (xs ys : List ℕ) → are_bytes xs ≡ true → are_bytes ys ≡ true → are_bytes (xs ++ ys) ≡ true
+bytes_on [] ys h g = g
+bytes_on (x ∷ xs) ys h g = let c = two_true (nat_lt x 256) (are_bytes xs) h in both (nat_lt x 256) (are_bytes (xs ++ ys)) c.0 (bytes_on xs ys c.1 g)
+
+-- literals of bytes with one more
+sound_push : (xs : List LiteralTree) (l : LiteralTree) → literals_sound xs ≡ true → are_bytes l.bytes ≡ true → literals_sound (xs ++ l ∷ []) ≡ true
+sound_push [] l h g = both (are_bytes l.bytes) true g refl
+sound_push (x ∷ xs) l h g = let c = two_true (are_bytes x.bytes) (literals_sound xs) h in both (are_bytes x.bytes) (literals_sound (xs ++ l ∷ [])) c.0 (sound_push xs l c.1 g)
+
 pub take_beginning : {A : Type 0} (xs more : List A) → take (length xs) (xs ++ more) ≡ xs
 take_beginning [] more = refl
 take_beginning (x ∷ xs) more = ap (λ q. x ∷ q) (take_beginning xs more)
 
 pub grows_itself : (s : FoundTree) → Grows s s
-grows_itself s = record { faults = begins_itself s.faults; undefined = begins_itself s.undefined; literals = begins_itself s.literals; ended = λ h. h }
+grows_itself s = record { faults = begins_itself s.faults; undefined = begins_itself s.undefined; literals = begins_itself s.literals; ended = λ h. h; sound = λ h. h }
 
 pub grows_on : {s t u : FoundTree} → Grows s t → Grows t u → Grows s u
 grows_on {s = s} {t = t} {u = u} g h =
@@ -51,6 +62,7 @@ grows_on {s = s} {t = t} {u = u} g h =
       undefined = begins_on s.undefined t.undefined u.undefined g.undefined h.undefined;
       literals = begins_on s.literals t.literals u.literals g.literals h.literals;
       ended = λ e. h.ended (g.ended e);
+      sound = λ e. h.sound (g.sound e);
     }
 
 -- without a fault later there is none before
@@ -68,13 +80,21 @@ accepts_before {K = K} {p = p} {s = s} {t = t} g a =
 
 -- one more fault, call or literal
 pub grows_fault : (code : Code) (first : Spot) (last : ℕ) (s : FoundTree) → Grows s (faulted code first last s)
-grows_fault code first last s = record { faults = (record { last = last; code = code; first = first } ∷ [], refl); undefined = begins_itself s.undefined; literals = begins_itself s.literals; ended = λ h. h }
+grows_fault code first last s = record { faults = (record { last = last; code = code; first = first } ∷ [], refl); undefined = begins_itself s.undefined; literals = begins_itself s.literals; ended = λ h. h; sound = λ h. h }
 
 pub grows_undefined : (first : Spot) (s : FoundTree) → Grows s (with_undefined first s)
-grows_undefined first s = record { faults = begins_itself s.faults; undefined = (first ∷ [], refl); literals = begins_itself s.literals; ended = λ h. h }
+grows_undefined first s = record { faults = begins_itself s.faults; undefined = (first ∷ [], refl); literals = begins_itself s.literals; ended = λ h. h; sound = λ h. h }
 
-pub grows_literal : (first : Spot) (bytes : List ℕ) (s : FoundTree) → Grows s (with_literal first bytes s)
-grows_literal first bytes s = record { faults = begins_itself s.faults; undefined = begins_itself s.undefined; literals = (record { spot = first; bytes = bytes ++ 0 ∷ [] } ∷ [], refl); ended = λ h. ended_push s.literals (record { spot = first; bytes = bytes ++ 0 ∷ [] }) h (ended_bytes bytes) }
+pub grows_literal : (first : Spot) (bytes : List ℕ) (s : FoundTree) → are_bytes bytes ≡ true → Grows s (with_literal first bytes s)
+grows_literal first bytes s b =
+    let l : LiteralTree = record { spot = first; bytes = bytes ++ 0 ∷ [] } in
+    record {
+      faults = begins_itself s.faults;
+      undefined = begins_itself s.undefined;
+      literals = (l ∷ [], refl);
+      ended = λ h. ended_push s.literals l h (ended_bytes bytes);
+      sound = λ h. sound_push s.literals l h (bytes_on bytes (0 ∷ []) b refl);
+    }
 
 pub grows_writing : (fine : Bool) (first : Spot) (last : ℕ) (s : FoundTree) → Grows s (writing fine first last s)
 grows_writing true first last s = grows_itself s
@@ -101,6 +121,7 @@ grows_restored s t g =
       undefined = ([], ap (take (length s.undefined)) g.undefined.1 ∙ take_beginning s.undefined g.undefined.0 ∙ sym (append-nil s.undefined));
       literals = ([], ap (take (length s.literals)) g.literals.1 ∙ take_beginning s.literals g.literals.0 ∙ sym (append-nil s.literals));
       ended = λ h. ap are_ended (ap (take (length s.literals)) g.literals.1 ∙ take_beginning s.literals g.literals.0) ∙ h;
+      sound = λ h. ap literals_sound (ap (take (length s.literals)) g.literals.1 ∙ take_beginning s.literals g.literals.0) ∙ h;
     }
 
 module _ (K : Type 0) (p : ProgramTree) where

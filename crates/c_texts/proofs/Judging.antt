@@ -29,6 +29,7 @@ use Rattle.c_type_values.specs.Pointers.{address, dereferenced}
 use Rattle.c_type_values.specs.Writing.{is_modifiable, is_updatable, stepped}
 use Rattle.c_law_types.specs.Kinds.{is_of, literal_is}
 use Rattle.c_law_types.specs.Expressions.{kind_of}
+use Rattle.c_laws.specs.Statics.{are_bytes}
 use Rattle.c_type_expressions.specs.declared.names.Meaning.{Meaning}
 use Rattle.c_type_expressions.specs.declared.names.Meaning.TheVariants.{Variable, Function, EndOfFile}
 use Rattle.c_type_expressions.specs.Findings.{FoundTree, gives, with_one, faulted, with_literal}
@@ -88,9 +89,9 @@ module _ (K : Type 0) (p : ProgramTree) (f : TypedFunctionTree) where
   literal_there : (bytes : List ℕ) (o : Option LiteralTree) (l : LiteralTree) → o ≡ Some l → length l.bytes ≡ length bytes + 1 → literal_is o (literal_type bytes) ≡ true
   literal_there bytes o l e n = rw (e, n) (object_itself (literal_type bytes))
 
-  pub literal_good : (first : Spot) (bytes : List ℕ) (s : FoundTree) → IsGood K p (Means p f) s (literal_met first bytes s)
-  literal_good first bytes s =
-      given K p (Means p f) s (with_literal first bytes s) _ (grows_literal first bytes s)
+  pub literal_good : (first : Spot) (bytes : List ℕ) (s : FoundTree) → are_bytes bytes ≡ true → IsGood K p (Means p f) s (literal_met first bytes s)
+  literal_good first bytes s b =
+      given K p (Means p f) s (with_literal first bytes s) _ (grows_literal first bytes s b)
       (λ e.
       let l : LiteralTree = record { spot = first; bytes = bytes ++ 0 ∷ [] } in
       let stands : slice_get p.literals (length s.literals) ≡ Some l = ap (λ q. slice_get q (length s.literals)) e.literals.1 ∙ at_end s.literals e.literals.0 l in

@@ -15,6 +15,7 @@ use Rattle.c_type.specs.Programs.{Refusal, or_else, fault_refusal, undefined_ref
 use Rattle.c_type.specs.Items.{beginning, source_met}
 use Rattle.c_laws.specs.Laws.{follow}
 use Rattle.c_laws.specs.Objects.{are_ended, arrays_are_kept}
+use Rattle.c_laws.specs.Statics.{literals_sound}
 use Rattle.c_texts.specs.Files.{AreItemsFormed, Reaches, are_typed}
 use Rattle.c_texts.specs.Known.{IsCalled}
 use Rattle.c_texts.specs.Progress.{Ensures}
@@ -137,6 +138,10 @@ module _ (items : List ItemTree) (p : ProgramTree) (a : Accepted items p) where
     -- Literals have their final zeros.
     pub literals_ended : are_ended p.literals ≡ true
     literals_ended = ap (λ z. are_ended z.literals) a.program ∙ all_defined.defined.extends.found.ended refl
+
+    -- They are of bytes.
+    pub literals_of_bytes : literals_sound p.literals ≡ true
+    literals_of_bytes = ap (λ z. literals_sound z.literals) a.program ∙ all_defined.defined.extends.found.sound refl
 
     pub array_literals_ended : are_ended p.array_literals ≡ true
     array_literals_ended = ap (λ z. are_ended z.array_literals) a.program ∙ all_defined.defined.extends.ended refl

@@ -7,10 +7,11 @@ use Rattle.c_places.specs.Places.{places_of_program}
 use Rattle.c_type_bounds.specs.Bounds.{program_breach}
 use Rattle.c_laws.specs.Laws.{places_ascend, objects_ascend, follow, is_main, weight_of, are_functions, is_within, are_objects, is_sound, is_well_formed}
 use Rattle.c_laws.specs.Objects.{are_ended, are_static, arrays_are_kept}
+use Rattle.c_laws.specs.Statics.{statics_sound, literals_sound}
 use Rattle.c_laws.specs.Parameters.{parameters_single}
 use Rattle.c_texts.specs.Files.{AreItemsFormed}
-use Rattle.c_texts.proofs.Same.{all_three, all_four}
-use Rattle.c_texts.proofs.Programs.{Accepted, functions_follow, arrays_kept, literals_ended, array_literals_ended, functions_few, no_breach}
+use Rattle.c_texts.proofs.Same.{both, all_three, all_four}
+use Rattle.c_texts.proofs.Programs.{Accepted, functions_follow, arrays_kept, literals_ended, literals_of_bytes, array_literals_ended, functions_few, no_breach}
 use Rattle.c_texts.proofs.Weighing.{functions_weigh}
 use Rattle.c_texts.proofs.Main.{main_is}
 use Rattle.c_texts.proofs.Parameters.{single_parameters}
@@ -21,7 +22,7 @@ pub record KeepsRest (p : ProgramTree) : Type 0 where
   pub objects : objects_ascend p ≡ true
   pub statics : are_static p p.statics ≡ true
   pub places : places_ascend (places_of_program p) ≡ true
-  pub sound : is_sound p ≡ true
+  pub sound : statics_sound p.statics ≡ true
 
 all_nine : (a b c d e f g h i : Bool) → a ≡ true → b ≡ true → c ≡ true → d ≡ true → e ≡ true → f ≡ true → g ≡ true → h ≡ true → i ≡ true → a && b && c && d && e && f && g && h && i ≡ true
 all_nine a b c d e f g h i j k l m n o q r s = rw (j, k, l, m, n, o, q, r, s) refl
@@ -35,4 +36,4 @@ module _ (items : List ItemTree) (p : ProgramTree) (a : Accepted items p) (forme
       (all_four (arrays_are_kept p.automatics) (are_static p p.statics) (are_ended p.literals) (are_ended p.array_literals) (arrays_kept items p a formed) rest.statics (literals_ended items p a formed) (array_literals_ended items p a formed))
       (functions_are_functions items p a formed)
       (all_three (nat_le (length p.functions) 256) (nat_le (weight_of p.functions) p.weight) (is_none (program_breach p)) (functions_few items p a) (functions_weigh items p a) (no_breach items p a))
-      rest.places (single_parameters items p a formed) rest.sound
+      rest.places (single_parameters items p a formed) (both (statics_sound p.statics) (literals_sound p.literals) rest.sound (literals_of_bytes items p a formed))

@@ -2,18 +2,20 @@
 use Rattle.std.specs.Prelude.{◌≡◌, true, List, [], ◌++◌, Option, Some, None}
 use Rattle.c_tree.specs.Programs.{ProgramTree}
 use Rattle.c_laws.specs.Objects.{are_ended}
+use Rattle.c_laws.specs.Statics.{literals_sound}
 use Rattle.c_type_expressions.specs.Findings.{FoundTree, Checked, gives}
 
 -- a list is the beginning of another
 abbrev pub Begins : {A : Type 0} → List A → List A → Type 0
 Begins {A} xs ys = (more : List A) × (ys ≡ xs ++ more)
 
--- More is found: faults, undefined calls and literals stand behind those that stood before, and literals have their final zeros.
+-- More is found: faults, undefined calls and literals stand behind those that stood before, and literals have their final zeros and are of bytes.
 pub record Grows (s t : FoundTree) : Type 0 where
   pub faults : Begins s.faults t.faults
   pub undefined : Begins s.undefined t.undefined
   pub literals : Begins s.literals t.literals
   pub ended : are_ended s.literals ≡ true → are_ended t.literals ≡ true
+  pub sound : literals_sound s.literals ≡ true → literals_sound t.literals ≡ true
 
 -- In a case that is given, no rule is broken and no undefined function is called up to here, and the literals so far are a program's first ones.
 pub record Accepts (K : Type 0) (p : ProgramTree) (t : FoundTree) : Type 0 where
