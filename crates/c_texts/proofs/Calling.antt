@@ -19,6 +19,7 @@ use Rattle.c_type_expressions.specs.Expressions.{call_of}
 use Rattle.c_texts.specs.Findings.{Grows, Accepts, IsThere, HoldsOf, Good, IsGood}
 use Rattle.c_texts.specs.Values.{leads_to_elements, IsTyped, Means}
 use Rattle.c_texts.specs.Known.{IsCalled}
+use Rattle.c_texts.proofs.Constants.{varies_is}
 use Rattle.c_texts.proofs.Same.{two_true, both}
 use Rattle.c_texts.proofs.Growing.{grows_itself, grows_on, no_fault_before, accepts_before, grows_undefined, more_is_some, faulted_if, fine_if, given, refused, earlier}
 use Rattle.c_texts.proofs.Fitting.{given_kind}
@@ -92,7 +93,7 @@ module _ (K : Type 0) (p : ProgramTree) (f : TypedFunctionTree) where
       let d = accepts_before on e in
       let passed = h.passed d (fine_if q.fit ARGUMENTS first last t e.faults) in
       let result = by g.callee refl passed (accepts_before h.grows d) in
-      record { is = result.0; elements = result.1 })
+      record { is = result.0; elements = result.1; constant = varies_is p f g.result })
     where
       by : (c : Option Callee) → g.callee ≡ c → are_passed p f (map loaded g.parameters) q.trees ≡ true → Accepts K p (noted c first s)
           → (is_of (kind_of p f (call_tree c q.trees)) g.result ≡ true) × (leads_to_elements g.result ≡ true)

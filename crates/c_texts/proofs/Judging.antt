@@ -15,6 +15,7 @@ use Rattle.c_tree.specs.declared.operator.PrefixOperator.TheVariants as prefix
 use Rattle.c_tree.specs.declared.operator.AssignmentOperator.{AssignmentOperator}
 use Rattle.c_tree.specs.declared.operator.AssignmentOperator.TheVariants as assignment
 use Rattle.c_tree.specs.declared.object_type.Object.{Object}
+use Rattle.c_tree.specs.declared.object_type.Object.TheVariants as designator
 use Rattle.c_tree.specs.declared.object_type.ObjectType.{ObjectType}
 use Rattle.c_tree.specs.declared.object_type.ValueType.{ValueType}
 use Rattle.c_tree.specs.declared.object_type.ValueType.TheVariants.{Void, Integer, Pointer}
@@ -39,6 +40,7 @@ use Rattle.c_texts.specs.Values.{IsTyped, Means}
 use Rattle.c_texts.specs.Known.{IsKnown}
 use Rattle.c_texts.proofs.Same.{object_itself}
 use Rattle.c_texts.proofs.Growing.{grows_itself, grows_on, no_fault_before, accepts_before, grows_fault, grows_literal, grows_writing, writing_fine, faulted_if, fine_if, given, refused, one_good, judged_good, earlier, more_is_some}
+use Rattle.c_texts.proofs.Constants.{address_leads}
 use Rattle.c_texts.proofs.Fitting.{given_kind}
 use Rattle.c_texts.proofs.Values.{as_value_typed, address_typed, dereferenced_typed, signed_typed, negated_typed, discarded_typed, cast_typed, converted_typed}
 use Rattle.c_texts.proofs.Writing.{stepped_typed, assigned_typed, updated_typed}
@@ -68,7 +70,7 @@ length_ended (b ∷ bytes) = omega (arith, length_ended bytes)
 module _ (K : Type 0) (p : ProgramTree) (f : TypedFunctionTree) where
   -- a number of an integer type
   pub number_typed : (t : IntegerType) (z : ℤ) → fits t z ≡ true → Means p f (number_of t z)
-  number_typed t z h = record { is = given_kind (fits t z) (Integer t) h; elements = refl }
+  number_typed t z h = record { is = given_kind (fits t z) (Integer t) h; elements = refl; constant = refl }
 
   pub size_typed : (n : ℕ) → Means p f (size_value n)
   size_typed n = number_typed UnsignedInt (pos (n % 2 ^ 32)) (size_fits (n % 2 ^ 32) (omega arith))
@@ -80,7 +82,7 @@ module _ (K : Type 0) (p : ProgramTree) (f : TypedFunctionTree) where
   -- a name
   pub named_good : (m : Option Meaning) (spot : Spot) (s : FoundTree) → (K → (o : Object) (of : ObjectType) → m ≡ Some (Variable o of) → IsKnown p f o of) → IsGood K p (Means p f) s (named m spot s)
   named_good (Some (Variable o of)) spot s known =
-      given K p (Means p f) s s _ (grows_itself s) (λ e. let k = known e.given o of refl in record { place = k.is; is = refl; elements = k.elements })
+      given K p (Means p f) s s _ (grows_itself s) (λ e. let k = known e.given o of refl in (record { place = k.is; is = refl; elements = k.elements }, address_leads p f o of k.is))
   named_good (Some EndOfFile) spot s known = given K p (Means p f) s s _ (grows_itself s) (λ e. number_typed Int (negsuc 0) refl)
   named_good (Some (Function k)) spot s known = refused K p (Means p f) s _ spot spot.at
   named_good None spot s known = refused K p (Means p f) s _ spot spot.at
@@ -95,7 +97,8 @@ module _ (K : Type 0) (p : ProgramTree) (f : TypedFunctionTree) where
       (λ e.
       let l : LiteralTree = record { spot = first; bytes = bytes ++ 0 ∷ [] } in
       let stands : slice_get p.literals (length s.literals) ≡ Some l = ap (λ q. slice_get q (length s.literals)) e.literals.1 ∙ at_end s.literals e.literals.0 l in
-      record { place = literal_there bytes (slice_get p.literals (length s.literals)) l stands (length_ended bytes); is = refl; elements = le_true 1 (length bytes + 1) (omega arith) })
+      let there = literal_there bytes (slice_get p.literals (length s.literals)) l stands (length_ended bytes) in
+      (record { place = there; is = refl; elements = le_true 1 (length bytes + 1) (omega arith) }, address_leads p f (designator.Literal (length s.literals)) (literal_type bytes) there))
 
   -- `++` and `--`
   pub stepping_good : (d : Direction) (g : Given) (first : Spot) (last : ℕ) (m : MeantTree) (s : FoundTree) → (Accepts K p s → Means p f m) → IsGood K p (Means p f) s (stepping d g first last m s)
@@ -120,7 +123,7 @@ module _ (K : Type 0) (p : ProgramTree) (f : TypedFunctionTree) where
 
   -- a cast
   cast_from_good : (u : ValueType) (t : IntegerType) (first : Spot) (last : ℕ) (v : ValueTree) (s : FoundTree) → v.of ≡ u → (Accepts K p s → IsTyped p f v) → IsGood K p (Means p f) s (cast_from u t first last v s)
-  cast_from_good (Integer u) t first last v s e h = given K p (Means p f) s s _ (grows_itself s) (λ a. cast_typed p f t u v _ (h a) e)
+  cast_from_good (Integer u) t first last v s e h = given K p (Means p f) s s _ (grows_itself s) (λ a. cast_typed p f t u v (h a) e)
   cast_from_good (Pointer of) t first last v s e h = refused K p (Means p f) s _ first last
   cast_from_good Void t first last v s e h = refused K p (Means p f) s _ first last
 

@@ -1,4 +1,5 @@
 pub mod Same
+pub mod Constants
 pub mod Growing
 pub mod Fitting
 pub mod Values

@@ -29,11 +29,13 @@ use Rattle.c_type_values.specs.Pointers.{address, target_of, dereferenced, eleme
 use Rattle.c_value_types.specs.ValueTypes.{object_type}
 use Rattle.c_law_types.specs.declared.kind.Kind.{Kind}
 use Rattle.c_law_types.specs.declared.kind.Kind.TheVariants.{NullPointer, Of}
-use Rattle.c_law_types.specs.Kinds.{of_if, is_promoted, is_of, is_typed, is_scalar, is_pointer, is_integer, is_counted, joined, is_operand, holds_scalar, is_array}
+use Rattle.c_law_types.specs.Kinds.{is_promoted, is_of, is_typed, is_scalar, is_pointer, is_integer, is_counted, joined, is_operand, holds_scalar, is_array}
 use Rattle.c_law_types.specs.Expressions.{kind_of, is_place}
 use Rattle.c_texts.specs.Findings.{HoldsOf}
+use Rattle.c_texts.specs.Addresses.{is_number, is_constant_of}
 use Rattle.c_texts.specs.Values.{leads_to_elements, IsTyped, Means}
 use Rattle.c_texts.proofs.Same.{two_true, both, all_three, integer_is, object_is, value_is, scalar_itself}
+use Rattle.c_texts.proofs.Constants.{converted_number, sign_number, not_number, arithmetic_number, comparison_number, and_number, or_number, conditional_number, varies_is, element_leads}
 use Rattle.c_texts.proofs.Fitting.{of_if_true, given_kind, integer_kind, typed_kind, scalar_kind, pointer_kind, joined_kinds, promoted_once, common_promoted, counted_kind, integer_in_kind, of_integer_kind, operand_by, loaded_elements}
 
 module _ (p : ProgramTree) (f : TypedFunctionTree) where
@@ -58,28 +60,38 @@ module _ (p : ProgramTree) (f : TypedFunctionTree) where
       by true is = let same : u ≡ t = integer_is u t (subst (λ q. is_integer_of q t ≡ true) e is) in subst (λ w. kind v ≡ Of (Integer w)) same (of_integer v u h e)
       by false is = of_if_true (is_integer (kind v)) (Integer t) (integer_in_kind (kind v) u (of_integer v u h e))
 
+  -- an integer is no address
+  number_of_integer : (v : ValueTree) (t : IntegerType) → IsTyped p f v → v.of ≡ Integer t → is_number v.constant ≡ true
+  number_of_integer v t h e = subst (λ q. is_constant_of p q v.constant ≡ true) e h.constant
+
+  to_integer_number : (t u : IntegerType) (v : ValueTree) → IsTyped p f v → v.of ≡ Integer u → is_number (to_integer t v).constant ≡ true
+  unfolding to_integer
+  to_integer_number t u v h e = by (is_integer_of v.of t)
+    where
+      by : (b : Bool) → is_number (if b then v else record { of = Integer t; tree = Convert t v.tree; constant = converted_constant t v.constant }).constant ≡ true
+      by true = number_of_integer v u h e
+      by false = converted_number t v.constant (number_of_integer v u h e)
+
   -- the value of what an expression means
   pub as_value_typed : (m : MeantTree) → Means p f m → IsTyped p f (as_value m)
   as_value_typed (IsValue v) h = h
   as_value_typed (IsObject (object.Scalar s) l k) h =
       record {
-        is = given_kind (holds_scalar (object_type l) s && is_place p f l) (loaded s) (both (holds_scalar (object_type l) s) (is_place p f l) (rw h.is (scalar_itself s)) h.place);
+        is = given_kind (holds_scalar (object_type l) s && is_place p f l) (loaded s) (both (holds_scalar (object_type l) s) (is_place p f l) (rw h.0.is (scalar_itself s)) h.0.place);
         elements = loaded_elements s;
+        constant = varies_is p f (loaded s);
       }
   as_value_typed (IsObject (object.Array element count) l k) h =
       record {
-        is = rw (h.is) (given_kind (is_array (object.Array element count) && is_place p f l) (Pointer (object.Scalar element)) (both (is_array (object.Array element count)) (is_place p f l) h.elements h.place));
+        is = rw (h.0.is) (given_kind (is_array (object.Array element count) && is_place p f l) (Pointer (object.Scalar element)) (both (is_array (object.Array element count)) (is_place p f l) h.0.elements h.0.place));
         elements = refl;
+        constant = h.1;
       }
-
-  -- a value that is given with its type
-  of_type : (v : ValueTree) (b : Bool) → kind_of p f v.tree ≡ of_if b v.of → b ≡ true → leads_to_elements v.of ≡ true → IsTyped p f v
-  of_type v b e h g = record { is = rw e (given_kind b v.of h); elements = g }
 
   -- `&a`
   pub address_typed : (m : MeantTree) → Means p f m → HoldsOf (Means p f) (option_map IsValue (address m))
   address_typed (IsValue v) h = tt
-  address_typed (IsObject of l k) h = record { is = rw h.is (given_kind (is_place p f l) (Pointer of) h.place); elements = h.elements }
+  address_typed (IsObject of l k) h = record { is = rw h.0.is (given_kind (is_place p f l) (Pointer of) h.0.place); elements = h.0.elements; constant = h.1 }
 
   -- `*a`
   pub dereferenced_typed : (v : ValueTree) → IsTyped p f v → HoldsOf (Means p f) (dereferenced v)
@@ -88,7 +100,7 @@ module _ (p : ProgramTree) (f : TypedFunctionTree) where
       by : (t : ValueType) → v.of ≡ t → HoldsOf (Means p f) (target_of t v.tree)
       by Void e = tt
       by (Integer t) e = tt
-      by (Pointer of) e = record { place = of_pointer v of h e; is = refl; elements = ap leads_to_elements (sym e) ∙ h.elements }
+      by (Pointer of) e = (record { place = of_pointer v of h e; is = refl; elements = ap leads_to_elements (sym e) ∙ h.elements }, refl)
 
   -- an index
   pub counted_typed : (t : IntegerType) (v : ValueTree) → IsTyped p f v → v.of ≡ Integer t → is_counted (kind_of p f (to_integer (promoted t) v).tree) ≡ true
@@ -99,18 +111,22 @@ module _ (p : ProgramTree) (f : TypedFunctionTree) where
   element_typed a b h g = by a.of b.of refl refl
     where
       by : (t u : ValueType) → a.of ≡ t → b.of ≡ u → HoldsOf (Means p f) (elements t u a b)
-      by (Pointer of) (Integer t) e d =
-          record {
-            place = both (is_of (kind a) (Pointer of)) (is_counted (kind_of p f (to_integer (promoted t) b).tree)) (of_pointer a of h e) (counted_typed t b g d);
-            is = refl;
-            elements = ap leads_to_elements (sym e) ∙ h.elements;
-          }
-      by (Integer t) (Pointer of) e d =
-          record {
-            place = both (is_counted (kind_of p f (to_integer (promoted t) a).tree)) (is_of (kind b) (Pointer of)) (counted_typed t a h e) (of_pointer b of g d);
-            is = refl;
-            elements = ap leads_to_elements (sym d) ∙ g.elements;
-          }
+      by (Pointer of) (Integer t) e d = (
+        record {
+          place = both (is_of (kind a) (Pointer of)) (is_counted (kind_of p f (to_integer (promoted t) b).tree)) (of_pointer a of h e) (counted_typed t b g d);
+          is = refl;
+          elements = ap leads_to_elements (sym e) ∙ h.elements;
+        },
+        element_leads p f a.tree of (to_integer (promoted t) b).constant (of_pointer a of h e),
+      )
+      by (Integer t) (Pointer of) e d = (
+        record {
+          place = both (is_counted (kind_of p f (to_integer (promoted t) a).tree)) (is_of (kind b) (Pointer of)) (counted_typed t a h e) (of_pointer b of g d);
+          is = refl;
+          elements = ap leads_to_elements (sym d) ∙ g.elements;
+        },
+        refl,
+      )
       by Void u e d = tt
       by (Integer t) Void e d = tt
       by (Integer t) (Integer u) e d = tt
@@ -129,6 +145,7 @@ module _ (p : ProgramTree) (f : TypedFunctionTree) where
             is = given_kind (is_promoted (promoted t) && is_of (kind_of p f (to_integer (promoted t) v).tree) (Integer (promoted t))) (Integer (promoted t))
                 (both (is_promoted (promoted t)) (is_of (kind_of p f (to_integer (promoted t) v).tree) (Integer (promoted t))) (promoted_once t) (of_integer_kind (kind_of p f (to_integer (promoted t) v).tree) (promoted t) (to_integer_kind (promoted t) t v h e)));
             elements = refl;
+            constant = sign_number o (promoted t) (to_integer (promoted t) v).constant (to_integer_number (promoted t) t v h e);
           }
 
   -- `!a`
@@ -137,15 +154,15 @@ module _ (p : ProgramTree) (f : TypedFunctionTree) where
     where
       by : (b : Bool) → operation.is_scalar v.of ≡ b → HoldsOf (Means p f) (option_map IsValue (if b then Some (record { of = Integer Int; tree = Not v.tree; constant = not_constant v.constant }) else None))
       by false e = tt
-      by true e = record { is = given_kind (is_scalar (kind v)) (Integer Int) (scalar_kind (kind v) v.of h.is e); elements = refl }
+      by true e = record { is = given_kind (is_scalar (kind v)) (Integer Int) (scalar_kind (kind v) v.of h.is e); elements = refl; constant = not_number v.constant }
 
   -- `(void)a`
   pub discarded_typed : (v : ValueTree) → IsTyped p f v → IsTyped p f (discarded v)
-  discarded_typed v h = record { is = given_kind (is_typed (kind v)) Void (typed_kind (kind v) v.of h.is); elements = refl }
+  discarded_typed v h = record { is = given_kind (is_typed (kind v)) Void (typed_kind (kind v) v.of h.is); elements = refl; constant = refl }
 
   -- a cast of an integer
-  pub cast_typed : (t u : IntegerType) (v : ValueTree) (k : Constancy) → IsTyped p f v → v.of ≡ Integer u → IsTyped p f (record { of = Integer t; tree = Convert t v.tree; constant = k })
-  cast_typed t u v k h e = record { is = given_kind (is_integer (kind v)) (Integer t) (integer_in_kind (kind v) u (of_integer v u h e)); elements = refl }
+  pub cast_typed : (t u : IntegerType) (v : ValueTree) → IsTyped p f v → v.of ≡ Integer u → IsTyped p f (record { of = Integer t; tree = Convert t v.tree; constant = converted_constant t v.constant })
+  cast_typed t u v h e = record { is = given_kind (is_integer (kind v)) (Integer t) (integer_in_kind (kind v) u (of_integer v u h e)); elements = refl; constant = converted_number t v.constant (number_of_integer v u h e) }
 
   -- arithmetic in a type
   in_types_typed : (o : declared-arithmetic.Arithmetic) (t : IntegerType) (a b : ValueTree) → is_promoted t ≡ true → kind_of p f a.tree ≡ Of (Integer t) → is_operand o t (kind_of p f b.tree) ≡ true → IsTyped p f (in_types o t a b)
@@ -154,6 +171,7 @@ module _ (p : ProgramTree) (f : TypedFunctionTree) where
         is = given_kind (is_promoted t && is_of (kind a) (Integer t) && is_operand o t (kind b)) (Integer t)
             (all_three (is_promoted t) (is_of (kind a) (Integer t)) (is_operand o t (kind b)) promoted_t (of_integer_kind (kind a) t h) g);
         elements = refl;
+        constant = arithmetic_number o t a.constant b.constant;
       }
 
   -- the right operand of a shift, and of another operator
@@ -191,6 +209,7 @@ module _ (p : ProgramTree) (f : TypedFunctionTree) where
         is = given_kind (is_of (kind a) (Pointer o) && is_counted (kind_of p f (to_integer (promoted t) b).tree)) (Pointer o)
             (both (is_of (kind a) (Pointer o)) (is_counted (kind_of p f (to_integer (promoted t) b).tree)) (of_pointer a o h e) (counted_typed t b g c));
         elements = ap leads_to_elements (sym e) ∙ h.elements;
+        constant = refl;
       }
 
   moved_from_typed : (o : ObjectType) (t : IntegerType) (a b : ValueTree) → IsTyped p f a → IsTyped p f b → a.of ≡ Integer t → b.of ≡ Pointer o → IsTyped p f (moved_from o t a b)
@@ -199,6 +218,7 @@ module _ (p : ProgramTree) (f : TypedFunctionTree) where
         is = given_kind (is_counted (kind_of p f (to_integer (promoted t) a).tree) && is_of (kind b) (Pointer o)) (Pointer o)
             (both (is_counted (kind_of p f (to_integer (promoted t) a).tree)) (is_of (kind b) (Pointer o)) (counted_typed t a h e) (of_pointer b o g c));
         elements = ap leads_to_elements (sym c) ∙ g.elements;
+        constant = refl;
       }
 
   moved_by_typed : (q : declared-arithmetic.Arithmetic) (o : ObjectType) (t : IntegerType) (a b : ValueTree) → IsTyped p f a → IsTyped p f b → a.of ≡ Pointer o → b.of ≡ Integer t → HoldsOf (Means p f) (option_map IsValue (moved_by q o t a b))
@@ -220,6 +240,7 @@ module _ (p : ProgramTree) (f : TypedFunctionTree) where
       record {
         is = given_kind (is_of (kind a) (Pointer o) && is_of (kind b) (Pointer o)) (Integer Int) (both (is_of (kind a) (Pointer o)) (is_of (kind b) (Pointer o)) (of_pointer a o h e) (same_pointer a b o r g d s));
         elements = refl;
+        constant = refl;
       }
 
   difference_by_typed : (q : declared-arithmetic.Arithmetic) (o r : ObjectType) (a b : ValueTree) → IsTyped p f a → IsTyped p f b → a.of ≡ Pointer o → b.of ≡ Pointer r
@@ -253,11 +274,12 @@ module _ (p : ProgramTree) (f : TypedFunctionTree) where
             (all_three (is_promoted (common t u)) (is_of k (Integer (common t u))) (is_of j (Integer (common t u))) (common_promoted t u)
             (of_integer_kind k (common t u) (to_integer_kind (common t u) t a h e)) (of_integer_kind j (common t u) (to_integer_kind (common t u) u b g d)));
         elements = refl;
+        constant = comparison_number o (to_integer (common t u) a).constant (to_integer (common t u) b).constant;
       }
 
   pointers_typed : (o : Comparison) (r : ObjectType) (a b : ValueTree) → is_of (kind_of p f a.tree) (Pointer r) ≡ true → is_of (kind_of p f b.tree) (Pointer r) ≡ true → IsTyped p f (pointers_compared o a b)
   pointers_typed o r a b h g =
-      record { is = given_kind (is_pointer (joined (kind a) (kind b))) (Integer Int) (pointer_kind (joined (kind a) (kind b)) r (joined_kinds (kind a) (kind b) (Pointer r) h g)); elements = refl }
+      record { is = given_kind (is_pointer (joined (kind a) (kind b))) (Integer Int) (pointer_kind (joined (kind a) (kind b)) r (joined_kinds (kind a) (kind b) (Pointer r) h g)); elements = refl; constant = refl }
 
   pub compared_typed : (o : Comparison) (a b : ValueTree) (az bz : Bool) → IsTyped p f a → IsTyped p f b → HoldsOf (Means p f) (option_map IsValue (compared_value o a b az bz))
   compared_typed o a b az bz h g = by a.of b.of refl refl
@@ -294,7 +316,7 @@ module _ (p : ProgramTree) (f : TypedFunctionTree) where
     where
       by : (s : Bool) → (operation.is_scalar a.of && operation.is_scalar b.of) ≡ s
           → HoldsOf (Means p f) (option_map IsValue (if s then Some (record { of = Integer Int; tree = And a.tree b.tree; constant = and_constant a.constant b.constant }) else None))
-      by true s = record { is = given_kind (is_scalar (kind a) && is_scalar (kind b)) (Integer Int) (scalars_typed a b h g s); elements = refl }
+      by true s = record { is = given_kind (is_scalar (kind a) && is_scalar (kind b)) (Integer Int) (scalars_typed a b h g s); elements = refl; constant = and_number a.constant b.constant }
       by false s = tt
 
   pub either_typed : (a b : ValueTree) → IsTyped p f a → IsTyped p f b → HoldsOf (Means p f) (option_map IsValue (either a b))
@@ -302,7 +324,7 @@ module _ (p : ProgramTree) (f : TypedFunctionTree) where
     where
       by : (s : Bool) → (operation.is_scalar a.of && operation.is_scalar b.of) ≡ s
           → HoldsOf (Means p f) (option_map IsValue (if s then Some (record { of = Integer Int; tree = Or a.tree b.tree; constant = or_constant a.constant b.constant }) else None))
-      by true s = record { is = given_kind (is_scalar (kind a) && is_scalar (kind b)) (Integer Int) (scalars_typed a b h g s); elements = refl }
+      by true s = record { is = given_kind (is_scalar (kind a) && is_scalar (kind b)) (Integer Int) (scalars_typed a b h g s); elements = refl; constant = or_number a.constant b.constant }
       by false s = tt
 
   -- an operator between two values
@@ -314,12 +336,12 @@ module _ (p : ProgramTree) (f : TypedFunctionTree) where
 
   -- `a,b`
   pub sequenced_typed : (a b : ValueTree) → IsTyped p f a → IsTyped p f b → IsTyped p f (sequenced a b)
-  sequenced_typed a b h g = record { is = rw (typed_kind (kind a) a.of h.is) g.is; elements = g.elements }
+  sequenced_typed a b h g = record { is = rw (typed_kind (kind a) a.of h.is) g.is; elements = g.elements; constant = varies_is p f b.of }
 
   -- `a?b:c`
   chosen_typed : (t : ValueType) (c a b : ValueTree) (k : Constancy) → is_scalar (kind_of p f c.tree) ≡ true → is_of (kind_of p f a.tree) t ≡ true → is_of (kind_of p f b.tree) t ≡ true → leads_to_elements t ≡ true
-      → IsTyped p f (chosen t c a b k)
-  chosen_typed t c a b k s h g e = record { is = rw s (joined_kinds (kind a) (kind b) t h g); elements = e }
+      → is_constant_of p t k ≡ true → IsTyped p f (chosen t c a b k)
+  chosen_typed t c a b k s h g e n = record { is = rw s (joined_kinds (kind a) (kind b) t h g); elements = e; constant = n }
 
   pub conditional_typed : (c a b : ValueTree) (az bz : Bool) → IsTyped p f c → IsTyped p f a → IsTyped p f b → HoldsOf (Means p f) (option_map IsValue (conditional c a b az bz))
   conditional_typed c a b az bz i h g = by (operation.is_scalar c.of) refl
@@ -328,19 +350,19 @@ module _ (p : ProgramTree) (f : TypedFunctionTree) where
       integers t u e d s =
           chosen_typed (Integer (common t u)) c (to_integer (common t u) a) (to_integer (common t u) b) _ s
           (of_integer_kind (kind_of p f (to_integer (common t u) a).tree) (common t u) (to_integer_kind (common t u) t a h e))
-          (of_integer_kind (kind_of p f (to_integer (common t u) b).tree) (common t u) (to_integer_kind (common t u) u b g d)) refl
+          (of_integer_kind (kind_of p f (to_integer (common t u) b).tree) (common t u) (to_integer_kind (common t u) u b g d)) refl (conditional_number c.constant (to_integer (common t u) a).constant (to_integer (common t u) b).constant)
 
       right_null : (r : ObjectType) → a.of ≡ Pointer r → is_scalar (kind c) ≡ true → (z : Bool) → HoldsOf (Means p f) (option_map IsValue (if z then Some (chosen a.of c a (null a.of) Varies) else None))
-      right_null r e s true = chosen_typed a.of c a (null a.of) Varies s h.is (subst (λ q. is_of NullPointer q ≡ true) (sym e) refl) h.elements
+      right_null r e s true = chosen_typed a.of c a (null a.of) Varies s h.is (subst (λ q. is_of NullPointer q ≡ true) (sym e) refl) h.elements (varies_is p f a.of)
       right_null r e s false = tt
 
       left_null : (r : ObjectType) → b.of ≡ Pointer r → is_scalar (kind c) ≡ true → (z : Bool) → HoldsOf (Means p f) (option_map IsValue (if z then Some (chosen b.of c (null b.of) b Varies) else None))
-      left_null r e s true = chosen_typed b.of c (null b.of) b Varies s (subst (λ q. is_of NullPointer q ≡ true) (sym e) refl) g.is g.elements
+      left_null r e s true = chosen_typed b.of c (null b.of) b Varies s (subst (λ q. is_of NullPointer q ≡ true) (sym e) refl) g.is g.elements (varies_is p f b.of)
       left_null r e s false = tt
 
       one_type : (t u : ValueType) → a.of ≡ t → b.of ≡ u → is_scalar (kind c) ≡ true → (z : Bool) → same_value t u ≡ z → HoldsOf (Means p f) (option_map IsValue (if z then Some (chosen t c a b Varies) else None))
       one_type t u e d s true z =
-          chosen_typed t c a b Varies s (subst (λ q. is_of (kind a) q ≡ true) e h.is) (subst (λ q. is_of (kind b) q ≡ true) (d ∙ sym (value_is t u z)) g.is) (ap leads_to_elements (sym e) ∙ h.elements)
+          chosen_typed t c a b Varies s (subst (λ q. is_of (kind a) q ≡ true) e h.is) (subst (λ q. is_of (kind b) q ≡ true) (d ∙ sym (value_is t u z)) g.is) (ap leads_to_elements (sym e) ∙ h.elements) (varies_is p f t)
       one_type t u e d s false z = tt
 
       arms : (t u : ValueType) → a.of ≡ t → b.of ≡ u → is_scalar (kind c) ≡ true → HoldsOf (Means p f) (option_map IsValue (chosen_as t u c a b az bz))
@@ -376,3 +398,24 @@ module _ (p : ProgramTree) (f : TypedFunctionTree) where
       by (Integer t) (Pointer o) e = unchanged_typed (Integer t) (same_value v.of (Integer t)) refl
       by (Pointer o) Void e = unchanged_typed (Pointer o) (same_value v.of (Pointer o)) refl
       by (Pointer o) (Pointer q) e = unchanged_typed (Pointer o) (same_value v.of (Pointer o)) refl
+
+  -- of such a value a constant is one of the type
+  pub converted_constant_is : (v : ValueTree) (to : ValueType) (zero : Bool) → IsTyped p f v → HoldsOf (λ (r : ValueTree). is_constant_of p to r.constant ≡ true) (converted v to zero)
+  converted_constant_is v to zero h = by to v.of refl
+    where
+      unchanged_is : (to : ValueType) (z : Bool) → same_value v.of to ≡ z → HoldsOf (λ (r : ValueTree). is_constant_of p to r.constant ≡ true) (if z then Some v else None)
+      unchanged_is to true z = subst (λ q. is_constant_of p q v.constant ≡ true) (value_is v.of to z) h.constant
+      unchanged_is to false z = tt
+
+      null_if : (o : ObjectType) (z : Bool) → HoldsOf (λ (r : ValueTree). is_constant_of p (Pointer o) r.constant ≡ true) (if z then Some (null (Pointer o)) else None)
+      null_if o true = refl
+      null_if o false = tt
+
+      by : (to t : ValueType) → v.of ≡ t → HoldsOf (λ (r : ValueTree). is_constant_of p to r.constant ≡ true) (converted_from to t v zero)
+      by (Integer t) (Integer u) e = to_integer_number t u v h e
+      by (Pointer o) (Integer u) e = null_if o zero
+      by Void t e = unchanged_is Void (same_value v.of Void) refl
+      by (Integer t) Void e = unchanged_is (Integer t) (same_value v.of (Integer t)) refl
+      by (Integer t) (Pointer o) e = unchanged_is (Integer t) (same_value v.of (Integer t)) refl
+      by (Pointer o) Void e = unchanged_is (Pointer o) (same_value v.of (Pointer o)) refl
+      by (Pointer o) (Pointer q) e = unchanged_is (Pointer o) (same_value v.of (Pointer o)) refl

@@ -22,6 +22,7 @@ use Rattle.c_law_types.specs.Kinds.{is_promoted, is_of, is_counted, is_operand, 
 use Rattle.c_law_types.specs.Expressions.{kind_of, is_place}
 use Rattle.c_texts.specs.Values.{IsTyped, Designates, Means}
 use Rattle.c_texts.proofs.Same.{both, all_three, all_four, integer_itself, scalar_itself, value_itself}
+use Rattle.c_texts.proofs.Constants.{varies_is}
 use Rattle.c_texts.proofs.Fitting.{given_kind, promoted_once, common_promoted, loaded_elements}
 use Rattle.c_texts.proofs.Values.{counted_typed, operand_typed}
 
@@ -49,15 +50,15 @@ module _ (p : ProgramTree) (f : TypedFunctionTree) where
   pub stepped_typed : (d : Direction) (g : Given) (m : MeantTree) → is_modifiable m ≡ true → Means p f m → IsTyped p f (stepped d g m)
   stepped_typed d g (IsValue v) fine h = cc
   stepped_typed d g (IsObject (object.Array e n) l k) fine h = cc
-  stepped_typed d g (IsObject (object.Scalar s) l k) fine h = record { is = by (s.stars == 0) refl; elements = loaded_elements s }
+  stepped_typed d g (IsObject (object.Scalar s) l k) fine h = record { is = by (s.stars == 0) refl; elements = loaded_elements s; constant = varies_is p f (loaded s) }
     where
       by : (b : Bool) → (s.stars == 0) ≡ b → is_of (kind_of p f (if b then Step d g s.base (promoted s.base) l else StepPointer d g (object.Scalar (pointed_to s)) l)) (if b then Integer s.base else Pointer (object.Scalar (pointed_to s))) ≡ true
       by true z =
           given_kind (holds_integer (object_type l) s.base && same_integer (promoted s.base) (promoted s.base) && is_place p f l) (Integer s.base)
-          (all_three (holds_integer (object_type l) s.base) (same_integer (promoted s.base) (promoted s.base)) (is_place p f l) (own_integer (object_type l) s h.is z) (integer_itself (promoted s.base)) h.place)
+          (all_three (holds_integer (object_type l) s.base) (same_integer (promoted s.base) (promoted s.base)) (is_place p f l) (own_integer (object_type l) s h.0.is z) (integer_itself (promoted s.base)) h.0.place)
       by false z =
           given_kind (holds_pointer (object_type l) (object.Scalar (pointed_to s)) && is_place p f l) (Pointer (object.Scalar (pointed_to s)))
-          (both (holds_pointer (object_type l) (object.Scalar (pointed_to s))) (is_place p f l) (own_pointer (object_type l) s h.is z) h.place)
+          (both (holds_pointer (object_type l) (object.Scalar (pointed_to s))) (is_place p f l) (own_pointer (object_type l) s h.0.is z) h.0.place)
 
   -- `a=b`
   pub assigned_typed : (m : MeantTree) (v : ValueTree) → is_modifiable m ≡ true → Means p f m → is_of (kind_of p f v.tree) (meant_type m) ≡ true → IsTyped p f (assigned m (Some v))
@@ -66,8 +67,9 @@ module _ (p : ProgramTree) (f : TypedFunctionTree) where
   assigned_typed (IsObject (object.Scalar s) l k) v fine h g =
       record {
         is = given_kind (holds_scalar (object_type l) s && is_place p f l && is_of (kind_of p f v.tree) (loaded s)) (loaded s)
-            (all_three (holds_scalar (object_type l) s) (is_place p f l) (is_of (kind_of p f v.tree) (loaded s)) (rw h.is (scalar_itself s)) h.place g);
+            (all_three (holds_scalar (object_type l) s) (is_place p f l) (is_of (kind_of p f v.tree) (loaded s)) (rw h.0.is (scalar_itself s)) h.0.place g);
         elements = loaded_elements s;
+        constant = varies_is p f (loaded s);
       }
 
   -- the type that an operator that assigns calculates in
@@ -102,10 +104,10 @@ module _ (p : ProgramTree) (f : TypedFunctionTree) where
     where
       of_scalar : (u : IntegerType) → v.of ≡ Integer u → (b : Bool) → (s.stars == 0) ≡ b
           → is_of (kind_of p f (if b then integer_updated o s.base u l v else pointer_updated o (pointed_to s) u l v)) (if b then Integer s.base else Pointer (object.Scalar (pointed_to s))) ≡ true
-      of_scalar u e true z = integer_updated_typed o s u l v h z g e
-      of_scalar u e false z = pointer_updated_typed o s u l v h z g e
+      of_scalar u e true z = integer_updated_typed o s u l v h.0 z g e
+      of_scalar u e false z = pointer_updated_typed o s u l v h.0 z g e
 
       by : (t : ValueType) → v.of ≡ t → IsTyped p f (updated_by o (IsObject (object.Scalar s) l k) t v)
-      by (Integer u) e = record { is = of_scalar u e (s.stars == 0) refl; elements = loaded_elements s }
+      by (Integer u) e = record { is = of_scalar u e (s.stars == 0) refl; elements = loaded_elements s; constant = varies_is p f (loaded s) }
       by Void e = let no : is_updatable o (loaded s) Void ≡ true = subst (λ q. is_updatable o (loaded s) q ≡ true) e fit in let other = void_right o (loaded s) in cc
       by (Pointer r) e = let no : is_updatable o (loaded s) (Pointer r) ≡ true = subst (λ q. is_updatable o (loaded s) q ≡ true) e fit in let other = pointer_right o (loaded s) r in cc

@@ -1,5 +1,6 @@
 pub mod Constants
 pub mod Findings
+pub mod Addresses
 pub mod Values
 pub mod Known
 pub mod Formed
