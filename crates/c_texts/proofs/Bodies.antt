@@ -26,6 +26,7 @@ use Rattle.c_laws.specs.Laws.{declares_its_own}
 use Rattle.c_texts.specs.Findings.{Begins}
 use Rattle.c_texts.specs.Formed.{AreFormed}
 use Rattle.c_texts.specs.Files.{has_name, HaveNames, Defined}
+use Rattle.c_texts.specs.Storage.{AreStored}
 use Rattle.c_texts.specs.Progress.{AreScopesKnown, Stands, Inside, Comes, Ensures}
 use Rattle.c_texts.specs.Stating.{StatesAll}
 use Rattle.c_texts.proofs.Same.{both, itself}
@@ -90,6 +91,7 @@ module _ (p : ProgramTree) (f : FunctionTree) (g : SignatureTree) (b : BlockTree
           ended = a.ended;
         };
         known = λ k e one. subst (AreScopesKnown p one) (sym scopes) (k one);
+        stored = λ k e s. subst (AreStored p) (sym a.statics) s;
         follows = both (length q.automatics == length q.automatics) (length q.automatics + (length t.automatics - length q.automatics) == length t.automatics) (itself (length q.automatics)) (eq-eqb _ _ (omega (arith, longer)));
         typed = λ k e.
             let stands : Stands p fun t = record { accepts = e.accepts; automatics = e.automatics; array_literals = e.array_literals; within = omega (arith, longer) } in

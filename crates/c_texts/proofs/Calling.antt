@@ -5,7 +5,7 @@ use Rattle.debug_records.specs.declared.source.Spot.{Spot}
 use Rattle.debug_records.specs.declared.code.TheConstants.Code.{ARGUMENTS}
 use Rattle.c_tree.specs.declared.object_type.Scalar.{Scalar}
 use Rattle.c_tree.specs.declared.typed_expression.Callee.{Callee}
-use Rattle.c_tree.specs.TypedExpressions.{RvalueTree, ArgumentTrees}
+use Rattle.c_tree.specs.TypedExpressions.{ArgumentTrees}
 use Rattle.c_tree.specs.TypedExpressions as argument
 use Rattle.c_tree.specs.Programs.{TypedFunctionTree, ProgramTree}
 use Rattle.c_type_rules.specs.Types.{loaded}

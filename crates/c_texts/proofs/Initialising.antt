@@ -53,7 +53,7 @@ module _ (p : ProgramTree) (f : TypedFunctionTree) (low : ℕ) where
       by true = breaks_looks p f low INITIALIZER extent q
       by false = looks_itself p f low q
 
-  within_fits : (given size : ℕ) (extent : Extent) (q : ProgressTree) → (within_count given size extent q).found.faults ≡ [] → nat_le given size ≡ true
+  pub within_fits : (given size : ℕ) (extent : Extent) (q : ProgressTree) → (within_count given size extent q).found.faults ≡ [] → nat_le given size ≡ true
   within_fits given size extent q h = by (nat_lt size given) refl h
     where
       by : (b : Bool) → nat_lt size given ≡ b → (if b then breaks INITIALIZER extent q else q).found.faults ≡ [] → nat_le given size ≡ true

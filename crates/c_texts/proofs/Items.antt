@@ -27,14 +27,15 @@ use Rattle.c_law_types.specs.Statements.{are_statements}
 use Rattle.c_laws.specs.Laws.{declares_its_own, follow}
 use Rattle.c_laws.specs.Objects.{arrays_are_kept}
 use Rattle.c_texts.specs.Formed.{IsSizeFormed}
-use Rattle.c_texts.specs.Files.{AreSizesFormed, IsBodyFormed, IsItemFormed, AreItemsFormed, Extends, Reaches, IsFileKnown, Passes, are_typed, Defined}
+use Rattle.c_texts.specs.Files.{AreSizesFormed, IsBodyFormed, IsItemFormed, AreItemsFormed, IsFileKnown, Passes, are_typed, Defined}
+use Rattle.c_texts.specs.Storage.{AreStored}
 use Rattle.c_texts.specs.Progress.{AreScopesKnown, Ensures}
 use Rattle.c_texts.proofs.Same.{two_true, both}
-use Rattle.c_texts.proofs.Growing.{begins_itself, begins_on, take_beginning, grows_itself, accepts_before}
-use Rattle.c_texts.proofs.Coming.{slice_more, closed_scopes}
+use Rattle.c_texts.proofs.Growing.{begins_itself, begins_on, take_beginning, grows_itself}
+use Rattle.c_texts.proofs.Coming.{closed_scopes}
 use Rattle.c_texts.proofs.Sizing.{Counts, size_some}
 use Rattle.c_texts.proofs.Bodies.{begins_same, parameters_come, body_defines}
-use Rattle.c_texts.proofs.Filing.{extends_on, passes_itself, passes_on, breaks_passes, looks_passes, other_passes, statics_pass}
+use Rattle.c_texts.proofs.Filing.{extends_on, reaches_before, passes_itself, passes_on, breaks_passes, looks_passes, other_passes, statics_pass}
 
 -- functions behind functions
 follow_on : (a b c : ℕ) (fs gs : List TypedFunctionTree) → follow a b fs ≡ true → follow b c gs ≡ true → follow a c (fs ++ gs) ≡ true
@@ -48,20 +49,9 @@ typed_on p (f ∷ fs) gs h g =
     both (are_statements p f false false None f.body && declares_its_own f) (are_typed p (fs ++ gs)) d.0 (typed_on p fs gs d.1 g)
 
 module _ (p : ProgramTree) where
-  -- what a program comes to later, it came to before
-  pub reaches_before : {q t : ProgressTree} → Extends q t → Reaches p t → Reaches p q
-  reaches_before {q = q} {t = t} e r =
-      record {
-        accepts = accepts_before e.found r.accepts;
-        automatics = λ x a h. r.automatics x a (ap (λ l. slice_get l x) e.automatics.1 ∙ slice_more q.automatics e.automatics.0 x a h);
-        array_literals = begins_on q.array_literals t.array_literals p.array_literals e.array_literals r.array_literals;
-        statics = begins_on q.statics t.statics p.statics e.statics r.statics;
-        functions = λ k g c h is. r.functions k g c (ap (λ l. slice_get l k) e.signatures.1 ∙ slice_more q.names.signatures e.signatures.0 k g h) is;
-      }
-
   -- what defines nothing
   passes_defined : (q t : ProgressTree) → Passes p q t → Defined p q [] t
-  passes_defined q t h = record { extends = h.extends; known = h.known; follows = eq-eqb _ _ (ap length (sym h.same)); typed = λ k r. refl }
+  passes_defined q t h = record { extends = h.extends; known = h.known; follows = eq-eqb _ _ (ap length (sym h.same)); typed = λ k r. refl; stored = h.stored }
 
   -- behind what defines nothing
   behind_passes : (q r : ProgressTree) (fs : List TypedFunctionTree) (t : ProgressTree) → Passes p q r → Defined p r fs t → Defined p q fs t
@@ -71,6 +61,7 @@ module _ (p : ProgramTree) where
         known = λ k b. d.known (h.known k (begins_on r.statics t.statics p.statics d.extends.statics b)) b;
         follows = subst (λ l. follow (length l) (length t.automatics) fs ≡ true) h.same d.follows;
         typed = λ k e. d.typed (h.known k (begins_on r.statics t.statics p.statics d.extends.statics e.statics)) e;
+        stored = λ k e s. d.stored (h.known k (begins_on r.statics t.statics p.statics d.extends.statics e.statics)) e (h.stored k (reaches_before p d.extends e) s);
       }
 
   both_defined : (q r : ProgressTree) (fs gs : List TypedFunctionTree) (t : ProgressTree) → Defined p q fs r → Defined p r gs t → Defined p q (fs ++ gs) t
@@ -80,8 +71,9 @@ module _ (p : ProgramTree) where
         known = λ k b. d.known (c.known k (begins_on r.statics t.statics p.statics d.extends.statics b)) b;
         follows = follow_on (length q.automatics) (length r.automatics) (length t.automatics) fs gs c.follows d.follows;
         typed = λ k e.
-            let before = reaches_before d.extends e in
+            let before = reaches_before p d.extends e in
             typed_on p fs gs (c.typed k before) (d.typed (c.known k before.statics) e);
+        stored = λ k e s. let before = reaches_before p d.extends e in d.stored (c.known k before.statics) e (c.stored k before s);
       }
 
   -- the name of a function
@@ -93,6 +85,7 @@ module _ (p : ProgramTree) where
         extends = record { found = grows_itself q.found; automatics = begins_itself q.automatics; array_literals = begins_itself q.array_literals; statics = begins_itself q.statics; signatures = (g ∷ [], refl); kept = λ h. h; ended = λ h. h };
         known = λ k b. k;
         same = refl;
+        stored = λ k e s. s;
       } in
       passes_on p here (other_passes p name (Function (length q.names.signatures)) r (λ o of e. cc))
 
@@ -182,6 +175,7 @@ module _ (p : ProgramTree) where
         };
         known = λ k b one. subst (AreScopesKnown p one) (sym (closed_scopes q t a)) (k one);
         same = same;
+        stored = λ k e s. subst (AreStored p) (sym a.statics) s;
       }
 
   -- a function

@@ -15,7 +15,7 @@ use Rattle.c_type_rules.specs.declared.constancy.Constancy.TheVariants.{Known}
 use Rattle.c_type_rules.specs.Integers.{promoted}
 use Rattle.c_type_values.specs.Values.{ValueTree, to_integer}
 use Rattle.c_type_declarations.specs.Progress.{ProgressTree, value_met, breaks}
-use Rattle.c_type_statements.specs.Switches.{Chosen, chosen_by, chosen, chosen_met, Labels, is_among, in_kind, case_value, PartTree, Case, Default, Statement, put_all, Parts, case_numbered, case_by, case_met, default_met, label_met, misplaced_one, Place, Outside, behind_label, label_at}
+use Rattle.c_type_statements.specs.Switches.{Chosen, chosen_by, chosen, chosen_met, Labels, is_among, in_kind, case_value, PartTree, Case, Default, Statement, put_all, Parts, case_numbered, case_by, misplaced_one, Place, Outside, behind_label, label_at}
 use Rattle.c_type_statements.specs.Switches as switch
 use Rattle.c_law_types.specs.declared.kind.Kind.{Kind}
 use Rattle.c_law_types.specs.declared.kind.Kind.TheVariants.{Of}

@@ -1,5 +1,6 @@
 pub mod Same
 pub mod Constants
+pub mod Storing
 pub mod Growing
 pub mod Fitting
 pub mod Values
@@ -18,6 +19,7 @@ pub mod Wrapping
 pub mod Labelling
 pub mod Statements
 pub mod Bodies
+pub mod Containing
 pub mod Filing
 pub mod Items
 pub mod Marking

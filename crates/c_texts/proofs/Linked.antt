@@ -33,14 +33,16 @@ use Rattle.c_type.specs.Items.{item_met, items_met}
 use Rattle.c_texts.specs.Formed.{IsSizeFormed, IsDeclaratorFormed, AreDeclaratorsFormed, IsInitialFormed}
 use Rattle.c_texts.specs.Files.{AreSizesFormed, IsBodyFormed, IsItemFormed, AreItemsFormed, Defined}
 use Rattle.c_texts.specs.Progress.{Ensures}
-use Rattle.c_texts.specs.Making.{Looks}
+use Rattle.c_texts.specs.Making.{Makes}
+use Rattle.c_texts.specs.Storage.{Fits}
 use Rattle.c_texts.specs.Stating.{StatesAll}
 use Rattle.c_texts.proofs.Growing.{no_fault_before}
 use Rattle.c_texts.proofs.Coming.{advances_on, closed_scopes}
 use Rattle.c_texts.proofs.Sizing.{Counts, size_some, Types, type_elements}
 use Rattle.c_texts.proofs.Statements.{all_states}
 use Rattle.c_texts.proofs.Bodies.{parameters_come}
-use Rattle.c_texts.proofs.Filing.{contents_contained, statics_pass}
+use Rattle.c_texts.proofs.Filing.{statics_pass}
+use Rattle.c_texts.proofs.Containing.{contents_make}
 use Rattle.c_texts.proofs.Items.{AllDefined, rest_defined, items_defined, end_passes, library_passes}
 use Rattle.c_texts.proofs.Parameters.{Definition, definitions_by}
 use Rattle.c_texts.proofs.Linking.{broken, Links, links_same, links_name, free_none, IsNumbered, name_links, AreOwn, library_links, end_there}
@@ -72,7 +74,7 @@ module _ (p : ProgramTree) where
 
     of_type_links : (d : DeclaratorTree) (of : ObjectType) (q : ProgressTree) → IsInitialFormed d.initializer → Links names done q → (static_of_type d of q).found.faults ≡ [] → Links names done (static_of_type d of q)
     unfolding reached_by
-    of_type_links d of q formed l h = by (contents_met of d.extent d.initializer s) (contents_contained p (any_function d.name.spot) 0 of d.extent d.initializer s formed) h
+    of_type_links d of q formed l h = by (contents_met of d.extent d.initializer s) (contents_make p (any_function d.name.spot) 0 of d.extent d.initializer s formed) h
       where
         r : ProgressTree
         r = breaks_if (declared_here q.names d.name.name) REDECLARED d.extent q
@@ -80,10 +82,10 @@ module _ (p : ProgramTree) where
         s : ProgressTree
         s = with_name d.name.name (Variable (designator.Static (length q.statics)) of) r
 
-        by : (m : Met Contents) → Ensures (λ (c : Contents) t. Looks p (any_function d.name.spot) 0 s t) m → (reached_by m (with_static d.name of)).found.faults ≡ [] → Links names done (reached_by m (with_static d.name of))
+        by : (m : Met Contents) → Ensures (Makes p (any_function d.name.spot) 0 (Fits p of) s) m → (reached_by m (with_static d.name of)).found.faults ≡ [] → Links names done (reached_by m (with_static d.name of))
         by (means c u) k g =
-            let before : r.found.faults ≡ [] = no_fault_before k.comes.advances.found g in
-            links_same s (with_static d.name of c u) (ap (λ n. n.scopes) k.names) (ap (λ n. n.signatures) k.names)
+            let before : r.found.faults ≡ [] = no_fault_before k.looks.comes.advances.found g in
+            links_same s (with_static d.name of c u) (ap (λ n. n.scopes) k.looks.names) (ap (λ n. n.signatures) k.looks.names)
             (named_links (declared_here q.names d.name.name) d.name.name (Variable (designator.Static (length q.statics)) of) d.extent q l refl before)
 
     one_links : (t : IntegerType) (d : DeclaratorTree) (q : ProgressTree) → IsDeclaratorFormed d → Links names done q → (static_met t d q).found.faults ≡ [] → Links names done (static_met t d q)

@@ -17,6 +17,7 @@ use Rattle.c_type_expressions.specs.Expressions.{typed, is_zero}
 use Rattle.c_type_declarations.specs.Progress.{ProgressTree, Met, means, reached_by, within, value_met, breaks}
 use Rattle.c_type_declarations.specs.Objects.{only_in}
 use Rattle.c_type_declarations.specs.Initials.{or_misfit, fitted, fitting, looked_at_one, looked_at, misfit_met, braces_met, scalar_met, tree_of}
+use Rattle.c_texts.specs.Addresses.{is_constant_of}
 use Rattle.c_texts.specs.Constants.{HasNumbers}
 use Rattle.c_texts.specs.Findings.{IsThere, HoldsOf, IsGood}
 use Rattle.c_texts.specs.Values.{IsTyped}
@@ -24,9 +25,14 @@ use Rattle.c_texts.specs.Formed.{IsInitializerFormed, AreInitializersFormed}
 use Rattle.c_texts.specs.Progress.{Stands, Inside, Ensures}
 use Rattle.c_texts.specs.Making.{Looks, MakesIfAny, IsHeldIn}
 use Rattle.c_texts.proofs.Growing.{more_is_some, no_fault_before}
-use Rattle.c_texts.proofs.Values.{converted_typed}
+use Rattle.c_texts.proofs.Values.{converted_typed, converted_constant_is}
 use Rattle.c_texts.proofs.Expressions.{valued_good, typed_good}
 use Rattle.c_texts.proofs.Coming.{next_ensures, inside_knows, comes_itself, comes_on, found_comes, breaks_comes}
+
+-- what has two properties
+both_hold : {A : Type 0} (P Q : A → Type 0) (o : Option A) → HoldsOf P o → HoldsOf Q o → HoldsOf (λ (a : A). P a × Q a) o
+both_hold P Q None h g = tt
+both_hold P Q (Some a) h g = (h, g)
 
 module _ (p : ProgramTree) (f : TypedFunctionTree) (low : ℕ) where
   pub looks_itself : (q : ProgressTree) → Looks p f low q q
@@ -64,7 +70,7 @@ module _ (p : ProgramTree) (f : TypedFunctionTree) (low : ℕ) where
   or_misfit_makes s None extent q t l h = record { looks = looks_on l (breaks_looks INITIALIZER extent t); there = λ e. breaks_never INITIALIZER extent t e; holds = λ i e. tt }
 
   fitted_makes : (s : Scalar) (extent : Extent) (z : Bool) (q : ProgressTree) (v : Option ValueTree) (t : ProgressTree) → MakesIfAny p f low (IsTyped p f) q v t → Ensures (MakesIfAny p f low (IsHeldIn p f s) q) (fitted s extent z v t)
-  fitted_makes s extent z q (Some v) t h = or_misfit_makes s (converted v (loaded s) z) extent q t h.looks (λ i e. converted_typed p f v (loaded s) z (h.holds i e))
+  fitted_makes s extent z q (Some v) t h = or_misfit_makes s (converted v (loaded s) z) extent q t h.looks (λ i e. both_hold (λ (r : ValueTree). is_of (kind_of p f r.tree) (loaded s) ≡ true) (λ (r : ValueTree). is_constant_of p (loaded s) r.constant ≡ true) (converted v (loaded s) z) (converted_typed p f v (loaded s) z (h.holds i e)) (converted_constant_is p f v (loaded s) z (h.holds i e)))
   fitted_makes s extent z q None t h = record { looks = h.looks; there = h.there; holds = λ i e. tt }
 
   fitting_makes : (s : Scalar) (extent : Extent) (e : ExpressionTree) (q : ProgressTree) → HasNumbers e → Ensures (MakesIfAny p f low (IsHeldIn p f s) q) (fitting s extent e q)
@@ -99,7 +105,7 @@ module _ (p : ProgramTree) (f : TypedFunctionTree) (low : ℕ) where
       by (means v t) h = breaks_never INITIALIZER extent t h
 
   -- the only expression in braces
-  only_formed : (all : InitializerTrees) (e : ExpressionTree) → only_in all ≡ Some e → AreInitializersFormed all → HasNumbers e
+  pub only_formed : (all : InitializerTrees) (e : ExpressionTree) → only_in all ≡ Some e → AreInitializersFormed all → HasNumbers e
   only_formed none e h k = cc
   only_formed (first (Value x) none) e h k = let same : x ≡ e = cc in subst HasNumbers same k.0
   only_formed (first (Value x) (first i more)) e h k = cc
@@ -121,5 +127,5 @@ module _ (p : ProgramTree) (f : TypedFunctionTree) (low : ℕ) where
 
   -- what there is where no rule is broken
   pub tree_held : (s : Scalar) (v : Option ValueTree) → IsThere v → HoldsOf (IsHeldIn p f s) v → is_of (kind_of p f (tree_of v)) (loaded s) ≡ true
-  tree_held s (Some v) there h = h
+  tree_held s (Some v) there h = h.0
   tree_held s None there h = absurd there

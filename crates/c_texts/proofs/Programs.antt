@@ -16,6 +16,7 @@ use Rattle.c_type.specs.Items.{beginning, source_met}
 use Rattle.c_laws.specs.Laws.{follow}
 use Rattle.c_laws.specs.Objects.{are_ended, arrays_are_kept}
 use Rattle.c_laws.specs.Statics.{literals_sound}
+use Rattle.c_texts.specs.Storage.{AreStored}
 use Rattle.c_texts.specs.Files.{AreItemsFormed, Reaches, are_typed}
 use Rattle.c_texts.specs.Known.{IsCalled}
 use Rattle.c_texts.specs.Progress.{Ensures}
@@ -126,6 +127,10 @@ module _ (items : List ItemTree) (p : ProgramTree) (a : Accepted items p) where
     -- The functions of the program are well typed, and declare their own variables.
     pub functions_typed : AreLinked → are_typed p p.functions ≡ true
     functions_typed linked = ap (are_typed p) functions_are ∙ all_defined.defined.typed (beginning_known p) (reaches linked)
+
+    -- Static objects keep the laws of static storage.
+    pub statics_stored : AreLinked → AreStored p p.statics
+    statics_stored linked = subst (AreStored p) (sym (ap (λ z. z.statics) a.program)) (all_defined.defined.stored (beginning_known p) (reaches linked) (refl, refl))
 
     -- Their variables follow one another, and there are no others.
     pub functions_follow : follow 0 (length p.automatics) p.functions ≡ true

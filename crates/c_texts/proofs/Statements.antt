@@ -4,7 +4,7 @@ use Rattle.debug_records.specs.declared.source.Spot.{Spot}
 use Rattle.debug_records.specs.declared.code.TheConstants.Code.{MISPLACED_JUMP}
 use Rattle.c_tree.specs.declared.types.IntegerType.{IntegerType}
 use Rattle.c_tree.specs.Ends.{first_of}
-use Rattle.c_tree.specs.Statements.{CaseLabel, DefaultLabel, StartTree, StatementTree, StatementTrees}
+use Rattle.c_tree.specs.Statements.{CaseLabel, DefaultLabel, StatementTree, StatementTrees}
 use Rattle.c_tree.specs.Statements as tree
 use Rattle.c_tree.specs.TypedExpressions.{RvalueTree}
 use Rattle.c_tree.specs.TypedStatements.{DeclaredTree, TypedStartTree, StepTree, TypedStatementTree, TypedStatementTrees}
@@ -14,7 +14,7 @@ use Rattle.c_type_declarations.specs.Progress.{ProgressTree, Met, means, next_me
 use Rattle.c_type_declarations.specs.Declarations.{declaration_met}
 use Rattle.c_type_statements.specs.declared.setting.Setting.{Setting}
 use Rattle.c_type_statements.specs.Settings.{in_loop, in_switch, unless, run_met, condition_met, condition_if_any, start_met, step_met, return_met}
-use Rattle.c_type_statements.specs.Switches.{Chosen, chosen_met, Labels, no_labels, Place, Outside, labels_at, behind_label, label_at, Labeled, Parts, PartTree, Statement, unlabeled, bare, preceded, put_all}
+use Rattle.c_type_statements.specs.Switches.{Chosen, chosen_met, Labels, no_labels, Place, Outside, labels_at, behind_label, label_at, Labeled, Parts, Statement, unlabeled, bare, put_all}
 use Rattle.c_type_statements.specs.Switches as switch
 use Rattle.c_type_statements.specs.Statements.{to_end, head_of, in_scope, met, statements_met, items_met}
 use Rattle.c_law_types.specs.Kinds.{is_typed, is_scalar}

@@ -14,6 +14,7 @@ use Rattle.c_laws.specs.Objects.{are_ended, arrays_are_kept}
 use Rattle.c_texts.specs.Findings.{Begins, Grows, Accepts}
 use Rattle.c_texts.specs.Known.{IsCalled}
 use Rattle.c_texts.specs.Formed.{IsSizeFormed, AreDeclaratorsFormed, AreFormed}
+use Rattle.c_texts.specs.Storage.{AreStored}
 use Rattle.c_texts.specs.Progress.{StandAmong, AreScopesKnown}
 
 -- a parameter of a definition has a name
@@ -67,20 +68,22 @@ pub record Reaches (p : ProgramTree) (t : ProgressTree) : Type 0 where
 abbrev pub IsFileKnown : ProgramTree → ProgressTree → Type 0
 IsFileKnown p q = (f : TypedFunctionTree) → AreScopesKnown p f q.names.scopes
 
--- A check comes from one point of a source to another, at file scope, and declares no automatic variable.
+-- A check comes from one point of a source to another, at file scope, and declares no automatic variable. In an accepted program what it stores keeps the laws of static storage.
 pub record Passes (p : ProgramTree) (q t : ProgressTree) : Type 0 where
   pub extends : Extends q t
   pub known : IsFileKnown p q → Begins t.statics p.statics → IsFileKnown p t
   pub same : t.automatics ≡ q.automatics
+  pub stored : IsFileKnown p q → Reaches p t → AreStored p q.statics → AreStored p t.statics
 
 -- functions are well typed, and declare their own variables
 abbrev pub are_typed : ProgramTree → List TypedFunctionTree → Bool
 are_typed p [] = true
 are_typed p (f ∷ more) = (are_statements p f false false None f.body && declares_its_own f) && are_typed p more
 
--- An item defines functions, of which each has the variables that come next, and which are well typed in an accepted program.
+-- An item defines functions, of which each has the variables that come next, and which are well typed in an accepted program; static storage keeps its laws.
 pub record Defined (p : ProgramTree) (q : ProgressTree) (more : List TypedFunctionTree) (t : ProgressTree) : Type 0 where
   pub extends : Extends q t
   pub known : IsFileKnown p q → Begins t.statics p.statics → IsFileKnown p t
   pub follows : follow (length q.automatics) (length t.automatics) more ≡ true
   pub typed : IsFileKnown p q → Reaches p t → are_typed p more ≡ true
+  pub stored : IsFileKnown p q → Reaches p t → AreStored p q.statics → AreStored p t.statics

@@ -1,7 +1,7 @@
 -- Trees as the grammar forms them: constant tokens are numbers of their types, and no declaration stands where a statement has to (ISO/IEC 9899:2011, 6.4.4.1 and 6.8).
 use Rattle.std.specs.Prelude.{◌≡◌, List, [], ◌∷◌, Bool, true, false, Option, Some, None}
 use Rattle.c_tree.specs.Expressions.{ExpressionTree}
-use Rattle.c_tree.specs.Declarations.{BracketsTree, Absent, Empty, Sized, InitializerTree, InitializerTrees, Braces, DeclaratorTree, DeclarationTree}
+use Rattle.c_tree.specs.Declarations.{BracketsTree, Absent, Empty, Sized, InitializerTree, InitializerTrees, Braces, DeclaratorTree}
 use Rattle.c_tree.specs.Declarations as declaration
 use Rattle.c_tree.specs.Statements.{StartTree, StatementTree, StatementTrees, Compound, Declare, Run, If, IfElse, While, DoWhile, For, Switch, Case, Default, Break, Continue, Return}
 use Rattle.c_tree.specs.Statements as statement

@@ -8,4 +8,5 @@ pub mod Progress
 pub mod Numbers
 pub mod Making
 pub mod Stating
+pub mod Storage
 pub mod Files

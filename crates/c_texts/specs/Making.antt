@@ -7,6 +7,7 @@ use Rattle.c_type_values.specs.Values.{ValueTree}
 use Rattle.c_type_declarations.specs.Progress.{ProgressTree}
 use Rattle.c_law_types.specs.Kinds.{is_of}
 use Rattle.c_law_types.specs.Expressions.{kind_of}
+use Rattle.c_texts.specs.Addresses.{is_constant_of}
 use Rattle.c_texts.specs.Findings.{IsThere, HoldsOf}
 use Rattle.c_texts.specs.Progress.{Stands, Inside, Comes}
 use Rattle.c_texts.specs.Numbers.{Numbers}
@@ -28,9 +29,9 @@ pub record MakesIfAny {A : Type 0} (p : ProgramTree) (f : TypedFunctionTree) (lo
   pub there : t.found.faults ≡ [] → IsThere m
   pub holds : Inside p f low q → Stands p f t → HoldsOf P m
 
--- a value is one that an object of a scalar type holds
+-- a value is one that an object of a scalar type holds, as a constant too
 abbrev pub IsHeldIn : ProgramTree → TypedFunctionTree → Scalar → ValueTree → Type 0
-IsHeldIn p f s v = is_of (kind_of p f v.tree) (loaded s) ≡ true
+IsHeldIn p f s v = (is_of (kind_of p f v.tree) (loaded s) ≡ true) × (is_constant_of p (loaded s) v.constant ≡ true)
 
 -- Declarators declare variables, and in an accepted program they are well typed.
 pub record DeclaresAll {A : Type 0} (p : ProgramTree) (f : TypedFunctionTree) (low : ℕ) (variables : A → List ℕ → List ℕ) (P : A → Type 0) (q : ProgressTree) (a : A) (t : ProgressTree) : Type 0 where
