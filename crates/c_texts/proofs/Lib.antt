@@ -24,6 +24,7 @@ pub mod Filing
 pub mod Items
 pub mod Marking
 pub mod Programs
+pub mod StaticOrder
 pub mod Keeping
 pub mod Functions
 pub mod Weighing
