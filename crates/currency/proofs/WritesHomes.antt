@@ -16,8 +16,8 @@ use Rattle.homed_unit.specs.declared.homed.FunctionHomes as declared-homes
 use Rattle.homed_unit.specs.declared.homed.HomedUnit as declared-homed
 use Rattle.homed_unit.specs.Homed.{HomedForm, home_of, homed_view}
 use Rattle.note_state.specs.Homes.{home_in}
-use Rattle.hiding_changes.specs.declared.writers.Writer as declared-writer
-use Rattle.hiding_changes.specs.declared.writers.Writer.TheVariants as writer
+use Rattle.home_writers.specs.declared.writers.Writer as declared-writer
+use Rattle.home_writers.specs.declared.writers.Writer.TheVariants as writer
 use Rattle.currency.specs.declared.verdict.PlaceVerdict as declared-row
 use Rattle.currency.specs.Written.{AreWritten, Writes, WritesHome, binding, function_of, instruction}
 use Rattle.currency.proofs.OfFunctions.{names_at}

@@ -3,3 +3,4 @@ pub mod Telling
 pub mod Sound
 pub mod Named
 pub mod Written
+pub mod Evident

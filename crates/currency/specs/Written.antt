@@ -6,8 +6,8 @@ use Rattle.graph_core.specs.Uses.{target_of}
 use Rattle.graph_core.specs.Paths.{Among}
 use Rattle.graph_core.specs.WellMarked.{IsVariable}
 use Rattle.homed_unit.specs.Homed.{HomedForm, home_of}
-use Rattle.hiding_changes.specs.declared.writers.Writer as declared-writer
-use Rattle.hiding_changes.specs.declared.writers.Writer.TheVariants as writer
+use Rattle.home_writers.specs.declared.writers.Writer as declared-writer
+use Rattle.home_writers.specs.declared.writers.Writer.TheVariants as writer
 use Rattle.currency.specs.declared.verdict.Verdict as declared-verdict
 use Rattle.currency.specs.declared.verdict.Verdict.TheVariants as verdict
 use Rattle.currency.specs.declared.verdict.PlaceVerdict as declared-row

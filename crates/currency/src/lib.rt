@@ -8,6 +8,6 @@ mod told;
 mod verdict;
 mod written;
 
-pub use hiding_changes::Writer;
+pub use home_writers::Writer;
 pub use rows::verdicts;
 pub use verdict::{PlaceVerdict, Verdict};

@@ -6,6 +6,7 @@ ghost use Rattle.currency.specs.Telling.{AreRowsTold, AreSlotted, AreTold, IsNon
 ghost use Rattle.currency.specs.Named.{AreNamed};
 ghost use Rattle.currency.specs.Sound.{AreHome, AreRecovered, AreSo};
 ghost use Rattle.currency.specs.Written.{AreWritten};
+ghost use Rattle.currency.specs.Evident.{AreEvident, AreToldEvident};
 ghost use Rattle.currency.specs.Visible.{sight, sights_at, sights_from};
 
 use crate::named::are_named;
@@ -144,11 +145,14 @@ fn told_of_all<'a>(
     places: &PlaceTable,
     flow: &FlowTable,
 ) -> Result<Option<ToldPlaces<'a>>, AllocError>
-    ensures { IfOk result (λ o. IfSome o (λ told. AreSo (homed_view homed.now) places.now told)) }
+    ensures so { IfOk result (λ o. IfSome o (λ told. AreSo (homed_view homed.now) places.now told)) }
+    ensures evident { IfOk result (λ o. IfSome o (λ told. AreToldEvident (homed_view homed.now).unit.log flow.now (homed_view homed.now) told)) }
 {
     let count = places.rows.len().saturating_add(1);
     let changes = homed.unit.log.changes();
-    let mut teller = Teller::new(alloc, changes, flow, count)?;
+    let Some(mut teller) = Teller::new(alloc, changes, flow, count)? else {
+        return Ok(None);
+    };
     let mut told = ToldPlaces::new(alloc, count)?;
     let unit = Surroundings {
         changes,
@@ -179,7 +183,8 @@ fn told_of_all<'a>(
 ///
 /// The places and their flow are the unit's, and its homes are those that are assigned by rule. None where a variable is not shown and nothing hides it, or a recipe
 /// shows its value and no change removed an assignment of it, or what was found of paths is not borne out (`not_shown` of `note_flow`), or the log has not the change that a
-/// verdict names, or what it says to write a home does not, which no unit that the passes make of a program is known to meet. The only error is want of memory.
+/// verdict names, or what it says to write a home does not, or the changes do not stand in the order of their numbers, or a name that is written has no home, or what assigns a hidden
+/// variable or writes its home stands in no place of the table, which no unit that the passes make of a program is known to meet. The only error is want of memory.
 pub fn verdicts(
     alloc: Global,
     homed: &HomedUnit,
@@ -191,6 +196,7 @@ pub fn verdicts(
     ensures recovered { IfOk result (λ o. IfSome o (λ v. AreRecovered (homed_view homed.now) v.items)) }
     ensures named { IfOk result (λ o. IfSome o (λ v. AreNamed (homed_view homed.now).unit.log v.items)) }
     ensures written { IfOk result (λ o. IfSome o (λ v. AreWritten (homed_view homed.now) v.items)) }
+    ensures evident { IfOk result (λ o. IfSome o (λ v. AreEvident (homed_view homed.now).unit.log flow.now (homed_view homed.now) v.items)) }
 {
     let changes = homed.unit.log.changes();
     let removals = Removals::new(alloc, changes)?;

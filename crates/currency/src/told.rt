@@ -1,8 +1,11 @@
 //! What is told at places.
 
-ghost use Rattle.std.specs.Prelude.{◌≡◌, ◌<◌, ℕ, IfOk, IfSome, [], length, true};
+ghost use Rattle.std.specs.Prelude.{◌≡◌, ◌<◌, ◌≤◌, ℕ, IfOk, IfSome, OnOk, [], length, true};
 ghost use Rattle.graph_core.specs.Graphs.{graph_view};
 ghost use Rattle.note_state.specs.Homes.{home_in};
+ghost use Rattle.hiding_changes.specs.Changes.{log_of};
+ghost use Rattle.hiding_changes.specs.Found.{HidesBy, HidesFor, IsFunction, IsReady, IsSameFunction, IsSameTeller, IsTeller};
+ghost use Rattle.currency.specs.Evident.{AreNew, IsHiding, IsHidingIn, IsHidingOn, IsHidingScalar};
 ghost use Rattle.currency.specs.Telling.{AreToldOf, AreToldAll, IsFunctionTold, IsRecipeOf, IsToldOne, told_at};
 
 use crate::telling::{Told, ToldVariable};
@@ -26,8 +29,15 @@ fn is_hidden_somewhere(unshown: &[Unshown<'_>]) -> bool {
 }
 
 /// What is told of a scalar that its home does not show at a place, where the questions are on it if it is hidden there.
-fn told_of<'a>(one: &Unshown<'a>, teller: &Teller<'_>) -> Option<Told<'a>>
-    ensures { IfSome result (λ told. IsRecipeOf told one.now.last) }
+fn told_of<'a>(
+    one: &Unshown<'a>,
+    teller: &Teller<'_>,
+    function: &Function<'_>,
+    is_asked: bool,
+) -> Option<Told<'a>>
+    requires { is_asked ≡ true → IsReady teller.now function.now }
+    ensures recipe { IfSome result (λ told. IsRecipeOf told one.now.last) }
+    ensures hiding { IfSome result (λ told. IsHiding (λ c. (is_asked ≡ true) × HidesFor teller.now function.now one.now.place.0 c) told) }
 {
     match one.last {
         Some(note) => {
@@ -37,10 +47,11 @@ fn told_of<'a>(one: &Unshown<'a>, teller: &Teller<'_>) -> Option<Told<'a>>
                 change,
             })
         }
-        None => {
-            let cause = teller.cause_at(one.place)?;
+        None if is_asked => {
+            let cause = teller.cause_at(function, one.place)?;
             Some(Told::Hidden(cause))
         }
+        None => None,
     }
 }
 
@@ -56,6 +67,28 @@ pub struct Surroundings<'a, 'b> {
 #[derive(Drop)]
 pub struct ToldPlaces<'a> {
     by_place: Vec<Vec<ToldVariable<'a>>>,
+}
+
+/// The questions are on this scalar from here on, if it is asked. Tells whether they can be answered.
+fn ask(
+    alloc: Global,
+    teller: &mut Teller<'_>,
+    function: &mut Function<'_>,
+    is_asked: bool,
+    scalar: u32,
+    var: Var,
+) -> Result<bool, AllocError>
+    requires teller { IsTeller teller.old }
+    requires function { IsFunction function.old }
+    requires scalar { scalar < length (graph_view function.old.writers.graph.now).scalars }
+    ensures teller { OnOk result (IsSameTeller teller.old teller.new) }
+    ensures function { OnOk result (IsSameFunction function.old function.new) }
+    ensures ready { IfOk result (λ b. b ≡ true → is_asked ≡ true → IsReady teller.new function.new × (function.new.scalar ≡ scalar) × (teller.new.search.flow.var.0 ≡ var.0)) }
+{
+    if !is_asked {
+        return Ok(true);
+    }
+    Ok(teller.turn_to(alloc, function, scalar, var)?)
 }
 
 impl<'a> ToldPlaces<'a> {
@@ -100,13 +133,17 @@ impl<'a> ToldPlaces<'a> {
     fn add_entries(
         &mut self,
         teller: &Teller<'_>,
+        function: &Function<'_>,
+        is_asked: bool,
         var: Var,
         unshown: &[Unshown<'a>],
     ) -> Result<bool, AllocError>
-        ensures { IfOk result (λ b. b ≡ true → AreToldOf self.old self.new var unshown.now) }
+        requires { is_asked ≡ true → IsReady teller.now function.now }
+        ensures told { IfOk result (λ b. b ≡ true → AreToldOf self.old self.new var unshown.now) }
+        ensures hiding { IfOk result (λ b. b ≡ true → AreNew (IsHidingOn (λ p c. (is_asked ≡ true) × HidesFor teller.now function.now p c) var) self.old self.new) }
     {
         for one in unshown {
-            match told_of(one, teller) {
+            match told_of(one, teller, function, is_asked) {
                 Some(told) => if !self.add(one.place, var, told)? {
                     return Ok(false);
                 },
@@ -126,12 +163,19 @@ impl<'a> ToldPlaces<'a> {
         var: Var,
         unshown: &[Unshown<'a>],
     ) -> Result<bool, AllocError>
-        ensures { IfOk result (λ b. b ≡ true → AreToldOf self.old self.new var unshown.now) }
+        requires teller { IsTeller teller.old }
+        requires function { IsFunction function.old }
+        requires scalar { scalar < length (graph_view function.old.writers.graph.now).scalars }
+        ensures teller { OnOk result (IsSameTeller teller.old teller.new) }
+        ensures function { OnOk result (IsSameFunction function.old function.new) }
+        ensures told { IfOk result (λ b. b ≡ true → AreToldOf self.old self.new var unshown.now) }
+        ensures hiding { IfOk result (λ b. b ≡ true → AreNew (IsHidingOn (λ p c. HidesBy teller.old function.old.writers scalar var.0 p c) var) self.old self.new) }
     {
-        if is_hidden_somewhere(unshown) {
-            teller.turn_to(alloc, function, scalar, var)?;
+        let is_asked = is_hidden_somewhere(unshown);
+        if !ask(alloc, teller, function, is_asked, scalar, var)? {
+            return Ok(false);
         }
-        Ok(self.add_entries(teller, var, unshown)?)
+        Ok(self.add_entries(teller, function, is_asked, var, unshown)?)
     }
 
     /// What is told of each scalar of a function. Tells whether something is at each place where its home does not show it.
@@ -143,7 +187,12 @@ impl<'a> ToldPlaces<'a> {
         scalars: &[Scalar],
         unshown: &[Vec<Unshown<'a>>],
     ) -> Result<bool, AllocError>
-        ensures { IfOk result (λ b. b ≡ true → AreToldAll self.old self.new scalars.now unshown.now) }
+        requires teller { IsTeller teller.old }
+        requires function { IsFunction function.old }
+        requires scalars { length scalars.now ≤ length (graph_view function.old.writers.graph.now).scalars }
+        ensures teller { OnOk result (IsSameTeller teller.old teller.new) }
+        ensures told { IfOk result (λ b. b ≡ true → AreToldAll self.old self.new scalars.now unshown.now) }
+        ensures hiding { IfOk result (λ b. b ≡ true → AreNew (IsHidingScalar teller.old function.old.writers scalars.now) self.old self.new) }
     {
         let mut number = 0u32;
         for x in 0..scalars.len() {
@@ -169,7 +218,10 @@ impl<'a> ToldPlaces<'a> {
         graph: &'a Graph,
         homes: &'a [Home],
     ) -> Result<bool, AllocError>
-        ensures { IfOk result (λ b. b ≡ true → IsFunctionTold (home_in homes.now) (graph_view graph.now) number unit.now.places.now self.old self.new) }
+        requires { IsTeller teller.old }
+        ensures teller { OnOk result (IsSameTeller teller.old teller.new) }
+        ensures told { IfOk result (λ b. b ≡ true → IsFunctionTold (home_in homes.now) (graph_view graph.now) number unit.now.places.now self.old self.new) }
+        ensures hiding { IfOk result (λ b. b ≡ true → AreNew (IsHidingIn (log_of teller.old.changes) teller.old.search.flow.table.now (home_in homes.now) number (graph_view graph.now)) self.old self.new) }
     {
         let (changes, removals, places) = (unit.changes, unit.removals, unit.places);
         let Some(unshown) = not_shown(alloc, number, graph, homes, changes, removals, places)?
@@ -177,7 +229,9 @@ impl<'a> ToldPlaces<'a> {
             return Ok(false);
         };
         let count = places.rows.len().saturating_add(1);
-        let mut function = Function::new(alloc, number, graph, homes, count)?;
+        let Some(mut function) = Function::new(alloc, number, graph, homes, count)? else {
+            return Ok(false);
+        };
         Ok(self.add_scalars(alloc, teller, &mut function, &graph.scalars, &unshown)?)
     }
 }

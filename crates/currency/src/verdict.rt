@@ -2,7 +2,7 @@
 
 use debug_records::{Place, Var};
 use graph_core::Recipe;
-use hiding_changes::Writer;
+use home_writers::Writer;
 
 /// What can be told of a variable at a place (Hennessy 1982: current, recovered, noncurrent; Adl-Tabatabai and Gross 1996: nonresident).
 #[derive(Drop)]

@@ -12,7 +12,7 @@ use crate::verdict::{PlaceVerdict, Verdict};
 use debug_records::Var;
 use graph_core::{Binding, Graph, Scalar};
 use graph_homes::Home;
-use hiding_changes::Writer;
+use home_writers::Writer;
 use homed_unit::HomedUnit;
 
 /// The function in which this stands.

@@ -1,7 +1,11 @@
 //! The changes of each variable.
 
+ghost use Rattle.std.specs.Prelude.{◌≡◌, All, Contains, IfOk, IfSome, ℕ, Some};
+ghost use Rattle.debug_records.specs.declared.change.Change as declared-change;
+ghost use Rattle.hiding_changes.specs.Changes.{AreFound, AreListed, IsListed, IsSharing};
+
 use debug_records::{Change, Kind, Var};
-use graph_paths::{list, no_lists, push_to};
+use flow_ways::Lists;
 use std::alloc::{AllocError, Global};
 
 /// The pass by whose name the assignment of homes logs that it gave a register to other names too.
@@ -11,8 +15,8 @@ const HOMES: &[u8] = b"homes";
 #[derive(Drop)]
 pub struct Changes<'a> {
     pub all: &'a [Change],
-    /// For each variable which of them it has, in order.
-    by_variable: Vec<Vec<u32>>,
+    /// For each variable the numbers of its changes, in order.
+    pub by_variable: Lists,
 }
 
 /// How many variables there are, as far as they have changes.
@@ -25,37 +29,79 @@ fn variable_count(changes: &[Change]) -> usize {
 }
 
 impl<'a> Changes<'a> {
-    /// These changes, in the order of their numbers.
-    pub fn new(alloc: Global, all: &'a [Change]) -> Result<Changes<'a>, AllocError> {
-        let mut by_variable = no_lists(alloc, variable_count(all))?;
-        let mut at = 0u32;
-        for change in all {
-            push_to(&mut by_variable, change.var.0, at)?;
-            at = at.saturating_add(1);
+    /// These changes. None where they do not stand in the order of their numbers from 1 on.
+    pub fn new(alloc: Global, all: &'a [Change]) -> Result<Option<Changes<'a>>, AllocError>
+        ensures listed { IfOk result (λ o. IfSome o (λ made. AreListed made)) }
+        ensures all { IfOk result (λ o. IfSome o (λ made. made.all.now ≡ all.now)) }
+    {
+        let mut by_variable = Lists::new(alloc, variable_count(all))?;
+        let mut number = 1u32;
+        for k in 0..all.len() {
+            let change = all[k];
+            if change.number != number
+                || number as usize != k + 1
+                || !by_variable.push(change.var.0, number)?
+            {
+                return Ok(None);
+            }
+            number = number.saturating_add(1);
         }
-        Ok(Changes { all, by_variable })
+        Ok(Some(Changes { all, by_variable }))
+    }
+
+    /// The change of a number.
+    fn get(&self, number: u32) -> Option<Change>
+        ensures some { IfSome result (λ change. IsListed self.now number change) }
+        ensures all { (change : declared-change.Change) → IsListed self.now number change → result ≡ Some change }
+    {
+        if number == 0 || number as usize > self.all.len() {
+            return None;
+        }
+        Some(self.all[number as usize - 1])
+    }
+
+    /// The change of a number, if it is of this variable and kind.
+    fn get_of(&self, number: u32, var: Var, kind: Kind) -> Option<Change>
+        ensures some { IfSome result (λ change. IsListed self.now number change × (change.var.0 ≡ var.0) × (change.kind ≡ kind)) }
+        ensures all { (change : declared-change.Change) → IsListed self.now number change → change.var.0 ≡ var.0 → change.kind ≡ kind → result ≡ Some change }
+    {
+        let change = self.get(number)?;
+        if change.kind != kind {
+            return None;
+        }
+        if change.var.0 != var.0 {
+            return None;
+        }
+        Some(change)
     }
 
     /// The changes of a variable of this kind, in order.
-    pub fn of(&self, alloc: Global, var: Var, kind: Kind) -> Result<Vec<Change>, AllocError> {
+    pub fn of(&self, alloc: Global, var: Var, kind: Kind) -> Result<Vec<Change>, AllocError>
+        requires { AreListed self.now }
+        ensures { IfOk result (λ found. AreFound self.now var.0 kind found.items) }
+    {
         let mut found = Vec::new(alloc);
-        for at in list(&self.by_variable, var.0) {
-            if let Some(change) = self.all.get(*at as usize) {
-                if change.kind == kind {
-                    found.push(*change)?;
-                }
+        for number in self.by_variable.get(var.0) {
+            match self.get_of(*number, var, kind) {
+                Some(change) => found.push(change)?,
+                None => {}
             }
         }
         Ok(found)
     }
 
     /// The last change by which the assignment of homes gave the register of a variable to other names too.
-    pub fn sharing(&self, var: Var) -> Option<u32> {
+    pub fn sharing(&self, var: Var) -> Option<u32>
+        ensures { IfSome result (λ number. IsSharing self.now var.0 number) }
+    {
         let mut found = None;
-        for at in list(&self.by_variable, var.0) {
-            if let Some(change) = self.all.get(*at as usize) {
-                if change.kind == Kind::Reused && change.pass.letters() == HOMES {
-                    found = Some(change.number);
+        for number in self.by_variable.get(var.0) {
+            if let Some(change) = self.get(*number) {
+                if change.kind == Kind::Reused
+                    && change.var.0 == var.0
+                    && change.pass.letters() == HOMES
+                {
+                    found = Some(*number);
                 }
             }
         }

@@ -3,12 +3,10 @@
 
 mod causes;
 mod changes;
-mod copies;
-mod marks;
-mod search;
+mod function;
+mod question;
 mod teller;
-mod writers;
 
-pub use causes::{Cause, Function};
+pub use causes::Cause;
+pub use function::Function;
 pub use teller::Teller;
-pub use writers::Writer;

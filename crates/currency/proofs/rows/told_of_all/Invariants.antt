@@ -1,6 +1,16 @@
+use Rattle.std.proofs.Common.{◌≡◌}
 use Rattle.homed_unit.specs.Homed.{homed_view}
+use Rattle.hiding_changes.specs.Changes.{log_of}
+use Rattle.hiding_changes.specs.Found.{IsTeller}
+use Rattle.currency.specs.Evident.{AreToldEvident}
 use Rattle.currency.specs.Sound.{AreFunctionsTold}
 use Rattle.currency.proofs.rows.told_of_all.Given as goal
 
 abbrev pub invariant-loop-f : goal.invariant-loop-f
-invariant-loop-f l = AreFunctionsTold (homed_view l.homed) l.places l.f l.told
+invariant-loop-f l = record {
+  so : AreFunctionsTold (homed_view l.homed) l.places l.f l.told;
+  teller : IsTeller l.teller;
+  log : log_of l.teller.changes ≡ (homed_view l.homed).unit.log;
+  flow : l.teller.search.flow.table.now ≡ l.flow;
+  evident : AreToldEvident (homed_view l.homed).unit.log l.flow (homed_view l.homed) l.told;
+}

@@ -1,4 +1,4 @@
-use Rattle.std.proofs.Common.{List, subst}
+use Rattle.std.proofs.Common.{◌≡◌, List, subst}
 use Rattle.std.specs.Prelude.{IfSome}
 use Rattle.std.specs.Global.{Vec}
 use Rattle.graph_core.specs.declared.graph.Scalar as declared-scalar
@@ -7,11 +7,14 @@ use Rattle.note_state.specs.Homes.{home_in}
 use Rattle.note_flow.specs.declared.found.Unshown as declared-unshown
 use Rattle.note_flow.specs.Shown.{AreDifferent, AreOwn, ArePlaced, AreRecipes, AreTheirs}
 use Rattle.currency.specs.Telling.{AreToldAll}
+use Rattle.hiding_changes.specs.declared.function.Function as declared-function
+use Rattle.currency.specs.Evident.{AreNew, IsHidingScalar}
 use Rattle.currency.proofs.Entries.{function_told}
+use Rattle.currency.proofs.Hiding.{hiding_in}
 use Rattle.currency.proofs.told.ToldPlaces.add_function.Goals as goal
 
-pub returns : goal.returns
-returns c = λ e.
+pub returns-clause-told : goal.returns-clause-told
+returns-clause-told c = λ e.
     (let g = c.args.graph.now in
     let home = home_in c.args.homes.now in
     let table = c.args.unit.now.places.now in
@@ -21,7 +24,18 @@ returns c = λ e.
     let said = c.in_ok-unshown.ensures in
     let all : AreToldAll old new g.scalars.items found.items =
     subst (λ (scalars : List declared-scalar.Scalar). AreToldAll old new scalars found.items) c.deref.ensures.value
-    (subst (λ (entries : List (Vec declared-unshown.Unshown)). AreToldAll old new c.deref.result.now entries) c.deref-2.ensures.value (c.in_ok-add_scalars.ensures e)) in
+    (subst (λ (entries : List (Vec declared-unshown.Unshown)). AreToldAll old new c.deref.result.now entries) c.deref-2.ensures.value (c.in_ok-add_scalars.ensures.told e)) in
     function_told g home c.args.number table old new found.items (subst (λ o. IfSome o (λ f. ArePlaced (graph_view g) c.args.number table)) c.in-Some.is said.placed)
     (subst (λ o. IfSome o (λ f. AreTheirs f.items c.args.number table)) c.in-Some.is said.theirs) (subst (λ o. IfSome o (λ f. AreDifferent (graph_view g))) c.in-Some.is said.different)
     (subst (λ o. IfSome o (λ f. AreOwn home (graph_view g) table f.items)) c.in-Some.is said.own) (subst (λ o. IfSome o (λ f. AreRecipes home (graph_view g) f.items)) c.in-Some.is said.recipe) all)
+
+pub returns-clause-hiding : goal.returns-clause-hiding
+returns-clause-hiding c = λ e.
+    (let f = c.in-Some-2.function in
+    let t = c.args.teller.now in
+    let old = c.args.self.now in
+    let new = c.add_scalars.new.self in
+    let made = c.in_ok-function.ensures in
+    hiding_in t f.writers c.args.graph.now c.args.homes.now c.args.number old new (subst (λ o. IfSome o (λ (z : declared-function.Function). z.writers.function ≡ c.args.number)) c.in-Some-2.is made.number)
+    (subst (λ o. IfSome o (λ (z : declared-function.Function). z.writers.graph.now ≡ c.args.graph.now)) c.in-Some-2.is made.graph) (subst (λ o. IfSome o (λ (z : declared-function.Function). z.writers.homes.now ≡ c.args.homes.now)) c.in-Some-2.is made.homes)
+    (subst (λ (scalars : List declared-scalar.Scalar). AreNew (IsHidingScalar t f.writers scalars) old new) c.deref.ensures.value (c.in_ok-add_scalars.ensures.hiding e)))

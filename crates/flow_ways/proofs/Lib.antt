@@ -1,0 +1,6 @@
+mod Pushing
+mod Numbers
+mod Going
+mod Marking
+mod Telling
+pub mod Routes

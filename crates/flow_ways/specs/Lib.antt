@@ -1,0 +1,5 @@
+pub mod Lists
+pub mod Marks
+pub mod Ways
+pub mod Flow
+pub mod Starts

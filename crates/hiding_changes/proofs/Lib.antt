@@ -1,0 +1,4 @@
+mod Listed
+mod Asked
+mod Found
+pub mod Same

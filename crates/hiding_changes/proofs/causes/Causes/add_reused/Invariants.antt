@@ -1,0 +1,5 @@
+use Rattle.hiding_changes.specs.Found.{AreCauses}
+use Rattle.hiding_changes.proofs.causes.Causes.add_reused.Given as goal
+
+abbrev pub invariant-loop-via : goal.invariant-loop-via
+invariant-loop-via l = AreCauses l.question.changes.now l.question.search.now l.question.function.now l.self

@@ -1,0 +1,209 @@
+-- What writes names, as far as it is known.
+use Rattle.std.proofs.Common.{◌≡◌, inl, inr, ℕ, ◌+◌, ◌<◌, Option, Some, None, List, [], ◌∷◌, ◌++◌, length, get_or, map, take, drop, refl, sym, ap, subst, ◌∙◌, arith}
+use Rattle.std.specs.Prelude.{slice_get, option_map, All, Contains}
+use Rattle.std.specs.Option.{option_or}
+use Rattle.std.proofs.lemmas.Bool.Decides.{eqb_tells}
+use Rattle.std.proofs.lemmas.List.{get_or-map, length-map, length-take-le, take-append-drop, take_more, drop_more, take_at, length-append}
+use Rattle.std.proofs.lemmas.List.Elements.{All-push}
+use Rattle.std.proofs.lemmas.Option.{none-some, same_Some, slice_get-map, slice_get-get_or, slice_get_within}
+use Rattle.debug_records.specs.declared.change.Place.{Place}
+use Rattle.graph_homes.specs.declared.home.Home.{Home}
+use Rattle.graph_core.specs.declared.graph.Binding as declared-binding
+use Rattle.graph_core.specs.declared.block.Block as declared-block
+use Rattle.graph_core.specs.declared.graph.Graph as declared-graph
+use Rattle.graph_core.specs.declared.instruction.Instr as declared-instr
+use Rattle.graph_core.specs.Graphs.{Instruction, Marker, Block, Graph, Binding, ToScalar, ToObject, block_view, binding_view, instruction_view, end_view, graph_view}
+use Rattle.graph_core.specs.Uses.{target_of, marker_of}
+use Rattle.graph_core.specs.Points.{StandsWith}
+use Rattle.graph_core.specs.Validity.{place_behind}
+use Rattle.note_state.specs.Homes.{home_in, number_at}
+use Rattle.flow_ways.specs.Lists.{entries_of}
+use Rattle.home_writers.specs.declared.writers.Writer as declared-writer
+use Rattle.home_writers.specs.declared.writers.Writer.TheVariants as writer
+use Rattle.home_writers.specs.declared.writers.Writers as declared-writers
+use Rattle.home_writers.specs.declared.writers.Written as declared-written
+use Rattle.home_writers.specs.Writers.{AreBindings, AreBlocks, AreInstructions, AreMore, AreSound, AreWriters, Writes, instruction, parameter, placed, places_of}
+
+pub more_same : (v : declared-writers.Writers) → AreMore v v
+more_same v = record { function = refl; graph = refl; homes = refl; kept = λ k p c. c }
+
+pub more_on : (u v w : declared-writers.Writers) → AreMore u v → AreMore v w → AreMore u w
+more_on u v w one two = record { function = two.function ∙ one.function; graph = two.graph ∙ one.graph; homes = two.homes ∙ one.homes; kept = λ k p c. two.kept k p (one.kept k p c) }
+
+-- a place that was known
+there_on : (old new : declared-writers.Writers) → AreMore old new → (x p : ℕ) → Contains (places_of old x) p → Contains (places_of new x) p
+there_on old new more x p c = subst (λ (homes : List Home). Contains (entries_of new.places (number_at (home_in homes x))) p) (sym more.homes) (more.kept (number_at (home_in old.homes.now x)) p c)
+
+pub bindings_on : (old new : declared-writers.Writers) (count : ℕ) → AreMore old new → AreBindings old count → AreBindings new count
+bindings_on old new count more all k x lt at = at_graph
+  where
+    there : Contains (places_of old x) (graph_view old.graph.now).entry
+    there = all k x lt (subst (λ g. slice_get (graph_view g).parameters k ≡ Some (ToScalar x)) more.graph at)
+
+    at_graph : Contains (places_of new x) (graph_view new.graph.now).entry
+    at_graph = subst (λ g. Contains (places_of new x) (graph_view g).entry) (sym more.graph) (there_on old new more x (graph_view old.graph.now).entry there)
+
+pub instructions_on : (old new : declared-writers.Writers) (all : List Instruction) (place : Option ℕ) (count : ℕ) → AreMore old new → AreInstructions old all place count → AreInstructions new all place count
+instructions_on old new all place count more known p x before i rest e lt at target = there_on old new more x p (known p x before i rest e lt at target)
+
+pub blocks_on : (old new : declared-writers.Writers) (count : ℕ) → AreMore old new → AreBlocks old count → AreBlocks new count
+blocks_on old new count more known n b lt at =
+    instructions_on old new b.instructions b.place (length b.instructions) more (known n b lt (subst (λ g. slice_get (graph_view g).blocks n ≡ Some b) more.graph at))
+
+-- one binding more
+pub bindings_more : (v : declared-writers.Writers) (k : ℕ) → AreBindings v k → ((x : ℕ) → slice_get (graph_view v.graph.now).parameters k ≡ Some (ToScalar x) → Contains (places_of v x) (graph_view v.graph.now).entry) → AreBindings v (k + 1)
+bindings_more v k before here j x lt at = elim (eqb_tells j k) [
+  | inl e ↦ here x (sym (ap (λ n. slice_get (graph_view v.graph.now).parameters n) e.1) ∙ at)
+  | inr e ↦ (let other = e.1 in before j x (omega (arith, lt, other)) at)
+]
+
+-- one instruction more
+pub instructions_more : (v : declared-writers.Writers) (all : List Instruction) (place : Option ℕ) (k : ℕ) → AreInstructions v all place k
+    → ((p x : ℕ) (i : Instruction) → slice_get all k ≡ Some i → place_behind (take k all) place ≡ Some p → target_of i ≡ Some x → Contains (places_of v x) p) → AreInstructions v all place (k + 1)
+instructions_more v all place k known here p x before i rest e lt at target = elim (eqb_tells (length before) k) [
+  | inl same ↦ (let index : length before ≡ k = same.1 in
+      here p x i (ap (λ l. slice_get l k) e ∙ ap (λ n. slice_get (before ++ i ∷ rest) n) (sym index) ∙ nth before i rest) (ap (λ l. place_behind l place) (ap (take k) e ∙ take_at before (i ∷ rest) k index) ∙ at) target)
+  | inr other ↦ (let differ = other.1 in known p x before i rest e (omega (arith, lt, differ)) at target)
+]
+  where
+    nth : (xs : List Instruction) (j : Instruction) (ys : List Instruction) → slice_get (xs ++ j ∷ ys) (length xs) ≡ Some j
+    nth [] j ys = refl
+    nth (z ∷ xs) j ys = nth xs j ys
+
+-- one block more
+pub blocks_more : (v : declared-writers.Writers) (n : ℕ) (b : declared-block.Block) → slice_get v.graph.now.blocks.items n ≡ Some b → AreBlocks v n → AreInstructions v (map instruction_view b.instructions.items) (placed b.place) (length b.instructions.items) → AreBlocks v (n + 1)
+blocks_more v n b is known here m c lt at = elim (eqb_tells m n) [
+  | inl e ↦ (let one : block_view b ≡ c = same_Some (block_view b) c (sym (slice_get-map block_view v.graph.now.blocks.items n ∙ ap (λ o. option_map block_view o) is) ∙ sym (ap (λ k. slice_get (graph_view v.graph.now).blocks k) e.1) ∙ at) in
+      subst (λ (d : Block). AreInstructions v d.instructions d.place (length d.instructions)) one
+      (subst (λ k. AreInstructions v (map instruction_view b.instructions.items) (placed b.place) k) (sym (length-map b.instructions.items instruction_view)) here))
+  | inr e ↦ (let other = e.1 in known m c (omega (arith, lt, other)) at)
+]
+
+-- all that writes
+pub all_written : (v : declared-writers.Writers) → AreSound v → AreBindings v (length v.graph.now.parameters.items) → AreBlocks v (length v.graph.now.blocks.items) → AreWriters v
+all_written v sound bindings blocks = record { sound = sound; all = all }
+  where
+    all : (p x : ℕ) (w : declared-writer.Writer) → Writes v p x w → Contains (places_of v x) p
+    all p x _ (instruction {n} {i} {rest} at target) =
+        (let inside = slice_get_within (graph_view v.graph.now).blocks n at.block at.is in
+        let long = length-map v.graph.now.blocks.items block_view in
+        let count = ap length at.instructions ∙ length-append at.before (i ∷ rest) in
+        blocks n at.block (omega (arith, inside, long)) at.is p x at.before i rest at.instructions (omega (arith, count)) at.place target)
+    all p x _ (parameter {k} entry at) =
+        (let inside = slice_get_within (graph_view v.graph.now).parameters k (ToScalar x) at in
+        let long = length-map v.graph.now.parameters.items binding_view in
+        subst (λ q. Contains (places_of v x) q) (sym entry) (bindings k x (omega (arith, inside, long)) at))
+
+-- the place behind one more instruction
+behind_last : (all : List Instruction) (i : Instruction) (p : Option ℕ) → place_behind (all ++ i ∷ []) p ≡ place_behind (i ∷ []) (place_behind all p)
+behind_last [] i p = refl
+behind_last (Marker q ∷ more) i p = behind_last more i (Some q)
+behind_last (_ ∷ more) i p = behind_last more i p
+
+behind_one : (i : Instruction) (p : Option ℕ) → place_behind (i ∷ []) p ≡ option_or (marker_of i) p
+behind_one (Marker q) p = refl
+behind_one _ p = refl
+
+placed_or : (m s : Option Place) → placed (option_or m s) ≡ option_or (placed m) (placed s)
+placed_or None s = refl
+placed_or (Some q) s = refl
+
+module _ {A : Type 0} (view : A → Instruction) (xs : List A) (k : ℕ) (x d : A) (lt : k < length xs) (is : x ≡ get_or xs k d) where
+  there : get_or (map view xs) k (view d) ≡ view x
+  there = get_or-map view xs k d (view d) lt ∙ ap view (sym is)
+
+  inside : k < length (map view xs)
+  inside = omega (arith, lt, length-map xs view)
+
+  pub taken : take (k + 1) (map view xs) ≡ take k (map view xs) ++ view x ∷ []
+  taken = take_more (map view xs) k (view d) inside ∙ ap (λ a. take k (map view xs) ++ a ∷ []) there
+
+  pub at_index : slice_get (map view xs) k ≡ Some (view x)
+  at_index = slice_get-get_or (map view xs) k (view d) inside ∙ ap Some there
+
+  -- the place in force goes on over one instruction
+  pub place_next : (m s : Option Place) (p : Option ℕ) → placed m ≡ marker_of (view x) → placed s ≡ place_behind (take k (map view xs)) p → placed (option_or m s) ≡ place_behind (take (k + 1) (map view xs)) p
+  place_next m s p marks so_far =
+      placed_or m s ∙ ap (λ a. option_or a (placed s)) marks ∙ ap (option_or (marker_of (view x))) so_far ∙ sym (behind_one (view x) (place_behind (take k (map view xs)) p))
+      ∙ sym (behind_last (take k (map view xs)) (view x) p) ∙ ap (λ l. place_behind l p) (sym taken)
+
+-- an instruction of a block writes its target where it stands
+pub writes_there : (v : declared-writers.Writers) (n : ℕ) (b : declared-block.Block) (k : ℕ) (i : Instruction) (p x : ℕ) → slice_get v.graph.now.blocks.items n ≡ Some b → slice_get (map instruction_view b.instructions.items) k ≡ Some i
+    → place_behind (take k (map instruction_view b.instructions.items)) (placed b.place) ≡ Some p → target_of i ≡ Some x → Writes v p x (writer.Instruction v.function n k)
+writes_there v n b k i p x is at place target =
+    let all = map instruction_view b.instructions.items in
+    let lt : k < length all = slice_get_within all k i at in
+    let long : length (take k all) ≡ k = length-take-le k all (omega (arith, lt)) in
+    let next : get_or all k i ≡ i = same_Some (get_or all k i) i (sym (slice_get-get_or all k i lt) ∙ at) in
+    let left : drop k all ≡ i ∷ drop (k + 1) all = drop_more all k i lt ∙ ap (λ a. a ∷ drop (k + 1) all) next in
+    let whole : all ≡ take k all ++ i ∷ drop (k + 1) all = sym (take-append-drop k all) ∙ ap (λ l. take k all ++ l) left in
+    let stands : StandsWith (graph_view v.graph.now) p n (i ∷ drop (k + 1) all) (end_view b.end) =
+    record { block = block_view b; before = take k all; is = slice_get-map block_view v.graph.now.blocks.items n ∙ ap (λ o. option_map block_view o) is; instructions = whole; ends = refl; place = place } in
+    subst (λ j. Writes v p x (writer.Instruction v.function n j)) long (instruction stands target)
+
+-- a write that is appended is one
+pub sound_more : (v : declared-writers.Writers) (new : List declared-written.Written) (one : declared-written.Written) → new ≡ v.all.items ++ (one ∷ []) → AreSound v → Writes v one.place one.name one.writer
+    → All (λ (z : declared-written.Written). Writes v z.place z.name z.writer) new
+sound_more v new one e sound writes = subst (λ all. All (λ (z : declared-written.Written). Writes v z.place z.name z.writer) all) (sym e) (All-push (λ (z : declared-written.Written). Writes v z.place z.name z.writer) v.all.items one sound writes)
+
+pub placed_same : (place : Option Place) (q : Place) (p : ℕ) → place ≡ Some q → placed place ≡ Some p → q.0 ≡ p
+placed_same place q p e at = same_Some q.0 p (sym (ap placed e) ∙ at)
+
+pub placed_none : (place : Option Place) (p : ℕ) → place ≡ None → placed place ≡ Some p → ⊥
+placed_none place p e at = none-some p (sym (ap placed e) ∙ at)
+
+-- the binding of a parameter writes its name at the entry
+pub binding_writes : (v : declared-writers.Writers) (k x p : ℕ) (b : declared-binding.Binding) → slice_get (graph_view v.graph.now).parameters k ≡ Some (binding_view b) → binding_view b ≡ ToScalar x → v.graph.now.entry.0 ≡ p → Writes v p x (writer.Binding v.function k)
+binding_writes v k x p b at of place = parameter (sym place) (at ∙ ap Some of)
+
+same_scalar : (x y : ℕ) → ToScalar x ≡ ToScalar y → x ≡ y
+same_scalar x y e = cc
+
+no_scalar : (o x : ℕ) → ToObject o ≡ ToScalar x → ⊥
+no_scalar o x e = cc
+
+pub binding_there : (old new : declared-writers.Writers) (b : Binding) (n : ℕ) → AreMore old new → b ≡ ToScalar n → Contains (places_of new n) (graph_view old.graph.now).entry → (x : ℕ) → b ≡ ToScalar x → Contains (places_of new x) (graph_view new.graph.now).entry
+binding_there old new b n more is there x same =
+    subst (λ (g : declared-graph.Graph). Contains (places_of new x) (graph_view g).entry) (sym more.graph) (subst (λ y. Contains (places_of new y) (graph_view old.graph.now).entry) (same_scalar n x (sym is ∙ same)) there)
+
+pub object_nowhere : (v : declared-writers.Writers) (b : Binding) (o : ℕ) → b ≡ ToObject o → (x : ℕ) → b ≡ ToScalar x → Contains (places_of v x) (graph_view v.graph.now).entry
+object_nowhere v b o is x same = absurd (no_scalar o x (sym is ∙ same))
+
+-- the binding of a number
+pub binding_at : (g : declared-graph.Graph) (k n : ℕ) (b d : declared-binding.Binding) → n ≡ k → k < length g.parameters.items → b ≡ get_or g.parameters.items k d → slice_get (graph_view g).parameters n ≡ Some (binding_view b)
+binding_at g k n b d same lt is =
+    ap (λ i. slice_get (graph_view g).parameters i) same ∙ slice_get-map binding_view g.parameters.items k ∙ ap (λ o. option_map binding_view o) (slice_get-get_or g.parameters.items k d lt ∙ ap Some (sym is))
+
+-- one binding more, as it was read
+pub bindings_next : (first old new : declared-writers.Writers) (k : ℕ) (b d : declared-binding.Binding) → AreMore first old → k < length first.graph.now.parameters.items → b ≡ get_or first.graph.now.parameters.items k d → AreBindings old k → AreMore old new
+    → ((x : ℕ) → binding_view b ≡ ToScalar x → Contains (places_of new x) (graph_view new.graph.now).entry) → AreBindings new (k + 1)
+bindings_next first old new k b d before lt is known more there =
+    let graph : new.graph.now ≡ first.graph.now = more.graph ∙ before.graph in
+    let at : slice_get (graph_view new.graph.now).parameters k ≡ Some (binding_view b) = ap (λ (g : declared-graph.Graph). slice_get (graph_view g).parameters k) graph ∙ binding_at first.graph.now k k b d refl lt is in
+    bindings_more new k (bindings_on old new k more known) (λ x e. there x (same_Some (binding_view b) (ToScalar x) (sym at ∙ e)))
+
+-- the block of a number
+pub block_at : (g : declared-graph.Graph) (h : declared-graph.Graph) (k n : ℕ) (b d : declared-block.Block) → g ≡ h → n ≡ k → k < length h.blocks.items → b ≡ get_or h.blocks.items k d → slice_get g.blocks.items n ≡ Some b
+block_at g h k n b d graph same lt is = ap (λ (z : declared-graph.Graph). slice_get z.blocks.items n) graph ∙ ap (λ i. slice_get h.blocks.items i) same ∙ slice_get-get_or h.blocks.items k d lt ∙ ap Some (sym is)
+
+-- one block more, as it was read
+pub blocks_next : (first old new : declared-writers.Writers) (k : ℕ) (b d : declared-block.Block) → AreMore first old → k < length first.graph.now.blocks.items → b ≡ get_or first.graph.now.blocks.items k d → AreBlocks old k → AreMore old new
+    → AreInstructions new (map instruction_view b.instructions.items) (placed b.place) (length b.instructions.items) → AreBlocks new (k + 1)
+blocks_next first old new k b d before lt is known more there = blocks_more new k b (block_at new.graph.now first.graph.now k k b d (more.graph ∙ before.graph) refl lt is) (blocks_on old new k more known) there
+
+-- an instruction writes its target where it stands, by what was read
+pub instruction_writes : (v : declared-writers.Writers) (n : ℕ) (b : declared-block.Block) (k j : ℕ) (i d : declared-instr.Instr) (place : Option Place) (p x : ℕ) → slice_get v.graph.now.blocks.items n ≡ Some b → k < length b.instructions.items → i ≡ get_or b.instructions.items k d → j ≡ k
+    → placed place ≡ place_behind (take k (map instruction_view b.instructions.items)) (placed b.place) → placed place ≡ Some p → target_of (instruction_view i) ≡ Some x → Writes v p x (writer.Instruction v.function n j)
+instruction_writes v n b k j i d place p x at lt is same in_force here target =
+    subst (λ m. Writes v p x (writer.Instruction v.function n m)) (sym same) (writes_there v n b k (instruction_view i) p x at (at_index instruction_view b.instructions.items k i d lt is) (sym in_force ∙ here) target)
+
+-- one instruction more, as it was read
+pub instructions_next : (old new : declared-writers.Writers) (all : List declared-instr.Instr) (before : Option ℕ) (k : ℕ) (i d : declared-instr.Instr) (place : Option Place) → k < length all → i ≡ get_or all k d → placed place ≡ place_behind (take k (map instruction_view all)) before
+    → AreInstructions old (map instruction_view all) before k → AreMore old new → ((p x : ℕ) → placed place ≡ Some p → target_of (instruction_view i) ≡ Some x → Contains (places_of new x) p) → AreInstructions new (map instruction_view all) before (k + 1)
+instructions_next old new all before k i d place lt is in_force known more there =
+    instructions_more new (map instruction_view all) before k (instructions_on old new (map instruction_view all) before k more known)
+    (λ p x j at here target. there p x (in_force ∙ here) (ap target_of (same_Some (instruction_view i) j (sym (at_index instruction_view all k i d lt is) ∙ at)) ∙ target))
+
+-- the block is still that of its number
+pub block_still : (old new : declared-writers.Writers) (n : ℕ) (b : declared-block.Block) → AreMore old new → slice_get old.graph.now.blocks.items n ≡ Some b → slice_get new.graph.now.blocks.items n ≡ Some b
+block_still old new n b more at = ap (λ (g : declared-graph.Graph). slice_get g.blocks.items n) more.graph ∙ at

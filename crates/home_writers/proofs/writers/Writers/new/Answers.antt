@@ -1,0 +1,15 @@
+use Rattle.std.proofs.Common.{length, subst, sym}
+use Rattle.graph_core.specs.declared.graph.Graph as declared-graph
+use Rattle.home_writers.specs.Writers.{AreBindings}
+use Rattle.home_writers.proofs.Written.{all_written, bindings_on}
+use Rattle.home_writers.proofs.writers.Writers.new.Goals as goal
+
+pub returns-clause-writers : goal.returns-clause-writers
+returns-clause-writers c =
+    (let mid = c.add_bindings.new.self in
+    let new = c.add_blocks.new.self in
+    let first = c.in_ok-add_bindings.ensures in
+    let last = c.in_ok-add_blocks.ensures in
+    all_written _ last.sound
+    (subst (λ (g : declared-graph.Graph). AreBindings new (length g.parameters.items)) (sym last.more.graph) (bindings_on mid new (length mid.graph.now.parameters.items) last.more (first.all c.if-not-branch.false)))
+    (last.all c.if-not-branch-2.false))
