@@ -41,4 +41,15 @@ pub mod CountingTexts
 pub mod CountingParts
 pub mod CountingStatements
 pub mod WholeFunctions
+pub mod Parts
+pub mod Stops
+pub mod Adding
+pub mod Finding
+pub mod Reading
+pub mod Deciding
+pub mod Covering
+pub mod CoveringItems
+pub mod InOrder
+pub mod Fitting32
 pub mod WholePrograms
+pub mod Texts

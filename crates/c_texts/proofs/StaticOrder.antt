@@ -39,12 +39,31 @@ use Rattle.c_texts.specs.Progress.{Ensures}
 use Rattle.c_texts.specs.Making.{Makes}
 use Rattle.c_texts.specs.Stating.{StatesAll}
 use Rattle.c_texts.specs.Storage.{Fits}
-use Rattle.c_texts.specs.Ordered.{name_spots, static_names_of, static_names, AreStaticsInOrder}
 use Rattle.c_texts.proofs.Sizing.{Counts, size_some, Types, type_elements}
 use Rattle.c_texts.proofs.Statements.{all_states}
 use Rattle.c_texts.proofs.Bodies.{parameters_come}
 use Rattle.c_texts.proofs.Containing.{contents_make}
 use Rattle.c_texts.proofs.Programs.{Accepted}
+
+-- where the names of declarators stand
+abbrev pub name_spots : List DeclaratorTree → List ℕ
+name_spots [] = []
+name_spots (d ∷ more) = d.name.spot.at ∷ name_spots more
+
+-- where the names of the static variables stand that an item declares
+abbrev pub static_names_of : ItemTree → List ℕ
+static_names_of (Include spot header) = []
+static_names_of (Declares d) = name_spots d.declarators
+static_names_of (Defines f) = []
+
+-- those of a source
+abbrev pub static_names : List ItemTree → List ℕ
+static_names [] = []
+static_names (i ∷ more) = static_names_of i ++ static_names more
+
+-- The names of static variables stand one behind the other.
+abbrev pub AreStaticsInOrder : List ItemTree → Type 0
+AreStaticsInOrder items = ascends (static_names items) ≡ true
 
 -- where static variables stand
 abbrev spots : List StaticTree → List ℕ

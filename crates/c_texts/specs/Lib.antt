@@ -10,4 +10,4 @@ pub mod Making
 pub mod Stating
 pub mod Storage
 pub mod Files
-pub mod Ordered
+pub mod TextOrder
