@@ -1,0 +1,12 @@
+pub mod Bytes
+pub mod Spelling
+pub mod Ascending
+pub mod Standing
+pub mod Fronts
+pub mod Expressions
+pub mod Declarations
+pub mod Clauses
+pub mod Statements
+pub mod Sources
+pub mod AcceptedTexts
+pub mod Refused

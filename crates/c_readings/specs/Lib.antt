@@ -1,0 +1,4 @@
+pub mod Tokens
+pub mod Standing
+pub mod Trees
+pub mod Accepted
