@@ -1,8 +1,15 @@
 //! What is told of the words of a function: where its places begin, and which words write homes.
 
+ghost use Rattle.std.specs.Prelude.{◌≡◌, ◌++◌, IfOk, OnOk, [], length, min, nat_le, nat_lt, replicate, slice_get, slice_index};
+ghost use Rattle.std.specs.Option.{option_map_or};
+ghost use Rattle.emit_sequence.specs.Sequences.{sequence_view};
+ghost use Rattle.emit_layout.specs.Layouts.{layout_view};
+ghost use Rattle.emit_layout.specs.Tracing.{piece_address, stop_at, stops_of_block, stops_of_blocks, with_writer, with_writers, word_address};
+
 use crate::layout::Layout;
-use block_order::table::{at, count, put};
+use emit_pieces::PlacedPiece;
 use emit_sequence::Sequence;
+use emit_sequence::table::{at, count, put};
 use emitted::PlacedStop;
 use std::alloc::{AllocError, Global};
 
@@ -10,13 +17,26 @@ use std::alloc::{AllocError, Global};
 pub const CODE_START: u32 = 65536;
 
 /// The address of a word of code.
-pub fn address_of(word: u32) -> u32 {
+pub fn address_of(word: u32) -> u32
+    ensures { result ≡ word_address word }
+{
     word.wrapping_mul(4).wrapping_add(CODE_START)
 }
 
 /// The address of a piece of a function before which so many words stand.
-fn address_at(layout: &Layout, first: u32, index: u32) -> u32 {
+fn address_at(layout: &Layout, first: u32, index: u32) -> u32
+    ensures { result ≡ piece_address (layout_view layout.now) first index }
+{
     address_of(first.wrapping_add(at(&layout.offsets, index)))
+}
+
+/// Where a piece writes for a number, puts its address there.
+fn put_writer(table: &mut Vec<u32>, piece: PlacedPiece, address: u32)
+    ensures { table.new.items ≡ with_writer address piece table.old.items }
+{
+    if let Some(number) = piece.writes {
+        put(table, number, address);
+    }
 }
 
 /// For each parameter the address of the word that binds it.
@@ -26,16 +46,18 @@ pub fn bindings_of(
     layout: &Layout,
     first: u32,
     parameters: usize,
-) -> Result<Vec<u32>, AllocError> {
+) -> Result<Vec<u32>, AllocError>
+    ensures { IfOk result (λ bindings. bindings.items ≡ with_writers (layout_view layout.now) first (λ i. nat_lt i sequence.now.begin) 0 sequence.now.pieces.items (replicate parameters 0)) }
+{
     let mut bindings = vec![in alloc; 0; parameters]?;
     let mut index = 0u32;
-    for piece in &sequence.pieces {
+    let mut left: &[PlacedPiece] = &sequence.pieces;
+    while let [piece, rest @ ..] = left {
         if index < sequence.begin {
-            if let Some(parameter) = piece.writes {
-                put(&mut bindings, parameter, address_at(layout, first, index));
-            }
+            put_writer(&mut bindings, *piece, address_at(layout, first, index));
         }
         index = index.saturating_add(1);
+        left = rest;
     }
     Ok(bindings)
 }
@@ -46,19 +68,54 @@ pub fn writers_of(
     sequence: &Sequence,
     layout: &Layout,
     first: u32,
-) -> Result<Vec<u32>, AllocError> {
+) -> Result<Vec<u32>, AllocError>
+    ensures { IfOk result (λ writers. writers.items ≡ with_writers (layout_view layout.now) first (λ i. nat_le sequence.now.begin i) 0 sequence.now.pieces.items (replicate (slice_index sequence.now.numbers.items (min (length sequence.now.ends.items) 4294967295)) 0)) }
+{
     let blocks = count(sequence.ends.len());
     let mut writers = vec![in alloc; 0; at(&sequence.numbers, blocks) as usize]?;
     let mut index = 0u32;
-    for piece in &sequence.pieces {
+    let mut left: &[PlacedPiece] = &sequence.pieces;
+    while let [piece, rest @ ..] = left {
         if index >= sequence.begin {
-            if let Some(instruction) = piece.writes {
-                put(&mut writers, instruction, address_at(layout, first, index));
-            }
+            put_writer(&mut writers, *piece, address_at(layout, first, index));
         }
         index = index.saturating_add(1);
+        left = rest;
     }
     Ok(writers)
+}
+
+/// Appends the stop of a piece, if it is one.
+fn push_stop(
+    piece: PlacedPiece,
+    address: u32,
+    stops: &mut Vec<PlacedStop>,
+) -> Result<(), AllocError>
+    ensures { OnOk result (stops.new.items ≡ stops.old.items ++ stop_at address piece) }
+{
+    if piece.is_stop {
+        stops.push(PlacedStop {
+            place: piece.owner,
+            address,
+        })?;
+    }
+    Ok(())
+}
+
+/// Appends the stop of the piece of an index, if it is one.
+fn push_stop_at(
+    sequence: &Sequence,
+    layout: &Layout,
+    first: u32,
+    index: u32,
+    stops: &mut Vec<PlacedStop>,
+) -> Result<(), AllocError>
+    ensures { OnOk result (stops.new.items ≡ stops.old.items ++ option_map_or (stop_at (piece_address (layout_view layout.now) first index)) (slice_get sequence.now.pieces.items index) []) }
+{
+    match sequence.pieces.get(index as usize) {
+        Some(piece) => push_stop(*piece, address_at(layout, first, index), stops),
+        None => Ok(()),
+    }
 }
 
 /// Appends the stops of a block.
@@ -68,16 +125,11 @@ fn push_stops_of(
     first: u32,
     block: u32,
     stops: &mut Vec<PlacedStop>,
-) -> Result<(), AllocError> {
+) -> Result<(), AllocError>
+    ensures { OnOk result (stops.new.items ≡ stops.old.items ++ stops_of_block (sequence_view sequence.now) (layout_view layout.now) first block) }
+{
     for index in at(&sequence.labels, block)..at(&sequence.ends, block) {
-        if let Some(piece) = sequence.pieces.get(index as usize) {
-            if piece.is_stop {
-                stops.push(PlacedStop {
-                    place: piece.owner,
-                    address: address_at(layout, first, index),
-                })?;
-            }
-        }
+        push_stop_at(sequence, layout, first, index, stops)?;
     }
     Ok(())
 }
@@ -88,7 +140,9 @@ pub fn push_stops(
     layout: &Layout,
     first: u32,
     stops: &mut Vec<PlacedStop>,
-) -> Result<(), AllocError> {
+) -> Result<(), AllocError>
+    ensures { OnOk result (stops.new.items ≡ stops.old.items ++ stops_of_blocks (sequence_view sequence.now) (layout_view layout.now) first 0 (min (length sequence.now.ends.items) 4294967295)) }
+{
     for block in 0..count(sequence.ends.len()) {
         push_stops_of(sequence, layout, first, block, stops)?;
     }

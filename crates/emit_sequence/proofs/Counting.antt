@@ -1,9 +1,11 @@
 -- Words that are appended, and words that are left.
-use Rattle.std.proofs.Common.{◌≡◌, ◌≤◌, ◌-◌, ℕ, ◌+◌, List, [], ◌∷◌, ◌++◌, length, take, drop, get_or, refl, sym, ap, ◌∙◌, subst, arith}
+use Rattle.std.proofs.Common.{◌≡◌, ◌≤◌, ◌-◌, ℕ, ◌+◌, List, [], ◌∷◌, ◌++◌, length, map, take, drop, get_or, refl, sym, ap, ◌∙◌, subst, append_assoc, arith}
 use Rattle.std.proofs.Math.Seq.{take-length}
 use Rattle.emit_pieces.specs.declared.piece.Piece.{Piece}
 use Rattle.emit_pieces.specs.declared.piece.PlacedPiece.{PlacedPiece}
 use Rattle.emit_pieces.specs.Words.{words_of_piece, words_in}
+use Rattle.emit_sequence.specs.Sequences.{numbered}
+use Rattle.emit_sequence.proofs.Splitting.{split_first}
 
 words_append : (xs : List PlacedPiece) (p : PlacedPiece) → words_in (xs ++ p ∷ []) ≡ words_in xs + words_of_piece p.piece
 words_append [] p = omega arith
@@ -27,3 +29,10 @@ words_step (y ∷ left) x d le e =
 pub push_step : (left xs ys : List PlacedPiece) (n d : PlacedPiece) → 1 ≤ length left → n.piece ≡ (get_or left 0 d).piece → ys ≡ xs ++ n ∷ []
     → words_in ys + words_in (take (length left - 1) (drop 1 left)) ≡ words_in xs + words_in left
 push_step left xs ys n d le same e = omega (arith, words_put xs ys n (get_or left 0 d) same e, words_step left (get_or left 0 d) d le refl)
+
+-- It is appended with its number, before the others with theirs.
+pub number_step : (n : ℕ) (left xs ys : List PlacedPiece) (x d : PlacedPiece) → 1 ≤ length left → x ≡ numbered n (get_or left 0 d) → ys ≡ xs ++ x ∷ []
+    → ys ++ map (numbered n) (take (length left - 1) (drop 1 left)) ≡ xs ++ map (numbered n) left
+number_step n left xs ys x d le same e =
+    ap (λ l. l ++ map (numbered n) (take (length left - 1) (drop 1 left))) (e ∙ ap (λ y. xs ++ y ∷ []) same) ∙ append_assoc xs (numbered n (get_or left 0 d) ∷ []) (map (numbered n) (take (length left - 1) (drop 1 left)))
+    ∙ ap (λ l. xs ++ map (numbered n) l) (sym (split_first left (get_or left 0 d) d le refl))

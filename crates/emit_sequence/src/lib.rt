@@ -5,6 +5,7 @@ mod plain;
 mod plan_test;
 mod planned;
 mod sequence;
+pub mod table;
 
 pub use plain::plain_sequence_of;
 pub use planned::planned_sequence_of;

@@ -1,8 +1,9 @@
 //! The code of a function without a plan.
 
-ghost use Rattle.std.specs.Prelude.{◌+◌, ◌*◌, ◌≤◌, IfOk, OnOk, length, map};
-ghost use Rattle.graph_core.specs.Graphs.{block_view};
+ghost use Rattle.std.specs.Prelude.{◌≡◌, ◌+◌, ◌*◌, ◌≤◌, IfOk, OnOk, length, map};
+ghost use Rattle.graph_core.specs.Graphs.{block_view, graph_view};
 ghost use Rattle.emit_pieces.specs.Words.{words_in};
+ghost use Rattle.emit_sequence.specs.Sequences.{ground_of, plainly, sequence_view, with_standing, HasEnd, IsSequenceOf};
 ghost use Rattle.emit_sequence.specs.Words.{most_words_of_blocks};
 
 use crate::sequence::Sequence;
@@ -19,6 +20,7 @@ fn push_blocks(
     sequence: &mut Sequence,
 ) -> Result<(), AllocError>
     ensures few { OnOk result (words_in sequence.new.pieces.items ≤ words_in sequence.old.pieces.items + most_words_of_blocks (map block_view blocks.now)) }
+    ensures grown { OnOk result (sequence_view sequence.new ≡ with_standing (ground_of storage.now) (plainly 0 (map block_view blocks.now)) (sequence_view sequence.old)) }
 {
     let mut left = blocks;
     let mut number = 0u32;
@@ -40,6 +42,7 @@ pub fn plain_sequence_of(
     is_main: bool,
 ) -> Result<Sequence, AllocError>
     ensures few { IfOk result (λ made. words_in made.pieces.items ≤ most_words_of_blocks (map block_view graph.now.blocks.items) + (2 * length storage.now.frame.now.saved.items + (16 + 3 * length graph.now.parameters.items))) }
+    ensures sequence { IfOk result (λ made. HasEnd (ground_of storage.now) (graph_view graph.now) → IsSequenceOf (ground_of storage.now) (graph_view graph.now) is_main (sequence_view made)) }
 {
     let mut sequence = Sequence::new(alloc, storage, graph, is_main)?;
     push_blocks(alloc, storage, &graph.blocks, &mut sequence)?;

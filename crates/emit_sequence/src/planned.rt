@@ -1,8 +1,15 @@
 //! The code of a function by a plan.
 
-use crate::plan_test::{holds, holds_all, is_plan};
+ghost use Rattle.std.specs.Prelude.{◌≡◌, ℕ, true, IfOk, IfSome, OnOk};
+ghost use Rattle.graph_core.specs.Graphs.{end_view, graph_view};
+ghost use Rattle.graph_core.specs.Paths.{Among};
+ghost use Rattle.graph_core.specs.Uses.{targets_of};
+ghost use Rattle.emit_sequence.specs.Plans.{held_at, HoldsWell};
+ghost use Rattle.emit_sequence.specs.Sequences.{first_number, ground_of, sequence_view, AreConstants, ArePut, HasEnd, Holds, IsPut, IsSequenceOf};
+
+use crate::plan_test::{held_at, holds, holds_all, is_plan};
 use crate::sequence::Sequence;
-use block_order::table::{at, count};
+use crate::table::count;
 use emit_code::code_of_block;
 use emit_pieces::Held;
 use emit_plan::Plan;
@@ -10,26 +17,24 @@ use emit_storage::Storage;
 use graph_core::{End, Graph, Label};
 use std::alloc::{AllocError, Global};
 
-/// What a block holds by a plan.
-fn held_at(plan: &Plan, block: u32) -> &[Held] {
-    match plan.held.get(block as usize) {
-        Some(held) => held,
-        None => &[],
-    }
-}
-
 /// Appends what is not there yet.
-fn add_held(all: &mut Vec<Held>, held: &[Held]) -> Result<(), AllocError> {
-    for one in held {
+fn add_held(all: &mut Vec<Held>, held: &[Held]) -> Result<(), AllocError>
+    ensures { OnOk result (AreConstants all.old.items → AreConstants held.now → AreConstants all.new.items) }
+{
+    let mut left = held;
+    while let [one, rest @ ..] = left {
         if !holds(all, *one) {
             all.push(*one)?;
         }
+        left = rest;
     }
     Ok(())
 }
 
 /// What is to be held where the end of a block leads.
-fn loads_of(alloc: Global, plan: &Plan, end: End) -> Result<Vec<Held>, AllocError> {
+fn loads_of(alloc: Global, plan: &Plan, end: End) -> Result<Vec<Held>, AllocError>
+    ensures { IfOk result (λ loads. HoldsWell plan.now → AreConstants loads.items) }
+{
     let mut loads = Vec::new(alloc);
     match end {
         End::Return(_) => {}
@@ -47,7 +52,9 @@ fn loads_of(alloc: Global, plan: &Plan, end: End) -> Result<Vec<Held>, AllocErro
 }
 
 /// Whether what is held behind a block is what each block holds to which its end leads.
-fn leads_well(plan: &Plan, end: End, held: &[Held]) -> bool {
+fn leads_well(plan: &Plan, end: End, held: &[Held]) -> bool
+    ensures { result ≡ true → (l : ℕ) → Among l (targets_of (end_view end)) → Holds held.now (held_at plan.now l) }
+{
     match end {
         End::Return(_) => true,
         End::Jump(label) => holds_all(held, held_at(plan, label.0)),
@@ -59,29 +66,32 @@ fn leads_well(plan: &Plan, end: End, held: &[Held]) -> bool {
     }
 }
 
-/// The block that stands behind one by a plan, or the end of the function.
-fn next_of(plan: &Plan, index: u32, end: Label) -> Label {
-    match plan.order.get(index.saturating_add(1) as usize) {
-        Some(next) => Label(*next),
-        None => end,
+/// The block that stands next, where these stand behind one, or the end of the function.
+fn next_of(behind: &[u32], end: Label) -> Label
+    ensures { result.0 ≡ first_number behind.now end.0 }
+{
+    match behind {
+        [next, ..] => Label(*next),
+        [] => end,
     }
 }
 
 impl Sequence {
-    /// Appends the code of a block by a plan. Where the plan does not hold, answers false.
+    /// Appends the code of a block by a plan, behind which this one stands next. Where the plan does not hold, answers false.
     fn push_planned(
         &mut self,
         alloc: Global,
         storage: &Storage<'_>,
         graph: &Graph,
         plan: &Plan,
-        index: u32,
-    ) -> Result<bool, AllocError> {
-        let number = at(&plan.order, index);
+        number: u32,
+        next: Label,
+    ) -> Result<bool, AllocError>
+        ensures { IfOk result (λ is. is ≡ true → HoldsWell plan.now → IsPut (ground_of storage.now) (graph_view graph.now).blocks (held_at plan.now) number next.0 (sequence_view self.old) (sequence_view self.new)) }
+    {
         let Some(block) = graph.blocks.get(number as usize) else {
             return Ok(false);
         };
-        let next = next_of(plan, index, storage.end);
         let loads = loads_of(alloc, plan, block.end)?;
         let known = held_at(plan, number);
         let code = code_of_block(alloc, storage, block, next, known, &loads)?;
@@ -93,6 +103,27 @@ impl Sequence {
     }
 }
 
+/// Appends the code of all blocks by a plan. Where the plan does not hold, answers false.
+fn push_all_planned(
+    alloc: Global,
+    storage: &Storage<'_>,
+    graph: &Graph,
+    plan: &Plan,
+    sequence: &mut Sequence,
+) -> Result<bool, AllocError>
+    ensures { IfOk result (λ is. is ≡ true → HoldsWell plan.now → ArePut (ground_of storage.now) (graph_view graph.now).blocks (held_at plan.now) plan.now.order.items (sequence_view sequence.old) (sequence_view sequence.new)) }
+{
+    let mut left: &[u32] = &plan.order;
+    while let [number, rest @ ..] = left {
+        let next = next_of(rest, storage.end);
+        if !sequence.push_planned(alloc, storage, graph, plan, *number, next)? {
+            return Ok(false);
+        }
+        left = rest;
+    }
+    Ok(true)
+}
+
 /// The code of a function by a plan, if the plan holds: its order names each block once, block 0 first; block 0 holds nothing, and each block
 /// what may be held; and along each edge what the block there holds is held, or loaded at the end.
 pub fn planned_sequence_of(
@@ -101,16 +132,15 @@ pub fn planned_sequence_of(
     graph: &Graph,
     plan: &Plan,
     is_main: bool,
-) -> Result<Option<Sequence>, AllocError> {
-    let blocks = count(graph.blocks.len());
-    if !is_plan(alloc, plan, blocks)? {
+) -> Result<Option<Sequence>, AllocError>
+    ensures sequence { IfOk result (λ found. IfSome found (λ made. HasEnd (ground_of storage.now) (graph_view graph.now) → IsSequenceOf (ground_of storage.now) (graph_view graph.now) is_main (sequence_view made))) }
+{
+    if !is_plan(alloc, plan, count(graph.blocks.len()))? {
         return Ok(None);
     }
     let mut sequence = Sequence::new(alloc, storage, graph, is_main)?;
-    for index in 0..blocks {
-        if !sequence.push_planned(alloc, storage, graph, plan, index)? {
-            return Ok(None);
-        }
+    if !push_all_planned(alloc, storage, graph, plan, &mut sequence)? {
+        return Ok(None);
     }
     sequence.push_end(alloc, storage)?;
     Ok(Some(sequence))

@@ -1,9 +1,12 @@
 //! The pieces of a function.
 
-ghost use Rattle.std.specs.Prelude.{◌≡◌, ◌+◌, ◌*◌, ◌≤◌, IfOk, OnOk, length};
+ghost use Rattle.std.specs.Prelude.{◌≡◌, ◌+◌, ◌*◌, ◌≤◌, ◌++◌, IfOk, OnOk, length};
+ghost use Rattle.std.specs.Prelude.{map};
 ghost use Rattle.emit_pieces.specs.Words.{words_in};
+ghost use Rattle.graph_core.specs.Graphs.{block_view, graph_view};
+ghost use Rattle.emit_sequence.specs.Sequences.{begun, ended, ground_of, numbered, numbers_from, sequence_view, with_block};
 
-use block_order::table::{at, count, put};
+use crate::table::{at, count, put};
 use emit_code::{BlockCode, begin_of_function, end_of_function};
 use emit_pieces::PlacedPiece;
 use emit_storage::Storage;
@@ -26,12 +29,16 @@ pub struct Sequence {
 }
 
 /// How many instructions the blocks before each block have, and all blocks.
-fn numbers_of(alloc: Global, blocks: &[Block]) -> Result<Vec<u32>, AllocError> {
+fn numbers_of(alloc: Global, blocks: &[Block]) -> Result<Vec<u32>, AllocError>
+    ensures { IfOk result (λ numbers. numbers.items ≡ numbers_from 0 (map block_view blocks.now)) }
+{
     let mut numbers = Vec::new(alloc);
     let mut number = 0u32;
-    for block in blocks {
+    let mut left = blocks;
+    while let [block, rest @ ..] = left {
         numbers.push(number)?;
         number = number.saturating_add(count(block.instructions.len()));
+        left = rest;
     }
     numbers.push(number)?;
     Ok(numbers)
@@ -39,7 +46,7 @@ fn numbers_of(alloc: Global, blocks: &[Block]) -> Result<Vec<u32>, AllocError> {
 
 /// The number of a piece's instruction, where those of the blocks before are so many.
 fn numbered(piece: PlacedPiece, before: u32) -> PlacedPiece
-    ensures { result.piece ≡ piece.piece }
+    ensures { result ≡ numbered before piece }
 {
     PlacedPiece {
         piece: piece.piece,
@@ -59,6 +66,7 @@ fn push_all(
     before: u32,
 ) -> Result<(), AllocError>
     ensures few { OnOk result (words_in pieces.new.items ≡ words_in pieces.old.items + words_in more.now) }
+    ensures grown { OnOk result (pieces.new.items ≡ pieces.old.items ++ map (numbered before) more.now) }
 {
     let mut left = more;
     while let [first, rest @ ..] = left {
@@ -77,6 +85,7 @@ impl Sequence {
         is_main: bool,
     ) -> Result<Sequence, AllocError>
         ensures few { IfOk result (λ made. words_in made.pieces.items ≤ length storage.now.frame.now.saved.items + (10 + 3 * length graph.now.parameters.items)) }
+        ensures grown { IfOk result (λ made. sequence_view made ≡ begun (ground_of storage.now) (graph_view graph.now) is_main) }
     {
         let pieces = begin_of_function(alloc, storage, graph, is_main)?;
         let begin = count(pieces.len());
@@ -92,6 +101,7 @@ impl Sequence {
     /// Appends the code of a block.
     pub(crate) fn push_block(&mut self, number: u32, code: &BlockCode) -> Result<(), AllocError>
         ensures few { OnOk result (words_in self.new.pieces.items ≡ words_in self.old.pieces.items + words_in code.now.pieces.items) }
+        ensures grown { OnOk result (sequence_view self.new ≡ with_block number code.now.pieces.items (sequence_view self.old)) }
     {
         let first = count(self.pieces.len());
         put(&mut self.labels, number, first);
@@ -109,6 +119,7 @@ impl Sequence {
         storage: &Storage<'_>,
     ) -> Result<(), AllocError>
         ensures few { OnOk result (words_in self.new.pieces.items ≤ words_in self.old.pieces.items + (length storage.now.frame.now.saved.items + 6)) }
+        ensures grown { OnOk result (sequence_view self.new ≡ ended (ground_of storage.now) (sequence_view self.old)) }
     {
         let end = count(self.pieces.len());
         self.labels.push(end)?;

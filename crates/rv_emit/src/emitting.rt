@@ -4,15 +4,20 @@ ghost use Rattle.std.specs.Prelude.{◌≡◌, ◌+◌, ◌≤◌, false, IfOk, 
 ghost use Rattle.graph_core.specs.Validity.{IsValid};
 ghost use Rattle.homed_unit.specs.Homed.{HaveHomes, homed_view};
 ghost use Rattle.emit_pieces.specs.Words.{words_in};
+ghost use Rattle.std.specs.Prelude.{◌++◌, map};
+ghost use Rattle.emitted.specs.Emitted.{emitted_view};
+ghost use Rattle.emit_layout.specs.declared.layout.OwnedWord.{OwnedWord};
+ghost use Rattle.emit_sequence.specs.Sequences.{sequence_view};
+ghost use Rattle.rv_emit.specs.Laid.{coded_view, firsts_from, laid_view, static_view, stub_form, words_of_all, IsCodeOf, IsEmittedOf};
 ghost use Rattle.rv_emit.specs.Placed.{AreFirstAddresses};
 ghost use Rattle.rv_emit.specs.Words.{laid_words};
 
 use crate::laying::{Laid, lay_out_all};
 use crate::telling::{stops_of, told_all};
-use block_order::table::at;
 use emit_code::stub;
 use emit_layout::{OwnedWord, layout_of};
 use emit_sequence::Sequence;
+use emit_sequence::table::at;
 use emit_storage::{Statics, initial_bytes, static_addresses};
 use emitted::Emitted;
 use homed_unit::HomedUnit;
@@ -33,6 +38,7 @@ struct Coded {
 /// What stands before all functions.
 fn stub_sequence(alloc: Global, main: u32) -> Result<Sequence, AllocError>
     ensures few { IfOk result (λ made. words_in made.pieces.items ≤ 5) }
+    ensures form { IfOk result (λ made. sequence_view made ≡ stub_form main) }
 {
     Ok(Sequence {
         pieces: stub(alloc, main)?,
@@ -44,12 +50,16 @@ fn stub_sequence(alloc: Global, main: u32) -> Result<Sequence, AllocError>
 }
 
 /// How many words stand before each function, if so many stand before the first, and in all.
-fn firsts_of(alloc: Global, stub: u32, all: &[Laid]) -> Result<Vec<u32>, AllocError> {
+fn firsts_of(alloc: Global, stub: u32, all: &[Laid]) -> Result<Vec<u32>, AllocError>
+    ensures { IfOk result (λ firsts. firsts.items ≡ firsts_from stub (map laid_view all.now)) }
+{
     let mut firsts = Vec::new(alloc);
     let mut words = stub;
-    for one in all {
+    let mut left = all;
+    while let [one, rest @ ..] = left {
         firsts.push(words)?;
         words = words.saturating_add(one.layout.words);
+        left = rest;
     }
     firsts.push(words)?;
     Ok(firsts)
@@ -58,6 +68,7 @@ fn firsts_of(alloc: Global, stub: u32, all: &[Laid]) -> Result<Vec<u32>, AllocEr
 /// Appends the words of all functions.
 fn push_functions(all: &[Laid], firsts: &[u32], code: &mut Vec<OwnedWord>) -> Result<(), AllocError>
     ensures few { OnOk result (length code.new.items ≤ length code.old.items + laid_words all.now) }
+    ensures grown { OnOk result (code.new.items ≡ code.old.items ++ words_of_all firsts.now 0 (map laid_view all.now)) }
 {
     let mut function = 0u32;
     let mut left = all;
@@ -80,6 +91,7 @@ fn code_of(
     requires valid { IsValid (homed_view homed.now).unit }
     ensures each { IfOk result (λ c. length c.all.items ≡ length homed.now.unit.graphs.items) }
     ensures few { is_planned ≡ false → IfOk result (λ c. length c.words.items ≤ 262144) }
+    ensures code { IfOk result (λ c. IsCodeOf (homed_view homed.now) (static_view statics.now) (coded_view c)) }
 {
     let before = stub_sequence(alloc, homed.unit.main)?;
     let stub = layout_of(alloc, &before)?;
@@ -96,6 +108,7 @@ fn short_code_of(alloc: Global, statics: &Statics, homed: &HomedUnit) -> Result<
     requires valid { IsValid (homed_view homed.now).unit }
     ensures each { IfOk result (λ c. length c.all.items ≡ length homed.now.unit.graphs.items) }
     ensures few { IfOk result (λ c. length c.words.items ≤ 262144) }
+    ensures code { IfOk result (λ c. IsCodeOf (homed_view homed.now) (static_view statics.now) (coded_view c)) }
 {
     let coded = code_of(alloc, statics, homed, true)?;
     if coded.words.len() <= MAX_WORDS {
@@ -106,22 +119,26 @@ fn short_code_of(alloc: Global, statics: &Statics, homed: &HomedUnit) -> Result<
 
 /// The words alone.
 fn words_of(alloc: Global, code: &[OwnedWord]) -> Result<Vec<u32>, AllocError>
-    ensures { IfOk result (λ v. length v.items ≡ length code.now) }
+    ensures { IfOk result (λ v. v.items ≡ map (λ (w : OwnedWord). w.word) code.now) }
 {
     let mut words = Vec::new(alloc);
-    for word in code {
+    let mut left = code;
+    while let [word, rest @ ..] = left {
         words.push(word.word)?;
+        left = rest;
     }
     Ok(words)
 }
 
 /// The owners alone.
 fn owners_of(alloc: Global, code: &[OwnedWord]) -> Result<Vec<u32>, AllocError>
-    ensures { IfOk result (λ v. length v.items ≡ length code.now) }
+    ensures { IfOk result (λ v. v.items ≡ map (λ (w : OwnedWord). w.owner) code.now) }
 {
     let mut owners = Vec::new(alloc);
-    for word in code {
+    let mut left = code;
+    while let [word, rest @ ..] = left {
         owners.push(word.owner)?;
+        left = rest;
     }
     Ok(owners)
 }
@@ -134,6 +151,7 @@ pub fn emit(alloc: Global, homed: &HomedUnit) -> Result<Emitted, AllocError>
     ensures owners { IfOk result (λ e. length e.owners.items ≡ length e.code.items) }
     ensures functions { IfOk result (λ e. length e.functions.items ≡ length homed.now.unit.graphs.items) }
     ensures statics { IfOk result (λ e. AreFirstAddresses (homed_view homed.now).unit e.statics.items) }
+    ensures code { IfOk result (λ e. IsEmittedOf (homed_view homed.now) (emitted_view e)) }
 {
     let statics = static_addresses(alloc, &homed.unit)?;
     let coded = short_code_of(alloc, &statics, homed)?;

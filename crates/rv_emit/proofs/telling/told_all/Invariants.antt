@@ -1,5 +1,11 @@
-use Rattle.std.proofs.Common.{◌≡◌, length}
+use Rattle.std.proofs.Common.{◌≡◌, ◌++◌, length, map}
+use Rattle.graph_core.specs.Graphs.{graph_view}
+use Rattle.emitted.specs.Emitted.{function_view}
+use Rattle.rv_emit.specs.Laid.{laid_view, told_of_all}
 use Rattle.rv_emit.proofs.telling.told_all.Given as goal
 
-abbrev pub invariant-loop-one : goal.invariant-loop-one
-invariant-loop-one l = length l.functions.items ≡ l.one-index
+abbrev pub invariant-loop-left : goal.invariant-loop-left
+invariant-loop-left l = map function_view l.functions.items ++ told_of_all (map graph_view l.graphs) l.firsts l.function (map laid_view l.left) ≡ told_of_all (map graph_view l.graphs) l.firsts 0 (map laid_view l.all)
+
+abbrev pub decreases-loop-left : goal.decreases-loop-left
+decreases-loop-left l = length l.left
