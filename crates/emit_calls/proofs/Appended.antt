@@ -32,22 +32,22 @@ pub record BothPlaced (p : Program) (t : Targets) (i : ℕ) (front back : List P
 
 pub both_placed : (p : Program) (t : Targets) (i : ℕ) (front back : List PlacedPiece) (j : ℕ) → PlacedAt p t i (front ++ back) j → BothPlaced p t i front back j
 both_placed p t i [] back j there = record { index = i; front_there = refl; back_there = there }
-both_placed p t i (x ∷ front) back j (k, at, rest) =
+both_placed p t i (x ∷ front) back j (k, at, of, rest) =
     let later : BothPlaced p t k front back j = both_placed p t k front back j rest in
-    record { index = later.index; front_there = (k, at, later.front_there); back_there = later.back_there }
+    record { index = later.index; front_there = (k, at, of, later.front_there); back_there = later.back_there }
 
 -- Where each of two parts does, all of it stands.
 pub placed_both : (p : Program) (t : Targets) (i k j : ℕ) (front back : List PlacedPiece) → PlacedAt p t i front k → PlacedAt p t k back j → PlacedAt p t i (front ++ back) j
 placed_both p t i k j [] back here rest = subst (λ n. PlacedAt p t n back j) here rest
-placed_both p t i k j (x ∷ front) back (m, at, more) rest = (m, at, placed_both p t m k j front back more rest)
+placed_both p t i k j (x ∷ front) back (m, at, of, more) rest = (m, at, of, placed_both p t m k j front back more rest)
 
 -- Appended pieces stand as pieces do.
 pub appended_there : (p : Program) (t : Targets) (i : ℕ) (owner : ℕ) (b : Bool) (more : List Piece) (j : ℕ) → PlacedAt p t i (placed_pieces owner b more) j → PiecesAt p t i b more j
 appended_there p t i owner b [] j there = there
-appended_there p t i owner b (x ∷ more) j (k, at, rest) = (k, at, appended_there p t k owner false more j rest)
+appended_there p t i owner b (x ∷ more) j (k, at, of, rest) = (k, at, appended_there p t k owner false more j rest)
 
 -- So does code that is marked as what writes a target.
 pub marked_there : (p : Program) (t : Targets) (i n : ℕ) (all : List PlacedPiece) (j : ℕ) → PlacedAt p t i (marked n all) j → PlacedAt p t i all j
 marked_there p t i n [] j there = there
 marked_there p t i n (x ∷ []) j there = there
-marked_there p t i n (x ∷ y ∷ more) j (k, at, rest) = (k, at, marked_there p t k n (y ∷ more) j rest)
+marked_there p t i n (x ∷ y ∷ more) j (k, at, of, rest) = (k, at, of, marked_there p t k n (y ∷ more) j rest)

@@ -95,7 +95,7 @@ length_mapped f (x ∷ xs) = let same = length_mapped f xs in omega (arith, same
 
 -- Where a function begins behind its guard: ra holds the index behind its call, one less activation may begin, and the caller's frame stands.
 module _ (codes : ℕ → FunctionCode) (u : UnitForm) (valid : (k : ℕ) → IsFunctionCode u (codes k)) (addresses : ℕ → ℕ) (resumes : Activation → ℕ → Type 0) (share : ShareStatics codes) (c : Configuration) (h g : Holding)
-    (all : HoldsAll codes u addresses resumes [] c h) (function index : ℕ) (low_index : index < 262144) (same : (q : ℕ) → q ≢ 4 → g.registers q ≡ h.registers q) (same_memory : g.memory ≡ h.memory) (same_input : g.input ≡ h.input) (one_less : g.registers 4 + 1 ≡ h.registers 4)
+    (all : HoldsAll codes u addresses resumes [] c h) (function index : ℕ) (low_index : index ≤ 262144) (same : (q : ℕ) → q ≢ 4 → g.registers q ≡ h.registers q) (same_memory : g.memory ≡ h.memory) (same_input : g.input ≡ h.input) (one_less : g.registers 4 + 1 ≡ h.registers 4)
     (ra : h.registers 1 ≡ address_of index) (words : (q : ℕ) → g.registers q < 4294967296) (deep : length c.waiting + 2 ≤ 1024) where
   abbrev f : FunctionCode
   f = codes function

@@ -29,9 +29,9 @@ place_all codes u addresses resumes held c h place all = record {
 }
 
 -- Where the machine comes to a block and holds the frame there, it holds all activations.
-pub block_all : (codes : ℕ → FunctionCode) (u : UnitForm) (valid : (k : ℕ) → IsFunctionCode u (codes k)) (addresses : ℕ → ℕ) (resumes : Activation → ℕ → Type 0) (p : Program) (t : Targets) (s : State) (i : ℕ) (b : Bool) (most : ℕ) (held later : List Held) (c d : Configuration) (h : Holding)
-    → HoldsAll codes u addresses resumes held c h → (enters : EntersBlock p t s b most (setting_of u addresses later (codes c.here.function)) c h d) → AllCome p s i b most (t.label enters.number) false codes u addresses resumes later d
-block_all codes u valid addresses resumes p t s i b most held later c d h all enters =
+pub block_all : (codes : ℕ → FunctionCode) (u : UnitForm) (valid : (k : ℕ) → IsFunctionCode u (codes k)) (addresses : ℕ → ℕ) (resumes : Activation → ℕ → Type 0) (p : Program) (t : Targets) (s : State) (i : ℕ) (b : Bool) (most : ℕ) (held later : List Held) (c d : Configuration) (h : Holding) (labels : List ℕ)
+    → HoldsAll codes u addresses resumes held c h → (enters : EntersBlock p t s b most (setting_of u addresses later (codes c.here.function)) c h labels d) → AllCome p s i b most (t.label enters.number) false codes u addresses resumes later d
+block_all codes u valid addresses resumes p t s i b most held later c d h labels all enters =
     let comes = enters.comes in
     let same : SameActivation c d = subst (λ (q : Configuration). SameActivation c q) enters.is (record { function = refl; first = refl; waiting = refl; those = those_same c.memory; longer = omega arith }) in
     let input : c.input ≡ d.input = ap (λ (q : Configuration). q.input) enters.is in

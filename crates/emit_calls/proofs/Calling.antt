@@ -154,7 +154,7 @@ module _ (codes : ℕ → FunctionCode) (u : UnitForm) (valid : (k : ℕ) → Is
 
   -- One may, of a function that has a block.
   module _ (block : Block) (wanted : Option ℕ) (many : length arguments ≡ length (codes function).graph.parameters) (bindable : AreBindable (codes function).storage (codes function).graph (codes function).saved (codes function).graph.parameters)
-      (low_index : i + length (passing_code (codes c.here.function).storage 0 held arguments) + 1 < 262144) (resume : resumes (record c.here { wants = wanted }) (i + length (passing_code (codes c.here.function).storage 0 held arguments) + 1)) where
+      (low_index : i + length (passing_code (codes c.here.function).storage 0 held arguments) + 1 ≤ 262144) (resume : resumes (record c.here { wants = wanted }) (i + length (passing_code (codes c.here.function).storage 0 held arguments) + 1)) where
     abbrev graph : Graph
     graph = placed_graph (home_at (codes function).storage) (codes function).graph
 

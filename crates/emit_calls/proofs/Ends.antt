@@ -14,6 +14,8 @@ use Rattle.graph_core.specs.Values.{holds}
 use Rattle.graph_core.specs.Memory.{is_live}
 use Rattle.graph_core.specs.Runs.{Configuration, Stepped, Goes, Shows, Ends, Wild, value, entered, go_to, branched, execute_end, step, step_from}
 use Rattle.graph_core.specs.Validity.{IsOperand, AreOperandsOfEnd}
+use Rattle.graph_core.specs.Paths.{Among, front as among_front, behind as among_behind}
+use Rattle.graph_core.specs.Uses.{targets_of}
 use Rattle.homed_unit.specs.Homed.{placed_operand, placed_end}
 use Rattle.emit_pieces.specs.declared.piece.Held.{Held}
 use Rattle.emit_pieces.specs.declared.piece.Piece.TheVariants as piece
@@ -140,28 +142,30 @@ block_framed w c h block frame = record {
   arrays = frame.arrays;
 }
 
--- The step goes on to a block, and the machine comes to where its label stands.
-pub record EntersBlock (p : Program) (t : Targets) (s : State) (b : Bool) (most : ℕ) (w : Setting) (c : Configuration) (h : Holding) (d : Configuration) : Type 0 where
+-- The step goes on to a block, one of those to which the end leads, and the machine comes to where its label stands.
+pub record EntersBlock (p : Program) (t : Targets) (s : State) (b : Bool) (most : ℕ) (w : Setting) (c : Configuration) (h : Holding) (labels : List ℕ) (d : Configuration) : Type 0 where
   pub number : ℕ
+  pub target : Among number labels
   pub block : Block
   pub there : slice_get c.here.graph.blocks number ≡ Some block
   pub is : record c { here = record c.here { rest = block.instructions; end = block.end } } ≡ d
   pub comes : ComesTo p s b most (t.label number) w h d
 
 -- Code does the step of an end that goes on to a block. Where the step is wild, nothing is said of the code.
-abbrev pub DoesEnd : Program → Targets → State → (stops : Bool) → (most : ℕ) → Setting → Configuration → Holding → Stepped → Type 0
-DoesEnd p t s b most w c h (Goes d) = EntersBlock p t s b most w c h d
-DoesEnd p t s b most w c h (Shows e d) = ⊥
-DoesEnd p t s b most w c h (Ends e) = ⊥
-DoesEnd p t s b most w c h Wild = Unit {0}
+abbrev pub DoesEnd : Program → Targets → State → (stops : Bool) → (most : ℕ) → Setting → Configuration → Holding → (labels : List ℕ) → Stepped → Type 0
+DoesEnd p t s b most w c h labels (Goes d) = EntersBlock p t s b most w c h labels d
+DoesEnd p t s b most w c h labels (Shows e d) = ⊥
+DoesEnd p t s b most w c h labels (Ends e) = ⊥
+DoesEnd p t s b most w c h labels Wild = Unit {0}
 
-enters : (p : Program) (t : Targets) (s : State) (b : Bool) (most : ℕ) (w : Setting) (c : Configuration) (h : Holding) (l : ℕ) → ComesTo p s b most (t.label l) w h c → DoesEnd p t s b most w c h (go_to c l)
-enters p t s b most w c h l comes = by_some (slice_get c.here.graph.blocks l) refl
+enters : (p : Program) (t : Targets) (s : State) (b : Bool) (most : ℕ) (w : Setting) (c : Configuration) (h : Holding) (labels : List ℕ) (l : ℕ) → Among l labels → ComesTo p s b most (t.label l) w h c → DoesEnd p t s b most w c h labels (go_to c l)
+enters p t s b most w c h labels l target comes = by_some (slice_get c.here.graph.blocks l) refl
   where
-    by_some : (found : Option Block) → slice_get c.here.graph.blocks l ≡ found → DoesEnd p t s b most w c h (entered c found)
+    by_some : (found : Option Block) → slice_get c.here.graph.blocks l ≡ found → DoesEnd p t s b most w c h labels (entered c found)
     by_some None e = tt
     by_some (Some block) e = record {
       number = l;
+      target = target;
       block = block;
       there = e;
       is = refl;
@@ -279,7 +283,7 @@ module _ (p : Program) (t : Targets) (s : State) (i : ℕ) (b : Bool) (w : Setti
   -- A branch by two operands.
   choose_done : (k : Comparison) (x y : Operand) (if_true if_false : ℕ) → IsOperand w.unit.statics w.graph x → IsOperand w.unit.statics w.graph y → IsWord x → IsWord y
       → PiecesAt p t i b (choosing w.storage w.held b loads k (source_of w.storage x) (source_of w.storage y) if_true if_false next) j
-      → DoesEnd p t s b (length (choosing w.storage w.held b loads k (source_of w.storage x) (source_of w.storage y) if_true if_false next) + 1) (with_held (choosing_held w.storage w.held loads k (source_of w.storage x) (source_of w.storage y)) w) c h
+      → DoesEnd p t s b (length (choosing w.storage w.held b loads k (source_of w.storage x) (source_of w.storage y) if_true if_false next) + 1) (with_held (choosing_held w.storage w.held loads k (source_of w.storage x) (source_of w.storage y)) w) c h (if_true ∷ if_false ∷ [])
       (branched c (holds (is_live c.memory) k (value w.unit.statics c.here.names (placed_operand (home_at w.storage) x)) (value w.unit.statics c.here.names (placed_operand (home_at w.storage) y))) if_true if_false)
   choose_done k x y if_true if_false vx vy fx fy there =
       by_test (holds (is_live c.memory) k (value w.unit.statics c.here.names (placed_operand (home_at w.storage) x)) (value w.unit.statics c.here.names (placed_operand (home_at w.storage) y))) refl
@@ -335,30 +339,30 @@ module _ (p : Program) (t : Targets) (s : State) (i : ℕ) (b : Bool) (w : Setti
 
       by_test : (found : Option Bool)
           → holds (is_live c.memory) k (value w.unit.statics c.here.names (placed_operand (home_at w.storage) x)) (value w.unit.statics c.here.names (placed_operand (home_at w.storage) y)) ≡ found
-          → DoesEnd p t s b (length (choosing w.storage w.held b loads k (source_of w.storage x) (source_of w.storage y) if_true if_false next) + 1) (with_held (choosing_held w.storage w.held loads k (source_of w.storage x) (source_of w.storage y)) w) c h
+          → DoesEnd p t s b (length (choosing w.storage w.held b loads k (source_of w.storage x) (source_of w.storage y) if_true if_false next) + 1) (with_held (choosing_held w.storage w.held loads k (source_of w.storage x) (source_of w.storage y)) w) c h (if_true ∷ if_false ∷ [])
           (branched c found if_true if_false)
       by_test None says = tt
-      by_test (Some true) says = enters p t s b _ _ c h if_true (by_sources (source_of w.storage x) (source_of w.storage y) refl refl true says there)
-      by_test (Some false) says = enters p t s b _ _ c h if_false (by_sources (source_of w.storage x) (source_of w.storage y) refl refl false says there)
+      by_test (Some true) says = enters p t s b _ _ c h (if_true ∷ if_false ∷ []) if_true among_front (by_sources (source_of w.storage x) (source_of w.storage y) refl refl true says there)
+      by_test (Some false) says = enters p t s b _ _ c h (if_true ∷ if_false ∷ []) if_false (among_behind among_front) (by_sources (source_of w.storage x) (source_of w.storage y) refl refl false says there)
 
   -- An end that is no return.
   ends_done : (e : End) → AreOperandsOfEnd w.unit.statics w.graph e → IsGoing e → PiecesAt p t i b (end_pieces w.storage w.held b loads next e) j
-      → DoesEnd p t s b (length (end_pieces w.storage w.held b loads next e) + 1) (with_held (end_held w.storage w.held loads e) w) c h (execute_end w.unit (placed_end (home_at w.storage) e) c)
-  ends_done (Jump to) valid is there = enters p t s b _ _ c h to (comes_within (jump_comes to there))
+      → DoesEnd p t s b (length (end_pieces w.storage w.held b loads next e) + 1) (with_held (end_held w.storage w.held loads e) w) c h (targets_of e) (execute_end w.unit (placed_end (home_at w.storage) e) c)
+  ends_done (Jump to) valid is there = enters p t s b _ _ c h (to ∷ []) to among_front (comes_within (jump_comes to there))
   ends_done (Branch k x y if_true if_false) (vx, vy) (fx, fy) there = by_test (if_true == if_false) refl there
     where
       to_one : if_true ≡ if_false → PiecesAt p t i b (jumping w.storage w.held b loads if_true next) j → (found : Option Bool)
-          → DoesEnd p t s b (length (jumping w.storage w.held b loads if_true next) + 1) (with_held (loading_held w.storage.base 8 loads w.held) w) c h (branched c found if_true if_false)
+          → DoesEnd p t s b (length (jumping w.storage w.held b loads if_true next) + 1) (with_held (loading_held w.storage.base 8 loads w.held) w) c h (if_true ∷ if_false ∷ []) (branched c found if_true if_false)
       to_one same at None = tt
-      to_one same at (Some true) = enters p t s b _ _ c h if_true (comes_within (jump_comes if_true at))
+      to_one same at (Some true) = enters p t s b _ _ c h (if_true ∷ if_false ∷ []) if_true among_front (comes_within (jump_comes if_true at))
       to_one same at (Some false) =
-          subst (λ l. DoesEnd p t s b (length (jumping w.storage w.held b loads if_true next) + 1) (with_held (loading_held w.storage.base 8 loads w.held) w) c h (go_to c l)) same
-          (enters p t s b _ _ c h if_true (comes_within (jump_comes if_true at)))
+          subst (λ l. DoesEnd p t s b (length (jumping w.storage w.held b loads if_true next) + 1) (with_held (loading_held w.storage.base 8 loads w.held) w) c h (if_true ∷ if_false ∷ []) (go_to c l)) same
+          (enters p t s b _ _ c h (if_true ∷ if_false ∷ []) if_true among_front (comes_within (jump_comes if_true at)))
 
       by_test : (same : Bool) → (if_true == if_false) ≡ same
           → PiecesAt p t i b (cond same (jumping w.storage w.held b loads if_true next) (choosing w.storage w.held b loads k (source_of w.storage x) (source_of w.storage y) if_true if_false next)) j
           → DoesEnd p t s b (length (cond same (jumping w.storage w.held b loads if_true next) (choosing w.storage w.held b loads k (source_of w.storage x) (source_of w.storage y) if_true if_false next)) + 1)
-          (with_held (cond same (loading_held w.storage.base 8 loads w.held) (choosing_held w.storage w.held loads k (source_of w.storage x) (source_of w.storage y))) w) c h
+          (with_held (cond same (loading_held w.storage.base 8 loads w.held) (choosing_held w.storage w.held loads k (source_of w.storage x) (source_of w.storage y))) w) c h (if_true ∷ if_false ∷ [])
           (branched c (holds (is_live c.memory) k (value w.unit.statics c.here.names (placed_operand (home_at w.storage) x)) (value w.unit.statics c.here.names (placed_operand (home_at w.storage) y))) if_true if_false)
       by_test true e at = to_one (eqb-true if_true if_false e) at _
       by_test false e at = choose_done k x y if_true if_false vx vy fx fy at
@@ -366,8 +370,8 @@ module _ (p : Program) (t : Targets) (s : State) (i : ℕ) (b : Bool) (w : Setti
 
   -- Where nothing but such an end is left of a block, its code does the unit's step.
   pub end_done : (e : End) → c.here.rest ≡ [] → c.here.end ≡ placed_end (home_at w.storage) e → AreOperandsOfEnd w.unit.statics w.graph e → IsGoing e → PiecesAt p t i b (end_pieces w.storage w.held b loads next e) j
-      → DoesEnd p t s b (length (end_pieces w.storage w.held b loads next e) + 1) (with_held (end_held w.storage w.held loads e) w) c h (step w.unit c)
+      → DoesEnd p t s b (length (end_pieces w.storage w.held b loads next e) + 1) (with_held (end_held w.storage w.held loads e) w) c h (targets_of e) (step w.unit c)
   end_done e none is valid goes there =
-      subst (λ all. DoesEnd p t s b (length (end_pieces w.storage w.held b loads next e) + 1) (with_held (end_held w.storage w.held loads e) w) c h (step_from w.unit all c)) (sym none)
-      (subst (λ q. DoesEnd p t s b (length (end_pieces w.storage w.held b loads next e) + 1) (with_held (end_held w.storage w.held loads e) w) c h (execute_end w.unit q c)) (sym is)
+      subst (λ all. DoesEnd p t s b (length (end_pieces w.storage w.held b loads next e) + 1) (with_held (end_held w.storage w.held loads e) w) c h (targets_of e) (step_from w.unit all c)) (sym none)
+      (subst (λ q. DoesEnd p t s b (length (end_pieces w.storage w.held b loads next e) + 1) (with_held (end_held w.storage w.held loads e) w) c h (targets_of e) (execute_end w.unit q c)) (sym is)
       (ends_done e valid goes there))

@@ -144,7 +144,7 @@ leaving_leaves saved size h can =
     }
 
 -- The machine returns: it comes to the word to which the frame says that the function returns.
-pub leaving_returns : (p : Program) (s : State) (i : ℕ) (b : Bool) (h : Holding) (saved : List ℕ) (size index : ℕ) → CanLeave saved size h → Stands p s i h → CodeAt p i b (leaving_code saved size) → word_at h.memory (h.registers 2) ≡ address_of index → index < 262144
+pub leaving_returns : (p : Program) (s : State) (i : ℕ) (b : Bool) (h : Holding) (saved : List ℕ) (size index : ℕ) → CanLeave saved size h → Stands p s i h → CodeAt p i b (leaving_code saved size) → word_at h.memory (h.registers 2) ≡ address_of index → index ≤ 262144
     → Reaches p (length (leaving_code saved size)) (record { state = s; shown = b }) [] index false (done_by_all (leaving_front saved size) h)
 leaving_returns p s i b h saved size index can stands code returns low =
     let front = leaving_front saved size in

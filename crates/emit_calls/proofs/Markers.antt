@@ -55,7 +55,7 @@ place_framed w c h place frame = record {
 }
 
 module _ (p : Program) (s : State) (i : ℕ) (b : Bool) (w : Setting) (c : Configuration) (h : Holding) (framed : HoldsFrame w c h) (stands : Stands p s i h) (place entry : ℕ) (of : c.here.graph.entry ≡ entry)
-    (code : CodeAt p i b (marking_code b)) (stops : is_stop p.stops (address_of (i + length (marking_code b))) ≡ not (place == entry)) where
+    (code : CodeAt p i b (marking_code b)) (stops : (place == entry) ≡ false → is_stop p.stops (address_of (i + length (marking_code b))) ≡ true) where
   -- The machine behind the word, if there is one.
   behind_marker : Reaches p (length (marking_code b)) (record { state = s; shown = b }) [] (i + length (marking_code b)) false h
   behind_marker = by_test b refl code
@@ -65,7 +65,7 @@ module _ (p : Program) (s : State) (i : ℕ) (b : Bool) (w : Setting) (c : Confi
       by_test false e at = code_does p s i h false [] stands tt tt
 
   marks : DoesMarker p s i b w h (marked (at_place place c))
-  marks = by_test (place == entry) refl stops
+  marks = by_test (place == entry) refl
     where
       shown : is_stop p.stops (address_of (i + length (marking_code b))) ≡ true
           → Reaches p (length (marking_code b)) (record { state = s; shown = b }) (Arrival behind_marker.state ∷ []) (i + length (marking_code b)) true h
@@ -80,16 +80,16 @@ module _ (p : Program) (s : State) (i : ℕ) (b : Bool) (w : Setting) (c : Confi
             stands = behind_marker.stands;
           }
 
-      by_test : (e : Bool) → (place == entry) ≡ e → is_stop p.stops (address_of (i + length (marking_code b))) ≡ not e → DoesMarker p s i b w h (marked (at_place place c))
-      by_test true e on =
+      by_test : (e : Bool) → (place == entry) ≡ e → DoesMarker p s i b w h (marked (at_place place c))
+      by_test true e =
           subst (λ q. DoesMarker p s i b w h (cond q (Goes (at_place place c)) (Shows (Stop (shown_frame (at_place place c).here ∷ map shown_frame c.waiting) c.memory) (at_place place c)))) (sym (ap (λ n. place == n) of ∙ e))
           (behind_marker, place_framed w c h place framed)
-      by_test false e on =
+      by_test false e =
           subst (λ q. DoesMarker p s i b w h (cond q (Goes (at_place place c)) (Shows (Stop (shown_frame (at_place place c).here ∷ map shown_frame c.waiting) c.memory) (at_place place c)))) (sym (ap (λ n. place == n) of ∙ e))
-          (record { state = behind_marker.state; reaches = shown on; is = refl; frame = place_framed w c h place framed; event = refl })
+          (record { state = behind_marker.state; reaches = shown (stops e); is = refl; frame = place_framed w c h place framed; event = refl })
 
--- The step of a marker.
+-- The step of a marker. A stop is asked for behind the word only where the place is no entry.
 pub marker_done : (p : Program) (s : State) (i : ℕ) (b : Bool) (w : Setting) (c : Configuration) (h : Holding) (place entry : ℕ) (rest : List Instruction) → HoldsFrame w c h → Stands p s i h → c.here.graph.entry ≡ entry
-    → c.here.rest ≡ placed_instruction (home_at w.storage) (Marker place) ∷ rest → CodeAt p i b (marking_code b) → is_stop p.stops (address_of (i + length (marking_code b))) ≡ not (place == entry) → DoesMarker p s i b w h (step w.unit c)
+    → c.here.rest ≡ placed_instruction (home_at w.storage) (Marker place) ∷ rest → CodeAt p i b (marking_code b) → ((place == entry) ≡ false → is_stop p.stops (address_of (i + length (marking_code b))) ≡ true) → DoesMarker p s i b w h (step w.unit c)
 marker_done p s i b w c h place entry rest framed stands of is code stops =
     subst (λ all. DoesMarker p s i b w h (step_from w.unit all c)) (sym is) (marks p s i b w (going_on c rest) h (rest_framed w c h rest framed) stands place entry of code stops)

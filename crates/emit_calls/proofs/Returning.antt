@@ -1,5 +1,5 @@
 -- The code of a return restores what the caller is to find, and goes on behind its call, or ends the run with the result of main.
-use Rattle.std.proofs.Common.{◌≡◌, ◌≢◌, ℕ, ◌+◌, ◌<◌, ◌≤◌, ◌⊎◌, inl, inr, sym, ap, ◌∙◌, subst, arith, refl, Option, Some, None, Bool, true, false, cond, not, List, [], ◌∷◌, length}
+use Rattle.std.proofs.Common.{◌≡◌, ◌≢◌, ℕ, ◌+◌, ◌≤◌, ◌⊎◌, inl, inr, sym, ap, ◌∙◌, subst, arith, refl, Option, Some, None, Bool, true, false, cond, not, List, [], ◌∷◌, length}
 use Rattle.std.specs.Prelude.{◌==◌, ◌||◌, nat_le, nat_lt, option_map}
 use Rattle.std.specs.Int.{cast_signed, w32}
 use Rattle.rv_code.specs.declared.instruction.Instruction.TheVariants.{Lui, Store, Immediate, Register as OnRegisters}
@@ -55,7 +55,7 @@ use Rattle.emit_calls.proofs.Stepping.{AllCome}
 
 -- By its end, or where that is repeated.
 pub leave_goes : (p : Program) (t : Targets) (s : State) (i : ℕ) (b : Bool) (h : Holding) (saved : List ℕ) (size end next room j index : ℕ) → AreInCode t → CanLeave saved size h → Stands p s i h → PiecesAt p t i b (leaving saved size b end next room) j → j ≡ t.label next
-    → CodeAt p (t.label end) false (leaving_code saved size) → word_at h.memory (h.registers 2) ≡ address_of index → index < 262144 → GoesTo p s b (1 + length (leaving_code saved size)) index (done_by_all (leaving_front saved size) h)
+    → CodeAt p (t.label end) false (leaving_code saved size) → word_at h.memory (h.registers 2) ≡ address_of index → index ≤ 262144 → GoesTo p s b (1 + length (leaving_code saved size)) index (done_by_all (leaving_front saved size) h)
 leave_goes p t s i b h saved size end next room j index inside can stands there follows ending returns low =
     by_test (next == end || (not (nat_le (length saved) 9) || not (nat_le (length saved + 3 + words_of_moving size) room))) there
   where

@@ -24,9 +24,10 @@ use Rattle.machine_steps.proofs.Placing.{code_front, reaches_then}
 use Rattle.machine_steps.proofs.Standing.{index_low}
 use Rattle.machine_steps.proofs.Straight.{code_does}
 use Rattle.emit_code.specs.Beginning.{base_code, entering_code, bindings_code, beginning_code}
+use Rattle.emit_calls.specs.Loaded.{IsLoaded}
 use Rattle.emit_calls.specs.Waiting.{FunctionCode, IsFunctionCode, HoldsAll}
 use Rattle.emit_calls.proofs.Placed.{behind_none}
-use Rattle.emit_calls.proofs.Starting.{IsLoaded, first, t4, now, starts, starting_can}
+use Rattle.emit_calls.proofs.Starting.{first, t4, now, starts, starting_can}
 
 -- Where nothing is given nothing is bound.
 no_names : (params : List Binding) (names : ℕ → Value) → bind_names params [] names ≡ names

@@ -7,17 +7,18 @@ use Rattle.graph_core.specs.Graphs.{Block, Graph, UnitForm, StaticObject}
 use Rattle.graph_core.specs.Values.{size_of}
 use Rattle.graph_core.specs.Memory.{Memory, Object, bytes_of, words_of, static_bytes, static_objects, first_values, first_memory, new_object}
 use Rattle.graph_core.specs.Runs.{Activation, Configuration}
-use Rattle.emit_storage.specs.Storages.{StorageForm, object_at, static_object_at, array_bytes_at}
+use Rattle.emit_storage.specs.Storages.{object_at, array_bytes_at}
 use Rattle.machine_steps.specs.Holding.{Holding, word_at}
 use Rattle.machine_steps.specs.Doing.{done_by_all, CanDoAll}
 use Rattle.machine_steps.specs.Programs.{address_of}
 use Rattle.machine_steps.proofs.Placing.{done_by_both, can_do_both}
 use Rattle.emit_moves.specs.Doing.{Brings}
-use Rattle.emit_memory.specs.Meaning.{size_at, HoldsObjects, AreLaid}
-use Rattle.emit_memory.specs.Frames.{Setting, HasArray, HoldsFrame}
+use Rattle.emit_memory.specs.Meaning.{size_at, HoldsObjects}
+use Rattle.emit_memory.specs.Frames.{HasArray, HoldsFrame}
 use Rattle.emit_memory.proofs.Limits.{constant_alone}
 use Rattle.emit_memory.proofs.Objects.{WasThere}
 use Rattle.emit_code.specs.Beginning.{base_code, entering_code}
+use Rattle.emit_calls.specs.Loaded.{IsLoaded}
 use Rattle.emit_calls.specs.Waiting.{FunctionCode, IsFunctionCode, setting_of, HoldsAll}
 use Rattle.emit_calls.proofs.Beginning.{length_mapped}
 use Rattle.emit_calls.proofs.Entering.{Enters, CanEnter, entering_enters}
@@ -25,15 +26,6 @@ use Rattle.emit_calls.proofs.Growing.{addresses_with, grown_new, laid_new, objec
 use Rattle.emit_calls.proofs.Outer.{Grown}
 
 -- ---- Static memory
-
--- Static memory as it is loaded, where objects have addresses: each static object lies where the code finds it, and holds what it holds first; the bytes that initialise arrays stand there too.
-pub record IsLoaded (u : UnitForm) (storage : StorageForm) (addresses : ℕ → ℕ) (m : ℕ → ℕ) : Type 0 where
-  pub fits : storage.base + 1 ≤ 4294967296
-  pub laid : AreLaid addresses (first_memory u.statics)
-  pub objects : HoldsObjects addresses (first_memory u.statics) m
-  pub static : (n : ℕ) (o : Object) → slice_get (first_memory u.statics) n ≡ Some o → addresses n + bytes_of o ≤ 5242880
-  pub at : (n : ℕ) (o : StaticObject) → slice_get u.statics n ≡ Some o → addresses n ≡ static_object_at storage n
-  pub arrays : (w : Setting) → w.unit ≡ u → w.storage ≡ storage → w.addresses ≡ addresses → (n : ℕ) (all : List ℕ) → slice_get u.array_bytes n ≡ Some all → HasArray w (first_memory u.statics) m n all
 
 -- A static object has as many bytes as its elements take.
 first_length : (statics : List StaticObject) (o : StaticObject) (i n : ℕ) → length (first_values statics o i n) ≡ n

@@ -1,5 +1,6 @@
 pub mod Going
 pub mod Keeping
+pub mod Loaded
 pub mod Markers
 pub mod Passing
 pub mod Pieces

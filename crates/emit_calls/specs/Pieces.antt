@@ -7,10 +7,11 @@ use Rattle.emit_pieces.specs.declared.piece.Piece.TheVariants.{Word, Jump, Branc
 use Rattle.emit_code.specs.Ends.{opposite}
 use Rattle.machine_steps.specs.Programs.{Program, distance, IsAt}
 
--- The index of the code at which each label of a function stands, and that at which each function begins.
+-- The index of the code at which each label of a function stands, that at which each function begins, and the place to which the word at each index belongs, or 0.
 pub record Targets : Type 0 where
   pub label : ℕ → ℕ
   pub function : ℕ → ℕ
+  pub owner : ℕ → ℕ
 
 -- They stand in the code or directly behind it.
 pub record AreInCode (t : Targets) : Type 0 where

@@ -1,5 +1,5 @@
 -- Pieces with what their words stand for, as they stand in the code of the machine.
-use Rattle.std.specs.Prelude.{◌≡◌, ℕ, Bool, false, None, List, [], ◌∷◌}
+use Rattle.std.specs.Prelude.{◌≡◌, ℕ, ◌≤◌, ◌<◌, Bool, false, None, List, [], ◌∷◌}
 use Rattle.emit_pieces.specs.declared.piece.Piece.{Piece}
 use Rattle.emit_pieces.specs.declared.piece.PlacedPiece.{PlacedPiece}
 use Rattle.machine_steps.specs.Programs.{Program}
@@ -10,7 +10,11 @@ abbrev pub placed_pieces : (owner : ℕ) → (stops : Bool) → List Piece → L
 placed_pieces owner b [] = []
 placed_pieces owner b (x ∷ more) = (record { piece = x; owner = owner; is_stop = b; writes = None }) ∷ placed_pieces owner false more
 
--- Pieces stand one behind the other from an index on, up to another, each with a stop at its first word if it is one.
+-- The words from an index on, up to another, belong to a place.
+abbrev pub AreOf : (owner : ℕ → ℕ) → (from to place : ℕ) → Type 0
+AreOf owner i j place = (k : ℕ) → i ≤ k → k < j → owner k ≡ place
+
+-- Pieces stand one behind the other from an index on, up to another, each with a stop at its first word if it is one, and with words that belong to its place.
 abbrev pub PlacedAt : Program → Targets → (index : ℕ) → List PlacedPiece → (behind : ℕ) → Type 0
 PlacedAt p t i [] j = j ≡ i
-PlacedAt p t i (x ∷ more) j = (k : ℕ) × PieceAt p t i x.is_stop x.piece k × PlacedAt p t k more j
+PlacedAt p t i (x ∷ more) j = (k : ℕ) × PieceAt p t i x.is_stop x.piece k × AreOf t.owner i k x.owner × PlacedAt p t k more j

@@ -63,7 +63,7 @@ behind_frame f h = record h { registers = with_register 2 (h.registers 2 + f.siz
 -- lie in static memory, or above the inner one's frame.
 pub record Waits (codes : ℕ → FunctionCode) (u : UnitForm) (addresses : ℕ → ℕ) (resumes : Activation → ℕ → Type 0) (memory : Memory) (input : List ℕ) (f : FunctionCode) (first : ℕ) (h : Holding) (a : Activation) (waiting : List Activation) : Type 0 where
   pub index : ℕ
-  pub low : index < 262144
+  pub low : index ≤ 262144
   pub returns : word_at h.memory (h.registers 2) ≡ address_of index
   pub code : resumes a index
   pub frame : HoldsFrame (setting_of u addresses [] (codes a.function)) (record { memory = memory; input = input; here = a; waiting = waiting }) (behind_frame f h)

@@ -1,0 +1,152 @@
+-- The machine does the step of a marker: it stands at the stop where the unit shows one.
+use Rattle.std.proofs.Common.{◌≡◌, ℕ, ◌+◌, sym, ap, ◌∙◌, subst, refl, Some, Bool, true, false, cond, not, List, [], ◌∷◌, length, map}
+use Rattle.std.specs.Prelude.{◌==◌, slice_index}
+use Rattle.rv_machine.specs.Run.{Arrival, is_stop}
+use Rattle.graph_core.specs.Graphs.{Instruction, Marker, Graph}
+use Rattle.graph_core.specs.Runs.{Configuration, Stepped, Goes, Shows, Stop, frame as shown_frame, at_place, step}
+use Rattle.graph_core.specs.Validity.{IsValid}
+use Rattle.homed_unit.specs.Homed.{HomedForm, HaveHomes, placed_instruction, over_homes}
+use Rattle.emitted.specs.Emitted.{EmittedForm}
+use Rattle.emit_pieces.specs.declared.piece.PlacedPiece.{PlacedPiece}
+use Rattle.emit_storage.specs.Storages.{home_at}
+use Rattle.emit_words.specs.Growing.{CodeState}
+use Rattle.emit_instructions.specs.Code.{with_instruction}
+use Rattle.machine_steps.specs.Programs.{address_of, CodeAt, Stands}
+use Rattle.machine_steps.specs.Points.{Point}
+use Rattle.emit_memory.specs.Frames.{Setting}
+use Rattle.emit_memory.proofs.Steps.{going_on}
+use Rattle.emit_calls.specs.Markers.{marking_code, DoesMarker}
+use Rattle.emit_calls.specs.Placed.{PlacedAt}
+use Rattle.emit_calls.specs.Returns.{Resumes}
+use Rattle.emit_calls.specs.Waiting.{FunctionCode, setting_of}
+use Rattle.emit_calls.proofs.Blocks.{place_all}
+use Rattle.emit_calls.proofs.CallSteps.{all_going_on}
+use Rattle.emit_calls.proofs.Markers.{marker_appended, marker_done, stop_stands}
+use Rattle.emit_runs.specs.Laid.{stop_addresses, IsCode}
+use Rattle.emit_runs.specs.Standing.{stop}
+use Rattle.emit_runs.proofs.Begun.{IsBegun, rest_begun}
+use Rattle.emit_runs.proofs.Places.{keeps_same}
+use Rattle.emit_runs.proofs.Related.{GoesOn, Related, DoesStep}
+use Rattle.emit_runs.proofs.Rest.{program_in, codes_in, places_in, left_code, RestAt, NextAt, next_at, rest_behind}
+use Rattle.emit_runs.proofs.States.{growing, going_on_from, code_goes_on, code_there, first_owned}
+use Rattle.emit_runs.proofs.Stopping.{stands_at}
+use Rattle.emit_runs.proofs.Straights.{step_is, rest_is}
+use Rattle.emit_runs.proofs.UnitSteps.{spot_of}
+
+-- Where what stands from an index on has a first piece, its words say whether there is a stop, and whose it is.
+first_stop : (h : HomedForm) (e : EmittedForm) (code : IsCode h e) (f i : ℕ) (all : List PlacedPiece) (j place : ℕ) → PlacedAt (program_in h e code) (places_in h e code f) i all j → IsBegun place all
+    → (is_stop (stop_addresses e) (address_of i) ≡ true) × (slice_index e.owners i ≡ place)
+first_stop h e code f i all j place there begun =
+    let at : PlacedAt (program_in h e code) (places_in h e code f) i (begun.first ∷ begun.more) j = subst (λ l. PlacedAt (program_in h e code) (places_in h e code f) i l j) begun.is there in
+    (stop_is at, first_owned (program_in h e code) (places_in h e code f) i begun.first begun.more j at ∙ begun.owner)
+  where
+    stop_is : PlacedAt (program_in h e code) (places_in h e code f) i (begun.first ∷ begun.more) j → is_stop (stop_addresses e) (address_of i) ≡ true
+    stop_is (k, at, of, rest) = stop_stands (program_in h e code) (places_in h e code f) i begun.first.is_stop begun.first.piece [] k (k, at, refl) ∙ begun.stop
+
+module _ (h : HomedForm) (valid : IsValid h.unit) (homed : HaveHomes h) (e : EmittedForm) (code : IsCode h e) (c : Configuration) (q : Point) (r : Related h e code c q) (place : ℕ) (more : List Instruction) (is : r.rest.more ≡ Marker place ∷ more) where
+  abbrev f : FunctionCode
+  f = codes_in h e code c.here.function
+
+  abbrev rest : List Instruction
+  rest = map (placed_instruction (home_at (codes_in h e code c.here.function).storage)) more
+
+  abbrev entry : ℕ
+  entry = (codes_in h e code c.here.function).graph.entry
+
+  abbrev d : Configuration
+  d = at_place place (going_on c (map (placed_instruction (home_at (codes_in h e code c.here.function).storage)) more))
+
+  next : NextAt h e code (spot_of c.here) r.index r.held q.shown r.rest (Marker place) more
+  next = next_at h e code (spot_of c.here) r.index r.held q.shown r.rest (Marker place) more is
+
+  state : going_on_from (with_instruction (codes_in h e code c.here.function).storage (codes_in h e code c.here.function).graph.entry (Marker place) (growing r.held r.rest.owner q.shown)) ≡ growing r.held place (not (place == (codes_in h e code c.here.function).graph.entry))
+  state =
+      let s : CodeState = growing r.held r.rest.owner q.shown in
+      ap going_on_from (marker_appended f.storage entry place s) ∙ ap (λ (t : CodeState). growing t.held place (not (place == entry))) (code_goes_on (marking_code q.shown) s)
+
+  -- Its word, if there is one, and where what is left stands behind it.
+  there : CodeAt (program_in h e code) r.index q.shown (marking_code q.shown) × (next.behind_it ≡ r.index + length (marking_code q.shown))
+  there =
+      let s : CodeState = growing r.held r.rest.owner q.shown in
+      code_there (program_in h e code) (places_in h e code c.here.function) r.index next.behind_it (marking_code q.shown) s refl
+      (subst (λ (t : CodeState). PlacedAt (program_in h e code) (places_in h e code c.here.function) r.index t.pieces next.behind_it) (marker_appended f.storage entry place s) next.there)
+
+  later : RestAt h e code (spot_of (at_place place (going_on c (map (placed_instruction (home_at (codes_in h e code c.here.function).storage)) more))).here) (r.index + length (marking_code q.shown)) r.held (not (place == (codes_in h e code c.here.function).graph.entry))
+  later =
+      subst (λ k. RestAt h e code (spot_of d.here) k r.held (not (place == entry))) there.1
+      (rest_behind h e code (spot_of c.here) r.index r.held q.shown r.rest (Marker place) more is next place place r.held (not (place == entry)) state (keeps_same more (Some place) (Some place) refl) refl)
+
+  -- Where the place is a stop, there is a stop at the next word, which belongs to the place.
+  stopped : (place == (codes_in h e code c.here.function).graph.entry) ≡ false → (is_stop (stop_addresses e) (address_of (r.index + length (marking_code q.shown))) ≡ true) × (slice_index e.owners (r.index + length (marking_code q.shown)) ≡ place)
+  stopped other =
+      let s : CodeState = growing r.held place true in
+      let begins : not (place == entry) ≡ true = ap not other in
+      let stands = subst (λ k. PlacedAt (program_in h e code) (places_in h e code c.here.function) k (left_code h code.arrangement c.here.function r.rest.at.next r.rest.at.loads r.rest.block.end more s).pieces (code.arrangement.label c.here.function r.rest.at.next)) there.1
+      (subst
+      (λ (t : CodeState). PlacedAt (program_in h e code) (places_in h e code c.here.function) next.behind_it (left_code h code.arrangement c.here.function r.rest.at.next r.rest.at.loads r.rest.block.end more t).pieces (code.arrangement.label c.here.function r.rest.at.next))
+      (state ∙ ap (λ b. growing r.held place b) begins) next.later) in
+      first_stop h e code c.here.function (r.index + length (marking_code q.shown)) (left_code h code.arrangement c.here.function r.rest.at.next r.rest.at.loads r.rest.block.end more s).pieces (code.arrangement.label c.here.function r.rest.at.next) place stands
+      (rest_begun place f.storage entry f.saved f.size (length f.graph.blocks) r.rest.at.next r.rest.at.loads r.rest.block.end more s refl refl refl)
+
+  pub marker_step : DoesStep h e code q (step (over_homes h) c)
+  marker_step = subst (λ z. DoesStep h e code q z) (sym does) (by_test (place == entry) refl)
+    where
+      of : c.here.graph.entry ≡ (codes_in h e code c.here.function).graph.entry
+      of = ap (λ (g : Graph). g.entry) r.rest.graph
+
+      does : step (over_homes h) c ≡ cond (place == (codes_in h e code c.here.function).graph.entry) (Goes (at_place place (going_on c (map (placed_instruction (home_at (codes_in h e code c.here.function).storage)) more))))
+          (Shows (Stop (shown_frame (at_place place (going_on c (map (placed_instruction (home_at (codes_in h e code c.here.function).storage)) more))).here ∷ map shown_frame c.waiting) c.memory) (at_place place (going_on c (map (placed_instruction (home_at (codes_in h e code c.here.function).storage)) more))))
+      does = step_is h valid homed e code c q r (Marker place) more is ∙ ap (λ n. cond (place == n) (Goes d) (Shows (Stop (shown_frame d.here ∷ map shown_frame c.waiting) c.memory) d)) of
+
+      marks : DoesMarker (program_in h e code) q.state r.index q.shown (setting_of (over_homes h) r.addresses r.held (codes_in h e code c.here.function)) r.holding (step (over_homes h) c)
+      marks =
+          let w : Setting = setting_of (over_homes h) r.addresses r.held f in
+          marker_done (program_in h e code) q.state r.index q.shown w c r.holding place entry rest r.all.here r.stands of (rest_is h valid homed e code c q r (Marker place) more is) there.0 (λ other. (stopped other).0)
+
+      by_test : (b : Bool) → (place == (codes_in h e code c.here.function).graph.entry) ≡ b
+          → DoesStep h e code q (cond b (Goes (at_place place (going_on c (map (placed_instruction (home_at (codes_in h e code c.here.function).storage)) more))))
+          (Shows (Stop (shown_frame (at_place place (going_on c (map (placed_instruction (home_at (codes_in h e code c.here.function).storage)) more))).here ∷ map shown_frame c.waiting) c.memory) (at_place place (going_on c (map (placed_instruction (home_at (codes_in h e code c.here.function).storage)) more)))))
+      by_test true same =
+          let w : Setting = setting_of (over_homes h) r.addresses r.held f in
+          let shows : Stepped = Shows (Stop (shown_frame d.here ∷ map shown_frame c.waiting) c.memory) d in
+          let done = subst (λ z. DoesMarker (program_in h e code) q.state r.index q.shown w r.holding z) (does ∙ ap (λ b. cond b (Goes d) shows) same) marks in
+          let all = place_all (codes_in h e code) (over_homes h) r.addresses (Resumes (program_in h e code) (codes_in h e code) (GoesOn h e code)) r.held (going_on c rest) r.holding place
+          (all_going_on (codes_in h e code) (over_homes h) r.addresses (Resumes (program_in h e code) (codes_in h e code) (GoesOn h e code)) r.held c r.holding rest r.all) in
+          record {
+            count = length (marking_code q.shown);
+            point = record { state = done.0.state; shown = false };
+            leads = done.0.leads;
+            related = record {
+              addresses = r.addresses;
+              index = r.index + length (marking_code q.shown);
+              held = r.held;
+              holding = r.holding;
+              stands = done.0.stands;
+              all = all;
+              rest = subst (λ b. RestAt h e code (spot_of d.here) (r.index + length (marking_code q.shown)) r.held (not b)) same later;
+            };
+          }
+      by_test false same =
+          let w : Setting = setting_of (over_homes h) r.addresses r.held f in
+          let shows : Stepped = Shows (Stop (shown_frame d.here ∷ map shown_frame c.waiting) c.memory) d in
+          let done = subst (λ z. DoesMarker (program_in h e code) q.state r.index q.shown w r.holding z) (does ∙ ap (λ b. cond b (Goes d) shows) same) marks in
+          let all = place_all (codes_in h e code) (over_homes h) r.addresses (Resumes (program_in h e code) (codes_in h e code) (GoesOn h e code)) r.held (going_on c rest) r.holding place
+          (all_going_on (codes_in h e code) (over_homes h) r.addresses (Resumes (program_in h e code) (codes_in h e code) (GoesOn h e code)) r.held c r.holding rest r.all) in
+          let stopping = stopped same in
+          record {
+            count = length (marking_code q.shown);
+            event = Arrival done.state;
+            point = record { state = done.reaches.state; shown = true };
+            leads = done.reaches.leads;
+            same = stop (stands_at h valid homed e code r.addresses r.held d r.holding done.state (r.index + length (marking_code q.shown)) all
+                (subst (λ s. Stands (program_in h e code) s (r.index + length (marking_code q.shown)) r.holding) done.is done.reaches.stands) stopping.0 stopping.1);
+            related = record {
+              addresses = r.addresses;
+              index = r.index + length (marking_code q.shown);
+              held = r.held;
+              holding = r.holding;
+              stands = done.reaches.stands;
+              all = all;
+              rest = subst (λ b. RestAt h e code (spot_of d.here) (r.index + length (marking_code q.shown)) r.held (not b)) same later;
+            };
+          }

@@ -1,0 +1,103 @@
+-- The relation of a unit over homes and the machine between two steps, and what it means that the machine does a step.
+use Rattle.std.proofs.Common.{◌≡◌, ℕ, ◌+◌, Option, Bool, false, List, [], ◌∷◌, length}
+use Rattle.std.specs.Prelude.{option_map, slice_index}
+use Rattle.rv_machine.specs.Run.{MachineEvent}
+use Rattle.graph_core.specs.Runs.{Activation, Configuration, Event, Stepped, Goes, Shows, Ends as EndsUnit, Wild}
+use Rattle.graph_homes.specs.declared.home.Home.{Home}
+use Rattle.homed_unit.specs.Homed.{HomedForm, home_number, over_homes}
+use Rattle.homed_unit.specs.Seen.{Going, Over}
+use Rattle.emitted.specs.Emitted.{EmittedForm}
+use Rattle.emit_pieces.specs.declared.piece.Held.{Held}
+use Rattle.machine_steps.specs.Holding.{Holding}
+use Rattle.machine_steps.specs.Programs.{Stands}
+use Rattle.machine_steps.specs.Points.{Point, Leads, Ends}
+use Rattle.emit_calls.specs.Keeping.{IsTargetAmong}
+use Rattle.emit_calls.specs.Returns.{IsShownAs, byte as byte_so, exited as exited_so, deep as deep_so, Resumes, answer_code}
+use Rattle.emit_calls.specs.Waiting.{HoldsAll}
+use Rattle.emit_calls.proofs.Returning.{EndsRun}
+use Rattle.emit_calls.proofs.Stepping.{AllCome}
+use Rattle.emit_runs.specs.Laid.{IsCode}
+use Rattle.emit_runs.specs.Standing.{SameSeen, byte, exited, deep}
+use Rattle.emit_runs.proofs.Rest.{program_in, codes_in, RestAt}
+use Rattle.emit_runs.proofs.UnitSteps.{spot_of, IsOn, IsLast}
+
+module _ (h : HomedForm) (e : EmittedForm) (code : IsCode h e) where
+  -- An activation that waits goes on from an index: what is left of its block stands there, behind the result of the call, whose word belongs to its place.
+  pub record GoesOn (x : Activation) (index : ℕ) : Type 0 where
+    pub rest : RestAt h e code (spot_of x) index [] false
+    pub call : ℕ
+    pub target : Option Home
+    pub wants : x.wants ≡ option_map home_number target
+    pub among : IsTargetAmong (codes_in h e code x.function).slots target
+    pub is : index ≡ call + 1 + length (answer_code (codes_in h e code x.function).storage target)
+    pub owned : slice_index e.owners call ≡ x.place
+
+  -- The machine holds all of a configuration, and stands where what is left of the innermost activation's block stands.
+  pub record Related (c : Configuration) (q : Point) : Type 0 where
+    pub addresses : ℕ → ℕ
+    pub index : ℕ
+    pub held : List Held
+    pub holding : Holding
+    pub stands : Stands (program_in h e code) q.state index holding
+    pub all : HoldsAll (codes_in h e code) (over_homes h) addresses (Resumes (program_in h e code) (codes_in h e code) GoesOn) held c holding
+    pub rest : RestAt h e code (spot_of c.here) index held q.shown
+
+  -- ---- Steps
+
+  -- The machine comes unseen to where it is related to a configuration.
+  pub record ComesUnseen (q : Point) (d : Configuration) : Type 0 where
+    pub count : ℕ
+    pub point : Point
+    pub leads : Leads (program_in h e code).stops count q [] point
+    pub related : Related d point
+
+  -- It shows an event, and comes there.
+  pub record ComesSeen (q : Point) (seen : Event) (d : Configuration) : Type 0 where
+    pub count : ℕ
+    pub event : MachineEvent
+    pub point : Point
+    pub leads : Leads (program_in h e code).stops count q (event ∷ []) point
+    pub same : SameSeen h e code.arrangement (Going seen d) event
+    pub related : Related d point
+
+  -- It shows an event with which its run ends.
+  pub record ComesToEnd (q : Point) (seen : Event) : Type 0 where
+    pub count : ℕ
+    pub event : MachineEvent
+    pub ends : Ends (program_in h e code).stops count q (event ∷ [])
+    pub same : SameSeen h e code.arrangement (Over seen) event
+
+  -- The machine does a step of the unit. Where that is wild, nothing is asked.
+  abbrev pub DoesStep : Point → Stepped → Type 0
+  DoesStep q (Goes d) = ComesUnseen q d
+  DoesStep q (Shows seen d) = ComesSeen q seen d
+  DoesStep q (EndsUnit seen) = ComesToEnd q seen
+  DoesStep q Wild = Unit {0}
+
+  -- ---- How a step is done
+
+  -- Where it comes to words behind which what is left stands.
+  pub come_unseen : (q : Point) (index most to : ℕ) (last : Bool) (addresses : ℕ → ℕ) (held : List Held) (d : Configuration)
+      → AllCome (program_in h e code) q.state index q.shown most to last (codes_in h e code) (over_homes h) addresses (Resumes (program_in h e code) (codes_in h e code) GoesOn) held d → RestAt h e code (spot_of d.here) to held last
+      → ComesUnseen q d
+  come_unseen q index most to last addresses held d comes rest = record {
+    count = comes.count;
+    point = record { state = comes.reaches.state; shown = last };
+    leads = comes.reaches.leads;
+    related = record { addresses = addresses; index = to; held = held; holding = comes.holding; stands = comes.reaches.stands; all = comes.all; rest = rest };
+  }
+
+  -- An event behind which the run goes on.
+  pub on_same : (seen : Event) (event : MachineEvent) (d : Configuration) → IsShownAs seen event → IsOn seen → SameSeen h e code.arrangement (Going seen d) event
+  on_same _ _ d byte_so on = byte
+  on_same _ _ d exited_so on = absurd on
+  on_same _ _ d deep_so on = absurd on
+
+  -- The last one.
+  pub end_done : (q : Point) (most : ℕ) (seen : Event) → EndsRun (program_in h e code) q.state q.shown most seen → IsLast seen → ComesToEnd q seen
+  end_done q most seen ended last = record { count = ended.count; event = ended.event; ends = ended.ends; same = last_same seen ended.event ended.shown last }
+    where
+      last_same : (seen : Event) (event : MachineEvent) → IsShownAs seen event → IsLast seen → SameSeen h e code.arrangement (Over seen) event
+      last_same _ _ byte_so last = absurd last
+      last_same _ _ exited_so last = exited
+      last_same _ _ deep_so last = deep

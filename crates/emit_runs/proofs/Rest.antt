@@ -1,0 +1,190 @@
+-- What is left of a block stands where its code goes on: from the block's beginning on, behind each of its instructions.
+use Rattle.std.proofs.Common.{◌≡◌, ℕ, ◌<◌, sym, ap, ◌∙◌, subst, refl, Some, Bool, false, List, ◌∷◌, length, map, slice_get}
+use Rattle.std.specs.Option.{option_map_or}
+use Rattle.graph_core.specs.Graphs.{Instruction, End, Block}
+use Rattle.graph_core.specs.Paths.{Among, front, behind}
+use Rattle.graph_core.specs.Validity.{IsValid, IsBlock, IsInstruction, KeepsPlace, place_behind, place_at_end}
+use Rattle.homed_unit.specs.Homed.{HomedForm, placed_graph, placed_block, placed_instruction, placed_end}
+use Rattle.emitted.specs.Emitted.{EmittedForm}
+use Rattle.emit_pieces.specs.declared.piece.Held.{Held}
+use Rattle.emit_storage.specs.Storages.{home_at}
+use Rattle.emit_words.specs.Growing.{CodeState}
+use Rattle.emit_instructions.specs.Code.{with_instruction}
+use Rattle.machine_steps.specs.Programs.{Program}
+use Rattle.emit_code.specs.Blocks.{no_code, block_code}
+use Rattle.emit_code.specs.Leaving.{with_end}
+use Rattle.emit_calls.specs.Pieces.{Targets}
+use Rattle.emit_calls.specs.Placed.{PlacedAt}
+use Rattle.emit_calls.specs.Waiting.{FunctionCode}
+use Rattle.emit_calls.proofs.Appended.{BothPlaced}
+use Rattle.emit_calls.proofs.Unmarked.{IsAppending, with_all, all_onto, end_onto, behind_there, block_there}
+use Rattle.emit_runs.specs.Laid.{Arrangement, code_of, program_of, targets_in, HasWords, HasWordsInBlock, IsInWords, IsBlockAt, IsCode}
+use Rattle.emit_runs.proofs.Frames.{graph_there, graph_valid}
+use Rattle.emit_runs.proofs.Lists.{all_at, all_among}
+use Rattle.emit_runs.proofs.Places.{block_owned, block_forced, bare_held, instructions_held}
+use Rattle.emit_runs.proofs.States.{growing, going_on_from}
+use Rattle.emit_runs.proofs.UnitSteps.{Spot}
+
+-- ---- The code of a unit
+
+abbrev pub program_in : (h : HomedForm) (e : EmittedForm) → IsCode h e → Program
+program_in h e code = program_of e code.short
+
+abbrev pub codes_in : (h : HomedForm) (e : EmittedForm) → IsCode h e → (function : ℕ) → FunctionCode
+codes_in h e code = code_of h code.arrangement
+
+abbrev pub places_in : (h : HomedForm) (e : EmittedForm) → IsCode h e → (function : ℕ) → Targets
+places_in h e code f = targets_in e code.arrangement f
+
+-- The code of instructions and of the end of a block behind them.
+abbrev pub left_code : HomedForm → Arrangement → (function next : ℕ) → (loads : List Held) → End → List Instruction → CodeState → CodeState
+left_code h a f next loads last more s =
+    with_end (code_of h a f).storage (code_of h a f).saved (code_of h a f).size (length (code_of h a f).graph.blocks) next loads last (with_all (code_of h a f).storage (code_of h a f).graph.entry more s)
+
+pub left_onto : (h : HomedForm) (a : Arrangement) (f next : ℕ) (loads : List Held) (last : End) (more : List Instruction) → IsAppending (left_code h a f next loads last more)
+left_onto h a f next loads last more q s =
+    let g = (code_of h a f).storage in
+    let saved = (code_of h a f).saved in
+    let size = (code_of h a f).size in
+    let end = length (code_of h a f).graph.blocks in
+    let entry = (code_of h a f).graph.entry in
+    ap (with_end g saved size end next loads last) (all_onto g entry more q s) ∙ end_onto g saved size end next loads last q (with_all g entry more s)
+
+-- The code of a whole block.
+abbrev pub whole_code : HomedForm → Arrangement → (function next : ℕ) → (known loads : List Held) → Block → CodeState
+whole_code h a f next known loads b = block_code (code_of h a f).storage (code_of h a f).graph.entry (code_of h a f).saved (code_of h a f).size (length (code_of h a f).graph.blocks) next known loads b
+
+-- What is held where each block of a function begins.
+abbrev pub known_in : (h : HomedForm) (e : EmittedForm) (code : IsCode h e) (f : ℕ) → f < length h.unit.graphs → ℕ → List Held
+known_in h e code f low = (code.functions f low).known
+
+-- ---- What is left of a block
+
+-- The code of what is left of an activation's block stands from an index on: of these instructions and the block's end, in the place in force, with constants held and with a stop that has no
+-- word yet or without one.
+pub record RestAt (h : HomedForm) (e : EmittedForm) (code : IsCode h e) (x : Spot) (index : ℕ) (held : List Held) (begins : Bool) : Type 0 where
+  pub low : x.function < length h.unit.graphs
+  pub graph : x.graph ≡ placed_graph (home_at (codes_in h e code x.function).storage) (codes_in h e code x.function).graph
+  pub number : ℕ
+  pub block : Block
+  pub there : slice_get (codes_in h e code x.function).graph.blocks number ≡ Some block
+  pub at : IsBlockAt h code.arrangement (program_in h e code) (places_in h e code x.function) x.function (known_in h e code x.function low) number block
+  pub more : List Instruction
+  pub rest : x.rest ≡ map (placed_instruction (home_at (codes_in h e code x.function).storage)) more
+  pub end : x.end ≡ placed_end (home_at (codes_in h e code x.function).storage) block.end
+  pub among : (y : Instruction) → Among y more → Among y block.instructions
+  pub owner : ℕ
+  pub owned : KeepsPlace more (Some owner) (Some x.place)
+  pub force : place_behind more (Some x.place) ≡ place_at_end block
+  pub placed : PlacedAt (program_in h e code) (places_in h e code x.function) index (left_code h code.arrangement x.function at.next at.loads block.end more (growing held owner begins)).pieces (code.arrangement.label x.function at.next)
+  pub known : (left_code h code.arrangement x.function at.next at.loads block.end more (growing held owner begins)).held ≡ (whole_code h code.arrangement x.function at.next (known_in h e code x.function low number) at.loads block).held
+
+module _ (h : HomedForm) (e : EmittedForm) (code : IsCode h e) where
+  -- Where a block begins in a place that it keeps, all of it is left.
+  pub start_at : (f l place : ℕ) (b : Block) (low : f < length h.unit.graphs) → slice_get (codes_in h e code f).graph.blocks l ≡ Some b → KeepsPlace b.instructions (Some place) b.place
+      → RestAt h e code
+      (record {
+        function = f;
+        graph = placed_graph (home_at (codes_in h e code f).storage) (codes_in h e code f).graph;
+        place = place;
+        rest = (placed_block (home_at (codes_in h e code f).storage) b).instructions;
+        end = (placed_block (home_at (codes_in h e code f).storage) b).end;
+      })
+      (code.arrangement.label f l) (known_in h e code f low l) false
+  start_at f l place b low there keeps =
+      let a : Arrangement = code.arrangement in
+      let c : FunctionCode = codes_in h e code f in
+      let at : IsBlockAt h a (program_in h e code) (places_in h e code f) f (known_in h e code f low) l b = (code.functions f low).blocks l b there in
+      let end : ℕ = length c.graph.blocks in
+      record {
+        low = low;
+        graph = refl;
+        number = l;
+        block = b;
+        there = there;
+        at = (code.functions f low).blocks l b there;
+        more = b.instructions;
+        rest = refl;
+        end = refl;
+        among = λ y is. is;
+        owner = option_map_or (λ p. p) b.place 0;
+        owned = block_owned b place keeps;
+        force = block_forced b place keeps;
+        placed = block_there c.storage c.graph.entry c.saved c.size end at.next (known_in h e code f low l) at.loads b (program_in h e code) (places_in h e code f) (a.label f l) (a.label f at.next) at.there;
+        known = sym (instructions_held c.storage c.graph.entry (with_end c.storage c.saved c.size end at.next at.loads b.end) (end_onto c.storage c.saved c.size end at.next at.loads b.end) 0 b.instructions (no_code (option_map_or (λ p. p) b.place 0) (known_in h e code f low l)));
+      }
+
+  -- The code of the next instruction, and of what is left behind it.
+  pub record NextAt (x : Spot) (index : ℕ) (held : List Held) (begins : Bool) (r : RestAt h e code x index held begins) (i : Instruction) (more : List Instruction) : Type 0 where
+    pub behind_it : ℕ
+    pub there : PlacedAt (program_in h e code) (places_in h e code x.function) index (with_instruction (codes_in h e code x.function).storage (codes_in h e code x.function).graph.entry i (growing held r.owner begins)).pieces behind_it
+    pub later : PlacedAt (program_in h e code) (places_in h e code x.function) behind_it
+        (left_code h code.arrangement x.function r.at.next r.at.loads r.block.end more (going_on_from (with_instruction (codes_in h e code x.function).storage (codes_in h e code x.function).graph.entry i (growing held r.owner begins)))).pieces
+        (code.arrangement.label x.function r.at.next)
+    pub known : (left_code h code.arrangement x.function r.at.next r.at.loads r.block.end more (going_on_from (with_instruction (codes_in h e code x.function).storage (codes_in h e code x.function).graph.entry i (growing held r.owner begins)))).held
+        ≡ (whole_code h code.arrangement x.function r.at.next (known_in h e code x.function r.low r.number) r.at.loads r.block).held
+
+  pub next_at : (x : Spot) (index : ℕ) (held : List Held) (begins : Bool) (r : RestAt h e code x index held begins) (i : Instruction) (more : List Instruction) → r.more ≡ i ∷ more → NextAt x index held begins r i more
+  next_at x index held begins r i more is =
+      let f : ℕ = x.function in
+      let c : FunctionCode = codes_in h e code f in
+      let s : CodeState = growing held r.owner begins in
+      let t : CodeState = with_instruction c.storage c.graph.entry i s in
+      let last : ℕ = code.arrangement.label f r.at.next in
+      let rest : CodeState → CodeState = left_code h code.arrangement f r.at.next r.at.loads r.block.end more in
+      let appends : IsAppending rest = left_onto h code.arrangement f r.at.next r.at.loads r.block.end more in
+      let both : BothPlaced (program_in h e code) (places_in h e code f) index t.pieces (rest (going_on_from t)).pieces last =
+      behind_there rest appends (program_in h e code) (places_in h e code f) index last t
+      (subst (λ l. PlacedAt (program_in h e code) (places_in h e code f) index (left_code h code.arrangement f r.at.next r.at.loads r.block.end l s).pieces last) is r.placed) in
+      record {
+        behind_it = both.index;
+        there = both.front_there;
+        later = both.back_there;
+        known = bare_held rest appends t ∙ subst (λ l. (left_code h code.arrangement f r.at.next r.at.loads r.block.end l s).held ≡ (whole_code h code.arrangement f r.at.next (known_in h e code f r.low r.number) r.at.loads r.block).held) is r.known;
+      }
+
+  -- What is left behind it, in the place that is in force there.
+  pub rest_behind : (x : Spot) (index : ℕ) (held : List Held) (begins : Bool) (r : RestAt h e code x index held begins) (i : Instruction) (more : List Instruction) → r.more ≡ i ∷ more → (n : NextAt x index held begins r i more)
+      → (place owner : ℕ) (later : List Held) (b : Bool) → going_on_from (with_instruction (codes_in h e code x.function).storage (codes_in h e code x.function).graph.entry i (growing held r.owner begins)) ≡ growing later owner b
+      → KeepsPlace more (Some owner) (Some place) → place_behind more (Some place) ≡ place_behind (i ∷ more) (Some x.place)
+      → RestAt h e code (record x { place = place; rest = map (placed_instruction (home_at (codes_in h e code x.function).storage)) more }) n.behind_it later b
+  rest_behind x index held begins r i more is n place owner later b state owned force = record {
+    low = r.low;
+    graph = r.graph;
+    number = r.number;
+    block = r.block;
+    there = r.there;
+    at = r.at;
+    more = more;
+    rest = refl;
+    end = r.end;
+    among = λ y in_more. r.among y (subst (λ l. Among y l) (sym is) (behind in_more));
+    owner = owner;
+    owned = owned;
+    force = force ∙ ap (λ l. place_behind l (Some x.place)) (sym is) ∙ r.force;
+    placed = subst
+        (λ (s : CodeState). PlacedAt (program_in h e code) (places_in h e code x.function) n.behind_it (left_code h code.arrangement x.function r.at.next r.at.loads r.block.end more s).pieces (code.arrangement.label x.function r.at.next))
+        state n.later;
+    known = subst (λ (s : CodeState). (left_code h code.arrangement x.function r.at.next r.at.loads r.block.end more s).held ≡ (whole_code h code.arrangement x.function r.at.next (known_in h e code x.function r.low r.number) r.at.loads r.block).held) state n.known;
+  }
+
+  -- ---- What is known of the instructions
+
+  pub next_among : (x : Spot) (index : ℕ) (held : List Held) (begins : Bool) (r : RestAt h e code x index held begins) (i : Instruction) (more : List Instruction) → r.more ≡ i ∷ more → Among i r.block.instructions
+  next_among x index held begins r i more is = r.among i (subst (λ l. Among i l) (sym is) front)
+
+  -- They are valid, and so is the block.
+  pub block_valid : IsValid h.unit → (x : Spot) (index : ℕ) (held : List Held) (begins : Bool) (r : RestAt h e code x index held begins) → IsBlock h.unit (codes_in h e code x.function).graph r.block
+  block_valid valid x index held begins r =
+      all_at (IsBlock h.unit (codes_in h e code x.function).graph) (codes_in h e code x.function).graph.blocks r.number r.block (graph_valid h.unit valid x.function r.low).blocks r.there
+
+  pub next_valid : IsValid h.unit → (x : Spot) (index : ℕ) (held : List Held) (begins : Bool) (r : RestAt h e code x index held begins) (i : Instruction) → Among i r.block.instructions → IsInstruction h.unit (codes_in h e code x.function).graph i
+  next_valid valid x index held begins r i among = all_among (IsInstruction h.unit (codes_in h e code x.function).graph) r.block.instructions i (block_valid valid x index held begins r).instructions among
+
+  -- Their constants are words.
+  pub block_words : (x : Spot) (index : ℕ) (held : List Held) (begins : Bool) (r : RestAt h e code x index held begins) → HasWordsInBlock r.block
+  block_words x index held begins r =
+      all_at HasWordsInBlock (codes_in h e code x.function).graph.blocks r.number r.block (all_at IsInWords h.unit.graphs x.function (codes_in h e code x.function).graph code.words (graph_there h.unit x.function r.low)).blocks r.there
+
+  pub next_words : (x : Spot) (index : ℕ) (held : List Held) (begins : Bool) (r : RestAt h e code x index held begins) (i : Instruction) → Among i r.block.instructions → HasWords i
+  next_words x index held begins r i among = all_among HasWords r.block.instructions i (block_words x index held begins r).instructions among
