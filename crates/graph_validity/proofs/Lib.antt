@@ -1,0 +1,12 @@
+pub mod Naming
+pub mod Values
+pub mod Pieces
+pub mod Expressions
+pub mod Declarators
+pub mod Statements
+pub mod Bodies
+pub mod Edges
+pub mod Markers
+pub mod Storage
+pub mod Functions
+pub mod Whole
