@@ -4,3 +4,4 @@ pub mod Choices
 pub mod Apart
 pub mod Sharings
 pub mod Units
+pub mod Longer

@@ -88,6 +88,7 @@ pub fn assign(alloc: Global, unit: &Unit, mode: Mode) -> Result<HomedUnit, Alloc
     ensures apart { IfOk result (λ h. HaveHomesApart (homed_view h)) }
     ensures changes { IfOk result (λ h. HaveChanges (unit_view unit.now) (homed_view h)) }
     ensures unit { IfOk result (λ h. (homed_view h).unit ≡ record (unit_view unit.now) { log = (homed_view h).unit.log }) }
+    ensures valid { IfOk result (λ h. IsValid (homed_view h).unit) }
     ensures mode { IfOk result (λ h. h.mode ≡ mode) }
 {
     let mut unit = unit.duplicate(alloc)?;

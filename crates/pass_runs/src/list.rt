@@ -1,6 +1,6 @@
 //! Lists of passes.
 
-ghost use Rattle.std.specs.Prelude.{◌≡◌, ◌<◌, ◌^◌, ◌↔◌, IfOk, IfSome, IsTrue, MatchOption, length, map};
+ghost use Rattle.std.specs.Prelude.{◌≡◌, ◌<◌, ◌^◌, ◌↔◌, [], Some, IfOk, IfSome, IsTrue, MatchOption, length, map};
 ghost use Rattle.debug_records.specs.Change.{letters};
 ghost use Rattle.graph_core.specs.Graphs.{unit_view};
 ghost use Rattle.graph_core.specs.Validity.{IsValid};
@@ -77,7 +77,7 @@ fn apply_one(
 }
 
 /// Runs the passes of these names on a valid unit, in order; of two passes of one name the first is taken. None where a name is no pass's, where the log has 2^31
-/// changes before a pass, or where a pass makes no unit.
+/// changes before a pass, or where a pass makes no unit. No names give the unit back.
 pub fn run_passes(
     alloc: Global,
     passes: &[Box<dyn UnitPass>],
@@ -87,6 +87,7 @@ pub fn run_passes(
     requires { IsValid (unit_view unit) }
     ensures made { IfOk result (λ made. IfSome made (λ v. IsValid (unit_view v))) }
     ensures kept { IfOk result (λ made. IfSome made (λ v. KeepsShape (unit_view unit) (unit_view v))) }
+    ensures nothing { names.now ≡ [] → IfOk result (λ made. made ≡ Some unit) }
 {
     let mut last = unit;
     for name in names {
