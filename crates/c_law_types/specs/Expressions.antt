@@ -8,8 +8,7 @@ use Rattle.c_tree.specs.Programs.{TypedFunctionTree, ProgramTree}
 use Rattle.c_type_rules.specs.Integers.{fits, promoted}
 use Rattle.c_type_rules.specs.Types.{loaded, same_integer}
 use Rattle.c_value_types.specs.ValueTypes.{decayed, given_by, object_type, results_of}
-use Rattle.c_law_types.specs.declared.kind.Kind.{Kind}
-use Rattle.c_law_types.specs.declared.kind.Kind.TheVariants.{Wrong, NullPointer}
+use Rattle.c_law_types.specs.Kind.{Kind, Wrong, NullPointer}
 use Rattle.c_law_types.specs.Kinds.{of_if, is_promoted, is_of, is_typed, is_scalar, is_pointer, is_integer, is_counted, joined, is_operand, holds_scalar, holds_integer, holds_pointer, is_array, is_object, is_callee, taken_by}
 
 module _ (p : ProgramTree) (f : TypedFunctionTree) where

@@ -16,8 +16,7 @@ use Rattle.c_tree.specs.declared.typed_expression.Callee.TheVariants as callee
 use Rattle.c_tree.specs.Programs.{AutomaticTree, LiteralTree, StaticTree, TypedFunctionTree, ProgramTree}
 use Rattle.c_type_rules.specs.Integers.{promoted}
 use Rattle.c_type_rules.specs.Types.{loaded, same_integer, same_object, same_value}
-use Rattle.c_law_types.specs.declared.kind.Kind.{Kind}
-use Rattle.c_law_types.specs.declared.kind.Kind.TheVariants.{Wrong, NullPointer, Of}
+use Rattle.c_law_types.specs.Kind.{Kind, Wrong, NullPointer, Of}
 
 -- a value of a type, if what it is made of fits
 abbrev pub of_if : Bool → ValueType → Kind

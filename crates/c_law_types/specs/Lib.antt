@@ -1,3 +1,4 @@
+pub mod Kind
 pub mod Kinds
 pub mod Expressions
 pub mod Statements

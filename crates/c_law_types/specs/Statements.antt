@@ -13,8 +13,7 @@ use Rattle.c_tree.specs.TypedStatements.{InitialTree, Zero, Scalar as scalar-ini
 use Rattle.c_tree.specs.Programs.{AutomaticTree, LiteralTree, TypedFunctionTree, ProgramTree}
 use Rattle.c_type_rules.specs.Integers.{fits, scalar_size}
 use Rattle.c_type_rules.specs.Types.{loaded}
-use Rattle.c_law_types.specs.declared.kind.Kind.{Kind}
-use Rattle.c_law_types.specs.declared.kind.Kind.TheVariants.{Wrong, NullPointer, Of}
+use Rattle.c_law_types.specs.Kind.{Kind, Wrong, NullPointer, Of}
 use Rattle.c_law_types.specs.Kinds.{is_of, is_typed, is_scalar, is_promoted}
 use Rattle.c_law_types.specs.Expressions.{kind_of}
 

@@ -8,7 +8,7 @@ use Rattle.c_facts.specs.Memory.{kept_by_all}
 use Rattle.c_places.specs.Places.{Place, places_of_program}
 use Rattle.c_type_bounds.specs.Bounds.{memory_room, program_breach, variables_of}
 use Rattle.c_law_types.specs.Statements.{are_statements}
-use Rattle.c_law_counts.specs.Nodes.{statements_nodes}
+use Rattle.c_law_counts.specs.Weighing.{weighed_statements}
 use Rattle.c_laws.specs.Orders.{ascends, is_numbered, never_falls}
 use Rattle.c_laws.specs.Declarations.{declared_in_all}
 use Rattle.c_laws.specs.Parameters.{parameters_single}
@@ -37,9 +37,9 @@ are_in_memory all (x ∷ more) = is_in_memory (slice_get all x) && are_in_memory
 abbrev pub declares_its_own : TypedFunctionTree → Bool
 declares_its_own f = is_numbered (f.first_variable + f.parameters) (declared_in_all f.body []) && length (declared_in_all f.body []) + f.parameters == f.variables
 
--- It weighs as many nodes as it has, or more, and keeps the limits of a function.
+-- It weighs as much as its nodes and the conversions to narrow types that were written, or more, and keeps the limits of a function.
 abbrev pub keeps_limits : List AutomaticTree → TypedFunctionTree → Bool
-keeps_limits all f = nat_le (2 + f.parameters + statements_nodes f.body) f.weight && nat_le f.weight 3000 && nat_le f.parameters 8 && nat_le (memory_room (variables_of f all)) 4096
+keeps_limits all f = nat_le (2 + f.parameters + weighed_statements f.body) f.weight && nat_le f.weight 3000 && nat_le f.parameters 8 && nat_le (memory_room (variables_of f all)) 4096
 
 -- A function is well typed, declares its own variables, what has to stand in memory does, its limits are kept, and its declarations stand in blocks.
 abbrev pub is_function : ProgramTree → TypedFunctionTree → Bool

@@ -13,8 +13,7 @@ use Rattle.c_tree.specs.declared.typed_expression.Arithmetic.TheVariants.{ShiftL
 use Rattle.c_type_rules.specs.Integers.{is_signed, unsigned_of, joined as joined_integers, promoted, common, rank}
 use Rattle.c_type_rules.specs.Types.{loaded, pointed_to, same_value}
 use Rattle.c_type_values.specs.Operations as operation
-use Rattle.c_law_types.specs.declared.kind.Kind.{Kind}
-use Rattle.c_law_types.specs.declared.kind.Kind.TheVariants.{Wrong, NullPointer, Of}
+use Rattle.c_law_types.specs.Kind.{Kind, Wrong, NullPointer, Of}
 use Rattle.c_law_types.specs.Kinds.{of_if, is_pointer_type, is_promoted, is_of, is_typed, is_scalar, is_pointer, is_integer, is_counted, joined, is_operand}
 use Rattle.c_texts.specs.Values.{leads_to_elements}
 use Rattle.c_texts.proofs.Same.{value_is, integer_itself, value_itself}

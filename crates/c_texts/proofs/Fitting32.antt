@@ -20,6 +20,8 @@ use Rattle.c_type_bounds.specs.Visible.{visible_pairs}
 use Rattle.c_type_bounds.specs.Bounds.{memory_room, variables_of, own_room, static_room, text_room, literal_room, objects_room, program_breach}
 use Rattle.c_law_types.specs.Statements.{are_statements}
 use Rattle.c_law_counts.specs.Nodes.{nodes, place_nodes, declared_nodes, start_nodes, step_nodes, statement_nodes, statements_nodes}
+use Rattle.c_law_counts.specs.Weighing.{weighed_statements}
+use Rattle.c_law_counts.proofs.Weighing.{statements_weighed}
 use Rattle.c_laws.specs.Orders.{is_numbered}
 use Rattle.c_laws.specs.Declarations.{declared_by, declared_by_start, declared_in, declared_in_all}
 use Rattle.c_laws.specs.Parameters.{parameters_single}
@@ -163,13 +165,14 @@ close_few : (b : Bool) (close : Spot) → length (stops_of_close b close) ≤ 1
 close_few true close = omega arith
 close_few false close = omega arith
 
-light_by : (f : TypedFunctionTree) → 2 + f.parameters + statements_nodes f.body ≤ f.weight → length (declared_in_all f.body []) + f.parameters ≡ f.variables → IsLight f
+light_by : (f : TypedFunctionTree) → 2 + f.parameters + weighed_statements f.body ≤ f.weight → length (declared_in_all f.body []) + f.parameters ≡ f.variables → IsLight f
 light_by f weighs own =
     let stops = all_few f.body in
     let close = close_few (reaches_end f.body) f.close in
     let n = length-append (stops_of_all f.body) (stops_of_close (reaches_end f.body) f.close) in
     let declared = declared_all_few f.body [] in
-    record { places = omega (arith, weighs, stops, close, n); variables = omega (arith, weighs, own, declared); parameters = omega (arith, own) }
+    let nodes = statements_weighed f.body in
+    record { places = omega (arith, weighs, nodes, stops, close, n); variables = omega (arith, weighs, nodes, own, declared); parameters = omega (arith, own) }
 
 function_light : (p : ProgramTree) (f : TypedFunctionTree) → is_function p f ≡ true → IsLight f
 function_light p f h =
@@ -183,14 +186,14 @@ function_light p f h =
     let d = two_true typed own c.0 in
     let numbers = declared_in_all f.body [] in
     let e = two_true (is_numbered (f.first_variable + f.parameters) numbers) (length numbers + f.parameters == f.variables) d.1 in
-    let weighs = nat_le (2 + f.parameters + statements_nodes f.body) f.weight in
+    let weighs = nat_le (2 + f.parameters + weighed_statements f.body) f.weight in
     let least = nat_le f.weight 3000 in
     let few = nat_le f.parameters 8 in
     let small = nat_le (memory_room (variables_of f p.automatics)) 4096 in
     let g = two_true (weighs && least && few) small b.1 in
     let i = two_true (weighs && least) few g.0 in
     let j = two_true weighs least i.0 in
-    light_by f (le_is (2 + f.parameters + statements_nodes f.body) f.weight j.0) (eqb-true (length numbers + f.parameters) f.variables e.1)
+    light_by f (le_is (2 + f.parameters + weighed_statements f.body) f.weight j.0) (eqb-true (length numbers + f.parameters) f.variables e.1)
 
 functions_light : (p : ProgramTree) (fs : List TypedFunctionTree) → are_functions p fs ≡ true → AreLight fs
 functions_light p [] h = tt

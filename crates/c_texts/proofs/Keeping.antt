@@ -19,8 +19,7 @@ use Rattle.c_type_rules.specs.Types.{loaded, same_integer}
 use Rattle.c_type_rules.specs.Integers.{promoted}
 use Rattle.c_facts.specs.Memory.{named, named_if, keeps, kept_in, kept_all, kept_values, kept_initial, kept_declared, kept_start, kept_option, kept_step, kept_by, kept_by_all}
 use Rattle.c_value_types.specs.ValueTypes.{object_type}
-use Rattle.c_law_types.specs.declared.kind.Kind.{Kind}
-use Rattle.c_law_types.specs.declared.kind.Kind.TheVariants.{Wrong, NullPointer, Of}
+use Rattle.c_law_types.specs.Kind.{Kind, Wrong, NullPointer, Of}
 use Rattle.c_law_types.specs.Kinds.{of_if, is_promoted, is_of, is_typed, is_scalar, is_pointer, is_integer, is_counted, joined, is_operand, holds_scalar, holds_integer, holds_pointer, is_array, automatic_is, is_variable, is_callee, taken_by}
 use Rattle.c_law_types.specs.Expressions.{kind_of, is_place, are_passed}
 use Rattle.c_law_types.specs.Statements.{same_spot, initialises, are_elements, declares_as, is_declared, are_declared, is_start, is_step, is_condition, is_returned, is_void, tested_type, is_switch, is_label, may_stand, is_statement, are_statements}

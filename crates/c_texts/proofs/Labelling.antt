@@ -17,8 +17,7 @@ use Rattle.c_type_values.specs.Values.{ValueTree, to_integer}
 use Rattle.c_type_declarations.specs.Progress.{ProgressTree, value_met, breaks}
 use Rattle.c_type_statements.specs.Switches.{Chosen, chosen_by, chosen, chosen_met, Labels, is_among, in_kind, case_value, PartTree, Case, Default, Statement, put_all, Parts, case_numbered, case_by, misplaced_one, Place, Outside, behind_label, label_at}
 use Rattle.c_type_statements.specs.Switches as switch
-use Rattle.c_law_types.specs.declared.kind.Kind.{Kind}
-use Rattle.c_law_types.specs.declared.kind.Kind.TheVariants.{Of}
+use Rattle.c_law_types.specs.Kind.{Kind, Of}
 use Rattle.c_law_types.specs.Expressions.{kind_of}
 use Rattle.c_law_types.specs.Statements.{tested_type, is_label, is_switch, may_stand, is_statement, are_statements}
 use Rattle.c_laws.specs.Declarations.{declared_in, declared_in_all}

@@ -27,8 +27,7 @@ use Rattle.c_type_values.specs.Operations as operation
 use Rattle.c_type_values.specs.Operations.{is_shift, is_equality, signed_as, signed_value, negated, discarded, in_types, arithmetic_value, moved, moved_from, moved_by, moved_behind, difference_by, calculated_as, calculated_value, pointers_compared, integers_compared, compared_as, compared_value, both as both_values, either, combined, sequenced, chosen, chosen_integer, chosen_as, conditional}
 use Rattle.c_type_values.specs.Pointers.{address, target_of, dereferenced, elements, element_of}
 use Rattle.c_value_types.specs.ValueTypes.{object_type}
-use Rattle.c_law_types.specs.declared.kind.Kind.{Kind}
-use Rattle.c_law_types.specs.declared.kind.Kind.TheVariants.{NullPointer, Of}
+use Rattle.c_law_types.specs.Kind.{Kind, NullPointer, Of}
 use Rattle.c_law_types.specs.Kinds.{is_promoted, is_of, is_typed, is_scalar, is_pointer, is_integer, is_counted, joined, is_operand, holds_scalar, is_array}
 use Rattle.c_law_types.specs.Expressions.{kind_of, is_place}
 use Rattle.c_texts.specs.Findings.{HoldsOf}

@@ -14,7 +14,7 @@ use Rattle.c_type_expressions.specs.Names.{SignatureTree}
 use Rattle.c_type_declarations.specs.Progress.{ProgressTree, Met, means, next_met, opened}
 use Rattle.c_type.specs.Functions.{defined, parameters_met, function_made, setting_of, rest_met, signature_of, name_met, parameter_sizes}
 use Rattle.c_type.specs.Items.{item_met, items_met, beginning}
-use Rattle.c_law_counts.specs.Nodes.{statements_nodes}
+use Rattle.c_law_counts.specs.Weighing.{weighed_statements}
 use Rattle.c_law_types.specs.Statements.{are_statements}
 use Rattle.c_laws.specs.Laws.{declares_its_own, are_in_memory, keeps_limits, is_function, are_functions}
 use Rattle.c_laws.specs.Plain.{are_plain}
@@ -30,9 +30,9 @@ use Rattle.c_texts.proofs.Rooms.{function_room}
 use Rattle.c_texts.proofs.CountingParts.{AtMost}
 use Rattle.c_texts.proofs.CountingStatements.{all_few}
 
--- a function weighs as many nodes as it has, or more
+-- a function weighs as much as its nodes and the conversions to narrow types that were written, or more
 abbrev pub IsHeavy : TypedFunctionTree → Type 0
-IsHeavy f = (n : ℕ) × (f.weight ≡ capped n) × (2 + f.parameters + statements_nodes f.body ≤ n)
+IsHeavy f = (n : ℕ) × (f.weight ≡ capped n) × (2 + f.parameters + weighed_statements f.body ≤ n)
 
 abbrev pub AreHeavy : List TypedFunctionTree → Type 0
 AreHeavy [] = Unit {0}
@@ -52,7 +52,7 @@ parameters_weigh (d ∷ ds) =
     let e : parameters_weight (d ∷ ds) ≡ parameter_weight d + parameters_weight ds = sum_by-cons parameter_weight d ds in
     omega (arith, h, e)
 
-made_heavy : (f : FunctionTree) (g : SignatureTree) (b : BlockTree) (start : ℕ) (m : Met TypedStatementTrees) → Ensures (AtMost statements_nodes (statements_weight (chain b.statements))) m → Ensures HaveHeavy (next_met m (function_made f g b start))
+made_heavy : (f : FunctionTree) (g : SignatureTree) (b : BlockTree) (start : ℕ) (m : Met TypedStatementTrees) → Ensures (AtMost weighed_statements (statements_weight (chain b.statements))) m → Ensures HaveHeavy (next_met m (function_made f g b start))
 unfolding next_met
 made_heavy f g b start (means ts t) h = ((definition_weight f.parameters b, refl, (let p = parameters_weigh f.parameters in omega (arith, h, p))), tt)
 
@@ -95,13 +95,13 @@ each_function p [] h = refl
 each_function p (f ∷ fs) h = both (is_function p f) (are_functions p fs) (h 0 f refl) (each_function p fs (λ k g at. h (suc k) g at))
 
 module _ (items : List ItemTree) (p : ProgramTree) (a : Accepted items p) (formed : AreItemsFormed items) where
-  -- A function weighs as many nodes as it has, or more, and keeps its limits.
+  -- A function weighs as much as its nodes and the conversions to narrow types that were written, or more, and keeps its limits.
   function_keeps : (k : ℕ) (f : TypedFunctionTree) → slice_get p.functions k ≡ Some f → keeps_limits p.automatics f ≡ true
   function_keeps k f at =
       let heavy = heavy_at a.functions k f (subst (Ensures HaveHeavy) a.is (items_heavy (defined items) [] items beginning tt)) (ap (λ z. slice_get z.functions k) (sym a.program) ∙ at) in
       let limits = function_limits items p a k f at in
-      all_four (nat_le (2 + f.parameters + statements_nodes f.body) f.weight) (nat_le f.weight 3000) (nat_le f.parameters 8) (nat_le (memory_room (variables_of f p.automatics)) 4096)
-      (le_true (2 + f.parameters + statements_nodes f.body) f.weight (enough heavy.0 f.weight (2 + f.parameters + statements_nodes f.body) heavy.1 heavy.2 (le_is f.weight 3000 limits.0))) limits.0 limits.1 (function_room items p a formed k f at)
+      all_four (nat_le (2 + f.parameters + weighed_statements f.body) f.weight) (nat_le f.weight 3000) (nat_le f.parameters 8) (nat_le (memory_room (variables_of f p.automatics)) 4096)
+      (le_true (2 + f.parameters + weighed_statements f.body) f.weight (enough heavy.0 f.weight (2 + f.parameters + weighed_statements f.body) heavy.1 heavy.2 (le_is f.weight 3000 limits.0))) limits.0 limits.1 (function_room items p a formed k f at)
 
   function_is : (k : ℕ) (f : TypedFunctionTree) → slice_get p.functions k ≡ Some f → is_function p f ≡ true
   function_is k f at =

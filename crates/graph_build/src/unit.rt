@@ -1,6 +1,6 @@
 //! The unit of a program.
 
-ghost use Rattle.std.specs.Prelude.{◌≡◌, ◌↔◌, [], IfNone, IfOk, IfSome, map};
+ghost use Rattle.std.specs.Prelude.{◌≡◌, ◌↔◌, [], IfOk, map};
 ghost use Rattle.std.specs.List.{Contains};
 ghost use Rattle.places.specs.declared.flow.Assignment.{Assignment};
 ghost use Rattle.places.specs.declared.flow.FlowStep.{FlowStep};
@@ -8,8 +8,7 @@ ghost use Rattle.c_tree.specs.Programs.{program_view};
 ghost use Rattle.c_flow.specs.Assigns.{assignments_of_program};
 ghost use Rattle.c_flow.specs.Flow.{steps_of_program};
 ghost use Rattle.c_flow.specs.Tables.{Fits32};
-ghost use Rattle.graph_core.specs.Graphs.{UnitForm, graph_view, unit_view};
-ghost use Rattle.graph_core.specs.Validity.{IsValid};
+ghost use Rattle.graph_core.specs.Graphs.{graph_view, unit_view};
 ghost use Rattle.graph_coding.specs.Numbering.{AreNumbered};
 ghost use Rattle.graph_build.specs.Units.{IsUnitOf, graphs_from};
 
@@ -45,10 +44,12 @@ fn graphs_of(alloc: Global, source: &Source<'_>) -> Result<Vec<Graph>, AllocErro
     Ok(graphs)
 }
 
-/// The unit of a program, valid or not.
-fn unit_of(alloc: Global, program: &Program) -> Result<Unit, AllocError>
+/// The unit of a program. The only error is want of memory.
+pub fn build(alloc: Global, program: &Program) -> Result<Unit, AllocError>
     requires { Fits32 (program_view program.now) }
     ensures forms { IfOk result (λ u. IsUnitOf (program_view program.now) (unit_view u)) }
+    ensures main { IfOk result (λ u. (unit_view u).main ≡ (program_view program.now).main) }
+    ensures unchanged { IfOk result (λ u. (unit_view u).log ≡ []) }
     ensures steps { IfOk result (λ u. (s : FlowStep) → Contains (unit_view u).steps s ↔ Contains (steps_of_program (program_view program.now)) s) }
     ensures assignments { IfOk result (λ u. (a : Assignment) → Contains (unit_view u).assignments a ↔ Contains (assignments_of_program (program_view program.now)) a) }
 {
@@ -66,23 +67,4 @@ fn unit_of(alloc: Global, program: &Program) -> Result<Unit, AllocError>
         flow,
         log: ChangeLog::new(alloc),
     })
-}
-
-/// The unit of a program; none where it is not valid, which is known of no program. The only error is want of memory.
-pub fn build(alloc: Global, program: &Program) -> Result<Option<Unit>, AllocError>
-    requires { Fits32 (program_view program.now) }
-    ensures forms { IfOk result (λ o. IfSome o (λ u. IsUnitOf (program_view program.now) (unit_view u))) }
-    ensures valid { IfOk result (λ o. IfSome o (λ u. IsValid (unit_view u))) }
-    ensures left_out { IfOk result (λ o. IfNone o ((u : UnitForm) × IsUnitOf (program_view program.now) u × (IsValid u → ⊥))) }
-    ensures main { IfOk result (λ o. IfSome o (λ u. (unit_view u).main ≡ (program_view program.now).main)) }
-    ensures unchanged { IfOk result (λ o. IfSome o (λ u. (unit_view u).log ≡ [])) }
-    ensures steps { IfOk result (λ o. IfSome o (λ u. (s : FlowStep) → Contains (unit_view u).steps s ↔ Contains (steps_of_program (program_view program.now)) s)) }
-    ensures assignments { IfOk result (λ o. IfSome o (λ u. (a : Assignment) → Contains (unit_view u).assignments a ↔ Contains (assignments_of_program (program_view program.now)) a)) }
-{
-    let unit = unit_of(alloc, program)?;
-    if unit.is_valid() {
-        Ok(Some(unit))
-    } else {
-        Ok(None)
-    }
 }

@@ -30,7 +30,7 @@ use Rattle.graph_steps.specs.declared.change.Change.TheVariants as change
 use Rattle.graph_steps.specs.Steps.{assigned_memory, updated, stepped, renewed_scalar, renewed_memory, loaded_first, left_scalar, left_memory, one_at}
 use Rattle.graph_code.specs.Code.{code, code_place, code_address, code_all}
 use Rattle.graph_counts.specs.Sizes.{made_counts, goal_counts}
-use Rattle.graph_counts.specs.Weighing.{weighed, weighed_place, weighed_all}
+use Rattle.c_law_counts.specs.Weighing.{weighed, weighed_place, weighed_all}
 use Rattle.graph_counts.proofs.Temporaries.{behind, place_behind, passed_is_behind, moved_behind}
 use Rattle.graph_counts.proofs.Written.{NamesFew, Few, all_few}
 use Rattle.graph_counts.proofs.Pieces.{room, one_if, one_most, leaf_most, noted_most, valued_most, valued_least, used_most, move_most, stored_most, called_most, renewed_most, memory_most, loaded_most, left_scalar_most, left_memory_most, object_most}

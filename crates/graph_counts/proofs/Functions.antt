@@ -10,7 +10,7 @@ use Rattle.graph_core.specs.Validity.{total, counts, instructions_of}
 use Rattle.graph_names.specs.Names.{Names, scalar_of}
 use Rattle.graph_drafts.specs.Drafts.{Made, ending}
 use Rattle.graph_counts.specs.Sizes.{counted, made_counts}
-use Rattle.graph_counts.specs.Weighing.{weighed_statements, IsWeighed}
+use Rattle.c_law_counts.specs.Weighing.{weighed_statements, IsWeighed}
 use Rattle.graph_coding.specs.Coding.{Coding, Part, going, placed_at}
 use Rattle.graph_build.specs.Units.{note_if, note_parameters, add_close, body_part, function_part, blocks_in, coding_of, is_again, block_count, function_coding, graph_of}
 use Rattle.graph_counts.proofs.Written.{NamesFew}

@@ -20,7 +20,7 @@ use Rattle.graph_drafts.specs.Rules.{element_of}
 use Rattle.graph_drafts.specs.Drafts.{Made, Goal, To, Unused, Either, before, ending, note}
 use Rattle.graph_steps.specs.Steps.{or_zero}
 use Rattle.graph_counts.specs.Sizes.{counted, made_counts, goal_counts}
-use Rattle.graph_counts.specs.Weighing.{weighed, weighed_elements, weighed_initial, weighed_declared, weighed_start, weighed_option, weighed_step, weighed_statement, weighed_statements}
+use Rattle.c_law_counts.specs.Weighing.{weighed, weighed_elements, weighed_initial, weighed_declared, weighed_start, weighed_option, weighed_step, weighed_statement, weighed_statements}
 use Rattle.graph_coding.specs.Coding.{Coding, Part, place_of, begun, going, label_for, with_end, placed_at, coded, branching}
 use Rattle.graph_coding.specs.Reached.{bare, reached, initial_reached, declared_reached, start_reached, condition_reached, step_reached, result_reached, statement_reached, statements_reached, elements_reached}
 use Rattle.graph_declarators.specs.Declaring.{object_type_of, words_of, cleared, store_elements, copied_words, declare_single, declare_array, declare_kept, declare_scalar, declare_as, declare, add_declared}

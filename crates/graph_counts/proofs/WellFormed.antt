@@ -11,6 +11,8 @@ use Rattle.c_type_bounds.specs.Visible.{visible_pairs}
 use Rattle.c_facts.specs.Memory.{kept_by_all}
 use Rattle.c_law_types.specs.Statements.{are_statements}
 use Rattle.c_law_counts.specs.Nodes.{statements_nodes}
+use Rattle.c_law_counts.specs.Weighing.{weighed_statements, IsWeighed}
+use Rattle.c_law_counts.proofs.Weighing.{statements_weighed}
 use Rattle.c_laws.specs.Orders.{ascends, ascends_behind, is_numbered, never_falls}
 use Rattle.c_laws.specs.Declarations.{declared_in_all}
 use Rattle.c_laws.specs.Parameters.{parameters_single}
@@ -38,6 +40,7 @@ none_is e = cc
 
 -- the limits of a function
 pub record KeepsLimits (f : TypedFunctionTree) : Type 0 where
+  pub weighed : IsWeighed f
   pub nodes : 2 + f.parameters + statements_nodes f.body ≤ f.weight
   pub weight : f.weight ≤ 3000
   pub parameters : f.parameters ≤ 8
@@ -51,11 +54,14 @@ function_limits p f h =
     let b = and_both (are_statements p f false false None f.body && declares_its_own f) (are_in_memory p.automatics (kept_by_all f.body [])) a.0 in
     let own = (and_both (are_statements p f false false None f.body) (declares_its_own f) b.0).1 in
     let count = (and_both (is_numbered (f.first_variable + f.parameters) (declared_in_all f.body [])) (length (declared_in_all f.body []) + f.parameters == f.variables) own).1 in
-    let enough = nat_le (2 + f.parameters + statements_nodes f.body) f.weight in
+    let enough = nat_le (2 + f.parameters + weighed_statements f.body) f.weight in
     let x = and_both (enough && nat_le f.weight 3000 && nat_le f.parameters 8) (nat_le (memory_room (variables_of f p.automatics)) 4096) a.1 in
     let y = and_both (enough && nat_le f.weight 3000) (nat_le f.parameters 8) x.0 in
-    let z = and_both enough (nat_le f.weight 3000) y.0 in record {
-      nodes = at_most (2 + f.parameters + statements_nodes f.body) f.weight z.0;
+    let z = and_both enough (nat_le f.weight 3000) y.0 in
+    let weighed = at_most (2 + f.parameters + weighed_statements f.body) f.weight z.0 in
+    let nodes = statements_weighed f.body in record {
+      weighed = weighed;
+      nodes = omega (arith, weighed, nodes);
       weight = at_most f.weight 3000 z.1;
       parameters = at_most f.parameters 8 y.1;
       declared = are_equal (length (declared_in_all f.body []) + f.parameters) f.variables count;

@@ -32,7 +32,7 @@ use Rattle.graph_steps.specs.declared.change.Change.TheVariants as change
 use Rattle.graph_steps.specs.Steps.{in_turn, signed, finished, arm_use, arm_value, arm_goal, assigned_memory, updated, stepped, object_address, renewed_scalar, renewed_memory, loaded_first, one_at, changed_element, takes_more}
 use Rattle.graph_code.specs.Code.{code, code_place, code_address, code_all}
 use Rattle.graph_counts.specs.Sizes.{counted, made_counts, goal_counts}
-use Rattle.graph_counts.specs.Weighing.{weighed, weighed_place, weighed_all, conversion}
+use Rattle.c_law_counts.specs.Weighing.{weighed, weighed_place, weighed_all, conversion}
 use Rattle.graph_counts.proofs.Temporaries.{behind, place_behind, passed_is_behind, pair_behind, moved_behind, pick_least}
 use Rattle.graph_counts.proofs.Written.{NamesFew, Few, written_few, all_few}
 use Rattle.graph_counts.proofs.Pieces.{room, one_if, one_most, before_most, closed_counts, leaf_most, noted_most, valued_most, valued_least, used_most, move_most, stored_most, called_most, forked_most, operated_most, finished_most, renewed_most, memory_most, loaded_most, left_scalar_most, left_memory_most, object_most}

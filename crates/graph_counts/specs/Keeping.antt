@@ -4,11 +4,6 @@ use Rattle.c_tree.specs.Programs.{TypedFunctionTree, ProgramTree}
 use Rattle.graph_core.specs.Graphs.{Graph, UnitForm}
 use Rattle.graph_core.specs.Bounds.{most_functions, most_instructions, most_instructions_of_function, most_names, most_blocks, most_parameters, most_arguments}
 use Rattle.graph_core.specs.Validity.{instructions_of, arguments_of, total}
-use Rattle.graph_counts.specs.Weighing.{IsWeighed}
-
--- Each function of a program weighs as much as its nodes and the conversions that were written.
-abbrev pub AreWeighed : ProgramTree → Type 0
-AreWeighed p = (k : ℕ) (f : TypedFunctionTree) → slice_get p.functions k ≡ Some f → IsWeighed f
 
 -- A graph has at most two counted instructions and three blocks for each unit of its function's weight, and as many names as that.
 pub record KeepsWeight (f : TypedFunctionTree) (g : Graph) : Type 0 where

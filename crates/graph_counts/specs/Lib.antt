@@ -1,4 +1,3 @@
 pub mod Sizes
-pub mod Weighing
 pub mod Keeping
 pub mod Worked

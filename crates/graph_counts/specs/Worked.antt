@@ -1,5 +1,5 @@
--- A well-formed program whose graph has more than two instructions for each unit of its weight: conversions that follow one another are no nodes.
-use Rattle.std.specs.Prelude.{◌≡◌, ℕ, zero, suc, ◌*◌, ◌<◌, true, false, Some, List, [], ◌∷◌, codes}
+-- A program that weighs as many nodes as it has, and whose graph has more than two instructions for each unit of that weight: conversions that follow one another are no nodes.
+use Rattle.std.specs.Prelude.{◌≡◌, ℕ, zero, suc, ◌+◌, ◌*◌, ◌<◌, ◌≤◌, true, false, Some, List, [], ◌∷◌, codes}
 use Rattle.debug_records.specs.declared.source.Spot.{Spot}
 use Rattle.c_tree.specs.declared.types.IntegerType.TheVariants.{Int, SignedChar, UnsignedChar}
 use Rattle.c_tree.specs.declared.object_type.Scalar.{Scalar}
@@ -9,6 +9,7 @@ use Rattle.c_tree.specs.declared.object_type.Object.TheVariants.{Static}
 use Rattle.c_tree.specs.TypedExpressions.{RvalueTree, Load, Convert, Named}
 use Rattle.c_tree.specs.TypedStatements.{Return, none, first}
 use Rattle.c_tree.specs.Programs.{StaticTree, TypedFunctionTree, ProgramTree}
+use Rattle.c_law_counts.specs.Nodes.{statements_nodes}
 use Rattle.c_laws.specs.Laws.{IsWellFormed}
 use Rattle.graph_core.specs.Validity.{instructions_of}
 use Rattle.graph_build.specs.Units.{graph_of}
@@ -49,7 +50,8 @@ converting = record {
   weight = 4;
 }
 
--- It is well formed, and its graph has more instructions than two for each unit of its weight.
+-- It weighs as many nodes as it has, its graph has more instructions than two for each unit of that weight, and it is not well formed.
 pub record IsConverting : Type 0 where
-  pub well_formed : IsWellFormed converting
+  pub nodes : 2 + converting_main.parameters + statements_nodes converting_main.body ≤ converting_main.weight
   pub more : 2 * converting_main.weight < instructions_of (graph_of converting converting_main true)
+  pub refused : ¬ IsWellFormed converting

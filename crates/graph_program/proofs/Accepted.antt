@@ -17,7 +17,7 @@ use Rattle.c_laws.specs.Plain.{are_plain}
 use Rattle.c_laws.specs.Statics.{literals_sound, statics_sound}
 use Rattle.c_laws.specs.Objects.{is_kept_array, arrays_are_kept, are_ended, are_static}
 use Rattle.c_laws.specs.Laws.{IsWellFormed, objects_ascend, follow, is_main, are_objects, are_functions, is_function, declares_its_own, are_in_memory, keeps_limits, is_within, is_sound, weight_of, places_ascend}
-use Rattle.c_law_counts.specs.Nodes.{statements_nodes}
+use Rattle.c_law_counts.specs.Weighing.{weighed_statements}
 use Rattle.graph_counts.proofs.WellFormed.{and_both}
 use Rattle.graph_marking.proofs.Ascending.{Ascend, AllAscend}
 
@@ -52,7 +52,7 @@ function_facts p f h =
     let b = and_both (are_statements p f false false None f.body && declares_its_own f) (are_in_memory p.automatics (kept_by_all f.body [])) a.0 in
     let c = and_both (are_statements p f false false None f.body) (declares_its_own f) b.0 in
     let own = and_both (is_numbered (f.first_variable + f.parameters) (declared_in_all f.body [])) (length (declared_in_all f.body []) + f.parameters == f.variables) c.1 in
-    let x = and_both (nat_le (2 + f.parameters + statements_nodes f.body) f.weight && nat_le f.weight 3000 && nat_le f.parameters 8) (nat_le (memory_room (variables_of f p.automatics)) 4096) a.1 in record {
+    let x = and_both (nat_le (2 + f.parameters + weighed_statements f.body) f.weight && nat_le f.weight 3000 && nat_le f.parameters 8) (nat_le (memory_room (variables_of f p.automatics)) 4096) a.1 in record {
       typed = c.0;
       numbered = own.0;
       declared = are_equal (length (declared_in_all f.body []) + f.parameters) f.variables own.1;

@@ -14,8 +14,7 @@ use Rattle.c_facts.specs.Memory.{keeps, kept_values, kept_initial, kept_declared
 use Rattle.c_places.specs.Places.{stop, brought, brought_by_start, places_of_head, places_of_step, places_of, places_of_all}
 use Rattle.c_flow.specs.Flow.{start}
 use Rattle.c_type_rules.specs.Types.{loaded}
-use Rattle.c_law_types.specs.declared.kind.Kind.{Kind}
-use Rattle.c_law_types.specs.declared.kind.Kind.TheVariants.{Wrong, NullPointer, Of}
+use Rattle.c_law_types.specs.Kind.{Kind, Wrong, NullPointer, Of}
 use Rattle.c_law_types.specs.Kinds.{is_of, is_typed, is_scalar}
 use Rattle.c_law_types.specs.Expressions.{kind_of}
 use Rattle.c_law_types.specs.Statements.{tested_type, is_label, is_switch, may_stand, is_void, same_spot, are_elements, initialises, declares_as, is_declared, are_declared, is_start, is_step, is_condition, is_returned, is_statement, are_statements}

@@ -16,8 +16,7 @@ use Rattle.c_facts.specs.Memory.{named, named_if, keeps, kept_in, kept_all}
 use Rattle.c_type_rules.specs.Integers.{promoted}
 use Rattle.c_type_rules.specs.Types.{loaded, same_integer}
 use Rattle.c_value_types.specs.ValueTypes.{object_type, decayed, results_of, given_by}
-use Rattle.c_law_types.specs.declared.kind.Kind.{Kind}
-use Rattle.c_law_types.specs.declared.kind.Kind.TheVariants.{Wrong, NullPointer, Of}
+use Rattle.c_law_types.specs.Kind.{Kind, Wrong, NullPointer, Of}
 use Rattle.c_law_types.specs.Kinds.{is_promoted, is_of, is_typed, is_scalar, is_pointer as is_pointer_kind, is_integer, is_counted, joined, is_operand, holds_scalar, holds_integer, holds_pointer, is_array, automatic_is, is_variable, is_callee, taken_by}
 use Rattle.c_law_types.specs.Expressions.{kind_of, is_place, are_passed}
 use Rattle.c_laws.specs.Laws.{is_in_memory, are_in_memory}

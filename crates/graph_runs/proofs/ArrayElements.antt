@@ -14,8 +14,7 @@ use Rattle.c_tree.specs.TypedExpressions.{RvalueTree, Constant, Null, Load, Deca
 use Rattle.c_tree.specs.Programs.{AutomaticTree}
 use Rattle.c_type_rules.specs.Integers.{integer, wrapped, scalar_size as type_size}
 use Rattle.c_type_rules.specs.Types.{loaded, pointed_to, same_value}
-use Rattle.c_law_types.specs.declared.kind.Kind.{Kind}
-use Rattle.c_law_types.specs.declared.kind.Kind.TheVariants.{Wrong, NullPointer, Of}
+use Rattle.c_law_types.specs.Kind.{Kind, Wrong, NullPointer, Of}
 use Rattle.c_law_types.specs.Kinds.{is_of, of_if, is_integer}
 use Rattle.c_law_types.specs.Expressions.{kind_of}
 use Rattle.c_memory.specs.declared.value.Value as source-value

@@ -8,7 +8,7 @@ use Rattle.c_tree.specs.TypedExpressions.{RvalueTree, Convert}
 use Rattle.c_tree.specs.Programs.{AutomaticTree}
 use Rattle.c_type_rules.specs.Integers.{wrapped}
 use Rattle.c_type_rules.specs.Types.{loaded}
-use Rattle.c_law_types.specs.declared.kind.Kind.{Kind}
+use Rattle.c_law_types.specs.Kind.{Kind}
 use Rattle.c_law_types.specs.Kinds.{is_of, is_integer}
 use Rattle.c_law_types.specs.Expressions.{kind_of}
 use Rattle.c_memory.specs.declared.value.Value as source-value

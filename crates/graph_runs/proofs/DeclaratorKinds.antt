@@ -13,7 +13,7 @@ use Rattle.c_tree.specs.TypedStatements.{InitialTree, Zero, Scalar as scalar-ini
 use Rattle.c_tree.specs.Programs.{AutomaticTree, LiteralTree}
 use Rattle.c_type_rules.specs.Integers.{scalar_size as type_size}
 use Rattle.c_type_rules.specs.Types.{loaded}
-use Rattle.c_law_types.specs.declared.kind.Kind.{Kind}
+use Rattle.c_law_types.specs.Kind.{Kind}
 use Rattle.c_law_types.specs.Kinds.{is_of, is_typed, is_integer}
 use Rattle.c_law_types.specs.Expressions.{kind_of}
 use Rattle.c_law_types.specs.Statements.{same_spot, literal_fits, are_elements, initialises, declares_as, is_declared}

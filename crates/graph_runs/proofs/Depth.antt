@@ -3,7 +3,7 @@ use Rattle.std.proofs.Common.{◌≡◌, ℕ, zero, suc, List, [], ◌∷◌, le
 use Rattle.std.specs.Prelude.{if◌then◌else◌}
 use Rattle.debug_records.specs.declared.source.Spot.{Spot}
 use Rattle.c_tree.specs.Programs.{TypedFunctionTree}
-use Rattle.c_law_types.specs.declared.kind.Kind.TheVariants.{Of}
+use Rattle.c_law_types.specs.Kind.{Of}
 use Rattle.c_memory.specs.declared.value.Value as source-value
 use Rattle.c_memory.specs.declared.value.Value.TheVariants as source
 use Rattle.c_memory.specs.Memory.{Memory as SourceMemory, ended_from as source_ended}

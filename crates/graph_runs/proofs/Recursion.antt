@@ -9,7 +9,7 @@ use Rattle.c_tree.specs.Programs.{TypedFunctionTree, ProgramTree}
 use Rattle.c_facts.specs.Flow.{reaches_end}
 use Rattle.c_places.specs.Places.{places_of_program, parameters_of, brought_by_body}
 use Rattle.c_value_types.specs.ValueTypes.{results_of, given_by, is_void}
-use Rattle.c_law_types.specs.declared.kind.Kind.TheVariants.{Of}
+use Rattle.c_law_types.specs.Kind.{Of}
 use Rattle.c_law_types.specs.Kinds.{taken_by}
 use Rattle.c_memory.specs.declared.value.Value as source-value
 use Rattle.c_memory.specs.declared.value.Value.TheVariants as source

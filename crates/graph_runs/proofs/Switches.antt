@@ -9,8 +9,7 @@ use Rattle.c_tree.specs.declared.typed_expression.Comparison.TheVariants.{Equal}
 use Rattle.c_tree.specs.TypedExpressions.{RvalueTree}
 use Rattle.c_tree.specs.TypedStatements.{TypedStatementTrees, none, first, case, default}
 use Rattle.c_type_rules.specs.Integers.{integer, fits as number_fits}
-use Rattle.c_law_types.specs.declared.kind.Kind.{Kind}
-use Rattle.c_law_types.specs.declared.kind.Kind.TheVariants.{Wrong, NullPointer, Of}
+use Rattle.c_law_types.specs.Kind.{Kind, Wrong, NullPointer, Of}
 use Rattle.c_law_types.specs.Kinds.{is_promoted}
 use Rattle.c_law_types.specs.Expressions.{kind_of}
 use Rattle.c_law_types.specs.Statements.{tested_type}

@@ -13,8 +13,7 @@ use Rattle.c_tree.specs.Programs.{AutomaticTree}
 use Rattle.c_type_rules.specs.Integers.{promoted}
 use Rattle.c_type_rules.specs.Types.{loaded, same_integer}
 use Rattle.c_value_types.specs.ValueTypes.{object_type, decayed}
-use Rattle.c_law_types.specs.declared.kind.Kind.{Kind}
-use Rattle.c_law_types.specs.declared.kind.Kind.TheVariants.{Wrong, Of}
+use Rattle.c_law_types.specs.Kind.{Kind, Wrong, Of}
 use Rattle.c_law_types.specs.Kinds.{of_if, is_promoted, is_of, is_typed, is_scalar_type, is_integer, is_counted, is_operand, holds_scalar, holds_integer, holds_pointer, is_array, automatic_is, is_variable}
 use Rattle.c_law_types.specs.Expressions.{kind_of, is_place}
 use Rattle.graph_names.specs.Names.{scalar_of, scalar_named}

@@ -8,7 +8,7 @@ use Rattle.c_tree.specs.declared.object_type.ValueType.TheVariants.{Pointer as P
 use Rattle.c_tree.specs.TypedExpressions.{RvalueTree, LvalueTree, Assign}
 use Rattle.c_type_rules.specs.Types.{loaded}
 use Rattle.c_value_types.specs.ValueTypes.{object_type}
-use Rattle.c_law_types.specs.declared.kind.Kind.TheVariants.{Of}
+use Rattle.c_law_types.specs.Kind.{Of}
 use Rattle.c_law_types.specs.Kinds.{is_of}
 use Rattle.c_law_types.specs.Expressions.{kind_of}
 use Rattle.c_memory.specs.declared.value.Value as source-value

@@ -20,8 +20,7 @@ use Rattle.c_tree.specs.Programs.{AutomaticTree, LiteralTree, StaticTree}
 use Rattle.c_type_rules.specs.Integers.{fits as number_fits, promoted}
 use Rattle.c_type_rules.specs.Types.{loaded, same_integer}
 use Rattle.c_value_types.specs.ValueTypes.{object_type, decayed, results_of, type_of, given_by, integer_in, is_void, is_pointer}
-use Rattle.c_law_types.specs.declared.kind.Kind.{Kind}
-use Rattle.c_law_types.specs.declared.kind.Kind.TheVariants.{Wrong, NullPointer, Of}
+use Rattle.c_law_types.specs.Kind.{Kind, Wrong, NullPointer, Of}
 use Rattle.c_law_types.specs.Kinds.{is_promoted, is_of, is_typed, is_scalar, is_pointer as is_pointer_kind, is_integer, is_counted, joined, is_operand, holds_scalar, holds_integer, holds_pointer, is_array, static_is, literal_is, automatic_is, is_variable, is_object, is_callee, taken_by}
 use Rattle.c_law_types.specs.Expressions.{kind_of, is_place, are_passed}
 use Rattle.c_memory.specs.declared.value.Value as source-value

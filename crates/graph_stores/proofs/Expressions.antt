@@ -26,7 +26,7 @@ use Rattle.c_type_rules.specs.Constants.{calculated}
 use Rattle.c_type_rules.specs.Integers.{integer, object_size}
 use Rattle.c_type_rules.specs.Types.{loaded}
 use Rattle.c_value_types.specs.ValueTypes.{object_type, results_of, type_of, given_by, integer_in, is_void, is_pointer}
-use Rattle.c_law_types.specs.declared.kind.Kind.TheVariants.{Of}
+use Rattle.c_law_types.specs.Kind.{Of}
 use Rattle.c_law_types.specs.Kinds.{is_promoted, is_of}
 use Rattle.c_law_types.specs.Expressions.{kind_of}
 use Rattle.c_memory.specs.declared.value.Value as source-value

@@ -15,7 +15,7 @@ use Rattle.c_tree.specs.declared.object_type.ObjectType.{ObjectType}
 use Rattle.c_tree.specs.declared.object_type.ValueType.TheVariants.{Integer, Pointer as PointerType}
 use Rattle.c_tree.specs.TypedExpressions.{RvalueTree, Difference}
 use Rattle.c_type_rules.specs.Integers.{object_size}
-use Rattle.c_law_types.specs.declared.kind.Kind.TheVariants.{Of}
+use Rattle.c_law_types.specs.Kind.{Of}
 use Rattle.c_law_types.specs.Kinds.{is_of}
 use Rattle.c_law_types.specs.Expressions.{kind_of}
 use Rattle.c_memory.specs.declared.value.Value as source-value

@@ -11,8 +11,7 @@ use Rattle.c_tree.specs.declared.object_type.ValueType.TheVariants.{Void, Intege
 use Rattle.c_tree.specs.TypedExpressions.{RvalueTree, LvalueTree, Constant, Null, Load, Decay, AddressOf, Convert, Discard, Signed, Not, Arithmetic, Compare, ComparePointers, Move, MoveFrom, Difference, And, Or, Conditional, Comma, Assign, Update, UpdatePointer, Step, StepPointer, Call, Named, Target, Element, ElementFrom}
 use Rattle.c_type_rules.specs.Types.{loaded, pointed_to, same_value}
 use Rattle.c_value_types.specs.ValueTypes.{object_type, decayed, results_of, type_of, given_by, is_void, is_pointer}
-use Rattle.c_law_types.specs.declared.kind.Kind.{Kind}
-use Rattle.c_law_types.specs.declared.kind.Kind.TheVariants.{Wrong, NullPointer, Of}
+use Rattle.c_law_types.specs.Kind.{Kind, Wrong, NullPointer, Of}
 use Rattle.c_law_types.specs.Kinds.{of_if, is_scalar_type, is_promoted, is_of, is_typed, is_scalar, is_pointer as is_pointer_kind, is_integer, is_counted, joined, holds_scalar, holds_pointer, is_array, is_callee, taken_by}
 use Rattle.c_law_types.specs.Expressions.{kind_of, is_place, are_passed}
 use Rattle.c_memory.specs.declared.value.Value as source-value

@@ -3,7 +3,7 @@ use Rattle.std.proofs.Common.{◌≡◌, ℕ, ◌+◌, ◌≤◌, List, [], Some
 use Rattle.std.specs.Prelude.{if◌then◌else◌}
 use Rattle.c_tree.specs.TypedExpressions.{RvalueTree, Conditional}
 use Rattle.c_law_types.specs.Expressions.{kind_of}
-use Rattle.c_law_types.specs.declared.kind.Kind.{Kind}
+use Rattle.c_law_types.specs.Kind.{Kind}
 use Rattle.c_memory.specs.declared.value.Value as source-value
 use Rattle.c_states.specs.States.{State, Evaluated, Gives, Leaves, Ends, Tested, Holds, Fails, NoTest, tested, on_test}
 use Rattle.c_meaning.specs.Expressions.{Calls, evaluate}

@@ -12,7 +12,7 @@ use Rattle.c_laws.specs.Laws.{IsWellFormed, is_main}
 use Rattle.graph_core.specs.Graphs.{Graph, UnitForm}
 use Rattle.graph_core.specs.Validity.{HasParameters, AreAllDifferent, IsGraph, IsValid, markers_of}
 use Rattle.graph_build.specs.Units.{IsUnitOf, graph_of, graphs_from}
-use Rattle.graph_counts.specs.Keeping.{AreWeighed, KeepsBounds}
+use Rattle.graph_counts.specs.Keeping.{KeepsBounds}
 use Rattle.graph_counts.proofs.Keeping.{keep_bounds}
 use Rattle.graph_counts.proofs.WellFormed.{and_both, laws_of}
 use Rattle.graph_program.proofs.Accepted.{ProgramFacts, facts_of}
@@ -38,7 +38,7 @@ function_there p m (f ∷ all) (suc k) g e = function_there p (m + 1) all k g e
 some_same : {A : Type 0} {a b : A} → Some a ≡ Some b → a ≡ b
 some_same e = cc
 
-module _ (p : ProgramTree) (u : UnitForm) (well : IsWellFormed p) (weighed : AreWeighed p) (is : IsUnitOf p u) where
+module _ (p : ProgramTree) (u : UnitForm) (well : IsWellFormed p) (is : IsUnitOf p u) where
   abbrev facts : ProgramFacts p
   facts = facts_of p well
 
@@ -54,12 +54,12 @@ module _ (p : ProgramTree) (u : UnitForm) (well : IsWellFormed p) (weighed : Are
       let there = function_there p 0 p.functions k g (subst (λ (l : List Graph). slice_get l k ≡ Some g) is.graphs e) in
       let f = there.0 in
       let same : graph_of p f (k == p.main) ≡ g = some_same (sym (graph_is p u is k f there.1) ∙ e) in
-      subst (λ (h : Graph). IsGraph u h) same (graph_valid p u facts is k f there.1 (subst (λ (h : Graph). KeepsBounds h) (sym same) ((keep_bounds p u well weighed is).graphs k g e)))
+      subst (λ (h : Graph). IsGraph u h) same (graph_valid p u facts is k f there.1 (subst (λ (h : Graph). KeepsBounds h) (sym same) ((keep_bounds p u well is).graphs k g e)))
 
   -- The unit is valid.
   pub valid : IsValid u
   valid =
-      let bounds = keep_bounds p u well weighed is in
+      let bounds = keep_bounds p u well is in
       let laws = laws_of p well in
       let marks : markers_of u.graphs ≡ numbers (places_of_program p) (places_of_program p) = ap markers_of is.graphs ∙ markers_are p facts.ascend in
       let few = few_places p (λ k f e. (laws.functions k f e).nodes) in

@@ -16,7 +16,7 @@ use Rattle.c_tree.specs.declared.typed_expression.Comparison.TheVariants as comp
 use Rattle.c_tree.specs.TypedExpressions.{RvalueTree, Compare}
 use Rattle.c_type_rules.specs.Integers.{integer}
 use Rattle.c_type_rules.specs.Constants.{same, compared as holds_of}
-use Rattle.c_law_types.specs.declared.kind.Kind.TheVariants.{Of}
+use Rattle.c_law_types.specs.Kind.{Of}
 use Rattle.c_law_types.specs.Expressions.{kind_of}
 use Rattle.c_law_types.specs.Kinds.{is_promoted}
 use Rattle.c_memory.specs.declared.value.Value as source-value

@@ -18,7 +18,7 @@ use Rattle.c_tree.specs.Programs.{AutomaticTree, ProgramTree}
 use Rattle.c_type_rules.specs.Constants.{calculated}
 use Rattle.c_type_rules.specs.Integers.{integer}
 use Rattle.c_type_rules.specs.Types.{loaded}
-use Rattle.c_law_types.specs.declared.kind.Kind.TheVariants.{Of}
+use Rattle.c_law_types.specs.Kind.{Of}
 use Rattle.c_law_types.specs.Kinds.{is_promoted, is_of}
 use Rattle.c_law_types.specs.Expressions.{kind_of}
 use Rattle.c_memory.specs.declared.value.Value.{Value}

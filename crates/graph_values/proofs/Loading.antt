@@ -9,7 +9,7 @@ use Rattle.c_tree.specs.declared.object_type.ValueType.TheVariants.{Pointer as P
 use Rattle.c_tree.specs.TypedExpressions.{RvalueTree, LvalueTree, Load}
 use Rattle.c_type_rules.specs.Types.{loaded}
 use Rattle.c_value_types.specs.ValueTypes.{object_type}
-use Rattle.c_law_types.specs.declared.kind.Kind.TheVariants.{Of}
+use Rattle.c_law_types.specs.Kind.{Of}
 use Rattle.c_memory.specs.declared.value.Value as source-value
 use Rattle.c_memory.specs.declared.value.Value.TheVariants as source
 use Rattle.c_states.specs.declared.event.Ending.TheVariants as ending

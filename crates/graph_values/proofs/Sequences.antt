@@ -2,7 +2,7 @@
 use Rattle.std.proofs.Common.{◌≡◌, ℕ, ◌+◌, ◌<◌, ◌≤◌, List, [], ◌∷◌, Option, Some, None, Bool, true, false, ◌||◌, refl, sym, ap, ◌∙◌, subst, arith}
 use Rattle.c_tree.specs.TypedExpressions.{RvalueTree, Comma, Discard}
 use Rattle.c_law_types.specs.Expressions.{kind_of}
-use Rattle.c_law_types.specs.declared.kind.Kind.{Kind}
+use Rattle.c_law_types.specs.Kind.{Kind}
 use Rattle.c_memory.specs.declared.value.Value as source-value
 use Rattle.c_states.specs.declared.event.Ending.TheVariants as ending
 use Rattle.c_memory.specs.Memory.{Memory}

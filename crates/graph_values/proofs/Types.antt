@@ -10,8 +10,7 @@ use Rattle.c_tree.specs.declared.object_type.ObjectType.TheVariants as object
 use Rattle.c_tree.specs.declared.object_type.ValueType.{ValueType}
 use Rattle.c_tree.specs.declared.object_type.ValueType.TheVariants.{Void, Integer, Pointer}
 use Rattle.c_type_rules.specs.Types.{type_number, same_integer, same_scalar, same_object, same_value}
-use Rattle.c_law_types.specs.declared.kind.Kind.{Kind}
-use Rattle.c_law_types.specs.declared.kind.Kind.TheVariants.{Wrong, NullPointer, Of}
+use Rattle.c_law_types.specs.Kind.{Kind, Wrong, NullPointer, Of}
 use Rattle.c_law_types.specs.Kinds.{is_of}
 use Rattle.c_memory.specs.declared.value.Value.{Value}
 use Rattle.c_memory.specs.declared.value.Value.TheVariants as source

@@ -1,6 +1,6 @@
 -- The unit that the forms give of a program is built of it.
 use Rattle.std.proofs.Common.{zero, suc, List, [], ◌∷◌, refl, subst, arith}
-use Rattle.std.specs.Prelude.{◌↔◌, IfOk, IfSome, Option, Some, None, Result, Ok, Err}
+use Rattle.std.specs.Prelude.{◌↔◌, IfOk, Result, Ok, Err}
 use Rattle.std.specs.List.{Contains}
 use Rattle.places.specs.declared.flow.Assignment.{Assignment}
 use Rattle.places.specs.declared.flow.FlowStep.{FlowStep}
@@ -10,6 +10,7 @@ use Rattle.c_flow.specs.Flow.{steps_of_program}
 use Rattle.graph_core.specs.declared.unit.Unit as declared-unit
 use Rattle.graph_core.specs.Graphs.{UnitForm, unit_view}
 use Rattle.graph_core.specs.Paths.{Among, front, behind}
+use Rattle.graph_core.specs.Validity.{IsValid}
 use Rattle.graph_build.specs.Units.{IsUnitOf}
 use Rattle.graph_marking.specs.Following.{FollowFlow, HasSteps}
 use Rattle.graph_values.specs.Correspondence.{DoesProgram}
@@ -39,10 +40,14 @@ one_built p u follow does forms steps assignments = record {
   does = does forms;
 }
 
--- What is built of a program by the forms, if it is, is built of it.
-pub built_by : {E : Type 0} (p : ProgramTree) (made : Result (Option declared-unit.Unit) E) → ((u : UnitForm) → IsUnitOf p u → HasSteps p u → FollowFlow u) → ((u : UnitForm) → IsUnitOf p u → DoesProgram p u)
-    → IfOk made (λ o. IfSome o (λ u. IsUnitOf p (unit_view u))) → IfOk made (λ o. IfSome o (λ u. (s : FlowStep) → Contains (unit_view u).steps s ↔ Contains (steps_of_program p) s))
-    → IfOk made (λ o. IfSome o (λ u. (a : Assignment) → Contains (unit_view u).assignments a ↔ Contains (assignments_of_program p) a)) → IfOk made (λ o. IfSome o (λ u. IsBuilt p (unit_view u)))
-built_by p (Ok (Some u)) follow does forms steps assignments = one_built p (unit_view u) (follow (unit_view u) forms) (does (unit_view u)) forms steps assignments
-built_by p (Ok None) follow does forms steps assignments = tt
+-- What is built of a program by the forms, if it is, is built of it,
+pub built_by : {E : Type 0} (p : ProgramTree) (made : Result declared-unit.Unit E) → ((u : UnitForm) → IsUnitOf p u → HasSteps p u → FollowFlow u) → ((u : UnitForm) → IsUnitOf p u → DoesProgram p u)
+    → IfOk made (λ u. IsUnitOf p (unit_view u)) → IfOk made (λ u. (s : FlowStep) → Contains (unit_view u).steps s ↔ Contains (steps_of_program p) s)
+    → IfOk made (λ u. (a : Assignment) → Contains (unit_view u).assignments a ↔ Contains (assignments_of_program p) a) → IfOk made (λ u. IsBuilt p (unit_view u))
+built_by p (Ok u) follow does forms steps assignments = one_built p (unit_view u) (follow (unit_view u) forms) (does (unit_view u)) forms steps assignments
 built_by p (Err e) follow does forms steps assignments = tt
+
+-- and it is valid.
+pub valid_by : {E : Type 0} (p : ProgramTree) (made : Result declared-unit.Unit E) → ((u : UnitForm) → IsUnitOf p u → IsValid u) → IfOk made (λ u. IsUnitOf p (unit_view u)) → IfOk made (λ u. IsValid (unit_view u))
+valid_by p (Ok u) valid forms = valid (unit_view u) forms
+valid_by p (Err e) valid forms = tt
