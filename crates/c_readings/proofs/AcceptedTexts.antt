@@ -6,7 +6,7 @@ use Rattle.c_token.specs.Reading.{◌>>=◌}
 use Rattle.c_token.specs.Texts.{tokens_of}
 use Rattle.c_tree.specs.Trees.{ItemTree}
 use Rattle.c_tree.specs.Programs.{ProgramTree}
-use Rattle.c_parse.specs.Files.{tree_of}
+use Rattle.c_grammar.specs.Reading.{tree_of}
 use Rattle.c_type.specs.Programs.{checked}
 use Rattle.c_laws.specs.Statics.{are_bytes}
 use Rattle.c_readings.specs.Accepted.{IsAccepted, HasTree}

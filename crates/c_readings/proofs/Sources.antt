@@ -19,7 +19,7 @@ use Rattle.c_parse_expressions.specs.Expressions.{nesting}
 use Rattle.c_parse_declarations.specs.Declarations.{identifier, brackets, named_declarator, begun_declaration}
 use Rattle.c_parse_statements.specs.Statements as reading
 use Rattle.c_parse_statements.specs.Statements.{block}
-use Rattle.c_parse.specs.Files.{begins_name, parameter_name, parameter, parameters, are_named, body, function, result_stars, objects, external, item_of, item, items_from, items, answer, tree_of}
+use Rattle.c_grammar.specs.Reading.{begins_name, parameter_name, parameter, parameters, are_named, body, function, result_stars, objects, external, item_of, item, items_from, items, answer, tree_of}
 use Rattle.c_laws.specs.Statics.{are_bytes}
 use Rattle.c_texts.specs.Files.{has_name, AreSizesFormed, HaveNames, AreItemsFormed}
 use Rattle.c_texts.specs.TextOrder.{spots_of_name, spots_of_brackets, spots_of_parameters, spots_of_item, spots_of_items, IsInTextOrder}
