@@ -25,6 +25,7 @@ use Rattle.emit_memory.proofs.Objects.{AreThose, WasThere}
 use Rattle.emit_code.specs.Beginning.{base_code, entering_code, bindings_code, beginning_behind}
 use Rattle.emit_calls.specs.Waiting.{FunctionCode, IsFunctionCode, setting_of, behind_frame, Waits, HoldsAll}
 use Rattle.emit_calls.proofs.Bindings.{AreGiven, argument_is, all_bound, bound_is, AreBindable, Binds, all_bind}
+use Rattle.emit_calls.proofs.Spare.{HasRoom}
 use Rattle.emit_calls.proofs.Entering.{Enters, CanEnter, saved_same, home_no_scratch, entering_enters}
 use Rattle.emit_calls.proofs.Growing.{addresses_with, grown_new, laid_new, objects_new, own_new, below_new, free_new}
 use Rattle.emit_calls.proofs.Loading.{frame_found}
@@ -271,8 +272,11 @@ module _ (codes : ℕ → FunctionCode) (u : UnitForm) (valid : (k : ℕ) → Is
     given4 = given_grown addresses now c.memory memory (t.registers 2 + (codes function).size) h t4 0 vs (omega (arith, many, few)) grown
         (λ q least most. sets.kept q (λ e. omega (arith, least, e)) (λ e. omega (arith, least, e)) ∙ found q (λ e. omega (arith, least, e)) (λ e. omega (arith, least, e)) (λ e. omega (arith, least, e))) given
 
+    in_room : HasRoom w
+    in_room k m is = (let lies = fits.objects k m is in let start = lies.low in start, let lies = fits.objects k m is in let end = lies.high in omega (arith, end))
+
     binds : Binds w (codes function).saved (bindings_code (codes function).storage (codes function).graph 0 (codes function).graph.parameters) (bare graph block wanted) (all_bound w (codes function).graph.parameters vs (bare graph block wanted)) t4
-    binds = all_bind w (codes function).saved (codes function).graph.parameters 0 vs (bare graph block wanted) t4 (fits.storage now []) frame4
+    binds = all_bind w (codes function).saved (codes function).graph.parameters 0 vs (bare graph block wanted) t4 (fits.storage now []) in_room frame4
         (own_new u (codes function) fits addresses c.memory (length (c.here ∷ c.waiting) + 1) (t.registers 2) h.memory t.memory sp_aligned sp_low sp_high all.here.laid lies_above) (omega (arith, few)) many bindable given4
 
     abbrev pub t5 : Holding
@@ -326,20 +330,20 @@ module _ (codes : ℕ → FunctionCode) (u : UnitForm) (valid : (k : ℕ) → Is
         let top = sp_is in
         let room = (fits.storage now []).room in
         let at = sets.kept 2 (λ e. cc) (λ e. cc) in
-        binds.memory b (inr (omega (arith, le, top, room, at)), no_new b (inl le) none) ∙ ap (λ (m : ℕ → ℕ). m b) sets.memory ∙ kept_memory b (inr (omega (arith, le, top)))
+        binds.memory b (inr (omega (arith, le, top, room, at)), no_new b (inl le) none) (inr (omega (arith, le, top, at))) ∙ ap (λ (m : ℕ → ℕ). m b) sets.memory ∙ kept_memory b (inr (omega (arith, le, top)))
 
     statics5 : (b : ℕ) → b < 5242880 → IsNoObject addresses c.memory b → t5.memory b ≡ h.memory b
     statics5 b lt none =
         let far = sp_low in
         let at = sets.kept 2 (λ e. cc) (λ e. cc) in
-        binds.memory b (inl (omega (arith, lt, far, at)), no_new b (inr lt) none) ∙ ap (λ (m : ℕ → ℕ). m b) sets.memory ∙ kept_memory b (inl (omega (arith, lt, far)))
+        binds.memory b (inl (omega (arith, lt, far, at)), no_new b (inr lt) none) (inl (omega (arith, lt, far, at))) ∙ ap (λ (m : ℕ → ℕ). m b) sets.memory ∙ kept_memory b (inl (omega (arith, lt, far)))
 
     -- The part of the frame that was written as it was made.
     made_kept : (b : ℕ) → t.registers 2 ≤ b → b < t.registers 2 + (4 + 4 * length (codes function).saved) → t5.memory b ≡ t.memory b
     made_kept b le lt =
         let room = fits.kept in
         let at = sets.kept 2 (λ e. cc) (λ e. cc) in
-        binds.memory b (inl (omega (arith, lt, room, at)), low_no_object w (bare graph block wanted) t4 frame4 b (omega (arith, le, at)) (omega (arith, lt, room, at))) ∙ ap (λ (m : ℕ → ℕ). m b) sets.memory
+        binds.memory b (inl (omega (arith, lt, room, at)), low_no_object w (bare graph block wanted) t4 frame4 b (omega (arith, le, at)) (omega (arith, lt, room, at))) (inl (omega (arith, lt, room, at))) ∙ ap (λ (m : ℕ → ℕ). m b) sets.memory
 
     returns5 : word_at t5.memory (t5.registers 2) ≡ address_of index
     returns5 =

@@ -2,7 +2,7 @@
 use Rattle.std.proofs.Common.{◌≡◌, ◌≢◌, ℕ, ◌+◌, ◌*◌, ◌/◌, ◌%◌, ◌<◌, ◌≤◌, ⊎_elim, sym, ap, ◌∙◌, subst, arith, refl, Option, Some, None, Bool, true, false, cond, ◌&&◌, [], length, slice_get, slice_set}
 use Rattle.std.specs.Prelude.{◌==◌, nat_lt, nat_le, option_map, option_and_then}
 use Rattle.std.specs.Option.{option_map_or}
-use Rattle.std.proofs.lemmas.Bool.{lt-ltb, le-leb, cases_eq}
+use Rattle.std.proofs.lemmas.Bool.{lt-ltb, le-leb, le-ltb, cases_eq, cases_lt}
 use Rattle.std.proofs.lemmas.List.{length-set}
 use Rattle.std.proofs.lemmas.Option.{slice_get_within}
 use Rattle.graph_core.specs.declared.graph.MemoryObject.{MemoryObject}
@@ -22,7 +22,7 @@ use Rattle.emit_words.specs.Operands.{home_written}
 use Rattle.emit_instructions.specs.Memory.{frame_reach, storing}
 use Rattle.machine_steps.specs.Holding.{Holding}
 use Rattle.emit_memory.specs.Meaning.{Means}
-use Rattle.emit_memory.specs.Frames.{Setting, IsStorage, HoldsFrame, Performs}
+use Rattle.emit_memory.specs.Frames.{Setting, IsStorage, HoldsFrame}
 use Rattle.emit_memory.proofs.Accesses.{Hits}
 use Rattle.emit_memory.proofs.Arrays.{those_same}
 use Rattle.emit_memory.proofs.Homes.{can_write, home_performed}
@@ -31,6 +31,7 @@ use Rattle.emit_memory.proofs.Objects.{AreThose, those_set, set_here, set_elsewh
 use Rattle.emit_memory.proofs.Reaching.{Finds, location_found}
 use Rattle.emit_code.specs.Beginning.{element_of, binding_code}
 use Rattle.emit_calls.proofs.Bringing.{home_made}
+use Rattle.emit_calls.proofs.Spare.{BindsOne, HasRoom, performs_binds, spare_stored}
 
 -- The objects of an activation are in memory, live, with their elements and as many of them.
 pub record IsOwnObject (memory : Memory) (n : ℕ) (m : MemoryObject) : Type 0 where
@@ -43,10 +44,10 @@ pub record IsOwnObject (memory : Memory) (n : ℕ) (m : MemoryObject) : Type 0 w
 abbrev pub AreOwnObjects : Memory → (first : ℕ) → Graph → Type 0
 AreOwnObjects memory first g = (k : ℕ) (m : MemoryObject) → slice_get g.objects k ≡ Some m → IsOwnObject memory (first + k) m
 
--- A binding names a scalar of the function, or an object of it that has an element.
+-- A binding names a scalar of the function, or an object of it.
 abbrev pub IsBindable : Graph → Binding → Type 0
 IsBindable g (ToScalar x) = x < g.name_count
-IsBindable g (ToObject k) = (m : MemoryObject) × (slice_get g.objects k ≡ Some m) × (1 ≤ m.count)
+IsBindable g (ToObject k) = (m : MemoryObject) × (slice_get g.objects k ≡ Some m)
 
 -- What a binding makes of a configuration.
 abbrev pub bound : Setting → Binding → Value → Configuration → Configuration
@@ -85,12 +86,30 @@ first_set memory n v o there live some =
     ∙ ap (λ q. option_map_or (λ m. m) (option_and_then (write_in memory n o.element 0 v) q) memory) there
     ∙ ap (λ q. option_map_or (λ m. m) (option_map (written_in memory n v o) q) memory) (index_first o.element o live refl some)
 
+-- Where it has none, nothing is written.
+and_none : (b : Bool) → (b && false) ≡ false
+and_none true = refl
+and_none false = refl
+
+no_first : (o : Object) → length o.values ≡ 0 → index_in o.element 0 o ≡ None
+no_first o none =
+    let out : nat_lt (0 / size_of o.element) (length o.values) ≡ false = le-ltb (0 / size_of o.element) (length o.values) (omega (arith, none)) in
+    ap (λ b. cond (((o.live && (size_of o.element == size_of o.element)) && (0 % size_of o.element == 0)) && b) (Some (0 / size_of o.element)) None) out
+    ∙ ap (λ b. cond b (Some (0 / size_of o.element)) None) (and_none ((o.live && (size_of o.element == size_of o.element)) && (0 % size_of o.element == 0)))
+
+pub none_set : (memory : Memory) (n : ℕ) (v : Value) (o : Object) → slice_get memory n ≡ Some o → length o.values ≡ 0 → set_first n v memory ≡ memory
+none_set memory n v o there none =
+    ap (λ q. option_map_or (λ (z : Object). option_map_or (λ m. m) (write memory z.element (address_of memory n) v) memory) q memory) there
+    ∙ ap (λ q. option_map_or (λ m. m) (write memory o.element q v) memory) (ap (λ (q : Option Object). option_map_or (λ (z : Object). Pointer n (bytes_of z) 0) q Odd) there)
+    ∙ ap (λ q. option_map_or (λ m. m) (option_and_then (write_in memory n o.element 0 v) q) memory) there
+    ∙ ap (λ q. option_map_or (λ m. m) (option_map (written_in memory n v o) q) memory) (no_first o none)
+
 none_le : (n : ℕ) → nat_le 0 n ≡ true
 none_le n = le-leb 0 n (omega arith)
 
 -- ---- One binding
 
-module _ (w : Setting) (c : Configuration) (h : Holding) (storage : IsStorage w) (frame : HoldsFrame w c h) (own : AreOwnObjects c.memory c.here.first_object w.graph) (r : ℕ) (low : 10 ≤ r) (v : Value) (means : Means w.addresses c.memory v (h.registers r)) (fits : h.registers r < 4294967296) where
+module _ (w : Setting) (c : Configuration) (h : Holding) (storage : IsStorage w) (frame : HoldsFrame w c h) (own : AreOwnObjects c.memory c.here.first_object w.graph) (r : ℕ) (low : 10 ≤ r) (v : Value) (means : Means w.addresses c.memory v (h.registers r)) (fits : h.registers r < 4294967296) (room : HasRoom w) where
   first_finds : (k : ℕ) (m : MemoryObject) → slice_get w.graph.objects k ≡ Some m → IsOwnObject c.memory (c.here.first_object + k) m → Finds (frame_reach (object_at w.storage k)) h (w.addresses (c.here.first_object + k) + 0)
   first_finds k m is mine =
       let inside : object_at w.storage k ≤ w.size = storage.objects k (slice_get_within w.graph.objects k m is) in
@@ -104,43 +123,60 @@ module _ (w : Setting) (c : Configuration) (h : Holding) (storage : IsStorage w)
       within None e = cc
       within (Some z) e = omega arith
 
-  pub binding_performs : (b : Binding) → IsBindable w.graph b → Performs w c h (bound_home w.storage b) (binding_code w.storage w.graph r b) (bound w b v c)
+  pub binding_performs : (b : Binding) → IsBindable w.graph b → BindsOne w c h (bound_home w.storage b) (binding_code w.storage w.graph r b) (bound w b v c)
   binding_performs (ToScalar x) is =
-      home_performed w c h (home_at w.storage x) v (h.registers r) (home_written w.storage (home_at w.storage x) r) storage frame (storage.homes x is)
-      (home_made w.storage h (home_at w.storage x) r (h.registers r) (can_write w c h (home_at w.storage x) storage frame (storage.homes x is)) (λ e. omega (arith, low, e)) refl fits) means
-  binding_performs (ToObject k) (m, is, some) =
+      performs_binds w c h (Some (home_at w.storage x)) (home_written w.storage (home_at w.storage x) r) (bound w (ToScalar x) v c)
+      (home_performed w c h (home_at w.storage x) v (h.registers r) (home_written w.storage (home_at w.storage x) r) storage frame (storage.homes x is)
+      (home_made w.storage h (home_at w.storage x) r (h.registers r) (can_write w c h (home_at w.storage x) storage frame (storage.homes x is)) (λ e. omega (arith, low, e)) refl fits) means)
+  binding_performs (ToObject k) (m, is) =
       let mine : IsOwnObject c.memory (c.here.first_object + k) m = own k m is in
       let o : Object = mine.object in
       let n : ℕ = c.here.first_object + k in
-      let many : 0 < length o.values = let count = mine.count in omega (arith, count, some) in
       let e : element_of w.graph k ≡ o.element = ap (λ (q : Option MemoryObject). option_map_or (λ (z : MemoryObject). z.element) q Word) is ∙ sym mine.element in
+      subst (λ q. BindsOne w c h None (storing q (frame_reach (object_at w.storage k)) r) (record c { memory = set_first n v c.memory })) (sym e)
+      (⊎_elim
+      (λ (many : 0 < length o.values).
       let hits : Hits c.memory o.element (Pointer n (bytes_of o) 0) n o 0 = record { size = bytes_of o; offset = 0; is = refl; there = mine.there; live = mine.live; wide = refl; at = omega arith; low = many } in
       let none : w.addresses n + 0 ≡ w.addresses n + 0 * size_of o.element = omega arith in
       let finds : Finds (frame_reach (object_at w.storage k)) h (w.addresses n + 0 * size_of o.element) = subst (λ q. Finds (frame_reach (object_at w.storage k)) h q) none (first_finds k m is mine) in
-      subst (λ q. Performs w c h None (storing q (frame_reach (object_at w.storage k)) r) (record c { memory = set_first n v c.memory })) (sym e)
-      (subst (λ q. Performs w c h None (storing o.element (frame_reach (object_at w.storage k)) r) (record c { memory = q })) (sym (first_set c.memory n v o mine.there mine.live many))
-      (element_stored w c h storage frame [] (frame_reach (object_at w.storage k)) o.element r (h.registers r) (Pointer n (bytes_of o) 0) v n o 0 hits tt refl (λ q left. refl) refl refl finds (λ z. omega (arith, low, z)) (λ z. omega (arith, low, z)) means fits))
+      subst (λ q. BindsOne w c h None (storing o.element (frame_reach (object_at w.storage k)) r) (record c { memory = q })) (sym (first_set c.memory n v o mine.there mine.live many))
+      (performs_binds w c h None (storing o.element (frame_reach (object_at w.storage k)) r) (record c { memory = slice_set c.memory n (with_value 0 v o) })
+      (element_stored w c h storage frame [] (frame_reach (object_at w.storage k)) o.element r (h.registers r) (Pointer n (bytes_of o) 0) v n o 0 hits tt refl (λ q left. refl) refl refl finds (λ z. omega (arith, low, z)) (λ z. omega (arith, low, z)) means fits)))
+      (λ (few : length o.values ≤ 0).
+      let empty : length o.values ≡ 0 = omega (arith, few) in
+      let none : w.addresses n + 0 ≡ w.addresses n = omega arith in
+      let finds : Finds (frame_reach (object_at w.storage k)) h (w.addresses n) = subst (λ q. Finds (frame_reach (object_at w.storage k)) h q) none (first_finds k m is mine) in
+      let bytes : bytes_of o ≡ 0 = ap (λ q. q * size_of o.element) empty ∙ (let nothing : 0 * size_of o.element ≡ 0 = omega arith in nothing) in
+      subst (λ q. BindsOne w c h None (storing o.element (frame_reach (object_at w.storage k)) r) (record c { memory = q })) (sym (none_set c.memory n v o mine.there empty))
+      (spare_stored w c h storage frame k (slice_get_within w.graph.objects k m is) o mine.there mine.live bytes (room k m is).0 (room k m is).1 o.element (h.registers r) (frame_reach (object_at w.storage k)) r refl (λ z. omega (arith, low, z)) (λ z. omega (arith, low, z)) finds))
+      (cases_lt 0 (length o.values)))
 
   -- The objects are those that there were.
   pub binding_those : (b : Binding) → IsBindable w.graph b → AreThose c.memory (bound w b v c).memory × (length (bound w b v c).memory ≡ length c.memory)
   binding_those (ToScalar x) is = (those_same c.memory, refl)
-  binding_those (ToObject k) (m, is, some) =
+  binding_those (ToObject k) (m, is) =
       let mine : IsOwnObject c.memory (c.here.first_object + k) m = own k m is in
       let o : Object = mine.object in
       let n : ℕ = c.here.first_object + k in
-      let many : 0 < length o.values = let count = mine.count in omega (arith, count, some) in
+      ⊎_elim
+      (λ (many : 0 < length o.values).
       subst (λ q. AreThose c.memory q × (length q ≡ length c.memory)) (sym (first_set c.memory n v o mine.there mine.live many))
-      (those_set c.memory n o (with_value 0 v o) mine.there (ap (λ s. s * size_of o.element) (length-set o.values 0 (as_element o.element v))) (λ l. l), length-set c.memory n (with_value 0 v o))
+      (those_set c.memory n o (with_value 0 v o) mine.there (ap (λ s. s * size_of o.element) (length-set o.values 0 (as_element o.element v))) (λ l. l), length-set c.memory n (with_value 0 v o)))
+      (λ (few : length o.values ≤ 0).
+      let empty : length o.values ≡ 0 = omega (arith, few) in
+      subst (λ q. AreThose c.memory q × (length q ≡ length c.memory)) (sym (none_set c.memory n v o mine.there empty)) (those_same c.memory, refl))
+      (cases_lt 0 (length o.values))
 
   -- The activation's objects are still its own.
   pub binding_own : (b : Binding) → IsBindable w.graph b → AreOwnObjects (bound w b v c).memory c.here.first_object w.graph
   binding_own (ToScalar x) is j z at = own j z at
-  binding_own (ToObject k) (m, is, some) j z at =
+  binding_own (ToObject k) (m, is) j z at =
       let mine : IsOwnObject c.memory (c.here.first_object + k) m = own k m is in
       let o : Object = mine.object in
       let n : ℕ = c.here.first_object + k in
-      let many : 0 < length o.values = let count = mine.count in omega (arith, count, some) in
       let other : IsOwnObject c.memory (c.here.first_object + j) z = own j z at in
+      ⊎_elim
+      (λ (many : 0 < length o.values).
       subst (λ q. IsOwnObject q (c.here.first_object + j) z) (sym (first_set c.memory n v o mine.there mine.live many))
       (⊎_elim
       (λ (same : c.here.first_object + j ≡ n).
@@ -160,4 +196,8 @@ module _ (w : Setting) (c : Configuration) (h : Holding) (storage : IsStorage w)
         element = other.element;
         count = other.count;
       })
-      (cases_eq (c.here.first_object + j) n))
+      (cases_eq (c.here.first_object + j) n)))
+      (λ (few : length o.values ≤ 0).
+      let empty : length o.values ≡ 0 = omega (arith, few) in
+      subst (λ q. IsOwnObject q (c.here.first_object + j) z) (sym (none_set c.memory n v o mine.there empty)) other)
+      (cases_lt 0 (length o.values))

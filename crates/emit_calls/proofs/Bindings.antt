@@ -17,11 +17,12 @@ use Rattle.machine_steps.specs.Doing.{done_by_all, CanDoAll}
 use Rattle.machine_steps.proofs.Placing.{done_by_both, can_do_both}
 use Rattle.emit_moves.specs.Doing.{IsLeft}
 use Rattle.emit_memory.specs.Meaning.{Means}
-use Rattle.emit_memory.specs.Frames.{Setting, IsStorage, HoldsFrame, IsNoTarget, IsOutside, Performs}
+use Rattle.emit_memory.specs.Frames.{Setting, IsStorage, HoldsFrame, IsNoTarget, IsOutside}
 use Rattle.emit_memory.proofs.Objects.{AreThose, WasThere, means_later}
 use Rattle.emit_code.specs.Beginning.{binding_code, bindings_code}
 use Rattle.emit_calls.specs.Keeping.{IsTargetAmong, IsSaved}
 use Rattle.emit_calls.proofs.Binding.{AreOwnObjects, IsBindable, bound, bound_home, binding_performs, binding_those, binding_own}
+use Rattle.emit_calls.proofs.Spare.{BindsOne, HasRoom, IsBeside}
 use Rattle.emit_calls.proofs.Keeping.{low_no_target, home_or_saved}
 
 -- The values that were passed are in the registers of arguments, from one of this number on.
@@ -48,13 +49,13 @@ bound_is w (b ∷ more) [] c = refl
 bound_is w (ToScalar x ∷ more) (v ∷ vs) c = bound_is w more vs (bound w (ToScalar x) v c)
 bound_is w (ToObject k ∷ more) (v ∷ vs) c = bound_is w more vs (bound w (ToObject k) v c)
 
--- Behind the words the machine holds the frame with all parameters bound. x0, sp, gp and tp are as they were, home registers that the frame does not keep, and memory outside of slots and objects.
+-- Behind the words the machine holds the frame with all parameters bound. x0, sp, gp and tp are as they were, home registers that the frame does not keep, and memory outside of slots, of objects, and of the part of the frame where its objects lie.
 pub record Binds (w : Setting) (saved : List ℕ) (code : List MachineInstruction) (c d : Configuration) (h : Holding) : Type 0 where
   pub can : CanDoAll code h
   pub frame : HoldsFrame w d (done_by_all code h)
   pub low : (q : ℕ) → q ≤ 4 → (done_by_all code h).registers q ≡ h.registers q
   pub homes : (r : ℕ) → IsHomeRegister r → ((done_by_all code h).registers r ≡ h.registers r) ⊎ Among r saved
-  pub memory : (b : ℕ) → IsOutside w c h b → (done_by_all code h).memory b ≡ h.memory b
+  pub memory : (b : ℕ) → IsOutside w c h b → IsBeside w h b → (done_by_all code h).memory b ≡ h.memory b
   pub input : (done_by_all code h).input ≡ h.input
   pub those : AreThose c.memory d.memory
   pub same : length d.memory ≡ length c.memory
@@ -100,6 +101,9 @@ outside_later w c d h t b sp those out = (
       subst (λ k. (b < w.addresses n) ⊎ (w.addresses n + 4 * words_of k ≤ b)) (sym was.bytes) (out.1 n was.object was.is (was.live live)),
 )
 
+beside_later : (w : Setting) (h t : Holding) (b : ℕ) → t.registers 2 ≡ h.registers 2 → IsBeside w h b → IsBeside w t b
+beside_later w h t b sp beside = subst (λ s. (b < s + (w.storage.slots + 4 * w.slots)) ⊎ (s + w.size ≤ b)) (sym sp) beside
+
 through_those : (a b c : Memory) → AreThose a b → AreThose b c → AreThose a c
 through_those a b c one two = record {
   kept = λ n size e. two.kept n size (one.kept n size e);
@@ -109,38 +113,38 @@ through_those a b c one two = record {
       record { object = early.object; is = early.is; bytes = late.bytes ∙ early.bytes; live = λ l. early.live (late.live l) };
 }
 
-pub all_bind : (w : Setting) (saved : List ℕ) (params : List Binding) (n : ℕ) (vs : List Value) (c : Configuration) (h : Holding) → IsStorage w → HoldsFrame w c h → AreOwnObjects c.memory c.here.first_object w.graph → n + length params ≤ 8 → length vs ≡ length params
+pub all_bind : (w : Setting) (saved : List ℕ) (params : List Binding) (n : ℕ) (vs : List Value) (c : Configuration) (h : Holding) → IsStorage w → HasRoom w → HoldsFrame w c h → AreOwnObjects c.memory c.here.first_object w.graph → n + length params ≤ 8 → length vs ≡ length params
     → AreBindable w.storage w.graph saved params → AreGiven w.addresses c.memory h n vs → Binds w saved (bindings_code w.storage w.graph n params) c (all_bound w params vs c) h
-all_bind w saved [] n vs c h storage frame own few many legal given = record {
+all_bind w saved [] n vs c h storage room frame own few many legal given = record {
   can = tt;
   frame = frame;
   low = λ q le. refl;
   homes = λ r is. inl refl;
-  memory = λ b out. refl;
+  memory = λ b out beside. refl;
   input = refl;
   those = record { kept = λ k size e. e; were = λ k o is. record { object = o; is = is; bytes = refl; live = λ l. l } };
   same = refl;
 }
-all_bind w saved (b ∷ more) n [] c h storage frame own few many legal given = absurd (omega (arith, many))
-all_bind w saved (b ∷ more) n (v ∷ vs) c h storage frame own few many legal given =
+all_bind w saved (b ∷ more) n [] c h storage room frame own few many legal given = absurd (omega (arith, many))
+all_bind w saved (b ∷ more) n (v ∷ vs) c h storage room frame own few many legal given =
     let r : ℕ = argument_register n in
     let is : r ≡ 10 + n = argument_is n (omega (arith, few)) in
     let target = bound_home w.storage b in
     let front = binding_code w.storage w.graph r b in
     let small : (n + 1) % 4294967296 ≡ n + 1 = omega (arith, few) in
     let back = bindings_code w.storage w.graph ((n + 1) % 4294967296) more in
-    let one : Performs w c h target front (bound w b v c) = binding_performs w c h storage frame own r (omega (arith, is)) v given.0 given.1 b legal.0 in
-    let those = binding_those w c h storage frame own r (omega (arith, is)) v given.0 given.1 b legal.0 in
+    let one : BindsOne w c h target front (bound w b v c) = binding_performs w c h storage frame own r (omega (arith, is)) v given.0 given.1 room b legal.0 in
+    let those = binding_those w c h storage frame own r (omega (arith, is)) v given.0 given.1 room b legal.0 in
     let among : IsTargetAmong w.slots target = bound_among w b storage legal.0 in
     let t : Holding = done_by_all front h in
     let low : (q : ℕ) → q ≤ 4 → t.registers q ≡ h.registers q = λ q le. one.kept q (low_no_target w.slots target q le among) (low_left q le) in
     let arguments : (q : ℕ) → 10 ≤ q → q ≤ 17 → t.registers q ≡ h.registers q =
     λ q least most. one.kept q (argument_no_target w.slots target q least most among) (record { t0 = λ e. omega (arith, least, e); t1 = λ e. omega (arith, least, e); t2 = λ e. omega (arith, least, e) }) in
     let d : Configuration = bound w b v c in
-    let mine : AreOwnObjects d.memory d.here.first_object w.graph = subst (λ k. AreOwnObjects d.memory k w.graph) (sym (still_first w b v c)) (binding_own w c h storage frame own r (omega (arith, is)) v given.0 given.1 b legal.0) in
+    let mine : AreOwnObjects d.memory d.here.first_object w.graph = subst (λ k. AreOwnObjects d.memory k w.graph) (sym (still_first w b v c)) (binding_own w c h storage frame own r (omega (arith, is)) v given.0 given.1 room b legal.0) in
     let rest : Binds w saved back d (all_bound w more vs d) t =
     subst (λ k. Binds w saved (bindings_code w.storage w.graph k more) d (all_bound w more vs d) t) (sym small)
-    (all_bind w saved more (n + 1) vs d t storage one.frame mine (omega (arith, few)) (omega (arith, many)) legal.2 (given_later w c d h t (n + 1) vs (omega (arith, few, many)) those.0 arguments given.2)) in
+    (all_bind w saved more (n + 1) vs d t storage room one.frame mine (omega (arith, few)) (omega (arith, many)) legal.2 (given_later w c d h t (n + 1) vs (omega (arith, few, many)) those.0 arguments given.2)) in
     let both : done_by_all (front ++ back) h ≡ done_by_all back t = done_by_both front back h in
     record {
       can = can_do_both front back h one.can rest.can;
@@ -153,7 +157,7 @@ all_bind w saved (b ∷ more) n (v ∷ vs) c h storage frame own few many legal 
           (home_or_saved saved target h t z legal.1 home (λ q none kept. one.kept q none kept.left)))
           (λ (kept : Among z saved). inr kept)
           (rest.homes z home);
-      memory = λ y out. ap (λ (u : Holding). u.memory y) both ∙ rest.memory y (outside_later w c d h t y (low 2 (omega arith)) those.0 out) ∙ one.outside y out;
+      memory = λ y out beside. ap (λ (u : Holding). u.memory y) both ∙ rest.memory y (outside_later w c d h t y (low 2 (omega arith)) those.0 out) (beside_later w h t y (low 2 (omega arith)) beside) ∙ one.outside y out beside;
       input = ap (λ (u : Holding). u.input) both ∙ rest.input ∙ one.input;
       those = through_those c.memory d.memory (all_bound w more vs d).memory those.0 rest.those;
       same = rest.same ∙ those.1;

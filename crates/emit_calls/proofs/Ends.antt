@@ -1,8 +1,7 @@
 -- The code of an end that goes on to a block leads where the unit's step leads, unseen, and the frame stands there.
-use Rattle.std.proofs.Common.{◌≡◌, ℕ, ◌+◌, ◌≤◌, sym, ap, ◌∙◌, subst, arith, refl, Option, Some, None, Bool, true, false, cond, not, List, [], ◌∷◌, ◌++◌, length, length-append, slice_get}
+use Rattle.std.proofs.Common.{◌≡◌, ℕ, ◌+◌, ◌-◌, ◌≤◌, sym, ap, ◌∙◌, subst, arith, refl, Option, Some, None, Bool, true, false, cond, not, List, [], ◌∷◌, ◌++◌, length, slice_get}
 use Rattle.std.specs.Prelude.{◌==◌}
 use Rattle.std.proofs.lemmas.Bool.{eqb-true}
-use Rattle.rv_code.specs.declared.instruction.Instruction.{Instruction as MachineInstruction}
 use Rattle.rv_code.specs.declared.instruction.Instruction.TheVariants as instruction
 use Rattle.rv_code.specs.declared.instruction.BranchOperation.{BranchOperation}
 use Rattle.rv_code.specs.declared.instruction.ImmediateOperation.TheVariants.{Addi}
@@ -42,7 +41,7 @@ use Rattle.emit_calls.specs.Going.{IsGoing}
 use Rattle.emit_code.specs.Ends.{words, loading_code, loading_held, going, going_by, jumping, Compared, branch_operation, word_test, with_zero, room_of, comparing_code, branching, choosing, choosing_held, end_pieces, end_held, opposite}
 use Rattle.emit_calls.specs.Settings.{with_held, IsKept, AreLoads}
 use Rattle.emit_calls.proofs.Comparing.{branch_tests, comparison_means, with_zero_tests, with_zero_readable}
-use Rattle.emit_calls.proofs.Placed.{begins_is, WordsFirst, words_first, opposite_taken, GoesTo, jump_goes, taken_goes, not_taken_goes}
+use Rattle.emit_calls.proofs.Placed.{begins_is, WordsFirst, words_first, opposite_taken, GoesTo, jump_goes, taken_goes, not_taken_goes, goes_within, piece_long, pieces_long}
 use Rattle.emit_calls.proofs.Loading.{Loads, loading_loads, frame_reheld}
 
 -- ---- Where control goes
@@ -79,37 +78,32 @@ going_short b to next = by_test (to == next) b
     by_test true false = omega arith
     by_test false c = omega arith
 
--- To one label where a branch is taken, and else to another.
+-- To one label where a branch is taken, and else to another, in no more instructions than the words are.
 pub going_by_goes : (p : Program) (t : Targets) (s : State) (i : ℕ) (h : Holding) (b : Bool) (op : BranchOperation) (l r if_true if_false next j : ℕ) (test : Bool) → AreInCode t → Stands p s i h
-    → PiecesAt p t i b (going_by op l r if_true if_false next) j → j ≡ t.label next → taken op (h.registers l) (h.registers r) ≡ test → GoesTo p s b 2 (t.label (cond test if_true if_false)) h
+    → PiecesAt p t i b (going_by op l r if_true if_false next) j → j ≡ t.label next → taken op (h.registers l) (h.registers r) ≡ test → GoesTo p s b (j - i) (t.label (cond test if_true if_false)) h
 going_by_goes p t s i h b op l r if_true if_false next j test inside stands there follows is = by_tests (if_true == next) refl there test is
   where
     by_tests : (same : Bool) → (if_true == next) ≡ same
         → PiecesAt p t i b (cond same (piece.Branch (opposite op) l r (record { 0 = if_false }) ∷ []) (piece.Branch op l r (record { 0 = if_true }) ∷ going false if_false next)) j
-        → (c : Bool) → taken op (h.registers l) (h.registers r) ≡ c → GoesTo p s b 2 (t.label (cond c if_true if_false)) h
+        → (c : Bool) → taken op (h.registers l) (h.registers r) ≡ c → GoesTo p s b (j - i) (t.label (cond c if_true if_false)) h
     by_tests true e (k, at, end) true taken_so =
         let off : taken (opposite op) (h.registers l) (h.registers r) ≡ false = opposite_taken op (h.registers l) (h.registers r) ∙ ap not taken_so in
         let there : k ≡ t.label if_true = sym end ∙ follows ∙ ap t.label (sym (eqb-true if_true next e)) in
-        record { count = 1; few = omega arith; reaches = subst (λ n. Reaches p 1 (record { state = s; shown = b }) [] n false h) there (not_taken_goes p t s i h b (opposite op) l r if_false k stands at off) }
+        let long = piece_long p t i b (piece.Branch (opposite op) l r (record { 0 = if_false })) k at in
+        record { count = 1; few = omega (arith, long, end); reaches = subst (λ n. Reaches p 1 (record { state = s; shown = b }) [] n false h) there (not_taken_goes p t s i h b (opposite op) l r if_false k stands at off) }
     by_tests true e (k, at, end) false not_so =
-        taken_goes p t s i h b (opposite op) l r if_false k stands at (inside.labels if_false) (opposite_taken op (h.registers l) (h.registers r) ∙ ap not not_so)
-    by_tests false e (k, at, rest) true taken_so = taken_goes p t s i h b op l r if_true k stands at (inside.labels if_true) taken_so
+        goes_within (omega (arith, end)) (taken_goes p t s i h b (opposite op) l r if_false k stands at (inside.labels if_false) (opposite_taken op (h.registers l) (h.registers r) ∙ ap not not_so))
+    by_tests false e (k, at, rest) true taken_so =
+        let long = pieces_long p t k false (going false if_false next) j rest in
+        goes_within (omega (arith, long)) (taken_goes p t s i h b op l r if_true k stands at (inside.labels if_true) taken_so)
     by_tests false e (k, at, rest) false not_so =
         let first = not_taken_goes p t s i h b op l r if_true k stands at not_so in
         let second : GoesTo p first.state false (length (going false if_false next)) (t.label if_false) h = going_goes p t first.state k h false if_false next j inside first.stands rest follows in
         record {
           count = 1 + second.count;
-          few = let most = second.few in let short = going_short false if_false next in omega (arith, most, short);
+          few = let most = second.few in let one = piece_long p t i b (piece.Branch op l r (record { 0 = if_true })) k at in let long = pieces_long p t k false (going false if_false next) j rest in omega (arith, most, one, long);
           reaches = reaches_then p 1 second.count (record { state = s; shown = b }) [] k false h [] (t.label if_false) false h first second.reaches;
         }
-
--- It has a piece.
-going_by_some : (op : BranchOperation) (l r if_true if_false next : ℕ) → 1 ≤ length (going_by op l r if_true if_false next)
-going_by_some op l r if_true if_false next = by_test (if_true == next)
-  where
-    by_test : (same : Bool) → 1 ≤ length (cond same (piece.Branch (opposite op) l r (record { 0 = if_false }) ∷ []) (piece.Branch op l r (record { 0 = if_true }) ∷ going false if_false next))
-    by_test true = omega arith
-    by_test false = omega arith
 
 -- ---- The machine at another block
 
@@ -181,28 +175,11 @@ enters p t s b most w c h labels l target comes = by_some (slice_get c.here.grap
       };
     }
 
--- More instructions may be said to be enough.
-comes_within : {p : Program} {s : State} {b : Bool} {most to : ℕ} {w : Setting} {h : Holding} {d : Configuration} → ComesTo p s b most to w h d → ComesTo p s b (most + 1) to w h d
-comes_within {p} {s} {b} {most} {to} {w} {h} {d} comes = record {
-  count = comes.count;
-  few = let most_is = comes.few in omega (arith, most_is);
-  holding = comes.holding;
-  reaches = comes.reaches;
-  frame = comes.frame;
-  kept = comes.kept;
-  memory = comes.memory;
-  input = comes.input;
-}
-
 -- Which constants are held is no part of where values are found.
 pub storage_reheld : (w : Setting) (held : List Held) → IsStorage w → IsStorage (with_held held w)
 storage_reheld w held storage = record { homes = storage.homes; aligned = storage.aligned; room = storage.room; objects = storage.objects }
 
 -- ---- Ends of blocks
-
-length_words : (code : List MachineInstruction) → length (words code) ≡ length code
-length_words [] = refl
-length_words (x ∷ code) = let same = length_words code in omega (arith, same)
 
 module _ (p : Program) (t : Targets) (s : State) (i : ℕ) (b : Bool) (w : Setting) (c : Configuration) (h : Holding) (inside : AreInCode t) (storage : IsStorage w) (frame : HoldsFrame w c h) (stands : Stands p s i h) (loads : List Held) (fit : AreLoads loads)
     (next j : ℕ) (follows : j ≡ t.label next) where
@@ -217,7 +194,7 @@ module _ (p : Program) (t : Targets) (s : State) (i : ℕ) (b : Bool) (w : Setti
 
   -- A jump.
   jump_behind : (to : ℕ) → PiecesAt p t i b (words (loading_code w.storage.base 8 loads w.held) ++ going (behind b (loading_code w.storage.base 8 loads w.held)) to next) j
-      → ComesTo p s b (length (words (loading_code w.storage.base 8 loads w.held) ++ going (behind b (loading_code w.storage.base 8 loads w.held)) to next)) (t.label to) (with_held (loading_held w.storage.base 8 loads w.held) w) h c
+      → ComesTo p s b (j - i) (t.label to) (with_held (loading_held w.storage.base 8 loads w.held) w) h c
   jump_behind to there =
       let code = loading_code w.storage.base 8 loads w.held in
       let l = loaded 8 in
@@ -227,7 +204,7 @@ module _ (p : Program) (t : Targets) (s : State) (i : ℕ) (b : Bool) (w : Setti
       let two : GoesTo p one.state (behind b code) (length (going (behind b code) to next)) (t.label to) u = going_goes p t one.state (i + length code) u (behind b code) to next j inside one.stands first.rest_there follows in
       record {
         count = length code + two.count;
-        few = let many = length-append (words code) (going (behind b code) to next) in let each = length_words code in let most = two.few in omega (arith, many, each, most);
+        few = let long = pieces_long p t (i + length code) (behind b code) (going (behind b code) to next) j first.rest_there in let most = two.few in omega (arith, long, most);
         holding = u;
         reaches = reaches_then p (length code) two.count (record { state = s; shown = b }) [] (i + length code) (behind b code) u [] (t.label to) false u one two.reaches;
         frame = loaded_frame 8;
@@ -237,17 +214,16 @@ module _ (p : Program) (t : Targets) (s : State) (i : ℕ) (b : Bool) (w : Setti
       }
 
   jump_comes : (to : ℕ) → PiecesAt p t i b (jumping w.storage w.held b loads to next) j
-      → ComesTo p s b (length (jumping w.storage w.held b loads to next)) (t.label to) (with_held (loading_held w.storage.base 8 loads w.held) w) h c
+      → ComesTo p s b (j - i) (t.label to) (with_held (loading_held w.storage.base 8 loads w.held) w) h c
   jump_comes to there =
       let code = loading_code w.storage.base 8 loads w.held in
-      subst (λ q. ComesTo p s b (length (words code ++ going q to next)) (t.label to) (with_held (loading_held w.storage.base 8 loads w.held) w) h c) (sym (begins_is b code))
-      (jump_behind to (subst (λ q. PiecesAt p t i b (words code ++ going q to next) j) (begins_is b code) there))
+      jump_behind to (subst (λ q. PiecesAt p t i b (words code ++ going q to next) j) (begins_is b code) there)
 
   -- A branch, by a comparison that the words of both operands decide.
   branch_comes : (x : Compared) (if_true if_false : ℕ) (test : Bool) → PiecesAt p t i b (branching w.storage w.held loads x if_true if_false next) j
       → IsReadable w.storage (done_by_all (loading_code w.storage.base (room_of x) loads w.held) h) x.left → IsReadable w.storage (done_by_all (loading_code w.storage.base (room_of x) loads w.held) h) x.right
       → word_test x.comparison (value_of w.storage (done_by_all (loading_code w.storage.base (room_of x) loads w.held) h) x.left) (value_of w.storage (done_by_all (loading_code w.storage.base (room_of x) loads w.held) h) x.right) ≡ test
-      → ComesTo p s b (length (branching w.storage w.held loads x if_true if_false next) + 1) (t.label (cond test if_true if_false)) (with_held (loading_held w.storage.base (room_of x) loads w.held) w) h c
+      → ComesTo p s b (j - i) (t.label (cond test if_true if_false)) (with_held (loading_held w.storage.base (room_of x) loads w.held) w) h c
   branch_comes x if_true if_false test there left right is =
       let front = loading_code w.storage.base (room_of x) loads w.held in
       let held = loading_held w.storage.base (room_of x) loads w.held in
@@ -267,11 +243,11 @@ module _ (p : Program) (t : Targets) (s : State) (i : ℕ) (b : Bool) (w : Setti
       subst (λ (g : Holding). Reaches p (length code) (record { state = s; shown = b }) [] (i + length code) (behind b code) g) both (code_does p s i h b code stands first.code_there (can_do_both front fetch h l.can found.can)) in
       let takes : taken op (v.registers q1) (v.registers q2) ≡ test =
       ap (λ n. taken op n (v.registers q2)) found.left_value ∙ ap (λ n. taken op (value_of w.storage u x.left) n) found.right_value ∙ branch_tests x.comparison (value_of w.storage u x.left) (value_of w.storage u x.right) ∙ is in
-      let two : GoesTo p one.state (behind b code) 2 (t.label (cond test if_true if_false)) v =
+      let two : GoesTo p one.state (behind b code) (j - (i + length code)) (t.label (cond test if_true if_false)) v =
       going_by_goes p t one.state (i + length code) v (behind b code) op q1 q2 if_true if_false next j test inside one.stands first.rest_there follows takes in
       record {
         count = length code + two.count;
-        few = let many = length-append (words code) (going_by op q1 q2 if_true if_false next) in let each = length_words code in let most = two.few in let some = going_by_some op q1 q2 if_true if_false next in omega (arith, many, each, most, some);
+        few = let long = pieces_long p t (i + length code) (behind b code) (going_by op q1 q2 if_true if_false next) j first.rest_there in let most = two.few in omega (arith, long, most);
         holding = v;
         reaches = reaches_then p (length code) two.count (record { state = s; shown = b }) [] (i + length code) (behind b code) v [] (t.label (cond test if_true if_false)) false v one two.reaches;
         frame = frame_stays (with_held held w) c u v found.kept found.memory framed;
@@ -283,7 +259,7 @@ module _ (p : Program) (t : Targets) (s : State) (i : ℕ) (b : Bool) (w : Setti
   -- A branch by two operands.
   choose_done : (k : Comparison) (x y : Operand) (if_true if_false : ℕ) → IsOperand w.unit.statics w.graph x → IsOperand w.unit.statics w.graph y → IsWord x → IsWord y
       → PiecesAt p t i b (choosing w.storage w.held b loads k (source_of w.storage x) (source_of w.storage y) if_true if_false next) j
-      → DoesEnd p t s b (length (choosing w.storage w.held b loads k (source_of w.storage x) (source_of w.storage y) if_true if_false next) + 1) (with_held (choosing_held w.storage w.held loads k (source_of w.storage x) (source_of w.storage y)) w) c h (if_true ∷ if_false ∷ [])
+      → DoesEnd p t s b (j - i) (with_held (choosing_held w.storage w.held loads k (source_of w.storage x) (source_of w.storage y)) w) c h (if_true ∷ if_false ∷ [])
       (branched c (holds (is_live c.memory) k (value w.unit.statics c.here.names (placed_operand (home_at w.storage) x)) (value w.unit.statics c.here.names (placed_operand (home_at w.storage) y))) if_true if_false)
   choose_done k x y if_true if_false vx vy fx fy there =
       by_test (holds (is_live c.memory) k (value w.unit.statics c.here.names (placed_operand (home_at w.storage) x)) (value w.unit.statics c.here.names (placed_operand (home_at w.storage) y))) refl
@@ -292,7 +268,7 @@ module _ (p : Program) (t : Targets) (s : State) (i : ℕ) (b : Bool) (w : Setti
       by_branch : (l r : Source) → source_of w.storage x ≡ l → source_of w.storage y ≡ r → (test : Bool)
           → holds (is_live c.memory) k (value w.unit.statics c.here.names (placed_operand (home_at w.storage) x)) (value w.unit.statics c.here.names (placed_operand (home_at w.storage) y)) ≡ Some test
           → PiecesAt p t i b (branching w.storage w.held loads (with_zero k l r) if_true if_false next) j
-          → ComesTo p s b (length (branching w.storage w.held loads (with_zero k l r) if_true if_false next) + 1) (t.label (cond test if_true if_false)) (with_held (loading_held w.storage.base (room_of (with_zero k l r)) loads w.held) w) h c
+          → ComesTo p s b (j - i) (t.label (cond test if_true if_false)) (with_held (loading_held w.storage.base (room_of (with_zero k l r)) loads w.held) w) h c
       by_branch l r el er test says at =
           let z : Compared = with_zero k l r in
           let front = loading_code w.storage.base (room_of z) loads w.held in
@@ -317,7 +293,7 @@ module _ (p : Program) (t : Targets) (s : State) (i : ℕ) (b : Bool) (w : Setti
       by_words : (m n : ℕ) → source_of w.storage x ≡ Word m → source_of w.storage y ≡ Word n → (test : Bool)
           → holds (is_live c.memory) k (value w.unit.statics c.here.names (placed_operand (home_at w.storage) x)) (value w.unit.statics c.here.names (placed_operand (home_at w.storage) y)) ≡ Some test
           → PiecesAt p t i b (jumping w.storage w.held b loads (cond (word_test k m n) if_true if_false) next) j
-          → ComesTo p s b (length (jumping w.storage w.held b loads (cond (word_test k m n) if_true if_false) next) + 1) (t.label (cond test if_true if_false)) (with_held (loading_held w.storage.base 8 loads w.held) w) h c
+          → ComesTo p s b (j - i) (t.label (cond test if_true if_false)) (with_held (loading_held w.storage.base 8 loads w.held) w) h c
       by_words m n ex ey test says at =
           let rx : IsReadable w.storage h (Word m) = subst (λ q. IsReadable w.storage h q) ex (operand_readable w c h x storage frame vx fx) in
           let ry : IsReadable w.storage h (Word n) = subst (λ q. IsReadable w.storage h q) ey (operand_readable w c h y storage frame vy fy) in
@@ -325,13 +301,13 @@ module _ (p : Program) (t : Targets) (s : State) (i : ℕ) (b : Bool) (w : Setti
           let my = subst (λ q. Means w.addresses c.memory (value w.unit.statics c.here.names (placed_operand (home_at w.storage) y)) (value_of w.storage h q)) ey (operand_means w c h y storage frame vy) in
           let is : word_test k m n ≡ test = comparison_means w.addresses c.memory frame.laid k _ _ m n test (omega (arith, rx)) (omega (arith, ry)) mx my says in
           subst
-          (λ q. ComesTo p s b (length (jumping w.storage w.held b loads (cond (word_test k m n) if_true if_false) next) + 1) (t.label (cond q if_true if_false)) (with_held (loading_held w.storage.base 8 loads w.held) w) h c)
-          is (comes_within (jump_comes (cond (word_test k m n) if_true if_false) at))
+          (λ q. ComesTo p s b (j - i) (t.label (cond q if_true if_false)) (with_held (loading_held w.storage.base 8 loads w.held) w) h c)
+          is (jump_comes (cond (word_test k m n) if_true if_false) at)
 
       by_sources : (l r : Source) → source_of w.storage x ≡ l → source_of w.storage y ≡ r → (test : Bool)
           → holds (is_live c.memory) k (value w.unit.statics c.here.names (placed_operand (home_at w.storage) x)) (value w.unit.statics c.here.names (placed_operand (home_at w.storage) y)) ≡ Some test
           → PiecesAt p t i b (choosing w.storage w.held b loads k l r if_true if_false next) j
-          → ComesTo p s b (length (choosing w.storage w.held b loads k l r if_true if_false next) + 1) (t.label (cond test if_true if_false)) (with_held (choosing_held w.storage w.held loads k l r) w) h c
+          → ComesTo p s b (j - i) (t.label (cond test if_true if_false)) (with_held (choosing_held w.storage w.held loads k l r) w) h c
       by_sources (Word m) (Word n) el er test says at = by_words m n el er test says at
       by_sources (Word m) (OfHome q) el er test says at = by_branch (Word m) (OfHome q) el er test says at
       by_sources (OfHome q) (Word n) el er test says at = by_branch (OfHome q) (Word n) el er test says at
@@ -339,7 +315,7 @@ module _ (p : Program) (t : Targets) (s : State) (i : ℕ) (b : Bool) (w : Setti
 
       by_test : (found : Option Bool)
           → holds (is_live c.memory) k (value w.unit.statics c.here.names (placed_operand (home_at w.storage) x)) (value w.unit.statics c.here.names (placed_operand (home_at w.storage) y)) ≡ found
-          → DoesEnd p t s b (length (choosing w.storage w.held b loads k (source_of w.storage x) (source_of w.storage y) if_true if_false next) + 1) (with_held (choosing_held w.storage w.held loads k (source_of w.storage x) (source_of w.storage y)) w) c h (if_true ∷ if_false ∷ [])
+          → DoesEnd p t s b (j - i) (with_held (choosing_held w.storage w.held loads k (source_of w.storage x) (source_of w.storage y)) w) c h (if_true ∷ if_false ∷ [])
           (branched c found if_true if_false)
       by_test None says = tt
       by_test (Some true) says = enters p t s b _ _ c h (if_true ∷ if_false ∷ []) if_true among_front (by_sources (source_of w.storage x) (source_of w.storage y) refl refl true says there)
@@ -347,21 +323,21 @@ module _ (p : Program) (t : Targets) (s : State) (i : ℕ) (b : Bool) (w : Setti
 
   -- An end that is no return.
   ends_done : (e : End) → AreOperandsOfEnd w.unit.statics w.graph e → IsGoing e → PiecesAt p t i b (end_pieces w.storage w.held b loads next e) j
-      → DoesEnd p t s b (length (end_pieces w.storage w.held b loads next e) + 1) (with_held (end_held w.storage w.held loads e) w) c h (targets_of e) (execute_end w.unit (placed_end (home_at w.storage) e) c)
-  ends_done (Jump to) valid is there = enters p t s b _ _ c h (to ∷ []) to among_front (comes_within (jump_comes to there))
+      → DoesEnd p t s b (j - i) (with_held (end_held w.storage w.held loads e) w) c h (targets_of e) (execute_end w.unit (placed_end (home_at w.storage) e) c)
+  ends_done (Jump to) valid is there = enters p t s b _ _ c h (to ∷ []) to among_front (jump_comes to there)
   ends_done (Branch k x y if_true if_false) (vx, vy) (fx, fy) there = by_test (if_true == if_false) refl there
     where
       to_one : if_true ≡ if_false → PiecesAt p t i b (jumping w.storage w.held b loads if_true next) j → (found : Option Bool)
-          → DoesEnd p t s b (length (jumping w.storage w.held b loads if_true next) + 1) (with_held (loading_held w.storage.base 8 loads w.held) w) c h (if_true ∷ if_false ∷ []) (branched c found if_true if_false)
+          → DoesEnd p t s b (j - i) (with_held (loading_held w.storage.base 8 loads w.held) w) c h (if_true ∷ if_false ∷ []) (branched c found if_true if_false)
       to_one same at None = tt
-      to_one same at (Some true) = enters p t s b _ _ c h (if_true ∷ if_false ∷ []) if_true among_front (comes_within (jump_comes if_true at))
+      to_one same at (Some true) = enters p t s b _ _ c h (if_true ∷ if_false ∷ []) if_true among_front (jump_comes if_true at)
       to_one same at (Some false) =
-          subst (λ l. DoesEnd p t s b (length (jumping w.storage w.held b loads if_true next) + 1) (with_held (loading_held w.storage.base 8 loads w.held) w) c h (if_true ∷ if_false ∷ []) (go_to c l)) same
-          (enters p t s b _ _ c h (if_true ∷ if_false ∷ []) if_true among_front (comes_within (jump_comes if_true at)))
+          subst (λ l. DoesEnd p t s b (j - i) (with_held (loading_held w.storage.base 8 loads w.held) w) c h (if_true ∷ if_false ∷ []) (go_to c l)) same
+          (enters p t s b _ _ c h (if_true ∷ if_false ∷ []) if_true among_front (jump_comes if_true at))
 
       by_test : (same : Bool) → (if_true == if_false) ≡ same
           → PiecesAt p t i b (cond same (jumping w.storage w.held b loads if_true next) (choosing w.storage w.held b loads k (source_of w.storage x) (source_of w.storage y) if_true if_false next)) j
-          → DoesEnd p t s b (length (cond same (jumping w.storage w.held b loads if_true next) (choosing w.storage w.held b loads k (source_of w.storage x) (source_of w.storage y) if_true if_false next)) + 1)
+          → DoesEnd p t s b (j - i)
           (with_held (cond same (loading_held w.storage.base 8 loads w.held) (choosing_held w.storage w.held loads k (source_of w.storage x) (source_of w.storage y))) w) c h (if_true ∷ if_false ∷ [])
           (branched c (holds (is_live c.memory) k (value w.unit.statics c.here.names (placed_operand (home_at w.storage) x)) (value w.unit.statics c.here.names (placed_operand (home_at w.storage) y))) if_true if_false)
       by_test true e at = to_one (eqb-true if_true if_false e) at _
@@ -370,8 +346,8 @@ module _ (p : Program) (t : Targets) (s : State) (i : ℕ) (b : Bool) (w : Setti
 
   -- Where nothing but such an end is left of a block, its code does the unit's step.
   pub end_done : (e : End) → c.here.rest ≡ [] → c.here.end ≡ placed_end (home_at w.storage) e → AreOperandsOfEnd w.unit.statics w.graph e → IsGoing e → PiecesAt p t i b (end_pieces w.storage w.held b loads next e) j
-      → DoesEnd p t s b (length (end_pieces w.storage w.held b loads next e) + 1) (with_held (end_held w.storage w.held loads e) w) c h (targets_of e) (step w.unit c)
+      → DoesEnd p t s b (j - i) (with_held (end_held w.storage w.held loads e) w) c h (targets_of e) (step w.unit c)
   end_done e none is valid goes there =
-      subst (λ all. DoesEnd p t s b (length (end_pieces w.storage w.held b loads next e) + 1) (with_held (end_held w.storage w.held loads e) w) c h (targets_of e) (step_from w.unit all c)) (sym none)
-      (subst (λ q. DoesEnd p t s b (length (end_pieces w.storage w.held b loads next e) + 1) (with_held (end_held w.storage w.held loads e) w) c h (targets_of e) (execute_end w.unit q c)) (sym is)
+      subst (λ all. DoesEnd p t s b (j - i) (with_held (end_held w.storage w.held loads e) w) c h (targets_of e) (step_from w.unit all c)) (sym none)
+      (subst (λ q. DoesEnd p t s b (j - i) (with_held (end_held w.storage w.held loads e) w) c h (targets_of e) (execute_end w.unit q c)) (sym is)
       (ends_done e valid goes there))

@@ -28,6 +28,7 @@ pub mod Returning
 pub mod Running
 pub mod Same
 pub mod Saved
+pub mod Spare
 pub mod Starting
 pub mod Stepping
 pub mod Unmarked

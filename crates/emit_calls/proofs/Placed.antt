@@ -1,5 +1,5 @@
 -- Pieces that stand in the code: words among them, and where control goes from jumps and branches.
-use Rattle.std.proofs.Common.{◌≡◌, ℕ, ◌+◌, ◌<◌, ◌≤◌, ◌⊎◌, inl, inr, sym, ap, ◌∙◌, subst, arith, refl, List, [], ◌∷◌, ◌++◌, length, Bool, true, false, not}
+use Rattle.std.proofs.Common.{◌≡◌, ℕ, ◌+◌, ◌-◌, ◌<◌, ◌≤◌, ◌⊎◌, inl, inr, sym, ap, ◌∙◌, subst, arith, refl, List, [], ◌∷◌, ◌++◌, length, Bool, true, false, not}
 use Rattle.rv_code.specs.declared.instruction.Instruction.{Instruction}
 use Rattle.rv_code.specs.declared.instruction.Instruction.TheVariants as instruction
 use Rattle.rv_code.specs.declared.instruction.BranchOperation.{BranchOperation}
@@ -7,6 +7,7 @@ use Rattle.rv_code.specs.declared.instruction.BranchOperation.TheVariants.{Beq, 
 use Rattle.rv_machine.specs.State.{State, word}
 use Rattle.rv_machine.specs.Table.{taken}
 use Rattle.emit_pieces.specs.declared.piece.Piece.{Piece}
+use Rattle.emit_pieces.specs.declared.piece.Piece.TheVariants as piece
 use Rattle.machine_steps.specs.Holding.{Holding}
 use Rattle.machine_steps.specs.Programs.{Program, address_of, distance, IsAt, CodeAt, behind, Stands}
 use Rattle.machine_steps.specs.Points.{Reaches}
@@ -14,7 +15,7 @@ use Rattle.machine_steps.proofs.Placing.{reaches_then}
 use Rattle.machine_steps.proofs.Standing.{index_low}
 use Rattle.machine_steps.proofs.Jumping.{distance_leads, jump_does, branch_taken, branch_not_taken}
 use Rattle.emit_code.specs.Ends.{words, begins_behind, opposite}
-use Rattle.emit_calls.specs.Pieces.{Targets, IsNear, IsFar, PiecesAt}
+use Rattle.emit_calls.specs.Pieces.{Targets, IsNear, IsFar, PieceAt, PiecesAt}
 
 -- ---- Words among pieces
 
@@ -86,19 +87,35 @@ eight_leads i low = omega arith
 pub jump_goes : (p : Program) (s : State) (i : ℕ) (h : Holding) (b : Bool) (to : ℕ) → Stands p s i h → IsAt p i b (instruction.Jal 0 (distance i to)) → to ≤ 262144 → Reaches p 1 (record { state = s; shown = b }) [] to false h
 jump_goes p s i h b to stands at fits = jump_does p s i h to b 0 (distance i to) stands at (distance_leads i to (index_low p i b (instruction.Jal 0 (distance i to)) at) fits)
 
--- A branch that is taken goes to its label, in one or two instructions.
+-- As many may be said to be more.
+pub goes_within : {p : Program} {s : State} {b : Bool} {most more to : ℕ} {h : Holding} → most ≤ more → GoesTo p s b most to h → GoesTo p s b more to h
+goes_within le goes = record { count = goes.count; few = let few = goes.few in omega (arith, le, few); reaches = goes.reaches }
+
+-- A piece has a word, and pieces have no fewer words than they are.
+pub piece_long : (p : Program) (t : Targets) (i : ℕ) (b : Bool) (x : Piece) (j : ℕ) → PieceAt p t i b x j → i + 1 ≤ j
+piece_long p t i b (piece.Word x) j (at, next) = omega (arith, next)
+piece_long p t i b (piece.Jump to) j (at, next) = omega (arith, next)
+piece_long p t i b (piece.Branch op l r to) j (inl (at, next)) = omega (arith, next)
+piece_long p t i b (piece.Branch op l r to) j (inr (at, over, next)) = omega (arith, next)
+piece_long p t i b (piece.Call f) j (at, next) = omega (arith, next)
+
+pub pieces_long : (p : Program) (t : Targets) (i : ℕ) (b : Bool) (all : List Piece) (j : ℕ) → PiecesAt p t i b all j → i + length all ≤ j
+pieces_long p t i b [] j end = omega (arith, end)
+pieces_long p t i b (x ∷ more) j (k, at, rest) = let one = piece_long p t i b x k at in let later = pieces_long p t k false more j rest in omega (arith, one, later)
+
+-- A branch that is taken goes to its label, in as many instructions as it has words.
 pub taken_goes : (p : Program) (t : Targets) (s : State) (i : ℕ) (h : Holding) (b : Bool) (op : BranchOperation) (l r to j : ℕ) → Stands p s i h → (IsNear p t i b op l r to j) ⊎ (IsFar p t i b op l r to j) → t.label to ≤ 262144
-    → taken op (h.registers l) (h.registers r) ≡ true → GoesTo p s b 2 (t.label to) h
+    → taken op (h.registers l) (h.registers r) ≡ true → GoesTo p s b (j - i) (t.label to) h
 taken_goes p t s i h b op l r to j stands (inl (at, next)) fits test = record {
   count = 1;
-  few = omega arith;
+  few = omega (arith, next);
   reaches = branch_taken p s i h (t.label to) b op l r (distance i (t.label to)) stands at test
       (distance_leads i (t.label to) (index_low p i b (instruction.Branch op l r (distance i (t.label to))) at) fits);
 }
 taken_goes p t s i h b op l r to j stands (inr (at, over, next)) fits test =
     let first = branch_not_taken p s i h b (opposite op) l r 8 stands at (opposite_taken op (h.registers l) (h.registers r) ∙ ap not test) in
     let second = jump_goes p first.state (i + 1) h false (t.label to) first.stands over fits in
-    record { count = 1 + 1; few = omega arith; reaches = reaches_then p 1 1 (record { state = s; shown = b }) [] (i + 1) false h [] (t.label to) false h first second }
+    record { count = 1 + 1; few = omega (arith, next); reaches = reaches_then p 1 1 (record { state = s; shown = b }) [] (i + 1) false h [] (t.label to) false h first second }
 
 -- One that is not goes on behind it.
 pub not_taken_goes : (p : Program) (t : Targets) (s : State) (i : ℕ) (h : Holding) (b : Bool) (op : BranchOperation) (l r to j : ℕ) → Stands p s i h → (IsNear p t i b op l r to j) ⊎ (IsFar p t i b op l r to j)

@@ -19,7 +19,8 @@ use Rattle.emit_calls.proofs.Grown.{beginning_there, leaving_appends}
 use Rattle.emit_calls.proofs.Placed.{words_alone}
 use Rattle.emit_runs.specs.Laid.{IsFunctionAt, IsCode}
 use Rattle.emit_runs.proofs.Frames.{graph_valid, over_homes_there}
-use Rattle.emit_runs.proofs.Rest.{program_in, codes_in, places_in, RestAt, start_at}
+use Rattle.emit_runs.proofs.Rest.{program_in, codes_in, places_in, RestFrom, start_at}
+use Rattle.emit_runs.proofs.Tracks.{at_block, path_begins}
 use Rattle.emit_runs.proofs.UnitSteps.{spot_of}
 
 -- What stands at a number of a list that was mapped.
@@ -78,11 +79,11 @@ module _ (h : HomedForm) (valid : IsValid h.unit) (e : EmittedForm) (code : IsCo
 
   -- An activation that begins has all of it left.
   pub activation_begins : (f : ℕ) (low : f < length h.unit.graphs) (memory : Memory) (input : List ℕ) (vs : List Value) (waiting : List Activation)
-      → RestAt h e code (spot_of (begun memory input f vs waiting (placed_graph (home_at (codes_in h e code f).storage) (codes_in h e code f).graph) (placed_block (home_at (codes_in h e code f).storage) (first_block f low).block)).here) (code.arrangement.label f 0) [] false
+      → RestFrom h e code (at_block f 0 (first_block f low).block []) (spot_of (begun memory input f vs waiting (placed_graph (home_at (codes_in h e code f).storage) (codes_in h e code f).graph) (placed_block (home_at (codes_in h e code f).storage) (first_block f low).block)).here) (code.arrangement.label f 0) [] false
   activation_begins f low memory input vs waiting =
       let first = first_block f low in
-      subst (λ l. RestAt h e code (spot_of (begun memory input f vs waiting (placed_graph (home_at (codes_in h e code f).storage) (codes_in h e code f).graph) (placed_block (home_at (codes_in h e code f).storage) first.block)).here) (code.arrangement.label f 0) l false)
-      (code.functions f low).first (start_at h e code f 0 (codes_in h e code f).graph.entry first.block low first.there first.keeps)
+      subst (λ l. RestFrom h e code (at_block f 0 first.block []) (spot_of (begun memory input f vs waiting (placed_graph (home_at (codes_in h e code f).storage) (codes_in h e code f).graph) (placed_block (home_at (codes_in h e code f).storage) first.block)).here) (code.arrangement.label f 0) l false)
+      (code.functions f low).first (start_at h e code f 0 (codes_in h e code f).graph.entry first.block low first.there first.keeps [] (path_begins (codes_in h e code f).graph first.block first.there) refl)
 
   -- The unit over homes begins it.
   pub enters_over_homes : (f : ℕ) (low : f < length h.unit.graphs) (memory : Memory) (input : List ℕ) (vs : List Value) (waiting : List Activation)

@@ -10,6 +10,7 @@ use Rattle.graph_core.specs.declared.value.Value.{Value}
 use Rattle.graph_core.specs.declared.instruction.Callee.{Callee}
 use Rattle.graph_core.specs.declared.instruction.Callee.TheVariants as callee
 use Rattle.graph_core.specs.Graphs.{Operand, Instruction, Call, Graph, UnitForm}
+use Rattle.graph_core.specs.Paths.{called}
 use Rattle.graph_core.specs.Runs.{Activation, Configuration, TooDeep, Stepped, Goes, Shows, Ends as EndsUnit, Wild, value, begun, goes_if, execute, step}
 use Rattle.graph_core.specs.Values.{is_odd}
 use Rattle.graph_core.specs.Validity.{IsValid, IsOperand, IsWanted, HasParameters, KeepsPlace}
@@ -37,10 +38,11 @@ use Rattle.emit_runs.specs.Laid.{graph_at, IsCode}
 use Rattle.emit_runs.proofs.Beginnings.{begins_there, first_block, block_over_homes, activation_begins, enters_over_homes}
 use Rattle.emit_runs.proofs.Frames.{graph_is, graph_valid, over_homes_there, all_codes, share_statics, are_bindable}
 use Rattle.emit_runs.proofs.Places.{keeps_same, unmarked_keeps, unmarked_behind}
-use Rattle.emit_runs.proofs.Related.{GoesOn, Related, DoesStep, come_unseen, on_same, end_done}
-use Rattle.emit_runs.proofs.Rest.{program_in, codes_in, places_in, RestAt, NextAt, next_at, rest_behind}
-use Rattle.emit_runs.proofs.States.{growing, going_on_from, getchar_is, putchar_is, exit_is, function_called, function_is, function_goes_on, CallThere, function_there}
-use Rattle.emit_runs.proofs.Straights.{rest_is, step_is, words_done, saved_is}
+use Rattle.emit_runs.proofs.Related.{GoesOn, Related, DoesStep, does_within, come_unseen, on_same, end_done}
+use Rattle.emit_runs.proofs.Rest.{program_in, codes_in, blocks_in, places_in, position_of, RestFrom, NextAt, next_at, rest_behind}
+use Rattle.emit_runs.proofs.States.{growing, going_on_from, getchar_is, putchar_is, exit_is, function_called, function_is, function_goes_on, called_pieces, CallThere, function_there}
+use Rattle.emit_runs.proofs.Straights.{rest_is, step_is, words_done, words_few, passes_it, saved_is}
+use Rattle.emit_runs.proofs.Tracks.{pieces_of, Position, passed_by, at_block, Advances, begins_function, calls_function}
 use Rattle.emit_runs.proofs.UnitSteps.{spot_of, KeepsSpot, IsPlain, execute_spot, ShowsRightly, step_right}
 
 -- The home of a wanted name is one of the function's, and its number is that of the name over homes.
@@ -86,19 +88,19 @@ module _ (h : HomedForm) (valid : IsValid h.unit) (homed : HaveHomes h) (e : Emi
   -- ---- The environment
 
   -- A step to a configuration behind a call of the environment, by its number.
-  environment_step : (n : ℕ) → IsPlain (placed_instruction (home_at (codes_in h e code c.here.function).storage) (Call target callee_is arguments))
+  environment_step : (n : ℕ) → calls_function (Call target callee_is arguments) ≡ false → IsPlain (placed_instruction (home_at (codes_in h e code c.here.function).storage) (Call target callee_is arguments))
       → CodeAt (program_in h e code) r.index q.shown
       (passing_code (codes_in h e code c.here.function).storage 0 r.held arguments ++ instruction.Immediate Addi 17 0 n ∷ instruction.Ecall ∷ answer_code (codes_in h e code c.here.function).storage (option_map (home_at (codes_in h e code c.here.function).storage) target))
       → ((d : Configuration) → spot_of d.here ≡ spot_of (going_on c (map (placed_instruction (home_at (codes_in h e code c.here.function).storage)) more)).here
-      → RestAt h e code (spot_of d.here)
+      → RestFrom h e code (passed_by (position_of r.rest) (Call target callee_is arguments) more) (spot_of d.here)
       (r.index + length (passing_code (codes_in h e code c.here.function).storage 0 r.held arguments ++ instruction.Immediate Addi 17 0 n ∷ []) + 1 + length (answer_code (codes_in h e code c.here.function).storage (option_map (home_at (codes_in h e code c.here.function).storage) target)))
       (forgotten 17 (passing_held 0 r.held arguments)) false)
       → DoesCall (program_in h e code) q.state r.index q.shown
       (length (passing_code (codes_in h e code c.here.function).storage 0 r.held arguments ++ instruction.Immediate Addi 17 0 n ∷ []) + 1 + length (answer_code (codes_in h e code c.here.function).storage (option_map (home_at (codes_in h e code c.here.function).storage) target)))
       (r.index + length (passing_code (codes_in h e code c.here.function).storage 0 r.held arguments ++ instruction.Immediate Addi 17 0 n ∷ []) + 1 + length (answer_code (codes_in h e code c.here.function).storage (option_map (home_at (codes_in h e code c.here.function).storage) target)))
       (codes_in h e code) (over_homes h) r.addresses (Resumes (program_in h e code) (codes_in h e code) (GoesOn h e code)) (forgotten 17 (passing_held 0 r.held arguments)) (step (over_homes h) c)
-      → DoesStep h e code q (step (over_homes h) c)
-  environment_step n plain there left does = by_step (step (over_homes h) c) refl does (step_right (over_homes h) c)
+      → DoesStep h e code (position_of r.rest) (length (passing_code (codes_in h e code c.here.function).storage 0 r.held arguments ++ instruction.Immediate Addi 17 0 n ∷ []) + 1 + length (answer_code (codes_in h e code c.here.function).storage (option_map (home_at (codes_in h e code c.here.function).storage) target))) q (step (over_homes h) c)
+  environment_step n none plain there left does = by_step (step (over_homes h) c) refl does (step_right (over_homes h) c)
     where
       kept : (z : Stepped) → step (over_homes h) c ≡ z → KeepsSpot (going_on c (map (placed_instruction (home_at (codes_in h e code c.here.function).storage)) more)) z
       kept z is_z =
@@ -108,10 +110,11 @@ module _ (h : HomedForm) (valid : IsValid h.unit) (homed : HaveHomes h) (e : Emi
           → DoesCall (program_in h e code) q.state r.index q.shown
           (length (passing_code (codes_in h e code c.here.function).storage 0 r.held arguments ++ instruction.Immediate Addi 17 0 n ∷ []) + 1 + length (answer_code (codes_in h e code c.here.function).storage (option_map (home_at (codes_in h e code c.here.function).storage) target)))
           (r.index + length (passing_code (codes_in h e code c.here.function).storage 0 r.held arguments ++ instruction.Immediate Addi 17 0 n ∷ []) + 1 + length (answer_code (codes_in h e code c.here.function).storage (option_map (home_at (codes_in h e code c.here.function).storage) target)))
-          (codes_in h e code) (over_homes h) r.addresses (Resumes (program_in h e code) (codes_in h e code) (GoesOn h e code)) (forgotten 17 (passing_held 0 r.held arguments)) z → ShowsRightly z → DoesStep h e code q z
-      by_step (Goes d) is_z done right = come_unseen h e code q r.index _ _ false r.addresses (forgotten 17 (passing_held 0 r.held arguments)) d done (left d (kept (Goes d) is_z))
+          (codes_in h e code) (over_homes h) r.addresses (Resumes (program_in h e code) (codes_in h e code) (GoesOn h e code)) (forgotten 17 (passing_held 0 r.held arguments)) z → ShowsRightly z → DoesStep h e code (position_of r.rest) (length (passing_code (codes_in h e code c.here.function).storage 0 r.held arguments ++ instruction.Immediate Addi 17 0 n ∷ []) + 1 + length (answer_code (codes_in h e code c.here.function).storage (option_map (home_at (codes_in h e code c.here.function).storage) target))) q z
+      by_step (Goes d) is_z done right = come_unseen h e code (position_of r.rest) (passed_by (position_of r.rest) (Call target callee_is arguments) more) q r.index _ _ false r.addresses (forgotten 17 (passing_held 0 r.held arguments)) d done (left d (kept (Goes d) is_z)) (passes_it h valid homed e code c q r (Call target callee_is arguments) more is none)
       by_step (Shows seen d) is_z done right = record {
         count = done.count;
+        few = done.few;
         event = done.event;
         point = record { state = done.reaches.state; shown = false };
         leads = done.reaches.leads;
@@ -123,7 +126,7 @@ module _ (h : HomedForm) (valid : IsValid h.unit) (homed : HaveHomes h) (e : Emi
           holding = done.holding;
           stands = done.reaches.stands;
           all = done.all;
-          rest = left d (kept (Shows seen d) is_z);
+          rest = (left d (kept (Shows seen d) is_z)).rest;
         };
       }
       by_step (EndsUnit seen) is_z done right = end_done h e code q _ seen done right
@@ -136,7 +139,7 @@ module _ (h : HomedForm) (valid : IsValid h.unit) (homed : HaveHomes h) (e : Emi
       → (d : Configuration) → spot_of d.here ≡ spot_of (going_on c (map (placed_instruction (home_at (codes_in h e code c.here.function).storage)) more)).here
       → CodeAt (program_in h e code) r.index q.shown
       (passing_code (codes_in h e code c.here.function).storage 0 r.held arguments ++ instruction.Immediate Addi 17 0 n ∷ instruction.Ecall ∷ answer_code (codes_in h e code c.here.function).storage (option_map (home_at (codes_in h e code c.here.function).storage) target))
-      × RestAt h e code (spot_of d.here)
+      × RestFrom h e code (passed_by (position_of r.rest) (Call target callee_is arguments) more) (spot_of d.here)
       (r.index + length (passing_code (codes_in h e code c.here.function).storage 0 r.held arguments ++ instruction.Immediate Addi 17 0 n ∷ []) + 1 + length (answer_code (codes_in h e code c.here.function).storage (option_map (home_at (codes_in h e code c.here.function).storage) target)))
       (forgotten 17 (passing_held 0 r.held arguments)) false
   environment_there n appended d spot =
@@ -148,40 +151,58 @@ module _ (h : HomedForm) (valid : IsValid h.unit) (homed : HaveHomes h) (e : Emi
       let long = length-append passing (instruction.Immediate Addi 17 0 n ∷ instruction.Ecall ∷ answer) in
       let short = length-append passing (instruction.Immediate Addi 17 0 n ∷ []) in
       let same : r.index + length words ≡ r.index + length (passing ++ instruction.Immediate Addi 17 0 n ∷ []) + 1 + length answer = omega (arith, long, short) in
-      (done.0, subst (λ b. RestAt h e code (spot_of d.here) (r.index + length (passing ++ instruction.Immediate Addi 17 0 n ∷ []) + 1 + length answer) later b) (unshown passing n answer) (subst (λ k. RestAt h e code (spot_of d.here) k later (behind q.shown words)) same done.1))
+      (done.0, subst (λ b. RestFrom h e code (passed_by (position_of r.rest) (Call target callee_is arguments) more) (spot_of d.here) (r.index + length (passing ++ instruction.Immediate Addi 17 0 n ∷ []) + 1 + length answer) later b) (unshown passing n answer) (subst (λ k. RestFrom h e code (passed_by (position_of r.rest) (Call target callee_is arguments) more) (spot_of d.here) k later (behind q.shown words)) same done.1))
     where
       unshown : (passing : List MachineInstruction) (n : ℕ) (answer : List MachineInstruction) → behind q.shown (passing ++ instruction.Immediate Addi 17 0 n ∷ instruction.Ecall ∷ answer) ≡ false
       unshown [] n answer = refl
       unshown (x ∷ passing) n answer = refl
 
-  pub getchar_step : callee_is ≡ callee.Getchar → length arguments ≡ 0 → DoesStep h e code q (step (over_homes h) c)
+  -- Its words are no more than the pieces of the instruction.
+  environment_few : (n : ℕ)
+      → with_instruction (codes_in h e code c.here.function).storage (codes_in h e code c.here.function).graph.entry (Call target callee_is arguments) (growing r.held r.rest.owner q.shown)
+      ≡ record (with_code (passing_code (codes_in h e code c.here.function).storage 0 r.held arguments ++ instruction.Immediate Addi 17 0 n ∷ instruction.Ecall ∷ answer_code (codes_in h e code c.here.function).storage (option_map (home_at (codes_in h e code c.here.function).storage) target)) (growing r.held r.rest.owner q.shown)) { held = forgotten 17 (passing_held 0 r.held arguments) }
+      → length (passing_code (codes_in h e code c.here.function).storage 0 r.held arguments ++ instruction.Immediate Addi 17 0 n ∷ []) + 1 + length (answer_code (codes_in h e code c.here.function).storage (option_map (home_at (codes_in h e code c.here.function).storage) target))
+      ≤ pieces_of (codes_in h e code c.here.function).storage (codes_in h e code c.here.function).graph.entry (Call target callee_is arguments) (growing r.held r.rest.owner q.shown)
+  environment_few n appended =
+      let passing : List MachineInstruction = passing_code f.storage 0 r.held arguments in
+      let answer : List MachineInstruction = answer_code f.storage (option_map home target) in
+      let words : List MachineInstruction = passing ++ instruction.Immediate Addi 17 0 n ∷ instruction.Ecall ∷ answer in
+      let few = words_few h valid homed e code c q r (Call target callee_is arguments) more is words (forgotten 17 (passing_held 0 r.held arguments)) appended in
+      let long = length-append passing (instruction.Immediate Addi 17 0 n ∷ instruction.Ecall ∷ answer) in
+      let short = length-append passing (instruction.Immediate Addi 17 0 n ∷ []) in
+      omega (arith, few, long, short)
+
+  pub getchar_step : callee_is ≡ callee.Getchar → length arguments ≡ 0 → DoesStep h e code (position_of r.rest) (pieces_of (codes_in h e code c.here.function).storage (codes_in h e code c.here.function).graph.entry (Call target callee_is arguments) (growing r.held r.rest.owner q.shown)) q (step (over_homes h) c)
   getchar_step same none =
       let s : CodeState = growing r.held r.rest.owner q.shown in
       let appended = ap (λ k. with_instruction f.storage f.graph.entry (Call target k arguments) s) same ∙ getchar_is f.storage target arguments s in
       let there = environment_there 1 appended (going_on c rest) refl in
-      environment_step 1 (subst (λ k. IsPlain (placed_instruction home (Call target k arguments))) (sym same) tt) there.0 (λ d spot. (environment_there 1 appended d spot).1)
+      does_within h e code (position_of r.rest) _ _ q (step (over_homes h) c) (environment_few 1 appended)
+      (environment_step 1 (ap (λ k. calls_function (Call target k arguments)) same) (subst (λ k. IsPlain (placed_instruction home (Call target k arguments))) (sym same) tt) there.0 (λ d spot. (environment_there 1 appended d spot).1)
       (getchar_done (program_in h e code) (codes_in h e code) (over_homes h) (all_codes h valid homed code.arrangement (over_homes h)) r.addresses (GoesOn h e code) q.state r.index q.shown r.held c r.holding r.all r.stands target wants rest arguments legal fit saved (omega (arith, none))
-      (rest_is h valid homed e code c q r (Call target callee_is arguments) more is ∙ ap (λ k. placed_instruction home (Call target k arguments) ∷ rest) same) there.0)
+      (rest_is h valid homed e code c q r (Call target callee_is arguments) more is ∙ ap (λ k. placed_instruction home (Call target k arguments) ∷ rest) same) there.0))
 
-  pub putchar_step : callee_is ≡ callee.Putchar → length arguments ≡ 1 → DoesStep h e code q (step (over_homes h) c)
+  pub putchar_step : callee_is ≡ callee.Putchar → length arguments ≡ 1 → DoesStep h e code (position_of r.rest) (pieces_of (codes_in h e code c.here.function).storage (codes_in h e code c.here.function).graph.entry (Call target callee_is arguments) (growing r.held r.rest.owner q.shown)) q (step (over_homes h) c)
   putchar_step same one =
       let s : CodeState = growing r.held r.rest.owner q.shown in
       let first = one_of arguments one in
       let appended = ap (λ k. with_instruction f.storage f.graph.entry (Call target k arguments) s) same ∙ putchar_is f.storage target arguments s in
       let there = environment_there 2 appended (going_on c rest) refl in
-      environment_step 2 (subst (λ k. IsPlain (placed_instruction home (Call target k arguments))) (sym same) tt) there.0 (λ d spot. (environment_there 2 appended d spot).1)
+      does_within h e code (position_of r.rest) _ _ q (step (over_homes h) c) (environment_few 2 appended)
+      (environment_step 2 (ap (λ k. calls_function (Call target k arguments)) same) (subst (λ k. IsPlain (placed_instruction home (Call target k arguments))) (sym same) tt) there.0 (λ d spot. (environment_there 2 appended d spot).1)
       (putchar_done (program_in h e code) (codes_in h e code) (over_homes h) (all_codes h valid homed code.arrangement (over_homes h)) r.addresses (GoesOn h e code) q.state r.index q.shown r.held c r.holding r.all r.stands target wants rest arguments legal fit saved (omega (arith, one))
-      first.0 [] first.1 (rest_is h valid homed e code c q r (Call target callee_is arguments) more is ∙ ap (λ k. placed_instruction home (Call target k arguments) ∷ rest) same) there.0)
+      first.0 [] first.1 (rest_is h valid homed e code c q r (Call target callee_is arguments) more is ∙ ap (λ k. placed_instruction home (Call target k arguments) ∷ rest) same) there.0))
 
-  pub exit_step : callee_is ≡ callee.Exit → length arguments ≡ 1 → DoesStep h e code q (step (over_homes h) c)
+  pub exit_step : callee_is ≡ callee.Exit → length arguments ≡ 1 → DoesStep h e code (position_of r.rest) (pieces_of (codes_in h e code c.here.function).storage (codes_in h e code c.here.function).graph.entry (Call target callee_is arguments) (growing r.held r.rest.owner q.shown)) q (step (over_homes h) c)
   exit_step same one =
       let s : CodeState = growing r.held r.rest.owner q.shown in
       let first = one_of arguments one in
       let appended = ap (λ k. with_instruction f.storage f.graph.entry (Call target k arguments) s) same ∙ exit_is f.storage target arguments s in
       let there = environment_there 10 appended (going_on c rest) refl in
-      environment_step 10 (subst (λ k. IsPlain (placed_instruction home (Call target k arguments))) (sym same) tt) there.0 (λ d spot. (environment_there 10 appended d spot).1)
+      does_within h e code (position_of r.rest) _ _ q (step (over_homes h) c) (environment_few 10 appended)
+      (environment_step 10 (ap (λ k. calls_function (Call target k arguments)) same) (subst (λ k. IsPlain (placed_instruction home (Call target k arguments))) (sym same) tt) there.0 (λ d spot. (environment_there 10 appended d spot).1)
       (exit_done (program_in h e code) (codes_in h e code) (over_homes h) (all_codes h valid homed code.arrangement (over_homes h)) r.addresses (GoesOn h e code) q.state r.index q.shown r.held c r.holding r.all r.stands target wants rest arguments legal fit saved (omega (arith, one))
-      first.0 [] first.1 (rest_is h valid homed e code c q r (Call target callee_is arguments) more is ∙ ap (λ k. placed_instruction home (Call target k arguments) ∷ rest) same) there.0)
+      first.0 [] first.1 (rest_is h valid homed e code c q r (Call target callee_is arguments) more is ∙ ap (λ k. placed_instruction home (Call target k arguments) ∷ rest) same) there.0))
 
   -- ---- A function
 
@@ -224,31 +245,34 @@ module _ (h : HomedForm) (valid : IsValid h.unit) (homed : HaveHomes h) (e : Emi
         some_is : {m n : ℕ} → Some m ≡ Some n → m ≡ n
         some_is e = cc
 
-    later : RestAt h e code (spot_of (going_on c (map (placed_instruction (home_at (codes_in h e code c.here.function).storage)) more)).here) next.behind_it [] false
+    later : RestFrom h e code (passed_by (position_of r.rest) (Call target callee_is arguments) more) (spot_of (going_on c (map (placed_instruction (home_at (codes_in h e code c.here.function).storage)) more)).here) next.behind_it [] false
     later =
         let s : CodeState = growing r.held r.rest.owner q.shown in
         rest_behind h e code (spot_of c.here) r.index r.held q.shown r.rest (Call target callee_is arguments) more is next c.here.place r.rest.owner [] false (ap going_on_from appended ∙ function_goes_on f.storage target function arguments s)
-        (keeps_same more (Some r.rest.owner) (Some c.here.place) (ap (λ n. Some n) same_owner)) (unmarked_behind (Call target callee_is arguments) more (Some c.here.place) tt)
+        (keeps_same more (Some r.rest.owner) (Some c.here.place) (ap (λ n. Some n) same_owner)) (unmarked_behind (Call target callee_is arguments) more (Some c.here.place) tt) (unmarked_behind (Call target callee_is arguments) [] (Some c.here.place) tt)
 
     -- The activation waits where its code goes on.
     resume : Resumes (program_in h e code) (codes_in h e code) (GoesOn h e code) (record (going_on c (map (placed_instruction (home_at (codes_in h e code c.here.function).storage)) more)).here { wants = option_map (placed (home_at (codes_in h e code c.here.function).storage)) target })
         (r.index + length (passing_code (codes_in h e code c.here.function).storage 0 r.held arguments) + 1)
-    resume = record {
-      target = option_map home target;
-      wants = wanted_home home target;
-      among = among;
-      saved = saved;
-      code = there.answers;
-      rest = record {
-        rest = subst (λ k. RestAt h e code (spot_of (going_on c rest).here) k [] false) there.is later;
-        call = r.index + length passing;
-        target = option_map home target;
-        wants = wanted_home home target;
-        among = among;
-        is = refl;
-        owned = there.owned ∙ same_owner;
-      };
-    }
+    resume =
+        let waits = subst (λ k. RestFrom h e code (passed_by (position_of r.rest) (Call target callee_is arguments) more) (spot_of (going_on c rest).here) k [] false) there.is later in
+        record {
+          target = option_map home target;
+          wants = wanted_home home target;
+          among = among;
+          saved = saved;
+          code = there.answers;
+          rest = record {
+            rest = waits.rest;
+            call = r.index + length passing;
+            target = option_map home target;
+            wants = wanted_home home target;
+            among = among;
+            is = refl;
+            owned = there.owned ∙ same_owner;
+            calls = ap (λ (p : Position). called p.history) waits.is;
+          };
+        }
 
     -- The index behind the call is one of the code, or that behind it.
     low_index : r.index + length (passing_code (codes_in h e code c.here.function).storage 0 r.held arguments) + 1 ≤ 262144
@@ -285,33 +309,48 @@ module _ (h : HomedForm) (valid : IsValid h.unit) (homed : HaveHomes h) (e : Emi
     done =
         function_call_done (program_in h e code) (codes_in h e code) (over_homes h) (all_codes h valid homed code.arrangement (over_homes h)) r.addresses (GoesOn h e code) q.state r.index q.shown r.held c r.holding r.all r.stands target wants rest arguments legal fit
         (share_statics h valid homed code.arrangement) function (code.arrangement.function function) few (function == h.unit.main) (placed_block (home_at (codes_in h e code function).storage) (first_block h valid e code function low).block)
-        (rest_is h valid homed e code c q r (Call target callee_is arguments) more is ∙ ap (λ k. placed_instruction home (Call target k arguments) ∷ rest) same) there.passes there.calls (begins_there h valid e code function low).0 many (are_bindable h valid homed code.arrangement function low code.words) low_index resume
+        (rest_is h valid homed e code c q r (Call target callee_is arguments) more is ∙ ap (λ k. placed_instruction home (Call target k arguments) ∷ rest) same) there.passes there.calls (begins_there h valid e code function low).0 many (are_bindable h valid homed code.arrangement function low) low_index resume
         (over_homes_there h code.arrangement function low) (block_over_homes h valid e code function low)
 
     -- Its first block stands behind its beginning.
     label_is : code.arrangement.label function 0 ≡ code.arrangement.function function + 1 + 1 + 1 + 1 + begins_behind
     label_is = let at = (begins_there h valid e code function low).1 in omega (arith, at)
 
-    begun_step : Done (Goes d) → DoesStep h e code q (Goes d)
-    begun_step begins = record {
-      count = begins.count;
-      point = record { state = begins.reaches.state; shown = false };
-      leads = begins.reaches.leads;
-      related = record {
-        addresses = begins.addresses;
-        index = code.arrangement.function function + 1 + 1 + 1 + 1 + begins_behind;
-        held = [];
-        holding = begins.holding;
-        stands = begins.reaches.stands;
-        all = begins.all;
-        rest = subst (λ k. RestAt h e code (spot_of d.here) k [] false) label_is (activation_begins h valid e code function low c.memory c.input values waiting);
-      };
-    }
+    begun_step : Done (Goes d) → DoesStep h e code (position_of r.rest) (length passing + 4 + begins_behind) q (Goes d)
+    begun_step begins =
+        let first = subst (λ k. RestFrom h e code (at_block function 0 (first_block h valid e code function low).block []) (spot_of d.here) k [] false) label_is (activation_begins h valid e code function low c.memory c.input values waiting) in
+        record {
+          count = begins.count;
+          few = begins.few;
+          point = record { state = begins.reaches.state; shown = false };
+          leads = begins.reaches.leads;
+          related = record {
+            addresses = begins.addresses;
+            index = code.arrangement.function function + 1 + 1 + 1 + 1 + begins_behind;
+            held = [];
+            holding = begins.holding;
+            stands = begins.reaches.stands;
+            all = begins.all;
+            rest = first.rest;
+          };
+          advances = subst (λ p. Advances (blocks_in h e code) (position_of r.rest) p) (sym first.is) (begins_function target function arguments more (first_block h valid e code function low).block (is ∙ ap (λ k. Call target k arguments ∷ more) same) refl);
+        }
 
-    by_tests : (odd full : Bool) → Done (cond odd Wild (cond full (EndsUnit TooDeep) (Goes d))) → DoesStep h e code q (cond odd Wild (cond full (EndsUnit TooDeep) (Goes d)))
+    by_tests : (odd full : Bool) → Done (cond odd Wild (cond full (EndsUnit TooDeep) (Goes d))) → DoesStep h e code (position_of r.rest) (length passing + 4 + begins_behind) q (cond odd Wild (cond full (EndsUnit TooDeep) (Goes d)))
     by_tests true full it = tt
     by_tests false true it = end_done h e code q _ TooDeep it tt
     by_tests false false it = begun_step it
 
-    pub function_step : DoesStep h e code q (step (over_homes h) c)
-    function_step = subst (λ z. DoesStep h e code q z) (sym does) (by_tests (list_any is_odd values) (length c.waiting + 1 == 1024) (subst (λ z. Done z) does done))
+    -- Passing the arguments takes no more words than the instruction has pieces.
+    passing_few : length passing ≤ pieces_of (codes_in h e code c.here.function).storage (codes_in h e code c.here.function).graph.entry (Call target callee_is arguments) (growing r.held r.rest.owner q.shown)
+    passing_few =
+        let s : CodeState = growing r.held r.rest.owner q.shown in
+        let many = called_pieces f.storage target function arguments s in
+        let all = ap (λ (t : CodeState). length t.pieces) appended in
+        omega (arith, many, all)
+
+    pub function_step : DoesStep h e code (position_of r.rest) (pieces_of (codes_in h e code c.here.function).storage (codes_in h e code c.here.function).graph.entry (Call target callee_is arguments) (growing r.held r.rest.owner q.shown) + 4 + length (beginning_behind (codes_in h e code function).storage (codes_in h e code function).graph (codes_in h e code function).saved (codes_in h e code function).size (function == h.unit.main))) q (step (over_homes h) c)
+    function_step =
+        let few = passing_few in
+        does_within h e code (position_of r.rest) (length passing + 4 + begins_behind) _ q (step (over_homes h) c) (omega (arith, few))
+        (subst (λ z. DoesStep h e code (position_of r.rest) (length passing + 4 + begins_behind) q z) (sym does) (by_tests (list_any is_odd values) (length c.waiting + 1 == 1024) (subst (λ z. Done z) does done)))

@@ -1,8 +1,9 @@
 -- The machine does the step of the end of a block: it comes to the next block, or goes on in the caller, or its run ends.
-use Rattle.std.proofs.Common.{◌≡◌, ℕ, ◌+◌, sym, ap, ◌∙◌, subst, refl, Option, Some, None, false, List, [], ◌∷◌, length, map, slice_get}
+use Rattle.std.proofs.Common.{◌≡◌, ℕ, ◌+◌, ◌-◌, ◌≤◌, sym, ap, ◌∙◌, subst, arith, refl, Option, Some, None, false, List, [], ◌∷◌, length, length-append, map, slice_get}
 use Rattle.std.specs.Prelude.{option_map}
+use Rattle.rv_code.specs.declared.instruction.Instruction.{Instruction as MachineInstruction}
 use Rattle.graph_core.specs.Graphs.{Operand, End, Jump, Branch, Return, Block, Graph}
-use Rattle.graph_core.specs.Paths.{Among, front, behind}
+use Rattle.graph_core.specs.Paths.{Among, front, behind, Path}
 use Rattle.graph_core.specs.Runs.{Configuration, Stepped, Goes, Shows, Ends as EndsUnit, Wild, step}
 use Rattle.graph_core.specs.Uses.{targets_of}
 use Rattle.graph_core.specs.Validity.{IsValid, IsKept, KeepsPlace, AreOperandsOfEnd, place_at_end, place_behind}
@@ -12,12 +13,13 @@ use Rattle.emit_pieces.specs.declared.piece.Held.{Held}
 use Rattle.emit_storage.specs.declared.storage.Source.{Source}
 use Rattle.emit_storage.specs.Storages.{home_at, source_of}
 use Rattle.emit_words.specs.Growing.{CodeState}
+use Rattle.emit_words.specs.Operands.{bringing}
 use Rattle.machine_steps.specs.Holding.{Holding}
 use Rattle.machine_steps.specs.Points.{Point}
 use Rattle.emit_moves.specs.Doing.{HoldsAll as HoldsAllOf}
 use Rattle.emit_memory.specs.Frames.{Setting, AreScratch}
-use Rattle.emit_code.specs.Ends.{end_pieces, end_held}
-use Rattle.emit_code.specs.Leaving.{leaving_code, return_pieces, with_end}
+use Rattle.emit_code.specs.Ends.{words, begins_behind, end_pieces, end_held}
+use Rattle.emit_code.specs.Leaving.{leaving_code, leaving, room_behind, return_pieces, with_end}
 use Rattle.emit_calls.specs.Going.{IsGoing}
 use Rattle.emit_calls.specs.Pieces.{PiecesAt}
 use Rattle.emit_calls.specs.Placed.{PlacedAt}
@@ -28,15 +30,17 @@ use Rattle.emit_calls.proofs.Blocks.{block_all}
 use Rattle.emit_calls.proofs.Ends.{EntersBlock, DoesEnd, end_done as end_leads}
 use Rattle.emit_calls.proofs.Grown.{end_appends, end_holds, return_appends}
 use Rattle.emit_calls.proofs.Keeping.{all_reheld}
+use Rattle.emit_calls.proofs.Placed.{pieces_long}
 use Rattle.emit_calls.proofs.ReturnEnds.{IsWordIfAny, result_words, return_end_done}
 use Rattle.emit_calls.proofs.Returning.{DoesReturn}
 use Rattle.emit_runs.specs.Laid.{HasWordsAtEnd, AreHeldAmong, IsCode}
 use Rattle.emit_runs.proofs.Beginnings.{IsOf, of_mapped, ends_there}
 use Rattle.emit_runs.proofs.Frames.{all_codes}
 use Rattle.emit_runs.proofs.Lists.{all_among}
-use Rattle.emit_runs.proofs.Related.{GoesOn, Related, DoesStep, come_unseen, end_done}
-use Rattle.emit_runs.proofs.Rest.{program_in, codes_in, places_in, known_in, left_code, whole_code, RestAt, start_at, block_valid, block_words}
+use Rattle.emit_runs.proofs.Related.{GoesOn, Related, DoesStep, does_within, come_unseen, end_done}
+use Rattle.emit_runs.proofs.Rest.{program_in, codes_in, places_in, known_in, left_code, whole_code, position_of, RestFrom, start_at, block_valid, block_words}
 use Rattle.emit_runs.proofs.States.{growing}
+use Rattle.emit_runs.proofs.Tracks.{at_block, path_goes, enters_block, goes_back}
 use Rattle.emit_runs.proofs.UnitSteps.{spot_of, wanted_spot, ShowsRightly, step_right}
 
 -- ---- Constants that are held
@@ -55,6 +59,16 @@ held_of (y ∷ more) x g (behind later) holds = held_of more x g later holds.1
 held_some : (wanted all : List Held) (g : Holding) → AreHeldAmong wanted all → HoldsAllOf all g → HoldsAllOf wanted g
 held_some [] all g among holds = tt
 held_some (x ∷ more) all g among holds = (held_of all x g (among x front) holds, held_some more all g (λ y is. among y (behind is)) holds)
+
+length_words : (code : List MachineInstruction) → length (words code) ≡ length code
+length_words [] = refl
+length_words (x ∷ code) = let same = length_words code in omega (arith, same)
+
+-- How many instructions the end of a block takes at most, where so many words stand there: as many as they are, but a return takes also those of the function's end, and those with which the caller takes the result.
+abbrev pub longest_end : (saved : List ℕ) → (size words : ℕ) → End → ℕ
+longest_end saved size n (Jump to) = n
+longest_end saved size n (Branch k x y if_true if_false) = n
+longest_end saved size n (Return v) = n + (4 + length (leaving_code saved size))
 
 module _ (h : HomedForm) (valid : IsValid h.unit) (homed : HaveHomes h) (e : EmittedForm) (code : IsCode h e) (main : EndsMain (program_in h e code)) (c : Configuration) (q : Point) (r : Related h e code c q) (is : r.rest.more ≡ []) where
   abbrev f : FunctionCode
@@ -111,7 +125,7 @@ module _ (h : HomedForm) (valid : IsValid h.unit) (homed : HaveHomes h) (e : Emi
           more.there (program_in h e code) (places_in h e code c.here.function) r.index last (subst (λ l. PlacedAt (program_in h e code) (places_in h e code c.here.function) r.index l last) more.is end_there)
 
       abbrev most : ℕ
-      most = length (end_pieces (codes_in h e code c.here.function).storage r.held q.shown loads next z) + 1
+      most = last - r.index
 
       done : DoesEnd (program_in h e code) (places_in h e code c.here.function) q.state q.shown most (setting_of (over_homes h) r.addresses later (codes_in h e code c.here.function)) c r.holding (targets_of z) (step (over_homes h) c)
       done =
@@ -133,7 +147,10 @@ module _ (h : HomedForm) (valid : IsValid h.unit) (homed : HaveHomes h) (e : Emi
             all_among (λ l. IsKept (place_at_end r.rest.block) (slice_get f.graph.blocks l)) (targets_of r.rest.block.end) enters.number (block_valid h e code valid (spot_of c.here) r.index r.held q.shown r.rest).edges target in
             subst (λ o. KeepsPlace from.from.instructions o from.from.place) (sym force) (subst (λ o. IsKept (place_at_end r.rest.block) o) from.there kept)
 
-        begins : RestAt h e code
+        leads_there : Path (codes_in h e code c.here.function).graph r.rest.history enters.number from.from.instructions from.from.end
+        leads_there = path_goes (subst (λ l. Path f.graph r.rest.history r.rest.number l r.rest.block.end) is r.rest.track.way) target from.from from.there
+
+        begins : RestFrom h e code (at_block c.here.function enters.number from.from r.rest.history)
             (record {
               function = c.here.function;
               graph = placed_graph (home_at (codes_in h e code c.here.function).storage) (codes_in h e code c.here.function).graph;
@@ -142,7 +159,7 @@ module _ (h : HomedForm) (valid : IsValid h.unit) (homed : HaveHomes h) (e : Emi
               end = (placed_block (home_at (codes_in h e code c.here.function).storage) from.from).end;
             })
             (code.arrangement.label c.here.function enters.number) (known_in h e code c.here.function r.rest.low enters.number) false
-        begins = start_at h e code c.here.function enters.number c.here.place from.from r.rest.low from.there keeps
+        begins = start_at h e code c.here.function enters.number c.here.place from.from r.rest.low from.there keeps r.rest.history leads_there r.rest.track.in_place
 
         spot : spot_of d.here
             ≡ record {
@@ -163,12 +180,12 @@ module _ (h : HomedForm) (valid : IsValid h.unit) (homed : HaveHomes h) (e : Emi
         held_among : AreHeldAmong wanted later
         held_among = subst (λ l. AreHeldAmong wanted l) (held_there ∙ end_holds f.storage f.saved f.size (length f.graph.blocks) next loads z state going) (r.rest.at.leads enters.number target)
 
-        block_unseen : DoesStep h e code q (Goes d)
+        block_unseen : DoesStep h e code (position_of r.rest) most q (Goes d)
         block_unseen =
             let codes_valid = all_codes h valid homed code.arrangement (over_homes h) in
             let comes = block_all (codes_in h e code) (over_homes h) codes_valid r.addresses (Resumes (program_in h e code) (codes_in h e code) (GoesOn h e code)) (program_in h e code) (places_in h e code c.here.function) q.state r.index q.shown most r.held later c d r.holding (targets_of z) r.all enters in
             let known_there = (code.functions c.here.function r.rest.low).constants enters.number in
-            come_unseen h e code q r.index most (code.arrangement.label c.here.function enters.number) false r.addresses wanted d
+            come_unseen h e code (position_of r.rest) (at_block c.here.function enters.number from.from r.rest.history) q r.index most (code.arrangement.label c.here.function enters.number) false r.addresses wanted d
             (record {
               count = comes.count;
               few = comes.few;
@@ -177,12 +194,13 @@ module _ (h : HomedForm) (valid : IsValid h.unit) (homed : HaveHomes h) (e : Emi
               all = all_reheld (codes_in h e code) (over_homes h) codes_valid r.addresses (Resumes (program_in h e code) (codes_in h e code) (GoesOn h e code)) later wanted d comes.holding comes.holding comes.all (λ n kept. refl) refl refl
                   (held_some wanted later comes.holding held_among comes.all.here.fetch.all) (loads_scratch wanted known_there);
             })
-            (subst (λ x. RestAt h e code x (code.arrangement.label c.here.function enters.number) wanted false) (sym spot) begins)
+            (subst (λ x. RestFrom h e code (at_block c.here.function enters.number from.from r.rest.history) x (code.arrangement.label c.here.function enters.number) wanted false) (sym spot) begins)
+            (enters_block enters.number from.from is target from.there refl)
 
-      pub going_step : DoesStep h e code q (step (over_homes h) c)
+      pub going_step : DoesStep h e code (position_of r.rest) most q (step (over_homes h) c)
       going_step = by_step (step (over_homes h) c) done
         where
-          by_step : (y : Stepped) → DoesEnd (program_in h e code) (places_in h e code c.here.function) q.state q.shown most (setting_of (over_homes h) r.addresses later (codes_in h e code c.here.function)) c r.holding (targets_of z) y → DoesStep h e code q y
+          by_step : (y : Stepped) → DoesEnd (program_in h e code) (places_in h e code c.here.function) q.state q.shown most (setting_of (over_homes h) r.addresses later (codes_in h e code c.here.function)) c r.holding (targets_of z) y → DoesStep h e code (position_of r.rest) most q y
           by_step (Goes d) enters = block_unseen d enters
           by_step (Shows seen d) never = absurd never
           by_step (EndsUnit seen) never = absurd never
@@ -208,23 +226,37 @@ module _ (h : HomedForm) (valid : IsValid h.unit) (homed : HaveHomes h) (e : Emi
         return_end_done (program_in h e code) (codes_in h e code) (over_homes h) (all_codes h valid homed code.arrangement (over_homes h)) r.addresses (GoesOn h e code) (places_in h e code c.here.function) (code.inside c.here.function) main q.state r.index q.shown r.held c r.holding r.all r.stands
         (length f.graph.blocks) next last refl (ends_there h valid e code c.here.function r.rest.low) v none_left (end_is (Return v) same) (operands (Return v) same) fits return_there
 
-    pub return_step : DoesStep h e code q (step (over_homes h) c)
-    return_step = by_step (step (over_homes h) c) returned (step_right (over_homes h) c)
+    result_few : result_words (codes_in h e code c.here.function).storage r.held source ≤ last - r.index
+    result_few = let long = pieces_long (program_in h e code) (places_in h e code c.here.function) r.index q.shown (return_pieces f.storage r.held f.saved f.size q.shown (length f.graph.blocks) next source) last return_there in by_source source long
       where
-        by_step : (y : Stepped) → DoesReturn (program_in h e code) q.state r.index q.shown longest (codes_in h e code) (over_homes h) r.addresses (GoesOn h e code) c y → ShowsRightly y → DoesStep h e code q y
+        by_source : (o : Option Source) → r.index + length (return_pieces f.storage r.held f.saved f.size q.shown (length f.graph.blocks) next o) ≤ last → result_words f.storage r.held o ≤ last - r.index
+        by_source None long = omega arith
+        by_source (Some value) long =
+            let code_of_it = bringing f.storage r.held 10 value in
+            let both = length-append (words code_of_it) (leaving f.saved f.size (begins_behind q.shown code_of_it) (length f.graph.blocks) next (room_behind f.storage.base value)) in
+            let each = length_words code_of_it in
+            omega (arith, long, both, each)
+
+    pub return_step : DoesStep h e code (position_of r.rest) ((last - r.index) + (4 + length (leaving_code (codes_in h e code c.here.function).saved (codes_in h e code c.here.function).size))) q (step (over_homes h) c)
+    return_step =
+        let few = result_few in
+        does_within h e code (position_of r.rest) longest _ q (step (over_homes h) c) (omega (arith, few)) (by_step (step (over_homes h) c) returned (step_right (over_homes h) c))
+      where
+        by_step : (y : Stepped) → DoesReturn (program_in h e code) q.state r.index q.shown longest (codes_in h e code) (over_homes h) r.addresses (GoesOn h e code) c y → ShowsRightly y → DoesStep h e code (position_of r.rest) longest q y
         by_step (Goes d) it right =
             let back : spot_of d.here ≡ spot_of it.caller = ap spot_of it.here ∙ wanted_spot it.caller.wants it.value it.caller in
-            come_unseen h e code q r.index longest it.to false r.addresses [] d it.comes (subst (λ x. RestAt h e code x it.to [] false) (sym back) it.resumed.rest)
+            come_unseen h e code (position_of r.rest) (position_of it.resumed.rest) q r.index longest it.to false r.addresses [] d it.comes
+            (subst (λ x. RestFrom h e code (position_of it.resumed.rest) x it.to [] false) (sym back) (record { rest = it.resumed.rest; is = refl })) (goes_back v is same it.resumed.calls)
         by_step (Shows seen d) never right = absurd never
         by_step (EndsUnit seen) it right = end_done h e code q longest seen it right
         by_step Wild it right = tt
 
   -- ---- Whichever it is
 
-  pub end_step : DoesStep h e code q (step (over_homes h) c)
+  pub end_step : DoesStep h e code (position_of r.rest) (longest_end (codes_in h e code c.here.function).saved (codes_in h e code c.here.function).size (code.arrangement.label c.here.function r.rest.at.next - r.index) r.rest.block.end) q (step (over_homes h) c)
   end_step = by_end r.rest.block.end refl (block_words h e code (spot_of c.here) r.index r.held q.shown r.rest).end
     where
-      by_end : (z : End) → r.rest.block.end ≡ z → HasWordsAtEnd z → DoesStep h e code q (step (over_homes h) c)
+      by_end : (z : End) → r.rest.block.end ≡ z → HasWordsAtEnd z → DoesStep h e code (position_of r.rest) (longest_end (codes_in h e code c.here.function).saved (codes_in h e code c.here.function).size (code.arrangement.label c.here.function r.rest.at.next - r.index) z) q (step (over_homes h) c)
       by_end (Jump to) same words = going_step (Jump to) same tt
       by_end (Branch k x y if_true if_false) same words = going_step (Branch k x y if_true if_false) same words
       by_end (Return None) same words = return_step None same tt

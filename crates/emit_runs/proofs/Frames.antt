@@ -16,7 +16,7 @@ use Rattle.emit_calls.proofs.Beginning.{ShareStatics}
 use Rattle.emit_calls.proofs.Bindings.{AreBindable}
 use Rattle.emit_calls.proofs.LaidOut.{IsLaidOut, laid_out_is}
 use Rattle.emit_calls.proofs.Saved.{binding_saved}
-use Rattle.emit_runs.specs.Laid.{Arrangement, no_graph, graph_at, code_of, HasElement, IsInWords}
+use Rattle.emit_runs.specs.Laid.{Arrangement, no_graph, graph_at, code_of}
 use Rattle.emit_runs.proofs.Lists.{all_at, get_some}
 
 -- ---- Homes
@@ -166,15 +166,14 @@ module _ (h : HomedForm) (valid : IsValid h.unit) (homed : HaveHomes h) (a : Arr
 
   -- ---- Parameters
 
-  bindable : (f : ℕ) → f < length h.unit.graphs → (more : List Binding) → ((b : Binding) → Among b more → Among b (graph_at h.unit f).parameters) → AllByRecursion (IsBinding (graph_at h.unit f)) more → AllByRecursion (HasElement (graph_at h.unit f)) more
+  bindable : (f : ℕ) → f < length h.unit.graphs → (more : List Binding) → ((b : Binding) → Among b more → Among b (graph_at h.unit f).parameters) → AllByRecursion (IsBinding (graph_at h.unit f)) more
       → AreBindable (code_of h a f).storage (code_of h a f).graph (code_of h a f).saved more
-  bindable f low [] among legal some = tt
-  bindable f low (ToScalar x ∷ more) among legal some =
+  bindable f low [] among legal = tt
+  bindable f low (ToScalar x ∷ more) among legal =
       let graph = graph_valid h.unit valid f low in
       let within : x < (graph_at h.unit f).name_count = let lt = legal.0 in let s = graph.scalars in let t = graph.temporaries in omega (arith, lt, s, t) in
-      (within, binding_saved (home_of h f) (graph_at h.unit f) (slot_count (homes_in h f)) x (among (ToScalar x) front) ((laid_out f).homes x within), bindable f low more (λ b is. among b (behind is)) legal.1 some.1)
-  bindable f low (ToObject k ∷ more) among legal some = (some.0, tt, bindable f low more (λ b is. among b (behind is)) legal.1 some.1)
+      (within, binding_saved (home_of h f) (graph_at h.unit f) (slot_count (homes_in h f)) x (among (ToScalar x) front) ((laid_out f).homes x within), bindable f low more (λ b is. among b (behind is)) legal.1)
+  bindable f low (ToObject k ∷ more) among legal = (get_some (graph_at h.unit f).objects k legal.0, tt, bindable f low more (λ b is. among b (behind is)) legal.1)
 
-  pub are_bindable : (f : ℕ) → f < length h.unit.graphs → AllByRecursion IsInWords h.unit.graphs → AreBindable (code_of h a f).storage (code_of h a f).graph (code_of h a f).saved (code_of h a f).graph.parameters
-  are_bindable f low words =
-      bindable f low (graph_at h.unit f).parameters (λ b is. is) (graph_valid h.unit valid f low).bindings (all_at IsInWords h.unit.graphs f (graph_at h.unit f) words (graph_there h.unit f low)).parameters
+  pub are_bindable : (f : ℕ) → f < length h.unit.graphs → AreBindable (code_of h a f).storage (code_of h a f).graph (code_of h a f).saved (code_of h a f).graph.parameters
+  are_bindable f low = bindable f low (graph_at h.unit f).parameters (λ b is. is) (graph_valid h.unit valid f low).bindings

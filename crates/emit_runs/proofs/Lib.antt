@@ -15,5 +15,6 @@ pub mod States
 pub mod Steps
 pub mod Stopping
 pub mod Straights
+pub mod Tracks
 pub mod UnitSteps
 pub mod Whole

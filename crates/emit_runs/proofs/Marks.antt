@@ -1,5 +1,5 @@
 -- The machine does the step of a marker: it stands at the stop where the unit shows one.
-use Rattle.std.proofs.Common.{◌≡◌, ℕ, ◌+◌, sym, ap, ◌∙◌, subst, refl, Some, Bool, true, false, cond, not, List, [], ◌∷◌, length, map}
+use Rattle.std.proofs.Common.{◌≡◌, ℕ, ◌+◌, sym, ap, ◌∙◌, subst, arith, refl, Some, Bool, true, false, cond, not, List, [], ◌∷◌, length, map}
 use Rattle.std.specs.Prelude.{◌==◌, slice_index}
 use Rattle.rv_machine.specs.Run.{Arrival, is_stop}
 use Rattle.graph_core.specs.Graphs.{Instruction, Marker, Graph}
@@ -26,11 +26,12 @@ use Rattle.emit_runs.specs.Laid.{stop_addresses, IsCode}
 use Rattle.emit_runs.specs.Standing.{stop}
 use Rattle.emit_runs.proofs.Begun.{IsBegun, rest_begun}
 use Rattle.emit_runs.proofs.Places.{keeps_same}
-use Rattle.emit_runs.proofs.Related.{GoesOn, Related, DoesStep}
-use Rattle.emit_runs.proofs.Rest.{program_in, codes_in, places_in, left_code, RestAt, NextAt, next_at, rest_behind}
-use Rattle.emit_runs.proofs.States.{growing, going_on_from, code_goes_on, code_there, first_owned}
+use Rattle.emit_runs.proofs.Related.{GoesOn, Related, DoesStep, does_within}
+use Rattle.emit_runs.proofs.Rest.{program_in, codes_in, blocks_in, places_in, left_code, position_of, RestFrom, NextAt, next_at, rest_behind}
+use Rattle.emit_runs.proofs.States.{growing, going_on_from, code_goes_on, code_there, pieces_of_code, first_owned}
 use Rattle.emit_runs.proofs.Stopping.{stands_at}
 use Rattle.emit_runs.proofs.Straights.{step_is, rest_is}
+use Rattle.emit_runs.proofs.Tracks.{pieces_of, passed_by, Advances, passes_one}
 use Rattle.emit_runs.proofs.UnitSteps.{spot_of}
 
 -- Where what stands from an index on has a first piece, its words say whether there is a stop, and whose it is.
@@ -71,10 +72,10 @@ module _ (h : HomedForm) (valid : IsValid h.unit) (homed : HaveHomes h) (e : Emi
       code_there (program_in h e code) (places_in h e code c.here.function) r.index next.behind_it (marking_code q.shown) s refl
       (subst (λ (t : CodeState). PlacedAt (program_in h e code) (places_in h e code c.here.function) r.index t.pieces next.behind_it) (marker_appended f.storage entry place s) next.there)
 
-  later : RestAt h e code (spot_of (at_place place (going_on c (map (placed_instruction (home_at (codes_in h e code c.here.function).storage)) more))).here) (r.index + length (marking_code q.shown)) r.held (not (place == (codes_in h e code c.here.function).graph.entry))
+  later : RestFrom h e code (passed_by (position_of r.rest) (Marker place) more) (spot_of (at_place place (going_on c (map (placed_instruction (home_at (codes_in h e code c.here.function).storage)) more))).here) (r.index + length (marking_code q.shown)) r.held (not (place == (codes_in h e code c.here.function).graph.entry))
   later =
-      subst (λ k. RestAt h e code (spot_of d.here) k r.held (not (place == entry))) there.1
-      (rest_behind h e code (spot_of c.here) r.index r.held q.shown r.rest (Marker place) more is next place place r.held (not (place == entry)) state (keeps_same more (Some place) (Some place) refl) refl)
+      subst (λ k. RestFrom h e code (passed_by (position_of r.rest) (Marker place) more) (spot_of d.here) k r.held (not (place == entry))) there.1
+      (rest_behind h e code (spot_of c.here) r.index r.held q.shown r.rest (Marker place) more is next place place r.held (not (place == entry)) state (keeps_same more (Some place) (Some place) refl) refl refl)
 
   -- Where the place is a stop, there is a stop at the next word, which belongs to the place.
   stopped : (place == (codes_in h e code c.here.function).graph.entry) ≡ false → (is_stop (stop_addresses e) (address_of (r.index + length (marking_code q.shown))) ≡ true) × (slice_index e.owners (r.index + length (marking_code q.shown)) ≡ place)
@@ -88,8 +89,8 @@ module _ (h : HomedForm) (valid : IsValid h.unit) (homed : HaveHomes h) (e : Emi
       first_stop h e code c.here.function (r.index + length (marking_code q.shown)) (left_code h code.arrangement c.here.function r.rest.at.next r.rest.at.loads r.rest.block.end more s).pieces (code.arrangement.label c.here.function r.rest.at.next) place stands
       (rest_begun place f.storage entry f.saved f.size (length f.graph.blocks) r.rest.at.next r.rest.at.loads r.rest.block.end more s refl refl refl)
 
-  pub marker_step : DoesStep h e code q (step (over_homes h) c)
-  marker_step = subst (λ z. DoesStep h e code q z) (sym does) (by_test (place == entry) refl)
+  marker_does : DoesStep h e code (position_of r.rest) (length (marking_code q.shown)) q (step (over_homes h) c)
+  marker_does = subst (λ z. DoesStep h e code (position_of r.rest) (length (marking_code q.shown)) q z) (sym does) (by_test (place == entry) refl)
     where
       of : c.here.graph.entry ≡ (codes_in h e code c.here.function).graph.entry
       of = ap (λ (g : Graph). g.entry) r.rest.graph
@@ -104,7 +105,7 @@ module _ (h : HomedForm) (valid : IsValid h.unit) (homed : HaveHomes h) (e : Emi
           marker_done (program_in h e code) q.state r.index q.shown w c r.holding place entry rest r.all.here r.stands of (rest_is h valid homed e code c q r (Marker place) more is) there.0 (λ other. (stopped other).0)
 
       by_test : (b : Bool) → (place == (codes_in h e code c.here.function).graph.entry) ≡ b
-          → DoesStep h e code q (cond b (Goes (at_place place (going_on c (map (placed_instruction (home_at (codes_in h e code c.here.function).storage)) more))))
+          → DoesStep h e code (position_of r.rest) (length (marking_code q.shown)) q (cond b (Goes (at_place place (going_on c (map (placed_instruction (home_at (codes_in h e code c.here.function).storage)) more))))
           (Shows (Stop (shown_frame (at_place place (going_on c (map (placed_instruction (home_at (codes_in h e code c.here.function).storage)) more))).here ∷ map shown_frame c.waiting) c.memory) (at_place place (going_on c (map (placed_instruction (home_at (codes_in h e code c.here.function).storage)) more)))))
       by_test true same =
           let w : Setting = setting_of (over_homes h) r.addresses r.held f in
@@ -112,8 +113,10 @@ module _ (h : HomedForm) (valid : IsValid h.unit) (homed : HaveHomes h) (e : Emi
           let done = subst (λ z. DoesMarker (program_in h e code) q.state r.index q.shown w r.holding z) (does ∙ ap (λ b. cond b (Goes d) shows) same) marks in
           let all = place_all (codes_in h e code) (over_homes h) r.addresses (Resumes (program_in h e code) (codes_in h e code) (GoesOn h e code)) r.held (going_on c rest) r.holding place
           (all_going_on (codes_in h e code) (over_homes h) r.addresses (Resumes (program_in h e code) (codes_in h e code) (GoesOn h e code)) r.held c r.holding rest r.all) in
+          let begun = subst (λ b. RestFrom h e code (passed_by (position_of r.rest) (Marker place) more) (spot_of d.here) (r.index + length (marking_code q.shown)) r.held (not b)) same later in
           record {
             count = length (marking_code q.shown);
+            few = omega arith;
             point = record { state = done.0.state; shown = false };
             leads = done.0.leads;
             related = record {
@@ -123,8 +126,9 @@ module _ (h : HomedForm) (valid : IsValid h.unit) (homed : HaveHomes h) (e : Emi
               holding = r.holding;
               stands = done.0.stands;
               all = all;
-              rest = subst (λ b. RestAt h e code (spot_of d.here) (r.index + length (marking_code q.shown)) r.held (not b)) same later;
+              rest = begun.rest;
             };
+            advances = subst (λ p. Advances (blocks_in h e code) (position_of r.rest) p) (sym begun.is) (passes_one (Marker place) more is refl refl);
           }
       by_test false same =
           let w : Setting = setting_of (over_homes h) r.addresses r.held f in
@@ -133,8 +137,10 @@ module _ (h : HomedForm) (valid : IsValid h.unit) (homed : HaveHomes h) (e : Emi
           let all = place_all (codes_in h e code) (over_homes h) r.addresses (Resumes (program_in h e code) (codes_in h e code) (GoesOn h e code)) r.held (going_on c rest) r.holding place
           (all_going_on (codes_in h e code) (over_homes h) r.addresses (Resumes (program_in h e code) (codes_in h e code) (GoesOn h e code)) r.held c r.holding rest r.all) in
           let stopping = stopped same in
+          let begun = subst (λ b. RestFrom h e code (passed_by (position_of r.rest) (Marker place) more) (spot_of d.here) (r.index + length (marking_code q.shown)) r.held (not b)) same later in
           record {
             count = length (marking_code q.shown);
+            few = omega arith;
             event = Arrival done.state;
             point = record { state = done.reaches.state; shown = true };
             leads = done.reaches.leads;
@@ -147,6 +153,14 @@ module _ (h : HomedForm) (valid : IsValid h.unit) (homed : HaveHomes h) (e : Emi
               holding = r.holding;
               stands = done.reaches.stands;
               all = all;
-              rest = subst (λ b. RestAt h e code (spot_of d.here) (r.index + length (marking_code q.shown)) r.held (not b)) same later;
+              rest = begun.rest;
             };
           }
+
+  -- Its word, if there is one, is its piece.
+  pub marker_step : DoesStep h e code (position_of r.rest) (pieces_of (codes_in h e code c.here.function).storage (codes_in h e code c.here.function).graph.entry (Marker place) (growing r.held r.rest.owner q.shown)) q (step (over_homes h) c)
+  marker_step =
+      let s : CodeState = growing r.held r.rest.owner q.shown in
+      let same = ap (λ (t : CodeState). length t.pieces) (marker_appended f.storage entry place s) in
+      let many = pieces_of_code (marking_code q.shown) s in
+      does_within h e code (position_of r.rest) (length (marking_code q.shown)) _ q (step (over_homes h) c) (omega (arith, same, many)) marker_does

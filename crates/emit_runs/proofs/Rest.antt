@@ -1,13 +1,13 @@
 -- What is left of a block stands where its code goes on: from the block's beginning on, behind each of its instructions.
-use Rattle.std.proofs.Common.{◌≡◌, ℕ, ◌<◌, sym, ap, ◌∙◌, subst, refl, Some, Bool, false, List, ◌∷◌, length, map, slice_get}
+use Rattle.std.proofs.Common.{◌≡◌, ℕ, ◌<◌, sym, ap, ◌∙◌, subst, refl, Some, Bool, false, List, [], ◌∷◌, ◌++◌, length, map, slice_get}
 use Rattle.std.specs.Option.{option_map_or}
-use Rattle.graph_core.specs.Graphs.{Instruction, End, Block}
-use Rattle.graph_core.specs.Paths.{Among, front, behind}
+use Rattle.graph_core.specs.Graphs.{Instruction, End, Block, Graph}
+use Rattle.graph_core.specs.Paths.{Among, front, behind, History, Path}
 use Rattle.graph_core.specs.Validity.{IsValid, IsBlock, IsInstruction, KeepsPlace, place_behind, place_at_end}
 use Rattle.homed_unit.specs.Homed.{HomedForm, placed_graph, placed_block, placed_instruction, placed_end}
 use Rattle.emitted.specs.Emitted.{EmittedForm}
 use Rattle.emit_pieces.specs.declared.piece.Held.{Held}
-use Rattle.emit_storage.specs.Storages.{home_at}
+use Rattle.emit_storage.specs.Storages.{StorageForm, home_at}
 use Rattle.emit_words.specs.Growing.{CodeState}
 use Rattle.emit_instructions.specs.Code.{with_instruction}
 use Rattle.machine_steps.specs.Programs.{Program}
@@ -22,7 +22,8 @@ use Rattle.emit_runs.specs.Laid.{Arrangement, code_of, program_of, targets_in, H
 use Rattle.emit_runs.proofs.Frames.{graph_there, graph_valid}
 use Rattle.emit_runs.proofs.Lists.{all_at, all_among}
 use Rattle.emit_runs.proofs.Places.{block_owned, block_forced, bare_held, instructions_held}
-use Rattle.emit_runs.proofs.States.{growing, going_on_from}
+use Rattle.emit_runs.proofs.States.{growing, going_on_from, placed_long}
+use Rattle.emit_runs.proofs.Tracks.{place_in, passing, Position, passed_by, at_block, Track, track_begins, track_on}
 use Rattle.emit_runs.proofs.UnitSteps.{Spot}
 
 -- ---- The code of a unit
@@ -32,6 +33,9 @@ program_in h e code = program_of e code.short
 
 abbrev pub codes_in : (h : HomedForm) (e : EmittedForm) → IsCode h e → (function : ℕ) → FunctionCode
 codes_in h e code = code_of h code.arrangement
+
+abbrev pub blocks_in : (h : HomedForm) (e : EmittedForm) → IsCode h e → (function : ℕ) → List Block
+blocks_in h e code f = (codes_in h e code f).graph.blocks
 
 abbrev pub places_in : (h : HomedForm) (e : EmittedForm) → IsCode h e → (function : ℕ) → Targets
 places_in h e code f = targets_in e code.arrangement f
@@ -58,6 +62,10 @@ whole_code h a f next known loads b = block_code (code_of h a f).storage (code_o
 abbrev pub known_in : (h : HomedForm) (e : EmittedForm) (code : IsCode h e) (f : ℕ) → f < length h.unit.graphs → ℕ → List Held
 known_in h e code f low = (code.functions f low).known
 
+-- The state of a block's code as it begins to grow.
+abbrev pub first_state : (known : ℕ → List Held) → (block : ℕ) → Block → CodeState
+first_state known l b = growing (known l) (option_map_or (λ p. p) b.place 0) false
+
 -- ---- What is left of a block
 
 -- The code of what is left of an activation's block stands from an index on: of these instructions and the block's end, in the place in force, with constants held and with a stop that has no
@@ -78,11 +86,26 @@ pub record RestAt (h : HomedForm) (e : EmittedForm) (code : IsCode h e) (x : Spo
   pub force : place_behind more (Some x.place) ≡ place_at_end block
   pub placed : PlacedAt (program_in h e code) (places_in h e code x.function) index (left_code h code.arrangement x.function at.next at.loads block.end more (growing held owner begins)).pieces (code.arrangement.label x.function at.next)
   pub known : (left_code h code.arrangement x.function at.next at.loads block.end more (growing held owner begins)).held ≡ (whole_code h code.arrangement x.function at.next (known_in h e code x.function low number) at.loads block).held
+  pub same : at ≡ (code.functions x.function low).blocks number block there
+  -- what was passed of the block, and on what path
+  pub passed : List Instruction
+  pub history : History
+  pub track : Track (codes_in h e code x.function).graph (codes_in h e code x.function).storage (first_state (known_in h e code x.function low) number block) (code.arrangement.label x.function number) number block passed more history (growing held owner begins) index x.place
+
+-- Where the activation is.
+abbrev pub position_of : {h : HomedForm} {e : EmittedForm} {code : IsCode h e} {x : Spot} {index : ℕ} {held : List Held} {begins : Bool} → RestAt h e code x index held begins → Position
+position_of {x = x} r = record { function = x.function; number = r.number; passed = r.passed; more = r.more; end = r.block.end; history = r.history }
+
+-- What is left of a block stands so, where the activation is at this point.
+pub record RestFrom (h : HomedForm) (e : EmittedForm) (code : IsCode h e) (to : Position) (x : Spot) (index : ℕ) (held : List Held) (begins : Bool) : Type 0 where
+  pub rest : RestAt h e code x index held begins
+  pub is : position_of rest ≡ to
 
 module _ (h : HomedForm) (e : EmittedForm) (code : IsCode h e) where
   -- Where a block begins in a place that it keeps, all of it is left.
   pub start_at : (f l place : ℕ) (b : Block) (low : f < length h.unit.graphs) → slice_get (codes_in h e code f).graph.blocks l ≡ Some b → KeepsPlace b.instructions (Some place) b.place
-      → RestAt h e code
+      → (history : History) → Path (codes_in h e code f).graph history l b.instructions b.end → place_in (codes_in h e code f).graph history ≡ place
+      → RestFrom h e code (at_block f l b history)
       (record {
         function = f;
         graph = placed_graph (home_at (codes_in h e code f).storage) (codes_in h e code f).graph;
@@ -91,27 +114,34 @@ module _ (h : HomedForm) (e : EmittedForm) (code : IsCode h e) where
         end = (placed_block (home_at (codes_in h e code f).storage) b).end;
       })
       (code.arrangement.label f l) (known_in h e code f low l) false
-  start_at f l place b low there keeps =
+  start_at f l place b low there keeps history way in_place =
       let a : Arrangement = code.arrangement in
       let c : FunctionCode = codes_in h e code f in
       let at : IsBlockAt h a (program_in h e code) (places_in h e code f) f (known_in h e code f low) l b = (code.functions f low).blocks l b there in
       let end : ℕ = length c.graph.blocks in
       record {
-        low = low;
-        graph = refl;
-        number = l;
-        block = b;
-        there = there;
-        at = (code.functions f low).blocks l b there;
-        more = b.instructions;
-        rest = refl;
-        end = refl;
-        among = λ y is. is;
-        owner = option_map_or (λ p. p) b.place 0;
-        owned = block_owned b place keeps;
-        force = block_forced b place keeps;
-        placed = block_there c.storage c.graph.entry c.saved c.size end at.next (known_in h e code f low l) at.loads b (program_in h e code) (places_in h e code f) (a.label f l) (a.label f at.next) at.there;
-        known = sym (instructions_held c.storage c.graph.entry (with_end c.storage c.saved c.size end at.next at.loads b.end) (end_onto c.storage c.saved c.size end at.next at.loads b.end) 0 b.instructions (no_code (option_map_or (λ p. p) b.place 0) (known_in h e code f low l)));
+        rest = record {
+          low = low;
+          graph = refl;
+          number = l;
+          block = b;
+          there = there;
+          at = (code.functions f low).blocks l b there;
+          more = b.instructions;
+          rest = refl;
+          end = refl;
+          among = λ y is. is;
+          owner = option_map_or (λ p. p) b.place 0;
+          owned = block_owned b place keeps;
+          force = block_forced b place keeps;
+          placed = block_there c.storage c.graph.entry c.saved c.size end at.next (known_in h e code f low l) at.loads b (program_in h e code) (places_in h e code f) (a.label f l) (a.label f at.next) at.there;
+          known = sym (instructions_held c.storage c.graph.entry (with_end c.storage c.saved c.size end at.next at.loads b.end) (end_onto c.storage c.saved c.size end at.next at.loads b.end) 0 b.instructions (no_code (option_map_or (λ p. p) b.place 0) (known_in h e code f low l)));
+          same = refl;
+          passed = [];
+          history = history;
+          track = track_begins c.graph c.storage (first_state (known_in h e code f low) l b) (a.label f l) l b history place keeps way in_place;
+        };
+        is = refl;
       }
 
   -- The code of the next instruction, and of what is left behind it.
@@ -146,27 +176,43 @@ module _ (h : HomedForm) (e : EmittedForm) (code : IsCode h e) where
   -- What is left behind it, in the place that is in force there.
   pub rest_behind : (x : Spot) (index : ℕ) (held : List Held) (begins : Bool) (r : RestAt h e code x index held begins) (i : Instruction) (more : List Instruction) → r.more ≡ i ∷ more → (n : NextAt x index held begins r i more)
       → (place owner : ℕ) (later : List Held) (b : Bool) → going_on_from (with_instruction (codes_in h e code x.function).storage (codes_in h e code x.function).graph.entry i (growing held r.owner begins)) ≡ growing later owner b
-      → KeepsPlace more (Some owner) (Some place) → place_behind more (Some place) ≡ place_behind (i ∷ more) (Some x.place)
-      → RestAt h e code (record x { place = place; rest = map (placed_instruction (home_at (codes_in h e code x.function).storage)) more }) n.behind_it later b
-  rest_behind x index held begins r i more is n place owner later b state owned force = record {
-    low = r.low;
-    graph = r.graph;
-    number = r.number;
-    block = r.block;
-    there = r.there;
-    at = r.at;
-    more = more;
-    rest = refl;
-    end = r.end;
-    among = λ y in_more. r.among y (subst (λ l. Among y l) (sym is) (behind in_more));
-    owner = owner;
-    owned = owned;
-    force = force ∙ ap (λ l. place_behind l (Some x.place)) (sym is) ∙ r.force;
-    placed = subst
-        (λ (s : CodeState). PlacedAt (program_in h e code) (places_in h e code x.function) n.behind_it (left_code h code.arrangement x.function r.at.next r.at.loads r.block.end more s).pieces (code.arrangement.label x.function r.at.next))
-        state n.later;
-    known = subst (λ (s : CodeState). (left_code h code.arrangement x.function r.at.next r.at.loads r.block.end more s).held ≡ (whole_code h code.arrangement x.function r.at.next (known_in h e code x.function r.low r.number) r.at.loads r.block).held) state n.known;
-  }
+      → KeepsPlace more (Some owner) (Some place) → place_behind more (Some place) ≡ place_behind (i ∷ more) (Some x.place) → Some place ≡ place_behind (i ∷ []) (Some x.place)
+      → RestFrom h e code (passed_by (position_of r) i more) (record x { place = place; rest = map (placed_instruction (home_at (codes_in h e code x.function).storage)) more }) n.behind_it later b
+  rest_behind x index held begins r i more is n place owner later b state owned force moves =
+      let g : Graph = (codes_in h e code x.function).graph in
+      let storage : StorageForm = (codes_in h e code x.function).storage in
+      let first : CodeState = first_state (known_in h e code x.function r.low) r.number r.block in
+      let start : ℕ = code.arrangement.label x.function r.number in
+      let before : Track g storage first start r.number r.block r.passed (i ∷ more) r.history (growing held r.owner begins) index x.place =
+      subst (λ l. Track g storage first start r.number r.block r.passed l r.history (growing held r.owner begins) index x.place) is r.track in
+      let long = placed_long (program_in h e code) (places_in h e code x.function) index (with_instruction storage g.entry i (growing held r.owner begins)).pieces n.behind_it n.there in
+      let after = track_on g storage first start r.number r.block r.passed i more r.history (growing held r.owner begins) index x.place before n.behind_it place long moves in
+      record {
+        rest = record {
+          low = r.low;
+          graph = r.graph;
+          number = r.number;
+          block = r.block;
+          there = r.there;
+          at = r.at;
+          more = more;
+          rest = refl;
+          end = r.end;
+          among = λ y in_more. r.among y (subst (λ l. Among y l) (sym is) (behind in_more));
+          owner = owner;
+          owned = owned;
+          force = force ∙ ap (λ l. place_behind l (Some x.place)) (sym is) ∙ r.force;
+          placed = subst
+              (λ (s : CodeState). PlacedAt (program_in h e code) (places_in h e code x.function) n.behind_it (left_code h code.arrangement x.function r.at.next r.at.loads r.block.end more s).pieces (code.arrangement.label x.function r.at.next))
+              state n.later;
+          known = subst (λ (s : CodeState). (left_code h code.arrangement x.function r.at.next r.at.loads r.block.end more s).held ≡ (whole_code h code.arrangement x.function r.at.next (known_in h e code x.function r.low r.number) r.at.loads r.block).held) state n.known;
+          same = r.same;
+          passed = r.passed ++ i ∷ [];
+          history = passing r.number i more ∷ r.history;
+          track = subst (λ (s : CodeState). Track g storage first start r.number r.block (r.passed ++ i ∷ []) more (passing r.number i more ∷ r.history) s n.behind_it place) state after;
+        };
+        is = refl;
+      }
 
   -- ---- What is known of the instructions
 

@@ -30,8 +30,9 @@ use Rattle.emit_runs.proofs.Calls.{called_there}
 use Rattle.emit_runs.proofs.FirstMemory.{first_loaded}
 use Rattle.emit_runs.proofs.Frames.{over_homes_there, all_codes}
 use Rattle.emit_runs.proofs.Related.{GoesOn, Related}
-use Rattle.emit_runs.proofs.Rest.{program_in, codes_in, RestAt}
+use Rattle.emit_runs.proofs.Rest.{program_in, codes_in, position_of, RestFrom}
 use Rattle.emit_runs.proofs.Steps.{stub_there}
+use Rattle.emit_runs.proofs.Tracks.{at_block}
 use Rattle.emit_runs.proofs.UnitSteps.{spot_of}
 
 -- ---- Numbers in range
@@ -155,25 +156,31 @@ module _ (h : HomedForm) (valid : IsValid h.unit) (homed : HaveHomes h) (e : Emi
       (code.arrangement.function h.unit.main) (stub_there h e code).stub beginning (subst (λ (m : ℕ → ℕ). IsLoaded (over_homes h) c.storage (λ n. static_object_at c.storage n) m) (sym first_memory_is) (first_loaded h valid code.arrangement (let fits = code.base in omega (arith, fits)) e code.initial (first_byte e code.bytes))) input first_input
       (placed_block (home_at c.storage) (first_block h valid e code h.unit.main main_there.0).block) (over_homes_there h code.arrangement h.unit.main main_there.0) (block_over_homes h valid e code h.unit.main main_there.0) first first_is
 
-  -- The machine comes there, and is related to the unit.
+  -- The machine comes there, in no more instructions than stand before main and at its beginning, and is related to the unit as main begins.
   pub record ComesToFirst : Type 0 where
     pub count : ℕ
+    pub few : code.arrangement.function h.unit.main + count ≤ 5 + code.arrangement.label h.unit.main 0
     pub point : Point
     pub leads : Leads (program_in h e code).stops count (record { state = started e.code e.initial input; shown = false }) [] point
     pub related : Related h e code first point
+    pub begins : position_of related.rest ≡ at_block h.unit.main 0 (first_block h valid e code h.unit.main main_there.0).block []
 
   pub comes_to_first : ComesToFirst
-  comes_to_first = record {
-    count = begins.count;
-    point = record { state = begins.reaches.state; shown = false };
-    leads = begins.reaches.leads;
-    related = record {
-      addresses = begins.addresses;
-      index = code.arrangement.function h.unit.main + 1 + 1 + 1 + 1 + front;
-      held = [];
-      holding = begins.holding;
-      stands = begins.reaches.stands;
-      all = begins.all;
-      rest = subst (λ k. RestAt h e code (spot_of first.here) k [] false) label_is (activation_begins h valid e code h.unit.main main_there.0 (first_memory h.unit.statics) input [] []);
-    };
-  }
+  comes_to_first =
+      let begun = subst (λ k. RestFrom h e code (at_block h.unit.main 0 (first_block h valid e code h.unit.main main_there.0).block []) (spot_of first.here) k [] false) label_is (activation_begins h valid e code h.unit.main main_there.0 (first_memory h.unit.statics) input [] []) in
+      record {
+        count = begins.count;
+        few = let most = begins.few in let at = label_is in omega (arith, most, at);
+        point = record { state = begins.reaches.state; shown = false };
+        leads = begins.reaches.leads;
+        related = record {
+          addresses = begins.addresses;
+          index = code.arrangement.function h.unit.main + 1 + 1 + 1 + 1 + front;
+          held = [];
+          holding = begins.holding;
+          stands = begins.reaches.stands;
+          all = begins.all;
+          rest = begun.rest;
+        };
+        begins = begun.is;
+      }

@@ -1,5 +1,5 @@
 -- Code as it grows by an instruction: what it appends stands as words do, and what is known behind it.
-use Rattle.std.proofs.Common.{◌≡◌, ℕ, ◌+◌, ◌<◌, ◌≤◌, inl, inr, sym, ap, ◌∙◌, subst, arith, refl, Option, Some, None, Bool, false, List, [], ◌∷◌, ◌++◌, length}
+use Rattle.std.proofs.Common.{◌≡◌, ℕ, ◌+◌, ◌<◌, ◌≤◌, inl, inr, sym, ap, ◌∙◌, subst, arith, refl, Option, Some, None, Bool, false, List, [], ◌∷◌, ◌++◌, length, length-append}
 use Rattle.std.specs.Prelude.{option_map}
 use Rattle.rv_code.specs.declared.instruction.Instruction.{Instruction as MachineInstruction}
 use Rattle.rv_code.specs.declared.instruction.Instruction.TheVariants as instruction
@@ -84,6 +84,22 @@ placed_within p t i (x ∷ more) j (k, at, of, rest) =
     let later = placed_within p t k more j rest in
     omega (arith, one, later)
 
+-- Pieces have no fewer words than they are.
+pub placed_long : (p : Program) (t : Targets) (i : ℕ) (all : List PlacedPiece) (j : ℕ) → PlacedAt p t i all j → i + length all ≤ j
+placed_long p t i [] j there = omega (arith, there)
+placed_long p t i (x ∷ more) j (k, at, of, rest) =
+    let one = piece_some p t i x.is_stop x.piece k at in
+    let later = placed_long p t k more j rest in
+    omega (arith, one, later)
+
+-- The code of words has as many pieces.
+pub pieces_of_code : (code : List MachineInstruction) (s : CodeState) → length (with_code code s).pieces ≡ length s.pieces + length code
+pieces_of_code [] s = omega arith
+pieces_of_code (i ∷ code) s =
+    let rest = pieces_of_code code (with_piece (piece.Word i) s) in
+    let one = length-append s.pieces ((record { piece = piece.Word i; owner = s.owner; is_stop = s.begins; writes = None }) ∷ []) in
+    omega (arith, rest, one)
+
 -- The first word of a piece belongs to its place.
 pub first_owned : (p : Program) (t : Targets) (i : ℕ) (x : PlacedPiece) (more : List PlacedPiece) (j : ℕ) → PlacedAt p t i (x ∷ more) j → t.owner i ≡ x.owner
 first_owned p t i x more j (k, at, of, rest) = of i (omega arith) (piece_some p t i x.is_stop x.piece k at)
@@ -152,6 +168,18 @@ function_goes_on g target f all s =
     code_goes_on answer (with_piece (piece.Call f) (record (with_code passing s) { held = [] }))
     ∙ ap (λ b. growing [] (with_code passing s).owner b) (behind_none answer)
     ∙ ap (λ o. growing [] o false) (code_owner passing s)
+
+-- Its pieces.
+pub called_pieces : (g : StorageForm) (target : Option ℕ) (f : ℕ) (all : List Operand) (s : CodeState)
+    → length (function_called g target f all s).pieces ≡ length s.pieces + length (passing_code g 0 s.held all) + 1 + length (answer_code g (option_map (home_at g) target))
+called_pieces g target f all s =
+    let passing : List MachineInstruction = passing_code g 0 s.held all in
+    let answer : List MachineInstruction = answer_code g (option_map (home_at g) target) in
+    let s1 : CodeState = with_code passing s in
+    let front = pieces_of_code passing s in
+    let one = length-append s1.pieces ((record { piece = piece.Call f; owner = s1.owner; is_stop = s1.begins; writes = None }) ∷ []) in
+    let last = pieces_of_code answer (with_piece (piece.Call f) (record s1 { held = [] })) in
+    omega (arith, front, one, last)
 
 -- Its words, where they stand: the arguments are passed, the function is called by a word of the place in force, and the result is written behind that.
 pub record CallThere (p : Program) (t : Targets) (i k : ℕ) (passing : List MachineInstruction) (b : Bool) (owner f : ℕ) (answer : List MachineInstruction) : Type 0 where

@@ -1,9 +1,10 @@
 -- The machine does each step of the unit over homes.
-use Rattle.std.proofs.Common.{◌≡◌, ℕ, subst, arith, refl, false, List, [], ◌∷◌}
+use Rattle.std.proofs.Common.{◌≡◌, ℕ, ◌+◌, ◌-◌, ◌*◌, subst, arith, refl, false, List, [], ◌∷◌, length}
+use Rattle.std.specs.Prelude.{◌==◌}
 use Rattle.rv_code.specs.declared.instruction.Instruction.TheVariants as instruction
 use Rattle.rv_code.specs.declared.instruction.ImmediateOperation.TheVariants.{Addi}
 use Rattle.graph_core.specs.declared.instruction.Callee.TheVariants as callee
-use Rattle.graph_core.specs.Graphs.{Instruction, Marker, Note, NoteValue, Is, Gone, Move, Operate, Truncate, Same, Address, Load, Store, Zero, CopyWords, Call, Graph}
+use Rattle.graph_core.specs.Graphs.{Instruction, Marker, Note, NoteValue, Is, Gone, Move, Operate, Truncate, Same, Address, Load, Store, Zero, CopyWords, Call, End, Graph}
 use Rattle.graph_core.specs.Paths.{Among}
 use Rattle.graph_core.specs.Runs.{Configuration, step}
 use Rattle.graph_core.specs.Validity.{IsValid, IsInstruction, IsNoteValue}
@@ -11,18 +12,24 @@ use Rattle.homed_unit.specs.Homed.{HomedForm, HaveHomes, over_homes}
 use Rattle.emitted.specs.Emitted.{EmittedForm}
 use Rattle.machine_steps.specs.Programs.{Program, distance, IsAt}
 use Rattle.machine_steps.specs.Points.{Point}
+use Rattle.emit_storage.specs.Storages.{StorageForm}
+use Rattle.emit_words.specs.Growing.{CodeState}
+use Rattle.emit_code.specs.Beginning.{beginning_behind}
 use Rattle.emit_code.specs.Blocks.{no_code, with_stub}
 use Rattle.emit_calls.specs.Pieces.{Targets}
 use Rattle.emit_calls.specs.Placed.{PlacedAt}
 use Rattle.emit_calls.specs.Returns.{EndsMain}
+use Rattle.emit_calls.specs.Waiting.{FunctionCode}
 use Rattle.emit_calls.proofs.Running.{StubAt}
-use Rattle.emit_runs.specs.Laid.{HasWords, IsCode}
+use Rattle.emit_runs.specs.Laid.{Arrangement, code_of, HasWords, IsCode}
 use Rattle.emit_runs.proofs.Calls.{getchar_step, putchar_step, exit_step, function_step}
-use Rattle.emit_runs.proofs.EndSteps.{end_step}
+use Rattle.emit_runs.proofs.EndSteps.{longest_end, end_step}
 use Rattle.emit_runs.proofs.Marks.{marker_step}
 use Rattle.emit_runs.proofs.Related.{Related, DoesStep}
-use Rattle.emit_runs.proofs.Rest.{program_in, codes_in, places_in, next_among, next_valid, next_words}
+use Rattle.emit_runs.proofs.Rest.{program_in, codes_in, places_in, position_of, next_among, next_valid, next_words}
+use Rattle.emit_runs.proofs.States.{growing}
 use Rattle.emit_runs.proofs.Straights.{straight_step, zero_step, copy_step}
+use Rattle.emit_runs.proofs.Tracks.{pieces_of}
 use Rattle.emit_runs.proofs.UnitSteps.{spot_of}
 
 -- ---- What stands before all functions
@@ -54,13 +61,27 @@ stub_there h e code = stub_is (program_in h e code) (places_in h e code h.unit.m
 
 -- ---- Steps
 
+-- How many instructions the machine takes at most for one of the unit: as many as its code has pieces, of which each is a word; where words are set or copied, three or five more for each of them;
+-- and where a function is called, also those with which that begins.
+abbrev pub longest_of : HomedForm → Arrangement → StorageForm → (entry : ℕ) → Instruction → CodeState → ℕ
+longest_of h a g entry (Zero object count) s = pieces_of g entry (Zero object count) s + 3 * count
+longest_of h a g entry (CopyWords object bytes count) s = pieces_of g entry (CopyWords object bytes count) s + 5 * count
+longest_of h a g entry (Call target (callee.Function f) all) s =
+    pieces_of g entry (Call target (callee.Function f) all) s + 4 + length (beginning_behind (code_of h a f).storage (code_of h a f).graph (code_of h a f).saved (code_of h a f).size (f == h.unit.main))
+longest_of h a g entry x s = pieces_of g entry x s
+
+-- And for what is next where these instructions and this end are left of a block, of which so many words stand there.
+abbrev pub longest_from : HomedForm → Arrangement → FunctionCode → (words : ℕ) → End → List Instruction → CodeState → ℕ
+longest_from h a c n last [] s = longest_end c.saved c.size n last
+longest_from h a c n last (x ∷ more) s = longest_of h a c.storage c.graph.entry x s
+
 note_valid : (h : HomedForm) (g : Graph) (v : NoteValue) → IsNoteValue h.unit g v → IsNoteValue (over_homes h) g v
 note_valid h g (Is r) is = is
 note_valid h g (Gone change) is = is
 
 module _ (h : HomedForm) (valid : IsValid h.unit) (homed : HaveHomes h) (e : EmittedForm) (code : IsCode h e) (c : Configuration) (q : Point) (r : Related h e code c q) where
   -- The next instruction.
-  instruction_step : (x : Instruction) (more : List Instruction) → r.rest.more ≡ x ∷ more → IsInstruction h.unit (codes_in h e code c.here.function).graph x → HasWords x → DoesStep h e code q (step (over_homes h) c)
+  instruction_step : (x : Instruction) (more : List Instruction) → r.rest.more ≡ x ∷ more → IsInstruction h.unit (codes_in h e code c.here.function).graph x → HasWords x → DoesStep h e code (position_of r.rest) (longest_of h code.arrangement (codes_in h e code c.here.function).storage (codes_in h e code c.here.function).graph.entry x (growing r.held r.rest.owner q.shown)) q (step (over_homes h) c)
   instruction_step (Marker p) more is legal words = marker_step h valid homed e code c q r p more is
   instruction_step (Note x v) more is legal words = straight_step h valid homed e code c q r (Note x v) more is tt (legal.0, note_valid h (codes_in h e code c.here.function).graph v legal.1)
   instruction_step (Move x a) more is legal words = straight_step h valid homed e code c q r (Move x a) more is words legal
@@ -78,10 +99,10 @@ module _ (h : HomedForm) (valid : IsValid h.unit) (homed : HaveHomes h) (e : Emi
   instruction_step (Call target (callee.Function f) all) more is legal words = function_step h valid homed e code c q r target (callee.Function f) all more is legal.0 legal.1 words f refl legal.2
 
   -- Whatever is left of the block.
-  pub step_done : DoesStep h e code q (step (over_homes h) c)
+  pub step_done : DoesStep h e code (position_of r.rest) (longest_from h code.arrangement (codes_in h e code c.here.function) (code.arrangement.label c.here.function r.rest.at.next - r.index) r.rest.block.end r.rest.more (growing r.held r.rest.owner q.shown)) q (step (over_homes h) c)
   step_done = by_more r.rest.more refl
     where
-      by_more : (more : List Instruction) → r.rest.more ≡ more → DoesStep h e code q (step (over_homes h) c)
+      by_more : (more : List Instruction) → r.rest.more ≡ more → DoesStep h e code (position_of r.rest) (longest_from h code.arrangement (codes_in h e code c.here.function) (code.arrangement.label c.here.function r.rest.at.next - r.index) r.rest.block.end more (growing r.held r.rest.owner q.shown)) q (step (over_homes h) c)
       by_more [] is = end_step h valid homed e code (stub_there h e code).ends c q r is
       by_more (x ∷ more) is =
           let among : Among x r.rest.block.instructions = next_among h e code (spot_of c.here) r.index r.held q.shown r.rest x more is in

@@ -1,5 +1,5 @@
 -- The machine does the step of an instruction that goes straight on, or that fills an object.
-use Rattle.std.proofs.Common.{◌≡◌, ℕ, ◌+◌, ◌*◌, sym, ap, ◌∙◌, subst, refl, Option, Some, None, List, ◌∷◌, length, map, slice_get}
+use Rattle.std.proofs.Common.{◌≡◌, ℕ, ◌+◌, ◌*◌, ◌≤◌, sym, ap, ◌∙◌, subst, arith, refl, Option, Some, None, false, List, [], ◌∷◌, length, map, slice_get}
 use Rattle.std.specs.Prelude.{option_map, option_and_then}
 use Rattle.rv_code.specs.declared.instruction.Instruction.{Instruction as MachineInstruction}
 use Rattle.graph_core.specs.Graphs.{Instruction, Marker, Note, Move, Operate, Truncate, Same, Address, Load, Store, Zero, CopyWords, Call}
@@ -31,9 +31,10 @@ use Rattle.emit_runs.specs.Laid.{graph_at, IsCode}
 use Rattle.emit_runs.proofs.Frames.{all_codes}
 use Rattle.emit_runs.proofs.Lists.{get_among}
 use Rattle.emit_runs.proofs.Places.{IsNoMarker, keeps_same, unmarked_keeps, unmarked_behind}
-use Rattle.emit_runs.proofs.Related.{GoesOn, Related, ComesUnseen, DoesStep, come_unseen}
-use Rattle.emit_runs.proofs.Rest.{program_in, codes_in, places_in, RestAt, NextAt, next_at, rest_behind, next_among}
-use Rattle.emit_runs.proofs.States.{growing, going_on_from, code_goes_on, code_there}
+use Rattle.emit_runs.proofs.Related.{GoesOn, Related, DoesStep, does_within, come_unseen}
+use Rattle.emit_runs.proofs.Rest.{program_in, codes_in, blocks_in, places_in, position_of, RestFrom, NextAt, next_at, rest_behind, next_among}
+use Rattle.emit_runs.proofs.States.{growing, going_on_from, code_goes_on, code_there, pieces_of_code}
+use Rattle.emit_runs.proofs.Tracks.{pieces_of, passed_by, Advances, passes_one, calls_function}
 use Rattle.emit_runs.proofs.UnitSteps.{spot_of, KeepsSpot, IsPlain, execute_spot}
 
 -- An instruction that goes straight on is no marker and calls nothing, also over homes.
@@ -50,6 +51,20 @@ straight_unmarked (Store e l a) straight = tt
 straight_unmarked (Zero object words) straight = absurd straight
 straight_unmarked (CopyWords object bytes words) straight = absurd straight
 straight_unmarked (Call target f all) straight = absurd straight
+
+straight_calls : (x : Instruction) → IsStraight x → calls_function x ≡ false
+straight_calls (Marker p) straight = refl
+straight_calls (Note x v) straight = refl
+straight_calls (Move x a) straight = refl
+straight_calls (Operate x op a b) straight = refl
+straight_calls (Truncate x t a) straight = refl
+straight_calls (Same x a b) straight = refl
+straight_calls (Address x object) straight = refl
+straight_calls (Load x e l) straight = refl
+straight_calls (Store e l a) straight = refl
+straight_calls (Zero object words) straight = refl
+straight_calls (CopyWords object bytes words) straight = refl
+straight_calls (Call target f all) straight = absurd straight
 
 straight_plain : (home : ℕ → Home) (x : Instruction) → IsStraight x → IsPlain (placed_instruction home x)
 straight_plain home (Marker p) straight = absurd straight
@@ -89,7 +104,7 @@ module _ (h : HomedForm) (valid : IsValid h.unit) (homed : HaveHomes h) (e : Emi
   pub words_done : (words : List MachineInstruction) (later : List Held) → IsNoMarker x
       → with_instruction (codes_in h e code c.here.function).storage (codes_in h e code c.here.function).graph.entry x (growing r.held r.rest.owner q.shown) ≡ record (with_code words (growing r.held r.rest.owner q.shown)) { held = later }
       → (d : Configuration) → spot_of d.here ≡ spot_of (going_on c (map (placed_instruction (home_at (codes_in h e code c.here.function).storage)) more)).here
-      → CodeAt (program_in h e code) r.index q.shown words × RestAt h e code (spot_of d.here) (r.index + length words) later (behind q.shown words)
+      → CodeAt (program_in h e code) r.index q.shown words × RestFrom h e code (passed_by (position_of r.rest) x more) (spot_of d.here) (r.index + length words) later (behind q.shown words)
   words_done words later unmarked appended d spot =
       let s : CodeState = growing r.held r.rest.owner q.shown in
       let there = code_there (program_in h e code) (places_in h e code c.here.function) r.index next.behind_it words s refl
@@ -97,8 +112,21 @@ module _ (h : HomedForm) (valid : IsValid h.unit) (homed : HaveHomes h) (e : Emi
       let state : going_on_from (with_instruction f.storage f.graph.entry x s) ≡ growing later r.rest.owner (behind q.shown words) =
       ap going_on_from appended ∙ ap (λ (t : CodeState). growing later t.owner t.begins) (code_goes_on words s) in
       let behind_it = rest_behind h e code (spot_of c.here) r.index r.held q.shown r.rest x more is next c.here.place r.rest.owner later (behind q.shown words) state
-      (keeps_same more (Some r.rest.owner) (Some c.here.place) (unmarked_keeps x more (Some r.rest.owner) (Some c.here.place) unmarked (subst (λ l. KeepsPlace l (Some r.rest.owner) (Some c.here.place)) is r.rest.owned))) (unmarked_behind x more (Some c.here.place) unmarked) in
-      (there.0, subst (λ k. RestAt h e code (spot_of d.here) k later (behind q.shown words)) there.1 (subst (λ p. RestAt h e code p next.behind_it later (behind q.shown words)) (sym spot) behind_it))
+      (keeps_same more (Some r.rest.owner) (Some c.here.place) (unmarked_keeps x more (Some r.rest.owner) (Some c.here.place) unmarked (subst (λ l. KeepsPlace l (Some r.rest.owner) (Some c.here.place)) is r.rest.owned))) (unmarked_behind x more (Some c.here.place) unmarked) (unmarked_behind x [] (Some c.here.place) unmarked) in
+      (there.0, subst (λ k. RestFrom h e code (passed_by (position_of r.rest) x more) (spot_of d.here) k later (behind q.shown words)) there.1 (subst (λ p. RestFrom h e code (passed_by (position_of r.rest) x more) p next.behind_it later (behind q.shown words)) (sym spot) behind_it))
+
+  -- The words are no more than the pieces of the instruction.
+  pub words_few : (words : List MachineInstruction) (later : List Held)
+      → with_instruction (codes_in h e code c.here.function).storage (codes_in h e code c.here.function).graph.entry x (growing r.held r.rest.owner q.shown) ≡ record (with_code words (growing r.held r.rest.owner q.shown)) { held = later }
+      → length words ≤ pieces_of (codes_in h e code c.here.function).storage (codes_in h e code c.here.function).graph.entry x (growing r.held r.rest.owner q.shown)
+  words_few words later appended =
+      let many = pieces_of_code words (growing r.held r.rest.owner q.shown) in
+      let same = ap (λ (t : CodeState). length t.pieces) appended in
+      omega (arith, many, same)
+
+  -- The activation passes the instruction.
+  pub passes_it : calls_function x ≡ false → Advances (blocks_in h e code) (position_of r.rest) (passed_by (position_of r.rest) x more)
+  passes_it none = passes_one x more is none refl
 
   -- What is held behind words is what was held.
   words_held : (words : List MachineInstruction) → with_code words (growing r.held r.rest.owner q.shown) ≡ record (with_code words (growing r.held r.rest.owner q.shown)) { held = r.held }
@@ -111,20 +139,22 @@ module _ (h : HomedForm) (valid : IsValid h.unit) (homed : HaveHomes h) (e : Emi
 
   -- ---- One that goes straight on
 
-  straight_unseen : IsStraight x → IsInstruction (over_homes h) (codes_in h e code c.here.function).graph x → (d : Configuration) → step (over_homes h) c ≡ Goes d → ComesUnseen h e code q d
+  straight_unseen : IsStraight x → IsInstruction (over_homes h) (codes_in h e code c.here.function).graph x → (d : Configuration) → step (over_homes h) c ≡ Goes d → DoesStep h e code (position_of r.rest) (pieces_of (codes_in h e code c.here.function).storage (codes_in h e code c.here.function).graph.entry x (growing r.held r.rest.owner q.shown)) q (Goes d)
   straight_unseen straight legal d goes =
       let words = straight_code f.storage r.held x in
       let w : Setting = setting_of (over_homes h) r.addresses r.held f in
       let s : CodeState = growing r.held r.rest.owner q.shown in
       let codes_valid = all_codes h valid homed code.arrangement (over_homes h) in
       let spot : spot_of d.here ≡ spot_of (going_on c rest).here = subst (λ z. KeepsSpot (going_on c rest) z) (sym step_is ∙ goes) (execute_spot (over_homes h) (placed_instruction home x) (going_on c rest) (straight_plain home x straight)) in
-      let done = words_done words r.held (straight_unmarked x straight) (straight_appended f.storage f.graph.entry x s straight ∙ words_held words) d spot in
+      let appended = straight_appended f.storage f.graph.entry x s straight ∙ words_held words in
+      let done = words_done words r.held (straight_unmarked x straight) appended d spot in
       let saved = saved_is (target_among w x ((codes_valid c.here.function).storage r.addresses r.held) legal straight) in
-      come_unseen h e code q r.index (length words) (r.index + length words) (behind q.shown words) r.addresses r.held d
+      does_within h e code (position_of r.rest) (length words) _ q (Goes d) (words_few words r.held appended)
+      (come_unseen h e code (position_of r.rest) (passed_by (position_of r.rest) x more) q r.index (length words) (r.index + length words) (behind q.shown words) r.addresses r.held d
       (straight_comes (codes_in h e code) (over_homes h) codes_valid r.addresses (Resumes (program_in h e code) (codes_in h e code) (GoesOn h e code)) (program_in h e code) q.state r.index q.shown r.held c d r.holding x rest r.all r.stands done.0 rest_is legal straight saved goes)
-      done.1
+      done.1 (passes_it (straight_calls x straight)))
 
-  pub straight_step : IsStraight x → IsInstruction (over_homes h) (codes_in h e code c.here.function).graph x → DoesStep h e code q (step (over_homes h) c)
+  pub straight_step : IsStraight x → IsInstruction (over_homes h) (codes_in h e code c.here.function).graph x → DoesStep h e code (position_of r.rest) (pieces_of (codes_in h e code c.here.function).storage (codes_in h e code c.here.function).graph.entry x (growing r.held r.rest.owner q.shown)) q (step (over_homes h) c)
   straight_step straight legal = by_step (step (over_homes h) c) refl
     where
       never : (z : Stepped) → step (over_homes h) c ≡ z
@@ -135,7 +165,7 @@ module _ (h : HomedForm) (valid : IsValid h.unit) (homed : HaveHomes h) (e : Emi
           subst (λ y. DoesUnitStep w (going_on c rest) r.holding (option_map home (target_of x)) (straight_code f.storage r.held x) y) is_z
           (step_done w c r.holding x rest ((all_codes h valid homed code.arrangement (over_homes h) c.here.function).storage r.addresses r.held) r.all.here r.stands.in_range rest_is legal straight)
 
-      by_step : (z : Stepped) → step (over_homes h) c ≡ z → DoesStep h e code q z
+      by_step : (z : Stepped) → step (over_homes h) c ≡ z → DoesStep h e code (position_of r.rest) (pieces_of (codes_in h e code c.here.function).storage (codes_in h e code c.here.function).graph.entry x (growing r.held r.rest.owner q.shown)) q z
       by_step (Goes d) is_z = straight_unseen straight legal d is_z
       by_step (Shows seen d) is_z = absurd (never (Shows seen d) is_z)
       by_step (EndsUnit seen) is_z = absurd (never (EndsUnit seen) is_z)
@@ -143,42 +173,48 @@ module _ (h : HomedForm) (valid : IsValid h.unit) (homed : HaveHomes h) (e : Emi
 
   -- ---- One that fills an object
 
-  pub zero_step : (object words : ℕ) → x ≡ Zero object words → IsInstruction h.unit (codes_in h e code c.here.function).graph (Zero object words) → DoesStep h e code q (step (over_homes h) c)
+  pub zero_step : (object words : ℕ) → x ≡ Zero object words → IsInstruction h.unit (codes_in h e code c.here.function).graph (Zero object words) → DoesStep h e code (position_of r.rest) (pieces_of (codes_in h e code c.here.function).storage (codes_in h e code c.here.function).graph.entry x (growing r.held r.rest.owner q.shown) + 3 * words) q (step (over_homes h) c)
   zero_step object words same legal =
-      subst (λ z. DoesStep h e code q z) (sym does) (by_memory (zeroed c.memory (c.here.first_object + object) words) refl)
+      subst (λ z. DoesStep h e code (position_of r.rest) (pieces_of (codes_in h e code c.here.function).storage (codes_in h e code c.here.function).graph.entry x (growing r.held r.rest.owner q.shown) + 3 * words) q z) (sym does) (by_memory (zeroed c.memory (c.here.first_object + object) words) refl)
     where
       does : step (over_homes h) c ≡ with_memory (going_on c (map (placed_instruction (home_at (codes_in h e code c.here.function).storage)) more)) (zeroed c.memory (c.here.first_object + object) words)
       does = step_is ∙ ap (λ i. execute (over_homes h) (placed_instruction home i) (going_on c rest)) same
 
-      by_memory : (later : Option Memory) → zeroed c.memory (c.here.first_object + object) words ≡ later → DoesStep h e code q (with_memory (going_on c (map (placed_instruction (home_at (codes_in h e code c.here.function).storage)) more)) later)
+      by_memory : (later : Option Memory) → zeroed c.memory (c.here.first_object + object) words ≡ later → DoesStep h e code (position_of r.rest) (pieces_of (codes_in h e code c.here.function).storage (codes_in h e code c.here.function).graph.entry x (growing r.held r.rest.owner q.shown) + 3 * words) q (with_memory (going_on c (map (placed_instruction (home_at (codes_in h e code c.here.function).storage)) more)) later)
       by_memory None made = tt
       by_memory (Some later) made =
           let code_of_it = zero_code f.storage object words in
           let d : Configuration = record (going_on c rest) { memory = later } in
           let s : CodeState = growing r.held r.rest.owner q.shown in
-          let done = words_done code_of_it r.held (subst (λ i. IsNoMarker i) (sym same) tt) (ap (λ i. with_instruction f.storage f.graph.entry i s) same ∙ words_held code_of_it) d refl in
-          come_unseen h e code q r.index (length code_of_it + 3 * words) (r.index + length code_of_it) (behind q.shown code_of_it) r.addresses r.held d
+          let appended = ap (λ i. with_instruction f.storage f.graph.entry i s) same ∙ words_held code_of_it in
+          let done = words_done code_of_it r.held (subst (λ i. IsNoMarker i) (sym same) tt) appended d refl in
+          let few = words_few code_of_it r.held appended in
+          does_within h e code (position_of r.rest) (length code_of_it + 3 * words) _ q (Goes d) (omega (arith, few))
+          (come_unseen h e code (position_of r.rest) (passed_by (position_of r.rest) x more) q r.index (length code_of_it + 3 * words) (r.index + length code_of_it) (behind q.shown code_of_it) r.addresses r.held d
           (zero_all (codes_in h e code) (over_homes h) (all_codes h valid homed code.arrangement (over_homes h)) r.addresses (Resumes (program_in h e code) (codes_in h e code) (GoesOn h e code)) (program_in h e code) q.state r.index q.shown r.held c d r.holding r.all r.stands object words rest done.0
           (rest_is ∙ ap (λ i. placed_instruction home i ∷ rest) same) legal (does ∙ ap (with_memory (going_on c rest)) made))
-          done.1
+          done.1 (passes_it (ap calls_function same)))
 
-  pub copy_step : (object bytes words : ℕ) → x ≡ CopyWords object bytes words → IsInstruction h.unit (codes_in h e code c.here.function).graph (CopyWords object bytes words) → DoesStep h e code q (step (over_homes h) c)
+  pub copy_step : (object bytes words : ℕ) → x ≡ CopyWords object bytes words → IsInstruction h.unit (codes_in h e code c.here.function).graph (CopyWords object bytes words) → DoesStep h e code (position_of r.rest) (pieces_of (codes_in h e code c.here.function).storage (codes_in h e code c.here.function).graph.entry x (growing r.held r.rest.owner q.shown) + 5 * words) q (step (over_homes h) c)
   copy_step object bytes words same legal =
-      subst (λ z. DoesStep h e code q z) (sym does) (by_memory (option_and_then (λ all. copied c.memory (c.here.first_object + object) all words) (slice_get h.unit.array_bytes bytes)) refl)
+      subst (λ z. DoesStep h e code (position_of r.rest) (pieces_of (codes_in h e code c.here.function).storage (codes_in h e code c.here.function).graph.entry x (growing r.held r.rest.owner q.shown) + 5 * words) q z) (sym does) (by_memory (option_and_then (λ all. copied c.memory (c.here.first_object + object) all words) (slice_get h.unit.array_bytes bytes)) refl)
     where
       does : step (over_homes h) c
           ≡ with_memory (going_on c (map (placed_instruction (home_at (codes_in h e code c.here.function).storage)) more)) (option_and_then (λ all. copied c.memory (c.here.first_object + object) all words) (slice_get h.unit.array_bytes bytes))
       does = step_is ∙ ap (λ i. execute (over_homes h) (placed_instruction home i) (going_on c rest)) same
 
       by_memory : (later : Option Memory) → option_and_then (λ all. copied c.memory (c.here.first_object + object) all words) (slice_get h.unit.array_bytes bytes) ≡ later
-          → DoesStep h e code q (with_memory (going_on c (map (placed_instruction (home_at (codes_in h e code c.here.function).storage)) more)) later)
+          → DoesStep h e code (position_of r.rest) (pieces_of (codes_in h e code c.here.function).storage (codes_in h e code c.here.function).graph.entry x (growing r.held r.rest.owner q.shown) + 5 * words) q (with_memory (going_on c (map (placed_instruction (home_at (codes_in h e code c.here.function).storage)) more)) later)
       by_memory None made = tt
       by_memory (Some later) made =
           let code_of_it = copy_code f.storage r.held object bytes words in
           let d : Configuration = record (going_on c rest) { memory = later } in
           let s : CodeState = growing r.held r.rest.owner q.shown in
-          let done = words_done code_of_it r.held (subst (λ i. IsNoMarker i) (sym same) tt) (ap (λ i. with_instruction f.storage f.graph.entry i s) same ∙ words_held code_of_it) d refl in
-          come_unseen h e code q r.index (length code_of_it + 5 * words) (r.index + length code_of_it) (behind q.shown code_of_it) r.addresses r.held d
+          let appended = ap (λ i. with_instruction f.storage f.graph.entry i s) same ∙ words_held code_of_it in
+          let done = words_done code_of_it r.held (subst (λ i. IsNoMarker i) (sym same) tt) appended d refl in
+          let few = words_few code_of_it r.held appended in
+          does_within h e code (position_of r.rest) (length code_of_it + 5 * words) _ q (Goes d) (omega (arith, few))
+          (come_unseen h e code (position_of r.rest) (passed_by (position_of r.rest) x more) q r.index (length code_of_it + 5 * words) (r.index + length code_of_it) (behind q.shown code_of_it) r.addresses r.held d
           (copy_all (codes_in h e code) (over_homes h) (all_codes h valid homed code.arrangement (over_homes h)) r.addresses (Resumes (program_in h e code) (codes_in h e code) (GoesOn h e code)) (program_in h e code) q.state r.index q.shown r.held c d r.holding r.all r.stands object bytes words rest done.0
           (rest_is ∙ ap (λ i. placed_instruction home i ∷ rest) same) legal (does ∙ ap (with_memory (going_on c rest)) made))
-          done.1
+          done.1 (passes_it (ap calls_function same)))

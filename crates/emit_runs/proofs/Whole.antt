@@ -22,6 +22,7 @@ use Rattle.emit_runs.proofs.Related.{Related, DoesStep}
 use Rattle.emit_runs.proofs.Rest.{program_in}
 use Rattle.emit_runs.proofs.Starting.{comes_to_first, first, first_is, no_stop}
 use Rattle.emit_runs.proofs.Steps.{step_done}
+use Rattle.emit_runs.proofs.Tracks.{Position}
 
 -- ---- Runs
 
@@ -66,13 +67,13 @@ run_grows stops s k j le = run_begins stops k j s le
 module _ (h : HomedForm) (valid : IsValid h.unit) (homed : HaveHomes h) (e : EmittedForm) (code : IsCode h e) where
   pub all_comes : (n : ℕ) (c : Configuration) (q : Point) → Related h e code c q → Comes (SameSeen h e code.arrangement) (seen (over_homes h) n c) (events (program_in h e code).stops q)
   all_comes zero c q r = tt
-  all_comes (suc n) c q r = by_step (step (over_homes h) c) (λ d p related. all_comes n d p related) (step_done h valid homed e code c q r)
+  all_comes (suc n) c q r = by_step _ _ (step (over_homes h) c) (λ d p related. all_comes n d p related) (step_done h valid homed e code c q r)
     where
-      by_step : (z : Stepped) → ((d : Configuration) (p : Point) → Related h e code d p → Comes (SameSeen h e code.arrangement) (seen (over_homes h) n d) (events (program_in h e code).stops p)) → DoesStep h e code q z → Comes (SameSeen h e code.arrangement) (seen_after z (seen (over_homes h) n)) (events (program_in h e code).stops q)
-      by_step (Goes d) later done = comes_later (SameSeen h e code.arrangement) done.count (seen (over_homes h) n d) (events (program_in h e code).stops q) (events (program_in h e code).stops done.point) done.leads.by (later d done.point done.related)
-      by_step (ShowsStep event d) later done = (record { steps = done.count; shown = done.event; rest = events (program_in h e code).stops done.point; same = done.same; is = done.leads.by }, later d done.point done.related)
-      by_step (EndsStep event) later done = (record { steps = done.count; shown = done.event; rest = λ k. []; same = done.same; is = done.ends.by }, tt)
-      by_step Wild later done = tt
+      by_step : (from : Position) (most : ℕ) (z : Stepped) → ((d : Configuration) (p : Point) → Related h e code d p → Comes (SameSeen h e code.arrangement) (seen (over_homes h) n d) (events (program_in h e code).stops p)) → DoesStep h e code from most q z → Comes (SameSeen h e code.arrangement) (seen_after z (seen (over_homes h) n)) (events (program_in h e code).stops q)
+      by_step from most (Goes d) later done = comes_later (SameSeen h e code.arrangement) done.count (seen (over_homes h) n d) (events (program_in h e code).stops q) (events (program_in h e code).stops done.point) done.leads.by (later d done.point done.related)
+      by_step from most (ShowsStep event d) later done = (record { steps = done.count; shown = done.event; rest = events (program_in h e code).stops done.point; same = done.same; is = done.leads.by }, later d done.point done.related)
+      by_step from most (EndsStep event) later done = (record { steps = done.count; shown = done.event; rest = λ k. []; same = done.same; is = done.ends.by }, tt)
+      by_step from most Wild later done = tt
 
   -- From the beginning on.
   pub comes_by_all : ComesByAll h e code.arrangement

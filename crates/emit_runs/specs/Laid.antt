@@ -4,8 +4,7 @@ use Rattle.std.specs.Option.{option_map_or}
 use Rattle.std.specs.List.{AllByRecursion}
 use Rattle.rv_machine.specs.State.{bytes_size, stack_size}
 use Rattle.rv_machine.specs.Table.{zeros}
-use Rattle.graph_core.specs.declared.graph.MemoryObject.{MemoryObject}
-use Rattle.graph_core.specs.Graphs.{Instruction, Marker, Note, Move, Operate, Truncate, Same, Address, Load, Store, Zero, CopyWords, Call, End, Jump, Branch, Return, Block, Binding, ToScalar, ToObject, Graph, UnitForm}
+use Rattle.graph_core.specs.Graphs.{Instruction, Marker, Note, Move, Operate, Truncate, Same, Address, Load, Store, Zero, CopyWords, Call, End, Jump, Branch, Return, Block, Graph, UnitForm}
 use Rattle.graph_core.specs.Paths.{Among}
 use Rattle.graph_core.specs.Uses.{targets_of}
 use Rattle.homed_unit.specs.Frames.{saved, slot_count, slots_start, objects_start, object_offsets, frame_size}
@@ -135,20 +134,14 @@ HasWordsAtEnd (Branch k x y if_true if_false) = IsWord x × IsWord y
 HasWordsAtEnd (Return None) = Unit {0}
 HasWordsAtEnd (Return (Some a)) = IsWord a
 
--- An object that a parameter is bound to has an element.
-abbrev pub HasElement : Graph → Binding → Type 0
-HasElement g (ToScalar x) = Unit {0}
-HasElement g (ToObject object) = (m : MemoryObject) × (slice_get g.objects object ≡ Some m) × (1 ≤ m.count)
-
 -- The constants of a block are words.
 pub record HasWordsInBlock (b : Block) : Type 0 where
   pub instructions : AllByRecursion HasWords b.instructions
   pub end : HasWordsAtEnd b.end
 
--- The constants of a graph are words, and objects that its parameters are bound to have elements.
+-- The constants of a graph are words.
 pub record IsInWords (g : Graph) : Type 0 where
   pub blocks : AllByRecursion HasWordsInBlock g.blocks
-  pub parameters : AllByRecursion (HasElement g) g.parameters
 
 -- ---- The code of a unit
 

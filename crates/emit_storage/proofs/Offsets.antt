@@ -1,10 +1,11 @@
 -- Offsets of things that lie one behind the other, as they are found one by one.
 use Rattle.std.proofs.Common.{◌≡◌, ℕ, ◌+◌, ◌-◌, ◌<◌, ◌≤◌, List, [], ◌∷◌, ◌++◌, length, refl, sym, ap, ◌∙◌, subst, arith, append_assoc, get_or, take, drop, map, min}
 use Rattle.std.proofs.Math.Seq.{take-length}
+use Rattle.std.proofs.lemmas.List.{length-map}
 use Rattle.graph_core.specs.Validity.{taken_by, total}
 use Rattle.graph_core.specs.Graphs.{StaticObject, UnitForm}
 use Rattle.graph_core.specs.Memory.{static_bytes}
-use Rattle.homed_unit.specs.Statics.{addresses_from, static_sizes}
+use Rattle.homed_unit.specs.Statics.{addresses_from, static_addresses, static_sizes, statics_start}
 use Rattle.emit_storage.specs.Placed.{FitsStatics}
 
 end_next : (offset a b c next : ℕ) → next ≡ min (offset + a) 4294967295 → min (offset + (a + b)) 4294967295 ≡ min c 4294967295 → min (next + b) 4294967295 ≡ min c 4294967295
@@ -99,12 +100,41 @@ total_map taken view [] = refl
 total_map taken view (x ∷ xs) = ap (λ n. taken (view x) + n) (total_map taken view xs)
 
 -- Bytes of objects and arrays, put one behind the other, are as many as static memory takes.
-pub bytes_in_all : (u : UnitForm) (count now : ℕ) → count ≡ 0 + total (λ (o : StaticObject). min (taken_by (static_bytes o)) 18446744073709551615) u.statics
-    → now ≡ count + total (λ (b : List ℕ). min (taken_by (length b)) 18446744073709551615) u.array_bytes → FitsStatics u → now ≡ total taken_by (static_sizes u)
+pub bytes_in_all : (u : UnitForm) (count now : ℕ) → count ≡ total (λ (o : StaticObject). taken_by (static_bytes o)) u.statics → now ≡ count + total (λ (b : List ℕ). min (taken_by (length b)) 18446744073709551615) u.array_bytes
+    → FitsStatics u → now ≡ total taken_by (static_sizes u)
 bytes_in_all u count now first second fits =
     let parts = total_append (map static_bytes u.statics) (map (λ (b : List ℕ). length b) u.array_bytes) in
     let left = total_map taken_by static_bytes u.statics in
     let right = total_map taken_by (λ (b : List ℕ). length b) u.array_bytes in
-    let few = total_few (λ (o : StaticObject). taken_by (static_bytes o)) u.statics (omega (arith, parts, left, right, fits)) in
     let some = total_few (λ (b : List ℕ). taken_by (length b)) u.array_bytes (omega (arith, parts, left, right, fits)) in
-    omega (arith, first, second, parts, left, right, few, some)
+    omega (arith, first, second, parts, left, right, some)
+
+-- The arrays alone take few.
+pub arrays_few : (u : UnitForm) → FitsStatics u → total taken_by (map (λ (b : List ℕ). length b) u.array_bytes) < 4294967295
+arrays_few u fits = let parts = total_append (map static_bytes u.statics) (map (λ (b : List ℕ). length b) u.array_bytes) in omega (arith, parts, fits)
+
+parts_of : (os ps all : List ℕ) (n : ℕ) → length os ≡ n → os ++ ps ≡ all → (os ≡ take n all) × (ps ≡ drop n all)
+parts_of os ps all n count is =
+    let here : (os ≡ take n (os ++ ps)) × (ps ≡ drop n (os ++ ps)) = subst (λ m. (os ≡ take m (os ++ ps)) × (ps ≡ drop m (os ++ ps))) count (both os) in
+    subst (λ l. (os ≡ take n l) × (ps ≡ drop n l)) is here
+  where
+    both : (xs : List ℕ) → (xs ≡ take (length xs) (xs ++ ps)) × (ps ≡ drop (length xs) (xs ++ ps))
+    both [] = (refl, refl)
+    both (x ∷ xs) = (ap (λ l. x ∷ l) (both xs).0, (both xs).1)
+
+sizes_count : (n : ℕ) (xs : List ℕ) → length (addresses_from n xs) ≡ length xs
+sizes_count n [] = refl
+sizes_count n (x ∷ xs) = let rest = sizes_count (n + taken_by x) xs in omega (arith, rest)
+
+-- The addresses of static objects come first, and then those of the bytes that initialise arrays.
+pub placed_parts : (u : UnitForm) (os ps : List ℕ) (end : ℕ) → (4194304 + total taken_by (map static_bytes u.statics) < 4294967295 → os ≡ addresses_from 4194304 (map static_bytes u.statics))
+    → end ≡ min (4194304 + total taken_by (map static_bytes u.statics)) 4294967295
+    → (end + total taken_by (map (λ (b : List ℕ). length b) u.array_bytes) < 4294967295 → ps ≡ addresses_from end (map (λ (b : List ℕ). length b) u.array_bytes))
+    → FitsStatics u → (os ≡ take (length u.statics) (static_addresses u)) × (ps ≡ drop (length u.statics) (static_addresses u))
+unfolding statics_start
+placed_parts u os ps end first e second fits =
+    let parts = total_append (map static_bytes u.statics) (map (λ (b : List ℕ). length b) u.array_bytes) in
+    let few : 4194304 + total taken_by (static_sizes u) < 4294967295 = fits in
+    let is : os ≡ addresses_from 4194304 (map static_bytes u.statics) = first (omega (arith, parts, few)) in
+    let count : length os ≡ length u.statics = ap (λ l. length l) is ∙ sizes_count 4194304 (map static_bytes u.statics) ∙ length-map u.statics static_bytes in
+    parts_of os ps (static_addresses u) (length u.statics) count (both_addresses 4194304 (map static_bytes u.statics) (map (λ (b : List ℕ). length b) u.array_bytes) os ps end few first e second)

@@ -1,3 +1,4 @@
+pub mod Filled
 pub mod Kept
 pub mod Placed
 pub mod Storages

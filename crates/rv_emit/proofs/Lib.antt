@@ -1,3 +1,1 @@
-pub mod Appended
-pub mod Bound
-pub mod Fitting
+pub mod Promised

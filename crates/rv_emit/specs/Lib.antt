@@ -1,3 +1,1 @@
-pub mod Laid
-pub mod Placed
-pub mod Words
+pub mod Emits

@@ -1,9 +1,7 @@
-//! The code of a unit whose names have homes.
+//! The code of a unit whose names have homes, and that its run shows what the unit shows.
 #![tactic(auto)]
 
-mod base;
+mod constants;
 mod emitting;
-mod laying;
-mod telling;
 
 pub use emitting::emit;

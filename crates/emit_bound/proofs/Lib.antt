@@ -1,0 +1,11 @@
+pub mod Amounts
+pub mod Credits
+pub mod Enough
+pub mod Next
+pub mod Payments
+pub mod Plain
+pub mod Rooms
+pub mod Totals
+pub mod Turns
+pub mod Waiting
+pub mod Whole

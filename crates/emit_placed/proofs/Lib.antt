@@ -1,0 +1,17 @@
+pub mod Blocks
+pub mod Covering
+pub mod Endings
+pub mod Forms
+pub mod Functions
+pub mod Grounds
+pub mod Instructions
+pub mod Operations
+pub mod Pieces
+pub mod Placing
+pub mod Spelled
+pub mod Stops
+pub mod Unflagged
+pub mod UnitCode
+pub mod UnitPlaced
+pub mod UnitRuns
+pub mod UnitStops

@@ -1,0 +1,6 @@
+pub mod Apart
+pub mod Cycles
+pub mod Heads
+pub mod Ranks
+pub mod Standing
+pub mod Sums

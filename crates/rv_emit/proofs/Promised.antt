@@ -1,0 +1,38 @@
+-- What is emitted does what the unit does.
+use Rattle.std.proofs.Common.{◌≡◌, ◌≤◌, ◌∙◌, sym, ap, length, arith}
+use Rattle.std.specs.Prelude.{slice_index}
+use Rattle.std.specs.List.{AllByRecursion}
+use Rattle.graph_core.specs.Paths.{Among}
+use Rattle.graph_core.specs.Validity.{IsValid}
+use Rattle.homed_unit.specs.Homed.{HomedForm, HaveHomes}
+use Rattle.emitted.specs.declared.emitted.PlacedStop.{PlacedStop}
+use Rattle.emitted.specs.Emitted.{EmittedForm}
+use Rattle.emit_storage.proofs.Filling.{have_all}
+use Rattle.emit_runs.specs.Laid.{IsCode, IsInWords}
+use Rattle.emit_runs.proofs.Whole.{agrees_throughout, comes_by_all}
+use Rattle.emit_assembly.specs.Laid.{IsEmittedOf}
+use Rattle.emit_bound.proofs.Rooms.{apart_has_room}
+use Rattle.emit_bound.proofs.Whole.{follows_in_time}
+use Rattle.emit_placed.proofs.UnitCode.{code_is, code_parts}
+use Rattle.rv_emit.specs.Emits.{Emits}
+
+-- Stops at one address are of one place.
+stops_apart : (h : HomedForm) (e : EmittedForm) → IsCode h e → (s t : PlacedStop) → Among s e.stops → Among t e.stops → s.address ≡ t.address → s.place ≡ t.place
+stops_apart h e code s t is_s is_t same =
+    let one = code.stops s is_s in
+    let two = code.stops t is_t in
+    let index : one.0 ≡ two.0 = let here = one.1 in let there = two.1 in omega (arith, same, here, there) in
+    sym one.2 ∙ ap (slice_index e.owners) index ∙ two.2
+
+pub emits_all : (h : HomedForm) → IsValid h.unit → HaveHomes h → (e : EmittedForm) → IsEmittedOf h e → length e.code ≤ 262144 → length e.owners ≡ length e.code → AllByRecursion IsInWords h.unit.graphs → Emits h e
+emits_all h valid homed e emitted short owners words =
+    let code : IsCode h e = code_is h valid homed e emitted short emitted.addresses words emitted.initial emitted.bytes in
+    record {
+      code = code;
+      comes = comes_by_all h valid homed e code;
+      agrees = agrees_throughout h valid homed e code;
+      in_time = λ well. follows_in_time h well homed e code (apart_has_room h e code (code_parts h valid homed e emitted short emitted.addresses words emitted.initial emitted.bytes));
+      owners = owners;
+      apart = stops_apart h e code;
+      statics = have_all h.unit e.statics (emitted.objects ∙ emitted.addresses.objects);
+    }
