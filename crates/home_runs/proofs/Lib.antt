@@ -1,0 +1,13 @@
+pub mod Lists
+pub mod Numbers
+pub mod NamesRead
+pub mod Values
+pub mod Histories
+pub mod Fits
+pub mod Entering
+pub mod Related
+pub mod Steps
+pub mod Whole
+pub mod Slots
+pub mod Stops
+pub mod Joined
