@@ -1,1 +1,3 @@
 pub mod Variables
+pub mod Spans
+pub mod Storages

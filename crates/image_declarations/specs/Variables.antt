@@ -6,9 +6,12 @@ use Rattle.c_tree.specs.declared.types.IntegerType.TheVariants.{Char, SignedChar
 use Rattle.c_tree.specs.declared.object_type.ObjectType.{ObjectType}
 use Rattle.c_tree.specs.declared.object_type.ObjectType.TheVariants as type
 use Rattle.c_tree.specs.Programs.{AutomaticTree, LiteralTree, ProgramTree, StaticTree, TypedFunctionTree}
+use Rattle.debug_records.specs.Change.{letters}
+use Rattle.graph_core.specs.Graphs.{Logged}
 use Rattle.image_form.specs.declared.tables.Function.{Function}
 use Rattle.image_form.specs.declared.variables.ElementType.{ElementType}
 use Rattle.image_form.specs.declared.variables.ElementType.TheVariants.{U8, I8, U16, I16, U32, I32, Pointer}
+use Rattle.image_form.specs.declared.variables.Storage.{Storage}
 use Rattle.image_form.specs.declared.variables.Variable.{Variable}
 
 -- the element type of an integer type
@@ -70,6 +73,10 @@ shapes_of p = map static_shape p.statics ++ (map literal_shape p.literals ++ map
 abbrev pub owner : Variable → Option ℕ
 owner v = v.function
 
+-- where a variable of an image is kept
+abbrev pub storage : Variable → Storage
+storage v = v.storage
+
 -- to which functions variables belong, of functions the first of which has this number: as many as a function has are its, function by function
 abbrev pub owned_from : (number : ℕ) → List TypedFunctionTree → List (Option ℕ)
 owned_from number [] = []
@@ -86,6 +93,10 @@ entry f = f.entry
 -- the names of a program's functions and variables, one after the other
 abbrev pub declared_names : ProgramTree → List ℕ
 declared_names p = flat_map (λ (f : TypedFunctionTree). f.name) p.functions ++ (flat_map (λ (v : StaticTree). v.name) p.statics ++ flat_map (λ (v : AutomaticTree). v.name) p.automatics)
+
+-- the names of the passes that made changes, one after the other, once for each change
+abbrev pub pass_names : List Logged → List ℕ
+pass_names log = flat_map (λ (c : Logged). letters c.pass) log
 
 -- how long the name of a function is
 abbrev pub name_length : Function → ℕ

@@ -2,7 +2,9 @@
 
 ghost use Rattle.std.specs.Prelude.{◌≡◌, IfOk, length, map};
 ghost use Rattle.c_tree.specs.Programs.{function_view};
+ghost use Rattle.emitted.specs.Emitted as emitted;
 ghost use Rattle.image_declarations.specs.Variables.{entry, length_of_name, name_length};
+ghost use Rattle.image_declarations.specs.Spans.{code_span, span};
 
 use crate::numbers::number_of;
 use c_tree::TypedFunction;
@@ -15,6 +17,7 @@ use std::alloc::{AllocError, Global};
 fn function_of(function: &TypedFunction, graph: &Graph, code: &EmittedFunction) -> Function
     ensures name { name_length result ≡ length_of_name (function_view function.now) }
     ensures entry { entry result ≡ graph.now.entry.0 }
+    ensures span { span result ≡ code_span (emitted.function_view code.now) }
 {
     Function {
         name_length: number_of(function.name.len()),
@@ -35,6 +38,7 @@ pub fn functions_of(
     requires graphs { length graphs.now ≡ length functions.now }
     requires code { length code.now ≡ length functions.now }
     ensures names { IfOk result (λ v. map name_length v.items ≡ map length_of_name (map function_view functions.now)) }
+    ensures spans { IfOk result (λ v. map span v.items ≡ map code_span (map emitted.function_view code.now)) }
     ensures entries { IfOk result (λ v. map entry v.items ≡ map (λ g. g.entry.0) graphs.now) }
 {
     let mut made = Vec::new(alloc);

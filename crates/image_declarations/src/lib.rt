@@ -11,5 +11,5 @@ mod variables;
 pub use functions::functions_of;
 pub use names::names_of;
 pub use numbers::{entry, number_of, put_entry};
-pub use storages::Storages;
+pub use storages::storages_of;
 pub use variables::{variable_count, variables_of};

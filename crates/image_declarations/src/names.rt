@@ -1,9 +1,11 @@
 //! The names of an image.
 
-ghost use Rattle.std.specs.Prelude.{◌≡◌, ◌++◌, ℕ, List, IfOk, OnOk, map, string_bytes};
+ghost use Rattle.std.specs.Prelude.{◌≡◌, ◌++◌, IfOk, OnOk, map, string_bytes};
 ghost use Rattle.std.specs.List.{flat_map};
 ghost use Rattle.c_tree.specs.Programs.{program_view};
-ghost use Rattle.image_declarations.specs.Variables.{declared_names};
+ghost use Rattle.debug_records.specs.Change.{letters};
+ghost use Rattle.graph_core.specs.Graphs.{logged};
+ghost use Rattle.image_declarations.specs.Variables.{declared_names, pass_names};
 
 use c_tree::{AutomaticVariable, Program, StaticVariable, TypedFunction};
 use debug_records::Change;
@@ -41,7 +43,7 @@ fn push_automatics(automatics: &[AutomaticVariable], names: &mut Vec<u8>) -> Res
 
 /// Appends the names of the passes that made changes.
 fn push_passes(log: &[Change], names: &mut Vec<u8>) -> Result<(), AllocError>
-    ensures { OnOk result ((added : List ℕ) × (names.new.items ≡ names.old.items ++ added)) }
+    ensures { OnOk result (names.new.items ≡ names.old.items ++ flat_map (λ change. letters change.pass) log.now) }
 {
     for change in log {
         names.extend_from_slice(change.pass.letters())?;
@@ -51,7 +53,7 @@ fn push_passes(log: &[Change], names: &mut Vec<u8>) -> Result<(), AllocError>
 
 /// The names of a program's functions and variables, and of the passes of changes, one after the other.
 pub fn names_of(alloc: Global, program: &Program, log: &[Change]) -> Result<Vec<u8>, AllocError>
-    ensures { IfOk result (λ names. (added : List ℕ) × (names.items ≡ declared_names (program_view program.now) ++ added)) }
+    ensures { IfOk result (λ names. names.items ≡ declared_names (program_view program.now) ++ pass_names (map logged log.now)) }
 {
     let mut names = Vec::new(alloc);
     push_functions(&program.functions, &mut names)?;

@@ -1,92 +1,128 @@
 //! Where variables are kept.
 
-use crate::numbers::entry;
-use debug_records::Var;
+ghost use Rattle.std.specs.Prelude.{◌≡◌, ◌++◌, IfOk, map, slice_set};
+ghost use Rattle.emitted.specs.Emitted.{emitted_view, function_view};
+ghost use Rattle.graph_core.specs.Graphs.{graph_view, scalar_view};
+ghost use Rattle.homed_unit.specs.Homed.{homed_view};
+ghost use Rattle.image_declarations.specs.Storages.{functions_kept, objects_kept, put_all, scalars_kept, statics_kept, storage_of, storages_of};
+
 use emitted::{Emitted, EmittedFunction};
-use graph_core::Graph;
+use graph_core::{Graph, MemoryObject, Scalar};
 use graph_homes::Home;
-use homed_unit::HomedUnit;
+use homed_unit::{FunctionHomes, HomedUnit};
 use image_form::Storage;
 use std::alloc::{AllocError, Global};
 
-/// For each variable where it is kept. One that is nowhere has a storage that no image gives it.
-#[derive(Drop)]
-pub struct Storages {
-    by_variable: Vec<Storage>,
-}
-
-/// The storage that a home in a function is.
-fn storage_of(home: Home, code: &EmittedFunction) -> Storage {
+/// The storage that a home is, in a function whose slots begin at this offset in its frame.
+fn storage_of(home: Home, slots: u32) -> Storage
+    ensures { result ≡ storage_of slots home }
+{
     match home {
         Home::Register(register) => Storage::Register(u32::from(register)),
-        Home::Slot(slot) => Storage::Slot(code.slots.saturating_add(slot.saturating_mul(4))),
+        Home::Slot(slot) => Storage::Slot(slots.saturating_add(slot.saturating_mul(4))),
     }
 }
 
-impl Storages {
-    /// A variable is kept there.
-    fn put(&mut self, var: Var, storage: Storage) {
-        if let Some(found) = self.by_variable.get_mut(var.0 as usize) {
-            *found = storage;
-        }
+/// A variable is kept there.
+fn put(table: &mut [Storage], variable: u32, storage: Storage)
+    ensures { table.new ≡ slice_set table.old variable storage }
+{
+    let index = variable as usize;
+    if index < table.len() {
+        table[index] = storage;
     }
+}
 
-    /// The scalars of a function.
-    fn put_scalars(&mut self, graph: &Graph, homes: &[Home], code: &EmittedFunction) {
-        for (number, scalar) in graph.scalars.iter().enumerate() {
-            if let Some(home) = homes.get(number) {
-                self.put(scalar.var, storage_of(*home, code));
-            }
-        }
-    }
-
-    /// The automatic variables of a function that are in memory.
-    fn put_objects(&mut self, graph: &Graph, code: &EmittedFunction) {
-        let mut number = 0u32;
-        for object in &graph.objects {
-            let offset = entry(&code.objects, number);
-            self.put(object.var, Storage::Frame(offset));
-            number = number.saturating_add(1);
-        }
-    }
-
-    /// The static variables and the literals.
-    fn put_statics(&mut self, addresses: &[u32]) {
-        let mut number = 0u32;
-        for address in addresses {
-            self.put(Var(number), Storage::Static(*address));
-            number = number.saturating_add(1);
-        }
-    }
-
-    /// Where so many variables are kept.
-    pub fn new(
-        alloc: Global,
-        homed: &HomedUnit,
-        emitted: &Emitted,
-        variables: usize,
-    ) -> Result<Storages, AllocError> {
-        let mut storages = Storages {
-            by_variable: vec![in alloc; Storage::Static(0); variables]?,
+/// The scalars of a function.
+fn put_scalars(scalars: &[Scalar], homes: &[Home], slots: u32, table: &mut [Storage])
+    ensures { table.new ≡ put_all (scalars_kept slots (map scalar_view scalars.now) homes.now) table.old }
+{
+    let mut left = scalars;
+    let mut homes_left = homes;
+    while let [scalar, rest @ ..] = left {
+        let [home, homes_behind @ ..] = homes_left else {
+            return;
         };
-        storages.put_statics(&emitted.statics);
-        for (number, graph) in homed.unit.graphs.iter().enumerate() {
-            if let (Some(code), Some(homes)) = (
-                emitted.functions.get(number),
-                homed.homes.get(number),
-            ) {
-                storages.put_scalars(graph, &homes.homes, code);
-                storages.put_objects(graph, code);
-            }
-        }
-        Ok(storages)
+        put(table, scalar.var.0, storage_of(*home, slots));
+        left = rest;
+        homes_left = homes_behind;
     }
+}
 
-    /// Where a variable is kept.
-    pub fn at(&self, variable: usize) -> Storage {
-        match self.by_variable.get(variable) {
-            Some(found) => *found,
-            None => Storage::Static(0),
-        }
+/// The objects of a function in memory.
+fn put_objects(objects: &[MemoryObject], offsets: &[u32], table: &mut [Storage])
+    ensures { table.new ≡ put_all (objects_kept objects.now offsets.now) table.old }
+{
+    let mut left = objects;
+    let mut offsets_left = offsets;
+    while let [object, rest @ ..] = left {
+        let [offset, offsets_behind @ ..] = offsets_left else {
+            return;
+        };
+        put(table, object.var.0, Storage::Frame(*offset));
+        left = rest;
+        offsets_left = offsets_behind;
     }
+}
+
+/// The variables of functions with their code and their homes.
+fn put_functions(
+    graphs: &[Graph],
+    codes: &[EmittedFunction],
+    homes: &[FunctionHomes],
+    table: &mut [Storage],
+)
+    ensures { table.new ≡ put_all (functions_kept (map graph_view graphs.now) (map function_view codes.now) (map (λ f. f.homes.items) homes.now)) table.old }
+{
+    let mut left = graphs;
+    let mut codes_left = codes;
+    let mut homes_left = homes;
+    while let [graph, rest @ ..] = left {
+        let [code, codes_behind @ ..] = codes_left else {
+            return;
+        };
+        let [of, homes_behind @ ..] = homes_left else {
+            return;
+        };
+        put_scalars(&graph.scalars, &of.homes, code.slots, table);
+        put_objects(&graph.objects, &code.objects, table);
+        left = rest;
+        codes_left = codes_behind;
+        homes_left = homes_behind;
+    }
+}
+
+/// The static variables and the literals.
+fn put_statics(addresses: &[u32], table: &mut [Storage])
+    ensures { table.new ≡ put_all (statics_kept 0 addresses.now) table.old }
+{
+    let mut left = addresses;
+    let mut number = 0usize;
+    while let [address, rest @ ..] = left {
+        if number < table.len() {
+            table[number] = Storage::Static(*address);
+        }
+        number += 1;
+        left = rest;
+    }
+}
+
+/// Where so many variables of a unit with this code are kept. One that is nowhere has a storage that no image gives it. The only error is want of memory.
+pub fn storages_of(
+    alloc: Global,
+    homed: &HomedUnit,
+    emitted: &Emitted,
+    variables: usize,
+) -> Result<Vec<Storage>, AllocError>
+    ensures { IfOk result (λ v. v.items ≡ storages_of (homed_view homed.now) (emitted_view emitted.now) variables) }
+{
+    let mut table = vec![in alloc; Storage::Static(0); variables]?;
+    put_statics(&emitted.statics, &mut table);
+    put_functions(
+        &homed.unit.graphs,
+        &emitted.functions,
+        &homed.homes,
+        &mut table,
+    );
+    Ok(table)
 }

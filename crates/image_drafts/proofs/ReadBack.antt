@@ -2,13 +2,15 @@
 use Rattle.std.proofs.Common.{◌≡◌, ℕ, ◌+◌, ◌*◌, ◌<◌, ◌^◌, List, [], ◌∷◌, ◌++◌, length, get_or, take, drop, refl, sym, ap, subst, ◌∙◌, arith}
 use Rattle.std.specs.Prelude.{codes, map}
 use Rattle.std.proofs.lemmas.List.{take_at, drop_at, length-append}
-use Rattle.image_form.specs.Decoding.{function_of, place_of, flow_of, assigned_of}
+use Rattle.image_form.specs.Decoding.{function_of, place_of, change_of, flow_of, assigned_of, mode_of, node_of}
 use Rattle.image_form.specs.Sections.{numbers_at, rows_at}
 use Rattle.image_form.specs.Form.{Form}
-use Rattle.image_form.specs.Numbers.{function_numbers, place_numbers, variable_numbers, change_numbers, flow_numbers, assigned_numbers, row_numbers, node_numbers}
+use Rattle.debug_records.specs.declared.mode.Mode.{Mode}
+use Rattle.image_form.specs.Numbers.{mode_number, function_numbers, place_numbers, variable_numbers, change_numbers, flow_numbers, assigned_numbers, row_numbers, node_numbers}
 use Rattle.image_form.specs.Rules.{AllFit, RecordsFit, IsImage}
 use Rattle.image_form.specs.Spelling.{size, header, body, section, spelled, spelling}
 use Rattle.image_form.proofs.ReadBack.{numbers_back, length-spelled, rows_back, length-section}
+use Rattle.image_form.proofs.RecordsBack.{mode_back, change_back, node_back}
 use Rattle.image_form.proofs.OneSpelling.{mode_fits, row_sized, node_sized}
 use Rattle.image_drafts.specs.Fitting.{AreFit}
 use Rattle.image_drafts.specs.Same.{SaysTheSame}
@@ -35,6 +37,17 @@ of_numbers_same numbers of_numbers back (x ∷ xs) = let head = back x in let ta
 
 records_same : {A : Type 0} (numbers : A → List ℕ) (of_numbers : List ℕ → A) → ((x : A) → of_numbers (numbers x) ≡ x) → (xs ys : List A) → map numbers xs ≡ map numbers ys → xs ≡ ys
 records_same numbers of_numbers back xs ys e = sym (of_numbers_same numbers of_numbers back xs) ∙ ap (map of_numbers) e ∙ of_numbers_same numbers of_numbers back ys
+
+-- words that are spelled alike are the same
+words_same : (xs ys : List ℕ) → length xs ≡ length ys → AllFit xs → AllFit ys → spelled xs ≡ spelled ys → xs ≡ ys
+words_same xs ys count fit fit' e =
+    sym (numbers_back xs [] [] 0 refl fit)
+    ∙ (λ i. numbers_at (count i) 0 (e i ++ []))
+    ∙ numbers_back ys [] [] 0 refl fit'
+
+-- modes of one number are one
+modes_same : (m n : Mode) → mode_number m ≡ mode_number n → m ≡ n
+modes_same m n e = sym (mode_back m) ∙ ap mode_of e ∙ mode_back n
 
 header_fits : (f : Form) → size f < 2 ^ 32 → AllFit (header f)
 unfolding size
@@ -119,12 +132,18 @@ module _ (f g : Form) (owners : length f.owners ≡ length f.code) (fit : AreFit
 
   pub says_the_same : SaysTheSame f g
   says_the_same = record {
+    mode = sym (modes_same f.mode g.mode (count 2));
+    code = sym (words_same f.code g.code c3 fit.code image.fits.code code);
+    initial = sym initial;
     functions = sym (records_same function_numbers function_of (λ x. refl) f.functions g.functions (table_same 5 function_numbers (λ x. refl) f.functions g.functions c5 fit.functions image.fits.functions functions));
     places = sym (records_same place_numbers place_of (λ x. refl) f.places g.places (table_same 4 place_numbers (λ x. refl) f.places g.places c6 fit.places image.fits.places places));
+    owners = sym (words_same f.owners g.owners co fit.owners image.fits.owners owned);
     variables = sym (table_same 8 variable_numbers (λ x. refl) f.variables g.variables c7 fit.variables image.fits.variables variables);
+    changes = sym (records_same change_numbers change_of change_back f.changes g.changes (table_same 5 change_numbers (λ x. refl) f.changes g.changes c8 fit.changes image.fits.changes changes));
     flow = sym (records_same flow_numbers flow_of (λ x. refl) f.flow g.flow (table_same 2 flow_numbers (λ x. refl) f.flow g.flow c9 fit.flow image.fits.flow flow));
     assigned = sym (records_same assigned_numbers assigned_of (λ x. refl) f.assigned g.assigned (table_same 2 assigned_numbers (λ x. refl) f.assigned g.assigned c10 fit.assigned image.fits.assigned assigned));
     rows = sym (table_same 6 row_numbers row_sized f.rows g.rows c11 fit.rows image.fits.rows rows);
+    nodes = sym (records_same node_numbers node_of node_back f.nodes g.nodes (table_same 3 node_numbers node_sized f.nodes g.nodes c12 fit.nodes image.fits.nodes nodes));
     names = sym b11;
   }
     where
@@ -191,8 +210,14 @@ module _ (f g : Form) (owners : length f.owners ≡ length f.code) (fit : AreFit
       initial_from : Form → List ℕ
       initial_from h = h.initial ++ functions_from h
 
+      code : spelled f.code ≡ spelled g.code
+      code = front_same (spelled f.code) (initial_from f) (spelled g.code) (initial_from g) (words f.code g.code c3) bodies
+
       b1 : initial_from f ≡ initial_from g
       b1 = rest_same (spelled f.code) (initial_from f) (spelled g.code) (initial_from g) (words f.code g.code c3) bodies
+
+      initial : f.initial ≡ g.initial
+      initial = front_same f.initial (functions_from f) g.initial (functions_from g) c4 b1
 
       b2 : functions_from f ≡ functions_from g
       b2 = rest_same f.initial (functions_from f) g.initial (functions_from g) c4 b1
@@ -209,6 +234,9 @@ module _ (f g : Form) (owners : length f.owners ≡ length f.code) (fit : AreFit
       b4 : owners_from f ≡ owners_from g
       b4 = rest_same (section place_numbers f.places) (owners_from f) (section place_numbers g.places) (owners_from g) (records 4 place_numbers (λ x. refl) f.places g.places c6) b3
 
+      owned : spelled f.owners ≡ spelled g.owners
+      owned = front_same (spelled f.owners) (variables_from f) (spelled g.owners) (variables_from g) (words f.owners g.owners co) b4
+
       b5 : variables_from f ≡ variables_from g
       b5 = rest_same (spelled f.owners) (variables_from f) (spelled g.owners) (variables_from g) (words f.owners g.owners co) b4
 
@@ -217,6 +245,9 @@ module _ (f g : Form) (owners : length f.owners ≡ length f.code) (fit : AreFit
 
       b6 : changes_from f ≡ changes_from g
       b6 = rest_same (section variable_numbers f.variables) (changes_from f) (section variable_numbers g.variables) (changes_from g) (records 8 variable_numbers (λ x. refl) f.variables g.variables c7) b5
+
+      changes : section change_numbers f.changes ≡ section change_numbers g.changes
+      changes = front_same (section change_numbers f.changes) (flow_from f) (section change_numbers g.changes) (flow_from g) (records 5 change_numbers (λ x. refl) f.changes g.changes c8) b6
 
       b7 : flow_from f ≡ flow_from g
       b7 = rest_same (section change_numbers f.changes) (flow_from f) (section change_numbers g.changes) (flow_from g) (records 5 change_numbers (λ x. refl) f.changes g.changes c8) b6
@@ -238,6 +269,9 @@ module _ (f g : Form) (owners : length f.owners ≡ length f.code) (fit : AreFit
 
       b10 : nodes_of f ≡ nodes_of g
       b10 = rest_same (section row_numbers f.rows) (nodes_of f) (section row_numbers g.rows) (nodes_of g) (records 6 row_numbers row_sized f.rows g.rows c11) b9
+
+      nodes : section node_numbers f.nodes ≡ section node_numbers g.nodes
+      nodes = front_same (section node_numbers f.nodes) f.names (section node_numbers g.nodes) g.names (records 3 node_numbers node_sized f.nodes g.nodes c12) b10
 
       b11 : f.names ≡ g.names
       b11 = rest_same (section node_numbers f.nodes) f.names (section node_numbers g.nodes) g.names (records 3 node_numbers node_sized f.nodes g.nodes c12) b10

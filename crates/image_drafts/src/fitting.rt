@@ -2,13 +2,30 @@
 
 ghost use Rattle.std.specs.Prelude.{◌<◌, ◌^◌};
 ghost use Rattle.image_form.specs.Form.{form};
-ghost use Rattle.image_form.specs.Numbers.{assigned_numbers, flow_numbers, function_numbers, place_numbers, row_numbers, storage_value, variable_numbers, verdict_numbers};
+ghost use Rattle.image_form.specs.Numbers.{assigned_numbers, change_numbers, flow_numbers, function_numbers, node_numbers, place_numbers, row_numbers, storage_value, variable_numbers, verdict_numbers};
 ghost use Rattle.image_form.specs.Rules.{AllFit, RecordsFit};
 ghost use Rattle.image_drafts.specs.Fitting.{AreFit};
 
 use image_form::{
-    AssignedPair, FlowPair, Function, Image, Place, Storage, Variable, Verdict, VisibleRow,
+    AssignedPair, Change, FlowPair, Function, Image, Node, Place, Storage, Variable, Verdict,
+    VisibleRow,
 };
+
+/// A word fits.
+fn word_fits(word: u32)
+    ensures { word < 2 ^ 32 }
+{}
+
+/// Words fit.
+fn words_fit(words: &[u32])
+    ensures { AllFit words.now }
+{
+    let mut ahead = words;
+    while let [word, rest @ ..] = ahead {
+        word_fits(*word);
+        ahead = rest;
+    }
+}
 
 /// The numbers of a function fit.
 fn function_fits(function: Function)
@@ -102,6 +119,46 @@ fn variables_fit(variables: &[Variable])
     }
 }
 
+/// The numbers of a change fit.
+fn change_fits(change: Change)
+    ensures { AllFit (change_numbers change) }
+{}
+
+/// The numbers of changes fit.
+fn changes_fit(changes: &[Change])
+    ensures { RecordsFit change_numbers changes.now }
+{
+    let mut ahead = changes;
+    while let [change, rest @ ..] = ahead {
+        change_fits(*change);
+        ahead = rest;
+    }
+}
+
+/// The numbers of a node fit.
+fn node_fits(node: Node)
+    ensures { AllFit (node_numbers node) }
+{
+    match node {
+        Node::Constant(_)
+        | Node::Variable(_)
+        | Node::Home(_)
+        | Node::Truncated { .. }
+        | Node::Operated { .. } => {}
+    }
+}
+
+/// The numbers of nodes fit.
+fn nodes_fit(nodes: &[Node])
+    ensures { RecordsFit node_numbers nodes.now }
+{
+    let mut ahead = nodes;
+    while let [node, rest @ ..] = ahead {
+        node_fits(*node);
+        ahead = rest;
+    }
+}
+
 /// The numbers of a verdict fit.
 fn verdict_fits(verdict: Verdict)
     ensures { AllFit (verdict_numbers verdict) }
@@ -136,10 +193,14 @@ fn rows_fit(rows: &[VisibleRow])
 pub fn tables_fit(tables: &Image)
     ensures { AreFit (form tables.now) }
 {
+    words_fit(&tables.code);
+    words_fit(&tables.owners);
     functions_fit(&tables.functions);
     places_fit(&tables.places);
     variables_fit(&tables.variables);
+    changes_fit(&tables.changes);
     flow_fits(&tables.flow);
     assigned_fits(&tables.assigned);
     rows_fit(&tables.rows);
+    nodes_fit(&tables.nodes);
 }

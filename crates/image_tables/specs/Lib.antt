@@ -1,1 +1,4 @@
 pub mod Tables
+pub mod Places
+pub mod Nodes
+pub mod Rows

@@ -1,5 +1,9 @@
 -- How the tables of an image say what they are made of.
-use Rattle.std.specs.Prelude.{ℕ}
+use Rattle.std.specs.Prelude.{ℕ, length}
+use Rattle.debug_records.specs.Change.{letters}
+use Rattle.graph_core.specs.Graphs.{Logged}
+use Rattle.image_declarations.specs.Variables.{counted}
+use Rattle.image_form.specs.declared.tables.Change.{Change}
 use Rattle.places.specs.declared.flow.Assignment.{Assignment}
 use Rattle.places.specs.declared.flow.FlowStep.{FlowStep}
 use Rattle.places.specs.declared.table.PlaceRow.{PlaceRow}
@@ -16,6 +20,10 @@ flow_pair s = record { from = s.from.0; to = s.to.0 }
 -- an assignment as an image has it
 abbrev pub assigned_pair : Assignment → AssignedPair
 assigned_pair a = record { place = a.place.0; variable = a.var.0 }
+
+-- a change of a log as an image has it: its pass's name is told by its length, and stands among the image's names
+abbrev pub change_record : Logged → Change
+change_record c = record { pass_length = counted (length (letters c.pass)); kind = c.kind; place = c.place; variable = c.variable }
 
 -- Where a place stands: the position of its token, its line, its function.
 pub record Spot : Type 0 where

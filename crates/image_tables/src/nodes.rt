@@ -1,9 +1,13 @@
 //! The table of recipe nodes.
 
+ghost use Rattle.std.specs.Prelude.{◌≡◌, ◌<◌, ◌≤◌, ◌^◌, ℕ, [], Some, IfOk, IfSome, IsTrue, OnOk, length, slice_get};
+ghost use Rattle.graph_core.specs.Graphs.{operand_view, recipe_view};
+ghost use Rattle.image_tables.specs.Nodes.{AreNewOf, Begin, IsNodeOf, home_node, name_node, naming_view, operand_node};
+
 use emitted::EmittedFunction;
 use graph_core::{Graph, Operand, Recipe};
 use graph_homes::Home;
-use image_declarations::entry;
+use image_declarations::{entry, number_of};
 use image_form::Node;
 use std::alloc::{AllocError, Global};
 use std::collections::BTreeMap;
@@ -25,8 +29,6 @@ pub struct Nodes {
     pub nodes: Vec<Node>,
     /// For each node, by what it is and its operands, its number.
     numbers: BTreeMap<(u32, u32, u32), u32>,
-    /// How many there are.
-    count: u32,
 }
 
 /// The number of an operation among kinds of nodes.
@@ -78,12 +80,48 @@ fn key_of(node: Node) -> (u32, u32, u32) {
     }
 }
 
-/// The node of a home in a function.
-fn home_node(home: Home, code: &EmittedFunction) -> Node {
+/// Whether two nodes are one.
+fn is_same(one: Node, other: Node) -> bool
+    ensures { IsTrue result → one ≡ other }
+{
+    match (one, other) {
+        (Node::Constant(word), Node::Constant(another)) => word == another,
+        (Node::Variable(variable), Node::Variable(another)) => variable == another,
+        (Node::Home(home), Node::Home(another)) => home == another,
+        (
+            Node::Truncated {
+                truncation,
+                operand,
+            },
+            Node::Truncated {
+                truncation: another,
+                operand: of,
+            },
+        ) => truncation == another && operand == of,
+        (
+            Node::Operated {
+                operation,
+                left,
+                right,
+            },
+            Node::Operated {
+                operation: another,
+                left: first,
+                right: second,
+            },
+        ) => operation == another && left == first && right == second,
+        _ => false,
+    }
+}
+
+/// The node of a home, in a function whose slots begin at this offset in its frame.
+fn home_node(home: Home, slots: u32) -> Node
+    ensures { result ≡ home_node slots home }
+{
     match home {
         Home::Register(register) => Node::Home(u32::from(register)),
         Home::Slot(slot) => {
-            let offset = code.slots.saturating_add(slot.saturating_mul(4));
+            let offset = slots.saturating_add(slot.saturating_mul(4));
             Node::Home(offset.saturating_add(32))
         }
     }
@@ -91,18 +129,22 @@ fn home_node(home: Home, code: &EmittedFunction) -> Node {
 
 impl Naming<'_> {
     /// The node of a name's value: of a variable, or else of its home.
-    fn name_node(&self, name: u32) -> Node {
+    fn name_node(&self, name: u32) -> Node
+        ensures { result ≡ name_node (naming_view self.now) name }
+    {
         if let Some(scalar) = self.graph.scalars.get(name as usize) {
             return Node::Variable(scalar.var.0);
         }
         match self.homes.get(name as usize) {
-            Some(home) => home_node(*home, self.code),
+            Some(home) => home_node(*home, self.code.slots),
             None => Node::Home(0),
         }
     }
 
     /// The node of an operand's value.
-    fn operand_node(&self, operand: Operand) -> Node {
+    fn operand_node(&self, operand: Operand) -> Node
+        ensures { result ≡ operand_node (naming_view self.now) (operand_view operand) }
+    {
         match operand {
             Operand::Name(name) => self.name_node(name.0),
             Operand::Constant(word) => Node::Constant(word),
@@ -115,29 +157,49 @@ impl Naming<'_> {
 
 impl Nodes {
     /// There are none.
-    pub fn new(alloc: Global) -> Nodes {
+    pub fn new(alloc: Global) -> Nodes
+        ensures { result.nodes.items ≡ [] }
+    {
         Nodes {
             nodes: Vec::new(alloc),
             numbers: BTreeMap::new(alloc),
-            count: 0,
         }
     }
 
-    /// The number of a node, which is added where it is not there yet.
-    fn add(&mut self, node: Node) -> Result<u32, AllocError> {
-        let key = key_of(node);
-        if let Some(number) = self.numbers.get(&key) {
-            return Ok(*number);
+    /// The number of a node that is there.
+    fn find(&self, node: Node) -> Option<u32>
+        ensures { IfSome result (λ number. slice_get self.now.nodes.items number ≡ Some node) }
+    {
+        let number = *self.numbers.get(&key_of(node))?;
+        let found = self.nodes.get(number as usize)?;
+        if is_same(*found, node) {
+            Some(number)
+        } else {
+            None
         }
-        let number = self.count;
-        self.numbers.insert(key, number)?;
+    }
+
+    /// The number of a node, which is added where it is not there yet. There are to be fewer than 2^32.
+    fn add(&mut self, node: Node) -> Result<u32, AllocError>
+        ensures grown { OnOk result (Begin self.old.nodes.items self.new.nodes.items) }
+        ensures fresh { OnOk result ((k : ℕ) → length self.old.nodes.items ≤ k → k < length self.new.nodes.items → slice_get self.new.nodes.items k ≡ Some node) }
+        ensures node { length self.new.nodes.items < 2 ^ 32 → IfOk result (λ number. slice_get self.new.nodes.items number ≡ Some node) }
+    {
+        if let Some(number) = self.find(node) {
+            return Ok(number);
+        }
+        let number = number_of(self.nodes.len());
+        self.numbers.insert(key_of(node), number)?;
         self.nodes.push(node)?;
-        self.count = number.saturating_add(1);
         Ok(number)
     }
 
-    /// The number of a recipe's node. What is not there yet is added, operands first, the left before the right.
-    pub fn add_recipe(&mut self, naming: Naming<'_>, recipe: &Recipe) -> Result<u32, AllocError> {
+    /// The number of a recipe's node. What is not there yet is added, operands first, the left before the right. There are to be fewer than 2^32 nodes.
+    pub fn add_recipe(&mut self, naming: Naming<'_>, recipe: &Recipe) -> Result<u32, AllocError>
+        ensures grown { OnOk result (Begin self.old.nodes.items self.new.nodes.items) }
+        ensures fresh { length self.new.nodes.items < 2 ^ 32 → OnOk result (AreNewOf self.old.nodes.items self.new.nodes.items (naming_view naming.entry) (recipe_view recipe.now)) }
+        ensures node { length self.new.nodes.items < 2 ^ 32 → IfOk result (λ number. IsNodeOf self.new.nodes.items (naming_view naming.entry) (recipe_view recipe.now) number) }
+    {
         match recipe {
             Recipe::Operand(operand) => self.add(naming.operand_node(*operand)),
             Recipe::Truncated(truncation, of) => {

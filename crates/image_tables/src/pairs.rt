@@ -1,7 +1,8 @@
 //! The tables of changes, of flow and of assignments.
 
 ghost use Rattle.std.specs.Prelude.{◌≡◌, IfOk, map};
-ghost use Rattle.image_tables.specs.Tables.{assigned_pair, flow_pair};
+ghost use Rattle.graph_core.specs.Graphs.{logged};
+ghost use Rattle.image_tables.specs.Tables.{assigned_pair, change_record, flow_pair};
 
 use debug_records::Change as Logged;
 use image_declarations::number_of;
@@ -10,7 +11,9 @@ use places::{Assignment, FlowStep};
 use std::alloc::{AllocError, Global};
 
 /// The changes of a log.
-pub fn changes_of(alloc: Global, log: &[Logged]) -> Result<Vec<Change>, AllocError> {
+pub fn changes_of(alloc: Global, log: &[Logged]) -> Result<Vec<Change>, AllocError>
+    ensures { IfOk result (λ v. v.items ≡ map change_record (map logged log.now)) }
+{
     let mut changes = Vec::new(alloc);
     for change in log {
         changes.push(Change {

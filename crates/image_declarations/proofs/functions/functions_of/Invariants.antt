@@ -1,10 +1,13 @@
 use Rattle.std.proofs.Common.{◌≡◌, map, take}
 use Rattle.c_tree.specs.Programs.{function_view}
+use Rattle.emitted.specs.Emitted as emitted
+use Rattle.image_declarations.specs.Spans.{code_span, span}
 use Rattle.image_declarations.specs.Variables.{entry, length_of_name, name_length}
 use Rattle.image_declarations.proofs.functions.functions_of.Given as goal
 
 abbrev pub invariant-loop-number : goal.invariant-loop-number
 invariant-loop-number l = record {
   names : map name_length l.made.items ≡ map length_of_name (map function_view (take l.number l.functions));
+  spans : map span l.made.items ≡ map code_span (map emitted.function_view (take l.number l.code));
   entries : map entry l.made.items ≡ map (λ g. g.entry.0) (take l.number l.graphs);
 }

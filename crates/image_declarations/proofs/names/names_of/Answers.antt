@@ -1,10 +1,13 @@
-use Rattle.std.proofs.Common.{◌≡◌, ◌++◌, List, [], ◌∷◌, ℕ, ap, refl, append_assoc, map, string_bytes, subst, sym, ◌∙◌}
+use Rattle.std.proofs.Common.{◌≡◌, ◌++◌, List, [], ◌∷◌, ℕ, ap, refl, append_assoc, map, string_bytes, sym, ◌∙◌}
 use Rattle.std.specs.List.{flat_map}
 use Rattle.std.proofs.lemmas.List.Concat.{flat_map-cons}
 use Rattle.c_tree.specs.declared.program.AutomaticVariable.{AutomaticVariable}
 use Rattle.c_tree.specs.declared.program.StaticVariable.{StaticVariable}
 use Rattle.c_tree.specs.declared.program.TypedFunction.{TypedFunction}
 use Rattle.c_tree.specs.Programs.{AutomaticTree, StaticTree, TypedFunctionTree, automatic_view, function_view, program_view, static_view}
+use Rattle.debug_records.specs.Change.{letters}
+use Rattle.debug_records.specs.declared.change.Change.{Change}
+use Rattle.graph_core.specs.Graphs.{Logged, logged}
 use Rattle.image_declarations.specs.Variables.{declared_names}
 use Rattle.image_declarations.proofs.names.names_of.Goals as goal
 
@@ -32,5 +35,6 @@ returns c =
     ap (λ l. l ++ (statics ++ automatics)) (sym (of_views function_view (λ (g : TypedFunctionTree). g.name) program.functions.items))
     ∙ ap (λ l. flat_map (λ (g : TypedFunctionTree). g.name) (map function_view program.functions.items) ++ (l ++ automatics)) (sym (of_views static_view (λ (v : StaticTree). v.name) program.statics.items))
     ∙ ap (λ l. flat_map (λ (g : TypedFunctionTree). g.name) (map function_view program.functions.items) ++ (flat_map (λ (v : StaticTree). v.name) (map static_view program.statics.items) ++ l)) (sym (of_views automatic_view (λ (v : AutomaticTree). v.name) program.automatics.items)) in
-    let added = c.in_ok-push_passes.ensures in
-    (added.0, added.1 ∙ ap (λ l. l ++ added.0) (a ∙ append_assoc functions statics automatics ∙ views))
+    let log = c.args.log.now in
+    c.in_ok-push_passes.ensures ∙ ap (λ l. l ++ flat_map (λ (x : Change). letters x.pass) log) (a ∙ append_assoc functions statics automatics ∙ views)
+    ∙ ap (λ l. declared_names (program_view program) ++ l) (sym (of_views logged (λ (x : Logged). letters x.pass) log))

@@ -1,10 +1,11 @@
-use Rattle.std.proofs.Common.{◌≡◌, ◌++◌, Option, None, map, take}
+use Rattle.std.proofs.Common.{◌≡◌, ◌++◌, None, map, take}
 use Rattle.c_tree.specs.Programs.{literal_view}
-use Rattle.image_declarations.specs.Variables.{literal_shape, owner, shape}
+use Rattle.image_declarations.specs.Variables.{literal_shape, owner, shape, storage}
 use Rattle.image_declarations.proofs.variables.push_literals.Given as goal
 
 abbrev pub invariant-loop-number : goal.invariant-loop-number
 invariant-loop-number l = record {
-  owners : map owner l.variables.items ≡ map owner l.initial.variables.items ++ map (λ v. None) (map literal_view (take l.number l.program.literals.items));
-  shapes : map shape l.variables.items ≡ map shape l.initial.variables.items ++ map literal_shape (map literal_view (take l.number l.program.literals.items));
+  storages : map storage l.variables.items ≡ map storage l.initial.variables.items ++ take l.number l.storages;
+  owners : map owner l.variables.items ≡ map owner l.initial.variables.items ++ map (λ v. None) (map literal_view (take l.number l.literals));
+  shapes : map shape l.variables.items ≡ map shape l.initial.variables.items ++ map literal_shape (map literal_view (take l.number l.literals));
 }

@@ -1,0 +1,7 @@
+mod Growing
+mod Counting
+mod Lining
+mod Ahead
+pub mod Kept
+mod Belonging
+mod Needed
