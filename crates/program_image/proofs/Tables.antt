@@ -108,7 +108,7 @@ pub shapes_same : (xs ys : List Variable) → map variable_numbers xs ≡ map va
 shapes_same xs ys e = sym (shapes_by xs) ∙ ap (map shape_by) e ∙ shapes_by ys
 
 -- as many places as rows, which fit numbers of 32 bits
-rows_few : (p : ProgramTree) (rows : List PlaceRow) → Fits32 p → map row_view rows ≡ rows_of_program p → length rows + 1 ≤ 4294967295
+pub rows_few : (p : ProgramTree) (rows : List PlaceRow) → Fits32 p → map row_view rows ≡ rows_of_program p → length rows + 1 ≤ 4294967295
 rows_few p rows fits are =
     let same : length rows ≡ length (places_of_program p) = sym (length-map rows row_view) ∙ ap length are ∙ length-map (places_of_program p) (row_of p) in
     omega (arith, same, fits.places)

@@ -1,22 +1,29 @@
 //! The image of a program.
 
-ghost use Rattle.std.specs.Prelude.{◌≡◌, IfOk, IfSome};
+ghost use Rattle.std.specs.Prelude.{◌≡◌, [], IfOk, IfSome};
 ghost use Rattle.c_tree.specs.Programs.{program_view};
+ghost use Rattle.c_flow.specs.Tables.{Fits32};
+ghost use Rattle.c_laws.specs.Laws.{IsWellFormed};
 ghost use Rattle.image_form.specs.Form.{form};
 ghost use Rattle.image_form.specs.Rules.{IsImage};
 ghost use Rattle.image_form.specs.Spelling.{spelling};
+ghost use Rattle.homed_unit.specs.Homed.{homed_view};
+ghost use Rattle.program_image.specs.Compiled.{IsCompiledOf};
+ghost use Rattle.program_image.specs.Made.{IsHomed, IsMadeOf};
 ghost use Rattle.program_image.specs.Tables.{HasTablesOf};
 
-use crate::drafting::{draft_of, homed_of, is_lawful, unit_of};
+use crate::drafting::{draft_of, unit_of};
 use crate::made::Build;
 use c_tree::Program;
 use debug_records::{Mode, PassName};
+use home_assign::assign;
 use image_drafts::spelled_image;
 use pass_runs::UnitPass;
 use std::alloc::{AllocError, Global};
 
-/// The image of a program, with its scalars in slots or in registers, behind the passes of these names. What is given is an image whose tables are the
-/// program's: it was written and read back, and what was read is given. None where the program is not compiled so far. The only error is want of memory.
+/// The image of a program that keeps the laws of accepted ones, with its scalars in slots or in registers, behind the passes of these names. What is given is an image whose tables are the
+/// program's, and that is made of the code of its unit with homes: it was written and read back, and what was read is given. Where no pass is run the unit does what the program does. None where
+/// the program is not compiled so far. The only error is want of memory.
 pub fn image_of_program(
     alloc: Global,
     program: Program,
@@ -24,20 +31,20 @@ pub fn image_of_program(
     names: &[PassName],
     mode: Mode,
 ) -> Result<Option<Build>, AllocError>
+    requires fits { Fits32 (program_view program) }
+    requires laws { IsWellFormed (program_view program) }
     ensures image { IfOk result (λ o. IfSome o (λ b. IsImage (form b.image))) }
     ensures bytes { IfOk result (λ o. IfSome o (λ b. b.bytes.items ≡ spelling (form b.image))) }
     ensures tables { IfOk result (λ o. IfSome o (λ b. HasTablesOf (program_view program) (form b.image))) }
+    ensures made { IfOk result (λ o. IfSome o (λ b. IsMadeOf (program_view program) (homed_view b.homed) (form b.image))) }
+    ensures homed { IfOk result (λ o. IfSome o (λ b. IsHomed mode (homed_view b.homed))) }
+    ensures compiled { names.now ≡ [] → IfOk result (λ o. IfSome o (λ b. IsCompiledOf (program_view program) (homed_view b.homed).unit)) }
     ensures program { IfOk result (λ o. IfSome o (λ b. program_view b.program ≡ program_view program)) }
 {
-    if !is_lawful(alloc, &program)? {
-        return Ok(None);
-    }
     let Some(unit) = unit_of(alloc, &program, passes, names)? else {
         return Ok(None);
     };
-    let Some(homed) = homed_of(alloc, &unit, mode)? else {
-        return Ok(None);
-    };
+    let homed = assign(alloc, &unit, mode)?;
     let Some(draft) = draft_of(alloc, &program, &homed)? else {
         return Ok(None);
     };

@@ -1,6 +1,6 @@
 //! From a program to what is to be its image, step by step.
 
-ghost use Rattle.std.specs.Prelude.{◌≡◌, IfOk, IfSome, IsTrue, length};
+ghost use Rattle.std.specs.Prelude.{◌≡◌, ◌<◌, ◌^◌, [], IfOk, IfSome, length};
 ghost use Rattle.c_tree.specs.Programs.{program_view};
 ghost use Rattle.c_flow.specs.Tables.{Fits32};
 ghost use Rattle.c_laws.specs.Laws.{IsWellFormed};
@@ -8,16 +8,15 @@ ghost use Rattle.graph_core.specs.Graphs.{unit_view};
 ghost use Rattle.graph_core.specs.Validity.{IsValid};
 ghost use Rattle.homed_unit.specs.Homed.{HaveHomes, homed_view};
 ghost use Rattle.image_form.specs.Form.{form};
+ghost use Rattle.program_image.specs.Made.{IsMadeOf};
 ghost use Rattle.program_image.specs.Tables.{HasShapeOf, HasTablesOf};
+ghost use Rattle.program_unit.specs.Built.{IsBuilt};
 
-use c_flow::fits;
-use c_laws::is_well_formed;
 use c_place_table::place_table;
 use c_tree::Program;
 use currency::verdicts;
-use debug_records::{Mode, PassName};
+use debug_records::PassName;
 use graph_core::Unit;
-use home_assign::assign;
 use homed_unit::HomedUnit;
 use image_form::Image;
 use image_tables::{Parts, image_of};
@@ -26,18 +25,7 @@ use program_unit::program_unit;
 use rv_emit::emit;
 use std::alloc::{AllocError, Global};
 
-/// Whether a program keeps the laws of accepted programs, and its counts fit 32 bits.
-pub fn is_lawful(alloc: Global, program: &Program) -> Result<bool, AllocError>
-    ensures fits { IfOk result (λ b. IsTrue b → Fits32 (program_view program.now)) }
-    ensures laws { IfOk result (λ b. IsTrue b → IsWellFormed (program_view program.now)) }
-{
-    if !fits(alloc, program)? {
-        return Ok(false);
-    }
-    is_well_formed(alloc, program)
-}
-
-/// The unit of a program, behind the passes of these names. None where the program's unit, or what a pass makes, is not valid.
+/// The unit of a program, behind the passes of these names. None where a pass makes no unit.
 pub fn unit_of(
     alloc: Global,
     program: &Program,
@@ -48,26 +36,10 @@ pub fn unit_of(
     requires laws { IsWellFormed (program_view program.now) }
     ensures valid { IfOk result (λ o. IfSome o (λ u. IsValid (unit_view u))) }
     ensures shape { IfOk result (λ o. IfSome o (λ u. HasShapeOf (program_view program.now) (unit_view u))) }
+    ensures built { names.now ≡ [] → IfOk result (λ o. IfSome o (λ u. IsBuilt (program_view program.now) (unit_view u))) }
 {
-    let Some(unit) = program_unit(alloc, program)? else {
-        return Ok(None);
-    };
+    let unit = program_unit(alloc, program)?;
     run_passes(alloc, passes, names, unit)
-}
-
-/// The unit of a program behind passes, with homes for its names. None where it is not valid.
-pub fn homed_of(alloc: Global, unit: &Unit, mode: Mode) -> Result<Option<HomedUnit>, AllocError>
-    requires { IsValid (unit_view unit.now) }
-    ensures valid { IfOk result (λ o. IfSome o (λ h. IsValid (homed_view h).unit)) }
-    ensures homes { IfOk result (λ o. IfSome o (λ h. HaveHomes (homed_view h))) }
-    ensures unit { IfOk result (λ o. IfSome o (λ h. (homed_view h).unit ≡ record (unit_view unit.now) { log = (homed_view h).unit.log })) }
-{
-    let homed = assign(alloc, unit, mode)?;
-    if homed.unit.is_valid() {
-        Ok(Some(homed))
-    } else {
-        Ok(None)
-    }
 }
 
 /// What is to be the image of a program with a homed unit. None where some variable has no verdict.
@@ -83,6 +55,7 @@ pub fn draft_of(
     requires shape { HasShapeOf (program_view program.now) (homed_view homed.now).unit }
     ensures owners { IfOk result (λ o. IfSome o (λ m. length m.owners.items ≡ length m.code.items)) }
     ensures tables { IfOk result (λ o. IfSome o (λ m. HasTablesOf (program_view program.now) (form m))) }
+    ensures made { IfOk result (λ o. IfSome o (λ m. length m.nodes.items < 2 ^ 32 → IsMadeOf (program_view program.now) (homed_view homed.now) (form m))) }
 {
     let places = place_table(alloc, program)?;
     let flow = &homed.unit.flow;

@@ -1,6 +1,10 @@
 //! The changes that passes make in a program.
 
-use crate::drafting::{is_lawful, unit_of};
+ghost use Rattle.c_tree.specs.Programs.{program_view};
+ghost use Rattle.c_flow.specs.Tables.{Fits32};
+ghost use Rattle.c_laws.specs.Laws.{IsWellFormed};
+
+use crate::drafting::unit_of;
 use crate::made::NamedChange;
 use c_tree::{AutomaticVariable, Program};
 use debug_records::{Change, PassName, Var};
@@ -39,17 +43,17 @@ fn named(
     Ok(all)
 }
 
-/// The changes that the passes of these names make in a program, in order. None where the program is not compiled so far. The only error is want of
+/// The changes that the passes of these names make in a program that keeps the laws of accepted ones, in order. None where the program is not compiled so far. The only error is want of
 /// memory.
 pub fn changes_of_program(
     alloc: Global,
     program: &Program,
     passes: &[Box<dyn UnitPass>],
     names: &[PassName],
-) -> Result<Option<Vec<NamedChange>>, AllocError> {
-    if !is_lawful(alloc, program)? {
-        return Ok(None);
-    }
+) -> Result<Option<Vec<NamedChange>>, AllocError>
+    requires fits { Fits32 (program_view program.now) }
+    requires laws { IsWellFormed (program_view program.now) }
+{
     let Some(unit) = unit_of(alloc, program, passes, names)? else {
         return Ok(None);
     };

@@ -5,3 +5,4 @@ pub mod Sessions
 pub mod AskedLemmas
 pub mod Completeness
 pub mod Lines
+pub mod Compiled

@@ -71,13 +71,6 @@ FrontEnds (Err (SourceRefused code line)) source = program_of_source source ≡ 
 FrontEnds (Err NoMemory) source = Unit {0}
 FrontEnds (Err _) source = ⊥
 
--- this is an image of the source, or it is refused, or memory was wanting
-abbrev pub CompileEnds : Result Image Status → (source : List ℕ) → (names : List Text) → Mode → Type 0
-CompileEnds (Ok image) source names mode = IsImageFor source names mode (form image)
-CompileEnds (Err (SourceRefused code line)) source names mode = IsRefusedSource (IsStraight names mode) source code line
-CompileEnds (Err NoMemory) source names mode = Unit {0}
-CompileEnds (Err _) source names mode = ⊥
-
 -- the source is of a program and its image is made, or it is refused, or memory was wanting
 abbrev pub MakeEnds : Result Made Status → (source : List ℕ) → (names : List Text) → Mode → Type 0
 MakeEnds (Ok made) source names mode = IsMade source names mode made

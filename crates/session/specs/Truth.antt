@@ -6,6 +6,7 @@ use Rattle.debug_records.specs.declared.mode.Mode.TheVariants.{Slots}
 use Rattle.c_tree.specs.Programs.{ProgramTree as SourceProgram}
 use Rattle.c_source.specs.Sources.{program_of_source}
 use Rattle.image_form.specs.Form.{Form}
+use Rattle.program_image.specs.Compiled.{IsCompiledImage}
 use Rattle.program_image.specs.Tables.{HasTablesOf}
 use Rattle.thin_form.specs.Tree.{ProgramTree}
 use Rattle.thin_form.specs.Thin.{IsThin}
@@ -21,7 +22,13 @@ RunsAsItsSource source passes mode form = passes ≡ [] → mode ≡ Slots → (
 abbrev pub HasTablesOfSource : (source : List ℕ) → (passes : List Text) → Mode → Form → Type 0
 HasTablesOfSource source passes mode form = ¬ IsStraight passes mode source → (p : SourceProgram) → program_of_source source ≡ Ok p → HasTablesOf p form
 
--- WHAT IS PROMISED OF AN IMAGE AND ITS SOURCE: the one where that is a straight-line `main`, with slots and no pass, and the other of every other source, mode and list of passes.
+-- It is made, too, of a unit with homes of the mode; and where no pass is run, this unit does what the source's program does, as far as C defines it. That the code does what the unit does is
+-- not proved yet.
+abbrev pub IsCompiledOfSource : (source : List ℕ) → (passes : List Text) → Mode → Form → Type 0
+IsCompiledOfSource source passes mode form = ¬ IsStraight passes mode source → (p : SourceProgram) → program_of_source source ≡ Ok p → IsCompiledImage p passes mode form
+
+-- WHAT IS PROMISED OF AN IMAGE AND ITS SOURCE: the first where that is a straight-line `main`, with slots and no pass, and the others of every other source, mode and list of passes.
 pub record IsTruthfulTo (source : List ℕ) (passes : List Text) (mode : Mode) (form : Form) : Type 0 where
   pub runs : RunsAsItsSource source passes mode form
   pub tables : HasTablesOfSource source passes mode form
+  pub compiled : IsCompiledOfSource source passes mode form

@@ -2,14 +2,18 @@
 
 ghost use Rattle.std.specs.Prelude.{◌≡◌, [], false, true, IfOk, IfSome, MatchOption, Ok, map};
 ghost use Rattle.debug_records.specs.declared.mode.Mode.TheVariants.{Slots};
+ghost use Rattle.c_flow.specs.Tables.{Fits32};
+ghost use Rattle.c_laws.specs.Laws.{IsWellFormed};
 ghost use Rattle.c_source.specs.Sources.{program_of_source};
 ghost use Rattle.c_tree.specs.Programs.{program_view};
 ghost use Rattle.debug_records.specs.Change.{letters};
 ghost use Rattle.image_form.specs.Form.{form};
 ghost use Rattle.image_form.specs.Rules.{IsImage};
+ghost use Rattle.image_form.specs.Spelling.{spelling};
+ghost use Rattle.program_image.specs.Compiled.{IsCompiledImage};
 ghost use Rattle.program_image.specs.Tables.{HasTablesOf};
 ghost use Rattle.session.specs.Front.{IsStraight};
-ghost use Rattle.session.specs.Stages.{CompileEnds, FrontEnds, ImageEnds, ListEnds, MakeEnds, ScriptEnds};
+ghost use Rattle.session.specs.Stages.{FrontEnds, ImageEnds, ListEnds, MakeEnds, ScriptEnds};
 ghost use Rattle.session.specs.Truth.{IsTruthfulTo};
 
 use c_tree::Program;
@@ -57,24 +61,41 @@ fn straight_image(
     }
 }
 
-/// The image of a program; none where it is not compiled so far.
+/// The image of a program, and its bytes; none where it is not compiled so far.
 fn general_image(
     alloc: Global,
     program: Program,
     passes: &[Box<dyn UnitPass>],
     names: &[PassName],
     mode: Mode,
-) -> Result<Option<Image>, AllocError>
-    ensures image { IfOk result (λ made. IfSome made (λ image. IsImage (form image))) }
-    ensures tables { IfOk result (λ made. IfSome made (λ image. HasTablesOf (program_view program) (form image))) }
+) -> Result<Option<Made>, AllocError>
+    requires laws { IsWellFormed (program_view program) }
+    requires fits { Fits32 (program_view program) }
+    ensures image { IfOk result (λ o. IfSome o (λ made. IsImage (form made.image))) }
+    ensures bytes { IfOk result (λ o. IfSome o (λ made. made.bytes.items ≡ spelling (form made.image))) }
+    ensures tables { IfOk result (λ o. IfSome o (λ made. HasTablesOf (program_view program) (form made.image))) }
+    ensures compiled { IfOk result (λ o. IfSome o (λ made. IsCompiledImage (program_view program) (map letters names.now) mode (form made.image))) }
 {
     match image_of_program(alloc, program, passes, names, mode)? {
-        Some(build) => Ok(Some(build.image)),
+        Some(build) => Ok(Some(Made {
+            image: build.image,
+            bytes: build.bytes,
+        })),
         None => Ok(None),
     }
 }
 
-/// The image of the program of this source: a straight-line `main` with slots and no pass is compiled by the way that is proved to be truthful. None
+/// An image with its bytes.
+fn spelled(alloc: Global, image: Image) -> Result<Made, AllocError>
+    requires { IsImage (form image) }
+    ensures image { IfOk result (λ made. form made.image ≡ form image) }
+    ensures bytes { IfOk result (λ made. made.bytes.items ≡ spelling (form made.image)) }
+{
+    let bytes = write(alloc, &image)?;
+    Ok(Made { image, bytes })
+}
+
+/// The image of the program of this source, and its bytes: a straight-line `main` with slots and no pass is compiled by the way that is proved to be truthful. None
 /// where the program is not compiled so far.
 fn image_for(
     alloc: Global,
@@ -83,16 +104,19 @@ fn image_for(
     passes: &[Box<dyn UnitPass>],
     names: &[PassName],
     mode: Mode,
-) -> Result<Option<Image>, AllocError>
-    requires { program_of_source source.now ≡ Ok (program_view program) }
-    ensures { IfOk result (λ made. MatchOption made (¬ IsStraight (map letters names.now) mode source.now) (λ image. IsImage (form image) × IsTruthfulTo source.now (map letters names.now) mode (form image))) }
+) -> Result<Option<Made>, AllocError>
+    requires program { program_of_source source.now ≡ Ok (program_view program) }
+    requires laws { IsWellFormed (program_view program) }
+    requires fits { Fits32 (program_view program) }
+    ensures image { IfOk result (λ o. MatchOption o (¬ IsStraight (map letters names.now) mode source.now) (λ made. IsImage (form made.image) × IsTruthfulTo source.now (map letters names.now) mode (form made.image))) }
+    ensures bytes { IfOk result (λ o. IfSome o (λ made. made.bytes.items ≡ spelling (form made.image))) }
 {
-    let straight = straight_image(alloc, source, names, mode)?;
-    if straight.is_some() {
-        return Ok(straight);
+    if let Some(image) = straight_image(alloc, source, names, mode)? {
+        let made = spelled(alloc, image)?;
+        return Ok(Some(made));
     }
     match general_image(alloc, program, passes, names, mode)? {
-        Some(image) => Ok(Some(image)),
+        Some(made) => Ok(Some(made)),
         None => Ok(None),
     }
 }
@@ -101,6 +125,8 @@ fn image_for(
 fn understood(alloc: Global, source: &[u8]) -> Result<Program, Status>
     ensures ends { FrontEnds result source.now }
     ensures program { IfOk result (λ program. program_of_source source.now ≡ Ok (program_view program)) }
+    ensures laws { IfOk result (λ program. IsWellFormed (program_view program)) }
+    ensures fits { IfOk result (λ program. Fits32 (program_view program)) }
 {
     match c_source::program(alloc, source) {
         Ok(program) => Ok(program),
@@ -109,26 +135,8 @@ fn understood(alloc: Global, source: &[u8]) -> Result<Program, Status>
     }
 }
 
-/// The image of a source. Refused for the first rule of C that the source breaks; and by E11 and line 1 where it breaks none and is not
-/// compiled so far.
-fn compiled(
-    alloc: Global,
-    source: &[u8],
-    passes: &[Box<dyn UnitPass>],
-    names: &[PassName],
-    mode: Mode,
-) -> Result<Image, Status>
-    ensures { CompileEnds result source.now (map letters names.now) mode }
-{
-    let program = understood(alloc, source)?;
-    match image_for(alloc, source, program, passes, names, mode) {
-        Ok(Some(image)) => Ok(image),
-        Ok(None) => Err(Status::SourceRefused(Code::UNEXPECTED_KEYWORD, 1)),
-        Err(_) => Err(Status::NoMemory),
-    }
-}
-
-/// The image of a source behind the passes of these names, and its bytes. Refused as the source is.
+/// The image of a source behind the passes of these names, and its bytes. Refused for the first rule of C that the source breaks; and by E11 and line 1 where
+/// it breaks none and is not compiled so far.
 pub fn make(
     alloc: Global,
     source: &[u8],
@@ -138,9 +146,10 @@ pub fn make(
 ) -> Result<Made, Status>
     ensures { MakeEnds result source.now (map letters names.now) mode }
 {
-    let image = compiled(alloc, source, passes, names, mode)?;
-    match write(alloc, &image) {
-        Ok(bytes) => Ok(Made { image, bytes }),
+    let program = understood(alloc, source)?;
+    match image_for(alloc, source, program, passes, names, mode) {
+        Ok(Some(made)) => Ok(made),
+        Ok(None) => Err(Status::SourceRefused(Code::UNEXPECTED_KEYWORD, 1)),
         Err(_) => Err(Status::NoMemory),
     }
 }

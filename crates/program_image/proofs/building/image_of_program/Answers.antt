@@ -1,12 +1,16 @@
-use Rattle.std.proofs.Common.{◌≡◌, subst}
+use Rattle.std.proofs.Common.{◌<◌, ◌^◌, length, subst}
 use Rattle.std.specs.Prelude.{IfSome}
 use Rattle.c_tree.specs.Programs.{program_view}
 use Rattle.graph_core.specs.Graphs.{unit_view}
-use Rattle.homed_unit.specs.Homed.{homed_view}
 use Rattle.image_form.specs.Form.{form}
 use Rattle.image_form.specs.Rules.{IsImage}
 use Rattle.image_drafts.specs.Same.{SaysTheSame}
 use Rattle.program_image.specs.Tables.{HasShapeOf, HasTablesOf}
+use Rattle.homed_unit.specs.Homed.{homed_view}
+use Rattle.program_unit.specs.Built.{IsBuilt}
+use Rattle.program_image.specs.Made.{IsMadeOf}
+use Rattle.program_image.proofs.Doing.{does_by}
+use Rattle.program_image.proofs.MadeAgain.{made_again}
 use Rattle.program_image.proofs.Tables.{tables_again}
 use Rattle.program_image.proofs.Units.{log_only}
 use Rattle.program_image.proofs.building.image_of_program.Goals as goal
@@ -15,14 +19,48 @@ pub draft_of-requires-clause-shape : goal.draft_of-requires-clause-shape
 draft_of-requires-clause-shape g c =
     let p = program_view c.args.program in
     let unit = unit_view c.in-Some.unit in
-    log_only p unit (unit_view c.in-Some-2.homed.unit)
-    (subst (λ o. IfSome o (λ h. (homed_view h).unit ≡ record unit { log = (homed_view h).unit.log })) c.in-Some-2.is c.in_ok-homed.ensures.unit)
+    log_only p unit (unit_view c.in_ok-homed.homed.unit) c.in_ok-homed.ensures.unit
     (subst (λ o. IfSome o (λ u. HasShapeOf p (unit_view u))) c.in-Some.is c.in_ok-unit.ensures.shape)
 
 pub returns-clause-tables : goal.returns-clause-tables
 returns-clause-tables g c =
     let p = program_view c.args.program in
-    tables_again p (form c.in-Some-3.draft) (form c.in-Some-4.spelled.image)
-    (subst (λ o. IfSome o (λ s. IsImage (form s.image))) c.in-Some-4.is c.in_ok-spelled.ensures.image)
-    (subst (λ o. IfSome o (λ s. SaysTheSame (form c.in-Some-3.draft) (form s.image))) c.in-Some-4.is c.in_ok-spelled.ensures.same)
-    (subst (λ o. IfSome o (λ m. HasTablesOf p (form m))) c.in-Some-3.is c.in_ok-draft.ensures.tables)
+    tables_again p (form c.in-Some-2.draft) (form c.in-Some-3.spelled.image)
+    (subst (λ o. IfSome o (λ s. IsImage (form s.image))) c.in-Some-3.is c.in_ok-spelled.ensures.image)
+    (subst (λ o. IfSome o (λ s. SaysTheSame (form c.in-Some-2.draft) (form s.image))) c.in-Some-3.is c.in_ok-spelled.ensures.same)
+    (subst (λ o. IfSome o (λ m. HasTablesOf p (form m))) c.in-Some-2.is c.in_ok-draft.ensures.tables)
+
+pub unit_of-requires-clause-fits : goal.unit_of-requires-clause-fits
+unit_of-requires-clause-fits g c = c.requires.fits
+
+pub unit_of-requires-clause-laws : goal.unit_of-requires-clause-laws
+unit_of-requires-clause-laws g c = c.requires.laws
+
+pub draft_of-requires-clause-fits : goal.draft_of-requires-clause-fits
+draft_of-requires-clause-fits g c = c.requires.fits
+
+pub draft_of-requires-clause-laws : goal.draft_of-requires-clause-laws
+draft_of-requires-clause-laws g c = c.requires.laws
+
+pub returns-clause-made : goal.returns-clause-made
+returns-clause-made g c =
+    let p = program_view c.args.program in
+    let h = homed_view c.in_ok-homed.homed in
+    made_again p h (form c.in-Some-2.draft) (form c.in-Some-3.spelled.image)
+    (subst (λ o. IfSome o (λ s. IsImage (form s.image))) c.in-Some-3.is c.in_ok-spelled.ensures.image)
+    (subst (λ o. IfSome o (λ s. SaysTheSame (form c.in-Some-2.draft) (form s.image))) c.in-Some-3.is c.in_ok-spelled.ensures.same)
+    (subst (λ o. IfSome o (λ m. length m.nodes.items < 2 ^ 32 → IsMadeOf p h (form m))) c.in-Some-2.is c.in_ok-draft.ensures.made)
+
+pub returns-clause-homed : goal.returns-clause-homed
+returns-clause-homed g c =
+    let is = c.in_ok-homed.ensures in
+    record { valid = is.valid; homes = is.homes; mode_is = is.mode; slots = is.slots; registers = is.rule; apart = is.apart }
+
+pub returns-clause-compiled : goal.returns-clause-compiled
+returns-clause-compiled g c =
+    let p = program_view c.args.program in
+    let unit = unit_view c.in-Some.unit in
+    let same = c.in_ok-homed.ensures.unit in
+    λ none.
+    let built = subst (λ o. IfSome o (λ u. IsBuilt p (unit_view u))) c.in-Some.is (c.in_ok-unit.ensures.built none) in
+    record { unit = unit; built = built; same = same; does = does_by p unit (unit_view c.in_ok-homed.homed.unit) same built.does }

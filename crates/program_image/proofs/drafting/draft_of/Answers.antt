@@ -1,4 +1,4 @@
-use Rattle.std.proofs.Common.{◌≡◌, map, subst, ap, ◌∙◌}
+use Rattle.std.proofs.Common.{◌≡◌, arith, map, refl, subst, ap, ◌∙◌}
 use Rattle.std.specs.Prelude.{IfSome}
 use Rattle.std.proofs.lemmas.List.{length-map}
 use Rattle.c_tree.specs.Programs.{automatic_view, program_view}
@@ -6,8 +6,16 @@ use Rattle.homed_unit.specs.Homed.{homed_view}
 use Rattle.image_form.specs.Form.{form}
 use Rattle.currency.specs.Visible.{sight, sights_from}
 use Rattle.image_tables.specs.Tables.{sight_of_verdict}
+use Rattle.emitted.specs.Emitted.{emitted_view}
+use Rattle.currency.specs.Evident.{AreEvident}
+use Rattle.currency.specs.Named.{AreNamed}
+use Rattle.currency.specs.Sound.{AreHome, AreRecovered}
+use Rattle.currency.specs.Written.{AreWritten}
+use Rattle.image_declarations.specs.Variables.{pass_names}
+use Rattle.image_tables.specs.Rows.{AreNodesOf, AreRowsOf, telling_of}
+use Rattle.program_image.proofs.MadeAgain.{kept_each}
 use Rattle.program_image.proofs.Owners.{all_owned}
-use Rattle.program_image.proofs.Tables.{has_tables}
+use Rattle.program_image.proofs.Tables.{has_tables, rows_few}
 use Rattle.program_image.proofs.Units.{entries_seen}
 use Rattle.program_image.proofs.drafting.draft_of.Goals as goal
 
@@ -20,4 +28,55 @@ returns-clause-tables c =
     let made = c.in_ok-image.ensures in
     let told = subst (λ o. IfSome o (λ v. map sight v.items ≡ sights_from 1 rows)) c.in-Some.is c.in_ok-verdicts.ensures.visible in
     has_tables (program_view c.args.program.now) (form c.in_ok-image.image) (homed_view c.args.homed.now).unit rows c.in-Some.verdicts.items c.requires.shape c.requires.fits c.in_ok-places.ensures
-    made.functions (made.entries ∙ entries_seen c.args.homed.now.unit.graphs.items) made.variables made.belonging made.names made.places made.flow made.assigned (made.visible ∙ ap (map sight_of_verdict) c.deref.ensures.value) told
+    made.functions (made.entries ∙ entries_seen c.args.homed.now.unit.graphs.items) made.variables made.belonging (pass_names (homed_view c.args.homed.now).unit.log, made.names) made.places made.flow made.assigned (made.visible ∙ ap (map sight_of_verdict) c.deref.ensures.value) told
+
+pub returns-clause-made : goal.returns-clause-made
+returns-clause-made c =
+    let h = homed_view c.args.homed.now in
+    let flow = c.args.homed.now.unit.flow in
+    let rows = c.in_ok-places.places.rows.items in
+    let made = c.in_ok-image.ensures in
+    let image = c.in_ok-image.image in
+    let emitted = emitted_view c.in_ok-emitted.emitted in
+    let told = c.in-Some.verdicts.items in
+    let found = c.in_ok-verdicts.ensures in
+    λ few. record {
+      emitted = emitted;
+      emits = c.in_ok-emitted.ensures.emits;
+      mode = made.mode;
+      code = made.code;
+      owners = made.owners;
+      initial = made.initial;
+      spans = made.spans;
+      storages = kept_each h emitted _ image.variables.items made.storages;
+      places = rows;
+      places_are = c.in_ok-places.ensures;
+      addresses = made.addresses;
+      changes = made.changes;
+      names = made.names;
+      rows = record {
+        told = told;
+        borne_out = record {
+          flow = flow;
+          steps = refl;
+          assignments = refl;
+          home = subst (λ o. IfSome o (λ v. AreHome h v.items)) c.in-Some.is found.home;
+          recovered = subst (λ o. IfSome o (λ v. AreRecovered h v.items)) c.in-Some.is found.recovered;
+          named = subst (λ o. IfSome o (λ v. AreNamed h.unit.log v.items)) c.in-Some.is found.named;
+          written = subst (λ o. IfSome o (λ v. AreWritten h v.items)) c.in-Some.is found.written;
+          evident = subst (λ o. IfSome o (λ v. AreEvident h.unit.log flow h v.items)) c.in-Some.is found.evident;
+        };
+        rows = image.rows.items;
+        say = subst (λ l. AreRowsOf (telling_of h rows emitted) image.nodes.items l image.rows.items) c.deref.ensures.value (made.rows few);
+        needed = subst (AreNodesOf (telling_of h rows emitted) image.nodes.items) c.deref.ensures.value (made.nodes few);
+        same = refl;
+      };
+    }
+
+pub place_table-requires : goal.place_table-requires
+place_table-requires c = c.requires.fits
+
+pub image_of-requires-clause-places : goal.image_of-requires-clause-places
+image_of-requires-clause-places c =
+    let few = rows_few (program_view c.args.program.now) c.in_ok-places.places.rows.items c.requires.fits c.in_ok-places.ensures in
+    omega (arith, few)

@@ -9,6 +9,7 @@ returns-in_ok-build-in-Ok c = (
   record {
     runs = λ none slots p thin input. subst (λ q. Truthful q (form c.in_ok-build-in-Ok.field-0) input) (sym (c.in-Ok.ensures.only p thin)) (c.in_ok-build-in-Ok.ensures.truthful input);
     tables = λ other. absurd (other (record { no_pass = (c.if-not-is_plain.ensures.plain refl).0; slots = (c.if-not-is_plain.ensures.plain refl).1; thin = (_, c.in-Ok.ensures.accepted) }));
+    compiled = λ other. absurd (other (record { no_pass = (c.if-not-is_plain.ensures.plain refl).0; slots = (c.if-not-is_plain.ensures.plain refl).1; thin = (_, c.in-Ok.ensures.accepted) }));
   },
 )
 
