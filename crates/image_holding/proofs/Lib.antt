@@ -1,0 +1,11 @@
+pub mod Reading
+pub mod Frames
+pub mod Areas
+pub mod Values
+pub mod Running
+pub mod Kept
+pub mod Whole
+pub mod Homes
+pub mod Stops
+pub mod Texts
+pub mod Scalars

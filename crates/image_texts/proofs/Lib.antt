@@ -1,0 +1,12 @@
+pub mod Numbers
+pub mod Areas
+pub mod Finding
+pub mod Pointing
+pub mod Values
+pub mod Objects
+pub mod Shown
+pub mod Tables
+pub mod Contents
+pub mod Rows
+pub mod Storages
+pub mod Kept

@@ -1,0 +1,5 @@
+pub mod Rows
+pub mod Standing
+pub mod Texts
+pub mod Units
+pub mod Variables

@@ -1,0 +1,10 @@
+pub mod Joining
+pub mod Runs
+pub mod Whole
+pub mod Frames
+pub mod Stopping
+pub mod Listed
+pub mod Told
+pub mod Visible
+pub mod Outermost
+pub mod Truth

@@ -1,0 +1,3 @@
+pub mod Truthful
+pub mod Sources
+pub mod Meeting

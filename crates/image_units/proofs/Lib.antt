@@ -1,0 +1,4 @@
+pub mod Owners
+pub mod Picked
+pub mod Whole
+pub mod PlacesOf

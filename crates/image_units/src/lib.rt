@@ -1,0 +1,2 @@
+//! The unit of a program has the program's variables.
+#![tactic(auto)]
