@@ -1,6 +1,6 @@
 //! What is left of a graph.
 
-ghost use Rattle.std.specs.Prelude.{◌≡◌, ◌<◌, ◌^◌, ◌++◌, IfOk, None, OnOk, length, map};
+ghost use Rattle.std.specs.Prelude.{◌≡◌, ◌<◌, ◌^◌, ◌++◌, IfOk, IfSome, None, OnOk, length, map};
 ghost use Rattle.removal_notes.specs.Idle.{IsBorneOut, graph_of};
 ghost use Rattle.dead_pass.specs.LeftBy.{AreLeftBlocksBy, AreLeftBy, IsKeptAs, IsLeftBlockBy, IsNoteOf, IsPushed};
 ghost use Rattle.graph_core.specs.Graphs.{Call as CallOf, block_view, graph_view, instruction_view, operand_view};
@@ -113,7 +113,7 @@ fn left_of(
     while let [instruction, rest @ ..] = ahead {
         let goes = idle.goes_at(number, rest.len());
         push_left(alloc, idle, notes, point, goes, instruction, &mut left)?;
-        notes.step(idle, point);
+        notes.step(instruction.target(), goes);
         point = point.saturating_add(1);
         ahead = rest;
     }
@@ -163,22 +163,24 @@ fn blocks_left(
     Ok(left)
 }
 
-/// What is left of a graph, whose notes tell of what goes by these changes.
+/// What is left of a graph, whose notes tell of what goes by these changes. None where it has 2^31 blocks or more.
 pub fn graph_left(
     alloc: Global,
     idle: &IdleGraph<'_>,
     removed: &RemovedChanges,
-) -> Result<Graph, AllocError>
+) -> Result<Option<Graph>, AllocError>
     requires { IsBorneOut idle.now }
-    ensures { IfOk result (λ left. IsReduced (graph_of idle.now) (graph_view left)) }
+    ensures { IfOk result (λ o. IfSome o (λ left. IsReduced (graph_of idle.now) (graph_view left))) }
 {
     if idle.stays() {
         let same = idle.graph.duplicate(alloc)?;
-        return Ok(same);
+        return Ok(Some(same));
     }
-    let mut notes = Notes::new(alloc, idle, removed)?;
+    let Some(mut notes) = Notes::new(alloc, idle, removed)? else {
+        return Ok(None);
+    };
     let blocks = blocks_left(alloc, idle, &mut notes, &idle.graph.blocks)?;
-    Ok(Graph {
+    Ok(Some(Graph {
         entry: idle.graph.entry,
         parameters: Vec::from_slice(alloc, &idle.graph.parameters)?,
         scalars: Vec::from_slice(alloc, &idle.graph.scalars)?,
@@ -186,5 +188,5 @@ pub fn graph_left(
         name_count: idle.graph.name_count,
         first_moved: idle.graph.first_moved,
         blocks,
-    })
+    }))
 }

@@ -61,23 +61,25 @@ fn removed_cases(alloc: Global, idle: &[IdleGraph<'_>]) -> Result<Option<Vec<Cas
     Ok(Some(cases))
 }
 
-/// What is left of each graph.
+/// What is left of each graph. None where one has 2^31 blocks or more.
 fn graphs_left(
     alloc: Global,
     idle: &[IdleGraph<'_>],
     removed: &RemovedChanges,
-) -> Result<Vec<Graph>, AllocError>
+) -> Result<Option<Vec<Graph>>, AllocError>
     requires { AllByRecursion IsBorneOut idle.now }
-    ensures { IfOk result (λ left. EachFunction IsReduced (map graph_of idle.now) (map graph_view left.items)) }
+    ensures { IfOk result (λ o. IfSome o (λ left. EachFunction IsReduced (map graph_of idle.now) (map graph_view left.items))) }
 {
     let mut left = Vec::new(alloc);
     let mut ahead = idle;
     while let [graph, rest @ ..] = ahead {
-        let next = graph_left(alloc, graph, removed)?;
+        let Some(next) = graph_left(alloc, graph, removed)? else {
+            return Ok(None);
+        };
         left.push(next)?;
         ahead = rest;
     }
-    Ok(left)
+    Ok(Some(left))
 }
 
 /// A unit without its dead assignments (Kennedy 1981; notes by Hennessy 1982). In code that some path reaches a computation goes, or a call's target, where what it
@@ -108,8 +110,13 @@ pub fn remove_dead(alloc: Global, unit: &Unit) -> Result<Option<Unit>, AllocErro
     if !log_cases(&mut left.log, dead_name(), Kind::Removed, &mut cases)? {
         return Ok(None);
     }
-    let removed = RemovedChanges::new(alloc, left.log.changes())?;
-    left.graphs = graphs_left(alloc, &idle, &removed)?;
+    let Some(removed) = RemovedChanges::new(alloc, left.log.changes())? else {
+        return Ok(None);
+    };
+    let Some(graphs) = graphs_left(alloc, &idle, &removed)? else {
+        return Ok(None);
+    };
+    left.graphs = graphs;
     if left.is_valid() {
         Ok(Some(left))
     } else {

@@ -5,17 +5,22 @@ use crate::heights::{Found, found_by};
 use crate::live_names::{begin_at_end, live_names, step_back};
 use crate::points::{Point, Points};
 use crate::readers::Readers;
-use crate::writes::Writes;
 use graph_core::Graph;
 use graph_paths::{flag, put_entry, reached_in_order};
+use place_writes::PlaceWrites;
 use std::alloc::{AllocError, Global};
 
 /// Whether a write may go, if nothing reads it: it is of a temporary, or the only one of its scalar in its place.
-fn may_go(graph: &Graph, writes: &Writes, number: u32, point: &Point) -> bool {
-    match point.target {
+fn may_go(graph: &Graph, writes: &PlaceWrites, point: &Point) -> bool {
+    let Some(name) = point.target else {
+        return false;
+    };
+    if (name.0 as usize) >= graph.scalars.len() {
+        return true;
+    }
+    match writes.only(point.place.0, name.0) {
+        Some(spot) => spot.block == point.block && spot.left == point.left,
         None => false,
-        Some(name) if (name.0 as usize) >= graph.scalars.len() => true,
-        Some(name) => writes.only(point.place, name.0) == Some(number),
     }
 }
 
@@ -24,13 +29,11 @@ fn all_that_may_go(
     alloc: Global,
     graph: &Graph,
     points: &Points,
-    writes: &Writes,
+    writes: &PlaceWrites,
 ) -> Result<Vec<bool>, AllocError> {
     let mut flags = Vec::new(alloc);
-    let mut number = 0u32;
     for point in points.all() {
-        flags.push(may_go(graph, writes, number, point))?;
-        number = number.saturating_add(1);
+        flags.push(may_go(graph, writes, point))?;
     }
     Ok(flags)
 }
@@ -136,7 +139,7 @@ pub fn idle_writes(
     alloc: Global,
     graph: &Graph,
     points: &Points,
-    writes: &Writes,
+    writes: &PlaceWrites,
 ) -> Result<Found, AllocError> {
     let mut backward = reached_in_order(alloc, &graph.blocks)?;
     backward.reverse();

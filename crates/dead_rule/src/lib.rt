@@ -7,10 +7,7 @@ mod idle;
 mod live_names;
 mod points;
 mod readers;
-mod writes;
 
-pub use flow_rows::FlowRows;
 pub use heights::Found;
 pub use idle::idle_writes;
 pub use points::{Point, Points};
-pub use writes::Writes;

@@ -9,8 +9,9 @@ use std::alloc::{AllocError, Global};
 #[derive(Clone, Copy)]
 pub struct Point {
     pub block: u32,
-    /// How many instructions stand before it in its block.
+    /// How many instructions stand before it in its block, and how many behind it.
     pub index: u32,
+    pub left: usize,
     /// The place in force there; place 0 where there is none.
     pub place: Place,
     /// The name that it writes.
@@ -66,6 +67,7 @@ impl Points {
         let mut point = Point {
             block: number,
             index: 0,
+            left: block.instructions.len(),
             place: block.place.unwrap_or(Place(0)),
             target: None,
             is_marker: false,
@@ -79,6 +81,7 @@ impl Points {
             point.target = instruction.target();
             point.is_marker = marker.is_some();
             point.is_call = is_call(instruction);
+            point.left = point.left.saturating_sub(1);
             self.add(point, &instruction.reads(alloc)?)?;
             point.index = point.index.saturating_add(1);
         }

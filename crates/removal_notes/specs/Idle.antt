@@ -6,12 +6,14 @@ use Rattle.idle_rule.specs.Certified.{AreIdle}
 use Rattle.idle_rule.specs.Walks.{turn_of}
 use Rattle.path_marks.specs.Reached.{AreLed}
 use Rattle.path_marks.specs.Table.{bits_of}
+use Rattle.place_writes.specs.Telling.{Tells}
 
 -- the graph as it was
 abbrev pub graph_of : IdleGraph → Graph
 graph_of idle = graph_view idle.graph.now
 
--- What is told of a graph is so: just the writes go which shall, and of each block it is told whether some way leads to it.
+-- What is told of a graph is so: just the writes go which shall, of each block it is told whether some way leads to it, and of each name where a place writes it once.
 pub record IsBorneOut (idle : IdleGraph) : Type 0 where
   pub goes : AreIdle (graph_of idle) (is_going (turn_of idle.turns.items))
   pub led : AreLed (graph_of idle).blocks (bits_of idle.reached 0)
+  pub writes : Tells (graph_of idle) idle.writes

@@ -1,1 +1,4 @@
 pub mod Idle
+pub mod Removals
+pub mod Stale
+pub mod Telling

@@ -6,10 +6,11 @@ ghost use Rattle.idle_rule.specs.Asking.{is_going};
 ghost use Rattle.idle_rule.specs.Walks.{turn_of};
 ghost use Rattle.path_marks.specs.Table.{bits_of};
 
-use dead_rule::{Points, Writes, idle_writes};
+use dead_rule::{Points, idle_writes};
 use graph_core::{Graph, Instr, Name, Operand};
 use idle_rule::{Heights, are_idle, turn_at};
 use path_marks::Marks;
+use place_writes::PlaceWrites;
 use std::alloc::{AllocError, Global};
 
 /// A graph and what goes of it.
@@ -17,7 +18,8 @@ use std::alloc::{AllocError, Global};
 pub struct IdleGraph<'a> {
     pub graph: &'a Graph,
     pub points: Points,
-    pub writes: Writes,
+    /// Which names places write once, and where.
+    pub writes: PlaceWrites,
     /// For each block by how many instructions stand behind a write the turn in which it goes; 0 where it stays.
     pub turns: Vec<Vec<u32>>,
     /// The blocks that paths reach, as bits of a row.
@@ -49,7 +51,7 @@ impl<'a> IdleGraph<'a> {
             return Ok(None);
         }
         let points = Points::new(alloc, graph)?;
-        let writes = Writes::new(alloc, graph, &points)?;
+        let writes = PlaceWrites::new(alloc, graph)?;
         let found = idle_writes(alloc, graph, &points, &writes)?;
         let heights = Heights {
             columns: &found.columns,
@@ -92,6 +94,21 @@ impl<'a> IdleGraph<'a> {
         ensures { result ≡ is_going (turn_of self.now.turns.items) block left }
     {
         turn_at(&self.turns, block, left) != 0
+    }
+
+    /// The point of the one instruction that writes a name in a place, where nothing else writes it there.
+    pub fn only(&self, place: u32, name: u32) -> Option<u32> {
+        let spot = self.writes.only(place, name)?;
+        let block = self.graph.blocks.get(spot.block as usize)?;
+        let index = block
+            .instructions
+            .len()
+            .checked_sub(spot.left)?
+            .checked_sub(1)?;
+        if index > 0xffff_ffff {
+            return None;
+        }
+        Some(self.points.start(spot.block).saturating_add(index as u32))
     }
 
     /// Whether what a point writes goes.

@@ -5,7 +5,6 @@ mod idle_graph;
 mod notes;
 mod recipes;
 mod removed;
-mod stale;
 mod ways;
 
 pub use idle_graph::IdleGraph;

@@ -1,10 +1,13 @@
 //! The recipes of assignments that go.
 
+ghost use Rattle.std.specs.Prelude.{◌≡◌};
+ghost use Rattle.path_marks.specs.Table.{bits_of};
+
 use crate::idle_graph::IdleGraph;
 use crate::ways::Ways;
-use dead_rule::FlowRows;
 use debug_records::Place;
 use graph_core::{Instr, Operand, Recipe};
+use path_marks::Marks;
 use std::alloc::{AllocError, Global};
 use word_base::{Operation, Truncation};
 
@@ -13,6 +16,22 @@ use word_base::{Operation, Truncation};
 pub struct NotePoint {
     pub point: u32,
     pub place: Place,
+}
+
+/// The names that are stale at a point: those of a row.
+#[derive(Clone, Copy)]
+pub struct Known<'a> {
+    pub stale: &'a Marks,
+    pub row: u32,
+}
+
+impl Known<'_> {
+    /// Whether a name is stale.
+    pub fn has(self, name: u32) -> bool
+        ensures { result ≡ bits_of self.entry.stale.now self.entry.row name }
+    {
+        self.stale.get(self.row, name)
+    }
 }
 
 /// What a recipe is made of.
@@ -43,7 +62,7 @@ fn source_of(idle: &IdleGraph<'_>, place: Place, at: u32, operand: Operand) -> S
         let Some(name) = idle.local(operand) else {
             return Source::Read { at, operand };
         };
-        let Some(definition) = idle.writes.only(place, name.0) else {
+        let Some(definition) = idle.only(place.0, name.0) else {
             return Source::Unknown;
         };
         match idle.instruction(definition) {
@@ -58,11 +77,11 @@ fn source_of(idle: &IdleGraph<'_>, place: Place, at: u32, operand: Operand) -> S
 }
 
 /// Whether an operand that is read at a point gives at a note what it gives there: its name is not stale at the note, and no way from the point to the note
-/// writes it. `stale` is at the note.
+/// writes it. `known` is at the note.
 fn still_gives(
     idle: &IdleGraph<'_>,
     ways: &mut Ways,
-    stale: &FlowRows,
+    known: Known<'_>,
     note: NotePoint,
     at: u32,
     operand: Operand,
@@ -70,7 +89,7 @@ fn still_gives(
     match operand {
         Operand::Constant(_) | Operand::StaticAddress { .. } => Ok(true),
         Operand::Name(name) => {
-            if stale.has(name.0) {
+            if known.has(name.0) {
                 return Ok(false);
             }
             let is_written = ways.is_written_between(idle, at, note.point, name.0)?;
@@ -83,12 +102,12 @@ fn still_gives(
 fn read_recipe(
     idle: &IdleGraph<'_>,
     ways: &mut Ways,
-    stale: &FlowRows,
+    known: Known<'_>,
     note: NotePoint,
     at: u32,
     operand: Operand,
 ) -> Result<Option<Recipe>, AllocError> {
-    if still_gives(idle, ways, stale, note, at, operand)? {
+    if still_gives(idle, ways, known, note, at, operand)? {
         Ok(Some(Recipe::Operand(operand)))
     } else {
         Ok(None)
@@ -126,7 +145,7 @@ fn recipe_at(
     alloc: Global,
     idle: &IdleGraph<'_>,
     ways: &mut Ways,
-    stale: &FlowRows,
+    known: Known<'_>,
     note: NotePoint,
     source: Source,
     depth: u32,
@@ -138,22 +157,22 @@ fn recipe_at(
         Source::Unknown => return Ok(None),
         Source::Made(made) => made,
         Source::Read { at, operand } => {
-            return read_recipe(idle, ways, stale, note, at, operand);
+            return read_recipe(idle, ways, known, note, at, operand);
         }
     };
     match computed_at(idle, note.place, made) {
         Computed::Unknown => Ok(None),
         Computed::Truncated(truncation, from) => {
-            let Some(of) = recipe_at(alloc, idle, ways, stale, note, from, depth - 1)? else {
+            let Some(of) = recipe_at(alloc, idle, ways, known, note, from, depth - 1)? else {
                 return Ok(None);
             };
             Ok(Some(Recipe::Truncated(truncation, Box::new(alloc, of)?)))
         }
         Computed::Operated(operation, left, right) => {
-            let Some(left) = recipe_at(alloc, idle, ways, stale, note, left, depth - 1)? else {
+            let Some(left) = recipe_at(alloc, idle, ways, known, note, left, depth - 1)? else {
                 return Ok(None);
             };
-            let Some(right) = recipe_at(alloc, idle, ways, stale, note, right, depth - 1)? else {
+            let Some(right) = recipe_at(alloc, idle, ways, known, note, right, depth - 1)? else {
                 return Ok(None);
             };
             let left = Box::new(alloc, left)?;
@@ -167,7 +186,7 @@ pub fn recipe_of(
     alloc: Global,
     idle: &IdleGraph<'_>,
     ways: &mut Ways,
-    stale: &FlowRows,
+    known: Known<'_>,
     note: NotePoint,
     assignment: u32,
     depth: u32,
@@ -176,5 +195,5 @@ pub fn recipe_of(
         Some(Instr::Move { from, .. }) => source_of(idle, note.place, assignment, *from),
         _ => Source::Made(assignment),
     };
-    recipe_at(alloc, idle, ways, stale, note, source, depth)
+    recipe_at(alloc, idle, ways, known, note, source, depth)
 }

@@ -1,4 +1,4 @@
-use Rattle.std.proofs.Common.{List, ap, map, subst, sym, ◌∙◌}
+use Rattle.std.proofs.Common.{List, ap, map, rules, subst, sym, ◌∙◌}
 use Rattle.std.proofs.lemmas.List.{map-append}
 use Rattle.graph_core.specs.declared.graph.Graph as declared-graph
 use Rattle.graph_core.specs.Graphs.{graph_view}
@@ -17,11 +17,13 @@ pub graph_left-requires : goal.graph_left-requires
 graph_left-requires c = first_of_all IsBorneOut _ c.graph-item.result c.in-len1-up.len_at_least c.graph-item.is c.loop-ahead.invariant.borne_out
 
 pub loop-ahead-preserved : goal.loop-ahead-preserved
-loop-ahead-preserved c = record {
-  left = functions_step IsReduced graph_of _ _ c.graph-item.result _ _ _ (graph_view c.in_ok-next.next) c.in-len1-up.len_at_least c.graph-item.is
-      (ap (λ xs. map graph_view xs) c.in_ok-push.ensures.items ∙ map-append graph_view _ _) c.in_ok-next.ensures c.loop-ahead.invariant.left;
-  borne_out = all_behind IsBorneOut _ c.in-len1-up.len_at_least c.loop-ahead.invariant.borne_out;
-}
+loop-ahead-preserved c =
+    let left : IsReduced (graph_of c.graph-item.result) (graph_view c.in-Some.next) = search rules in
+    record {
+      left = functions_step IsReduced graph_of _ _ c.graph-item.result _ _ _ (graph_view c.in-Some.next) c.in-len1-up.len_at_least c.graph-item.is
+          (ap (λ xs. map graph_view xs) c.in_ok-push.ensures.items ∙ map-append graph_view _ _) left c.loop-ahead.invariant.left;
+      borne_out = all_behind IsBorneOut _ c.in-len1-up.len_at_least c.loop-ahead.invariant.borne_out;
+    }
 
 pub returns : goal.returns
 returns c = functions_done IsReduced graph_of _ _ _ c.in_default.len_below c.loop-ahead.invariant.left

@@ -17,7 +17,7 @@ returns-then-is_valid-clause-log c =
 pub returns-then-is_valid-clause-changes : goal.returns-then-is_valid-clause-changes
 returns-then-is_valid-clause-changes c =
     let before = map graph_view c.args.unit.now.graphs.items in
-    let after = map graph_view c.in_ok-left-2.field-0.items in
+    let after = map graph_view c.in-Some-4.graphs.items in
     let left : EachFunction IsReduced before after = search rules in
     let are : AreCasesOf (λ g h. IsRemovedWrite g) before before c.in-Some-2.cases.items = search rules in
     changes_of_cases c.dead_name.result _ Removed (λ g h. IsRemovedWrite g) c.in_ok-left.left _ _ _ _ _ _ refl (c.in_ok-log_cases.ensures.logged c.if-not-branch.false) c.in_ok-left.ensures c.dead_name.ensures
@@ -26,10 +26,10 @@ returns-then-is_valid-clause-changes c =
 
 pub returns-then-is_valid-clause-functions : goal.returns-then-is_valid-clause-functions
 returns-then-is_valid-clause-functions c =
-    let left : EachFunction IsReduced (map graph_view c.args.unit.now.graphs.items) (map graph_view c.in_ok-left-2.field-0.items) = search rules in
-    each_keeps (map graph_view c.args.unit.now.graphs.items) (map graph_view c.in_ok-left-2.field-0.items) left
+    let left : EachFunction IsReduced (map graph_view c.args.unit.now.graphs.items) (map graph_view c.in-Some-4.graphs.items) = search rules in
+    each_keeps (map graph_view c.args.unit.now.graphs.items) (map graph_view c.in-Some-4.graphs.items) left
 
 pub returns-then-is_valid-clause-left : goal.returns-then-is_valid-clause-left
 returns-then-is_valid-clause-left c =
-    let left : EachFunction IsReduced (map graph_view c.args.unit.now.graphs.items) (map graph_view c.in_ok-left-2.field-0.items) = search rules in
-    each_left (map graph_view c.args.unit.now.graphs.items) (map graph_view c.in_ok-left-2.field-0.items) left
+    let left : EachFunction IsReduced (map graph_view c.args.unit.now.graphs.items) (map graph_view c.in-Some-4.graphs.items) = search rules in
+    each_left (map graph_view c.args.unit.now.graphs.items) (map graph_view c.in-Some-4.graphs.items) left

@@ -1,0 +1,3 @@
+pub mod BlockRows
+pub mod Exact
+pub mod Points
