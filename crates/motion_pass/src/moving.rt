@@ -8,7 +8,6 @@ use debug_records::{Place, Var};
 use graph_core::{Block, End, Graph, Instr, Label, Name, Operand, Scalar};
 use graph_edits::Case;
 use motion_placement::{Action, Placement};
-use motion_points::Occurrence;
 use std::alloc::{AllocError, Global};
 
 /// What a function's graph becomes, as far as it was gone through.
@@ -48,14 +47,6 @@ fn variable_of(scalars: &[Scalar], name: Name) -> Option<Var> {
     }
 }
 
-/// The first occurrence of those that are left, if it is the instruction of this number, and those behind it.
-fn next_at(left: &[Occurrence], index: u32) -> Option<(&Occurrence, &[Occurrence])> {
-    match left {
-        [first, rest @ ..] if first.index == index => Some((first, rest)),
-        _ => None,
-    }
-}
-
 impl Moving<'_> {
     /// The assignment of a variable reads a temporary from now on.
     fn note_case(&mut self, site: Site, target: Name) -> Result<(), AllocError> {
@@ -89,28 +80,22 @@ impl Moving<'_> {
         Ok(())
     }
 
-    /// Appends what becomes of an instruction that does a computation.
-    fn push_occurrence(
+    /// Appends what becomes of an instruction.
+    fn push_instruction(
         &mut self,
         alloc: Global,
         site: Site,
         instruction: &Instr,
-        occurrence: &Occurrence,
         out: &mut Vec<Instr>,
     ) -> Result<(), AllocError> {
-        match self.placement.action(site.block, occurrence) {
+        match self.placement.action(site.block, site.index as usize) {
             Action::Keep => {
                 out.push(instruction.duplicate(alloc)?)?;
                 Ok(())
             }
             Action::Read(temporary) => self.push_read(site, instruction, temporary, out),
-            Action::Compute(temporary) => {
-                if let Some(computing) = self
-                    .placement
-                    .computing(occurrence.computation, temporary)
-                {
-                    out.push(computing)?;
-                }
+            Action::Compute(computation, temporary) => {
+                out.push(computation.into_name(temporary))?;
                 self.push_read(site, instruction, temporary, out)
             }
         }
@@ -176,16 +161,9 @@ impl Moving<'_> {
             index: 0,
         };
         let mut instructions = Vec::new(alloc);
-        let mut left = self.placement.occurrences(number);
         for instruction in &block.instructions {
             site.place = instruction.marker().or(site.place);
-            match next_at(left, site.index) {
-                Some((first, rest)) => {
-                    self.push_occurrence(alloc, site, instruction, first, &mut instructions)?;
-                    left = rest;
-                }
-                None => instructions.push(instruction.duplicate(alloc)?)?,
-            }
+            self.push_instruction(alloc, site, instruction, &mut instructions)?;
             site.index = site.index.saturating_add(1);
         }
         let end = self.end(alloc, number, site.place, block.end, &mut instructions)?;

@@ -2,7 +2,9 @@
 //! more often than before.
 #![tactic(auto)]
 
+mod columns;
+mod fates;
 mod placement;
-mod solving;
+mod problems;
 
 pub use placement::{Action, Placement, place};

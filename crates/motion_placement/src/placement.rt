@@ -1,34 +1,35 @@
 //! Where computations are done, and where their values are read instead.
 
-use crate::solving::solve;
+use crate::columns::{Placing, numbers_of};
+use crate::fates::{Fate, no_fates};
+use crate::problems::{Facts, facts_of};
 use graph_core::{Block, Graph, Instr, Name};
 use graph_paths::{flag, put_flag, reached_in_order, successor};
-use motion_points::{
-    After, Before, Columns, Computation, Computations, Facts, Occurrence, Occurrences, bit_of,
-    facts_of,
-};
+use motion_points::{Computation, Computations, both, either, without};
 use std::alloc::{AllocError, Global};
 
-/// What becomes of an instruction that does a computation.
+/// What becomes of an instruction.
 #[derive(Clone, Copy)]
 pub enum Action {
     /// It stays.
     Keep,
-    /// It reads the computation's temporary.
+    /// It reads its computation's temporary.
     Read(Name),
     /// The computation is done into its temporary, and then the instruction reads that.
-    Compute(Name),
+    Compute(Computation, Name),
 }
 
 /// Where the computations of a graph are done.
 #[derive(Drop)]
 pub struct Placement {
-    computations: Vec<Computation>,
+    computations: Computations,
     /// For each computation its temporary, if it has one.
     temporaries: Vec<Option<Name>>,
-    /// For each block the instructions that do computations, in order.
-    occurrences: Vec<Vec<Occurrence>>,
-    columns: Columns,
+    /// For each block and instruction the number of the computation that it does, and what becomes of it.
+    numbers: Vec<Vec<Option<u32>>>,
+    fates: Vec<Vec<Fate>>,
+    /// For each 64 computations what is so of them at each block.
+    columns: Vec<Vec<Facts>>,
     /// Which blocks some path reaches.
     reached: Vec<bool>,
     /// From here on names are temporaries of computations, up to the other one.
@@ -59,60 +60,39 @@ fn comes_back(blocks: &[Block], order: &[u32]) -> bool {
     false
 }
 
-/// Whether the computation can be delayed to where it occurs.
-fn is_late(facts: &Facts, occurrence: &Occurrence) -> bool {
-    match occurrence.before {
-        Before::Start => facts.late_start & bit_of(occurrence.computation) != 0,
-        Before::Computed => false,
-        Before::Written => true,
-    }
-}
-
-/// Whether what is computed there is used behind it.
-fn is_used(facts: &Facts, occurrence: &Occurrence) -> bool {
-    match occurrence.after {
-        After::End => facts.used_end & bit_of(occurrence.computation) != 0,
-        After::Computed => true,
-        After::Written => false,
-    }
-}
-
 /// Whether an instruction stays that does a computation: it is the latest point, and its value would not be used again.
-fn stays(facts: &Facts, occurrence: &Occurrence) -> bool {
-    is_late(facts, occurrence) && !is_used(facts, occurrence)
+fn stays(fate: Fate) -> bool {
+    fate.is_late && !fate.is_used
 }
 
 impl Placement {
-    /// What becomes of an instruction of a block that does a computation.
-    pub fn action(&self, block: u32, occurrence: &Occurrence) -> Action {
-        let facts = self.columns.at(block, occurrence.computation);
-        match self.temporaries.get(occurrence.computation as usize) {
-            Some(Some(temporary)) => {
-                if stays(&facts, occurrence) {
-                    Action::Keep
-                } else if is_late(&facts, occurrence) {
-                    Action::Compute(*temporary)
+    /// The number of the computation that an instruction does, and what is so of it, if it does one.
+    fn done_at(&self, block: u32, index: usize) -> Option<(u32, Fate)> {
+        let number = (*self.numbers.get(block as usize)?.get(index)?)?;
+        let fate = *self.fates.get(block as usize)?.get(index)?;
+        Some((number, fate))
+    }
+
+    /// What becomes of an instruction of a block.
+    pub fn action(&self, block: u32, index: usize) -> Action {
+        let Some((number, fate)) = self.done_at(block, index) else {
+            return Action::Keep;
+        };
+        if stays(fate) {
+            return Action::Keep;
+        }
+        match (
+            self.computations.all.get(number as usize),
+            self.temporaries.get(number as usize),
+        ) {
+            (Some(computation), Some(Some(temporary))) => {
+                if fate.is_late {
+                    Action::Compute(*computation, *temporary)
                 } else {
                     Action::Read(*temporary)
                 }
             }
-            Some(None) | None => Action::Keep,
-        }
-    }
-
-    /// The computation of this number into its temporary, if there is one.
-    pub fn computing(&self, computation: u32, temporary: Name) -> Option<Instr> {
-        match self.computations.get(computation as usize) {
-            Some(found) => Some(found.into_name(temporary)),
-            None => None,
-        }
-    }
-
-    /// The instructions of a block that do computations, in order.
-    pub fn occurrences(&self, block: u32) -> &[Occurrence] {
-        match self.occurrences.get(block as usize) {
-            Some(found) => found.as_slice(),
-            None => &[],
+            _ => Action::Keep,
         }
     }
 
@@ -124,7 +104,7 @@ impl Placement {
     /// Appends the computation of this number into its temporary, if it has one.
     fn push_computation(&self, number: usize, out: &mut Vec<Instr>) -> Result<(), AllocError> {
         if let (Some(computation), Some(Some(temporary))) = (
-            self.computations.get(number),
+            self.computations.all.get(number),
             self.temporaries.get(number),
         ) {
             out.push(computation.into_name(*temporary))?;
@@ -152,32 +132,41 @@ impl Placement {
             return Ok(out);
         }
         let mut number = 0usize;
-        for column in &self.columns.all {
+        for column in &self.columns {
             let before = facts_of(column, from);
             let behind = facts_of(column, to);
-            let bits = before.late_end & behind.down_start & !behind.late_start & behind.used_start;
-            self.push_bits(number, bits, &mut out)?;
+            let past = either(before.past_end, behind.unsafe_start);
+            self.push_bits(
+                number,
+                without(both(behind.past_start, behind.used_start), past),
+                &mut out,
+            )?;
             number = number.saturating_add(1);
         }
         Ok(out)
     }
 
     /// Marks the computations of a block that do not all stay.
-    fn mark(&self, block: u32, found: &[Occurrence], treated: &mut [bool]) {
-        for occurrence in found {
-            let facts = self.columns.at(block, occurrence.computation);
-            if !stays(&facts, occurrence) {
-                put_flag(treated, occurrence.computation, true);
+    fn mark(numbers: &[Option<u32>], fates: &[Fate], treated: &mut [bool]) {
+        let mut index = 0usize;
+        for fate in fates {
+            if let Some(Some(number)) = numbers.get(index) {
+                if !stays(*fate) {
+                    put_flag(treated, *number, true);
+                }
             }
+            index = index.saturating_add(1);
         }
     }
 
     /// The computations that do not all stay.
     fn treated(&self, alloc: Global) -> Result<Vec<bool>, AllocError> {
-        let mut treated = vec![in alloc; false; self.computations.len()]?;
-        let mut block = 0u32;
-        for found in &self.occurrences {
-            self.mark(block, found, &mut treated);
+        let mut treated = vec![in alloc; false; self.computations.all.len()]?;
+        let mut block = 0usize;
+        for fates in &self.fates {
+            if let Some(numbers) = self.numbers.get(block) {
+                Self::mark(numbers, fates, &mut treated);
+            }
             block = block.saturating_add(1);
         }
         Ok(treated)
@@ -197,25 +186,55 @@ impl Placement {
     }
 }
 
-/// The placement of the computations of reached code, before they have temporaries.
+/// For each block as many fates as it has instructions whose computations are numbered.
+fn fates_of(alloc: Global, numbers: &[Vec<Option<u32>>]) -> Result<Vec<Vec<Fate>>, AllocError> {
+    let mut fates = Vec::new(alloc);
+    for row in numbers {
+        fates.push(no_fates(alloc, row.len())?)?;
+    }
+    Ok(fates)
+}
+
+/// The placement of the computations of reached code, before they have temporaries. None where the search for it failed.
 fn unnamed(
     alloc: Global,
     graph: &Graph,
     order: &[u32],
     computations: Computations,
     reached: Vec<bool>,
-) -> Result<Placement, AllocError> {
-    let mut occurrences = Occurrences::new(alloc, &graph.blocks, &reached, &computations)?;
-    solve(alloc, &graph.blocks, order, &mut occurrences.columns)?;
-    Ok(Placement {
-        computations: computations.all,
+) -> Result<Option<Placement>, AllocError> {
+    let numbers = numbers_of(alloc, &graph.blocks, &reached, &computations)?;
+    let mut fates = fates_of(alloc, &numbers)?;
+    let mut back = Vec::from_slice(alloc, order)?;
+    back.reverse();
+    let placing = Placing {
+        alloc,
+        graph,
+        computations: &computations,
+        numbers: &numbers,
+        reached: &reached,
+        order,
+        back: &back,
+    };
+    let mut columns = Vec::new(alloc);
+    let mut index = 0u32;
+    for _ in 0..(computations.all.len() / 64).saturating_add(1) {
+        let Some(facts) = placing.column(index, &mut fates)? else {
+            return Ok(None);
+        };
+        columns.push(facts)?;
+        index = index.saturating_add(1);
+    }
+    Ok(Some(Placement {
+        computations,
         temporaries: Vec::new(alloc),
-        occurrences: occurrences.by_block,
-        columns: occurrences.columns,
+        numbers,
+        fates,
+        columns,
         reached,
         first_name: graph.name_count,
         end_name: graph.name_count,
-    })
+    }))
 }
 
 /// Where the computations of a graph's reached code are done by lazy code motion. None where all stay, or where an edge leads into the first
@@ -226,11 +245,15 @@ pub fn place(alloc: Global, graph: &Graph) -> Result<Option<Placement>, AllocErr
         return Ok(None);
     }
     let reached = flags_of(alloc, &order, graph.blocks.len())?;
-    let computations = Computations::new(alloc, graph, &reached)?;
+    let Some(computations) = Computations::new(alloc, &graph.blocks, &reached)? else {
+        return Ok(None);
+    };
     if computations.all.is_empty() {
         return Ok(None);
     }
-    let mut placement = unnamed(alloc, graph, &order, computations, reached)?;
+    let Some(mut placement) = unnamed(alloc, graph, &order, computations, reached)? else {
+        return Ok(None);
+    };
     let treated = placement.treated(alloc)?;
     placement.name(&treated)?;
     if placement.first_name == placement.end_name {

@@ -1,5 +1,11 @@
 //! What instructions compute of names and constants alone.
 
+ghost use Rattle.std.specs.Prelude.{◌≡◌, option_map};
+ghost use Rattle.graph_core.specs.Graphs.{instruction_view, operand_view};
+ghost use Rattle.graph_core.specs.Computations.{computed_by};
+ghost use Rattle.motion_rule.specs.Computing.{key_of, operand_key, operation_number, truncation_number};
+ghost use Rattle.motion_points.specs.Computing.{computation_view, doing};
+
 use graph_core::{Instr, Name, Operand};
 use word_base::{Operation, Truncation};
 
@@ -24,43 +30,23 @@ pub enum Computation {
     },
 }
 
-/// An operand as numbers.
-#[derive(Clone, Copy, PartialEq, Eq, PartialOrd, Ord)]
-struct OperandKey {
-    kind: u8,
-    number: u32,
-    offset: u32,
-}
-
 /// A computation as numbers: two have equal keys exactly where their operations and operands are equal in order.
-#[derive(Clone, Copy, PartialEq, Eq, PartialOrd, Ord)]
-pub struct Key {
-    operation: u8,
-    left: OperandKey,
-    right: OperandKey,
-}
+pub(crate) type Key = (u32, ((u32, (u32, u32)), (u32, (u32, u32))));
 
-fn operand_key(operand: Operand) -> OperandKey {
+/// An operand as numbers.
+fn operand_numbers(operand: Operand) -> (u32, (u32, u32))
+    ensures { result ≡ operand_key (operand_view operand) }
+{
     match operand {
-        Operand::Name(name) => OperandKey {
-            kind: 0,
-            number: name.0,
-            offset: 0,
-        },
-        Operand::Constant(word) => OperandKey {
-            kind: 1,
-            number: word,
-            offset: 0,
-        },
-        Operand::StaticAddress { object, offset } => OperandKey {
-            kind: 2,
-            number: object,
-            offset,
-        },
+        Operand::Name(name) => (0, (name.0, 0)),
+        Operand::Constant(word) => (1, (word, 0)),
+        Operand::StaticAddress { object, offset } => (2, (object, offset)),
     }
 }
 
-fn operation_number(operation: Operation) -> u8 {
+fn number_of_operation(operation: Operation) -> u32
+    ensures { result ≡ operation_number operation }
+{
     match operation {
         Operation::Add => 0,
         Operation::Sub => 1,
@@ -81,7 +67,9 @@ fn operation_number(operation: Operation) -> u8 {
 }
 
 /// The number of a truncation, behind those of operations.
-fn truncation_number(truncation: Truncation) -> u8 {
+fn number_of_truncation(truncation: Truncation) -> u32
+    ensures { result ≡ truncation_number truncation }
+{
     match truncation {
         Truncation::Unsigned8 => 15,
         Truncation::Signed16 => 16,
@@ -92,7 +80,9 @@ fn truncation_number(truncation: Truncation) -> u8 {
 
 impl Computation {
     /// The computation of an instruction, if it is one.
-    pub fn of(instruction: &Instr) -> Option<Computation> {
+    pub fn of(instruction: &Instr) -> Option<Computation>
+        ensures { option_map computation_view result ≡ computed_by (instruction_view instruction.now) }
+    {
         match *instruction {
             Instr::Operate {
                 operation,
@@ -115,7 +105,9 @@ impl Computation {
     }
 
     /// The instruction that does the computation into a name.
-    pub fn into_name(self, target: Name) -> Instr {
+    pub fn into_name(self, target: Name) -> Instr
+        ensures { instruction_view result ≡ doing target.0 (computation_view self) }
+    {
         match self {
             Computation::Operated {
                 operation,
@@ -140,27 +132,26 @@ impl Computation {
         }
     }
 
-    /// What it is computed of; a truncation's value stands for both.
-    pub fn operands(self) -> (Operand, Operand) {
-        match self {
-            Computation::Operated { left, right, .. } | Computation::Compared { left, right } => {
-                (left, right)
-            }
-            Computation::Truncated { from, .. } => (from, from),
-        }
-    }
-
     /// The computation as numbers.
-    pub fn key(self) -> Key {
-        let (left, right) = self.operands();
-        Key {
-            operation: match self {
-                Computation::Operated { operation, .. } => operation_number(operation),
-                Computation::Truncated { truncation, .. } => truncation_number(truncation),
-                Computation::Compared { .. } => 19,
-            },
-            left: operand_key(left),
-            right: operand_key(right),
+    pub(crate) fn key(self) -> Key
+        ensures { result ≡ key_of (computation_view self) }
+    {
+        match self {
+            Computation::Operated {
+                operation,
+                left,
+                right,
+            } => (
+                number_of_operation(operation),
+                (operand_numbers(left), operand_numbers(right)),
+            ),
+            Computation::Truncated { truncation, from } => (
+                number_of_truncation(truncation),
+                (operand_numbers(from), operand_numbers(from)),
+            ),
+            Computation::Compared { left, right } => {
+                (19, (operand_numbers(left), operand_numbers(right)))
+            }
         }
     }
 }

@@ -1,10 +1,12 @@
 //! The computations of a function as lazy code motion sees them (Knoop, Rüthing and Steffen 1992): where they occur, and what its blocks do to them.
 #![tactic(auto)]
 
+mod columns;
 mod computation;
-mod facts;
-mod occurrences;
+mod computations;
+mod words;
 
-pub use computation::{Computation, Key};
-pub use facts::{Before, Columns, Facts, bit_of, facts_of};
-pub use occurrences::{After, Computations, Occurrence, Occurrences};
+pub use columns::{Column, Local, NOTHING};
+pub use computation::Computation;
+pub use computations::{Computations, is_flagged};
+pub use words::{both, either, is_in, only, without};

@@ -1,0 +1,4 @@
+pub mod Bringing
+pub mod Carried
+pub mod Leading
+pub mod Whole

@@ -1,0 +1,6 @@
+pub mod Bits
+pub mod Keys
+pub mod Numbering
+pub mod Passing
+pub mod Telling
+pub mod Marking

@@ -1,0 +1,4 @@
+pub mod Words
+pub mod Computing
+pub mod Numbers
+pub mod Columns

@@ -1,0 +1,4 @@
+pub mod Keys
+pub mod Unsafe
+pub mod Unhad
+pub mod Wanted
