@@ -22,8 +22,7 @@ RunsAsItsSource source passes mode form = passes ≡ [] → mode ≡ Slots → (
 abbrev pub HasTablesOfSource : (source : List ℕ) → (passes : List Text) → Mode → Form → Type 0
 HasTablesOfSource source passes mode form = ¬ IsStraight passes mode source → (p : SourceProgram) → program_of_source source ≡ Ok p → HasTablesOf p form
 
--- It is made, too, of a unit with homes of the mode; and where no pass is run, this unit does what the source's program does, as far as C defines it. That the code does what the unit does is
--- not proved yet.
+-- It is made, too, of a unit with homes of the mode, over which its code does what that unit does; and where no pass is run, this unit does what the source's program does, as far as C defines it.
 abbrev pub IsCompiledOfSource : (source : List ℕ) → (passes : List Text) → Mode → Form → Type 0
 IsCompiledOfSource source passes mode form = ¬ IsStraight passes mode source → (p : SourceProgram) → program_of_source source ≡ Ok p → IsCompiledImage p passes mode form
 
