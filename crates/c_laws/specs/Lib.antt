@@ -5,3 +5,5 @@ pub mod Parameters
 pub mod Plain
 pub mod Statics
 pub mod Laws
+pub mod Names
+pub mod Spots

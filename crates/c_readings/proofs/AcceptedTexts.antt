@@ -10,7 +10,7 @@ use Rattle.c_grammar.specs.Reading.{tree_of}
 use Rattle.c_type.specs.Programs.{checked}
 use Rattle.c_laws.specs.Statics.{are_bytes}
 use Rattle.c_readings.specs.Accepted.{IsAccepted, HasTree}
-use Rattle.c_readings.proofs.Sources.{tree_in_order, tree_formed}
+use Rattle.c_readings.proofs.Sources.{tree_in_order, tree_within, tree_formed}
 
 -- An accepted text has a tree that stands in order and is formed.
 pub accepted_tree : (text : List ℕ) (p : ProgramTree) → are_bytes text ≡ true → IsAccepted text p → HasTree text p
@@ -19,7 +19,7 @@ accepted_tree text p bytes accepted = by (tokens_of text) refl accepted
     behind : (tokens : List Lexeme) → tokens_of text ≡ Ok tokens → (r : Result (List ItemTree) (Code × ℕ)) → tree_of tokens ≡ r → (r >>= checked) ≡ Ok p → HasTree text p
     behind tokens spelled (Ok items) tree h =
         let read : (tokens_of text >>= tree_of) ≡ Ok items = ap (λ (r : Result (List Lexeme) (Code × ℕ)). r >>= tree_of) spelled ∙ tree in
-        record { items = items; read = read; checks = h; in_order = tree_in_order text tokens items bytes spelled tree; formed = tree_formed text tokens items bytes spelled tree }
+        record { items = items; read = read; checks = h; in_order = tree_in_order text tokens items bytes spelled tree; within = tree_within text tokens items bytes spelled tree; formed = tree_formed text tokens items bytes spelled tree }
     behind tokens spelled (Err f) tree h = absurd cc
 
     by : (r : Result (List Lexeme) (Code × ℕ)) → tokens_of text ≡ r → (r >>= tree_of >>= checked) ≡ Ok p → HasTree text p

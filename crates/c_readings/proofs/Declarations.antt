@@ -1,5 +1,5 @@
 -- What is read as a declaration of objects stands in its tokens in order, and is formed.
-use Rattle.std.proofs.Common.{◌≡◌, ℕ, zero, suc, List, [], ◌∷◌, ◌++◌, length, Option, Some, None, refl, ap}
+use Rattle.std.proofs.Common.{◌≡◌, ℕ, zero, suc, true, List, [], ◌∷◌, ◌++◌, length, Option, Some, None, refl, ap}
 use Rattle.debug_records.specs.declared.source.Spot.{Spot}
 use Rattle.c_token.specs.Lexemes.{Lexeme, Word}
 use Rattle.c_token.specs.Lexemes as word
@@ -14,9 +14,10 @@ use Rattle.c_parse_tokens.specs.Specifiers.{specifiers, integer_type, stars}
 use Rattle.c_parse_expressions.specs.declared.expression.Sort.TheVariants as sort
 use Rattle.c_parse_expressions.specs.Expressions.{Nesting, nested, assignment, nesting}
 use Rattle.c_parse_declarations.specs.Declarations.{identifier_of, identifier, brackets, nested_initializer, more_in_braces, in_braces, initializer_in, within_braces, initializer, are_empty, initialized, named_declarator, declarator, begun_declaration, declaration}
+use Rattle.c_laws.specs.Names.{is_name}
 use Rattle.c_texts.specs.Formed.{AreInitializersFormed, AreDeclaratorsFormed}
 use Rattle.c_texts.specs.TextOrder.{spots_of_initializer, spots_of_initializers, spots_of_declarator, spots_of_declarators}
-use Rattle.c_readings.specs.Tokens.{AreSound}
+use Rattle.c_readings.specs.Tokens.{IsSound, AreSound}
 use Rattle.c_readings.specs.Standing.{Stand, none, told, Found, plain, spots_of_many, AreAllFormed, many}
 use Rattle.c_readings.specs.Trees.{expressions, names, sizes, initializers, initializer_lists, optional_initializers, declarators, declarations}
 use Rattle.c_readings.proofs.Bytes.{by_test}
@@ -24,14 +25,14 @@ use Rattle.c_readings.proofs.Standing.{join, trail, silent, same_spots, next, se
 use Rattle.c_readings.proofs.Fronts.{behind_leads, want_next, specifiers_found, stars_pass, separated_found}
 use Rattle.c_readings.proofs.Expressions.{AreGood, nested_found, assignment_found, nesting_good}
 
-name_of : (w : Word) (t : Lexeme) (ts : List Lexeme) → AreSound ts → Found names (t ∷ ts) (identifier_of w t ts)
-name_of (word.Name name) t ts h = (told t none, tt, h)
-name_of w t ts h = tt
+name_of : (w : Word) (t : Lexeme) (ts : List Lexeme) → IsSound w → AreSound ts → Found names (t ∷ ts) (identifier_of w t ts)
+name_of (word.Name name) t ts name_sound h = (told t none, name_sound, h)
+name_of w t ts w_sound h = tt
 
 pub identifier_found : (ts : List Lexeme) → AreSound ts → Found names ts (identifier ts)
 unfolding identifier
 identifier_found [] h = tt
-identifier_found (t ∷ ts) h = name_of t.kind t ts h.1
+identifier_found (t ∷ ts) h = name_of t.kind t ts h.0 h.1
 
 pub brackets_found : (nest : Nesting) (ts : List Lexeme) → AreGood nest → AreSound ts → Found sizes ts (brackets nest ts)
 unfolding brackets
@@ -107,19 +108,19 @@ initialized_found depth b ts h =
     (λ rest r u. next initializers optional_initializers rest ts (initializer depth rest) _ (initializer_found depth rest u) (λ i s f v. (join (silent r) s, f, v)))
     (by_test (Found optional_initializers ts) (are_empty b) _ _ (λ _. tt) (λ _. (none, tt, h)))
 
-pub named_found : (depth : ℕ) (begin : List Lexeme) (count : ℕ) (name : NameTree) (ts whole : List Lexeme) → Stand (name.spot ∷ []) whole ts → AreSound ts → Found declarators whole (named_declarator depth begin count name ts)
+pub named_found : (depth : ℕ) (begin : List Lexeme) (count : ℕ) (name : NameTree) (ts whole : List Lexeme) → Stand (name.spot ∷ []) whole ts → is_name name.name ≡ true → AreSound ts → Found declarators whole (named_declarator depth begin count name ts)
 unfolding named_declarator
-named_found depth begin count name ts whole s h =
+named_found depth begin count name ts whole s n h =
     next sizes declarators ts whole (brackets (nesting depth) ts) _ (brackets_found (nesting depth) ts (nesting_good depth) h)
     (λ b r f u. next optional_initializers declarators b.1 whole (initialized depth b.0 b.1) _ (initialized_found depth b.0 b.1 u)
-    (λ i q g v. (join s (join r q), (f, g), v)))
+    (λ i q g v. (join s (join r q), (f, g, n), v)))
 
 pub declarator_found : (depth : ℕ) (ts : List Lexeme) → AreSound ts → Found declarators ts (declarator depth ts)
 unfolding declarator
 declarator_found depth ts h =
     let p = stars_pass ts h in
     next names declarators (stars ts).1 ts (identifier (stars ts).1) _ (identifier_found (stars ts).1 p.1)
-    (λ name s f u. named_found depth ts (stars ts).0 name.0 name.1 ts (join p.0 s) u)
+    (λ name s f u. named_found depth ts (stars ts).0 name.0 name.1 ts (join p.0 s) f u)
 
 as_declarators : (all : List DeclaratorTree) → spots_of_many declarators all ≡ spots_of_declarators all
 as_declarators [] = refl

@@ -1,4 +1,5 @@
 pub mod Bytes
+pub mod Identifiers
 pub mod Spelling
 pub mod Ascending
 pub mod Standing
@@ -7,6 +8,7 @@ pub mod Expressions
 pub mod Declarations
 pub mod Clauses
 pub mod Statements
+pub mod Within
 pub mod Sources
 pub mod AcceptedTexts
 pub mod Refused

@@ -41,3 +41,11 @@ declaration_refused spot e d h = let f : false ≡ true = h.2 in absurd cc
 -- a definition whose parameter has no name
 pub nameless_refused : (d : ParameterTree) (b : BlockTree) → d.name ≡ None → ¬ IsBodyFormed (d ∷ []) (Some b)
 nameless_refused d b e h = let f = h.0.0.1 in absurd cc
+
+-- a name without a byte
+pub empty_refused : ¬ IsSound (word.Name [])
+empty_refused h = let e : false ≡ true = h in absurd cc
+
+-- a name that begins with a digit
+pub digit_refused : ¬ IsSound (word.Name (49 ∷ []))
+digit_refused h = let e : false ≡ true = h in absurd cc

@@ -20,9 +20,10 @@ use Rattle.c_parse_declarations.specs.Declarations.{identifier, brackets, named_
 use Rattle.c_parse_statements.specs.Statements as reading
 use Rattle.c_parse_statements.specs.Statements.{block}
 use Rattle.c_grammar.specs.Reading.{begins_name, parameter_name, parameter, parameters, are_named, body, function, result_stars, objects, external, item_of, item, items_from, items, answer, tree_of}
+use Rattle.c_laws.specs.Names.{is_name}
 use Rattle.c_laws.specs.Statics.{are_bytes}
-use Rattle.c_texts.specs.Files.{has_name, AreSizesFormed, HaveNames, AreItemsFormed}
-use Rattle.c_texts.specs.TextOrder.{spots_of_name, spots_of_brackets, spots_of_parameters, spots_of_item, spots_of_items, IsInTextOrder}
+use Rattle.c_texts.specs.Files.{has_name, AreSizesFormed, HaveNames, AreNamesFormed, AreItemsFormed}
+use Rattle.c_texts.specs.TextOrder.{spots_of_name, spots_of_brackets, spots_of_parameters, spots_of_item, spots_of_items, IsInTextOrder, AreWithinText}
 use Rattle.c_readings.specs.Tokens.{AreSound}
 use Rattle.c_readings.specs.Standing.{Stand, none, told, Found, plain, spots_of_many, AreAllFormed, many}
 use Rattle.c_readings.specs.Trees as trees
@@ -32,6 +33,7 @@ use Rattle.c_readings.proofs.Standing.{join, trail, silent, same_spots, in_order
 use Rattle.c_readings.proofs.Fronts.{behind_leads, want_next, specifiers_found, Passes, stars_pass, separated_found}
 use Rattle.c_readings.proofs.Expressions.{nesting_good}
 use Rattle.c_readings.proofs.Declarations.{identifier_found, brackets_found, named_found, begun_found}
+use Rattle.c_readings.proofs.Within.{some_within, tokens_within}
 use Rattle.c_readings.proofs.Statements.{statements_good, block_found}
 
 -- ---- parameters
@@ -40,7 +42,7 @@ name_found : (ts : List Lexeme) → AreSound ts → Found trees.optional_names t
 unfolding parameter_name
 name_found ts h =
     by_test (Found trees.optional_names ts) (begins_name ts) _ _
-    (λ _. next trees.names trees.optional_names ts ts (identifier ts) _ (identifier_found ts h) (λ n s f u. (s, tt, u)))
+    (λ _. next trees.names trees.optional_names ts ts (identifier ts) _ (identifier_found ts h) (λ n s f u. (s, f, u)))
     (λ _. (none, tt, h))
 
 parameter_found : (depth : ℕ) (ts : List Lexeme) → AreSound ts → Found trees.parameters ts (parameter depth ts)
@@ -50,21 +52,21 @@ parameter_found depth ts h =
     (λ found r _ u. let p = stars_pass found.1 u in
     next trees.optional_names trees.parameters (stars found.1).1 ts (parameter_name (stars found.1).1) _ (name_found (stars found.1).1 p.1)
     (λ n s f v. next trees.sizes trees.parameters n.1 ts (brackets (nesting depth) n.1) _ (brackets_found (nesting depth) n.1 (nesting_good depth) v)
-    (λ b q g w. (join r (join p.0 (join s q)), g, w))))
+    (λ b q g w. (join r (join p.0 (join s q)), (g, f), w))))
 
 as_parameters : (all : List ParameterTree) → spots_of_many trees.parameters all ≡ spots_of_parameters all
 as_parameters [] = refl
 as_parameters (d ∷ all) = ap (λ (l : List Spot). spots_of_name d.name ++ spots_of_brackets d.brackets ++ l) (as_parameters all)
 
-formed_parameters : (all : List ParameterTree) → AreAllFormed trees.parameters all → AreSizesFormed all
-formed_parameters [] h = tt
-formed_parameters (d ∷ all) h = (h.0, formed_parameters all h.1)
+formed_parameters : (all : List ParameterTree) → AreAllFormed trees.parameters all → AreSizesFormed all × AreNamesFormed all
+formed_parameters [] h = (tt, tt)
+formed_parameters (d ∷ all) h = let rest = formed_parameters all h.1 in ((h.0.0, rest.0), (h.0.1, rest.1))
 
 parameters_found : (depth : ℕ) (ts : List Lexeme) → AreSound ts → Found trees.parameter_lists ts (parameters depth ts)
 unfolding parameters
 parameters_found depth ts h =
-    by_test (Found trees.parameter_lists ts) (is_at mark.CloseParenthesis ts) _ _ (λ _. (none, tt, h))
-    (λ _. option_next trees.parameter_lists ts ts (behind mark.Void ts) _ _ (behind_leads mark.Void ts h) (λ rest r u. (silent r, tt, u))
+    by_test (Found trees.parameter_lists ts) (is_at mark.CloseParenthesis ts) _ _ (λ _. (none, (tt, tt), h))
+    (λ _. option_next trees.parameter_lists ts ts (behind mark.Void ts) _ _ (behind_leads mark.Void ts h) (λ rest r u. (silent r, (tt, tt), u))
     (seen (many trees.parameters) trees.parameter_lists ts _ as_parameters formed_parameters
     (next trees.parameters (many trees.parameters) ts ts (parameter depth ts) _ (parameter_found depth ts h)
     (λ p s f u. separated_found trees.parameters (length p.1) (parameter depth) (λ us v. parameter_found depth us v) (p.0 ∷ []) p.1 ts (only_one trees.parameters p.0 ts p.1 s) (f, tt) u))))
@@ -83,23 +85,23 @@ have_names (d ∷ ps) h = by (is_some d.name) refl h (have_names ps)
     by true e g on = (has_its_name d d.name refl e, on g)
     by false e g on = absurd cc
 
-body_found : (depth : ℕ) (ps : List ParameterTree) (ts : List Lexeme) → AreSound ts → Found (trees.bodies ps) ts (body depth ps ts)
+body_found : (depth : ℕ) (ps : List ParameterTree) (ts : List Lexeme) → AreNamesFormed ps → AreSound ts → Found (trees.bodies ps) ts (body depth ps ts)
 unfolding body
-body_found depth ps ts h =
-    option_next (trees.bodies ps) ts ts (behind mark.Semicolon ts) _ _ (behind_leads mark.Semicolon ts h) (λ rest r u. (silent r, tt, u))
+body_found depth ps ts named h =
+    option_next (trees.bodies ps) ts ts (behind mark.Semicolon ts) _ _ (behind_leads mark.Semicolon ts h) (λ rest r u. (silent r, named, u))
     (by_test (Found (trees.bodies ps) ts) (are_named ps) _ _
     (λ e. next (trees.blocks true) (trees.bodies ps) ts ts (block (reading.statements depth) true ts) _ (block_found (reading.statements depth) (statements_good depth) true ts h)
-    (λ b s f u. (s, (have_names ps e, f.0), u)))
+    (λ b s f u. (s, (have_names ps e, f.0, named), u)))
     (λ _. tt))
 
-function_found : (depth : ℕ) (found : SpecifierList) (begin : List Lexeme) (count : ℕ) (name : NameTree) (ts whole : List Lexeme) → Stand (name.spot ∷ []) whole ts → AreSound ts
+function_found : (depth : ℕ) (found : SpecifierList) (begin : List Lexeme) (count : ℕ) (name : NameTree) (ts whole : List Lexeme) → Stand (name.spot ∷ []) whole ts → is_name name.name ≡ true → AreSound ts
     → Found trees.functions whole (function depth found begin count name ts)
 unfolding function
-function_found depth found begin count name ts whole s h =
+function_found depth found begin count name ts whole s n h =
     next trees.parameter_lists trees.functions ts whole (parameters (depth - 1) ts) _ (parameters_found (depth - 1) ts h)
     (λ ps r f u. want_next trees.functions mark.CloseParenthesis ps.1 whole _ u
-    (λ rest q v. next (trees.bodies ps.0) trees.functions rest whole (body depth ps.0 rest) _ (body_found depth ps.0 rest v)
-    (λ b p g w. (join s (join (trail r (silent q)) p), (f, g), w))))
+    (λ rest q v. next (trees.bodies ps.0) trees.functions rest whole (body depth ps.0 rest) _ (body_found depth ps.0 rest f.1 v)
+    (λ b p g w. (join s (join (trail r (silent q)) p), (f.0, g, n), w))))
 
 -- ---- items
 
@@ -107,12 +109,12 @@ result_pass : (found : SpecifierList) (ts : List Lexeme) → AreSound ts → Pas
 unfolding result_stars
 result_pass found ts h = by_test (λ (x : ℕ × List Lexeme). Passes ts x.1) found.is_void _ _ (λ _. (none, h)) (λ _. stars_pass ts h)
 
-objects_found : (depth : ℕ) (found : SpecifierList) (all begin : List Lexeme) (count : ℕ) (name : NameTree) (ts whole : List Lexeme) → Stand (name.spot ∷ []) whole ts → AreSound ts
+objects_found : (depth : ℕ) (found : SpecifierList) (all begin : List Lexeme) (count : ℕ) (name : NameTree) (ts whole : List Lexeme) → Stand (name.spot ∷ []) whole ts → is_name name.name ≡ true → AreSound ts
     → Found trees.items whole (objects depth found all begin count name ts)
 unfolding objects
-objects_found depth found all begin count name ts whole s h =
+objects_found depth found all begin count name ts whole s n h =
     by_test (Found trees.items whole) found.is_void _ _ (λ _. tt)
-    (λ _. next trees.declarators trees.items whole whole (named_declarator depth begin count name ts) _ (named_found depth begin count name ts whole s h)
+    (λ _. next trees.declarators trees.items whole whole (named_declarator depth begin count name ts) _ (named_found depth begin count name ts whole s n h)
     (λ d r f u. next trees.declarations trees.items whole whole (begun_declaration depth all (integer_type found) d.0 d.1) _ (begun_found depth all (integer_type found) d.0 d.1 whole r f u)
     (λ x q g v. (q, g, v))))
 
@@ -122,10 +124,10 @@ external_found depth ts h =
     next plain trees.items ts ts (specifiers place.File ts) _ (specifiers_found place.File ts h)
     (λ found r _ u. let p = result_pass found.0 found.1 u in
     next trees.names trees.items (result_stars found.0 found.1).1 ts (identifier (result_stars found.0 found.1).1) _ (identifier_found (result_stars found.0 found.1).1 p.1)
-    (λ name s _ v. option_next trees.items name.1 ts (behind mark.OpenParenthesis name.1) _ _ (behind_leads mark.OpenParenthesis name.1 v)
+    (λ name s n v. option_next trees.items name.1 ts (behind mark.OpenParenthesis name.1) _ _ (behind_leads mark.OpenParenthesis name.1 v)
     (λ its q w. next trees.functions trees.items ts ts (function depth found.0 found.1 (result_stars found.0 found.1).0 name.0 its) _
-    (function_found depth found.0 found.1 (result_stars found.0 found.1).0 name.0 its ts (join r (join p.0 (trail s (silent q)))) w) (λ x z g y. (z, g, y)))
-    (objects_found depth found.0 ts found.1 (result_stars found.0 found.1).0 name.0 name.1 ts (join r (join p.0 s)) v)))
+    (function_found depth found.0 found.1 (result_stars found.0 found.1).0 name.0 its ts (join r (join p.0 (trail s (silent q)))) n w) (λ x z g y. (z, g, y)))
+    (objects_found depth found.0 ts found.1 (result_stars found.0 found.1).0 name.0 name.1 ts (join r (join p.0 s)) n v)))
 
 item_found_of : (depth : ℕ) (w : Word) (t : Lexeme) (ts : List Lexeme) → AreSound (t ∷ ts) → Found trees.items (t ∷ ts) (item_of depth w t ts)
 item_found_of depth (word.Include i) t ts h = (told t none, tt, h.1)
@@ -182,6 +184,10 @@ module _ (text : List ℕ) (tokens : List Lexeme) (all : List ItemTree) (bytes :
   -- The tree of a text stands in the order of the text.
   pub tree_in_order : IsInTextOrder all
   tree_in_order = in_order there.1 (tokens_ascend text tokens spelled)
+
+  -- It stands within the text.
+  pub tree_within : AreWithinText (spots_of_items all)
+  tree_within = some_within there.1 (tokens_within text tokens spelled)
 
   -- The tree of a text is as the grammar forms trees.
   pub tree_formed : AreItemsFormed all

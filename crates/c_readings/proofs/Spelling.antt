@@ -1,5 +1,5 @@
 -- The tokens of a text of bytes are sound.
-use Rattle.std.proofs.Common.{◌≡◌, ℕ, true, ◌&&◌, eqb, List, ◌++◌, get_or, length, Result, Ok, Err}
+use Rattle.std.proofs.Common.{◌≡◌, ℕ, true, ◌&&◌, nat_le, eqb, List, ◌++◌, get_or, length, Result, Ok, Err}
 use Rattle.std.specs.Prelude.{nat_lt}
 use Rattle.c_token.specs.declared.context.Context.{Context}
 use Rattle.c_token.specs.declared.fault.Fault.{Fault}
@@ -14,8 +14,10 @@ use Rattle.c_token.specs.Punctuators.{punctuator_at}
 use Rattle.c_token.specs.Spells.{SpellsFrom, nothing, piece}
 use Rattle.c_token.specs.Texts.{tokens_at}
 use Rattle.c_token.specs.Words.{word_in, word_at, keyword_of}
+use Rattle.c_laws.specs.Names.{is_identifier}
 use Rattle.c_laws.specs.Statics.{are_bytes}
 use Rattle.c_readings.specs.Tokens.{IsSound, AreSound}
+use Rattle.c_readings.proofs.Identifiers.{both_true, no_longer, word_identifies}
 use Rattle.c_readings.proofs.Bytes.{by_test, by_read, by_option, Reads, IsNumber, number_at, AreBytes, literal_there, character_there}
 
 -- what is read has the property
@@ -26,21 +28,21 @@ abbrev WordIsSound : Result Word Fault → Type 0
 WordIsSound (Ok w) = IsSound w
 WordIsSound (Err f) = Unit {0}
 
-in_sound : (at : ℕ) (s : List ℕ) → WordIsSound (word_in at s)
+in_sound : (at : ℕ) (s : List ℕ) → is_identifier s ≡ true → WordIsSound (word_in at s)
 unfolding word_in
-in_sound at s = by_option WordIsSound _ (keyword_of s) _ (λ k e. tt) (by_test WordIsSound (nat_lt 63 (length s)) _ _ (λ _. tt) (λ _. tt))
+in_sound at s h = by_option WordIsSound _ (keyword_of s) _ (λ k e. tt) (by_test WordIsSound (nat_lt 63 (length s)) _ _ (λ _. tt) (λ e. both_true (is_identifier s) (nat_le (length s) 63) h (no_longer (length s) e)))
 
 sound_there : (r : Result Word Fault) (w : Word) → WordIsSound r → r ≡ Ok w → IsSound w
 sound_there r w h e = rw e at h
 
-word_sound : (text : List ℕ) (at : ℕ) → Reads IsSound (word_at text at)
+word_sound : (text : List ℕ) (at : ℕ) → is_letter (get_or text at 0) ≡ true → Reads IsSound (word_at text at)
 unfolding word_at
-word_sound text at = by_read (Reads IsSound) (word_in at _) _ (λ e. tt) (λ w e. sound_there _ w (in_sound at _) e)
+word_sound text at h = by_read (Reads IsSound) (word_in at _) _ (λ e. tt) (λ w e. sound_there _ w (in_sound at _ (word_identifies text at h)) e)
 
 plain_sound : (text : List ℕ) (at : ℕ) → are_bytes text ≡ true → Reads IsSound (plain_token_at text at)
 unfolding plain_token_at
 plain_sound text at h =
-    by_test P (is_letter (get_or text at 0)) _ _ (λ _. word_sound text at)
+    by_test P (is_letter (get_or text at 0)) _ _ (λ e. word_sound text at e)
     (λ _. by_test P (begins_constant text at) _ _ (λ _. by_read P (constant_at text at) _ (λ e. tt) (λ x e. there IsNumber _ x (number_at text at) e))
     (λ _. by_test P (eqb (get_or text at 0) 39) _ _ (λ _. by_read P (character_at text at) _ (λ e. tt) (λ x e. there IsNumber _ x (character_there text at h) e))
     (λ _. by_test P (eqb (get_or text at 0) 34) _ _ (λ _. by_read P (literal_at text at) _ (λ e. tt) (λ x e. there AreBytes _ x (literal_there text at h) e))

@@ -7,16 +7,17 @@ use Rattle.c_tree.specs.Programs.{ProgramTree}
 use Rattle.c_grammar.specs.Reading.{tree_of}
 use Rattle.c_type.specs.Programs.{checked}
 use Rattle.c_texts.specs.Files.{AreItemsFormed}
-use Rattle.c_texts.specs.TextOrder.{IsInTextOrder}
+use Rattle.c_texts.specs.TextOrder.{spots_of_items, IsInTextOrder, AreWithinText}
 
 -- the check of the tree of a text's tokens gives a program
 abbrev pub IsAccepted : List ℕ → ProgramTree → Type 0
 IsAccepted text p = (tokens_of text >>= tree_of >>= checked) ≡ Ok p
 
--- A program is made of a tree that stands in the order of the text, and that is as the grammar forms trees.
+-- A program is made of a tree that stands within the text and in its order, and that is as the grammar forms trees.
 pub record HasTree (text : List ℕ) (p : ProgramTree) : Type 0 where
   pub items : List ItemTree
   pub read : (tokens_of text >>= tree_of) ≡ Ok items
   pub checks : checked items ≡ Ok p
   pub in_order : IsInTextOrder items
+  pub within : AreWithinText (spots_of_items items)
   pub formed : AreItemsFormed items

@@ -8,9 +8,10 @@ use Rattle.c_tree.specs.Statements.{StartTree, StatementTree, BlockTree, BranchT
 use Rattle.c_tree.specs.Statements as statement
 use Rattle.c_tree.specs.Trees.{FunctionTree, ItemTree, Defines}
 use Rattle.c_parse_clauses.specs.Clauses.{HeaderTree}
+use Rattle.c_laws.specs.Names.{is_name}
 use Rattle.c_texts.specs.Constants.{HasNumbers, HaveNumbers}
 use Rattle.c_texts.specs.Formed.{HasNumbersIfAny, IsSizeFormed, IsInitializerFormed, AreInitializersFormed, IsInitialFormed, IsDeclaratorFormed, AreDeclaratorsFormed, IsStartFormed, is_no_declaration, declare_nothing, IsFormed, AreFormed}
-use Rattle.c_texts.specs.Files.{AreSizesFormed, IsBodyFormed, IsItemFormed}
+use Rattle.c_texts.specs.Files.{AreSizesFormed, IsNameFormed, AreNamesFormed, IsBodyFormed, IsItemFormed}
 use Rattle.c_texts.specs.TextOrder.{spots_of, spots_of_all, spots_if_any, spots_of_brackets, spots_of_initializer, spots_of_initializers, spots_of_initial, spots_of_declarator, spots_of_declarators, spots_of_start, spots_of_statement, spots_of_statements, spots_of_name, spots_of_parameters, spots_of_body, spots_of_item}
 use Rattle.c_readings.specs.Standing.{Shape}
 
@@ -41,7 +42,7 @@ abbrev pub suffix_shape : Shape SuffixTree
 suffix_shape = record { spots = spots_of_suffix; formed = IsSuffixFormed }
 
 abbrev pub names : Shape NameTree
-names = record { spots = λ n. n.spot ∷ []; formed = λ n. Unit {0} }
+names = record { spots = λ n. n.spot ∷ []; formed = λ n. is_name n.name ≡ true }
 
 abbrev pub sizes : Shape BracketsTree
 sizes = record { spots = spots_of_brackets; formed = IsSizeFormed }
@@ -102,13 +103,13 @@ abbrev pub branches : Shape BranchTree
 branches = record { spots = λ b. b.spot ∷ spots_of b.condition ++ spots_of_statement b.then; formed = λ b. HasNumbers b.condition × IsFormed b.then × (is_no_declaration b.then ≡ true) }
 
 abbrev pub optional_names : Shape (Option NameTree)
-optional_names = record { spots = spots_of_name; formed = λ n. Unit {0} }
+optional_names = record { spots = spots_of_name; formed = IsNameFormed }
 
 abbrev pub parameters : Shape ParameterTree
-parameters = record { spots = λ d. spots_of_name d.name ++ spots_of_brackets d.brackets; formed = λ d. IsSizeFormed d.brackets }
+parameters = record { spots = λ d. spots_of_name d.name ++ spots_of_brackets d.brackets; formed = λ d. IsSizeFormed d.brackets × IsNameFormed d.name }
 
 abbrev pub parameter_lists : Shape (List ParameterTree)
-parameter_lists = record { spots = spots_of_parameters; formed = AreSizesFormed }
+parameter_lists = record { spots = spots_of_parameters; formed = λ all. AreSizesFormed all × AreNamesFormed all }
 
 abbrev pub bodies : List ParameterTree → Shape (Option BlockTree)
 bodies ps = record { spots = spots_of_body; formed = IsBodyFormed ps }

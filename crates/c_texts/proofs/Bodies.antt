@@ -6,6 +6,7 @@ use Rattle.std.proofs.lemmas.Bool.{eq-eqb}
 use Rattle.c_tree.specs.declared.object_type.ObjectType.TheVariants as object_type
 use Rattle.c_tree.specs.declared.object_type.Object.TheVariants as object
 use Rattle.c_tree.specs.declared.typed_expression.Callee.{Callee}
+use Rattle.c_tree.specs.Expressions.{NameTree}
 use Rattle.c_tree.specs.Declarations.{ParameterTree}
 use Rattle.c_tree.specs.Statements.{BlockTree, chain}
 use Rattle.c_tree.specs.Trees.{FunctionTree}
@@ -21,11 +22,12 @@ use Rattle.c_type_statements.specs.Statements.{statements_met}
 use Rattle.c_type.specs.Functions.{parameter_type, parameter_named, parameter_met, parameters_met, function_made, setting_of, body_met}
 use Rattle.c_law_types.specs.Statements.{are_statements}
 use Rattle.c_laws.specs.Declarations.{declared_in_all}
+use Rattle.c_laws.specs.Names.{is_name}
 use Rattle.c_laws.specs.Orders.{is_numbered}
 use Rattle.c_laws.specs.Laws.{declares_its_own}
 use Rattle.c_texts.specs.Findings.{Begins}
 use Rattle.c_texts.specs.Formed.{AreFormed}
-use Rattle.c_texts.specs.Files.{has_name, HaveNames, Defined}
+use Rattle.c_texts.specs.Files.{has_name, HaveNames, IsNameFormed, AreNamesFormed, Defined}
 use Rattle.c_texts.specs.Storage.{AreStored}
 use Rattle.c_texts.specs.Progress.{AreScopesKnown, Stands, Inside, Comes, Ensures}
 use Rattle.c_texts.specs.Stating.{StatesAll}
@@ -35,16 +37,16 @@ use Rattle.c_texts.proofs.Declaring.{declares_comes, declares_count}
 use Rattle.c_texts.proofs.Statements.{all_states}
 
 -- parameters, one behind the other, as a function's first variables
-pub parameter_comes : (p : ProgramTree) (f : TypedFunctionTree) (d : ParameterTree) (q : ProgressTree) → Comes p f f.first_variable q (parameter_met d q)
-parameter_comes p f d q = by d.name
+pub parameter_comes : (p : ProgramTree) (f : TypedFunctionTree) (d : ParameterTree) (q : ProgressTree) → IsNameFormed d.name → Comes p f f.first_variable q (parameter_met d q)
+parameter_comes p f d q h = by d.name h
   where
-    by : (n : Option _) → Comes p f f.first_variable q (option_map_or (λ n. parameter_named d.extent (parameter_type d) n q) n q)
-    by (Some n) = declares_comes p f f.first_variable (omega arith) d.extent n (object_type.Scalar (parameter_type d)) q refl
-    by None = comes_itself p f f.first_variable q
+    by : (n : Option NameTree) → IsNameFormed n → Comes p f f.first_variable q (option_map_or (λ n. parameter_named d.extent (parameter_type d) n q) n q)
+    by (Some n) name = declares_comes p f f.first_variable (omega arith) d.extent n (object_type.Scalar (parameter_type d)) q refl (both (is_name n.name) true name refl)
+    by None name = comes_itself p f f.first_variable q
 
-pub parameters_come : (p : ProgramTree) (f : TypedFunctionTree) (ds : List ParameterTree) (q : ProgressTree) → Comes p f f.first_variable q (parameters_met ds q)
-parameters_come p f [] q = comes_itself p f f.first_variable q
-parameters_come p f (d ∷ ds) q = comes_on p f (parameter_comes p f d q) (parameters_come p f ds (parameter_met d q))
+pub parameters_come : (p : ProgramTree) (f : TypedFunctionTree) (ds : List ParameterTree) (q : ProgressTree) → AreNamesFormed ds → Comes p f f.first_variable q (parameters_met ds q)
+parameters_come p f [] q h = comes_itself p f f.first_variable q
+parameters_come p f (d ∷ ds) q h = comes_on p f (parameter_comes p f d q h.0) (parameters_come p f ds (parameter_met d q) h.1)
 
 -- each parameter with a name is a variable
 pub parameter_counts : (p : ProgramTree) (f : TypedFunctionTree) (d : ParameterTree) (q : ProgressTree) → has_name d → length (parameter_met d q).automatics ≡ length q.automatics + 1
@@ -70,10 +72,10 @@ module _ (p : ProgramTree) (f : FunctionTree) (g : SignatureTree) (b : BlockTree
   made ts t =
       record { name = f.name.name; spot = f.name.spot; result = g.result; first_variable = length q.automatics; parameters = length f.parameters; variables = length t.automatics - length q.automatics; body = ts; close = b.closing; weight = capped (definition_weight f.parameters b) }
 
-  block_defines : (ts : TypedStatementTrees) (t : ProgressTree) → HaveNames f.parameters → StatesAll p (made ts t) (setting_of g) begun ts t → Defined p q (made ts t ∷ []) (closed t)
-  block_defines ts t named states =
+  block_defines : (ts : TypedStatementTrees) (t : ProgressTree) → HaveNames f.parameters → AreNamesFormed f.parameters → StatesAll p (made ts t) (setting_of g) begun ts t → Defined p q (made ts t ∷ []) (closed t)
+  block_defines ts t named names states =
       let fun = made ts t in
-      let come = parameters_come p fun f.parameters (opened q) in
+      let come = parameters_come p fun f.parameters (opened q) names in
       let a = advances_on come.advances states.comes.advances in
       let n = states.numbers in
       let first = parameters_count p fun f.parameters (opened q) named in
@@ -107,9 +109,9 @@ module _ (p : ProgramTree) (f : FunctionTree) (g : SignatureTree) (b : BlockTree
       }
 
   -- a function's block defines it
-  pub body_defines : HaveNames f.parameters → AreFormed (chain b.statements) → Ensures (Defined p q) (body_met f g b q)
+  pub body_defines : HaveNames f.parameters → AreNamesFormed f.parameters → AreFormed (chain b.statements) → Ensures (Defined p q) (body_met f g b q)
   unfolding next_met
-  body_defines named formed = by (statements_met (setting_of g) (chain b.statements) begun) (λ fun e. all_states p fun (setting_of g) (chain b.statements) begun formed e)
+  body_defines named names formed = by (statements_met (setting_of g) (chain b.statements) begun) (λ fun e. all_states p fun (setting_of g) (chain b.statements) begun formed e)
     where
       by : (m : Met TypedStatementTrees) → ((fun : TypedFunctionTree) → g.result ≡ fun.result → Ensures (StatesAll p fun (setting_of g) begun) m) → Ensures (Defined p q) (next_met m (function_made f g b (length q.automatics)))
-      by (means ts t) h = block_defines ts t named (h (made ts t) refl)
+      by (means ts t) h = block_defines ts t named names (h (made ts t) refl)

@@ -25,6 +25,7 @@ use Rattle.c_law_types.specs.Kinds.{automatic_is, is_variable}
 use Rattle.c_law_types.specs.Statements.{same_spot, initialises, declares_as, is_declared, are_declared}
 use Rattle.c_laws.specs.Declarations.{declared_by}
 use Rattle.c_type_rules.specs.Types.{same_object}
+use Rattle.c_laws.specs.Names.{is_name, has_few_elements, is_named, automatics_named}
 use Rattle.c_laws.specs.Objects.{is_kept_array, arrays_are_kept}
 use Rattle.c_texts.specs.Values.{has_elements}
 use Rattle.c_texts.specs.Formed.{IsDeclaratorFormed, AreDeclaratorsFormed}
@@ -56,6 +57,10 @@ kept_array (object.Array e n) h = rw h refl
 arrays_push : (xs : List AutomaticTree) (a : AutomaticTree) → arrays_are_kept xs ≡ true → is_kept_array a.in_memory a.of ≡ true → arrays_are_kept (xs ++ a ∷ []) ≡ true
 arrays_push [] a h g = rw g refl
 arrays_push (x ∷ xs) a h g = let c = two_true (is_kept_array x.in_memory x.of) (arrays_are_kept xs) h in both (is_kept_array x.in_memory x.of) (arrays_are_kept (xs ++ a ∷ [])) c.0 (arrays_push xs a c.1 g)
+
+named_push : (xs : List AutomaticTree) (a : AutomaticTree) → automatics_named xs ≡ true → is_named a.name a.of ≡ true → automatics_named (xs ++ a ∷ []) ≡ true
+named_push [] a h g = both (is_named a.name a.of) true g refl
+named_push (x ∷ xs) a h g = let c = two_true (is_named x.name x.of) (automatics_named xs) h in both (is_named x.name x.of) (automatics_named (xs ++ a ∷ [])) c.0 (named_push xs a c.1 g)
 
 pub breaks_if_same : {A : Type 0} (o : Option A) (code : Code) (extent : Extent) (q : ProgressTree) → (breaks_if o code extent q).automatics ≡ q.automatics
 breaks_if_same (Some a) code extent q = refl
@@ -89,8 +94,8 @@ module _ (p : ProgramTree) (f : TypedFunctionTree) where
 
   module _ (low : ℕ) (first : f.first_variable ≤ low) where
     -- one more variable, by its name
-    pub new_comes : (n : NameTree) (of : ObjectType) (x : ℕ) (r : ProgressTree) → x ≡ length r.automatics → has_elements of ≡ true → Comes p f low r (with_automatic n of (with_name n.name (Variable (designator.Automatic x) of) r))
-    new_comes n of x r e h =
+    pub new_comes : (n : NameTree) (of : ObjectType) (x : ℕ) (r : ProgressTree) → x ≡ length r.automatics → has_elements of ≡ true → is_named n.name of ≡ true → Comes p f low r (with_automatic n of (with_name n.name (Variable (designator.Automatic x) of) r))
+    new_comes n of x r e h name =
         record {
           advances = record {
             found = grows_itself r.found;
@@ -99,7 +104,7 @@ module _ (p : ProgramTree) (f : TypedFunctionTree) where
             statics = refl;
             signatures = refl;
             scopes = declared_outer n.name (Variable (designator.Automatic x) of) r.names;
-            kept = λ k. arrays_push r.automatics (new_variable n of) k (kept_array of h);
+            kept = λ k. (arrays_push r.automatics (new_variable n of) k.0 (kept_array of h), named_push r.automatics (new_variable n of) k.1 name);
             ended = λ k. k;
           };
           inside = λ i s.
@@ -112,11 +117,11 @@ module _ (p : ProgramTree) (f : TypedFunctionTree) where
         }
 
     -- one more variable, of a construct that may declare a name again
-    pub declares_comes : (extent : Extent) (n : NameTree) (of : ObjectType) (q : ProgressTree) → has_elements of ≡ true
+    pub declares_comes : (extent : Extent) (n : NameTree) (of : ObjectType) (q : ProgressTree) → has_elements of ≡ true → is_named n.name of ≡ true
         → Comes p f low q (with_automatic n of (declares extent n.name (Variable (designator.Automatic (length q.automatics)) of) q))
-    declares_comes extent n of q h =
+    declares_comes extent n of q h name =
         comes_on p f (breaks_if_comes p f low (declared_here q.names n.name) REDECLARED extent q)
-        (new_comes n of (length q.automatics) (breaks_if (declared_here q.names n.name) REDECLARED extent q) (ap length (sym (breaks_if_same (declared_here q.names n.name) REDECLARED extent q))) h)
+        (new_comes n of (length q.automatics) (breaks_if (declared_here q.names n.name) REDECLARED extent q) (ap length (sym (breaks_if_same (declared_here q.names n.name) REDECLARED extent q))) h name)
 
     pub declares_count : (extent : Extent) (n : NameTree) (of : ObjectType) (m : Meaning) (q : ProgressTree) → length (with_automatic n of (declares extent n.name m q)).automatics ≡ length q.automatics + 1
     declares_count extent n of m q =
@@ -147,13 +152,13 @@ module _ (p : ProgramTree) (f : TypedFunctionTree) where
       (ap (declares_as p f d) c.is
       ∙ both (same_spot n.spot c.variable.spot) (initialises p f c.variable.of i) (ap (same_spot n.spot) c.spot_is ∙ spot_itself n.spot) (ap (λ t. initialises p f t i) c.of_is ∙ h))
 
-  of_type_declares : (d : DeclaratorTree) (q : ProgressTree) (of : ObjectType) (t : ProgressTree) → IsDeclaratorFormed d → Looks p f low q t → has_elements of ≡ true → Ensures (DeclaresOne q) (automatic_of_type d of t)
-  of_type_declares d q of t formed l h =
+  of_type_declares : (d : DeclaratorTree) (q : ProgressTree) (of : ObjectType) (t : ProgressTree) → IsDeclaratorFormed d → Looks p f low q t → has_elements of ≡ true → has_few_elements of ≡ true → Ensures (DeclaresOne q) (automatic_of_type d of t)
+  of_type_declares d q of t formed l h few =
       let x = length t.automatics in
       let m = Variable (designator.Automatic x) of in
       let r = with_automatic d.name of (declares d.extent d.name.name m t) in
       let s = breaks_if (declared_here t.names d.name.name) REDECLARED d.extent t in
-      let here = declares_comes p f low first_low d.extent d.name of t h in
+      let here = declares_comes p f low first_low d.extent d.name of t h (both (is_name d.name.name) (has_few_elements of) formed.2 few) in
       let at : x ≡ length s.automatics = ap length (sym (breaks_if_same (declared_here t.names d.name.name) REDECLARED d.extent t)) in
       next_ensures (Makes p f low (λ (w : InitialTree). initialises p f of w ≡ true) r) (DeclaresOne q) (initial_met of d.extent d.initializer r) _ (initial_makes p f low of d.extent d.initializer r formed.1)
       (λ i u made.
@@ -168,7 +173,7 @@ module _ (p : ProgramTree) (f : TypedFunctionTree) where
 
   one_declares : (t : IntegerType) (d : DeclaratorTree) (q : ProgressTree) → IsDeclaratorFormed d → Ensures (DeclaresOne q) (automatic_met t d q)
   one_declares t d q h =
-      next_ensures (Types p f low q) (DeclaresOne q) (type_met (record { base = t; stars = d.stars }) d q) _ (type_elements p f low (record { base = t; stars = d.stars }) d q h.0) (λ of u c. of_type_declares d q of u h c.0 c.1)
+      next_ensures (Types p f low q) (DeclaresOne q) (type_met (record { base = t; stars = d.stars }) d q) _ (type_elements p f low (record { base = t; stars = d.stars }) d q h.0) (λ of u c. of_type_declares d q of u h c.0 c.1 c.2)
 
   pub many_declare : (t : IntegerType) (ds : List DeclaratorTree) (q : ProgressTree) → AreDeclaratorsFormed ds → Ensures (DeclaresMany q) (automatics_met t ds q)
   many_declare t [] q h = record { comes = comes_itself p f low q; numbers = nothing_numbered q q (declared_by []) refl (λ vs. refl); holds = λ i e. refl }

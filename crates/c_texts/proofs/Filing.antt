@@ -24,6 +24,7 @@ use Rattle.c_type_declarations.specs.Progress.{ProgressTree, Met, means, reached
 use Rattle.c_type_declarations.specs.Objects.{count, type_met}
 use Rattle.c_type_declarations.specs.Statics.{Contents, contents_met}
 use Rattle.c_type_declarations.specs.Declarations.{with_static, static_of_type, static_met, statics_met}
+use Rattle.c_laws.specs.Names.{is_name, has_few_elements, is_named}
 use Rattle.c_texts.specs.Values.{has_elements}
 use Rattle.c_texts.specs.Formed.{IsInitialFormed, IsDeclaratorFormed, AreDeclaratorsFormed}
 use Rattle.c_texts.specs.Findings.{Begins}
@@ -32,7 +33,7 @@ use Rattle.c_texts.specs.Files.{Extends, Reaches, IsFileKnown, Passes}
 use Rattle.c_texts.specs.Known.{IsKnown}
 use Rattle.c_texts.specs.Progress.{Stands, Advances, IsScopeKnown, AreScopesKnown, Ensures}
 use Rattle.c_texts.specs.Making.{Looks, Makes}
-use Rattle.c_texts.proofs.Same.{object_itself}
+use Rattle.c_texts.proofs.Same.{both, object_itself}
 use Rattle.c_texts.proofs.Growing.{begins_itself, begins_on, grows_itself, grows_on, grows_fault, accepts_before}
 use Rattle.c_texts.proofs.Judging.{at_end}
 use Rattle.c_texts.proofs.Coming.{slice_more, known_push, known_take, known_at, declared_known}
@@ -119,10 +120,10 @@ module _ (p : ProgramTree) where
   any_function spot count = record { name = []; spot = spot; result = Void; first_variable = 0; parameters = 0; variables = count; body = typed-tree.none; close = spot; weight = 0 }
 
   -- a static variable
-  static_passes : (n : NameTree) (of : ObjectType) (q r u : ProgressTree) (c : Contents) → has_elements of ≡ true → Passes p q r → r.names ≡ q.names → r.statics ≡ q.statics → Passes p (with_name n.name (Variable (designator.Static (length q.statics)) of) r) u
+  static_passes : (n : NameTree) (of : ObjectType) (q r u : ProgressTree) (c : Contents) → has_elements of ≡ true → is_named n.name of ≡ true → Passes p q r → r.names ≡ q.names → r.statics ≡ q.statics → Passes p (with_name n.name (Variable (designator.Static (length q.statics)) of) r) u
       → u.names ≡ (with_name n.name (Variable (designator.Static (length q.statics)) of) r).names → u.statics ≡ q.statics
       → (((f : TypedFunctionTree) → AreScopesKnown p f (with_name n.name (Variable (designator.Static (length q.statics)) of) r).names.scopes) → Reaches p (with_static n of c u) → Fits p of c) → Passes p q (with_static n of c u)
-  static_passes n of q r u c elements before names same behind later stays fits =
+  static_passes n of q r u c elements name before names same behind later stays fits =
       let v : StaticTree = record { name = n.name; spot = n.spot; of = of; bytes = c.bytes; relocations = c.relocations } in
       let one = before.extends in
       let two = behind.extends in
@@ -142,7 +143,7 @@ module _ (p : ProgramTree) where
         };
         known = λ k b f. subst (λ (m : Names). AreScopesKnown p f m.scopes) (sym later) (here k b f);
         same = behind.same ∙ before.same;
-        stored = λ k e s. subst (λ all. AreStored p (all ++ v ∷ [])) (sym stays) (stored_on p q.statics v c s refl refl (fits (here k e.statics) e));
+        stored = λ k e s. subst (λ all. AreStored p (all ++ v ∷ [])) (sym stays) (stored_on p q.statics v c s refl refl (fits (here k e.statics) e) name elements);
       }
 
   breaks_if_names : {A : Type 0} (o : Option A) (code : Code) (extent : Extent) (q : ProgressTree) → (breaks_if o code extent q).names ≡ q.names
@@ -153,9 +154,9 @@ module _ (p : ProgramTree) where
   breaks_if_statics (Some a) code extent q = refl
   breaks_if_statics None code extent q = refl
 
-  of_type_passes : (d : DeclaratorTree) (of : ObjectType) (q : ProgressTree) → IsInitialFormed d.initializer → has_elements of ≡ true → Passes p q (static_of_type d of q)
+  of_type_passes : (d : DeclaratorTree) (of : ObjectType) (q : ProgressTree) → IsInitialFormed d.initializer → has_elements of ≡ true → is_named d.name.name of ≡ true → Passes p q (static_of_type d of q)
   unfolding reached_by
-  of_type_passes d of q h elements = by (contents_met of d.extent d.initializer s) (contents_make p fun 0 of d.extent d.initializer s h)
+  of_type_passes d of q h elements name = by (contents_met of d.extent d.initializer s) (contents_make p fun 0 of d.extent d.initializer s h)
     where
       fun : TypedFunctionTree
       fun = any_function d.name.spot (length q.automatics)
@@ -168,7 +169,7 @@ module _ (p : ProgramTree) where
 
       by : (m : Met Contents) → Ensures (Makes p fun 0 (Fits p of) s) m → Passes p q (reached_by m (with_static d.name of))
       by (means c u) l =
-          static_passes d.name of q r u c elements (breaks_if_passes (declared_here q.names d.name.name) REDECLARED d.extent q) (breaks_if_names (declared_here q.names d.name.name) REDECLARED d.extent q)
+          static_passes d.name of q r u c elements name (breaks_if_passes (declared_here q.names d.name.name) REDECLARED d.extent q) (breaks_if_names (declared_here q.names d.name.name) REDECLARED d.extent q)
           (breaks_if_statics (declared_here q.names d.name.name) REDECLARED d.extent q) (looks_passes l.looks) l.looks.names (l.looks.comes.advances.statics ∙ breaks_if_statics (declared_here q.names d.name.name) REDECLARED d.extent q)
           (λ scopes e.
           let same : u.automatics ≡ q.automatics = l.looks.same ∙ (breaks_if_passes (declared_here q.names d.name.name) REDECLARED d.extent q).same in
@@ -181,7 +182,7 @@ module _ (p : ProgramTree) where
   one_passes t d q h = by (type_met (record { base = t; stars = d.stars }) d q) (type_elements p (any_function d.name.spot 0) 0 (record { base = t; stars = d.stars }) d q h.0)
     where
       by : (m : Met ObjectType) → Ensures (Types p (any_function d.name.spot 0) 0 q) m → Passes p q (reached_by m (static_of_type d))
-      by (means of u) l = passes_on (looks_passes l.0) (of_type_passes d of u h.1 l.1)
+      by (means of u) l = passes_on (looks_passes l.0) (of_type_passes d of u h.1 l.1 (both (is_name d.name.name) (has_few_elements of) h.2 l.2))
 
   pub statics_pass : (t : IntegerType) (ds : List DeclaratorTree) (q : ProgressTree) → AreDeclaratorsFormed ds → Passes p q (statics_met t ds q)
   statics_pass t [] q h = passes_itself q

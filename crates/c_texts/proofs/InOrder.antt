@@ -51,20 +51,20 @@ marked_there number (f ∷ fs) vs ws h = by (behind_function number f vs) refl h
     by (Err r) e h later = cc
 
 -- offsets and lines of mapped items
-offsets_of : {A : Type 0} (spot : A → Spot) (xs : List A) → map (λ (x : A). (spot x).at) xs ≡ map (λ (s : Spot). s.at) (map spot xs)
+pub offsets_of : {A : Type 0} (spot : A → Spot) (xs : List A) → map (λ (x : A). (spot x).at) xs ≡ map (λ (s : Spot). s.at) (map spot xs)
 offsets_of spot [] = refl
 offsets_of spot (x ∷ xs) = ap (λ z. (spot x).at ∷ z) (offsets_of spot xs)
 
-lines_of : {A : Type 0} (spot : A → Spot) (xs : List A) → map (λ (x : A). (spot x).line) xs ≡ map (λ (s : Spot). s.line) (map spot xs)
+pub lines_of : {A : Type 0} (spot : A → Spot) (xs : List A) → map (λ (x : A). (spot x).line) xs ≡ map (λ (s : Spot). s.line) (map spot xs)
 lines_of spot [] = refl
 lines_of spot (x ∷ xs) = ap (λ z. (spot x).line ∷ z) (lines_of spot xs)
 
 -- where a place stands
-abbrev place_spot : Place → Spot
+abbrev pub place_spot : Place → Spot
 place_spot q = q.spot
 
 -- names of static variables are names of declarators
-abbrev at_of : Spot → ℕ
+abbrev pub at_of : Spot → ℕ
 at_of s = s.at
 
 names_part : (ds : List DeclaratorTree) → (some : List Spot) × (name_spots ds ≡ map at_of some) × IsPart some (spots_of_declarators ds)
@@ -86,7 +86,7 @@ item_part (Include spot h) = ([], refl, part_none (spot ∷ []))
 item_part (Declares d) = names_part d.declarators
 item_part (Defines f) = ([], refl, part_none (spots_of_item (Defines f)))
 
-items_part : (items : List ItemTree) → (some : List Spot) × (static_names items ≡ map at_of some) × IsPart some (spots_of_items items)
+pub items_part : (items : List ItemTree) → (some : List Spot) × (static_names items ≡ map at_of some) × IsPart some (spots_of_items items)
 items_part [] = ([], refl, refl)
 items_part (i ∷ items) =
     let one = item_part i in

@@ -25,11 +25,10 @@ use Rattle.c_type.specs.Functions.{parameter_size, parameter_sizes, parameters_m
 use Rattle.c_type.specs.Items.{item_met, items_met, beginning, source_met}
 use Rattle.c_law_types.specs.Statements.{are_statements}
 use Rattle.c_laws.specs.Laws.{declares_its_own, follow}
-use Rattle.c_laws.specs.Objects.{arrays_are_kept}
 use Rattle.c_texts.specs.Formed.{IsSizeFormed}
-use Rattle.c_texts.specs.Files.{AreSizesFormed, IsBodyFormed, IsItemFormed, AreItemsFormed, IsFileKnown, Passes, are_typed, Defined}
+use Rattle.c_texts.specs.Files.{AreSizesFormed, AreNamesFormed, IsBodyFormed, IsItemFormed, AreItemsFormed, IsFileKnown, Passes, are_typed, Defined}
 use Rattle.c_texts.specs.Storage.{AreStored}
-use Rattle.c_texts.specs.Progress.{AreScopesKnown, Ensures}
+use Rattle.c_texts.specs.Progress.{AreKept, AreScopesKnown, Ensures}
 use Rattle.c_texts.proofs.Same.{two_true, both}
 use Rattle.c_texts.proofs.Growing.{begins_itself, begins_on, take_beginning, grows_itself}
 use Rattle.c_texts.proofs.Coming.{closed_scopes}
@@ -158,10 +157,10 @@ module _ (p : ProgramTree) where
   sizes_pass (d ∷ ds) q h = passes_on p (size_passes d.extent d.brackets q h.0) (sizes_pass ds (parameter_size d.extent d.brackets q) h.1)
 
   -- a function that is only declared
-  only_passes : (f : FunctionTree) (q : ProgressTree) → Passes p q (without_new (length q.automatics) (closed (parameters_met f.parameters (opened q))))
-  only_passes f q =
+  only_passes : (f : FunctionTree) (q : ProgressTree) → AreNamesFormed f.parameters → Passes p q (without_new (length q.automatics) (closed (parameters_met f.parameters (opened q))))
+  only_passes f q names =
       let t = parameters_met f.parameters (opened q) in
-      let a = (parameters_come p (any_function f.name.spot) f.parameters (opened q)).advances in
+      let a = (parameters_come p (any_function f.name.spot) f.parameters (opened q) names).advances in
       let same : take (length q.automatics) t.automatics ≡ q.automatics = ap (take (length q.automatics)) a.automatics.1 ∙ take_beginning q.automatics a.automatics.0 in
       record {
         extends = record {
@@ -170,7 +169,7 @@ module _ (p : ProgramTree) where
           array_literals = a.array_literals;
           statics = begins_same a.statics;
           signatures = begins_same a.signatures;
-          kept = λ h. ap arrays_are_kept same ∙ h;
+          kept = λ h. subst AreKept (sym same) h;
           ended = a.ended;
         };
         known = λ k b one. subst (AreScopesKnown p one) (sym (closed_scopes q t a)) (k one);
@@ -180,8 +179,8 @@ module _ (p : ProgramTree) where
 
   -- a function
   pub rest_defined : (f : FunctionTree) (g : SignatureTree) (b : Option BlockTree) (q : ProgressTree) → IsBodyFormed f.parameters b → Ensures (Defined p q) (rest_met f g b q)
-  rest_defined f g (Some b) q h = body_defines p f g b q h.0 h.1
-  rest_defined f g None q h = passes_defined q (without_new (length q.automatics) (closed (parameters_met f.parameters (opened q)))) (only_passes f q)
+  rest_defined f g (Some b) q h = body_defines p f g b q h.0 h.2 h.1
+  rest_defined f g None q h = passes_defined q (without_new (length q.automatics) (closed (parameters_met f.parameters (opened q)))) (only_passes f q h)
 
   ensures_behind : (q r : ProgressTree) (m : Met (List TypedFunctionTree)) → Passes p q r → Ensures (Defined p r) m → Ensures (Defined p q) m
   ensures_behind q r (means fs t) h d = behind_passes q r fs t h d

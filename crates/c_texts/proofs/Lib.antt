@@ -52,4 +52,6 @@ pub mod CoveringItems
 pub mod InOrder
 pub mod Fitting32
 pub mod WholePrograms
+pub mod Naming
+pub mod Within
 pub mod Texts

@@ -106,7 +106,7 @@ module _ (p : ProgramTree) where
     unfolding next_met
     rest_links f None q formed l =
         let t = parameters_met f.parameters (opened q) in
-        let a = (parameters_come p (any_function f.name.spot) f.parameters (opened q)).advances in
+        let a = (parameters_come p (any_function f.name.spot) f.parameters (opened q) formed).advances in
         links_same q (without_new (length q.automatics) (closed t)) (closed_scopes q t a) a.signatures l
     rest_links f (Some b) q formed l = by (statements_met (setting_of (signature_of names f)) (chain b.statements) begun) (λ fun e. all_states p fun (setting_of (signature_of names f)) (chain b.statements) begun formed.1 e)
       where
@@ -119,7 +119,7 @@ module _ (p : ProgramTree) where
         by : (m : Met TypedStatementTrees) → ((fun : TypedFunctionTree) → result_type f.base f.stars ≡ fun.result → Ensures (StatesAll p fun (setting_of (signature_of names f)) begun) m)
             → Ensures (λ (fs : List TypedFunctionTree) t. Links names done t) (next_met m (function_made f (signature_of names f) b (length q.automatics)))
         by (means ts t) h =
-            let a = advances_on (parameters_come p any f.parameters (opened q)).advances (h any refl).comes.advances in
+            let a = advances_on (parameters_come p any f.parameters (opened q) formed.2).advances (h any refl).comes.advances in
             links_same q (closed t) (closed_scopes q t a) a.signatures l
 
   -- items

@@ -10,6 +10,7 @@ use Rattle.c_tree.specs.Programs.{AutomaticTree, TypedFunctionTree}
 use Rattle.c_facts.specs.Memory.{kept_by_all}
 use Rattle.c_type_bounds.specs.Bounds.{kept, kept_all, memory_room, variables_of, with_kept, or_breach, behind_function, behind_functions}
 use Rattle.c_laws.specs.Laws.{is_in_memory, are_in_memory}
+use Rattle.c_laws.specs.Names.{is_named, automatics_named}
 use Rattle.c_laws.specs.Objects.{is_kept_array, arrays_are_kept}
 use Rattle.c_texts.proofs.Same.{two_true, both}
 
@@ -24,9 +25,10 @@ pub record Marks (vs ws : List AutomaticTree) : Type 0 where
   pub count : length ws ≡ length vs
   pub each : (x : ℕ) (a : AutomaticTree) → slice_get vs x ≡ Some a → (b : AutomaticTree) × (slice_get ws x ≡ Some b) × MarkedAs a b
   pub arrays : arrays_are_kept vs ≡ true → arrays_are_kept ws ≡ true
+  pub names : automatics_named vs ≡ true → automatics_named ws ≡ true
 
 pub marks_itself : (vs : List AutomaticTree) → Marks vs vs
-marks_itself vs = record { count = refl; each = λ x a h. (a, h, record { of = refl; spot = refl; in_memory = λ e. e }); arrays = λ h. h }
+marks_itself vs = record { count = refl; each = λ x a h. (a, h, record { of = refl; spot = refl; in_memory = λ e. e }); arrays = λ h. h; names = λ h. h }
 
 pub marks_on : {us vs ws : List AutomaticTree} → Marks us vs → Marks vs ws → Marks us ws
 marks_on g h =
@@ -37,6 +39,7 @@ marks_on g h =
           let c = h.each x b.0 b.1 in
           (c.0, c.1, record { of = c.2.of ∙ b.2.of; spot = c.2.spot ∙ b.2.spot; in_memory = λ m. c.2.in_memory (b.2.in_memory m) });
       arrays = λ e. h.arrays (g.arrays e);
+      names = λ e. h.names (g.names e);
     }
 
 kept_count : (k : ℕ) (vs : List AutomaticTree) → length (kept k vs) ≡ length vs
@@ -60,8 +63,13 @@ kept_arrays k [] h = refl
 kept_arrays zero (v ∷ vs) h = let c = two_true (is_kept_array v.in_memory v.of) (arrays_are_kept vs) h in both (is_kept_array true v.of) (arrays_are_kept vs) (more_kept v.in_memory v.of c.0) c.1
 kept_arrays (suc k) (v ∷ vs) h = let c = two_true (is_kept_array v.in_memory v.of) (arrays_are_kept vs) h in both (is_kept_array v.in_memory v.of) (arrays_are_kept (kept k vs)) c.0 (kept_arrays k vs c.1)
 
+kept_names : (k : ℕ) (vs : List AutomaticTree) → automatics_named vs ≡ true → automatics_named (kept k vs) ≡ true
+kept_names k [] h = refl
+kept_names zero (v ∷ vs) h = h
+kept_names (suc k) (v ∷ vs) h = let c = two_true (is_named v.name v.of) (automatics_named vs) h in both (is_named v.name v.of) (automatics_named (kept k vs)) c.0 (kept_names k vs c.1)
+
 pub kept_marks : (k : ℕ) (vs : List AutomaticTree) → Marks vs (kept k vs)
-kept_marks k vs = record { count = kept_count k vs; each = λ x a h. kept_each k vs x a h; arrays = λ h. kept_arrays k vs h }
+kept_marks k vs = record { count = kept_count k vs; each = λ x a h. kept_each k vs x a h; arrays = λ h. kept_arrays k vs h; names = λ h. kept_names k vs h }
 
 pub all_marks : (ks : List ℕ) (vs : List AutomaticTree) → Marks vs (kept_all ks vs)
 all_marks [] vs = marks_itself vs

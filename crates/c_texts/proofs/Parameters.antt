@@ -21,7 +21,7 @@ use Rattle.c_type.specs.Items.{item_met, items_met, beginning}
 use Rattle.c_law_types.specs.Kinds.{element_type, types_of}
 use Rattle.c_laws.specs.Parameters.{are_single, is_single, parameters_single}
 use Rattle.c_texts.specs.Findings.{Begins}
-use Rattle.c_texts.specs.Files.{has_name, HaveNames, IsBodyFormed, IsItemFormed, AreItemsFormed, Defined}
+use Rattle.c_texts.specs.Files.{has_name, HaveNames, AreNamesFormed, IsBodyFormed, IsItemFormed, AreItemsFormed, Defined}
 use Rattle.c_texts.specs.Progress.{Ensures}
 use Rattle.c_texts.specs.Stating.{StatesAll}
 use Rattle.c_texts.proofs.Same.{both}
@@ -68,14 +68,14 @@ parameter_there d q h =
     (named_there d h.0 q)
 
 module _ (p : ProgramTree) where
-  parameters_there : (f : TypedFunctionTree) (ds : List ParameterTree) (q : ProgressTree) → HaveNames ds → AreScalars (parameters_met ds q).automatics (length q.automatics) (parameter_types ds)
-  parameters_there f [] q h = tt
-  parameters_there f (d ∷ ds) q h =
+  parameters_there : (f : TypedFunctionTree) (ds : List ParameterTree) (q : ProgressTree) → HaveNames ds → AreNamesFormed ds → AreScalars (parameters_met ds q).automatics (length q.automatics) (parameter_types ds)
+  parameters_there f [] q h g = tt
+  parameters_there f (d ∷ ds) q h g =
       let one = parameter_there d q h.0 in
-      let rest = (parameters_come p f ds (parameter_met d q)).advances.automatics in
+      let rest = (parameters_come p f ds (parameter_met d q) g.1).advances.automatics in
       let r = (parameter_met d q).automatics in (
         (one.0, ap (λ l. slice_get l (length q.automatics)) rest.1 ∙ slice_more r rest.0 (length q.automatics) one.0 one.1, one.2),
-        subst (λ k. AreScalars (parameters_met ds (parameter_met d q)).automatics k (parameter_types ds)) (parameter_counts p f d q h.0 ∙ add-one (length q.automatics)) (parameters_there f ds (parameter_met d q) h.1),
+        subst (λ k. AreScalars (parameters_met ds (parameter_met d q)).automatics k (parameter_types ds)) (parameter_counts p f d q h.0 ∙ add-one (length q.automatics)) (parameters_there f ds (parameter_met d q) h.1 g.1),
       )
 
 -- What a definition says of its function.
@@ -148,7 +148,7 @@ module _ (p : ProgramTree) where
           → Ensures (Fit (definition_of f ∷ [])) (next_met m (function_made f (signature_of names f) b (length q.automatics)))
       by (means ts t) h =
           let states = h (any ts t) refl in (
-            record { result = refl; count = types_length f.parameters; scalars = scalars_more begun.automatics t.automatics (length q.automatics) (parameter_types f.parameters) states.comes.advances.automatics (parameters_there p (any ts t) f.parameters (opened q) formed.0) },
+            record { result = refl; count = types_length f.parameters; scalars = scalars_more begun.automatics t.automatics (length q.automatics) (parameter_types f.parameters) states.comes.advances.automatics (parameters_there p (any ts t) f.parameters (opened q) formed.0 formed.2) },
             tt,
           )
 

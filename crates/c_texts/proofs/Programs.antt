@@ -14,6 +14,7 @@ use Rattle.c_type.specs.Faults.{earlier, first_behind, first_fault}
 use Rattle.c_type.specs.Programs.{Refusal, or_else, fault_refusal, undefined_refusal, main_definition, main_refusal, program_of, within_program_limits, within_function_limits, names_refusal, unless_refused, accepted, checked}
 use Rattle.c_type.specs.Items.{beginning, source_met}
 use Rattle.c_laws.specs.Laws.{follow}
+use Rattle.c_laws.specs.Names.{automatics_named}
 use Rattle.c_laws.specs.Objects.{are_ended, arrays_are_kept}
 use Rattle.c_laws.specs.Statics.{literals_sound}
 use Rattle.c_texts.specs.Storage.{AreStored}
@@ -130,7 +131,7 @@ module _ (items : List ItemTree) (p : ProgramTree) (a : Accepted items p) where
 
     -- Static objects keep the laws of static storage.
     pub statics_stored : AreLinked → AreStored p p.statics
-    statics_stored linked = subst (AreStored p) (sym (ap (λ z. z.statics) a.program)) (all_defined.defined.stored (beginning_known p) (reaches linked) (refl, refl))
+    statics_stored linked = subst (AreStored p) (sym (ap (λ z. z.statics) a.program)) (all_defined.defined.stored (beginning_known p) (reaches linked) (refl, refl, refl, refl))
 
     -- Their variables follow one another, and there are no others.
     pub functions_follow : follow 0 (length p.automatics) p.functions ≡ true
@@ -138,7 +139,11 @@ module _ (items : List ItemTree) (p : ProgramTree) (a : Accepted items p) where
 
     -- Arrays are in memory, and have elements.
     pub arrays_kept : arrays_are_kept p.automatics ≡ true
-    arrays_kept = ap arrays_are_kept variables_are ∙ marks.arrays (all_defined.defined.extends.kept refl)
+    arrays_kept = ap arrays_are_kept variables_are ∙ marks.arrays (all_defined.defined.extends.kept (refl, refl)).0
+
+    -- Automatic variables have names.
+    pub variables_named : automatics_named p.automatics ≡ true
+    variables_named = ap automatics_named variables_are ∙ marks.names (all_defined.defined.extends.kept (refl, refl)).1
 
     -- Literals have their final zeros.
     pub literals_ended : are_ended p.literals ≡ true

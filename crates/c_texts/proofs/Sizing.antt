@@ -17,6 +17,7 @@ use Rattle.c_type_values.specs.Values.{ValueTree}
 use Rattle.c_type_expressions.specs.Judgements.{count_of}
 use Rattle.c_type_declarations.specs.Progress.{ProgressTree, means, value_met, breaks}
 use Rattle.c_type_declarations.specs.Objects.{count, literal_for, initialized_count, implied_count, counted, count_or, sized_by, size_met, type_by, type_met}
+use Rattle.c_laws.specs.Names.{has_few_elements}
 use Rattle.c_texts.specs.Constants.{HasNumbers}
 use Rattle.c_texts.specs.Findings.{HoldsOf}
 use Rattle.c_texts.specs.Values.{has_elements, IsTyped}
@@ -45,35 +46,35 @@ implied_some s (Some i) = initialized_some (literal_for s i) i
 implied_some s None = refl
 
 module _ (p : ProgramTree) (f : TypedFunctionTree) (low : ℕ) where
-  -- a check comes to a number of elements
+  -- a check comes to a number of elements, which are one or more, and fewer than 2 ^ 32
   abbrev pub Counts : ProgressTree → ℕ → ProgressTree → Type 0
-  Counts q n t = Looks p f low q t × IsSome n
+  Counts q n t = Looks p f low q t × IsSome n × (nat_lt n (2 ^ 32) ≡ true)
 
   -- and to the type of an object
   abbrev pub Types : ProgressTree → ObjectType → ProgressTree → Type 0
-  Types q of t = Looks p f low q t × (has_elements of ≡ true)
+  Types q of t = Looks p f low q t × (has_elements of ≡ true) × (has_few_elements of ≡ true)
 
   counted_some : (n : ℕ) (extent : Extent) (q t : ProgressTree) → Looks p f low q t → IsSome n → Ensures (Counts q) (counted n extent t)
-  counted_some n extent q t l h = by (nat_lt n (2 ^ 32))
+  counted_some n extent q t l h = by (nat_lt n (2 ^ 32)) refl
     where
-      by : (b : Bool) → Ensures (Counts q) (if b then means n t else means 1 (breaks UNEXPECTED_KEYWORD extent t))
-      by true = (l, h)
-      by false = (looks_on p f low l (breaks_looks p f low UNEXPECTED_KEYWORD extent t), refl)
+      by : (b : Bool) → nat_lt n (2 ^ 32) ≡ b → Ensures (Counts q) (if b then means n t else means 1 (breaks UNEXPECTED_KEYWORD extent t))
+      by true e = (l, h, e)
+      by false e = (looks_on p f low l (breaks_looks p f low UNEXPECTED_KEYWORD extent t), refl, refl)
 
   or_some : (o : Option ℕ) (extent : Extent) (q t : ProgressTree) → Looks p f low q t → HoldsOf IsSome o → Ensures (Counts q) (count_or o extent t)
   or_some (Some n) extent q t l h = counted_some n extent q t l h
-  or_some None extent q t l h = (looks_on p f low l (breaks_looks p f low UNEXPECTED_KEYWORD extent t), refl)
+  or_some None extent q t l h = (looks_on p f low l (breaks_looks p f low UNEXPECTED_KEYWORD extent t), refl, refl)
 
   sized_some : (extent : Extent) (q : ProgressTree) (v : Option ValueTree) (t : ProgressTree) → Looks p f low q t → Ensures (Counts q) (sized_by extent v t)
   sized_some extent q (Some v) t l = or_some (count_of v.of v.constant) extent q t l (positive v.of v.constant)
-  sized_some extent q None t l = (l, refl)
+  sized_some extent q None t l = (l, refl, refl)
 
   pub size_some : (extent : Extent) (e : ExpressionTree) (q : ProgressTree) → HasNumbers e → Ensures (Counts q) (size_met extent e q)
   size_some extent e q numbers = next_ensures (MakesIfAny p f low (IsTyped p f) q) (Counts q) (value_met e q) _ (value_makes p f low e q numbers) (λ v t h. sized_some extent q v t h.looks)
 
   -- the type of a declared object
   type_by_elements : (b : BracketsTree) (s : Scalar) (extent : Extent) (i : Option InitializerTree) (q : ProgressTree) → IsSizeFormed b → Ensures (Types q) (type_by b s extent i q)
-  type_by_elements Absent s extent i q h = (looks_itself p f low q, refl)
+  type_by_elements Absent s extent i q h = (looks_itself p f low q, refl, refl)
   type_by_elements Empty s extent i q h = next_ensures (Counts q) (Types q) (counted (implied_count s i) extent q) _ (counted_some (implied_count s i) extent q q (looks_itself p f low q) (implied_some s i)) (λ n t c. c)
   type_by_elements (Sized e) s extent i q h = next_ensures (Counts q) (Types q) (size_met extent e q) _ (size_some extent e q h) (λ n t c. c)
 

@@ -170,8 +170,8 @@ module _ (p : ProgramTree) where
       begun = parameters_met f.parameters (opened q)
 
       by : (m : Met TypedStatementTrees) → Ensures (StatesAll p fun (setting_of g) begun) m → Ensures (Same q) (next_met m (function_made f g b (length q.automatics)))
-      by (means ts t) s = s.comes.advances.statics ∙ (parameters_come p fun f.parameters (opened q)).advances.statics
-  rest_statics f g None q h = (parameters_come p (any_function g.result f.name.spot) f.parameters (opened q)).advances.statics
+      by (means ts t) s = s.comes.advances.statics ∙ (parameters_come p fun f.parameters (opened q) h.2).advances.statics
+  rest_statics f g None q h = (parameters_come p (any_function g.result f.name.spot) f.parameters (opened q) h).advances.statics
 
   function_statics : (names : List (List ℕ)) (k : ℕ) (f : FunctionTree) (q : ProgressTree) → AreSizesFormed f.parameters → IsBodyFormed f.parameters f.body → Ensures (λ (fs : List TypedFunctionTree) t. Adds q [] t) (function_met names k f q)
   function_statics names k f q sizes formed =
@@ -234,6 +234,10 @@ module _ (items : List ItemTree) (p : ProgramTree) (a : Accepted items p) (forme
     where
       by : (m : Met (List TypedFunctionTree)) → m ≡ means a.functions a.progress → Ensures (λ (gs : List TypedFunctionTree) t. Adds beginning (static_names items) t) m → spots a.progress.statics ≡ static_names items
       by (means fs t) e h = let same : t ≡ a.progress = cc in ap (λ z. spots z.statics) (sym same) ∙ h
+
+  -- Static variables stand where the items declare them.
+  pub statics_there : map (λ (v : StaticTree). v.spot.at) p.statics ≡ static_names items
+  statics_there = ap (λ z. spots z.statics) a.program ∙ there
 
   -- Static variables ascend in the text.
   pub statics_ascend : AreStaticsInOrder items → ascends (map (λ (v : StaticTree). v.spot.at) p.statics) ≡ true

@@ -21,6 +21,7 @@ use Rattle.c_laws.specs.Orders.{ascends, ascends_behind}
 use Rattle.c_laws.specs.Objects.{element_of, is_address_if, holds_address, hold_addresses, are_zero, spots_of, is_static, are_static}
 use Rattle.c_laws.specs.Statics.{are_bytes, suits, all_suit, statics_sound}
 use Rattle.c_texts.specs.Addresses.{is_offset_if, is_address_of, is_nothing, is_constant_of}
+use Rattle.c_laws.specs.Names.{is_named, has_elements, statics_named, statics_have_elements}
 use Rattle.c_texts.specs.Storage.{are_before, Fills, Fits, AreStored}
 use Rattle.c_texts.proofs.Same.{two_true, both, all_three, all_four, scalar_is, scalar_itself}
 use Rattle.c_texts.proofs.Growing.{bytes_on}
@@ -223,8 +224,8 @@ module _ (p : ProgramTree) where
       }
 
   -- static objects with one more
-  pub stored_on : (all : List StaticTree) (v : StaticTree) (c : Contents) → AreStored p all → c.bytes ≡ v.bytes → c.relocations ≡ v.relocations → Fits p v.of c → AreStored p (all ++ v ∷ [])
-  stored_on all v c h e d f = (static_on all h.0, sound_on all h.1)
+  pub stored_on : (all : List StaticTree) (v : StaticTree) (c : Contents) → AreStored p all → c.bytes ≡ v.bytes → c.relocations ≡ v.relocations → Fits p v.of c → is_named v.name v.of ≡ true → has_elements v.of ≡ true → AreStored p (all ++ v ∷ [])
+  stored_on all v c h e d f name elements = (static_on all h.0, sound_on all h.1, named_on all h.2, elements_on all h.3)
     where
       one : is_static p v ≡ true
       one =
@@ -247,3 +248,11 @@ module _ (p : ProgramTree) where
       sound_on (x ∷ all) h =
           let a = two_true (are_bytes x.bytes && all_suit (element_of x.of) x.relocations) (statics_sound all) h in
           both (are_bytes x.bytes && all_suit (element_of x.of) x.relocations) (statics_sound (all ++ v ∷ [])) a.0 (sound_on all a.1)
+
+      named_on : (all : List StaticTree) → statics_named all ≡ true → statics_named (all ++ v ∷ []) ≡ true
+      named_on [] h = both (is_named v.name v.of) true name refl
+      named_on (x ∷ all) h = let c = two_true (is_named x.name x.of) (statics_named all) h in both (is_named x.name x.of) (statics_named (all ++ v ∷ [])) c.0 (named_on all c.1)
+
+      elements_on : (all : List StaticTree) → statics_have_elements all ≡ true → statics_have_elements (all ++ v ∷ []) ≡ true
+      elements_on [] h = both (has_elements v.of) true elements refl
+      elements_on (x ∷ all) h = let c = two_true (has_elements x.of) (statics_have_elements all) h in both (has_elements x.of) (statics_have_elements (all ++ v ∷ [])) c.0 (elements_on all c.1)

@@ -10,12 +10,13 @@ use Rattle.c_type_expressions.specs.Names.{SignatureTree}
 use Rattle.c_type_declarations.specs.Progress.{ProgressTree}
 use Rattle.c_law_types.specs.Statements.{are_statements}
 use Rattle.c_laws.specs.Laws.{declares_its_own, follow}
-use Rattle.c_laws.specs.Objects.{are_ended, arrays_are_kept}
+use Rattle.c_laws.specs.Names.{is_name}
+use Rattle.c_laws.specs.Objects.{are_ended}
 use Rattle.c_texts.specs.Findings.{Begins, Grows, Accepts}
 use Rattle.c_texts.specs.Known.{IsCalled}
 use Rattle.c_texts.specs.Formed.{IsSizeFormed, AreDeclaratorsFormed, AreFormed}
 use Rattle.c_texts.specs.Storage.{AreStored}
-use Rattle.c_texts.specs.Progress.{StandAmong, AreScopesKnown}
+use Rattle.c_texts.specs.Progress.{AreKept, StandAmong, AreScopesKnown}
 
 -- a parameter of a definition has a name
 abbrev pub has_name : ParameterTree → Type 0
@@ -31,16 +32,26 @@ abbrev pub HaveNames : List ParameterTree → Type 0
 HaveNames [] = Unit {0}
 HaveNames (d ∷ more) = has_name d × HaveNames more
 
--- a function's block, if it has one
+-- a name that may be absent
+abbrev pub IsNameFormed : Option NameTree → Type 0
+IsNameFormed None = Unit {0}
+IsNameFormed (Some n) = is_name n.name ≡ true
+
+-- those of parameters
+abbrev pub AreNamesFormed : List ParameterTree → Type 0
+AreNamesFormed [] = Unit {0}
+AreNamesFormed (d ∷ more) = IsNameFormed d.name × AreNamesFormed more
+
+-- a function's parameters by their names, and its block, if it has one
 abbrev pub IsBodyFormed : List ParameterTree → Option BlockTree → Type 0
-IsBodyFormed ps None = Unit {0}
-IsBodyFormed ps (Some b) = HaveNames ps × AreFormed (chain b.statements)
+IsBodyFormed ps None = AreNamesFormed ps
+IsBodyFormed ps (Some b) = HaveNames ps × AreFormed (chain b.statements) × AreNamesFormed ps
 
 -- what stands at file scope
 abbrev pub IsItemFormed : ItemTree → Type 0
 IsItemFormed (Include spot header) = Unit {0}
 IsItemFormed (Declares d) = AreDeclaratorsFormed d.declarators
-IsItemFormed (Defines f) = AreSizesFormed f.parameters × IsBodyFormed f.parameters f.body
+IsItemFormed (Defines f) = AreSizesFormed f.parameters × IsBodyFormed f.parameters f.body × (is_name f.name.name ≡ true)
 
 abbrev pub AreItemsFormed : List ItemTree → Type 0
 AreItemsFormed [] = Unit {0}
@@ -53,7 +64,7 @@ pub record Extends (q t : ProgressTree) : Type 0 where
   pub array_literals : Begins q.array_literals t.array_literals
   pub statics : Begins q.statics t.statics
   pub signatures : Begins q.names.signatures t.names.signatures
-  pub kept : arrays_are_kept q.automatics ≡ true → arrays_are_kept t.automatics ≡ true
+  pub kept : AreKept q.automatics → AreKept t.automatics
   pub ended : are_ended q.array_literals ≡ true → are_ended t.array_literals ≡ true
 
 -- What is declared and found so far is a program's, and what is called is there.

@@ -5,6 +5,7 @@ use Rattle.c_tree.specs.Declarations.{BracketsTree, Absent, Empty, Sized, Initia
 use Rattle.c_tree.specs.Declarations as declaration
 use Rattle.c_tree.specs.Statements.{StartTree, StatementTree, StatementTrees, Compound, Declare, Run, If, IfElse, While, DoWhile, For, Switch, Case, Default, Break, Continue, Return}
 use Rattle.c_tree.specs.Statements as statement
+use Rattle.c_laws.specs.Names.{is_name}
 use Rattle.c_texts.specs.Constants.{HasNumbers}
 
 -- an expression that may be absent
@@ -34,9 +35,9 @@ abbrev pub IsInitialFormed : Option InitializerTree → Type 0
 IsInitialFormed None = Unit {0}
 IsInitialFormed (Some i) = IsInitializerFormed i
 
--- a declarator
+-- a declarator, which has a name
 abbrev pub IsDeclaratorFormed : DeclaratorTree → Type 0
-IsDeclaratorFormed d = IsSizeFormed d.brackets × IsInitialFormed d.initializer
+IsDeclaratorFormed d = IsSizeFormed d.brackets × IsInitialFormed d.initializer × (is_name d.name.name ≡ true)
 
 -- declarators
 abbrev pub AreDeclaratorsFormed : List DeclaratorTree → Type 0

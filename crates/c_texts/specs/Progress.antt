@@ -4,6 +4,7 @@ use Rattle.c_tree.specs.declared.object_type.Object.{Object}
 use Rattle.c_tree.specs.declared.object_type.ObjectType.{ObjectType}
 use Rattle.c_tree.specs.declared.typed_expression.Callee.{Callee}
 use Rattle.c_tree.specs.Programs.{AutomaticTree, TypedFunctionTree, ProgramTree}
+use Rattle.c_laws.specs.Names.{automatics_named}
 use Rattle.c_laws.specs.Objects.{are_ended, arrays_are_kept}
 use Rattle.c_type_expressions.specs.declared.names.Meaning.TheVariants.{Variable}
 use Rattle.c_type_expressions.specs.Names.{Scope, SignatureTree}
@@ -15,7 +16,11 @@ use Rattle.c_texts.specs.Known.{IsKnown, IsCalled}
 abbrev pub KeepsOuter : List Scope → List Scope → Type 0
 KeepsOuter before behind = (outer : List Scope) (inner : Scope) → before ≡ outer ++ inner ∷ [] → (changed : Scope) × (behind ≡ outer ++ changed ∷ [])
 
--- A check comes from one point of a function's block to another. Arrays are in memory, and literals have their final zeros.
+-- arrays are in memory, and variables have names
+abbrev pub AreKept : List AutomaticTree → Type 0
+AreKept all = (arrays_are_kept all ≡ true) × (automatics_named all ≡ true)
+
+-- A check comes from one point of a function's block to another. Arrays are in memory, variables have names, and literals have their final zeros.
 pub record Advances (q t : ProgressTree) : Type 0 where
   pub found : Grows q.found t.found
   pub automatics : Begins q.automatics t.automatics
@@ -23,7 +28,7 @@ pub record Advances (q t : ProgressTree) : Type 0 where
   pub statics : t.statics ≡ q.statics
   pub signatures : t.names.signatures ≡ q.names.signatures
   pub scopes : KeepsOuter q.names.scopes t.names.scopes
-  pub kept : arrays_are_kept q.automatics ≡ true → arrays_are_kept t.automatics ≡ true
+  pub kept : AreKept q.automatics → AreKept t.automatics
   pub ended : are_ended q.array_literals ≡ true → are_ended t.array_literals ≡ true
 
 -- each variable stands among others with its type and its spot; whether it is in memory may be told later

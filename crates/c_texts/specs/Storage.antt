@@ -6,6 +6,7 @@ use Rattle.c_tree.specs.declared.program.Relocation.{Relocation}
 use Rattle.c_tree.specs.Programs.{StaticTree, ProgramTree}
 use Rattle.c_type_rules.specs.Integers.{object_size, scalar_size}
 use Rattle.c_type_declarations.specs.Statics.{Contents}
+use Rattle.c_laws.specs.Names.{statics_named, statics_have_elements}
 use Rattle.c_laws.specs.Orders.{ascends}
 use Rattle.c_laws.specs.Objects.{element_of, spots_of, hold_addresses, are_zero, are_static}
 use Rattle.c_laws.specs.Statics.{are_bytes, all_suit, statics_sound}
@@ -34,6 +35,6 @@ pub record Fits (p : ProgramTree) (of : ObjectType) (c : Contents) : Type 0 wher
   pub order : ascends (spots_of c.relocations) ≡ true
   pub empty : (element_of of).stars == 0 || are_zero c.bytes ≡ true
 
--- static objects keep the laws of static storage
+-- static objects keep the laws of static storage, and have names and elements
 abbrev pub AreStored : ProgramTree → List StaticTree → Type 0
-AreStored p all = (are_static p all ≡ true) × (statics_sound all ≡ true)
+AreStored p all = (are_static p all ≡ true) × (statics_sound all ≡ true) × (statics_named all ≡ true) × (statics_have_elements all ≡ true)

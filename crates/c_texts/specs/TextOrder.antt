@@ -8,6 +8,7 @@ use Rattle.c_tree.specs.Statements.{StartTree, StatementTree, StatementTrees, Bl
 use Rattle.c_tree.specs.Statements as statement
 use Rattle.c_tree.specs.Trees.{ItemTree, Include, Declares, Defines}
 use Rattle.c_laws.specs.Orders.{ascends, never_falls}
+use Rattle.c_laws.specs.Spots.{are_below}
 
 abbrev mutual
   -- where the tokens of an expression stand that its tree tells, in the order of the text: its names, constants and literals, and what begins its parts
@@ -135,3 +136,8 @@ pub record AreInOrder (spots : List Spot) : Type 0 where
 -- A source's tree stands in the order of the text.
 abbrev pub IsInTextOrder : List ItemTree → Type 0
 IsInTextOrder items = AreInOrder (spots_of_items items)
+
+-- Spots stand within a text of no more than 1,048,576 bytes, on its lines, which are counted from 1.
+pub record AreWithinText (spots : List Spot) : Type 0 where
+  pub offsets : are_below 1048576 (map (λ (s : Spot). s.at) spots) ≡ true
+  pub lines : are_below 1048577 (map (λ (s : Spot). s.line) spots) ≡ true
