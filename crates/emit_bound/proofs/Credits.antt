@@ -6,7 +6,7 @@ use Rattle.graph_core.specs.declared.instruction.Callee.TheVariants as callee
 use Rattle.graph_core.specs.Graphs.{Operand, Instruction, Marker, Zero, CopyWords, Call, Return, Block}
 use Rattle.graph_core.specs.Paths.{Path, place_of, called}
 use Rattle.graph_core.specs.Validity.{KeepsPlace, place_behind}
-use Rattle.graph_core.specs.WellMarked.{InPlace, IsWellMarked, AreWellMarked}
+use Rattle.graph_core.specs.WellMarked.{InPlace}
 use Rattle.graph_weights.proofs.Standing.{StandsSo, path_stands, IsStart, in_place}
 use Rattle.graph_weights.proofs.Sums.{sum_has}
 use Rattle.homed_unit.specs.Homed.{HomedForm}
@@ -23,6 +23,7 @@ use Rattle.emit_runs.proofs.Rest.{codes_in, RestAt, position_of}
 use Rattle.emit_runs.proofs.States.{growing}
 use Rattle.emit_runs.proofs.Tracks.{Position, pieces_of_all}
 use Rattle.emit_runs.proofs.UnitSteps.{Spot}
+use Rattle.emit_bound.specs.Timed.{IsTimed, AreTimed}
 use Rattle.emit_bound.specs.Room.{HasRoom}
 use Rattle.emit_bound.proofs.Amounts.{plain_cost, early_cost, later_cost, first_of, left_words, all_plain, all_early, all_later, begins_of, ends_of, once, most_once, most_early, most_later}
 use Rattle.emit_bound.proofs.Payments.{pay, pay_few}
@@ -31,16 +32,16 @@ use Rattle.emit_bound.proofs.Totals.{first_there, all_few}
 same_of : {A : Type 0} {x y : A} → Some x ≡ Some y → x ≡ y
 same_of e = cc
 
-module _ (h : HomedForm) (well : AreWellMarked h.unit) (e : EmittedForm) (code : IsCode h e) (room : HasRoom h e code) where
+module _ (h : HomedForm) (timed : AreTimed h.unit) (e : EmittedForm) (code : IsCode h e) (room : HasRoom h e code) where
   -- What is to be paid of each sort of cost.
   abbrev pub pay_plain : Position → ℕ
-  pay_plain p = pay h well e code (λ f. plain_cost (codes_in h e code f).storage (codes_in h e code f).graph.entry) (left_words h e code room) p
+  pay_plain p = pay h timed e code (λ f. plain_cost (codes_in h e code f).storage (codes_in h e code f).graph.entry) (left_words h e code room) p
 
   abbrev pub pay_early : Position → ℕ
-  pay_early p = pay h well e code (λ f. early_cost (codes_in h e code f).storage (codes_in h e code f).graph.entry) (λ f l. 0) p
+  pay_early p = pay h timed e code (λ f. early_cost (codes_in h e code f).storage (codes_in h e code f).graph.entry) (λ f l. 0) p
 
   abbrev pub pay_later : Position → ℕ
-  pay_later p = pay h well e code (λ f. later_cost (codes_in h e code f).storage (codes_in h e code f).graph.entry) (λ f l. 0) p
+  pay_later p = pay h timed e code (λ f. later_cost (codes_in h e code f).storage (codes_in h e code f).graph.entry) (λ f l. 0) p
 
   -- the place of the entry of a point's function
   abbrev pub entry_at : Position → ℕ
@@ -59,7 +60,7 @@ module _ (h : HomedForm) (well : AreWellMarked h.unit) (e : EmittedForm) (code :
 
   pub begins_is : (f : ℕ) → f < length h.unit.graphs
       → begins_of h e code room f ≡ 4 + length (beginning_behind (codes_in h e code f).storage (codes_in h e code f).graph (codes_in h e code f).saved (codes_in h e code f).size (f == h.unit.main))
-  begins_is f low = let at = (begins_there h well.valid e code f low).1 in omega (arith, at)
+  begins_is f low = let at = (begins_there h timed.valid e code f low).1 in omega (arith, at)
 
   pub once_few : (f : ℕ) → f < length h.unit.graphs → once h e code room f ≤ most_once h e code room
   once_few f low = sum_has (once h e code room) (length h.unit.graphs) f low
@@ -89,18 +90,18 @@ module _ (h : HomedForm) (well : AreWellMarked h.unit) (e : EmittedForm) (code :
     now = growing held r.owner begins
 
     pub plain_all : pay_plain (position_of r) ≤ all_plain h e code room x.function
-    plain_all = pay_few h well e code (λ f. plain_cost (codes_in h e code f).storage (codes_in h e code f).graph.entry) (left_words h e code room) r
+    plain_all = pay_few h timed e code (λ f. plain_cost (codes_in h e code f).storage (codes_in h e code f).graph.entry) (left_words h e code room) r
 
     pub early_all : pay_early (position_of r) ≤ all_early h e code room x.function
-    early_all = pay_few h well e code (λ f. early_cost (codes_in h e code f).storage (codes_in h e code f).graph.entry) (λ f l. 0) r
+    early_all = pay_few h timed e code (λ f. early_cost (codes_in h e code f).storage (codes_in h e code f).graph.entry) (λ f l. 0) r
 
     pub later_all : pay_later (position_of r) ≤ all_later h e code room x.function
-    later_all = pay_few h well e code (λ f. later_cost (codes_in h e code f).storage (codes_in h e code f).graph.entry) (λ f l. 0) r
+    later_all = pay_few h timed e code (λ f. later_cost (codes_in h e code f).storage (codes_in h e code f).graph.entry) (λ f l. 0) r
 
     -- 1,025 instructions for each word are enough wherever it is.
     pub full : (waiting : ℕ) → waiting ≤ 1023 → Credit (position_of r) waiting (1025 * length e.code)
     full waiting few =
-        let all = all_few h well e code room in
+        let all = all_few h timed e code room in
         let one = once_few x.function r.low in
         let two = early_few x.function r.low in
         let three = later_few x.function r.low in
@@ -121,11 +122,11 @@ module _ (h : HomedForm) (well : AreWellMarked h.unit) (e : EmittedForm) (code :
 
     -- ---- Where it stands
 
-    marks : IsWellMarked h.unit (codes_in h e code x.function).graph
-    marks = well.graphs x.function (codes_in h e code x.function).graph (graph_there h.unit x.function r.low)
+    marks : IsTimed (codes_in h e code x.function).graph
+    marks = timed.graphs x.function (codes_in h e code x.function).graph (graph_there h.unit x.function r.low)
 
-    pub first : FirstBlock h well.valid e code x.function
-    first = first_block h well.valid e code x.function r.low
+    pub first : FirstBlock h timed.valid e code x.function
+    first = first_block h timed.valid e code x.function r.low
 
     pub first_marked : (rest : List Instruction) × (first.block.instructions ≡ Marker (codes_in h e code x.function).graph.entry ∷ rest)
     first_marked = marks.begins first.block first.there
@@ -185,7 +186,7 @@ module _ (h : HomedForm) (well : AreWellMarked h.unit) (e : EmittedForm) (code :
         let fits = room.blocks x.function r.low r.number r.block r.there in
         let far = r.track.far in
         let whole : r.block.instructions ≡ r.passed = r.track.whole ∙ ap (λ l. r.passed ++ l) is ∙ append-nil r.passed in
-        let state = first_there h well e code room x.function r.number r.low r.block r.there in
+        let state = first_there h timed e code room x.function r.number r.low r.block r.there in
         let many : pieces_of_all c.storage c.graph.entry r.block.instructions (first_of h e code x.function r.number) ≡ pieces_of_all c.storage c.graph.entry r.passed (first_of h e code x.function r.number) = ap (λ l. pieces_of_all c.storage c.graph.entry l (first_of h e code x.function r.number)) whole in
         let from = ap (pieces_of_all c.storage c.graph.entry r.passed) state in
         let left : left_words h e code room x.function r.number ≡ room.words x.function r.number - pieces_of_all c.storage c.graph.entry r.block.instructions (first_of h e code x.function r.number) =

@@ -5,7 +5,7 @@ use Rattle.graph_core.specs.Graphs.{Instruction, Block, Graph}
 use Rattle.graph_core.specs.Paths.{Among, is_marker}
 use Rattle.graph_core.specs.Uses.{targets_of}
 use Rattle.graph_core.specs.Validity.{IsBlock, IsKept, place_at_end}
-use Rattle.graph_core.specs.WellMarked.{ComesToMarker, AreWellMarked}
+use Rattle.graph_core.specs.WellMarked.{ComesToMarker}
 use Rattle.graph_weights.specs.Costs.{Costs, state_behind, cost_of_graph}
 use Rattle.graph_weights.proofs.Heads.{AreInside, to_pay, pays_marker, pays_on, pays_last, pays_enters, pays_within}
 use Rattle.homed_unit.specs.Homed.{HomedForm}
@@ -19,6 +19,7 @@ use Rattle.emit_runs.proofs.Rest.{codes_in, known_in, first_state, RestAt, posit
 use Rattle.emit_runs.proofs.States.{growing}
 use Rattle.emit_runs.proofs.Tracks.{Position, passed_by, at_block, behind_all}
 use Rattle.emit_runs.proofs.UnitSteps.{Spot}
+use Rattle.emit_bound.specs.Timed.{AreTimed}
 use Rattle.emit_bound.proofs.Amounts.{known_of, known_is, first_of, costs_by, state_is}
 
 state_one : {S : Type 0} (c : Costs S) (passed : List Instruction) (i : Instruction) (s : S) → state_behind c (passed ++ i ∷ []) s ≡ c.next i (state_behind c passed s)
@@ -28,9 +29,9 @@ state_one c (j ∷ passed) i s = state_one c passed i (c.next j s)
 same_block : {A : Type 0} {x y : A} → Some x ≡ Some y → x ≡ y
 same_block e = cc
 
-module _ (h : HomedForm) (well : AreWellMarked h.unit) (e : EmittedForm) (code : IsCode h e) where
+module _ (h : HomedForm) (timed : AreTimed h.unit) (e : EmittedForm) (code : IsCode h e) where
   cycles_in : (f : ℕ) → f < length h.unit.graphs → (n : ℕ) (b : Block) → slice_get (codes_in h e code f).graph.blocks n ≡ Some b → ComesToMarker (codes_in h e code f).graph b.instructions b.end
-  cycles_in f low = (well.graphs f (codes_in h e code f).graph (graph_there h.unit f low)).cycles
+  cycles_in f low = (timed.graphs f (codes_in h e code f).graph (graph_there h.unit f low)).cycles
 
   kept_there : (blocks : List Block) (place : Option ℕ) (t : ℕ) → IsKept place (slice_get blocks t) → t < length blocks
   kept_there blocks place t kept = by_found (slice_get blocks t) refl kept
@@ -46,7 +47,7 @@ module _ (h : HomedForm) (well : AreWellMarked h.unit) (e : EmittedForm) (code :
 
   inside_in : (f : ℕ) → f < length h.unit.graphs → AreInside (codes_in h e code f).graph
   inside_in f low l b t there among =
-      let valid = all_at (IsBlock h.unit (codes_in h e code f).graph) (codes_in h e code f).graph.blocks l b (graph_valid h.unit well.valid f low).blocks there in
+      let valid = all_at (IsBlock h.unit (codes_in h e code f).graph) (codes_in h e code f).graph.blocks l b (graph_valid h.unit timed.valid f low).blocks there in
       kept_there (codes_in h e code f).graph.blocks (place_at_end b) t (all_among (λ n. IsKept (place_at_end b) (slice_get (codes_in h e code f).graph.blocks n)) (targets_of b.end) t valid.edges among)
 
   module _ (cost : (f : ℕ) → Instruction → CodeState → ℕ) (last : (f l : ℕ) → ℕ) where

@@ -4,7 +4,7 @@ use Rattle.std.specs.Option.{option_map_or}
 use Rattle.graph_core.specs.Graphs.{Instruction, Marker, Note, Move, Operate, Truncate, Same, Address, Load, Store, Zero, CopyWords, Call, End, Block, Graph}
 use Rattle.graph_core.specs.Paths.{Among, front, behind, is_marker}
 use Rattle.graph_core.specs.Validity.{IsBlock, HasPlace}
-use Rattle.graph_core.specs.WellMarked.{InPlace, IsWellMarked, AreWellMarked}
+use Rattle.graph_core.specs.WellMarked.{InPlace}
 use Rattle.graph_weights.specs.Costs.{Costs, cost_of_all, cost_of_block}
 use Rattle.graph_weights.proofs.Standing.{in_place, place_there}
 use Rattle.graph_weights.proofs.Sums.{sum_most, sum_both, sum_times}
@@ -23,6 +23,7 @@ use Rattle.emit_runs.proofs.Lists.{all_at}
 use Rattle.emit_runs.proofs.Rest.{program_in, codes_in, places_in, left_code, left_onto, known_in, first_state}
 use Rattle.emit_runs.proofs.States.{growing, going_on_from, placed_long}
 use Rattle.emit_runs.proofs.Tracks.{pieces_of_all}
+use Rattle.emit_bound.specs.Timed.{IsTimed, AreTimed}
 use Rattle.emit_bound.specs.Room.{words_of_function, HasRoom}
 use Rattle.emit_bound.proofs.Amounts.{known_of, known_is, first_of, left_words, plain, early, later, all_early, all_later, once, most_once, most_early, most_later}
 use Rattle.emit_bound.proofs.Turns.{IsSmall, weighed}
@@ -39,18 +40,18 @@ among_stands i [] a = elim a [ ]
 among_stands i (j ∷ is) front = record { passed = []; more = is; so = refl }
 among_stands i (j ∷ is) (behind a) = let later = among_stands i is a in record { passed = j ∷ later.passed; more = later.more; so = ap (λ l. j ∷ l) later.so }
 
-module _ (h : HomedForm) (well : AreWellMarked h.unit) (e : EmittedForm) (code : IsCode h e) where
+module _ (h : HomedForm) (timed : AreTimed h.unit) (e : EmittedForm) (code : IsCode h e) where
   -- Each instruction of a block sets or copies few words.
   small_in : (f : ℕ) → f < length h.unit.graphs → (l : ℕ) (b : Block) → slice_get (codes_in h e code f).graph.blocks l ≡ Some b → (i : Instruction) → Among i b.instructions → IsSmall i
   small_in f low l b there i among = by_kind i among
     where
-      marks : IsWellMarked h.unit (codes_in h e code f).graph
-      marks = well.graphs f (codes_in h e code f).graph (graph_there h.unit f low)
+      marks : IsTimed (codes_in h e code f).graph
+      marks = timed.graphs f (codes_in h e code f).graph (graph_there h.unit f low)
 
       there_in : (x : Instruction) → Among x b.instructions → is_marker x ≡ false → (p : ℕ) × InPlace (codes_in h e code f).graph p x
       there_in x at none =
           let stands = among_stands x b.instructions at in
-          let valid = all_at (IsBlock h.unit (codes_in h e code f).graph) (codes_in h e code f).graph.blocks l b (graph_valid h.unit well.valid f low).blocks there in
+          let valid = all_at (IsBlock h.unit (codes_in h e code f).graph) (codes_in h e code f).graph.blocks l b (graph_valid h.unit timed.valid f low).blocks there in
           let place = place_there stands.passed x stands.more b.place (subst (λ is. HasPlace is b.place) stands.so valid.place) none in
           (place.0, in_place (codes_in h e code f).graph l b stands.passed x stands.more place.0 there stands.so place.1)
 

@@ -12,7 +12,6 @@ use Rattle.graph_core.specs.Graphs.{Operand, Instruction, Marker, Note, Move, Op
 use Rattle.graph_core.specs.Paths.{Among}
 use Rattle.graph_core.specs.Runs.{Configuration, Stepped, Goes, Shows as ShowsStep, Ends as EndsStep, Wild, Stop, frame as shown_frame, at_place, step, step_from, execute, execute_end}
 use Rattle.graph_core.specs.Uses.{targets_of}
-use Rattle.graph_core.specs.WellMarked.{AreWellMarked}
 use Rattle.graph_homes.specs.declared.home.Home.{Home}
 use Rattle.homed_unit.specs.Homed.{HomedForm, HaveHomes, placed_operand, placed_instruction, placed_end, over_homes}
 use Rattle.homed_unit.specs.Seen.{seen_after, seen, seen_some, seen_run}
@@ -28,6 +27,7 @@ use Rattle.emit_runs.proofs.Rest.{program_in, codes_in, position_of}
 use Rattle.emit_runs.proofs.Starting.{ComesToFirst, comes_to_first, first, first_is, main_there, no_stop}
 use Rattle.emit_runs.proofs.Steps.{step_done}
 use Rattle.emit_runs.proofs.Tracks.{calls_function}
+use Rattle.emit_bound.specs.Timed.{AreTimed}
 use Rattle.emit_bound.specs.InTime.{FollowsInTime}
 use Rattle.emit_bound.specs.Room.{HasRoom}
 use Rattle.emit_bound.proofs.Amounts.{all_plain, all_early}
@@ -65,7 +65,7 @@ targets_same home (Return (Some a)) = refl
 keeps_so : (c d : Configuration) → KeepsWaiting c (Goes d) → length d.waiting ≡ length c.waiting
 keeps_so c d kept = ap length kept
 
-module _ (h : HomedForm) (well : AreWellMarked h.unit) (homed : HaveHomes h) (e : EmittedForm) (code : IsCode h e) (room : HasRoom h e code) where
+module _ (h : HomedForm) (timed : AreTimed h.unit) (homed : HaveHomes h) (e : EmittedForm) (code : IsCode h e) (room : HasRoom h e code) where
   module _ (c : Configuration) (q : Point) (r : Related h e code c q) (d : Configuration) (goes : step (over_homes h) c ≡ Goes d) where
     abbrev home : ℕ → Home
     home = home_at (codes_in h e code c.here.function).storage
@@ -113,29 +113,29 @@ module _ (h : HomedForm) (well : AreWellMarked h.unit) (homed : HaveHomes h) (e 
   abbrev most : ℕ
   most = 1025 * length e.code
 
-  all_follow : (n : ℕ) (c : Configuration) (q : Point) (r : Related h e code c q) (b : ℕ) → Credit h well e code room (position_of r.rest) (length c.waiting) b
+  all_follow : (n : ℕ) (c : Configuration) (q : Point) (r : Related h e code c q) (b : ℕ) → Credit h timed e code room (position_of r.rest) (length c.waiting) b
       → Follows (SameSeen h e code.arrangement) b (1025 * length e.code) (seen (over_homes h) n c) (events (program_in h e code).stops q)
   all_follow zero c q r b credit = tt
   all_follow (suc n) c q r b credit =
-      by_step (step (over_homes h) c) refl (λ d p related b2 left. all_follow n d p related b2 left) (step_done h well.valid homed e code c q r) (enough h well e code room r.rest (length c.waiting) b credit)
+      by_step (step (over_homes h) c) refl (λ d p related b2 left. all_follow n d p related b2 left) (step_done h timed.valid homed e code c q r) (enough h timed e code room r.rest (length c.waiting) b credit)
     where
       few_wait : (d : Configuration) (p : Point) → Related h e code d p → length d.waiting ≤ 1023
       few_wait d p related = let depth = related.all.depth in omega (arith, depth)
 
       by_step : (z : Stepped) → step (over_homes h) c ≡ z
-          → ((d : Configuration) (p : Point) (related : Related h e code d p) (b2 : ℕ) → Credit h well e code room (position_of related.rest) (length d.waiting) b2
+          → ((d : Configuration) (p : Point) (related : Related h e code d p) (b2 : ℕ) → Credit h timed e code room (position_of related.rest) (length d.waiting) b2
           → Follows (SameSeen h e code.arrangement) b2 (1025 * length e.code) (seen (over_homes h) n d) (events (program_in h e code).stops p))
-          → DoesStep h e code (position_of r.rest) (longest h well e code room r.rest (length c.waiting) b credit) q z → longest h well e code room r.rest (length c.waiting) b credit ≤ b
+          → DoesStep h e code (position_of r.rest) (longest h timed e code room r.rest (length c.waiting) b credit) q z → longest h timed e code room r.rest (length c.waiting) b credit ≤ b
           → Follows (SameSeen h e code.arrangement) b (1025 * length e.code) (seen_after z (seen (over_homes h) n)) (events (program_in h e code).stops q)
       by_step (Goes d) goes later done within =
-          let left = next_credit h well e code room r.rest (length c.waiting) b credit done.related.rest (length d.waiting) done.advances (entry_marker c q r d goes) (passed_waits c q r d goes) (block_waits c q r d goes) (return_waits c q r d goes) in
+          let left = next_credit h timed e code room r.rest (length c.waiting) b credit done.related.rest (length d.waiting) done.advances (entry_marker c q r d goes) (passed_waits c q r d goes) (block_waits c q r d goes) (return_waits c q r d goes) in
           let few = done.few in
-          follows_later (SameSeen h e code.arrangement) done.count (b - longest h well e code room r.rest (length c.waiting) b credit) b most (seen (over_homes h) n d) (events (program_in h e code).stops q) (events (program_in h e code).stops done.point) done.leads.by (omega (arith, few, within)) (later d done.point done.related (b - longest h well e code room r.rest (length c.waiting) b credit) left)
+          follows_later (SameSeen h e code.arrangement) done.count (b - longest h timed e code room r.rest (length c.waiting) b credit) b most (seen (over_homes h) n d) (events (program_in h e code).stops q) (events (program_in h e code).stops done.point) done.leads.by (omega (arith, few, within)) (later d done.point done.related (b - longest h timed e code room r.rest (length c.waiting) b credit) left)
       by_step (ShowsStep event d) goes later done within =
           let few = done.few in (
             record { steps = done.count; shown = done.event; rest = events (program_in h e code).stops done.point; same = done.same; is = done.leads.by },
             omega (arith, few, within),
-            later d done.point done.related most (full h well e code room done.related.rest (length d.waiting) (few_wait d done.point done.related)),
+            later d done.point done.related most (full h timed e code room done.related.rest (length d.waiting) (few_wait d done.point done.related)),
           )
       by_step (EndsStep event) goes later done within = let few = done.few in (record { steps = done.count; shown = done.event; rest = λ k. []; same = done.same; is = done.ends.by }, omega (arith, few, within), tt)
       by_step Wild goes later done within = tt
@@ -143,23 +143,23 @@ module _ (h : HomedForm) (well : AreWellMarked h.unit) (homed : HaveHomes h) (e 
   -- From the beginning on.
   pub follows_in_time : FollowsInTime h e code.arrangement
   follows_in_time input bytes n =
-      let start : ComesToFirst h well.valid homed e code input bytes = comes_to_first h well.valid homed e code input bytes in
-      let c : Configuration = first h well.valid homed e code input bytes in
+      let start : ComesToFirst h timed.valid homed e code input bytes = comes_to_first h timed.valid homed e code input bytes in
+      let c : Configuration = first h timed.valid homed e code input bytes in
       let s : State = started e.code e.initial input in
       let R = SameSeen h e code.arrangement in
-      let low = (main_there h well.valid homed e code input bytes).0 in
-      let all = all_few h well e code room in
-      let one = once_few h well e code room h.unit.main low in
-      let two = early_few h well e code room h.unit.main low in
+      let low = (main_there h timed.valid homed e code input bytes).0 in
+      let all = all_few h timed e code room in
+      let one = once_few h timed e code room h.unit.main low in
+      let two = early_few h timed e code room h.unit.main low in
       let few = start.few in
       let b : ℕ = all_plain h e code room h.unit.main + all_early h e code room h.unit.main in
-      let begin : Credit h well e code room (position_of start.related.rest) 0 b = subst (λ p. Credit h well e code room p 0 b) (sym start.begins) (record { start = λ none. omega arith; early = λ place. let clash : None ≡ Some (codes_in h e code h.unit.main).graph.entry = place in cc; going = λ q place away. let clash : None ≡ Some q = place in cc }) in
+      let begin : Credit h timed e code room (position_of start.related.rest) 0 b = subst (λ p. Credit h timed e code room p 0 b) (sym start.begins) (record { start = λ none. omega arith; early = λ place. let clash : None ≡ Some (codes_in h e code h.unit.main).graph.entry = place in cc; going = λ q place away. let clash : None ≡ Some q = place in cc }) in
       let events_from : Follows R most most (seen (over_homes h) n c) (events (program_in h e code).stops (record { state = s; shown = false })) =
       follows_later R start.count b most most (seen (over_homes h) n c) (events (program_in h e code).stops (record { state = s; shown = false })) (events (program_in h e code).stops start.point) start.leads.by (omega (arith, all, one, two, few)) (all_follow n c start.point start.related b begin) in
-      let is : seen_run (over_homes h) input n ≡ seen (over_homes h) n c = ap (seen_some (over_homes h) n) (first_is h well.valid homed e code input bytes) in
+      let is : seen_run (over_homes h) input n ≡ seen (over_homes h) n c = ap (seen_some (over_homes h) n) (first_is h timed.valid homed e code input bytes) in
       subst (λ l. Follows R most most l (emitted_run e input)) (sym is)
       (follows_later R 0 most most most (seen (over_homes h) n c) (emitted_run e input) (events (program_in h e code).stops (record { state = s; shown = false }))
       (λ k j same.
       let here : j ≡ k = omega (arith, same) in
-      ap (λ m. run (stop_addresses e) m s) here ∙ ap (λ b. cond b (Arrival s ∷ []) [] ++ run (stop_addresses e) k s) (sym (no_stop h well.valid homed e code input bytes)))
+      ap (λ m. run (stop_addresses e) m s) here ∙ ap (λ b. cond b (Arrival s ∷ []) [] ++ run (stop_addresses e) k s) (sym (no_stop h timed.valid homed e code input bytes)))
       (omega arith) events_from)

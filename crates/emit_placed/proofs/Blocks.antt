@@ -1,16 +1,15 @@
 -- The parts of a function: where each block stands among its pieces.
-use Rattle.std.proofs.Common.{◌≡◌, ◌≢◌, ℕ, zero, suc, ◌+◌, ◌<◌, ◌≤◌, ◌⊎◌, inl, inr, Some, List, [], ◌∷◌, ◌++◌, length, map, slice_get, slice_index, refl, sym, ap, ◌∙◌, subst, arith, append_assoc}
+use Rattle.std.proofs.Common.{◌≡◌, ◌≢◌, ℕ, ◌+◌, ◌≤◌, ◌⊎◌, inl, inr, List, [], ◌∷◌, ◌++◌, length, map, slice_index, refl, sym, ap, ◌∙◌, subst, arith, append_assoc}
 use Rattle.std.specs.List.{AllByRecursion}
 use Rattle.std.proofs.lemmas.List.{length-append, length-map}
-use Rattle.graph_core.specs.Graphs.{Block, Graph}
+use Rattle.graph_core.specs.Graphs.{Block}
 use Rattle.graph_core.specs.Paths.{Among, front, behind}
 use Rattle.emit_pieces.specs.declared.piece.Held.{Held}
 use Rattle.emit_pieces.specs.declared.piece.PlacedPiece.{PlacedPiece}
 use Rattle.machine_steps.specs.Programs.{Program}
 use Rattle.emit_calls.specs.Pieces.{Targets}
 use Rattle.emit_calls.specs.Placed.{PlacedAt}
-use Rattle.emit_sequence.specs.Sequences.{Ground, SequenceForm, Standing, counted, standing_code, standing_pieces, all_pieces, numbered, first_label, first_pieces, last_pieces, AreInARow, AreLabelled, IsSequenceOf, IsStanding}
-use Rattle.emit_placed.proofs.Covering.{all_below}
+use Rattle.emit_sequence.specs.Sequences.{Ground, SequenceForm, Standing, counted, standing_code, standing_pieces, all_pieces, numbered, first_label, AreInARow, AreLabelled, IsStanding}
 
 -- Pieces stand whichever instructions they are numbered for.
 pub numbered_there : (p : Program) (t : Targets) (i n : ℕ) (pieces : List PlacedPiece) (j : ℕ) → PlacedAt p t i (map (numbered n) pieces) j → PlacedAt p t i pieces j

@@ -34,7 +34,7 @@ among_fit n (Slot k) is = tt
 homes_fit : (n : ℕ) (homes : List Home) → AllByRecursion (IsHomeAmong n) homes → (x : ℕ) → IsFitHome (home_in homes x)
 homes_fit n homes all x = perhaps IsFitHome (λ home. home) (slice_get homes x) (Slot 0) (λ home at. among_fit n home (all_at (IsHomeAmong n) homes x home all at)) tt
 
-homes_among : (gs : List Graph) (hs : List (List Home)) → AreHomesOf gs hs → (f : ℕ) (homes : List Home) → slice_get hs f ≡ Some homes → (n : ℕ) × AllByRecursion (IsHomeAmong n) homes
+pub homes_among : (gs : List Graph) (hs : List (List Home)) → AreHomesOf gs hs → (f : ℕ) (homes : List Home) → slice_get hs f ≡ Some homes → (n : ℕ) × AllByRecursion (IsHomeAmong n) homes
 homes_among gs [] are f homes e = cc
 homes_among [] (y ∷ hs) are f homes e = absurd are
 homes_among (g ∷ gs) (y ∷ hs) are zero homes e = let same : y ≡ homes = cc in (g.name_count, subst (λ l. AllByRecursion (IsHomeAmong g.name_count) l) same are.1)

@@ -1,23 +1,21 @@
 -- The code of a function stands in the code of the machine: its beginning, each of its blocks, and its end.
-use Rattle.std.proofs.Common.{◌≡◌, ◌≢◌, ℕ, zero, suc, ◌+◌, ◌<◌, ◌≤◌, ◌⊎◌, inl, inr, ⊎_elim, Bool, Some, List, [], ◌∷◌, ◌++◌, length, map, drop, slice_get, slice_index, refl, sym, ap, ◌∙◌, subst, arith, append_assoc, append-nil}
-use Rattle.std.specs.List.{AllByRecursion}
+use Rattle.std.proofs.Common.{◌≡◌, ◌≢◌, ℕ, zero, suc, ◌+◌, ◌<◌, ◌≤◌, ◌⊎◌, inl, inr, ⊎_elim, Bool, Some, List, [], ◌∷◌, ◌++◌, length, map, drop, slice_get, slice_index, sym, ap, ◌∙◌, subst, arith, append_assoc, append-nil}
 use Rattle.std.proofs.lemmas.List.{length-append, length-map}
 use Rattle.std.proofs.lemmas.Option.{slice_get_within}
 use Rattle.graph_core.specs.Graphs.{Block, Graph}
-use Rattle.graph_core.specs.Paths.{Among, front, behind}
+use Rattle.graph_core.specs.Paths.{Among}
 use Rattle.graph_core.specs.Uses.{targets_of as end_targets}
-use Rattle.emit_pieces.specs.declared.piece.Held.{Held}
 use Rattle.emit_pieces.specs.declared.piece.PlacedPiece.{PlacedPiece}
 use Rattle.machine_steps.specs.Programs.{Program}
 use Rattle.emit_calls.specs.Pieces.{Targets}
 use Rattle.emit_calls.specs.Placed.{PlacedAt}
 use Rattle.emit_code.specs.Blocks.{block_code}
 use Rattle.emit_sequence.specs.Sequences.{Ground, SequenceForm, Standing, counted, standing_code, standing_pieces, all_pieces, numbered, first_label, first_pieces, last_pieces, AreLabelled, Holds, IsSequenceOf, IsStanding}
-use Rattle.emit_layout.specs.Layouts.{LayoutForm, label_at, words_before, IsLayoutOf}
+use Rattle.emit_layout.specs.Layouts.{LayoutForm, label_at, words_before}
 use Rattle.emit_placed.specs.Placing.{IsBlockPlaced, IsFunctionPlaced}
 use Rattle.emit_placed.specs.Standing.{targets_of}
 use Rattle.emit_runs.proofs.States.{placed_within}
-use Rattle.emit_placed.proofs.Blocks.{PiecesOf, pieces_of_block, TwoBlocks, two_blocks, StandsAmong, stands_among, first_labelled, numbered_there}
+use Rattle.emit_placed.proofs.Blocks.{PiecesOf, pieces_of_block, two_blocks, StandsAmong, stands_among, first_labelled, numbered_there}
 use Rattle.emit_placed.proofs.Covering.{all_below}
 use Rattle.emit_placed.proofs.Pieces.{FunctionThere, none_before, part_there}
 

@@ -1,15 +1,14 @@
 -- What is emitted is code of the unit: it stands where it is to stand, as the run of the code asks.
-use Rattle.std.proofs.Common.{◌≡◌, ◌≢◌, ℕ, zero, suc, ◌+◌, ◌-◌, ◌*◌, ◌<◌, ◌≤◌, ◌⊎◌, inl, inr, ⊎_elim, ◌==◌, cond, Bool, true, false, Option, Some, None, List, [], ◌∷◌, ◌++◌, length, map, take, drop, slice_get, slice_index, get_or, refl, sym, ap, ◌∙◌, subst, arith, append_assoc, append-nil}
+use Rattle.std.proofs.Common.{◌≡◌, ◌≢◌, ℕ, zero, suc, ◌+◌, ◌-◌, ◌<◌, ◌≤◌, inl, inr, ⊎_elim, ◌==◌, Bool, false, Option, Some, None, List, [], ◌∷◌, ◌++◌, length, map, slice_get, slice_index, get_or, refl, sym, ap, ◌∙◌, subst, arith, append-nil}
 use Rattle.std.specs.List.{AllByRecursion}
 use Rattle.std.specs.Option.{option_map_or}
-use Rattle.std.proofs.lemmas.Bool.{cases_lt, true≢false}
-use Rattle.std.proofs.lemmas.List.{get_or_past, length-append, length-map}
+use Rattle.std.proofs.lemmas.Bool.{cases_lt}
+use Rattle.std.proofs.lemmas.List.{length-append, length-map}
 use Rattle.std.proofs.lemmas.Option.{slice_get_within}
 use Rattle.rv_code.specs.declared.instruction.Instruction.TheVariants.{Lui}
 use Rattle.rv_machine.specs.Run.{is_stop}
-use Rattle.graph_core.specs.Graphs.{Block, Graph}
-use Rattle.graph_core.specs.Paths.{Among, front, behind}
-use Rattle.graph_core.specs.Uses.{targets_of as end_targets}
+use Rattle.graph_core.specs.Graphs.{Block}
+use Rattle.graph_core.specs.Paths.{Among}
 use Rattle.graph_core.specs.Validity.{IsValid}
 use Rattle.homed_unit.specs.Homed.{HomedForm, HaveHomes, homes_in}
 use Rattle.homed_unit.specs.Statics.{initial_bytes}
@@ -22,23 +21,23 @@ use Rattle.emit_pieces.specs.declared.piece.PlacedPiece.{PlacedPiece}
 use Rattle.machine_steps.specs.Programs.{Program, address_of}
 use Rattle.emit_code.specs.Blocks.{no_code, with_stub}
 use Rattle.emit_calls.specs.Pieces.{Targets, AreInCode, PieceAt}
-use Rattle.emit_calls.specs.Placed.{PlacedAt, AreOf}
+use Rattle.emit_calls.specs.Placed.{PlacedAt}
 use Rattle.emit_calls.specs.Settings.{AreLoads}
-use Rattle.emit_sequence.specs.Sequences.{AreConstants, Ground, SequenceForm, counted}
+use Rattle.emit_sequence.specs.Sequences.{AreConstants, Ground, SequenceForm}
 use Rattle.emit_layout.specs.declared.layout.OwnedWord.{OwnedWord}
-use Rattle.emit_layout.specs.Layouts.{LayoutForm, function_words, label_at, layout_of, width, words_before, IsLayoutOf}
-use Rattle.emit_layout.proofs.Layouts.{layout_is, width_some, words_more}
-use Rattle.emit_runs.specs.Laid.{Arrangement, code_of, graph_at, program_of, stop_addresses, targets_in, IsBlockAt, IsCode, IsFunctionAt, IsInWords}
+use Rattle.emit_layout.specs.Layouts.{LayoutForm, function_words, label_at, layout_of, width, words_before}
+use Rattle.emit_layout.proofs.Layouts.{layout_is, width_some}
+use Rattle.emit_runs.specs.Laid.{Arrangement, graph_at, program_of, targets_in, IsBlockAt, IsCode, IsFunctionAt, IsInWords}
 use Rattle.emit_runs.proofs.Calls.{called_there}
 use Rattle.emit_runs.proofs.Frames.{graph_there}
-use Rattle.emit_runs.proofs.Lists.{all_among, get_some}
-use Rattle.emit_assembly.specs.Laid.{CodedForm, LaidForm, StaticForm, firsts_from, ground_for, stops_of_all, stub_form, words_of_all, IsCodeOf, IsEmittedOf, IsLaidOf}
+use Rattle.emit_runs.proofs.Lists.{all_among}
+use Rattle.emit_assembly.specs.Laid.{CodedForm, LaidForm, StaticForm, firsts_from, ground_for, stops_of_all, stub_form, words_of_all, IsEmittedOf}
 use Rattle.emit_assembly.specs.Laid.{AreAddressesOf}
 use Rattle.emit_bound.specs.Room.{StandApart}
 use Rattle.emit_bound.proofs.Rooms.{end_length}
 use Rattle.emit_placed.specs.Placing.{IsBlockPlaced, IsFunctionPlaced}
-use Rattle.emit_placed.specs.Standing.{HasStops, StandsIn, targets_of}
-use Rattle.emit_placed.specs.Stops.{IsStopOf, IsStopOfOne}
+use Rattle.emit_placed.specs.Standing.{targets_of}
+use Rattle.emit_placed.specs.Stops.{IsStopOfOne}
 use Rattle.emit_placed.proofs.Functions.{function_count}
 use Rattle.emit_placed.proofs.Grounds.{can_stand, ground_at, ground_is, initial_few}
 use Rattle.emit_placed.proofs.Pieces.{FunctionThere, Goes, label_within, part_there}
@@ -89,14 +88,14 @@ loads_are (x ∷ more) are = (are.0.register, are.0.word, loads_are more are.1)
 -- ---- Where all stands
 
 -- the code of no function
-abbrev no_laid : LaidForm
+abbrev pub no_laid : LaidForm
 no_laid = record { saved = []; slots = 0; objects = []; size = 0; sequence = record { pieces = []; begin = 0; labels = []; ends = []; numbers = [] }; layout = record { offsets = []; words = 0; far = [] } }
 
 -- the code of a function, if there is one
-abbrev laid_of : CodedForm → (function : ℕ) → LaidForm
+abbrev pub laid_of : CodedForm → (function : ℕ) → LaidForm
 laid_of c f = option_map_or (λ l. l) (slice_get c.all f) no_laid
 
-laid_is : (c : CodedForm) (f : ℕ) (l : LaidForm) → slice_get c.all f ≡ Some l → l ≡ laid_of c f
+pub laid_is : (c : CodedForm) (f : ℕ) (l : LaidForm) → slice_get c.all f ≡ Some l → l ≡ laid_of c f
 laid_is c f l e = sym (ap (λ (o : Option LaidForm). option_map_or (λ (l : LaidForm). l) o no_laid) e)
 
 -- Where the parts of code stand.

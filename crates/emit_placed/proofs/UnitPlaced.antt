@@ -37,7 +37,7 @@ pub record LaidAt (h : HomedForm) (s : StaticForm) (all : List LaidForm) (f k : 
   pub there : slice_get all k ≡ Some laid
   pub is : IsLaidOf s g (homes_in h (f + k)) (f + k == h.unit.main) laid
 
-laid_at : (h : HomedForm) (s : StaticForm) (f : ℕ) (graphs : List Graph) (all : List LaidForm) → f + length graphs ≤ 4294967295 → AreLaid h s f graphs all → (k : ℕ) (g : Graph) → slice_get graphs k ≡ Some g → LaidAt h s all f k g
+pub laid_at : (h : HomedForm) (s : StaticForm) (f : ℕ) (graphs : List Graph) (all : List LaidForm) → f + length graphs ≤ 4294967295 → AreLaid h s f graphs all → (k : ℕ) (g : Graph) → slice_get graphs k ≡ Some g → LaidAt h s all f k g
 laid_at h s f [] all few laid k g e = cc
 laid_at h s f (x ∷ graphs) [] few laid k g e = absurd laid
 laid_at h s f (x ∷ graphs) (l ∷ more) few laid zero g e =
@@ -126,14 +126,16 @@ module _ (h : HomedForm) (s : StaticForm) (c : CodedForm) (code : IsCodeOf h s c
   agrees : (k : ℕ) → slice_index c.firsts (0 + k) ≡ slice_index (firsts_from 5 c.all) k
   agrees k = (let e : 0 + k ≡ k = omega arith in ap (λ j. slice_index c.firsts j) e) ∙ ap (λ (l : List ℕ). slice_index l k) (code.firsts ∙ ap (λ n. firsts_from n c.all) (stub_words h.unit.main))
 
-  found : (k : ℕ) (l : LaidForm) → slice_get c.all k ≡ Some l → FunctionIn c.words c.firsts k l
+  -- The words of each function stand in the code.
+  pub found : (k : ℕ) (l : LaidForm) → slice_get c.all k ≡ Some l → FunctionIn c.words c.firsts k l
   found k l e =
       let here : 0 + k ≡ k = omega arith in
       subst (λ j. FunctionIn c.words c.firsts j l) here
       (subst (λ w. FunctionIn w c.firsts (0 + k) l) (sym code.words)
       (function_in c.firsts c.all 0 5 front (stub_count h.unit.main c.firsts) (omega (arith, count, few)) agrees (subst (λ w. length w ≤ 262144) code.words short) (layouts_of h s 0 h.unit.graphs c.all code.laid) k l e))
 
-  fits : (k : ℕ) (l : LaidForm) → slice_get c.all k ≡ Some l → Fits l (slice_index c.firsts k)
+  -- They fit in it.
+  pub fits : (k : ℕ) (l : LaidForm) → slice_get c.all k ≡ Some l → Fits l (slice_index c.firsts k)
   fits k l e =
       let at : FunctionIn c.words c.firsts k l = found k l e in
       let size : length (function_words l.sequence l.layout (slice_index c.firsts k) c.firsts) ≡ words_before l.layout.far l.sequence.pieces (length l.sequence.pieces) = function_count l.sequence l.layout (slice_index c.firsts k) c.firsts at.few in

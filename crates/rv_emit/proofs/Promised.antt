@@ -1,5 +1,5 @@
 -- What is emitted does what the unit does.
-use Rattle.std.proofs.Common.{◌≡◌, ◌≤◌, ◌∙◌, sym, ap, length, arith}
+use Rattle.std.proofs.Common.{◌≡◌, ◌≤◌, ◌∙◌, sym, ap, subst, length, arith}
 use Rattle.std.specs.Prelude.{slice_index}
 use Rattle.std.specs.List.{AllByRecursion}
 use Rattle.graph_core.specs.Paths.{Among}
@@ -13,7 +13,17 @@ use Rattle.emit_runs.proofs.Whole.{agrees_throughout, comes_by_all}
 use Rattle.emit_assembly.specs.Laid.{IsEmittedOf}
 use Rattle.emit_bound.proofs.Rooms.{apart_has_room}
 use Rattle.emit_bound.proofs.Whole.{follows_in_time}
-use Rattle.emit_placed.proofs.UnitCode.{code_is, code_parts}
+use Rattle.emit_placed.specs.Told.{TellBinders, TellWriters, Tells}
+use Rattle.emit_placed.specs.Writing.{WritesNothingElse}
+use Rattle.emit_placed.proofs.BinderTables.{tells_binders}
+use Rattle.emit_placed.proofs.Binders.{code_binds}
+use Rattle.emit_placed.proofs.Markers.{emitted_stops}
+use Rattle.emit_placed.proofs.NothingElse.{nothing_else}
+use Rattle.emit_placed.proofs.Told.{emitted_tells}
+use Rattle.emit_placed.proofs.UnitOwners.{emitted_owners}
+use Rattle.emit_placed.proofs.WriterTables.{tells_writers}
+use Rattle.emit_placed.proofs.Writers.{code_writes}
+use Rattle.emit_placed.proofs.UnitCode.{arrangement_is, code_is, code_parts}
 use Rattle.rv_emit.specs.Emits.{Emits}
 
 -- Stops at one address are of one place.
@@ -27,12 +37,21 @@ stops_apart h e code s t is_s is_t same =
 pub emits_all : (h : HomedForm) → IsValid h.unit → HaveHomes h → (e : EmittedForm) → IsEmittedOf h e → length e.code ≤ 262144 → length e.owners ≡ length e.code → AllByRecursion IsInWords h.unit.graphs → Emits h e
 emits_all h valid homed e emitted short owners words =
     let code : IsCode h e = code_is h valid homed e emitted short emitted.addresses words emitted.initial emitted.bytes in
+    let arranged = sym (arrangement_is h valid homed e emitted short emitted.addresses words emitted.initial emitted.bytes) in
     record {
       code = code;
       comes = comes_by_all h valid homed e code;
       agrees = agrees_throughout h valid homed e code;
-      in_time = λ well. follows_in_time h well homed e code (apart_has_room h e code (code_parts h valid homed e emitted short emitted.addresses words emitted.initial emitted.bytes));
+      in_time = λ timed. follows_in_time h timed homed e code (apart_has_room h e code (code_parts h valid homed e emitted short emitted.addresses words emitted.initial emitted.bytes));
       owners = owners;
+      owned = emitted_owners h valid e emitted short;
+      stops = emitted_stops h valid e emitted short;
+      writers = code_writes h e code;
+      binders = code_binds h e code;
+      nothing_else = subst (λ a. WritesNothingElse h a e) arranged (nothing_else h valid homed e emitted short words);
+      tables = subst (λ a. TellWriters h a e) arranged (tells_writers h valid homed e emitted short words);
+      bindings = subst (λ a. TellBinders h a e) arranged (tells_binders h valid homed e emitted short words);
       apart = stops_apart h e code;
+      told = subst (λ a. Tells h a e) arranged (emitted_tells h valid homed e emitted);
       statics = have_all h.unit e.statics (emitted.objects ∙ emitted.addresses.objects);
     }

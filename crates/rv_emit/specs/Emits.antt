@@ -1,7 +1,6 @@
 -- What is promised of the code of a unit with homes.
 use Rattle.std.specs.Prelude.{◌≡◌, ℕ, ◌<◌, Some, length, slice_get}
 use Rattle.graph_core.specs.Paths.{Among}
-use Rattle.graph_core.specs.WellMarked.{AreWellMarked}
 use Rattle.homed_unit.specs.Homed.{HomedForm}
 use Rattle.homed_unit.specs.Statics.{static_at}
 use Rattle.emitted.specs.declared.emitted.PlacedStop.{PlacedStop}
@@ -9,6 +8,11 @@ use Rattle.emitted.specs.Emitted.{EmittedForm}
 use Rattle.emit_runs.specs.Laid.{IsCode}
 use Rattle.emit_runs.specs.Running.{AgreesThroughout, ComesByAll}
 use Rattle.emit_bound.specs.InTime.{FollowsInTime}
+use Rattle.emit_bound.specs.Timed.{AreTimed}
+use Rattle.emit_placed.specs.Markers.{AreStopsOf}
+use Rattle.emit_placed.specs.Owners.{HasOwnWords}
+use Rattle.emit_placed.specs.Told.{TellBinders, TellWriters, Tells}
+use Rattle.emit_placed.specs.Writing.{HaveBinders, HaveWriters, WritesNothingElse}
 
 -- The machine over the code does what the unit over homes does.
 pub record Emits (h : HomedForm) (e : EmittedForm) : Type 0 where
@@ -18,11 +22,27 @@ pub record Emits (h : HomedForm) (e : EmittedForm) : Type 0 where
   pub comes : ComesByAll h e code.arrangement
   -- On each input the events of both are the same one by one, as far as both go.
   pub agrees : AgreesThroughout h e code.arrangement
-  -- Where the unit is well marked, the machine comes to each event within 1,025 instructions for each word of the code.
-  pub in_time : AreWellMarked h.unit → FollowsInTime h e code.arrangement
+  -- Where the unit's places take bounded time, the machine comes to each event within 1,025 instructions for each word of the code.
+  pub in_time : AreTimed h.unit → FollowsInTime h e code.arrangement
   -- Each word belongs to a place, or to none.
   pub owners : length e.owners ≡ length e.code
+  -- Those of a function belong to its places, or to none.
+  pub owned : HasOwnWords h.unit e
+  -- Its stops are those of the unit's markers but of entries, in their order and each once.
+  pub stops : AreStopsOf h.unit e.stops
+  -- Each instruction with a target has a word that writes the target's home, in the place that is in force before it.
+  pub writers : HaveWriters h code.arrangement e
+  -- Each parameter that is a scalar has one too, in the place of its function's entry.
+  pub binders : HaveBinders h code.arrangement e
+  -- No other word of a place writes a home of its function.
+  pub nothing_else : WritesNothingElse h code.arrangement e
+  -- The table of writers tells the address of the word that writes the home of each instruction's target, where 32 bits can count the instructions.
+  pub tables : TellWriters h code.arrangement e
+  -- The table of bindings tells that of the word that binds each parameter which is a scalar.
+  pub bindings : TellBinders h code.arrangement e
   -- Each place has an address of its own.
   pub apart : (s t : PlacedStop) → Among s e.stops → Among t e.stops → s.address ≡ t.address → s.place ≡ t.place
+  -- What is told of it is where its parts are: of static objects, and of each function its frame, its slots and its objects.
+  pub told : Tells h code.arrangement e
   -- Each static object has its address.
   pub statics : (n : ℕ) → n < length h.unit.statics → slice_get e.statics n ≡ Some (static_at h.unit n)

@@ -4,6 +4,7 @@ ghost use Rattle.std.specs.Prelude.{◌≡◌, ◌≤◌, IfOk, length};
 ghost use Rattle.graph_core.specs.Validity.{IsValid};
 ghost use Rattle.homed_unit.specs.Homed.{HaveHomes, homed_view};
 ghost use Rattle.emitted.specs.Emitted.{emitted_view};
+ghost use Rattle.emit_assembly.specs.Laid.{IsEmittedOf};
 ghost use Rattle.emit_assembly.specs.Placed.{AreFirstAddresses};
 ghost use Rattle.rv_emit.specs.Emits.{Emits};
 
@@ -21,6 +22,7 @@ pub fn emit(alloc: Global, homed: &HomedUnit) -> Result<Emitted, AllocError>
     ensures owners { IfOk result (λ e. length e.owners.items ≡ length e.code.items) }
     ensures functions { IfOk result (λ e. length e.functions.items ≡ length homed.now.unit.graphs.items) }
     ensures statics { IfOk result (λ e. AreFirstAddresses (homed_view homed.now).unit e.statics.items) }
+    ensures coded { IfOk result (λ e. IsEmittedOf (homed_view homed.now) (emitted_view e)) }
     ensures emits { IfOk result (λ e. Emits (homed_view homed.now) (emitted_view e)) }
 {
     graphs_have_words(&homed.unit.graphs);
