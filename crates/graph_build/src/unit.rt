@@ -1,9 +1,10 @@
 //! The unit of a program.
 
-ghost use Rattle.std.specs.Prelude.{◌≡◌, ◌↔◌, [], IfOk, map};
+ghost use Rattle.std.specs.Prelude.{◌≡◌, ◌↔◌, [], AllPairs, IfOk, map};
 ghost use Rattle.std.specs.List.{Contains};
 ghost use Rattle.places.specs.declared.flow.Assignment.{Assignment};
 ghost use Rattle.places.specs.declared.flow.FlowStep.{FlowStep};
+ghost use Rattle.places.specs.Flow.{AreInOrder, IsAssignmentBefore};
 ghost use Rattle.c_tree.specs.Programs.{program_view};
 ghost use Rattle.c_flow.specs.Assigns.{assignments_of_program};
 ghost use Rattle.c_flow.specs.Flow.{steps_of_program};
@@ -50,7 +51,9 @@ pub fn build(alloc: Global, program: &Program) -> Result<Unit, AllocError>
     ensures forms { IfOk result (λ u. IsUnitOf (program_view program.now) (unit_view u)) }
     ensures main { IfOk result (λ u. (unit_view u).main ≡ (program_view program.now).main) }
     ensures unchanged { IfOk result (λ u. (unit_view u).log ≡ []) }
+    ensures steps_in_order { IfOk result (λ u. AreInOrder (unit_view u).steps) }
     ensures steps { IfOk result (λ u. (s : FlowStep) → Contains (unit_view u).steps s ↔ Contains (steps_of_program (program_view program.now)) s) }
+    ensures assignments_in_order { IfOk result (λ u. AllPairs IsAssignmentBefore (unit_view u).assignments) }
     ensures assignments { IfOk result (λ u. (a : Assignment) → Contains (unit_view u).assignments a ↔ Contains (assignments_of_program (program_view program.now)) a) }
 {
     let flow = flow_table(alloc, program)?;

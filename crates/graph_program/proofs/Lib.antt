@@ -3,6 +3,7 @@ pub mod Scalars
 pub mod Objects
 pub mod Accepted
 pub mod Settings
+pub mod Stops
 pub mod Places
 pub mod Closing
 pub mod Blocks
@@ -15,3 +16,15 @@ pub mod Entry
 pub mod Statics
 pub mod Start
 pub mod Program
+pub mod Naming
+pub mod Values
+pub mod Pieces
+pub mod Expressions
+pub mod Declarators
+pub mod Statements
+pub mod Bodies
+pub mod Edges
+pub mod Markers
+pub mod Storage
+pub mod Functions
+pub mod Whole

@@ -16,6 +16,7 @@ use Rattle.graph_runs.proofs.Activities.{Activity}
 use Rattle.graph_runs.proofs.Living.{AllLive}
 use Rattle.graph_runs.proofs.Stops.{PlaceIs}
 use Rattle.graph_runs.proofs.Forming.{ArePlaces, places_front, places_back}
+use Rattle.graph_program.proofs.Stops.{scope_there, stops_behind}
 use Rattle.graph_program.proofs.Settings.{running, within, place_number, entry_number, place_there}
 
 -- places by their number in a list
@@ -30,15 +31,25 @@ module _ (p : ProgramTree) (u : UnitForm) (f : ℕ) (tree : TypedFunctionTree) (
   -- Each place behind the entry is a stop with its scope.
   place_is : (i : ℕ) (q : Place) → slice_get (places_of_function f tree) (suc i) ≡ Some q → PlaceIs k q.scope q.spot.at
   place_is i q e = record {
+    there = record {
+      place = q;
+      is = standing;
+      stops = stops_behind f tree i q e;
+      scope = scope_there (places_of_program p) ascend (length (within p f tree is ascend).before + suc i) q (place_there p f tree is ascend (suc i) q e);
+    };
     stops = later (number_at (places_of_program p) q.spot.at) (number_at (places_of_program p) tree.spot.at) here (entry_number p f tree is ascend);
     covers = λ r found memory h.
-        (let before : number_at (places_of_program p) q.spot.at - 1 ≡ length (within p f tree is ascend).before + suc i = omega (arith, here) in
-        let same : r ≡ q = some_same (sym found ∙ ap (slice_get (places_of_program p)) before ∙ place_there p f tree is ascend (suc i) q e) in
+        (let same : r ≡ q = some_same (sym found ∙ standing) in
         subst (λ z. AllLive memory (depth_in k.setting) z.scope) (sym same) h);
   }
     where
       here : number_at (places_of_program p) q.spot.at ≡ length (within p f tree is ascend).before + suc i + 1
       here = place_number p f tree is ascend (suc i) q e
+
+      standing : slice_get (places_of_program p) (number_at (places_of_program p) q.spot.at - 1) ≡ Some q
+      standing =
+          let before : number_at (places_of_program p) q.spot.at - 1 ≡ length (within p f tree is ascend).before + suc i = omega (arith, here) in
+          ap (slice_get (places_of_program p)) before ∙ place_there p f tree is ascend (suc i) q e
 
       later : (a b : ℕ) → a ≡ length (within p f tree is ascend).before + suc i + 1 → b ≡ length (within p f tree is ascend).before + 0 + 1 → a == b ≡ false
       later a b x y = let less : b + suc i ≡ a = omega (arith, x, y) in grind (arith, nat_tests, less)

@@ -15,6 +15,7 @@ use Rattle.c_laws.specs.Laws.{is_main}
 use Rattle.graph_core.specs.Graphs.{UnitForm}
 use Rattle.graph_build.specs.Units as unit
 use Rattle.graph_build.specs.Units.{IsUnitOf}
+use Rattle.graph_values.proofs.Types.{value_is}
 use Rattle.graph_stores.proofs.Shapes.{two_true}
 use Rattle.graph_runs.proofs.StaticObjects.{object_element, object_count, static_number, relocation_of, static_of, literal_of, statics_of}
 use Rattle.graph_runs.proofs.Functions.{FunctionStands}
@@ -22,10 +23,11 @@ use Rattle.graph_runs.proofs.Main.{MainStands}
 use Rattle.graph_program.proofs.Accepted.{ProgramFacts}
 use Rattle.graph_program.proofs.Statics.{statics_fit}
 
--- `main` is a function without parameters
-main_found : (r : Option TypedFunctionTree) → is_main r ≡ true → (tree : TypedFunctionTree) × (r ≡ Some tree) × (tree.parameters ≡ 0)
+-- `main` is a function without parameters that gives an int
+main_found : (r : Option TypedFunctionTree) → is_main r ≡ true → (tree : TypedFunctionTree) × (r ≡ Some tree) × (tree.parameters ≡ 0) × (tree.result ≡ Integer Int)
 main_found None h = cc
-main_found (Some tree) h = (tree, refl, equal tree.parameters 0 (two_true (tree.parameters == 0) (same_value tree.result (Integer Int)) h).0)
+main_found (Some tree) h =
+    let two = two_true (tree.parameters == 0) (same_value tree.result (Integer Int)) h in (tree, refl, equal tree.parameters 0 two.0, value_is tree.result (Integer Int) two.1)
   where
     equal : (a b : ℕ) → (a == b) ≡ true → a ≡ b
     equal a b h = grind (arith, nat_tests)
@@ -66,4 +68,4 @@ module _ (p : ProgramTree) where
 pub main_stands : (p : ProgramTree) (u : UnitForm) → ProgramFacts p → IsUnitOf p u → ((f : ℕ) (tree : TypedFunctionTree) → slice_get p.functions f ≡ Some tree → FunctionStands p u f tree) → MainStands p u
 main_stands p u facts is_unit stands =
     let m = main_found (slice_get p.functions p.main) facts.main in
-    record { tree = m.0; is = m.1; function = stands p.main m.0 m.1; takes_none = m.2; number = is_unit.main; statics = is_unit.statics ∙ statics_alike p; fit = statics_fit p facts.statics facts.sound }
+    record { tree = m.0; is = m.1; function = stands p.main m.0 m.1; takes_none = m.2; gives = m.3; number = is_unit.main; statics = is_unit.statics ∙ statics_alike p; fit = statics_fit p facts.statics facts.sound }

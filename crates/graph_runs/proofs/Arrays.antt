@@ -34,7 +34,7 @@ use Rattle.graph_values.proofs.Places.{pointed_in}
 use Rattle.graph_values.proofs.Storing.{fits_both_set, fits_stored}
 use Rattle.graph_stores.proofs.Writing.{store_step}
 use Rattle.graph_runs.proofs.Activities.{Activity, placed, before_in, fits_placed, fits_anywhere, sound_now}
-use Rattle.graph_runs.proofs.Living.{Under, Grown, LivesAt, lives_later, frames_later, was_there}
+use Rattle.graph_runs.proofs.Living.{statics_later, Under, Grown, LivesAt, lives_later, frames_later, was_there}
 use Rattle.graph_runs.proofs.Stops.{Lawful, Ready}
 use Rattle.graph_runs.proofs.Making.{last_is, live_open, new_in, with_new, sound_made, fits_made, sound_more, grown_more}
 use Rattle.graph_runs.proofs.Declared.{set_last}
@@ -43,6 +43,7 @@ use Rattle.graph_runs.proofs.Stored.{same_object, placed_new}
 -- what holds where a place's code begins holds behind what has ended since
 pub ready_since : (k : Activity) (place : ℕ) (before after : SourceMemory) → Since before after → Ready k place before → Ready k place after
 ready_since k place before after since h = record {
+  statics = statics_later k.setting.program before after since.later h.statics;
   above = λ n o v d is alive owner. (let z = was_there before after since.later n o is alive (since.ends n o is alive) in h.above n z.0 v d z.1 z.2 (sym z.3 ∙ owner));
   frames = frames_later k.setting.program k.setting.unit before after since.later k.frames k.setting.waiting h.frames;
   sees = λ q found j w vis. lives_later before after since.later w (depth_in k.setting) (h.sees q found j w vis);

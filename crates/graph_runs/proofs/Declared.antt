@@ -30,9 +30,10 @@ use Rattle.graph_drafts.specs.Drafts.{To, before, note}
 use Rattle.graph_coding.specs.Coding.{begun, going, coded}
 use Rattle.graph_values.specs.Typed.{IsOf}
 use Rattle.graph_values.specs.Correspondence.{SameValue, IsInMemory}
+use Rattle.graph_values.specs.Stops.{IsDeclared}
 use Rattle.graph_values.proofs.Leads.{names_in, depth_in, Local, World, Leads, goes, stays, then_leads, set_name, put_here}
 use Rattle.graph_values.proofs.Later.{set_here, Later, later_changed}
-use Rattle.graph_values.proofs.Kept.{IsDeclared, Sound, Fits, fits_wanted}
+use Rattle.graph_values.proofs.Kept.{Sound, Fits, fits_wanted}
 use Rattle.graph_values.proofs.Noting.{known_value, fits_written}
 use Rattle.graph_values.proofs.Types.{kind_is_of}
 use Rattle.graph_values.proofs.Operands.{Apart}

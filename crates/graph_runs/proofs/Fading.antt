@@ -22,9 +22,10 @@ use Rattle.graph_core.specs.Runs.{Activation}
 use Rattle.graph_names.specs.Names.{Names, names_of}
 use Rattle.graph_values.specs.Typed.{PointsInto, IsOf}
 use Rattle.graph_values.specs.Correspondence.{points, ended, SameValue, SameValues}
+use Rattle.graph_values.specs.Stops.{IsDeclared}
 use Rattle.graph_values.proofs.Leads.{Setting, names_in, depth_in, Local, World}
 use Rattle.graph_values.proofs.Later.{some_same, later_refl}
-use Rattle.graph_values.proofs.Kept.{IsDeclared, Since, Sound, ScalarIs, Own, Outer, Fits}
+use Rattle.graph_values.proofs.Kept.{Since, Sound, ScalarIs, Own, Outer, Fits}
 use Rattle.graph_runs.proofs.Living.{Grown}
 
 -- a list whose objects have all ended

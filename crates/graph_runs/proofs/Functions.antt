@@ -31,7 +31,7 @@ use Rattle.graph_stores.proofs.Moving.{AreSmall}
 use Rattle.graph_stores.proofs.Shapes.{two_true, three_true, four_true}
 use Rattle.graph_stores.proofs.Coding.{LaidOut}
 use Rattle.graph_runs.proofs.Activities.{coding_in, here_in, placed}
-use Rattle.graph_runs.proofs.Living.{frames_length, frames_later, Under, under_grown, grown_wider}
+use Rattle.graph_runs.proofs.Living.{statics_later, frames_length, frames_later, Under, under_grown, grown_wider}
 use Rattle.graph_runs.proofs.Stops.{Lawful}
 use Rattle.graph_runs.proofs.AtPlaces.{Begins}
 use Rattle.graph_runs.proofs.Exits.{ReturnsFit, AllReturnsFit, never_ends, never_gives}
@@ -113,6 +113,7 @@ module _ (p : ProgramTree) (u : UnitForm) where
         sound = r.sound;
         grown = grown_wider (depth_in k.setting) 0 tree.first_variable (tree.first_variable + tree.parameters) (tree.first_variable + tree.parameters) s.memory after (omega arith) (omega arith) r.grown;
         holding = record {
+          statics = statics_later p s.memory after r.grown.later held.statics;
           under = under_grown (depth_in k.setting) tree.first_variable (tree.first_variable + tree.parameters) s.memory after le under r.grown;
           scoped = r.live;
           frames = frames_later p u s.memory after r.grown.later frames ws held.frames;

@@ -73,7 +73,7 @@ module _ (k : Activity) where
   then_kept low mid high first brought scope before (Next s) rest le ge h r on =
       let held = holding_grown k scope low mid before s.memory le h r.grown in
       kept_since low high mid high (first ++ brought) before s.memory (rest s) le (omega arith) (grown_wider (depth_in k.setting) low low high mid before s.memory (omega arith) ge r.grown)
-      (brings_more mid high first brought s.memory (rest s) r.brings (on s r.sound (record { under = held.under; scoped = all_both s.memory (depth_in k.setting) scope first held.scoped r.brings; frames = held.frames })))
+      (brings_more mid high first brought s.memory (rest s) r.brings (on s r.sound (record { statics = held.statics; under = held.under; scoped = all_both s.memory (depth_in k.setting) scope first held.scoped r.brings; frames = held.frames })))
   then_kept low mid high first brought scope before (Broken s) rest le ge h r on = stays_since low high low mid [] before before s (omega arith) ge (grown_none k low high before) r
   then_kept low mid high first brought scope before (Continued s) rest le ge h r on = stays_since low high low mid [] before before s (omega arith) ge (grown_none k low high before) r
   then_kept low mid high first brought scope before (Returned v s) rest le ge h r on = (stays_since low high low mid [] before before s (omega arith) ge (grown_none k low high before) r.0, r.1)

@@ -36,7 +36,7 @@ first_goes k scope low mid high w begin next first brought go rest le ge does re
     (λ place2 l2 u2 s2 comes2 sound2 fits2 grown brings.
     (let held = holding_grown k scope low mid s.memory s2.memory le h grown in
     brings_more k c es mid high first brought s2.memory w (rest s2) brings
-    (rest_does c es place2 l2 u2 s2 comes2 sound2 fits2 (record { under = held.under; scoped = all_both s2.memory (depth_in k.setting) scope first held.scoped brings; frames = held.frames }))))
+    (rest_does c es place2 l2 u2 s2 comes2 sound2 fits2 (record { statics = held.statics; under = held.under; scoped = all_both s2.memory (depth_in k.setting) scope first held.scoped brings; frames = held.frames }))))
 
 -- A block: its objects end with it.
 pub block_goes : (k : Activity) (scope : List ℕ) (low high : ℕ) (brought : List ℕ) (w : Ways) (begin : Option ℕ) (go : State → Outcome) → GoesOn k low high brought w scope begin go → GoesOn k low low [] w scope begin (λ s. closed (length s.memory) (go s))

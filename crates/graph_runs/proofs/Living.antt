@@ -9,6 +9,7 @@ use Rattle.c_memory.specs.Memory.{Object as SourceObject, Memory as SourceMemory
 use Rattle.c_states.specs.declared.event.Frame.{Frame}
 use Rattle.graph_core.specs.Graphs.{UnitForm}
 use Rattle.graph_core.specs.Runs.{Activation}
+use Rattle.graph_values.specs.Stops.{StaticsLive}
 use Rattle.graph_values.proofs.Later.{some_same, Later, later_refl, later_trans}
 use Rattle.graph_values.proofs.Kept.{Since}
 
@@ -22,6 +23,10 @@ pub record LivesAt (memory : SourceMemory) (v depth : ℕ) : Type 0 where
 
 pub lives_later : (memory after : SourceMemory) → Later memory after → (v depth : ℕ) → LivesAt memory v depth → LivesAt after v depth
 lives_later memory after later v depth h = let c = later h.number h.object h.is in record { number = h.number; object = c.object; is = c.is; owner = c.owner ∙ h.owner; lives = c.phase.live h.lives }
+
+-- static variables live on
+pub statics_later : (p : ProgramTree) (memory after : SourceMemory) → Later memory after → StaticsLive p memory → StaticsLive p after
+statics_later p memory after later h n v is = let z = h n v is in let c = later z.number z.object z.is in record { number = z.number; object = c.object; is = c.is; owned = c.owner ∙ z.owned; phase = c.phase.live z.phase }
 
 -- all variables of a scope
 abbrev pub AllLive : SourceMemory → (depth : ℕ) → List ℕ → Type 0

@@ -1,16 +1,19 @@
 -- A program's `main` is there, and both runs come to its body, where its blocks stand and static storage is the program's.
 use Rattle.std.proofs.Common.{◌≡◌, ℕ, ◌+◌, List, [], ◌∷◌, length, take, drop, Some, None, slice_get, refl, sym, ap, ◌∙◌, subst}
+use Rattle.c_tree.specs.declared.types.IntegerType.TheVariants.{Int}
+use Rattle.c_tree.specs.declared.object_type.ValueType.TheVariants.{Integer}
 use Rattle.c_tree.specs.Programs.{AutomaticTree, TypedFunctionTree, ProgramTree}
 use Rattle.c_law_types.specs.Kinds.{types_of}
 use Rattle.c_places.specs.Places.{numbers_from, parameters_of}
 use Rattle.c_memory.specs.Memory.{Memory as SourceMemory}
 use Rattle.c_activations.specs.Activations.{Activation as SourceActivation}
 use Rattle.c_activations.specs.Calls.{bind}
-use Rattle.c_activations.specs.StaticStorage.{first_memory}
+use Rattle.c_activations.specs.StaticStorage.{static_object, first_memory}
 use Rattle.graph_core.specs.Graphs as unit
 use Rattle.graph_core.specs.Graphs.{UnitForm, Marker}
 use Rattle.graph_core.specs.Memory.{first_memory as unit_memory}
 use Rattle.graph_core.specs.Runs.{Configuration, begun, enter}
+use Rattle.graph_values.specs.Stops.{StaticsLive}
 use Rattle.graph_values.specs.Correspondence.{DoesProgram}
 use Rattle.graph_values.proofs.Leads.{depth_in, stays}
 use Rattle.graph_values.proofs.Later.{Later, later_refl, others_refl}
@@ -22,7 +25,7 @@ use Rattle.graph_runs.proofs.Calls.{activity_of, Bound}
 use Rattle.graph_runs.proofs.Entry.{entry_made, Awaits}
 use Rattle.graph_runs.proofs.Entering.{entered_from, enters_there}
 use Rattle.graph_runs.proofs.Functions.{FunctionStands, function_is}
-use Rattle.graph_runs.proofs.StaticObjects.{statics_of}
+use Rattle.graph_runs.proofs.StaticObjects.{statics_of, static_there}
 use Rattle.graph_runs.proofs.StaticValues.{StaticsFit}
 use Rattle.graph_runs.proofs.StaticStorage.{awaits_first, never_variable, sound_first}
 use Rattle.graph_runs.proofs.Program.{MainIs, begun_with, program_does}
@@ -32,12 +35,13 @@ bound_nothing : (here : SourceActivation) (all : List ℕ) (memory : SourceMemor
 bound_nothing here [] memory = refl
 bound_nothing here (v ∷ all) memory = refl
 
--- What is asked of a program and its unit where a run begins: `main` is one of its functions, takes nothing, and has its number in both; its blocks stand; and static storage is the program's.
+-- What is asked of a program and its unit where a run begins: `main` is one of its functions, takes nothing, gives an int, and has its number in both; its blocks stand; and static storage is the program's.
 pub record MainStands (p : ProgramTree) (u : UnitForm) : Type 0 where
   pub tree : TypedFunctionTree
   pub is : slice_get p.functions p.main ≡ Some tree
   pub function : FunctionStands p u p.main tree
   pub takes_none : tree.parameters ≡ 0
+  pub gives : tree.result ≡ Integer Int
   pub number : u.main ≡ p.main
   pub statics : u.statics ≡ statics_of p
   pub fit : StaticsFit p
@@ -62,8 +66,12 @@ module _ (p : ProgramTree) (u : UnitForm) (h : MainStands p u) where
   waits_none : Awaits p u (first_memory p) (unit_memory u.statics) []
   waits_none = subst (λ z. Awaits p u (first_memory p) (unit_memory z) []) (sym h.statics) (awaits_first p h.fit u h.statics)
 
+  -- static variables live
+  statics_first : StaticsLive p (first_memory p)
+  statics_first n v is = record { number = n; object = static_object p n v; is = static_there p n v is; owned = refl; phase = refl }
+
   holds_first : Holding main_activity [] 0 (first_memory p)
-  holds_first = record { under = λ n o v d is alive owner. never_variable p h.fit n o v d is owner; scoped = tt; frames = tt }
+  holds_first = record { statics = statics_first; under = λ n o v d is alive owner. never_variable p h.fit n o v d is owner; scoped = tt; frames = tt }
 
   takes_nothing : AreOf (first_memory p) (types_of (take h.tree.parameters (drop h.tree.first_variable p.automatics))) []
   takes_nothing = subst (λ n. AreOf (first_memory p) (types_of (take n (drop h.tree.first_variable p.automatics))) []) (sym h.takes_none) (none (drop h.tree.first_variable p.automatics))
@@ -85,6 +93,7 @@ module _ (p : ProgramTree) (u : UnitForm) (h : MainStands p u) where
   main_is_there = record {
     tree = h.tree;
     is = h.is;
+    gives = h.gives;
     function = function_is p u p.main h.tree h.function;
     first = first_number;
     begins = λ input. (begins_with input, begins_there input);
@@ -94,7 +103,7 @@ module _ (p : ProgramTree) (u : UnitForm) (h : MainStands p u) where
     bound = λ input bytes turns. subst (λ m. Bound p u main_activity h.tree (first_memory p) (record (begun_with p u input turns) { memory = m })) (sym memory_is) (record {
       sound = sound_first p h.fit (begun_with p u input turns) refl bytes;
       grown = grown_none main_activity 0 (h.tree.first_variable + h.tree.parameters) (first_memory p);
-      holding = record { under = λ n o v d is alive owner. never_variable p h.fit n o v d is owner; scoped = parameters_none (first_memory p) (depth_in main_activity.setting); frames = tt };
+      holding = record { statics = statics_first; under = λ n o v d is alive owner. never_variable p h.fit n o v d is owner; scoped = parameters_none (first_memory p) (depth_in main_activity.setting); frames = tt };
     });
   }
 

@@ -26,13 +26,14 @@ use Rattle.c_states.specs.States.{State}
 use Rattle.c_activations.specs.Lifetimes.{made}
 use Rattle.graph_values.specs.Typed.{IsOf}
 use Rattle.graph_values.specs.Correspondence.{IsInMemory}
+use Rattle.graph_values.specs.Stops.{IsDeclared}
 use Rattle.graph_values.proofs.Leads.{depth_in, Local, World}
 use Rattle.graph_values.proofs.Later.{some_same, get_set, Onward, onward, Later, later_refl, later_changed, others_refl}
-use Rattle.graph_values.proofs.Kept.{IsDeclared, Sound, Placed, Fits}
+use Rattle.graph_values.proofs.Kept.{Sound, Placed, Fits}
 use Rattle.graph_values.proofs.Noting.{scalar_later, outer_later, placed_later}
 use Rattle.graph_values.proofs.Typing.{of_later}
 use Rattle.graph_runs.proofs.Activities.{Activity, here_in}
-use Rattle.graph_runs.proofs.Living.{lives_later, frames_later, Under, Grown}
+use Rattle.graph_runs.proofs.Living.{statics_later, lives_later, frames_later, Under, Grown}
 use Rattle.graph_runs.proofs.Stops.{Ready}
 
 -- a list with one more
@@ -183,6 +184,7 @@ module _ (k : Activity) (v : ℕ) (a : AutomaticTree) (is : slice_get k.setting.
 
   pub ready_made : (place : ℕ) (memory : SourceMemory) → Ready k place memory → Ready k place (with_new memory)
   ready_made place memory h = record {
+    statics = statics_later k.setting.program memory (with_new memory) (later_more memory new_in) h.statics;
     above = λ n o w d found alive owner. elim (got_last memory new_in o n found) [
       | inl here ↦ h.above n o w d here alive owner
       | inr both ↦ let e : d ≡ depth_in k.setting = depth_is (sym owner ∙ ap (λ q. q.owner) both.1) in omega (arith, e)

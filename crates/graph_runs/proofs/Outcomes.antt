@@ -13,12 +13,13 @@ use Rattle.graph_core.specs.Graphs.{Operand, Return, Block}
 use Rattle.graph_core.specs.Runs.{Configuration, Event, value}
 use Rattle.graph_coding.specs.Coding.{block_of}
 use Rattle.graph_values.specs.Typed.{IsOf}
+use Rattle.graph_values.specs.Stops.{StaticsLive}
 use Rattle.graph_values.specs.Correspondence.{SameValue}
 use Rattle.graph_values.proofs.Leads.{depth_in, Local, World, Leads}
 use Rattle.graph_values.proofs.Kept.{Since, Sound, Fits}
 use Rattle.graph_values.proofs.Results.{EndsBy}
 use Rattle.graph_runs.proofs.Activities.{Activity, coding_in, before_in}
-use Rattle.graph_runs.proofs.Living.{AllLive, all_later, FramesAre, frames_later, Under, under_grown, Grown, grown_same, grown_since, grown_wider, grown_trans}
+use Rattle.graph_runs.proofs.Living.{statics_later, AllLive, all_later, FramesAre, frames_later, Under, under_grown, Grown, grown_same, grown_since, grown_wider, grown_trans}
 use Rattle.graph_runs.proofs.Fading.{sound_closed, fits_closed, since_closed, value_faded, of_faded}
 
 -- A run comes to the block of a place, or where there is no place to go to, to the end that stands for none.
@@ -74,8 +75,9 @@ Runs k c es low high brought before w (Continued s) = Arrives k c es low high []
 Runs k c es low high brought before w (Returned v s) = Leaving k c es low high before v s
 Runs k c es low high brought before w (Ended e s) = Halts k c es e s
 
--- What holds before a statement: its variables are new, those in scope live, and the activations that wait correspond.
+-- What holds before a statement: its variables are new, static ones and those in scope live, and the activations that wait correspond.
 pub record Holding (k : Activity) (scope : List ℕ) (low : ℕ) (memory : SourceMemory) : Type 0 where
+  pub statics : StaticsLive k.setting.program memory
   pub under : Under memory (depth_in k.setting) low
   pub scoped : AllLive memory (depth_in k.setting) scope
   pub frames : FramesAre k.setting.program k.setting.unit memory k.frames k.setting.waiting
@@ -87,6 +89,7 @@ GoesOn k low high brought w scope begin go = (c : Configuration) (es : List Even
 
 pub holding_grown : (k : Activity) (scope : List ℕ) (low high : ℕ) (before after : SourceMemory) → low ≤ high → Holding k scope low before → Grown (depth_in k.setting) low high before after → Holding k scope high after
 holding_grown k scope low high before after le h g = record {
+  statics = statics_later k.setting.program before after g.later h.statics;
   under = under_grown (depth_in k.setting) low high before after le h.under g;
   scoped = all_later before after g.later (depth_in k.setting) scope h.scoped;
   frames = frames_later k.setting.program k.setting.unit before after g.later k.frames k.setting.waiting h.frames;

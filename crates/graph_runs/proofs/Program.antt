@@ -1,7 +1,9 @@
 -- The unit's run shows what the program's does, where the program's functions are as they should be.
-use Rattle.std.proofs.Common.{◌≡◌, ℕ, zero, suc, ◌+◌, List, [], ◌∷◌, ◌++◌, length, Option, Some, None, Bool, slice_get, refl, sym, ap, ◌∙◌, subst, arith}
+use Rattle.std.proofs.Common.{◌≡◌, ℤ, ℕ, zero, suc, ◌+◌, List, [], ◌∷◌, ◌++◌, length, Option, Some, None, Bool, slice_get, refl, sym, ap, ◌∙◌, subst, arith}
 use Rattle.std.specs.Prelude.{◌==◌}
 use Rattle.std.proofs.lemmas.List.{append-nil, append_assoc}
+use Rattle.c_tree.specs.declared.types.IntegerType.TheVariants.{Int}
+use Rattle.c_tree.specs.declared.object_type.ValueType.TheVariants.{Integer}
 use Rattle.c_tree.specs.Programs.{TypedFunctionTree, ProgramTree}
 use Rattle.c_facts.specs.Flow.{reaches_end}
 use Rattle.c_places.specs.Places.{places_of_program, parameters_of, brought_by_body}
@@ -21,6 +23,8 @@ use Rattle.graph_core.specs.Runs.{Configuration, Event, Exited, TooDeep, Ends as
 use Rattle.graph_scale.specs.Conversions.{word_of}
 use Rattle.event_runs.specs.Agreement.{Pairs}
 use Rattle.event_runs.specs.Following.{Reached}
+use Rattle.graph_values.specs.Typed.{IsOf}
+use Rattle.graph_values.specs.Stops.{IsStatus}
 use Rattle.graph_values.specs.Correspondence.{SameEvent, SameValue, AreBytes, DoesProgram}
 use Rattle.graph_values.specs.Correspondence as event
 use Rattle.graph_values.proofs.Leads.{depth_in, Leads, stays, goes, shows}
@@ -82,21 +86,25 @@ module _ (p : ProgramTree) (u : UnitForm) (c : Configuration) where
       }
 
 -- `main` returns to no activation: the program ends.
-module _ (p : ProgramTree) (u : UnitForm) (f : ℕ) (tree : TypedFunctionTree) (g : Graph) (again : Bool) (top first : ℕ) (objects : Memory) (left : ℕ) (c : Configuration) (low high : ℕ) (before : SourceMemory) where
+module _ (p : ProgramTree) (u : UnitForm) (f : ℕ) (tree : TypedFunctionTree) (g : Graph) (again : Bool) (top first : ℕ) (objects : Memory) (left : ℕ) (c : Configuration) (low high : ℕ) (before : SourceMemory) (gives : tree.result ≡ Integer Int) where
   abbrev main_in : Activity
   main_in = activity_of p u f tree g again top first [] objects [] left
+
+  -- a value that is an int
+  status : (memory : SourceMemory) (z : ℤ) → IsOf memory (Integer Int) (source.Number z) → IsStatus z
+  status memory z h = h
 
   shown_final : (n : ℕ) (r : Evaluated) → Final main_in c [] low high before r → Reached (SameEvent p u) (finished (forgotten n r)).events (λ m. run u m c)
   shown_final n (Gives (source.Number z) s) h =
       let o = h.hands.0 in
       let leads = subst (λ a. Leads u c [] (before_in main_in h.place [] (Return a) h.local h.world) h.world.seen) h.hands.1 h.leads in
-      reached_end p u c s.events (before_in main_in h.place [] (Return (Some o)) h.local h.world) h.world.seen (source-event.Exited z) (Exited (word_of z)) leads h.fits.events (ap exited h.hands.2) event.exited
+      reached_end p u c s.events (before_in main_in h.place [] (Return (Some o)) h.local h.world) h.world.seen (source-event.Exited z) (Exited (word_of z)) leads h.fits.events (ap exited h.hands.2) (event.exited (status s.memory z (subst (λ t. IsOf s.memory t (source.Number z)) gives h.hands.3)))
   shown_final n (Gives source.Null s) h = reached_so p u c s.events (before_in main_in h.place [] (Return h.operand) h.local h.world) h.world.seen h.leads h.fits.events
   shown_final n (Gives (source.Pointer m offset) s) h = reached_so p u c s.events (before_in main_in h.place [] (Return h.operand) h.local h.world) h.world.seen h.leads h.fits.events
   shown_final n (Leaves s) h = reached_so p u c s.events (before_in main_in h.place [] (Return h.operand) h.local h.world) h.world.seen h.leads h.fits.events
   shown_final n (Ends ending.Undefined s) h = reached_so p u c s.events h.configuration h.seen h.leads h.ends
   shown_final n (Ends ending.Turns s) h = reached_so p u c s.events h.configuration h.seen h.leads h.ends
-  shown_final n (Ends (ending.Exit z) s) h = reached_end p u c s.events h.configuration h.seen (source-event.Exited z) (Exited (word_of z)) h.leads h.ends.0 h.ends.1 event.exited
+  shown_final n (Ends (ending.Exit z) s) h = reached_end p u c s.events h.configuration h.seen (source-event.Exited z) (Exited (word_of z)) h.leads h.ends.0 h.ends.1 (event.exited h.ends.2)
   shown_final n (Ends ending.Depth s) h = reached_end p u c s.events h.configuration h.seen source-event.TooDeep TooDeep h.leads h.ends.0 h.ends.1 event.deep
 
 module _ (p : ProgramTree) (u : UnitForm) where
@@ -104,10 +112,11 @@ module _ (p : ProgramTree) (u : UnitForm) where
   abbrev pub begun_with : (input : List ℕ) (turns : ℕ) → State
   begun_with input turns = record { memory = first_memory p; input = input; events = []; turns = turns }
 
-  -- A program's `main` is there, and both runs come to its body.
+  -- A program's `main` is there, gives an int, and both runs come to its body.
   pub record MainIs : Type 0 where
     pub tree : TypedFunctionTree
     pub is : slice_get p.functions p.main ≡ Some tree
+    pub gives : tree.result ≡ Integer Int
     pub function : FunctionIs p u p.main tree
     pub first : ℕ
     pub begins : (input : List ℕ) → (c : Configuration) × (enter u (unit_memory u.statics) input u.main [] [] ≡ Some c)
@@ -152,10 +161,10 @@ module _ (p : ProgramTree) (u : UnitForm) where
           (fn.closes main.first [] (unit_memory u.statics) [] 1023) (λ e s2 h. fn.never e k.calls (here_in k) s1 s2 h)
           (λ s2 r.
           (let h2 = holding_grown k (parameters_of tree) low high memory s2.memory le bound.holding r.grown in
-          record { under = h2.under; scoped = all_both s2.memory (depth_in k.setting) (parameters_of tree) (brought_by_body tree.body) h2.scoped r.brings; frames = h2.frames })) runs in
+          record { statics = h2.statics; under = h2.under; scoped = all_both s2.memory (depth_in k.setting) (parameters_of tree) (brought_by_body tree.body) h2.scoped r.brings; frames = h2.frames })) runs in
           let r = handed_back (p.main == p.main) (at_close (here_in k) tree.close o) in
           started (forgotten (length (first_memory p)) r)
-          (shown_final p u p.main tree fn.graph fn.again fn.top main.first (unit_memory u.statics) 1023 c low high memory (length (first_memory p)) r final)
+          (shown_final p u p.main tree fn.graph fn.again fn.top main.first (unit_memory u.statics) 1023 c low high memory main.gives (length (first_memory p)) r final)
 
       by_function : (found : Option TypedFunctionTree) → found ≡ Some main.tree
           → Reached (SameEvent p u) (finished (activate (λ place. calls_of p (places_of_program p) 1023 (record { function = p.main; place = place } ∷ [])) (record { program = p; places = places_of_program p; function = p.main; waiting = [] }) found [] (begun_with input turns))).events (unit_run u input)

@@ -41,7 +41,7 @@ use Rattle.graph_values.proofs.Calling.{none_odd, waiting, BackR}
 use Rattle.graph_values.proofs.Library.{call_step}
 use Rattle.graph_stores.proofs.Coding.{CallsAre}
 use Rattle.graph_runs.proofs.Activities.{Activity, placed, sound_now}
-use Rattle.graph_runs.proofs.Living.{LivesAt, lives_later, frames_length, frames_later, was_there, all_both, Grown, grown_trans, grown_wider}
+use Rattle.graph_runs.proofs.Living.{statics_later, LivesAt, lives_later, frames_length, frames_later, was_there, all_both, Grown, grown_trans, grown_wider}
 use Rattle.graph_runs.proofs.Outcomes.{Leaving, Holding, holding_grown}
 use Rattle.graph_runs.proofs.Stops.{Ready}
 use Rattle.graph_runs.proofs.Formed.{behind_all}
@@ -91,6 +91,7 @@ module _ (p : ProgramTree) (u : UnitForm) (all_are : FunctionsAre p u) where
         → Holding (activity_of p u n b fb.graph fb.again fb.top first2 (a ∷ ws) objects2 (frame_here ∷ frames) m) [] 0 s.memory
     holding_within rdy s sound n b fb first2 objects2 a m function_is place_is graph_is =
         let same : length frames ≡ length ws = frames_length p u began frames ws rdy.frames in record {
+          statics = statics_later p began s.memory sound.since.later rdy.statics;
           under = λ i o v d is alive owner.
               (let z = was_there began s.memory sound.since.later i o is alive (sound.since.ends i o is alive) in
               let le : d ≤ length ws + 1 = rdy.above i z.0 v d z.1 z.2 (sym z.3 ∙ owner) in (omega (arith, le), λ e. absurd (omega (arith, le, e))));
@@ -132,7 +133,7 @@ module _ (p : ProgramTree) (u : UnitForm) (all_are : FunctionsAre p u) where
         (at_close (source_here n) b.close (execute_all (source_calls n) (source_here n) b.body (record t { memory = bind (source_here n) (parameters_of b) vs t.memory })))))
 
     ready_now : Ready (activity_of p u f tree fn.graph fn.again fn.top first ws objects frames left) place began
-    ready_now = record { above = rdy.above; frames = rdy.frames; sees = rdy.sees }
+    ready_now = record { statics = rdy.statics; above = rdy.above; frames = rdy.frames; sees = rdy.sees }
 
     keeps_call : (n : ℕ) (vs : List source-value.Value) (s : State) → Sound p began s → AreOf s.memory (taken_by p (called.Function n)) vs → Keeps p began s.memory (Of (given_by (results_of p.functions) (called.Function n))) (calls_of p (places_of_program p) (suc left) (record { function = f; place = place } ∷ frames) n vs s)
     keeps_call n vs s sound are = by_function (slice_get p.functions n) refl
@@ -192,7 +193,7 @@ module _ (p : ProgramTree) (u : UnitForm) (all_are : FunctionsAre p u) where
             (fb.closes (length w.memory) (a ∷ ws) w.memory (record { function = f; place = place } ∷ frames) left) (λ e s2 h. fb.never e (source_calls n) (source_here n) (record s1 { memory = memory }) s2 h)
             (λ s2 r.
             (let h2 = holding_grown k (parameters_of b) low high memory s2.memory le bound.holding r.grown in
-            record { under = h2.under; scoped = all_both s2.memory (depth_in k.setting) (parameters_of b) (brought_by_body b.body) h2.scoped r.brings; frames = h2.frames })) runs in
+            record { statics = h2.statics; under = h2.under; scoped = all_both s2.memory (depth_in k.setting) (parameters_of b) (brought_by_body b.body) h2.scoped r.brings; frames = h2.frames })) runs in
             back_final x n b fb.graph fb.again fb.top (record { function = f; place = place } ∷ frames) left target args ops end l w s fits is_f high (handed_back (n == p.main) (at_close (source_here n) b.close o))
             (final_before k c w.seen low high s.memory memory (handed_back (n == p.main) (at_close (source_here n) b.close o)) (grown_wider (depth_in k.setting) 0 0 high low s.memory memory (omega arith) le bound.grown) final)
 

@@ -22,9 +22,10 @@ use Rattle.graph_core.specs.Memory as unit-memory
 use Rattle.graph_core.specs.Memory.{Object}
 use Rattle.graph_values.specs.Typed.{IsOf}
 use Rattle.graph_values.specs.Correspondence.{owner_of, SameValues, AreBytes}
+use Rattle.graph_values.specs.Stops.{IsDeclared}
 use Rattle.graph_values.proofs.Wrapping.{wrapped_holds}
 use Rattle.graph_values.proofs.Later.{later_refl}
-use Rattle.graph_values.proofs.Kept.{IsDeclared, Sound, Placed}
+use Rattle.graph_values.proofs.Kept.{Sound, Placed}
 use Rattle.graph_runs.proofs.Entry.{Awaits}
 use Rattle.graph_runs.proofs.StaticObjects.{static_of, literal_of, statics_of, unit_object, unit_found, unit_length, count_same, first_found, unit_static, unit_literal}
 use Rattle.graph_runs.proofs.StaticValues.{Bytes, StaticsFit, literal_values}

@@ -5,13 +5,13 @@ use Rattle.std.proofs.lemmas.Option.{slice_get_within}
 use Rattle.debug_records.specs.declared.source.Spot.{Spot}
 use Rattle.word_base.specs.Owners.{Variable}
 use Rattle.c_tree.specs.Programs.{TypedFunctionTree, ProgramTree}
-use Rattle.c_places.specs.Places.{Place, places_of_program}
+use Rattle.c_places.specs.Places.{Place, places_of_program, scope_at, visible}
 use Rattle.c_memory.specs.declared.value.Phase.TheVariants.{Live, Ended}
 use Rattle.c_memory.specs.Memory.{Object as SourceObject, Memory as SourceMemory}
 use Rattle.c_states.specs.declared.event.Frame.{Frame}
 use Rattle.c_states.specs.States.{State, Outcome}
 use Rattle.c_states.specs.States as source-event
-use Rattle.c_activations.specs.Activations.{depth_of, frames_at, shown_at, stopped, on_begun}
+use Rattle.c_activations.specs.Activations.{depth_of, frames_at, shown, shown_at, stopped, on_begun}
 use Rattle.c_activations.specs.Activations as activations
 use Rattle.c_flow.specs.declared.edge.Ways.{Ways}
 use Rattle.graph_core.specs.declared.value.Shadow.{Shadow}
@@ -22,6 +22,7 @@ use Rattle.graph_names.specs.Names.{names_of, scalar_of}
 use Rattle.graph_drafts.specs.Drafts.{Made}
 use Rattle.graph_coding.specs.Coding.{block_of}
 use Rattle.event_runs.specs.Agreement.{Pairs}
+use Rattle.graph_values.specs.Stops.{AreDeclared, StaticsLive, IsStopOf}
 use Rattle.graph_values.specs.Correspondence.{variable_of, SameMemory, ShadowIs, SameFrame, SameFrames, SameEvent, stop}
 use Rattle.graph_values.proofs.Leads.{names_in, depth_in, Local, World, Leads, stays, shows, then_leads}
 use Rattle.graph_values.proofs.Later.{some_same}
@@ -44,23 +45,33 @@ pub record Lawful (k : Activity) : Type 0 where
   pub graph_is : slice_get k.setting.unit.graphs k.setting.function ≡ Some k.setting.graph
   pub named : NamesScalars k.setting.program k.setting.unit
 
+-- A place of a program stands at a position, with a number, and is no entry.
+pub record StandsThere (p : ProgramTree) (number at : ℕ) : Type 0 where
+  pub place : Place
+  pub is : slice_get (places_of_program p) (number - 1) ≡ Some place
+  pub stops : place.is_entry ≡ false
+  pub scope : scope_at (places_of_program p) at ≡ place.scope
+
 -- A position is that of a place that is no entry, where no other variables than these are in scope.
 pub record PlaceIs (k : Activity) (scope : List ℕ) (at : ℕ) : Type 0 where
+  pub there : StandsThere k.setting.program (place_at k at) at
   pub stops : place_at k at == k.setting.graph.entry ≡ false
   pub covers : (q : Place) → slice_get (places_of_program k.setting.program) (place_at k at - 1) ≡ Some q → (memory : SourceMemory) → AllLive memory (depth_in k.setting) scope → AllLive memory (depth_in k.setting) q.scope
 
 -- more variables may live
 pub place_wider : (k : Activity) (scope more : List ℕ) (at : ℕ) → PlaceIs k scope at → PlaceIs k (scope ++ more) at
-place_wider k scope more at here = record { stops = here.stops; covers = λ q is memory h. here.covers q is memory (all_front memory (depth_in k.setting) scope more h) }
+place_wider k scope more at here = record { there = here.there; stops = here.stops; covers = λ q is memory h. here.covers q is memory (all_front memory (depth_in k.setting) scope more h) }
 
--- What holds where the code of a place begins: no object is deeper than the activation, and what is visible lives, here and where others wait.
+-- What holds where the code of a place begins: no object is deeper than the activation, what is visible lives, here and where others wait, and so do static variables.
 pub record Ready (k : Activity) (place : ℕ) (memory : SourceMemory) : Type 0 where
+  pub statics : StaticsLive k.setting.program memory
   pub above : (n : ℕ) (o : SourceObject) (v d : ℕ) → slice_get memory n ≡ Some o → o.phase ≢ Ended → o.owner ≡ Variable v d → d ≤ depth_in k.setting
   pub frames : FramesAre k.setting.program k.setting.unit memory k.frames k.setting.waiting
   pub sees : Sees k.setting.program memory (depth_in k.setting) place
 
 pub ready : (k : Activity) (scope : List ℕ) (low at : ℕ) (memory : SourceMemory) → PlaceIs k scope at → Holding k scope low memory → Ready k (place_at k at) memory
 ready k scope low at memory here h = record {
+  statics = h.statics;
   above = λ n o v d is alive owner. (h.under n o v d is alive owner).0;
   frames = h.frames;
   sees = λ q is j v vis. visible_lives memory (depth_in k.setting) k.setting.program.automatics q.scope j v vis (here.covers q is memory h.scoped);
@@ -123,6 +134,19 @@ module _ (p : ProgramTree) (u : UnitForm) (named : NamesScalars p u) (memory : S
       no : Live ≡ Ended → ⊥
       no h = cc
 
+-- The program's stop at a place is one of its own.
+stop_is : (k : Activity) (scope : List ℕ) (low at : ℕ) (memory : SourceMemory) → PlaceIs k scope at → Holding k scope low memory → AreDeclared k.setting.program memory
+    → IsStopOf k.setting.program (place_at k at) (depth_of (here_in k)) (shown_at (here_in k) at memory) memory
+stop_is k scope low at memory here h declared = record {
+  some = omega arith;
+  at = here.there.place;
+  is = here.there.is;
+  stops = here.there.stops;
+  shows = ap (λ (vs : List ℕ). map (shown (here_in k) memory) (visible k.setting.program.automatics vs)) here.there.scope;
+  declared = declared;
+  statics = h.statics;
+}
+
 -- The stops at a place are one.
 stop_same : (k : Activity) → Lawful k → (scope : List ℕ) (at : ℕ) (m : Made) (s : State) (l : Local) (w : World) → PlaceIs k scope at → (low : ℕ) → Holding k scope low s.memory → Sound k.setting.program s.memory s → Fits k.setting None s l w
     → SameEvent k.setting.program k.setting.unit (source-event.Stop (place_at k at) (depth_of (here_in k)) (frames_at (here_in k) (place_at k at)) (shown_at (here_in k) at s.memory) s.memory)
@@ -131,7 +155,7 @@ stop_same k law scope at m s l w here low h sound fits =
     let depth : length k.setting.waiting + 1 ≡ length k.frames + 1 = ap (λ n. n + 1) (sym (frames_length k.setting.program k.setting.unit s.memory k.frames k.setting.waiting h.frames)) in
     let now = ready k scope low at s.memory here h in
     let length_is : length k.frames + 1 ≡ length (frames_at (here_in k) (place_at k at)) = omega arith in
-    stop refl length_is (
+    stop (stop_is k scope low at s.memory here h sound.declared) refl length_is (
       frame_same k.setting.program k.setting.unit law.named s.memory w.memory (length k.frames + 1) (record { function = k.setting.function; place = place_at k at }) (before_in k (place_at k at) m.ops m.end l w).here k.setting.tree k.setting.again law.tree_is
           (subst (λ d. Own k.setting.program (names_in k.setting) None s.memory w.memory d k.setting.first l.names l.shadows) depth fits.own)
           (record { function = refl; place = refl; graph = law.graph_is; sees = subst (λ d. Sees k.setting.program s.memory d (place_at k at)) depth now.sees }),

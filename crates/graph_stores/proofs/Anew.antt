@@ -29,9 +29,10 @@ use Rattle.graph_steps.specs.declared.change.Change as declared-change
 use Rattle.graph_steps.specs.Steps.{changed}
 use Rattle.graph_values.specs.Typed.{IsOf}
 use Rattle.graph_values.specs.Correspondence.{SameValue}
+use Rattle.graph_values.specs.Stops.{IsDeclared}
 use Rattle.graph_values.proofs.Leads.{Setting, names_in, size_in, depth_in, Local, World, set_name, at, stays, goes, then_leads, put_here, put_elsewhere, less_other}
 use Rattle.graph_values.proofs.Later.{Later, later_set, others_refl, value_later}
-use Rattle.graph_values.proofs.Kept.{is_want, IsDeclared, Sound, Fits, ScalarsFirst, fits_local, fits_wanted}
+use Rattle.graph_values.proofs.Kept.{is_want, Sound, Fits, ScalarsFirst, fits_local, fits_wanted}
 use Rattle.graph_values.proofs.Results.{Passes}
 use Rattle.graph_values.proofs.Noting.{ScalarsApart, known_value, fits_noted}
 use Rattle.graph_values.proofs.Objects.{first_index, owned_at, begun_live}

@@ -439,7 +439,7 @@ module _ (x : Setting) (calls : Calls) (low : ScalarsFirst x) (apart : ScalarsAp
     coded_does (run {f = f} {types = types} {all = all} kind void nothing keeps ok c) = procedure_does x calls low all types (all_typed c) (all_does c) (passes_of all) f void nothing ok
     coded_does (got kind) = getchar_does x calls low none [] (none_typed x calls) (none_does x calls) (passes_of none)
     coded_does (put_out {all = all} kind c) = putchar_does x calls low all (Integer Int ∷ []) (all_typed c) (all_does c) (passes_of all)
-    coded_does (left {all = all} c) = exit_does x calls low all (Integer Int ∷ []) (all_typed c) (all_does c) (passes_of all)
+    coded_does (left {all = all} c) = exit_does x calls low all (Integer Int ∷ []) (all_typed c) (all_does c) (passes_of all) refl
 
     -- The code before places finds them.
     pub place_does : {lv : LvalueTree} → CodedPlace x calls lv → DoesPlace x calls lv

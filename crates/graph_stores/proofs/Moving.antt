@@ -30,11 +30,12 @@ use Rattle.graph_scale.specs.Conversions.{word_of}
 use Rattle.graph_drafts.specs.Rules.{move_by}
 use Rattle.graph_values.specs.Typed.{IsPointerTo}
 use Rattle.graph_values.specs.Correspondence.{SameObject, points, SameValue}
+use Rattle.graph_values.specs.Stops.{IsDeclared}
 use Rattle.graph_values.proofs.Words.{word_sum, word_difference, word_below}
 use Rattle.graph_values.proofs.Tests.{HasWord}
 use Rattle.graph_values.proofs.Leads.{Setting, Local, World}
 use Rattle.graph_values.proofs.Later.{some_same}
-use Rattle.graph_values.proofs.Kept.{IsDeclared, Sound, Fits}
+use Rattle.graph_values.proofs.Kept.{Sound, Fits}
 use Rattle.graph_values.proofs.Elements.{element_size}
 use Rattle.graph_values.proofs.Wholes.{stands_moved}
 use Rattle.graph_values.proofs.Access.{Leading, leads_to}

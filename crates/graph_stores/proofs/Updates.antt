@@ -31,9 +31,10 @@ use Rattle.graph_steps.specs.declared.change.Change as declared-change
 use Rattle.graph_code.specs.Code.{code_place}
 use Rattle.graph_steps.specs.Steps.{changed_element, takes_more, updated, stepped}
 use Rattle.graph_values.specs.Typed.{IsOf}
+use Rattle.graph_values.specs.Stops.{IsDeclared}
 use Rattle.graph_values.proofs.Leads.{Setting, names_in, size_in, depth_in, Local, World, stays}
 use Rattle.graph_values.proofs.Later.{others_refl}
-use Rattle.graph_values.proofs.Kept.{IsDeclared, Sound, Fits, ScalarsFirst}
+use Rattle.graph_values.proofs.Kept.{Sound, Fits, ScalarsFirst}
 use Rattle.graph_values.proofs.Results.{Result, result_after}
 use Rattle.graph_values.proofs.Noting.{ScalarsApart}
 use Rattle.graph_values.proofs.Typing.{HasKind, Typed}

@@ -33,6 +33,7 @@ use Rattle.graph_layout.specs.Layout.{passed_laid}
 use Rattle.graph_drafts.specs.Rules.{callee_for}
 use Rattle.graph_drafts.specs.Drafts.{Made, Goal, To, Unused, Either, before, leaf, zero as zero_operand, target, follow, called_by}
 use Rattle.graph_values.specs.Typed.{IsOf}
+use Rattle.graph_values.specs.Stops.{IsStatus}
 use Rattle.graph_values.specs.Correspondence.{SameValue, SameValues, AreBytes}
 use Rattle.graph_values.proofs.Leads.{Setting, names_in, size_in, depth_in, Local, World}
 use Rattle.graph_values.proofs.Kept.{Sound, Fits, ScalarsFirst}
@@ -148,20 +149,24 @@ module _ (x : Setting) (calls : Calls) (low : ScalarsFirst x) (all : ArgumentTre
   pub putchar_does : Does x calls (Call called.Putchar all)
   putchar_does = call_does called.Putchar false refl put_finishes
 
+  -- an argument that is an int
+  status : (z : ℤ) (memory : Memory) → AreOf memory (Integer Int ∷ []) (source.Number z ∷ []) → IsStatus z
+  status z memory h = h.0
+
   -- `exit`
-  exit_finishes : Finishes called.Exit true
-  exit_finishes t g [] s l w size sound fits are same =
+  exit_finishes : types ≡ Integer Int ∷ [] → Finishes called.Exit true
+  exit_finishes one t g [] s l w size sound fits are same =
       ended_result x g (stands_by true t) t (λ y. false) (last_by called.Exit true t g).ops (last_by called.Exit true t g).end l w ending.Undefined s (stuck_now x None (last_by called.Exit true t g).ops (last_by called.Exit true t g).end s l w fits)
-  exit_finishes t g (source.Number z ∷ []) s l w size sound fits are same =
+  exit_finishes one t g (source.Number z ∷ []) s l w size sound fits are same =
       let m = leaf g zero_operand in
       ended_result x g (stands_by true t) t (λ y. false) (last_by called.Exit true t g).ops (last_by called.Exit true t g).end l w (ending.Exit z) s
-      (exit_ends x None (passed_in x all t) m.ops m.end l w s z fits (one_word s.memory w.memory z (map (value x.unit.statics l.names) (passed_in x all t)) same))
-  exit_finishes t g (source.Null ∷ []) s l w size sound fits are same =
+      (exit_ends x None (passed_in x all t) m.ops m.end l w s z (status z s.memory (subst (λ ts. AreOf s.memory ts (source.Number z ∷ [])) one are)) fits (one_word s.memory w.memory z (map (value x.unit.statics l.names) (passed_in x all t)) same))
+  exit_finishes one t g (source.Null ∷ []) s l w size sound fits are same =
       ended_result x g (stands_by true t) t (λ y. false) (last_by called.Exit true t g).ops (last_by called.Exit true t g).end l w ending.Undefined s (stuck_now x None (last_by called.Exit true t g).ops (last_by called.Exit true t g).end s l w fits)
-  exit_finishes t g (source.Pointer n k ∷ []) s l w size sound fits are same =
+  exit_finishes one t g (source.Pointer n k ∷ []) s l w size sound fits are same =
       ended_result x g (stands_by true t) t (λ y. false) (last_by called.Exit true t g).ops (last_by called.Exit true t g).end l w ending.Undefined s (stuck_now x None (last_by called.Exit true t g).ops (last_by called.Exit true t g).end s l w fits)
-  exit_finishes t g (v ∷ u ∷ vs) s l w size sound fits are same =
+  exit_finishes one t g (v ∷ u ∷ vs) s l w size sound fits are same =
       ended_result x g (stands_by true t) t (λ y. false) (last_by called.Exit true t g).ops (last_by called.Exit true t g).end l w ending.Undefined s (stuck_now x None (last_by called.Exit true t g).ops (last_by called.Exit true t g).end s l w fits)
 
-  pub exit_does : Does x calls (Call called.Exit all)
-  exit_does = call_does called.Exit true refl exit_finishes
+  pub exit_does : types ≡ Integer Int ∷ [] → Does x calls (Call called.Exit all)
+  exit_does one = call_does called.Exit true refl (exit_finishes one)

@@ -1,9 +1,8 @@
 -- What a unit's run keeps of the state of a program's run.
 use Rattle.std.proofs.Common.{◌≡◌, ◌≢◌, ℕ, ◌+◌, ◌<◌, ◌≤◌, List, [], ◌∷◌, ◌++◌, length, Option, Some, None, Bool, true, false, slice_get, refl, sym, ap, ◌∙◌, subst, arith}
 use Rattle.std.specs.Prelude.{◌==◌, if◌then◌else◌}
-use Rattle.word_base.specs.Owners.{Owner, Static, Literal, Variable}
-use Rattle.c_tree.specs.Programs.{AutomaticTree, StaticTree, LiteralTree, TypedFunctionTree, ProgramTree}
-use Rattle.c_tree.specs.declared.types.IntegerType.TheVariants.{Char}
+use Rattle.word_base.specs.Owners.{Variable}
+use Rattle.c_tree.specs.Programs.{AutomaticTree, TypedFunctionTree, ProgramTree}
 use Rattle.c_memory.specs.declared.value.Value as source-value
 use Rattle.c_memory.specs.declared.value.Phase.TheVariants.{Live, Ended}
 use Rattle.c_memory.specs.Types.{element_of, count_of}
@@ -20,18 +19,10 @@ use Rattle.graph_names.specs.Names.{Names, names_of, scalar_of, object_of}
 use Rattle.graph_drafts.specs.Rules as rule
 use Rattle.event_runs.specs.Agreement.{Pairs}
 use Rattle.graph_values.specs.Typed.{AreTyped, OwnersDiffer}
+use Rattle.graph_values.specs.Stops.{AreDeclared}
 use Rattle.graph_values.specs.Correspondence.{variable_of, SameObject, SameValue, SameValues, IsInMemory, SameEvent, AreBytes}
 use Rattle.graph_values.proofs.Leads.{Setting, names_in, size_in, depth_in, Local, World, set_name, put_elsewhere, less_other}
 use Rattle.graph_values.proofs.Later.{Later, StillThere, OthersLater, OtherThere, value_later, values_later, object_later}
-
--- an object is of its variable's type
-abbrev pub IsDeclared : ProgramTree → Owner → SourceObject → Type 0
-IsDeclared p (Static n) o = (v : StaticTree) × (slice_get p.statics n ≡ Some v) × (o.element ≡ element_of v.of) × (length o.values ≡ count_of v.of)
-IsDeclared p (Literal n) o = (l : LiteralTree) × (slice_get p.literals n ≡ Some l) × (o.element ≡ record { base = Char; stars = 0 }) × (length o.values ≡ length l.bytes)
-IsDeclared p (Variable x depth) o = (a : AutomaticTree) × (slice_get p.automatics x ≡ Some a) × (o.element ≡ element_of a.of) × (length o.values ≡ count_of a.of)
-
-abbrev pub AreDeclared : ProgramTree → SourceMemory → Type 0
-AreDeclared p memory = (n : ℕ) (o : SourceObject) → slice_get memory n ≡ Some o → IsDeclared p o.owner o
 
 -- A memory that went on from another, in which whatever began since then has ended.
 pub record Since (began memory : SourceMemory) : Type 0 where

@@ -35,6 +35,7 @@ use Rattle.graph_names.specs.Writes.{writes_any}
 use Rattle.graph_drafts.specs.Rules.{callee_for}
 use Rattle.graph_drafts.specs.Drafts.{Made, Goal, To, Unused, Either, before, leaf, zero as zero_operand, target, follow, called_by}
 use Rattle.event_runs.specs.Agreement.{Pairs}
+use Rattle.graph_values.specs.Stops.{IsStatus}
 use Rattle.graph_values.specs.Correspondence.{SameValue, SameValues, SameEvent, AreBytes}
 use Rattle.graph_values.specs.Correspondence as event
 use Rattle.graph_values.proofs.Leads.{Setting, names_in, size_in, depth_in, Local, World, set_name, at, Leads, stays, goes, shows, then_leads, put_here, put_elsewhere, less_other}
@@ -186,11 +187,11 @@ putchar_effect x all l w s z fits same = record {
         ∙ ap (λ k. Shows (Put k) (record (at x ops end l w) { here = run.take_wanted target (Number k) (at x ops end l w).here })) (low_byte z)
 
 -- The program ends with a status.
-pub exit_ends : (x : Setting) (target : Option ℕ) (all : List Operand) (ops : List Instruction) (end : End) (l : Local) (w : World) (s : State) (z : ℤ) → Fits x None s l w → map (value x.unit.statics l.names) all ≡ Number (word_of z) ∷ []
+pub exit_ends : (x : Setting) (target : Option ℕ) (all : List Operand) (ops : List Instruction) (end : End) (l : Local) (w : World) (s : State) (z : ℤ) → IsStatus z → Fits x None s l w → map (value x.unit.statics l.names) all ≡ Number (word_of z) ∷ []
     → Stuck x (unit.Call target unit-called.Exit all ∷ ops) end l w (ending.Exit z) s
-exit_ends x target all ops end l w s z fits same = record {
+exit_ends x target all ops end l w s z status fits same = record {
   configuration = at x (unit.Call target unit-called.Exit all ∷ ops) end l w;
   seen = w.seen;
   leads = stays;
-  ends = (fits.events, call_step x unit-called.Exit target all ops end l w (ap (list_any is_odd) same) ∙ ap (λ vs. exited (first_of vs)) same);
+  ends = (fits.events, call_step x unit-called.Exit target all ops end l w (ap (list_any is_odd) same) ∙ ap (λ vs. exited (first_of vs)) same, status);
 }

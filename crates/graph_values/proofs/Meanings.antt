@@ -30,9 +30,10 @@ use Rattle.c_states.specs.States.{State, Evaluated, Gives, Leaves, Ends, given, 
 use Rattle.c_meaning.specs.Expressions.{Calls, evaluate, designate}
 use Rattle.c_states.specs.Steps.{load, store, stored}
 use Rattle.graph_values.specs.Typed.{PointsInto, IsOf, AreTyped, OwnersDiffer}
+use Rattle.graph_values.specs.Stops.{IsDeclared, AreDeclared}
 use Rattle.graph_values.proofs.Leads.{Setting, depth_in}
 use Rattle.graph_values.proofs.Later.{get_set, Later, later_refl, later_trans, later_set}
-use Rattle.graph_values.proofs.Kept.{IsDeclared, AreDeclared, Sound}
+use Rattle.graph_values.proofs.Kept.{Sound}
 use Rattle.graph_values.proofs.Leaves.{both_with}
 use Rattle.graph_values.proofs.Typing.{HasKind, Gave, Left, Keeps, Typed, of_later, kind_later}
 use Rattle.graph_values.proofs.Types.{kind_is_of}

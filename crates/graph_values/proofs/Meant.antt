@@ -36,9 +36,10 @@ use Rattle.c_states.specs.States.{State, Evaluated, Gives, Leaves, Ends, given, 
 use Rattle.c_meaning.specs.Expressions.{Calls, evaluate, designate}
 use Rattle.c_states.specs.Steps.{named, load, store, stored, truth}
 use Rattle.graph_values.specs.Typed.{PointsInto, IsPointerTo, IsOf}
+use Rattle.graph_values.specs.Stops.{IsDeclared}
 use Rattle.graph_values.proofs.Leads.{Setting, depth_in}
 use Rattle.graph_values.proofs.Later.{Later, later_refl, later_set}
-use Rattle.graph_values.proofs.Kept.{IsDeclared, Sound}
+use Rattle.graph_values.proofs.Kept.{Sound}
 use Rattle.graph_values.proofs.Leaves.{both_with}
 use Rattle.graph_values.proofs.Objects.{Owned, owned_at}
 use Rattle.graph_values.proofs.Wholes.{stands_first}

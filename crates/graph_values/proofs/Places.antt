@@ -31,9 +31,10 @@ use Rattle.graph_names.specs.Writes.{writes, writes_within}
 use Rattle.graph_drafts.specs.Drafts.{Made, Goal, To}
 use Rattle.graph_code.specs.Code.{code_place}
 use Rattle.graph_values.specs.Correspondence.{variable_of, owner_of, IsInMemory, SameObject, SamePointer, points, SameValue}
+use Rattle.graph_values.specs.Stops.{IsDeclared}
 use Rattle.graph_values.proofs.Leads.{Setting, names_in, size_in, depth_in, Local, World, here_at, at, stays}
 use Rattle.graph_values.proofs.Later.{some_same, others_refl}
-use Rattle.graph_values.proofs.Kept.{IsDeclared, Sound, ObjectIs, StaticIs, Placed, Fits}
+use Rattle.graph_values.proofs.Kept.{Sound, ObjectIs, StaticIs, Placed, Fits}
 use Rattle.graph_values.proofs.Results.{Reached, to_made, Stuck, Valued, ToR, stuck_now}
 use Rattle.graph_values.proofs.Leaves.{left_stuck}
 use Rattle.graph_values.proofs.Typing.{Typed}

@@ -19,6 +19,7 @@ use Rattle.graph_core.specs.declared.block.Comparison.TheVariants.{NotEqual}
 use Rattle.graph_scale.specs.Conversions.{word_of}
 use Rattle.graph_drafts.specs.Drafts.{Made, Goal, To, Unused, Either, before, leaf, target, follow}
 use Rattle.event_runs.specs.Agreement.{Pairs}
+use Rattle.graph_values.specs.Stops.{IsStatus}
 use Rattle.graph_values.specs.Correspondence.{SameValue, SameEvent}
 use Rattle.graph_values.proofs.Leads.{Setting, size_in, Local, World, set_name, at, Leads, stays, goes, then_leads, put_here, put_elsewhere, less_other}
 use Rattle.graph_values.proofs.Later.{OthersLater, others_refl, others_trans}
@@ -52,7 +53,7 @@ to_label x ops end l w label l' w' = (b : Block) → slice_get x.graph.blocks la
 -- How a run ends there as the source's does.
 abbrev pub EndsBy : Setting → Ending → State → Configuration → List Event → Type 0
 EndsBy x ending.Undefined s c seen = Pairs (SameEvent x.program x.unit) s.events seen
-EndsBy x (ending.Exit z) s c seen = Pairs (SameEvent x.program x.unit) s.events seen × (step x.unit c ≡ StepEnds (Exited (word_of z)))
+EndsBy x (ending.Exit z) s c seen = Pairs (SameEvent x.program x.unit) s.events seen × (step x.unit c ≡ StepEnds (Exited (word_of z))) × IsStatus z
 EndsBy x ending.Depth s c seen = Pairs (SameEvent x.program x.unit) s.events seen × (step x.unit c ≡ StepEnds TooDeep)
 EndsBy x ending.Turns s c seen = Pairs (SameEvent x.program x.unit) s.events seen
 

@@ -40,11 +40,12 @@ use Rattle.graph_steps.specs.Steps.{assigned_memory}
 use Rattle.graph_laid.specs.Laid.{behind_move}
 use Rattle.graph_values.specs.Typed.{IsOf}
 use Rattle.graph_values.specs.Correspondence.{SameValue}
+use Rattle.graph_values.specs.Stops.{IsDeclared}
 use Rattle.graph_values.proofs.Words.{in_word, both_true}
 use Rattle.graph_values.proofs.Tests.{HasWord}
 use Rattle.graph_values.proofs.Leads.{Setting, names_in, size_in, depth_in, Local, World, at, stays, goes, put_elsewhere}
 use Rattle.graph_values.proofs.Later.{Later, StillThere, later_set, others_refl, value_later}
-use Rattle.graph_values.proofs.Kept.{is_want, IsDeclared, Sound, Fits, ScalarsFirst}
+use Rattle.graph_values.proofs.Kept.{is_want, Sound, Fits, ScalarsFirst}
 use Rattle.graph_values.proofs.Results.{Valued, Result, stuck_now, ended_result, result_after}
 use Rattle.graph_values.proofs.Leaves.{leaf_done, with_then, second_with}
 use Rattle.graph_values.proofs.Noting.{ScalarsApart, known_value, other_number, fits_noted}

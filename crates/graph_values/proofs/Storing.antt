@@ -23,9 +23,10 @@ use Rattle.graph_names.specs.Names.{Names, names_of, scalar_of}
 use Rattle.graph_drafts.specs.Rules.{element_of}
 use Rattle.graph_values.specs.Typed.{IsOf, OwnersDiffer}
 use Rattle.graph_values.specs.Correspondence.{variable_of, owner_of, IsInMemory, SameObject, SameValue, SameValues}
+use Rattle.graph_values.specs.Stops.{IsDeclared, AreDeclared}
 use Rattle.graph_values.proofs.Leads.{Setting, names_in, depth_in, Local, World}
 use Rattle.graph_values.proofs.Later.{some_same, get_set, set_here, set_elsewhere, Onward, onward, Later, later_changed, OthersLater, others_trans, others_changed, value_later, values_later}
-use Rattle.graph_values.proofs.Kept.{IsDeclared, AreDeclared, Sound, Own, Waits, Outer, Placed, StaticIs, Fits}
+use Rattle.graph_values.proofs.Kept.{Sound, Own, Waits, Outer, Placed, StaticIs, Fits}
 use Rattle.graph_values.proofs.Noting.{own_later}
 use Rattle.graph_values.proofs.Homes.{scalar_outside}
 use Rattle.graph_values.proofs.Access.{Leading}

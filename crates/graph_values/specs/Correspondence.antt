@@ -23,6 +23,7 @@ use Rattle.graph_scale.specs.Conversions.{word_of}
 use Rattle.graph_drafts.specs.Rules.{element_of}
 use Rattle.event_runs.specs.Following.{Reached}
 use Rattle.graph_values.specs.Typed.{AreTyped, OwnersDiffer}
+use Rattle.graph_values.specs.Stops.{IsStopOf, IsStatus}
 
 -- The number of an automatic variable among all variables of a program: static ones come first, then literals.
 abbrev pub variable_of : ProgramTree → ℕ → ℕ
@@ -116,13 +117,14 @@ abbrev pub StandsAt : ℕ → List source-frame.Frame → Type 0
 StandsAt place [] = ⊥
 StandsAt place (a ∷ more) = a.place ≡ place
 
--- An event of a program's run and one of its unit's: the same byte, the same status, the same want of depth, or stops with the same activations and the same memory.
+-- An event of a program's run and one of its unit's: the same byte, the same status, which is an int, the same want of depth, or stops with the same activations and the same memory, of which the
+-- program's is at a place of its own and shows what is visible there.
 pub data SameEvent (p : ProgramTree) (u : UnitForm) : source-event.Event → unit-event.Event → Type 0 where
   put : {byte : ℕ} → SameEvent p u (source-event.Put byte) (unit-event.Put byte)
-  exited : {status : ℤ} → SameEvent p u (source-event.Exited status) (unit-event.Exited (word_of status))
+  exited : {status : ℤ} → IsStatus status → SameEvent p u (source-event.Exited status) (unit-event.Exited (word_of status))
   deep : SameEvent p u source-event.TooDeep unit-event.TooDeep
   stop : {place depth : ℕ} {frames : List source-frame.Frame} {shown : List source-event.Shown} {memory : source-memory.Memory} {seen : List unit-event.Frame} {others : unit-memory.Memory}
-      → StandsAt place frames → depth ≡ length frames → SameFrames p memory others u frames seen → AreTyped memory → OwnersDiffer memory → SameMemory p memory others
+      → IsStopOf p place depth shown memory → StandsAt place frames → depth ≡ length frames → SameFrames p memory others u frames seen → AreTyped memory → OwnersDiffer memory → SameMemory p memory others
       → SameEvent p u (source-event.Stop place depth frames shown memory) (unit-event.Stop seen others)
 
 -- a byte of an input

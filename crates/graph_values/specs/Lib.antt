@@ -1,2 +1,3 @@
 pub mod Typed
+pub mod Stops
 pub mod Correspondence

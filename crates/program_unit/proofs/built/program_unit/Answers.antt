@@ -1,14 +1,14 @@
 use Rattle.c_tree.specs.Programs.{program_view}
 use Rattle.graph_marking.proofs.Following.{follow_flow}
 use Rattle.graph_program.proofs.Program.{does_program}
-use Rattle.graph_validity.proofs.Whole.{valid}
+use Rattle.graph_program.proofs.Whole.{valid}
 use Rattle.program_unit.proofs.OfForms.{built_by, valid_by}
 use Rattle.program_unit.proofs.built.program_unit.Goals as goal
 
 pub returns-clause-built : goal.returns-clause-built
 returns-clause-built c =
     let p = program_view c.args.program.now in
-    built_by p c.build.result (λ u forms has. follow_flow p u c.requires.laws forms has) (λ u forms. does_program p u c.requires.laws forms) c.build.ensures.forms c.build.ensures.steps c.build.ensures.assignments
+    built_by p c.build.result (λ u forms has. follow_flow p u c.requires.laws forms has) (λ u forms. does_program p u c.requires.laws forms) c.build.ensures.forms c.build.ensures.steps c.build.ensures.assignments c.build.ensures.steps_in_order c.build.ensures.assignments_in_order
 
 pub returns-clause-valid : goal.returns-clause-valid
 returns-clause-valid c =

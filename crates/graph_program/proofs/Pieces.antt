@@ -36,8 +36,8 @@ use Rattle.graph_steps.specs.Steps.{signed, finished, distance, changed, changed
 use Rattle.graph_counts.proofs.Temporaries.{picked, moved_behind}
 use Rattle.std.proofs.lemmas.Option.{slice_get_within}
 use Rattle.std.proofs.lemmas.Bool.Decides.{nat_tests}
-use Rattle.graph_validity.proofs.Naming.{InMemory}
-use Rattle.graph_validity.proofs.Values.{Setting, n, most, Stands, Fits, left_or, any_name, operation_most, standing_top}
+use Rattle.graph_program.proofs.Naming.{InMemory}
+use Rattle.graph_program.proofs.Values.{Setting, n, most, Stands, Fits, left_or, any_name, operation_most, standing_top}
 
 are_equal : (a b : ℕ) → (a == b) ≡ true → a ≡ b
 are_equal a b h = grind (arith, nat_tests)

@@ -24,10 +24,10 @@ use Rattle.graph_names.specs.Names.{scalar_of, object_of}
 use Rattle.graph_stores.proofs.Shapes.{typed_of, scalar_typed, two_true, three_true, four_true}
 use Rattle.graph_program.proofs.Kept.{InIt, front}
 use Rattle.graph_program.proofs.Declared.{values_front, declarators_front, option_front, step_front, kept_front, kept_all_front}
-use Rattle.graph_validity.proofs.Naming.{IsThere, HasHomes, expression_names}
-use Rattle.graph_validity.proofs.Values.{Setting, E}
-use Rattle.graph_validity.proofs.Declarators.{ElementsName, InitialNames, InitialFits, HasObject, DeclaratorNames, DeclaratorsName}
-use Rattle.graph_validity.proofs.Statements.{StartNames, OptionNames, StepNames, StatementNames, StatementsName}
+use Rattle.graph_program.proofs.Naming.{IsThere, HasHomes, expression_names}
+use Rattle.graph_program.proofs.Values.{Setting, E}
+use Rattle.graph_program.proofs.Declarators.{ElementsName, InitialNames, InitialFits, HasObject, DeclaratorNames, DeclaratorsName}
+use Rattle.graph_program.proofs.Statements.{StartNames, OptionNames, StepNames, StatementNames, StatementsName}
 
 at_most : (a b : ℕ) → nat_le a b ≡ true → a ≤ b
 at_most a b h = grind (arith, nat_tests)

@@ -33,9 +33,9 @@ use Rattle.graph_steps.specs.declared.change.Change.TheVariants as change
 use Rattle.graph_steps.specs.Steps.{in_turn, signed, finished, arm_use, arm_value, arm_goal, assigned_memory, updated, stepped, takes_more, renewed_scalar, renewed_memory, loaded_first, left_memory, one_at}
 use Rattle.graph_code.specs.Code.{code, code_place, code_address, code_all}
 use Rattle.graph_counts.proofs.Temporaries.{behind, moved_behind}
-use Rattle.graph_validity.proofs.Naming.{HasAddress, ArgumentsName}
-use Rattle.graph_validity.proofs.Values.{Setting, n, most, Stands, E, L, named_there, named_within, standing_top, operation_most, held_value, value_stands, location_stands, passed_stand, as_many_passed}
-use Rattle.graph_validity.proofs.Pieces.{taken, moved_least, IsMade, IsGoal, IsWant, Loc, ending_is, leaf_is, operated_is, noted_is, move_is, hold_is, held_is, stored_is, called_is, valued_is, valued_use, used_is, used_use, used_tested, StandsPair, FinishedWithin, finished_top, finished_is, renewed_is, memory_is, loaded_is, left_scalar_is, left_memory_is, object_is, signed_is, closed_is, forked_is}
+use Rattle.graph_program.proofs.Naming.{HasAddress, ArgumentsName}
+use Rattle.graph_program.proofs.Values.{Setting, n, most, Stands, E, L, named_there, named_within, standing_top, operation_most, held_value, value_stands, location_stands, passed_stand, as_many_passed}
+use Rattle.graph_program.proofs.Pieces.{taken, moved_least, IsMade, IsGoal, IsWant, Loc, ending_is, leaf_is, operated_is, noted_is, move_is, hold_is, held_is, stored_is, called_is, valued_is, valued_use, used_is, used_use, used_tested, StandsPair, FinishedWithin, finished_top, finished_is, renewed_is, memory_is, loaded_is, left_scalar_is, left_memory_is, object_is, signed_is, closed_is, forked_is}
 
 module _ (x : Setting) (place top : ℕ) (Own : ℕ → Type 0) (own : Own place) where
   -- For each goal whose names are there, and that names what is there, the code of an expression does.

@@ -74,8 +74,8 @@ heads_are inner (b ∷ more) h = one_marker inner b (markers_of_blocks more) h.0
 abbrev pub numbers : List Place → List Place → List ℕ
 numbers all own = map (λ (q : Place). number_at all q.spot.at) own
 
--- the markers of a function's graph
-graph_markers : (p : ProgramTree) (k : ℕ) (f : TypedFunctionTree) → slice_get p.functions k ≡ Some f → (is_main : Bool) → AllAscend (places_of_program p) → markers_of_blocks (graph_of p f is_main).blocks ≡ numbers (places_of_program p) (places_of_function k f)
+-- The markers of a function's graph are the numbers of its places.
+pub graph_markers : (p : ProgramTree) (k : ℕ) (f : TypedFunctionTree) → slice_get p.functions k ≡ Some f → (is_main : Bool) → AllAscend (places_of_program p) → markers_of_blocks (graph_of p f is_main).blocks ≡ numbers (places_of_program p) (places_of_function k f)
 graph_markers p k f is is_main ascend =
     let c = function_coding p f is_main in
     let part = function_part c f is_main in

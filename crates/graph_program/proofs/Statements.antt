@@ -21,9 +21,9 @@ use Rattle.graph_coding.specs.Reached.{reached, start_reached, condition_reached
 use Rattle.graph_forms.specs.Forms.{default_start, tests, add_run, add_going, add_branching, add_start, add_step, add_head, add_result, add_switch, add, add_all}
 use Rattle.graph_build.specs.Units.{note_if, note_parameters, add_close, body_part, function_part}
 use Rattle.graph_counts.proofs.Statements.{reached_more, condition_more, statement_more, statements_more}
-use Rattle.graph_validity.proofs.Values.{Setting, n, most, Stands, E, value_stands}
-use Rattle.graph_validity.proofs.Pieces.{ending_is, note_is, closed_is}
-use Rattle.graph_validity.proofs.Declarators.{DeclaratorsName, IsPart, c, Here, IsCode, AreHere, place_adds, coded_at, going_is, ends_are, declared_are}
+use Rattle.graph_program.proofs.Values.{Setting, n, most, Stands, E, value_stands}
+use Rattle.graph_program.proofs.Pieces.{ending_is, note_is, closed_is}
+use Rattle.graph_program.proofs.Declarators.{DeclaratorsName, IsPart, c, Here, IsCode, AreHere, place_adds, coded_at, going_is, ends_are, declared_are}
 
 module _ (x : Setting) where
   abbrev pub StartNames : TypedStartTree → Type 0

@@ -40,15 +40,15 @@ use Rattle.graph_program.proofs.Homes.{object_there, name_there}
 use Rattle.graph_program.proofs.Objects.{kept_at}
 use Rattle.graph_program.proofs.Keeping.{got_mapped}
 use Rattle.graph_program.proofs.Settings.{graph_is, scalars_counted}
-use Rattle.graph_validity.proofs.Naming.{IsThere, HasHomes}
-use Rattle.graph_validity.proofs.Values.{Setting}
-use Rattle.graph_validity.proofs.Pieces.{IsInner}
-use Rattle.graph_validity.proofs.Declarators.{BlockIs, InPart, IsPart}
-use Rattle.graph_validity.proofs.Statements.{StatementsName, function_is}
-use Rattle.graph_validity.proofs.Bodies.{named_all}
-use Rattle.graph_validity.proofs.Edges.{has_place, place_stays, HasKept, one_kept, kept_edges, grown_stand, whole_stands, kept}
-use Rattle.graph_validity.proofs.Markers.{markers_append}
-use Rattle.graph_validity.proofs.Storage.{statics_counted, objects_within}
+use Rattle.graph_program.proofs.Naming.{IsThere, HasHomes}
+use Rattle.graph_program.proofs.Values.{Setting}
+use Rattle.graph_program.proofs.Pieces.{IsInner}
+use Rattle.graph_program.proofs.Declarators.{BlockIs, InPart, IsPart}
+use Rattle.graph_program.proofs.Statements.{StatementsName, function_is}
+use Rattle.graph_program.proofs.Bodies.{named_all}
+use Rattle.graph_program.proofs.Edges.{has_place, place_stays, HasKept, one_kept, kept_edges, grown_stand, whole_stands, kept}
+use Rattle.graph_program.proofs.Markers.{markers_append}
+use Rattle.graph_program.proofs.Storage.{statics_counted, objects_within}
 
 at_most : (a b : ℕ) → nat_le a b ≡ true → a ≤ b
 at_most a b h = grind (arith, nat_tests)

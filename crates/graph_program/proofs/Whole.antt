@@ -17,9 +17,9 @@ use Rattle.graph_counts.proofs.Keeping.{keep_bounds}
 use Rattle.graph_counts.proofs.WellFormed.{and_both, laws_of}
 use Rattle.graph_program.proofs.Accepted.{ProgramFacts, facts_of}
 use Rattle.graph_program.proofs.Settings.{graph_is}
-use Rattle.graph_validity.proofs.Functions.{parameters_many, graph_valid}
-use Rattle.graph_validity.proofs.Markers.{numbers, markers_are, once, few_places}
-use Rattle.graph_validity.proofs.Storage.{statics_within, relocations_within}
+use Rattle.graph_program.proofs.Functions.{parameters_many, graph_valid}
+use Rattle.graph_program.proofs.Markers.{numbers, markers_are, once, few_places}
+use Rattle.graph_program.proofs.Storage.{statics_within, relocations_within}
 
 are_equal : (a b : ℕ) → (a == b) ≡ true → a ≡ b
 are_equal a b h = grind (arith, nat_tests)

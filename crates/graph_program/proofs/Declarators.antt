@@ -31,9 +31,9 @@ use Rattle.graph_build.specs.Units.{object_element, object_count, memory_object}
 use Rattle.graph_counts.proofs.Statements.{declared_more}
 use Rattle.graph_values.proofs.Elements.{element_size}
 use Rattle.graph_program.proofs.Sizes.{type_sizes}
-use Rattle.graph_validity.proofs.Values.{Setting, n, most, E, value_stands}
-use Rattle.graph_validity.proofs.Pieces.{Are, EndIs, AreInner, IsMade, IsGoal, before_is, ending_is, note_is, closed_is}
-use Rattle.graph_validity.proofs.Expressions.{code_is}
+use Rattle.graph_program.proofs.Values.{Setting, n, most, E, value_stands}
+use Rattle.graph_program.proofs.Pieces.{Are, EndIs, AreInner, IsMade, IsGoal, before_is, ending_is, note_is, closed_is}
+use Rattle.graph_program.proofs.Expressions.{code_is}
 
 -- what an element of a list is without its conversion names what is there, too
 bare_names : (x : Setting) (e : RvalueTree) → E x e → E x (bare e)

@@ -24,7 +24,7 @@ use Rattle.graph_names.specs.Writes.{writes, writes_any, is_moved}
 use Rattle.graph_laid.specs.Laid.{Laid, Pair, PlaceLaid, behind_move, as_value, worked, use_for, operation_laid, standing, converted_laid, compared_laid, both_laid, void_arms_laid, arms_laid, choice_top, joined_laid, begun_at, assigned_laid, begun_behind, updated_laid, old_laid, step_laid, left_memory_laid, left_scalar_laid, called_laid, loaded_laid, object_laid}
 use Rattle.graph_layout.specs.Layout.{laid, place_laid, address_laid, passed_laid, named_address, scales}
 use Rattle.graph_counts.proofs.Temporaries.{behind, moved_behind}
-use Rattle.graph_validity.proofs.Naming.{HasAddress, IsThere, InMemory, ExpressionNames, PlaceNames, ArgumentsName, arguments}
+use Rattle.graph_program.proofs.Naming.{HasAddress, IsThere, InMemory, ExpressionNames, PlaceNames, ArgumentsName, arguments}
 
 -- A graph of a unit, and what stands there of what its code names.
 pub record Setting : Type 0 where
