@@ -1,0 +1,63 @@
+-- The unit of a well-formed program keeps notes.
+use Rattle.std.proofs.Common.{◌≡◌, ℕ, zero, suc, false, Some, List, [], ◌∷◌, slice_get, refl, sym, subst, arith}
+use Rattle.std.specs.Prelude.{◌↔◌}
+use Rattle.std.specs.List.{Contains}
+use Rattle.places.specs.declared.flow.Assignment.{Assignment}
+use Rattle.places.specs.Flow.{assigns}
+use Rattle.c_tree.specs.Programs.{ProgramTree}
+use Rattle.c_flow.specs.Assigns.{assignments_of_program}
+use Rattle.c_laws.specs.Laws.{IsWellFormed}
+use Rattle.graph_core.specs.Graphs.{Instruction, Marker, End, Graph, UnitForm}
+use Rattle.graph_core.specs.Graphs as unit
+use Rattle.graph_core.specs.Paths.{History, Among, front, behind, Path, owed}
+use Rattle.graph_core.specs.Validity.{IsGraph, IsValid}
+use Rattle.graph_core.specs.WellMarked.{IsVariable}
+use Rattle.graph_build.specs.Units.{IsUnitOf, graph_of}
+use Rattle.graph_program.proofs.Accepted.{facts_of}
+use Rattle.unit_facts.specs.Notes.{KeepsNotes, KeepNotes}
+use Rattle.unit_facts.proofs.Assigning.{HasAssignments, of_scalar}
+use Rattle.unit_facts.proofs.Noted.{HasOnly, nothing_owed}
+use Rattle.unit_facts.proofs.Notes.{of_function, of_variable, within, counted, written_where, noted_where, right, behind_write, calls, local, local_at_end}
+use Rattle.unit_facts.proofs.Placing.{got_one}
+
+-- The unit of a well-formed program, which is valid and has the program's assignments and no others, keeps notes.
+pub keep_notes : (p : ProgramTree) (u : UnitForm) → IsWellFormed p → IsUnitOf p u → HasAssignments p u → HasOnly p u → IsValid u → KeepNotes u
+keep_notes p u well is has only valid k g at =
+    let x = of_function p 0 p.functions k g (subst (λ (l : List Graph). slice_get l k ≡ Some g) is.graphs at) in
+    let facts = facts_of p well in
+    let f = x.function in
+    let main = x.is_main in
+    let v : IsGraph u (graph_of p f main) = subst (IsGraph u) (sym x.same) (got_one (IsGraph u) u.graphs k g valid.graphs at) in
+    let owes : (h : History) (n : ℕ) (q y variable : ℕ) (rest : List Instruction) (e : End) → IsVariable (graph_of p f main) y variable → Path (graph_of p f main) h n (Marker q ∷ rest) e → owed (λ r. assigns u.assignments r variable) y h ≡ false =
+    λ h n q y variable rest e is_variable way. (
+    let s = of_scalar p u has k f x.is (within p u facts has k f x.is main v) main y variable is_variable in
+    subst (λ w. owed (λ r. assigns u.assignments r w) y h ≡ false) s.number (nothing_owed p u facts only k f x.is main (counted p u facts has k f x.is main v) y s.own (of_variable p u facts has k f x.is main v y variable is_variable) s.named h n q rest e way)) in
+    subst (KeepsNotes u) x.same (record {
+      written_where = written_where p u facts has k f x.is main v;
+      noted_where = noted_where p u facts has k f x.is main v;
+      noted = owes;
+      right = right p u facts has k f x.is main v;
+      behind_write = λ h n y rest e way. behind_write p u facts has k f x.is main v h n y (unit.Is (unit.Of (unit.Name y))) rest e way;
+      calls = calls p u facts has k f x.is main v;
+      local = local p u facts has k f x.is main v;
+      local_at_end = local_at_end p u facts has k f x.is main v;
+    })
+
+-- what a list contains is among it, and the other way round
+contains_among : {A : Type 0} (xs : List A) (a : A) → Contains xs a → Among a xs
+contains_among [] a (k, inside, is) = absurd (omega (arith, inside))
+contains_among (x ∷ xs) a (zero, inside, is) = subst (λ z. Among z (x ∷ xs)) is front
+contains_among (x ∷ xs) a (suc k, inside, is) = behind (contains_among xs a (k, omega (arith, inside), is))
+
+one_behind : {A : Type 0} (x : A) (xs : List A) (a : A) → Contains xs a → Contains (x ∷ xs) a
+one_behind x xs a (k, inside, is) = (suc k, omega (arith, inside), is)
+
+among_contains : {A : Type 0} (xs : List A) (a : A) → Among a xs → Contains xs a
+among_contains [] a there = elim there [ ]
+among_contains (x ∷ xs) a front = (0, omega arith, refl)
+among_contains (x ∷ xs) a (behind there) = one_behind x xs a (among_contains xs a there)
+
+-- The same of a valid unit that has the code of the forms, and whose assignments are the program's.
+pub built_notes : (p : ProgramTree) (u : UnitForm) → IsWellFormed p → IsUnitOf p u → ((a : Assignment) → Contains u.assignments a ↔ Contains (assignments_of_program p) a) → IsValid u → KeepNotes u
+built_notes p u well is same valid =
+    keep_notes p u well is (λ a h. contains_among u.assignments a ((same a).1 (among_contains (assignments_of_program p) a h))) (λ a h. contains_among (assignments_of_program p) a ((same a).0 (among_contains u.assignments a h))) valid

@@ -1,0 +1,2 @@
+//! What the unit of a well-formed program has. There is no code here, only lemmas.
+#![tactic(auto)]
