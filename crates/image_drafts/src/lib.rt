@@ -4,4 +4,5 @@
 mod fitting;
 mod spelling;
 
+pub use fitting::tables_fit;
 pub use spelling::{SpelledImage, spelled_image};

@@ -122,6 +122,10 @@ pub record IsNodeToldBy (t : Telling) (nodes : List Node) (all : List told-row.P
 abbrev pub AreNodesOf : Telling → List Node → List told-row.PlaceVerdict → Type 0
 AreNodesOf t nodes all = (k : ℕ) → k < length nodes → IsNodeToldBy t nodes all k
 
+-- Each verdict says that the home of its variable shows it.
+abbrev pub AreShown : List told-row.PlaceVerdict → Type 0
+AreShown all = (w : told-row.PlaceVerdict) → Among w all → w.verdict ≡ told.Home
+
 -- by what recipes are told in an image with this code, of a unit with these homes, at these places
 abbrev pub telling_of : HomedForm → List PlaceRow → EmittedForm → Telling
 telling_of h rows e = record { graphs = h.unit.graphs; homes = h.homes; codes = e.functions; statics = e.statics; places = rows }

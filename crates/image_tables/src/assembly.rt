@@ -1,12 +1,12 @@
 //! The image, part by part.
 
-ghost use Rattle.std.specs.Prelude.{◌≡◌, ◌+◌, ◌++◌, ◌<◌, ◌^◌, IfOk, length, map};
+ghost use Rattle.std.specs.Prelude.{◌≡◌, ◌+◌, ◌++◌, ◌<◌, ◌^◌, [], IfOk, length, map};
 ghost use Rattle.emitted.specs.Emitted.{emitted_view};
 ghost use Rattle.homed_unit.specs.Homed.{homed_view};
 ghost use Rattle.image_declarations.specs.Spans.{code_span, span};
 ghost use Rattle.image_declarations.specs.Storages.{storages_of};
 ghost use Rattle.image_tables.specs.Places.{address, addresses_of};
-ghost use Rattle.image_tables.specs.Rows.{AreNodesOf, AreRowsOf, telling_of};
+ghost use Rattle.image_tables.specs.Rows.{AreNodesOf, AreRowsOf, AreShown, telling_of};
 ghost use Rattle.c_tree.specs.Programs.{program_view};
 ghost use Rattle.image_declarations.specs.Variables.{declared_names, entry, length_of_name, name_length, owned_from, owner, owners_of, pass_names, shape, shapes_of, storage};
 ghost use Rattle.image_tables.specs.Tables.{assigned_pair, change_record, flow_pair, sight, sight_of_verdict, spot, spot_of_row};
@@ -60,6 +60,7 @@ pub fn image_of(alloc: Global, parts: &Parts<'_>, emitted: Emitted) -> Result<Im
     ensures flow { IfOk result (λ m. m.flow.items ≡ map flow_pair parts.now.flow.now.steps.items) }
     ensures assigned { IfOk result (λ m. m.assigned.items ≡ map assigned_pair parts.now.flow.now.assignments.items) }
     ensures nodes { IfOk result (λ m. length m.nodes.items < 2 ^ 32 → AreNodesOf (telling_of (homed_view parts.now.homed.now) parts.now.places.now.rows.items (emitted_view emitted)) m.nodes.items parts.now.verdicts.now) }
+    ensures bare { AreShown parts.now.verdicts.now → IfOk result (λ m. m.nodes.items ≡ []) }
     ensures rows { IfOk result (λ m. length m.nodes.items < 2 ^ 32 → AreRowsOf (telling_of (homed_view parts.now.homed.now) parts.now.places.now.rows.items (emitted_view emitted)) m.nodes.items parts.now.verdicts.now m.rows.items) }
     ensures visible { IfOk result (λ m. map sight m.rows.items ≡ map sight_of_verdict parts.now.verdicts.now) }
 {

@@ -1,10 +1,11 @@
 //! The rows of visible variables.
 
-ghost use Rattle.std.specs.Prelude.{◌≡◌, ◌<◌, ◌^◌, IfOk, OnOk, get_or, length, map, option_and_then, option_map, slice_get};
+ghost use Rattle.std.specs.Prelude.{◌≡◌, ◌<◌, ◌^◌, [], IfOk, OnOk, get_or, length, map, option_and_then, option_map, slice_get};
+ghost use Rattle.currency.specs.declared.verdict.Verdict.TheVariants.{Home};
 ghost use Rattle.emitted.specs.Emitted.{FunctionCode, function_view};
 ghost use Rattle.graph_core.specs.Graphs.{block_view, graph_view, recipe_view};
 ghost use Rattle.image_tables.specs.Nodes.{Begin, naming_view};
-ghost use Rattle.image_tables.specs.Rows.{AreNewBy, AreNewIn, AreNodesOf, AreRowsOf, IsNodeIn, IsVerdictOf, address_of_some, address_of_writer, firsts_from, naming_at, naming_in, telling_view};
+ghost use Rattle.image_tables.specs.Rows.{AreNewBy, AreNewIn, AreNodesOf, AreRowsOf, AreShown, IsNodeIn, IsVerdictOf, address_of_some, address_of_writer, firsts_from, naming_at, naming_in, telling_view};
 ghost use Rattle.image_tables.specs.Tables.{sight, sight_of_verdict};
 
 use crate::nodes::{Naming, Nodes};
@@ -168,6 +169,7 @@ fn verdict_of(
     requires { map (λ firsts. firsts.items) before.now ≡ map (λ g. firsts_from 0 (map block_view g.blocks.items)) telling.graphs.now }
     ensures grown { OnOk result (Begin nodes.old.nodes.items nodes.new.nodes.items) }
     ensures fresh { length nodes.new.nodes.items < 2 ^ 32 → OnOk result (AreNewBy (telling_view telling.entry) nodes.old.nodes.items nodes.new.nodes.items told.now.place.0 told.now.verdict) }
+    ensures home { told.now.verdict ≡ Home → OnOk result (nodes.new.nodes.items ≡ nodes.old.nodes.items) }
     ensures verdict { length nodes.new.nodes.items < 2 ^ 32 → IfOk result (λ v. IsVerdictOf (telling_view telling.entry) nodes.new.nodes.items told.now.place.0 told.now.verdict v) }
 {
     match &told.verdict {
@@ -208,6 +210,7 @@ pub fn rows_of(
 ) -> Result<(Vec<VisibleRow>, Vec<Node>), AllocError>
     ensures sights { IfOk result (λ r. map sight r.0.items ≡ map sight_of_verdict verdicts.now) }
     ensures nodes { IfOk result (λ r. length r.1.items < 2 ^ 32 → AreNodesOf (telling_view telling.entry) r.1.items verdicts.now) }
+    ensures bare { AreShown verdicts.now → IfOk result (λ r. r.1.items ≡ []) }
     ensures rows { IfOk result (λ r. length r.1.items < 2 ^ 32 → AreRowsOf (telling_view telling.entry) r.1.items verdicts.now r.0.items) }
 {
     let before = all_before(alloc, telling.graphs)?;

@@ -1,3 +1,5 @@
+use Rattle.std.proofs.Common.{◌∙◌, subst}
+use Rattle.graph_core.specs.Paths.{Among, front}
 use Rattle.image_tables.proofs.Ahead.{whole}
 use Rattle.image_tables.specs.Rows.{telling_view}
 use Rattle.image_tables.proofs.Needed.{among_behind, nodes_step}
@@ -15,6 +17,7 @@ loop-left-preserved c =
       ahead = among_behind l.left.now w c.args.verdicts.now whole_left l.invariant.ahead;
       nodes = nodes_step (telling_view c.args.telling) l.nodes.nodes.items c.verdict_of.new.nodes.nodes.items l.left.now w c.args.verdicts.now whole_left c.in_ok-verdict.ensures.grown l.invariant.ahead
           c.in_ok-verdict.ensures.fresh l.invariant.nodes;
+      bare = λ shown. c.in_ok-verdict.ensures.home (shown w (l.invariant.ahead w (subst (Among w) whole_left front))) ∙ l.invariant.bare shown;
       sights = sights_step l.left.now w v l.rows.items pushed c.args.verdicts.now whole_left c.in_ok-push.ensures.items l.invariant.sights;
       rows = rows_step (telling_view c.args.telling) l.nodes.nodes.items c.verdict_of.new.nodes.nodes.items l.left.now w v l.rows.items pushed c.args.verdicts.now whole_left c.in_ok-push.ensures.items
           c.in_ok-verdict.ensures.grown c.in_ok-verdict.ensures.verdict l.invariant.rows;

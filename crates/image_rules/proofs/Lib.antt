@@ -1,0 +1,16 @@
+pub mod Lists
+pub mod Accepted
+pub mod ProgramPlaces
+pub mod Lying
+pub mod Given
+pub mod Functions
+pub mod Words
+pub mod Places
+pub mod Names
+pub mod Fits
+pub mod Flow
+pub mod Keepings
+pub mod Variables
+pub mod Assigned
+pub mod Kept
+pub mod Counted

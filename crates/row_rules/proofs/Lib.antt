@@ -1,0 +1,4 @@
+mod Lists
+mod Ordered
+mod Owned
+pub mod Rules
