@@ -28,13 +28,14 @@ use Rattle.emit_storage.specs.Storages.{object_at}
 use Rattle.emit_calls.specs.Waiting.{bytes_in}
 use Rattle.emit_runs.specs.Laid.{Arrangement, no_graph, code_of}
 use Rattle.emit_runs.proofs.Frames.{graph_is}
+use Rattle.emit_placed.specs.Told.{Tells}
 use Rattle.image_texts.specs.Units.{HasVariablesIn}
 use Rattle.image_texts.specs.Variables.{HasVariablesOf}
 use Rattle.image_texts.proofs.Areas.{there}
 use Rattle.image_texts.proofs.Kept.{static_kept, object_kept, frame_only, static_only}
 use Rattle.image_texts.proofs.Shown.{size_of}
 use Rattle.image_texts.proofs.Tables.{from_map, map_at, literal_sized}
-use Rattle.image_holding.specs.Keeping.{IsKept, KeepsObjectsOf, KeepsPlacesOf, Tells, HasPlacesOf}
+use Rattle.image_holding.specs.Keeping.{IsKept, KeepsObjectsOf, KeepsPlacesOf, HasPlacesOf}
 
 -- ---- Places
 

@@ -33,13 +33,14 @@ use Rattle.homed_unit.specs.Homed.{HomedForm, HaveHomes, IsHomeAmong, home_numbe
 use Rattle.emitted.specs.Emitted.{EmittedForm}
 use Rattle.emit_runs.specs.Laid.{Arrangement, code_of}
 use Rattle.emit_runs.specs.Standing.{StandsAt}
+use Rattle.emit_placed.specs.Told.{Tells}
 use Rattle.unit_objects.specs.Owned.{IsRunning}
 use Rattle.image_texts.specs.Units.{HasVariablesIn}
 use Rattle.image_texts.specs.Variables.{automatic_number, HasElements}
 use Rattle.image_texts.specs.Standing.{IsDeclared}
 use Rattle.image_texts.specs.Rows.{IsShown}
 use Rattle.image_texts.proofs.Kept.{scalar_kept}
-use Rattle.image_holding.specs.Keeping.{Tells, HasPlacesOf}
+use Rattle.image_holding.specs.Keeping.{HasPlacesOf}
 use Rattle.image_holding.proofs.Kept.{keeps_objects, keeps_places}
 use Rattle.image_holding.proofs.Stops.{kept_at_home}
 use Rattle.image_holding.proofs.Texts.{tables, scalar_text}

@@ -26,6 +26,7 @@ use Rattle.homed_unit.specs.Homed.{HomedForm, HaveHomes, over_homes}
 use Rattle.emitted.specs.Emitted.{EmittedForm}
 use Rattle.emit_runs.specs.Laid.{Arrangement, code_of}
 use Rattle.emit_runs.specs.Standing.{StandsAt}
+use Rattle.emit_placed.specs.Told.{Tells}
 use Rattle.unit_objects.specs.Owned.{IsRunning}
 use Rattle.image_texts.specs.Texts.{IsObjectText}
 use Rattle.image_texts.specs.Units.{HasVariablesIn}
@@ -34,7 +35,7 @@ use Rattle.image_texts.specs.Standing.{Standing, IsDeclared, HoldsMemory}
 use Rattle.image_texts.specs.Rows.{IsShown, IsKeptBy}
 use Rattle.image_texts.proofs.Rows.{static_is_shown, object_is_shown, scalar_is_shown}
 use Rattle.image_texts.proofs.Tables.{has_variables}
-use Rattle.image_holding.specs.Keeping.{Tells, HasPlacesOf, standings}
+use Rattle.image_holding.specs.Keeping.{HasPlacesOf, standings}
 use Rattle.image_holding.proofs.Frames.{standing_of, many_standings}
 use Rattle.image_holding.proofs.Kept.{keeps_objects, keeps_places}
 use Rattle.image_holding.proofs.Whole.{holds_memory}

@@ -9,8 +9,6 @@ use Rattle.stop_view.specs.Pointers.{function_of, object_size}
 use Rattle.stop_view.specs.Reading.{frame_of}
 use Rattle.graph_core.specs.declared.graph.MemoryObject.{MemoryObject}
 use Rattle.graph_core.specs.Graphs.{Graph, StaticObject, UnitForm}
-use Rattle.emitted.specs.Emitted.{EmittedForm}
-use Rattle.emitted.specs.Emitted.{FunctionCode as TableCode}
 use Rattle.graph_core.specs.Memory.{static_bytes}
 use Rattle.graph_core.specs.Runs.{Activation}
 use Rattle.homed_unit.specs.Homed.{HomedForm}
@@ -64,21 +62,7 @@ abbrev pub standings : (codes : ℕ → FunctionCode) → (sp : ℕ) → List Ac
 standings codes sp [] = []
 standings codes sp (b ∷ more) = record { place = b.place; frame = sp } ∷ standings codes (sp + (codes b.function).size) more
 
--- ---- What is told of code
-
--- What is told of the code of a function: its frame, where its slots begin, and where its objects are.
-pub record IsTold (h : HomedForm) (a : Arrangement) (e : EmittedForm) (f : ℕ) : Type 0 where
-  pub code : TableCode
-  pub is : slice_get e.functions f ≡ Some code
-  pub frame : code.frame ≡ (code_of h a f).size
-  pub slots : code.slots ≡ (code_of h a f).storage.slots
-  pub objects : code.objects ≡ (code_of h a f).storage.objects
-
--- What is told of the code of a unit: where its static objects are, and of each function where its parts are.
-pub record Tells (h : HomedForm) (a : Arrangement) (e : EmittedForm) : Type 0 where
-  pub many : length e.statics ≡ length h.unit.statics
-  pub statics : (k : ℕ) → k < length h.unit.statics → slice_get e.statics k ≡ Some (static_at h.unit k)
-  pub functions : (f : ℕ) (g : Graph) → slice_get h.unit.graphs f ≡ Some g → IsTold h a e f
+-- ---- Places
 
 -- An image has the places of a unit's functions, each of its function.
 pub record HasPlacesOf (u : UnitForm) (m : Form) : Type 0 where

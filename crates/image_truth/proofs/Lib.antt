@@ -7,4 +7,8 @@ pub mod Listed
 pub mod Told
 pub mod Visible
 pub mod Outermost
+pub mod PutStops
+pub mod ProgramPlaces
+pub mod StopAddresses
+pub mod Naming
 pub mod Truth

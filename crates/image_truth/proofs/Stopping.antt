@@ -31,11 +31,12 @@ use Rattle.emitted.specs.Emitted.{EmittedForm}
 use Rattle.emit_calls.specs.Waiting.{FunctionCode}
 use Rattle.emit_runs.specs.Laid as laid
 use Rattle.emit_runs.specs.Laid.{IsCode, code_of}
+use Rattle.emit_placed.specs.Told.{Tells}
 use Rattle.image_texts.specs.Texts.{IsObjectText}
 use Rattle.image_texts.specs.Units.{HasVariablesIn}
 use Rattle.image_texts.specs.Variables.{HasElements}
 use Rattle.image_texts.specs.Standing.{Standing, HoldsMemory}
-use Rattle.image_holding.specs.Keeping.{Tells, HasPlacesOf, standings}
+use Rattle.image_holding.specs.Keeping.{HasPlacesOf, standings}
 use Rattle.image_holding.proofs.Frames.{standing_of, many_standings}
 use Rattle.image_holding.proofs.Texts as texts
 use Rattle.image_truth.specs.Truthful.{SameVisible, SameStop}

@@ -1,6 +1,7 @@
 -- What the rows of an image say of homes is borne out where verdicts are.
 use Rattle.std.proofs.Common.{◌≡◌, ℕ, zero, suc, ◌-◌, refl, sym, ap, ◌∙◌, subst, arith, Some, List, [], ◌∷◌, map, slice_get}
 use Rattle.std.proofs.lemmas.Option.{none-some, same_Some}
+use Rattle.debug_records.specs.declared.change.Kind.TheVariants.{Removed}
 use Rattle.graph_core.specs.Graphs.{Graph, Logged, Of, Name}
 use Rattle.graph_core.specs.Paths.{Among, front, behind}
 use Rattle.graph_core.specs.WellMarked.{IsVariable}
@@ -9,7 +10,7 @@ use Rattle.homed_unit.specs.Homed.{HomedForm, home_of}
 use Rattle.currency.specs.declared.verdict.Verdict as told-verdict
 use Rattle.currency.specs.declared.verdict.Verdict.TheVariants as told
 use Rattle.currency.specs.declared.verdict.PlaceVerdict.{PlaceVerdict}
-use Rattle.currency.specs.Named.{IsNumbered, IsNamed, AreNamed}
+use Rattle.currency.specs.Named.{IsLogged, IsNamed, AreNamed}
 use Rattle.currency.specs.Sound.{AreHome}
 use Rattle.image_form.specs.Form.{Form}
 use Rattle.image_form.specs.Numbers.{row_numbers, verdict_numbers}
@@ -19,6 +20,7 @@ use Rattle.image_form.specs.declared.verdicts.Verdict.TheVariants.{Home, Recover
 use Rattle.image_form.specs.declared.verdicts.VisibleRow.{VisibleRow}
 use Rattle.image_tables.specs.Rows.{Telling, IsVerdictOf, IsRowOf, AreRowsOf}
 use Rattle.image_texts.proofs.Tables.{map_at, from_map}
+use Rattle.program_image.specs.Compiled.{HasNoRemoval}
 
 first_same : (a b : ℕ) (xs ys : List ℕ) → a ∷ xs ≡ b ∷ ys → a ≡ b
 first_same a b xs ys e = cc
@@ -64,7 +66,7 @@ home_holds h t m all rows say same home k r is at_home f x g graph variable =
     subst (λ p. HoldsOnAllPaths (home_of h f) g p x (Of (Name x))) (sym of.place ∙ place)
     (home w found.1 (told_home t m.nodes w.verdict w.place.0 row.verdict of.verdict verdict) f x g graph (subst (IsVariable g x) (sym var ∙ of.variable) variable))
 
--- ---- Where nothing was changed
+-- ---- Where no assignment was removed
 
 recovered_by_numbers : (v : Verdict) (change node : ℕ) → verdict_numbers v ≡ verdict_numbers (Recovered change node) → v ≡ Recovered change node
 recovered_by_numbers Home change node e = absurd (let f = first_same _ _ _ _ e in omega (arith, f))
@@ -72,18 +74,23 @@ recovered_by_numbers (Recovered c n) change node e = cc
 recovered_by_numbers (Noncurrent c start writer) change node e = absurd (let f = first_same _ _ _ _ e in omega (arith, f))
 recovered_by_numbers (Nonresident c start writer) change node e = absurd (let f = first_same _ _ _ _ e in omega (arith, f))
 
-module _ (t : Telling) (nodes : List Node) (log : List Logged) (none : log ≡ []) where
-  no_number : (number : ℕ) (change : Logged) → IsNumbered log number change → ⊥
-  no_number number change is = absurd (none-some change (ap (λ l. slice_get l (number - 1)) (sym none) ∙ is.is))
+among_at : (log : List Logged) (k : ℕ) (change : Logged) → slice_get log k ≡ Some change → Among change log
+among_at [] k change is = absurd (none-some change is)
+among_at (c ∷ log) zero change is = subst (λ d. Among d (c ∷ log)) (same_Some c change is) front
+among_at (c ∷ log) (suc k) change is = behind (among_at log k change is)
+
+module _ (t : Telling) (nodes : List Node) (log : List Logged) (none : HasNoRemoval log) where
+  no_removal : (number variable : ℕ) → IsLogged log number Removed variable → ⊥
+  no_removal number variable is = none is.change (among_at log (number - 1) is.change is.is.is) is.kind
 
   told_none : (w : told-verdict.Verdict) (place variable change node : ℕ) (v : Verdict) → IsVerdictOf t nodes place w v → v ≡ Recovered change node → IsNamed log variable w → ⊥
   told_none told.Home place variable change node v is e named = let f : Home ≡ Recovered change node = sym is ∙ e in cc
-  told_none (told.Recovered r c) place variable change node v is e named = no_number c named.change named.is
+  told_none (told.Recovered r c) place variable change node v is e named = no_removal c variable named
   told_none (told.Noncurrent c start w) place variable change node v is e named = let f = sym is ∙ e in cc
   told_none (told.Nonresident c start w) place variable change node v is e named = let f = sym is ∙ e in cc
 
--- Where the log of a unit is empty, no row says that a value is recovered.
-pub none_recovered : (t : Telling) (m : Form) (log : List Logged) (all : List PlaceVerdict) (rows : List VisibleRow) → log ≡ [] → AreRowsOf t m.nodes all rows → map row_numbers m.rows ≡ map row_numbers rows → AreNamed log all
+-- Where no change removed an assignment, no row says that a value is recovered.
+pub none_recovered : (t : Telling) (m : Form) (log : List Logged) (all : List PlaceVerdict) (rows : List VisibleRow) → HasNoRemoval log → AreRowsOf t m.nodes all rows → map row_numbers m.rows ≡ map row_numbers rows → AreNamed log all
     → (k change node : ℕ) (r : VisibleRow) → slice_get m.rows k ≡ Some r → r.verdict ≡ Recovered change node → ⊥
 none_recovered t m log all rows none say same named k change node r is recovered =
     let q = from_map row_numbers rows k (row_numbers r) (ap (λ l. slice_get l k) (sym same) ∙ map_at row_numbers m.rows k r is) in

@@ -1,45 +1,53 @@
--- THE IMAGE OF A PROGRAM RUNS TRUE TO IT, where nothing was changed: what stands of it, and what is left to be shown of its parts.
-use Rattle.std.proofs.Common.{◌≡◌, ◌≢◌, ℕ, ◌+◌, ◌-◌, ◌≤◌, refl, sym, ap, ◌∙◌, subst, arith, true, false, ◌&&◌, Some, List, [], ◌∷◌, ◌++◌, length, map, slice_get}
-use Rattle.std.specs.List.{AllByRecursion}
+-- THE IMAGE OF A PROGRAM RUNS TRUE TO IT, where no pass changed its unit, in both modes.
+use Rattle.std.proofs.Common.{◌≡◌, ℕ, ◌+◌, ◌-◌, refl, sym, ap, ◌∙◌, subst, arith, true, false, ◌&&◌, Some, List, [], ◌∷◌, ◌++◌, length, map, slice_get}
 use Rattle.std.proofs.lemmas.Bool.{and_parts}
 use Rattle.std.proofs.lemmas.Option.{same_Some}
 use Rattle.debug_records.specs.declared.mode.Mode.{Mode}
-use Rattle.c_tree.specs.Programs.{ProgramTree, StaticTree, AutomaticTree, LiteralTree}
+use Rattle.c_tree.specs.Programs.{ProgramTree, AutomaticTree}
 use Rattle.c_places.specs.Places.{Place, places_of_program, visible}
-use Rattle.c_place_table.specs.Rows.{Row, rows_of_program}
+use Rattle.c_place_table.specs.Rows.{Row, row_of, rows_of_program}
 use Rattle.c_laws.specs.Laws.{IsWellFormed, follow, are_functions, are_objects, is_main, is_sound, is_within, objects_ascend, places_ascend}
+use Rattle.c_laws.specs.Names.{HasNames}
 use Rattle.c_laws.specs.Parameters.{parameters_single}
 use Rattle.c_memory.specs.Memory as source-memory
 use Rattle.c_states.specs.declared.event.Frame as source-frame
 use Rattle.c_states.specs.States.{Shown}
 use Rattle.image_form.specs.Form.{Form}
 use Rattle.image_form.specs.Rules.{IsImage}
-use Rattle.image_tables.specs.Tables.{sight}
+use Rattle.image_form.specs.declared.tables.Place.{Place as ImagePlace}
+use Rattle.image_tables.specs.Tables.{Spot, sight, spot}
 use Rattle.image_tables.specs.Rows.{telling_of}
 use Rattle.rv_machine.specs.State.{State}
 use Rattle.rv_machine.specs.Run.{is_stop}
 use Rattle.stop_view.specs.Run as image
 use Rattle.graph_core.specs.Graphs.{Graph, Logged, UnitForm}
-use Rattle.graph_core.specs.WellMarked.{AreWellMarked}
-use Rattle.graph_values.specs.Correspondence.{AreBytes}
+use Rattle.graph_build.specs.Units.{IsUnitOf}
 use Rattle.homed_unit.specs.Homed.{HomedForm}
 use Rattle.home_runs.proofs.Whole.{leads_over_homes}
+use Rattle.emitted.specs.declared.emitted.PlacedStop.{PlacedStop}
 use Rattle.emit_runs.specs.Laid as laid
+use Rattle.emit_placed.specs.Markers.{AreStopsOf}
 use Rattle.unit_objects.specs.Owned.{IsPlaceOf}
 use Rattle.unit_objects.proofs.Homes.{of_function}
 use Rattle.image_texts.specs.Units.{HasVariablesIn}
-use Rattle.image_texts.specs.Variables.{HasElements, automatic_number}
-use Rattle.image_holding.specs.Keeping.{Tells, HasPlacesOf}
+use Rattle.image_texts.specs.Variables.{automatic_number}
+use Rattle.image_holding.specs.Keeping.{HasPlacesOf}
 use Rattle.image_units.proofs.Whole.{has_variables}
+use Rattle.emit_bound.specs.Timed.{AreTimed}
+use Rattle.unit_facts.proofs.Timed.{timed}
+use Rattle.unit_facts.proofs.Places.{has_places}
+use Rattle.unit_facts.proofs.Scalars.{HasScalar, has_scalars}
 use Rattle.program_image.specs.Made.{IsHomed, IsMadeOf}
-use Rattle.program_image.specs.Tables.{HasTablesOf, visible_from}
+use Rattle.program_image.specs.Tables.{HasTablesOf, spot_of, visible_from}
 use Rattle.program_image.specs.Compiled.{IsCompiledOf}
-use Rattle.image_truth.specs.Truthful.{events_of, RunsTrue}
-use Rattle.image_truth.specs.Sources.{IsEventOf}
+use Rattle.image_truth.specs.Truthful.{RunsTrue}
+use Rattle.source_events.proofs.Programs.{source_events}
 use Rattle.image_truth.specs.Meeting.{MeetAt}
 use Rattle.image_truth.proofs.Listed.{seen_from}
 use Rattle.image_truth.proofs.Told.{home_holds, none_recovered}
+use Rattle.image_truth.proofs.Naming.{static_law, automatic_law, literal_law}
 use Rattle.image_truth.proofs.Outermost.{outermost}
+use Rattle.image_truth.proofs.StopAddresses as stop-addresses
 use Rattle.image_truth.proofs.Stopping as stopping
 use Rattle.image_truth.proofs.Stopping.{same_function}
 use Rattle.image_truth.proofs.Visible as visibles
@@ -85,22 +93,50 @@ AreScalars p u =
     (f i k x : ℕ) (g : Graph) (q : Place) (v : AutomaticTree) → slice_get u.graphs f ≡ Some g → slice_get (places_of_program p) i ≡ Some q → IsPlaceOf g (i + 1) → slice_get (visible p.automatics q.scope) k ≡ Some x → slice_get p.automatics x ≡ Some v → v.in_memory ≡ false
     → IsScalarIn g (automatic_number p x) v.of
 
+-- a log is no matter for scalars
+scalars_relogged : (p : ProgramTree) → IsWellFormed p → (u : UnitForm) → IsUnitOf p u → (log : List Logged) → AreScalars p (record u { log = log })
+scalars_relogged p formed u is log f i k x g q v at place of seen declared outside = by (has_scalars p formed u is f i k x g q v at place of seen declared outside)
+  where
+    by : HasScalar g (automatic_number p x) v.of → IsScalarIn g (automatic_number p x) v.of
+    by s = record { index = s.index; scalar = s.scalar; is = s.is; variable_is = s.variable_is; scalar_type = s.scalar_type; of_is = s.of_is }
+
+-- nor for its places
+places_relogged : (u : UnitForm) (log : List Logged) (m : Form) → HasPlacesOf u m → HasPlacesOf (record u { log = log }) m
+places_relogged u log m has = record { place = has.place }
+
+-- nor for its stops
+stops_relogged : (u : UnitForm) (log : List Logged) (stops : List PlacedStop) → AreStopsOf (record u { log = log }) stops → AreStopsOf u stops
+stops_relogged u log stops are = record { places = are.places; once = are.once }
+
+map_twice : {A B C : Type 0} (f : B → C) (g : A → B) (all : List A) → map f (map g all) ≡ map (λ a. f (g a)) all
+map_twice f g [] = refl
+map_twice f g (a ∷ all) = ap (λ l. f (g a) ∷ l) (map_twice f g all)
+
+-- the functions of places, as an image with the program's tables has them
+functions_of : (p : ProgramTree) (m : Form) → map spot m.places ≡ map spot_of (rows_of_program p) → map (λ (q : ImagePlace). q.function) m.places ≡ map (λ (q : Place). q.function) (places_of_program p)
+functions_of p m same =
+    let of : Spot → ℕ = λ s. s.function in
+    sym (map_twice of spot m.places) ∙ ap (map of) same ∙ map_twice of spot_of (rows_of_program p) ∙ map_twice (λ (r : Row). r.function) (row_of p) (places_of_program p)
+
 module _ (mode : Mode) (p : ProgramTree) (h : HomedForm) (m : Form) (formed : IsWellFormed p) (homed : IsHomed mode h) (made : IsMadeOf p h m) (tables : HasTablesOf p m) (rules : IsImage m) (compiled : IsCompiledOf p h.unit)
-    -- nothing was changed
-    (unchanged : h.unit.log ≡ [])
-    -- the unit is well marked
-    (marked : AreWellMarked h.unit)
-    -- what an accepted program keeps of names and sizes
-    (static_law : (n : ℕ) (t : StaticTree) → slice_get p.statics n ≡ Some t → (t.name ≢ []) × HasElements t.of) (automatic_law : (x : ℕ) (a : AutomaticTree) → slice_get p.automatics x ≡ Some a → (a.name ≢ []) × HasElements a.of)
-    (literal_law : (n : ℕ) (l : LiteralTree) → slice_get p.literals n ≡ Some l → (1 ≤ length l.bytes) × (length l.bytes ≤ 4294967295))
-    -- what code tells of itself: where the parts of functions are
-    (tells : Tells h made.emits.code.arrangement made.emitted)
-    -- the image has the places of graphs, its stops are the code's, and what is visible and not in memory is a scalar
-    (has : HasPlacesOf h.unit m) (stops_are : (address : ℕ) → is_stop (image.stop_addresses m) address ≡ is_stop (laid.stop_addresses made.emitted) address) (are_scalars : AreScalars p h.unit)
-    -- what is so of each event of a program
-    (source_events : (input : List ℕ) → AreBytes input → (turns : ℕ) → AllByRecursion (IsEventOf p) (events_of p input turns)) where
+    -- its variables have names, its arrays elements, and its literals bytes
+    (names : HasNames p) where
   unit : HasVariablesIn p h.unit
   unit = subst (HasVariablesIn p) (sym compiled.same) (relogged p compiled.unit h.unit.log (has_variables p compiled.unit compiled.built.forms (variables_follow p formed)))
+
+  in_time : AreTimed h.unit
+  in_time = timed p compiled.unit h.unit formed compiled.built.forms compiled.built.follows (ap (λ (u : UnitForm). u.graphs) compiled.same) homed.valid
+
+  has : HasPlacesOf h.unit m
+  has = subst (λ (u : UnitForm). HasPlacesOf u m) (sym compiled.same) (places_relogged compiled.unit h.unit.log m (has_places p formed compiled.unit compiled.built.forms m (functions_of p m tables.places)))
+
+  stops_are : (address : ℕ) → is_stop (image.stop_addresses m) address ≡ is_stop (laid.stop_addresses made.emitted) address
+  stops_are =
+      stop-addresses.stops_are p formed m compiled.unit compiled.built.forms made.emitted.functions made.emitted.stops
+      (stops_relogged compiled.unit h.unit.log made.emitted.stops (subst (λ (u : UnitForm). AreStopsOf u made.emitted.stops) compiled.same made.emits.stops)) made.places made.places_are made.addresses tables.entries
+
+  are_scalars : AreScalars p h.unit
+  are_scalars = subst (AreScalars p) (sym compiled.same) (scalars_relogged p formed compiled.unit compiled.built.forms h.unit.log)
 
   rows_seen : map sight m.rows ≡ seen_from 1 (map (λ (r : Row). r.visible) (rows_of_program p))
   rows_seen = tables.visible ∙ seen_same 1 (rows_of_program p)
@@ -118,10 +154,10 @@ module _ (mode : Mode) (p : ProgramTree) (h : HomedForm) (m : Form) (formed : Is
   -- The image runs true to the program.
   pub runs_true : RunsTrue p m
   runs_true =
-      whole.runs_true p h m made.emitted made.emits.code.arrangement compiled.does (leads_over_homes h homed.valid homed.homes homed.apart) (made.emits.in_time marked) made.code made.initial stops_are source_events
+      whole.runs_true p h m made.emitted made.emits.code.arrangement compiled.does (leads_over_homes h homed.valid homed.homes homed.apart) (made.emits.in_time in_time) made.code made.initial stops_are (source_events p formed)
       (λ place deep activations shown memory s t.
-      stopping.stopped p m tables.functions tables.variables tables.owners tables.names.0 tables.names.1 rules static_law automatic_law literal_law h homed.valid homed.homes made.emitted made.emits.code made.storages made.spans made.owners (outermost h made.emitted made.emits.code) unit has tells stops_are place deep activations shown memory s t
-      (visibles.visible_are p m tables.functions tables.variables tables.owners tables.names.0 tables.names.1 rules static_law automatic_law literal_law h homed.valid homed.homes made.emitted made.emits.code made.storages made.spans made.owners (outermost h made.emitted made.emits.code) unit has tells stops_are place deep activations shown memory s t rows_seen
+      stopping.stopped p m tables.functions tables.variables tables.owners tables.names.0 tables.names.1 rules (static_law p formed names) (automatic_law p formed names) (literal_law p formed names) h homed.valid homed.homes made.emitted made.emits.code made.storages made.spans made.owners (outermost h made.emitted made.emits.code) unit has made.emits.told stops_are place deep activations shown memory s t
+      (visibles.visible_are p m tables.functions tables.variables tables.owners tables.names.0 tables.names.1 rules (static_law p formed names) (automatic_law p formed names) (literal_law p formed names) h homed.valid homed.homes made.emitted made.emits.code made.storages made.spans made.owners (outermost h made.emitted made.emits.code) unit has made.emits.told stops_are place deep activations shown memory s t rows_seen
       (home_holds h (telling_of h made.places made.emitted) m made.rows.told made.rows.rows made.rows.say made.rows.same made.rows.borne_out.home)
-      (scalar_there place deep activations shown memory s t (stopping.here_place p m tables.functions tables.variables tables.owners tables.names.0 tables.names.1 rules static_law automatic_law literal_law h homed.valid homed.homes made.emitted made.emits.code made.storages made.spans made.owners (outermost h made.emitted made.emits.code) unit has tells stops_are place deep activations shown memory s t))
-      (λ k i x change node v r is declared at here variable recovered. absurd (none_recovered (telling_of h made.places made.emitted) m h.unit.log made.rows.told made.rows.rows unchanged made.rows.say made.rows.same made.rows.borne_out.named i change node r at recovered))))
+      (scalar_there place deep activations shown memory s t (stopping.here_place p m tables.functions tables.variables tables.owners tables.names.0 tables.names.1 rules (static_law p formed names) (automatic_law p formed names) (literal_law p formed names) h homed.valid homed.homes made.emitted made.emits.code made.storages made.spans made.owners (outermost h made.emitted made.emits.code) unit has made.emits.told stops_are place deep activations shown memory s t))
+      (λ k i x change node v r is declared at here variable recovered. absurd (none_recovered (telling_of h made.places made.emitted) m h.unit.log made.rows.told made.rows.rows compiled.unremoved made.rows.say made.rows.same made.rows.borne_out.named i change node r at recovered))))

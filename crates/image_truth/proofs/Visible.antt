@@ -45,16 +45,17 @@ use Rattle.home_runs.proofs.Stops as home-stops
 use Rattle.emitted.specs.Emitted.{EmittedForm}
 use Rattle.emit_runs.specs.Laid as laid
 use Rattle.emit_runs.specs.Laid.{IsCode}
+use Rattle.emit_placed.specs.Told.{Tells}
 use Rattle.image_texts.specs.Rows.{IsShown}
 use Rattle.image_texts.specs.Standing.{IsDeclared}
 use Rattle.image_texts.specs.Units.{HasVariablesIn}
 use Rattle.image_texts.specs.Variables.{HasElements, automatic_number}
 use Rattle.image_texts.proofs.Tables.{map_at}
-use Rattle.image_holding.specs.Keeping.{Tells, HasPlacesOf}
+use Rattle.image_holding.specs.Keeping.{HasPlacesOf}
 use Rattle.image_holding.proofs.Texts as texts
 use Rattle.image_holding.proofs.Scalars as scalars
 use Rattle.image_truth.specs.Truthful.{SameVisible}
-use Rattle.image_truth.specs.Sources.{shown_of}
+use Rattle.source_events.specs.Sources.{shown_of}
 use Rattle.image_truth.specs.Meeting.{MeetAt}
 use Rattle.image_truth.proofs.Listed.{seen_at, seen_from, rows_of_place, row_there, pairs_at}
 use Rattle.image_truth.proofs.Stopping as stopping

@@ -41,7 +41,7 @@ use Rattle.emit_bound.specs.InTime.{FollowsInTime}
 use Rattle.unit_objects.specs.Owned.{IsSeenRunning}
 use Rattle.unit_objects.proofs.Steps.{all_running}
 use Rattle.image_truth.specs.Truthful.{SameStop, SameEvent, byte, stop, exited, deep, events_of, RunsTrue}
-use Rattle.image_truth.specs.Sources.{IsEventOf}
+use Rattle.source_events.specs.Sources.{IsEventOf}
 use Rattle.image_truth.specs.Meeting.{MeetAt}
 use Rattle.image_truth.proofs.Joining.{leads_front, Through, joined, follows_by, follows_kept}
 use Rattle.image_truth.proofs.Runs.{run_grows, run_same, HasCode, run_has}
@@ -81,7 +81,7 @@ module _ (p : ProgramTree) (h : HomedForm) (m : Form) (e : EmittedForm) (a : Arr
   said x upper lower y of runs first homed.over (emitted.exited {status = status}) has = by_first x status of first
     where
       by_first : (x : Event) (k : ℕ) → IsEventOf p x → built.SameEvent p h.unit x (unit.Exited k) → SameEvent p m x (machine.Exit (cast_signed w32 k))
-      by_first x k of (built.exited {status = z}) = subst (λ i. SameEvent p m (source.Exited z) (machine.Exit i)) (sym (int_again z of)) exited
+      by_first x k of (built.exited {status = z} is) = subst (λ i. SameEvent p m (source.Exited z) (machine.Exit i)) (sym (int_again z of)) exited
   said x upper lower y of runs first (homed.byte same) (emitted.byte {b = b}) has = by_first x first
     where
       by_first : (x : Event) → built.SameEvent p h.unit x (unit.Put b) → SameEvent p m x (machine.Byte b)
@@ -89,7 +89,7 @@ module _ (p : ProgramTree) (h : HomedForm) (m : Form) (e : EmittedForm) (a : Arr
   said x upper lower y of runs first (homed.stop {frames = frames} {memory = others} {c = c} {d = d} frames_are memory_is alike same shown) (emitted.stop {s = s} stands) has = by_first x of first
     where
       by_first : (x : Event) → IsEventOf p x → built.SameEvent p h.unit x (unit.Stop frames others) → SameEvent p m x (machine.Arrival s)
-      by_first x of (built.stop {place = place} {depth = depth} {frames = activations} {shown = visible} {memory = memory} at many same_frames typed differ same_memory) =
+      by_first x of (built.stop {place = place} {depth = depth} {frames = activations} {shown = visible} {memory = memory} is at many same_frames typed differ same_memory) =
           stop (same_stop place depth activations visible memory s (record {
             upper = c;
             lower = d;

@@ -1,3 +1,2 @@
 pub mod Truthful
-pub mod Sources
 pub mod Meeting

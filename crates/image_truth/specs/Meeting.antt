@@ -14,7 +14,7 @@ use Rattle.emitted.specs.Emitted.{EmittedForm}
 use Rattle.emit_runs.specs.Laid.{Arrangement}
 use Rattle.emit_runs.specs.Standing as machine
 use Rattle.unit_objects.specs.Owned.{IsRunning}
-use Rattle.image_truth.specs.Sources.{IsStopOf}
+use Rattle.source_events.specs.Sources.{IsStopOf}
 
 -- The program is at a stop, its unit is there with the same activations and the same memory, over homes too, where what recipes say is so, and the machine stands where the unit over homes is.
 pub record MeetAt (p : ProgramTree) (h : HomedForm) (e : EmittedForm) (a : Arrangement) (place deep : ℕ) (activations : List source-frame.Frame) (visible : List Shown) (memory : source-memory.Memory) (s : State) : Type 0 where
