@@ -23,6 +23,4 @@ mod recovery_tests;
 #[cfg(test)]
 mod script_tests;
 #[cfg(test)]
-mod thin_tests;
-#[cfg(test)]
 mod word_tests;

@@ -81,9 +81,9 @@ module _ (u : UnitForm) (log : List Logged) where
 
     event_same : (e : source-event.Event) (f : unit-event.Event) → SameEvent p u e f → SameEvent p other e f
     event_same e f put = put
-    event_same e f exited = exited
+    event_same e f (exited status) = exited status
     event_same e f deep = deep
-    event_same e f (stop {frames = frames} {memory = memory} {seen = seen} {others = others} at depth same typed apart held) = stop at depth (frames_same memory others frames seen same) typed apart held
+    event_same e f (stop {frames = frames} {memory = memory} {seen = seen} {others = others} of at depth same typed apart held) = stop of at depth (frames_same memory others frames seen same) typed apart held
 
     pairs_same : (es : List source-event.Event) (fs : List unit-event.Event) → Pairs (SameEvent p u) es fs → Pairs (SameEvent p other) es fs
     pairs_same [] [] h = tt

@@ -4,3 +4,6 @@ pub mod MadeAgain
 pub mod Owners
 pub mod Tables
 pub mod Units
+pub mod Unremoved
+pub mod Plain
+pub mod Borne

@@ -1,27 +1,19 @@
 -- What the tables of an image say of its program.
-use Rattle.std.specs.Prelude.{◌≡◌, ◌↔◌, ℕ, ◌+◌, List, [], ◌∷◌, ◌++◌, length, map}
+use Rattle.std.specs.Prelude.{◌≡◌, ◌↔◌, ℕ, List, ◌++◌, length, map}
 use Rattle.std.specs.List.{Contains}
 use Rattle.places.specs.declared.flow.Assignment.{Assignment}
 use Rattle.places.specs.declared.flow.FlowStep.{FlowStep}
-use Rattle.c_tree.specs.Programs.{ProgramTree, TypedFunctionTree}
-use Rattle.c_places.specs.Places.{number_at, places_of_program}
+use Rattle.c_tree.specs.Programs.{ProgramTree}
 use Rattle.c_flow.specs.Assigns.{assignments_of_program}
 use Rattle.c_flow.specs.Flow.{steps_of_program}
 use Rattle.c_place_table.specs.Rows.{Row, rows_of_program}
-use Rattle.graph_core.specs.Graphs.{Graph, UnitForm}
+use Rattle.graph_core.specs.Graphs.{UnitForm}
 use Rattle.image_form.specs.Form.{Form}
 use Rattle.image_form.specs.declared.tables.AssignedPair.{AssignedPair}
 use Rattle.image_form.specs.declared.tables.FlowPair.{FlowPair}
 use Rattle.image_declarations.specs.Variables.{declared_names, entry, length_of_name, name_length, owner, owners_of, shape, shapes_of}
-use Rattle.image_tables.specs.Tables.{Sight, Spot, assigned_pair, flow_pair, sight, spot}
-
--- the place at which a function begins: the one at its name
-abbrev pub entry_of : ProgramTree → TypedFunctionTree → ℕ
-entry_of p f = number_at (places_of_program p) f.spot.at
-
--- the place at which the code of a graph begins
-abbrev pub entry_place : Graph → ℕ
-entry_place g = g.entry
+use Rattle.image_tables.specs.Tables.{Spot, assigned_pair, flow_pair, sight, spot}
+pub use Rattle.image_rules.specs.Tables.{entry_number as entry_of, entry_place, visible_from}
 
 -- A unit has a graph for each function of its program, that begins where the function does, and its steps and assignments.
 pub record HasShapeOf (p : ProgramTree) (u : UnitForm) : Type 0 where
@@ -33,11 +25,6 @@ pub record HasShapeOf (p : ProgramTree) (u : UnitForm) : Type 0 where
 -- where the place of a row stands
 abbrev pub spot_of : Row → Spot
 spot_of r = record { position = r.position; line = r.line; function = r.function }
-
--- the variables that are visible at places, place by place, where the first of them has this number
-abbrev pub visible_from : (place : ℕ) → List Row → List Sight
-visible_from place [] = []
-visible_from place (r ∷ rows) = map (λ x. record { place = place; variable = x }) r.visible ++ visible_from (place + 1) rows
 
 -- THE TABLES OF AN IMAGE ARE ITS PROGRAM'S. It has the program's functions and variables, with their names: each function begins at its place, and each variable is declared at its
 -- position, in its function, of its elements and of so many of them. Its places are the program's, in their order, each at its position, on its line, in its function; execution goes from one place directly to

@@ -1,11 +1,11 @@
-//! From a program to its image, and to the changes that passes make in it.
+//! From a program to its unit behind passes, and to its image.
 #![tactic(auto)]
 
 mod building;
 mod drafting;
-mod listing;
 mod made;
+mod telling;
 
 pub use building::image_of_program;
-pub use listing::changes_of_program;
-pub use made::{Build, NamedChange};
+pub use drafting::unit_of;
+pub use made::Build;

@@ -1,7 +1,6 @@
 //! What is made of a program.
 
 use c_tree::Program;
-use debug_records::Change;
 use homed_unit::HomedUnit;
 use image_form::Image;
 
@@ -14,11 +13,4 @@ pub struct Build {
     pub image: Image,
     /// The bytes that spell the image.
     pub bytes: Vec<u8>,
-}
-
-/// A change that a pass made, with the name of the variable that it concerns.
-#[derive(Drop)]
-pub struct NamedChange {
-    pub change: Change,
-    pub name: Vec<u8>,
 }

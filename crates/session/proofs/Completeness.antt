@@ -45,7 +45,7 @@ none_too_long held job name w t =
     (λ (i : InputIsTooLong held job name). text_short_and_long held (input_of job) input_limit name w.input i.cause) u) t
 
 -- what is understood is refused only where it is not compiled
-held_left_out : (promised : List ℕ → Type 0) (code : Code) (line : ℕ) (held : Option (List ℕ)) → Holds held HasProgram → Holds held (λ t. IsRefusedSource promised t code line) → (code ≡ UNEXPECTED_KEYWORD) × (line ≡ 1) × Holds held (λ t. ¬ promised t)
+held_left_out : (promised : Type 0) (code : Code) (line : ℕ) (held : Option (List ℕ)) → Holds held HasProgram → Holds held (λ t. IsRefusedSource promised t code line) → (code ≡ UNEXPECTED_KEYWORD) × (line ≡ 1) × Holds held (λ t. ¬ promised)
 held_left_out promised code line None p r = absurd p
 held_left_out promised code line (Some text) p r =
     let n = refused_uncompiled text promised code line p r in

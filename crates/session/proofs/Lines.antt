@@ -2,30 +2,34 @@
 use Rattle.std.proofs.Common.{◌≡◌, ℕ, ap, refl, sym, subst, List, [], ◌∷◌, ◌++◌, map}
 use Rattle.std.specs.Prelude.{Vec, Ok}
 use Rattle.std.specs.Global.{Global}
-use Rattle.std.specs.List.{All, flat_map}
-use Rattle.std.proofs.lemmas.List.{map_push}
-use Rattle.std.proofs.lemmas.List.Elements.{All-push}
+use Rattle.std.specs.List.{flat_map}
 use Rattle.line_form.specs.Lines.{line}
 use Rattle.line_form.specs.declared.status.Status.{Status}
 use Rattle.line_form.specs.declared.status.Status.TheVariants.{SourceRefused}
 use Rattle.debug_records.specs.declared.code.Code.{Code}
 use Rattle.outside.specs.Held.{Loads}
-use Rattle.c_source.specs.Sources.{HasProgram}
+use Rattle.c_source.specs.Sources.{HasProgram, program_of_source}
 use Rattle.c_source.proofs.Sources.{program_is_short}
 use Rattle.command_line.specs.Job.{PassesGiven, SweepGiven, passes, sweep}
 use Rattle.run_summary.specs.declared.summary.Summary.{Summary}
 use Rattle.session.specs.Causes.{AreAccepted, SourceIsRefused}
 use Rattle.session.specs.Limits.{AreWithin, Held, IsThere}
-use Rattle.session.specs.Outcome.{IsChangeLine, IsSwept, ListsChanges}
+use Rattle.session.specs.Listed.{AreLinesFor, AreLinesOf}
+use Rattle.session.specs.Outcome.{IsSwept, ListsChanges}
+use Rattle.session.proofs.Compiled.{none_named}
+use Rattle.debug_records.specs.Change.{letters}
+use Rattle.debug_records.specs.declared.change.PassName.{PassName}
+use Rattle.c_tree.specs.Programs.{ProgramTree}
+use Rattle.graph_core.specs.Graphs.{UnitForm}
+use Rattle.graph_core.specs.Validity.{IsValid}
+use Rattle.program_image.specs.Tables.{HasShapeOf}
+use Rattle.program_unit.specs.Built.{IsBuilt}
+use Rattle.change_lines.specs.Lines.{lines_of}
+use Rattle.command_line.specs.Words.{Text}
 use Rattle.session.specs.Stages.{ListFails, SweepEnds}
 use Rattle.session.specs.Summing.{summary_lines}
 use Rattle.session.proofs.Refusals.{source_held}
 use Rattle.session.proofs.Sessions.{held_is, source_accepted}
-
-pub line_more : (lines more : List (Vec ℕ Global)) (one : Vec ℕ Global) → more ≡ lines ++ one ∷ [] → All IsChangeLine (map (λ (l : Vec ℕ Global). l.items) lines) → IsChangeLine one.items → All IsChangeLine (map (λ (l : Vec ℕ Global). l.items) more)
-line_more lines more one is all h =
-    subst (λ (ls : List (Vec ℕ Global)). All IsChangeLine (map (λ (l : Vec ℕ Global). l.items) ls)) (sym is)
-    (subst (All IsChangeLine) (sym (map_push (λ (l : Vec ℕ Global). l.items) lines one)) (All-push IsChangeLine (map (λ (l : Vec ℕ Global). l.items) lines) one.items all h))
 
 -- all texts of the jobs are within their limits
 pub list_within : (held : Held) (given : PassesGiven) → IsThere (held given.source) → AreWithin held (passes given)
@@ -36,7 +40,7 @@ sweep_within held given = record { first = tt; script = tt; input = tt }
 
 -- why the source of a list of changes was refused
 pub list_refused : (status : Status) (code : Code) (at : ℕ) (source : List ℕ) (held : Held) (given : PassesGiven) → status ≡ SourceRefused code at → ListFails status source → Loads (held given.source) 1048576 source → SourceIsRefused held (passes given) code at
-list_refused status code at source held given e ends loads = source_held (λ _. ⊥) code at (held given.source) source loads (subst (λ s. ListFails s source) e ends)
+list_refused status code at source held given e ends loads = source_held ⊥ code at (held given.source) source loads (subst (λ s. ListFails s source) e ends)
 
 -- the sources of these jobs are accepted
 pub list_accepted : (source : List ℕ) (held : Held) (given : PassesGiven) → HasProgram source → Loads (held given.source) 1048576 source → AreAccepted held (passes given)
@@ -45,15 +49,21 @@ list_accepted source held given has loads = record { before = source_accepted (h
 pub sweep_accepted : (held : Held) (given : SweepGiven) (summary : Summary) → SweepEnds (Ok summary) given → AreAccepted held (sweep given)
 sweep_accepted held given summary (m, is, summed) = record { before = is.understood; script = tt }
 
+-- the lines of the changes of a unit of the program
+pub lines_are : (p : ProgramTree) (names : List PassName) (unit : UnitForm) (lines : List (List ℕ)) → IsValid unit → HasShapeOf p unit → (names ≡ [] → IsBuilt p unit) → lines ≡ lines_of p 1 unit.log → AreLinesOf p (map letters names) lines
+lines_are p names unit lines valid shape built e = record { unit = unit; valid = valid; shape = shape; unchanged = λ none. (built (none_named names none)).forms.log; lines_are = e }
+
+-- and of a source
+pub lines_for_source : (source : List ℕ) (p : ProgramTree) (names : List Text) (lines : List (List ℕ)) → HasProgram source → program_of_source source ≡ Ok p → AreLinesOf p names lines → AreLinesFor source names lines
+lines_for_source source p names lines has is of = record { understood = has; program = p; program_is = is; lines_are = of }
+
 -- what the jobs print
-pub changes_listed : (source : List ℕ) (held : Held) (given : PassesGiven) (lines : List (Vec ℕ Global)) → HasProgram source → Loads (held given.source) 1048576 source → All IsChangeLine (map (λ (l : Vec ℕ Global). l.items) lines)
-    → ListsChanges held given (flat_map line (map (λ (l : Vec ℕ Global). l.items) lines))
-changes_listed source held given lines has loads all = record {
+pub changes_listed : (source : List ℕ) (held : Held) (given : PassesGiven) (lines : List (List ℕ)) → AreLinesFor source given.passes lines → Loads (held given.source) 1048576 source → ListsChanges held given (flat_map line lines)
+changes_listed source held given lines is loads = record {
   source = source;
-  source_held = held_is 1048576 (held given.source) source loads (program_is_short source has);
-  understood = has;
-  lines = map (λ (l : Vec ℕ Global). l.items) lines;
-  lines_are = all;
+  source_held = held_is 1048576 (held given.source) source loads (program_is_short source is.understood);
+  lines = lines;
+  lines_are = is;
   printed_is = refl;
 }
 

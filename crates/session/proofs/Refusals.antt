@@ -12,21 +12,21 @@ use Rattle.session.specs.Limits.{Holds}
 use Rattle.session.specs.Front.{IsNotCompiled, IsRefusedSource}
 
 -- where nothing is promised, what was refused is
-pub refused_anyway : (promised : List ℕ → Type 0) (text : List ℕ) (code : Code) (line : ℕ) → IsRefusedSource promised text code line → IsRefusedSource (λ _. ⊥) text code line
+pub refused_anyway : (promised : Type 0) (text : List ℕ) (code : Code) (line : ℕ) → IsRefusedSource promised text code line → IsRefusedSource ⊥ text code line
 refused_anyway promised text code line r =
     ⊎_elim (λ e. inl e) (λ (n : IsNotCompiled promised text code line). inr (record { understood = n.understood; cause = λ never. never; code_is = n.code_is; line_is = n.line_is })) r
 
 -- a source of a program is refused only where it is not compiled
-pub refused_uncompiled : (text : List ℕ) (promised : List ℕ → Type 0) (code : Code) (line : ℕ) → HasProgram text → IsRefusedSource promised text code line → IsNotCompiled promised text code line
+pub refused_uncompiled : (text : List ℕ) (promised : Type 0) (code : Code) (line : ℕ) → HasProgram text → IsRefusedSource promised text code line → IsNotCompiled promised text code line
 refused_uncompiled text promised code line s r = ⊎_elim (λ e. absurd (unbroken text code line s e)) (λ (n : IsNotCompiled promised text code line). n) r
 
 -- texts that are too long are refused alike
-refused_as_long : (got text : List ℕ) (promised : List ℕ → Type 0) (code : Code) (line : ℕ) → nat_lt 1048576 (length got) ≡ true → nat_lt 1048576 (length text) ≡ true → IsRefusedSource promised got code line → IsRefusedSource promised text code line
+refused_as_long : (got text : List ℕ) (promised : Type 0) (code : Code) (line : ℕ) → nat_lt 1048576 (length got) ≡ true → nat_lt 1048576 (length text) ≡ true → IsRefusedSource promised got code line → IsRefusedSource promised text code line
 refused_as_long got text promised code line long longer refused =
     let first = long_has_no_program got long in
     ⊎_elim (λ e. inl (long_has_no_program text longer ∙ sym first ∙ e)) (λ (n : IsNotCompiled promised got code line). absurd (unbroken got TEXT_SIZE 1 n.understood first)) refused
 
-refused_by_length : (promised : List ℕ → Type 0) (code : Code) (line : ℕ) (text got : List ℕ) → got ≡ take 1048577 text → (long : Bool) → nat_lt 1048576 (length got) ≡ long → IsRefusedSource promised got code line → IsRefusedSource promised text code line
+refused_by_length : (promised : Type 0) (code : Code) (line : ℕ) (text got : List ℕ) → got ≡ take 1048577 text → (long : Bool) → nat_lt 1048576 (length got) ≡ long → IsRefusedSource promised got code line → IsRefusedSource promised text code line
 refused_by_length promised code line text got is true long refused =
     let len : length got ≡ length (take 1048577 text) = ap length is in
     let longer : nat_lt 1048576 (length text) ≡ true = grind (arith, nat_tests, len, length-take 1048577 text, long) in
@@ -37,6 +37,6 @@ refused_by_length promised code line text got is false short refused =
     subst (λ t. IsRefusedSource promised t code line) (is ∙ take_all 1048577 text all) refused
 
 -- what a text that was loaded is refused for, the one that the shelf holds is refused for
-pub source_held : (promised : List ℕ → Type 0) (code : Code) (line : ℕ) (held : Option (List ℕ)) (got : List ℕ) → Loads held 1048576 got → IsRefusedSource promised got code line → Holds held (λ t. IsRefusedSource promised t code line)
+pub source_held : (promised : Type 0) (code : Code) (line : ℕ) (held : Option (List ℕ)) (got : List ℕ) → Loads held 1048576 got → IsRefusedSource promised got code line → Holds held (λ t. IsRefusedSource promised t code line)
 source_held promised code line None got h refused = h
 source_held promised code line (Some text) got h refused = refused_by_length promised code line text got h (nat_lt 1048576 (length got)) refl refused

@@ -21,7 +21,7 @@ use Rattle.command_line.specs.Job.{AttachGiven, CompileGiven, DebugGiven, JobGiv
 use Rattle.command_line.specs.Words.{Text}
 use Rattle.session.specs.Served.{Saving}
 use Rattle.session.specs.Limits.{Held, Holds, AreWithin, IsBeyond, IsThere, IsWithin, image_limit, input_limit}
-use Rattle.session.specs.Front.{IsRefusedSource, IsStraight}
+use Rattle.session.specs.Front.{IsPlain, IsRefusedSource}
 use Rattle.session.specs.Causes.{AreNoImage, ImageIsRefused, IsImageText, IsScriptText, ScriptIsRefused, SourceIsRefused, AreAccepted}
 use Rattle.session.proofs.Refusals.{source_held}
 use Rattle.session.specs.Stages.{ImageEnds, LoadEnds, MakeEnds, ScriptEnds}
@@ -82,8 +82,8 @@ source_accepted held got h s = holds HasProgram held got (held_is 1048576 held g
 
 -- why a source was refused
 pub source_refused : (status : Status) (code : Code) (line : ℕ) (source : List ℕ) (names : List Text) (mode : Mode) (held : Option (List ℕ)) → status ≡ SourceRefused code line → MakeEnds (Err status) source names mode → Loads held 1048576 source
-    → Holds held (λ t. IsRefusedSource (IsStraight names mode) t code line)
-source_refused status code line source names mode held e ends loads = source_held (IsStraight names mode) code line held source loads (subst (λ s. MakeEnds (Err s) source names mode) e ends)
+    → Holds held (λ t. IsRefusedSource (IsPlain names mode) t code line)
+source_refused status code line source names mode held e ends loads = source_held (IsPlain names mode) code line held source loads (subst (λ s. MakeEnds (Err s) source names mode) e ends)
 
 -- why a script was, behind a source
 pub script_refused : (status : Status) (code : Code) (line : ℕ) (source script : List ℕ) (made : Made) (held : Held) (given : DebugGiven) → status ≡ ScriptRefused code line → IsMade source given.passes given.mode made → ScriptEnds (Err status) script

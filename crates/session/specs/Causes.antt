@@ -68,9 +68,9 @@ pub record AreAccepted (held : Held) (job : JobGiven) : Type 0 where
   pub before : IsUnderstood held job
   pub script : IfGiven (script_of job) (λ name. Holds (held name) IsScriptText)
 
--- The source of the job is of a program, but left out as one that is not compiled so far; never one of which it is proved that the job compiles it.
+-- The source of the job is of a program, but left out as one that is not compiled so far; never by a job of which it is proved that it compiles each program.
 abbrev pub IsLeftOut : Held → JobGiven → Status → Type 0
-IsLeftOut held job result = (result ≡ SourceRefused UNEXPECTED_KEYWORD 1) × Holds (compiled_by held job) (λ text. ¬ IsPromised job text)
+IsLeftOut held job result = (result ≡ SourceRefused UNEXPECTED_KEYWORD 1) × Holds (compiled_by held job) (λ text. ¬ IsPromised job)
 
 -- the session ended before anything was saved or put out
 abbrev pub IsEarly : Status → Type 0

@@ -1,6 +1,6 @@
 -- What a session leaves behind.
 use Rattle.std.specs.Prelude.{◌≡◌, ℕ, ◌⊎◌, List, [], ◌∷◌, ◌++◌, Option, Some}
-use Rattle.std.specs.List.{All, flat_map}
+use Rattle.std.specs.List.{flat_map}
 use Rattle.outside.specs.Held.{IsKeptOrCut}
 use Rattle.outside.specs.Taken.{TakesPart}
 use Rattle.image_form.specs.Form.{Form}
@@ -10,14 +10,13 @@ use Rattle.script_form.specs.Script.{Order, IsScript}
 use Rattle.stop_engine.specs.Transcript.{transcript_bytes}
 use Rattle.c_source.specs.Sources.{HasProgram}
 use Rattle.command_line.specs.Job.{AttachGiven, DebugGiven, JobGiven, PassesGiven, SweepGiven, attach, compile, debug, passes, sweep}
-use Rattle.debug_records.specs.declared.change.Kind.{Kind}
 use Rattle.debug_records.specs.declared.mode.Mode.TheVariants.{Registers}
-use Rattle.line_form.specs.Changes.{change_line}
 use Rattle.line_form.specs.Lines.{line}
 use Rattle.run_summary.specs.Summary.{IsSummed}
 use Rattle.run_summary.specs.declared.summary.Summary.{Summary}
 use Rattle.work_gen.specs.Generated.{text as generated}
 use Rattle.session.specs.Served.{IfGiven, Saving, default_names, saving_of}
+use Rattle.session.specs.Listed.{AreLinesFor}
 use Rattle.session.specs.Prepared.{IsImageFor}
 use Rattle.session.specs.Summing.{summary_lines, sweep_limit}
 use Rattle.session.specs.Limits.{Held}
@@ -79,22 +78,12 @@ HasLeft held held' job = IfGiven (saving_of job) (λ (s : Saving). (held' s.imag
 abbrev pub IsAttached : Held → AttachGiven → List ℕ → Type 0
 IsAttached held given printed = IsPlayed (held given.image) (held given.script) (held given.input) given.limit printed
 
--- the line of some change
-pub record IsChangeLine (text : List ℕ) : Type 0 where
-  pub number : ℕ
-  pub pass : List ℕ
-  pub kind : Kind
-  pub name : List ℕ
-  pub place : ℕ
-  pub text_is : text ≡ change_line number pass kind name place
-
--- What the job `passes` prints: lines of changes, of the source that the shelf held. That they are the changes that the passes make in it is not proved yet.
+-- What the job `passes` prints: the lines of the changes that the passes make in the source that the shelf held.
 pub record ListsChanges (held : Held) (given : PassesGiven) (printed : List ℕ) : Type 0 where
   pub source : List ℕ
   pub source_held : held given.source ≡ Some source
-  pub understood : HasProgram source
   pub lines : List (List ℕ)
-  pub lines_are : All IsChangeLine lines
+  pub lines_are : AreLinesFor source given.passes lines
   pub printed_is : printed ≡ flat_map line lines
 
 -- What the job `sweep` prints: the summary of the run of an image of the generated source, with the passes and the homes that are the default, on no input.

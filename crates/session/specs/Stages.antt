@@ -1,5 +1,5 @@
 -- What each stage of a session answers.
-use Rattle.std.specs.Prelude.{◌≡◌, ℕ, List, [], Vec, Result, Ok, Err, string_bytes}
+use Rattle.std.specs.Prelude.{◌≡◌, ℕ, List, [], map, Vec, Result, Ok, Err, string_bytes}
 use Rattle.std.specs.Global.{Global}
 use Rattle.outside.specs.Counts.{RoseOrStands}
 use Rattle.image_form.specs.Form.{Form, form}
@@ -21,7 +21,8 @@ use Rattle.debug_records.specs.declared.change.PassName.{PassName}
 use Rattle.pass_runs.specs.HandedIn.{AreHandedIn}
 use Rattle.session.specs.Causes.{AreNoImage}
 use Rattle.c_source.specs.Sources.{HasProgram, program_of_source}
-use Rattle.session.specs.Front.{IsRefusedSource, IsStraight}
+use Rattle.session.specs.Front.{IsPlain, IsRefusedSource}
+use Rattle.session.specs.Listed.{AreLinesFor}
 use Rattle.session.specs.Prepared.{IsImageFor, IsMade}
 use Rattle.session.specs.Served.{AreNotServed, AreServed, default_names, needed}
 use Rattle.session.specs.Summing.{sweep_limit}
@@ -74,27 +75,27 @@ FrontEnds (Err _) source = ⊥
 -- the source is of a program and its image is made, or it is refused, or memory was wanting
 abbrev pub MakeEnds : Result Made Status → (source : List ℕ) → (names : List Text) → Mode → Type 0
 MakeEnds (Ok made) source names mode = IsMade source names mode made
-MakeEnds (Err (SourceRefused code line)) source names mode = IsRefusedSource (IsStraight names mode) source code line
+MakeEnds (Err (SourceRefused code line)) source names mode = IsRefusedSource (IsPlain names mode) source code line
 MakeEnds (Err NoMemory) source names mode = Unit {0}
 MakeEnds (Err _) source names mode = ⊥
 
 -- the summary of the run of an image of the generated source, or that source is refused, or memory was wanting
 abbrev pub SweepEnds : Result Summary Status → SweepGiven → Type 0
 SweepEnds (Ok summary) given = (m : Form) × IsImageFor (generated given.seed given.size) default_names Registers m × IsSummed m [] sweep_limit summary
-SweepEnds (Err (SourceRefused code line)) given = IsRefusedSource (λ _. ⊥) (generated given.seed given.size) code line
+SweepEnds (Err (SourceRefused code line)) given = IsRefusedSource ⊥ (generated given.seed given.size) code line
 SweepEnds (Err NoMemory) given = Unit {0}
 SweepEnds (Err _) given = ⊥
 
 -- a source whose changes are listed is refused, or memory was wanting
 abbrev pub ListFails : Status → (source : List ℕ) → Type 0
-ListFails (SourceRefused code line) source = IsRefusedSource (λ _. ⊥) source code line
+ListFails (SourceRefused code line) source = IsRefusedSource ⊥ source code line
 ListFails NoMemory source = Unit {0}
 ListFails _ source = ⊥
 
--- the source is of a program, whose changes are listed, or the list fails
-abbrev pub ListEnds : {A : Type 0} → Result A Status → (source : List ℕ) → Type 0
-ListEnds (Ok changes) source = HasProgram source
-ListEnds (Err status) source = ListFails status source
+-- the lines of the changes that passes of these names make in the source, or the list fails
+abbrev pub ListEnds : Result (Vec (Vec ℕ Global) Global) Status → (source : List ℕ) → (names : List Text) → Type 0
+ListEnds (Ok lines) source names = AreLinesFor source names (map (λ (l : Vec ℕ Global). l.items) lines.items)
+ListEnds (Err status) source names = ListFails status source
 
 -- the script asks for the commands, or is refused for its first line that breaks a rule, or memory was wanting
 abbrev pub ScriptEnds : Result (Vec Command Global) Status → (script : List ℕ) → Type 0

@@ -1,31 +1,34 @@
 //! From the texts to what is played.
 
-ghost use Rattle.std.specs.Prelude.{◌≡◌, [], false, true, IfOk, IfSome, MatchOption, Ok, map};
+ghost use Rattle.std.specs.Prelude.{◌≡◌, [], IfNone, IfOk, IfSome, Ok, map};
 ghost use Rattle.debug_records.specs.declared.mode.Mode.TheVariants.{Slots};
 ghost use Rattle.c_flow.specs.Tables.{Fits32};
 ghost use Rattle.c_laws.specs.Laws.{IsWellFormed};
+ghost use Rattle.c_laws.specs.Names.{HasNames};
+ghost use Rattle.c_laws.specs.Spots.{HasSpots};
 ghost use Rattle.c_source.specs.Sources.{program_of_source};
 ghost use Rattle.c_tree.specs.Programs.{program_view};
 ghost use Rattle.debug_records.specs.Change.{letters};
 ghost use Rattle.image_form.specs.Form.{form};
 ghost use Rattle.image_form.specs.Rules.{IsImage};
 ghost use Rattle.image_form.specs.Spelling.{spelling};
+ghost use Rattle.image_truth.specs.Truthful.{RunsTrue};
 ghost use Rattle.program_image.specs.Compiled.{IsCompiledImage};
+ghost use Rattle.program_image.specs.Shown.{ShowsAll};
 ghost use Rattle.program_image.specs.Tables.{HasTablesOf};
-ghost use Rattle.session.specs.Front.{IsStraight};
+ghost use Rattle.session.specs.Front.{IsPlain};
+ghost use Rattle.session.specs.Listed.{AreLinesOf};
 ghost use Rattle.session.specs.Stages.{FrontEnds, ImageEnds, ListEnds, MakeEnds, ScriptEnds};
-ghost use Rattle.session.specs.Truth.{IsTruthfulTo};
 
 use c_tree::Program;
+use change_lines::change_lines;
 use debug_records::{Code, Mode, PassName, SourceErr};
-use image_form::{Image, ImageErr, write};
+use image_form::{Image, ImageErr};
 use line_form::Status;
 use pass_runs::UnitPass;
-use program_image::{NamedChange, changes_of_program, image_of_program};
+use program_image::{image_of_program, unit_of};
 use script_form::{Command, ScriptErr};
 use std::alloc::{AllocError, Global};
-use thin_build::build;
-use thin_form::ThinErr;
 
 /// The image of a source, and its bytes.
 #[derive(Drop)]
@@ -34,35 +37,8 @@ pub struct Made {
     pub bytes: Vec<u8>,
 }
 
-/// Whether no pass is run and variables are kept in slots.
-fn is_plain(names: &[PassName], mode: Mode) -> bool
-    ensures plain { result ≡ true → (map letters names.now ≡ []) × (mode ≡ Slots) }
-    ensures other { result ≡ false → map letters names.now ≡ [] → mode ≡ Slots → ⊥ }
-{
-    names.is_empty() && mode == Mode::Slots
-}
-
-/// The image of a source that is a straight-line `main`, where no pass is run and variables are kept in slots; else none.
-fn straight_image(
-    alloc: Global,
-    source: &[u8],
-    names: &[PassName],
-    mode: Mode,
-) -> Result<Option<Image>, AllocError>
-    ensures { IfOk result (λ made. MatchOption made (¬ IsStraight (map letters names.now) mode source.now) (λ image. IsImage (form image) × IsTruthfulTo source.now (map letters names.now) mode (form image))) }
-{
-    if !is_plain(names, mode) {
-        return Ok(None);
-    }
-    match thin_form::read(alloc, source) {
-        Ok(program) => Ok(Some(build(alloc, &program)?)),
-        Err(ThinErr::Refused) => Ok(None),
-        Err(ThinErr::NoMemory) => Err(AllocError),
-    }
-}
-
-/// The image of a program, and its bytes; none where it is not compiled so far.
-fn general_image(
+/// The image of a program, and its bytes; none where it is not compiled so far, which is never so where no pass is run and variables are kept in slots.
+fn image_for(
     alloc: Global,
     program: Program,
     passes: &[Box<dyn UnitPass>],
@@ -71,10 +47,15 @@ fn general_image(
 ) -> Result<Option<Made>, AllocError>
     requires laws { IsWellFormed (program_view program) }
     requires fits { Fits32 (program_view program) }
+    requires names { HasNames (program_view program) }
+    requires spots { HasSpots (program_view program) }
     ensures image { IfOk result (λ o. IfSome o (λ made. IsImage (form made.image))) }
     ensures bytes { IfOk result (λ o. IfSome o (λ made. made.bytes.items ≡ spelling (form made.image))) }
+    ensures runs { map letters names.now ≡ [] → IfOk result (λ o. IfSome o (λ made. RunsTrue (program_view program) (form made.image))) }
+    ensures shows { map letters names.now ≡ [] → mode ≡ Slots → IfOk result (λ o. IfSome o (λ made. ShowsAll (form made.image))) }
     ensures tables { IfOk result (λ o. IfSome o (λ made. HasTablesOf (program_view program) (form made.image))) }
     ensures compiled { IfOk result (λ o. IfSome o (λ made. IsCompiledImage (program_view program) (map letters names.now) mode (form made.image))) }
+    ensures left_out { IfOk result (λ o. IfNone o (¬ IsPlain (map letters names.now) mode)) }
 {
     match image_of_program(alloc, program, passes, names, mode)? {
         Some(build) => Ok(Some(Made {
@@ -85,48 +66,14 @@ fn general_image(
     }
 }
 
-/// An image with its bytes.
-fn spelled(alloc: Global, image: Image) -> Result<Made, AllocError>
-    requires { IsImage (form image) }
-    ensures image { IfOk result (λ made. form made.image ≡ form image) }
-    ensures bytes { IfOk result (λ made. made.bytes.items ≡ spelling (form made.image)) }
-{
-    let bytes = write(alloc, &image)?;
-    Ok(Made { image, bytes })
-}
-
-/// The image of the program of this source, and its bytes: a straight-line `main` with slots and no pass is compiled by the way that is proved to be truthful. None
-/// where the program is not compiled so far.
-fn image_for(
-    alloc: Global,
-    source: &[u8],
-    program: Program,
-    passes: &[Box<dyn UnitPass>],
-    names: &[PassName],
-    mode: Mode,
-) -> Result<Option<Made>, AllocError>
-    requires program { program_of_source source.now ≡ Ok (program_view program) }
-    requires laws { IsWellFormed (program_view program) }
-    requires fits { Fits32 (program_view program) }
-    ensures image { IfOk result (λ o. MatchOption o (¬ IsStraight (map letters names.now) mode source.now) (λ made. IsImage (form made.image) × IsTruthfulTo source.now (map letters names.now) mode (form made.image))) }
-    ensures bytes { IfOk result (λ o. IfSome o (λ made. made.bytes.items ≡ spelling (form made.image))) }
-{
-    if let Some(image) = straight_image(alloc, source, names, mode)? {
-        let made = spelled(alloc, image)?;
-        return Ok(Some(made));
-    }
-    match general_image(alloc, program, passes, names, mode)? {
-        Some(made) => Ok(Some(made)),
-        None => Ok(None),
-    }
-}
-
 /// The program of a source, which else is refused for the first rule of C that it breaks.
 fn understood(alloc: Global, source: &[u8]) -> Result<Program, Status>
     ensures ends { FrontEnds result source.now }
     ensures program { IfOk result (λ program. program_of_source source.now ≡ Ok (program_view program)) }
     ensures laws { IfOk result (λ program. IsWellFormed (program_view program)) }
     ensures fits { IfOk result (λ program. Fits32 (program_view program)) }
+    ensures names { IfOk result (λ program. HasNames (program_view program)) }
+    ensures spots { IfOk result (λ program. HasSpots (program_view program)) }
 {
     match c_source::program(alloc, source) {
         Ok(program) => Ok(program),
@@ -147,25 +94,43 @@ pub fn make(
     ensures { MakeEnds result source.now (map letters names.now) mode }
 {
     let program = understood(alloc, source)?;
-    match image_for(alloc, source, program, passes, names, mode) {
+    match image_for(alloc, program, passes, names, mode) {
         Ok(Some(made)) => Ok(made),
         Ok(None) => Err(Status::SourceRefused(Code::UNEXPECTED_KEYWORD, 1)),
         Err(_) => Err(Status::NoMemory),
     }
 }
 
-/// The changes that the passes of these names make in a source. Refused as the source is.
+/// The lines of the changes that the passes of these names make in a program. None where a pass makes no unit.
+fn lines_for(
+    alloc: Global,
+    program: &Program,
+    passes: &[Box<dyn UnitPass>],
+    names: &[PassName],
+) -> Result<Option<Vec<Vec<u8>>>, AllocError>
+    requires laws { IsWellFormed (program_view program.now) }
+    requires fits { Fits32 (program_view program.now) }
+    ensures { IfOk result (λ o. IfSome o (λ lines. AreLinesOf (program_view program.now) (map letters names.now) (map (λ line. line.items) lines.items))) }
+{
+    let Some(unit) = unit_of(alloc, program, passes, names)? else {
+        return Ok(None);
+    };
+    let lines = change_lines(alloc, program, unit.log.changes())?;
+    Ok(Some(lines))
+}
+
+/// The lines of the changes that the passes of these names make in a source. Refused as the source is.
 pub fn list(
     alloc: Global,
     source: &[u8],
     passes: &[Box<dyn UnitPass>],
     names: &[PassName],
-) -> Result<Vec<NamedChange>, Status>
-    ensures { ListEnds result source.now }
+) -> Result<Vec<Vec<u8>>, Status>
+    ensures { ListEnds result source.now (map letters names.now) }
 {
     let program = understood(alloc, source)?;
-    match changes_of_program(alloc, &program, passes, names) {
-        Ok(Some(changes)) => Ok(changes),
+    match lines_for(alloc, &program, passes, names) {
+        Ok(Some(lines)) => Ok(lines),
         Ok(None) => Err(Status::SourceRefused(Code::UNEXPECTED_KEYWORD, 1)),
         Err(_) => Err(Status::NoMemory),
     }

@@ -10,9 +10,12 @@ use Rattle.homed_unit.specs.Homed.{homed_view}
 use Rattle.program_unit.specs.Built.{IsBuilt}
 use Rattle.program_image.specs.Made.{IsMadeOf}
 use Rattle.program_image.proofs.Doing.{does_by}
+use Rattle.program_image.specs.Shown.{ShowsAll}
 use Rattle.program_image.proofs.MadeAgain.{made_again}
+use Rattle.program_image.proofs.Plain.{plain_of, shows_again}
 use Rattle.program_image.proofs.Tables.{tables_again}
 use Rattle.program_image.proofs.Units.{log_only}
+use Rattle.program_image.proofs.Unremoved.{built_removes_nothing}
 use Rattle.program_image.proofs.building.image_of_program.Goals as goal
 
 pub draft_of-requires-clause-shape : goal.draft_of-requires-clause-shape
@@ -63,4 +66,25 @@ returns-clause-compiled g c =
     let same = c.in_ok-homed.ensures.unit in
     λ none.
     let built = subst (λ o. IfSome o (λ u. IsBuilt p (unit_view u))) c.in-Some.is (c.in_ok-unit.ensures.built none) in
-    record { unit = unit; built = built; same = same; does = does_by p unit (unit_view c.in_ok-homed.homed.unit) same built.does }
+    record { unit = unit; built = built; same = same; unremoved = built_removes_nothing unit (homed_view c.in_ok-homed.homed) c.in_ok-homed.ensures.changes built.forms.log; does = does_by p unit (unit_view c.in_ok-homed.homed.unit) same built.does }
+
+pub draft_of-requires-clause-names : goal.draft_of-requires-clause-names
+draft_of-requires-clause-names g c = c.requires.names
+
+pub draft_of-requires-clause-spots : goal.draft_of-requires-clause-spots
+draft_of-requires-clause-spots g c = c.requires.spots
+
+pub draft_of-requires-clause-plain : goal.draft_of-requires-clause-plain
+draft_of-requires-clause-plain g c =
+    let p = program_view c.args.program in
+    let unit = unit_view c.in-Some.unit in
+    let is = c.in_ok-homed.ensures in
+    λ plain.
+    let both = c.is_plain.ensures.plain plain in
+    plain_of p unit (homed_view c.in_ok-homed.homed) (subst (λ o. IfSome o (λ u. IsBuilt p (unit_view u))) c.in-Some.is (c.in_ok-unit.ensures.built both.0)) is.unit is.changes (is.slots both.1)
+
+pub returns-clause-shows : goal.returns-clause-shows
+returns-clause-shows g c = λ none slots.
+    shows_again (form c.in-Some-2.draft) (form c.in-Some-3.spelled.image)
+    (subst (λ o. IfSome o (λ s. SaysTheSame (form c.in-Some-2.draft) (form s.image))) c.in-Some-3.is c.in_ok-spelled.ensures.same)
+    (subst (λ o. IfSome o (λ m. ShowsAll (form m))) c.in-Some-2.is (c.in_ok-draft.ensures.shows (c.is_plain.ensures.so none slots)))

@@ -1,4 +1,4 @@
-use Rattle.std.proofs.Common.{◌≡◌, arith, map, refl, subst, ap, ◌∙◌}
+use Rattle.std.proofs.Common.{◌≡◌, arith, map, refl, subst, sym, ap, ◌∙◌}
 use Rattle.std.specs.Prelude.{IfSome}
 use Rattle.std.proofs.lemmas.List.{length-map}
 use Rattle.c_tree.specs.Programs.{automatic_view, program_view}
@@ -7,17 +7,20 @@ use Rattle.image_form.specs.Form.{form}
 use Rattle.currency.specs.Visible.{sight, sights_from}
 use Rattle.image_tables.specs.Tables.{sight_of_verdict}
 use Rattle.emitted.specs.Emitted.{emitted_view}
-use Rattle.currency.specs.Evident.{AreEvident}
-use Rattle.currency.specs.Named.{AreNamed}
-use Rattle.currency.specs.Sound.{AreHome, AreRecovered}
-use Rattle.currency.specs.Written.{AreWritten}
 use Rattle.image_declarations.specs.Variables.{pass_names}
-use Rattle.image_tables.specs.Rows.{AreNodesOf, AreRowsOf, telling_of}
+use Rattle.image_tables.specs.Rows.{AreNodesOf, AreRowsOf, AreShown, telling_of}
+use Rattle.program_image.specs.Made.{AreBorneOut}
 use Rattle.program_image.proofs.MadeAgain.{kept_each}
 use Rattle.program_image.proofs.Owners.{all_owned}
+use Rattle.program_image.proofs.Plain.{is_image, shown_at, shows_all, tables_are, visible_of}
 use Rattle.program_image.proofs.Tables.{has_tables, rows_few}
 use Rattle.program_image.proofs.Units.{entries_seen}
 use Rattle.program_image.proofs.drafting.draft_of.Goals as goal
+
+pub verdicts_on-requires : goal.verdicts_on-requires
+verdicts_on-requires c =
+    let few = rows_few (program_view c.args.program.now) c.in_ok-places.places.rows.items c.requires.fits c.in_ok-places.ensures in
+    λ plain. shown_at (program_view c.args.program.now) (homed_view c.args.homed.now) c.in_ok-places.places c.requires.laws c.requires.valid c.requires.shape (c.requires.plain plain) c.in_ok-places.ensures (omega (arith, few))
 
 pub image_of-requires-clause-owned : goal.image_of-requires-clause-owned
 image_of-requires-clause-owned c = all_owned (program_view c.args.program.now) c.requires.laws ∙ length-map c.args.program.now.automatics.items automatic_view
@@ -33,13 +36,10 @@ returns-clause-tables c =
 pub returns-clause-made : goal.returns-clause-made
 returns-clause-made c =
     let h = homed_view c.args.homed.now in
-    let flow = c.args.homed.now.unit.flow in
     let rows = c.in_ok-places.places.rows.items in
     let made = c.in_ok-image.ensures in
     let image = c.in_ok-image.image in
     let emitted = emitted_view c.in_ok-emitted.emitted in
-    let told = c.in-Some.verdicts.items in
-    let found = c.in_ok-verdicts.ensures in
     λ few. record {
       emitted = emitted;
       emits = c.in_ok-emitted.ensures.emits;
@@ -55,23 +55,52 @@ returns-clause-made c =
       changes = made.changes;
       names = made.names;
       rows = record {
-        told = told;
-        borne_out = record {
-          flow = flow;
-          steps = refl;
-          assignments = refl;
-          home = subst (λ o. IfSome o (λ v. AreHome h v.items)) c.in-Some.is found.home;
-          recovered = subst (λ o. IfSome o (λ v. AreRecovered h v.items)) c.in-Some.is found.recovered;
-          named = subst (λ o. IfSome o (λ v. AreNamed h.unit.log v.items)) c.in-Some.is found.named;
-          written = subst (λ o. IfSome o (λ v. AreWritten h v.items)) c.in-Some.is found.written;
-          evident = subst (λ o. IfSome o (λ v. AreEvident h.unit.log flow h v.items)) c.in-Some.is found.evident;
-        };
+        told = c.in-Some.verdicts.items;
+        borne_out = subst (λ o. IfSome o (λ v. AreBorneOut h v.items)) c.in-Some.is c.in_ok-verdicts.ensures.borne_out;
         rows = image.rows.items;
         say = subst (λ l. AreRowsOf (telling_of h rows emitted) image.nodes.items l image.rows.items) c.deref.ensures.value (made.rows few);
         needed = subst (AreNodesOf (telling_of h rows emitted) image.nodes.items) c.deref.ensures.value (made.nodes few);
         same = refl;
       };
     }
+
+pub returns-clause-image : goal.returns-clause-image
+returns-clause-image c =
+    let p = program_view c.args.program.now in
+    let h = homed_view c.args.homed.now in
+    let rows = c.in_ok-places.places.rows.items in
+    let made = c.in_ok-image.ensures in
+    let image = c.in_ok-image.image in
+    let emitted = emitted_view c.in_ok-emitted.emitted in
+    let few = rows_few p rows c.requires.fits c.in_ok-places.ensures in
+    λ plain.
+    let shown = subst (λ o. IfSome o (λ v. AreShown v.items)) c.in-Some.is (c.in_ok-verdicts.ensures.shown plain) in
+    let seen = subst (λ o. IfSome o (λ v. map sight v.items ≡ sights_from 1 rows)) c.in-Some.is c.in_ok-verdicts.ensures.visible in
+    is_image p h emitted rows (form image) c.requires.laws c.requires.names c.requires.spots (omega (arith, few)) c.requires.valid c.requires.homes c.requires.shape (c.requires.plain plain)
+    c.in_ok-emitted.ensures.emits c.in_ok-emitted.ensures.coded c.in_ok-emitted.ensures.few
+    (tables_are p h emitted rows (form image) made.code made.initial made.owners made.functions made.spans (made.entries ∙ entries_seen c.args.homed.now.unit.graphs.items) made.variables made.belonging (kept_each h emitted _ image.variables.items made.storages) made.names c.in_ok-places.ensures made.places made.addresses made.changes made.flow made.assigned)
+    c.tables_fit.ensures c.in-Some.verdicts.items seen shown (made.bare (subst AreShown (sym c.deref.ensures.value) shown))
+    (λ fewer. subst (λ l. AreRowsOf (telling_of h rows emitted) image.nodes.items l image.rows.items) c.deref.ensures.value (made.rows fewer))
+    (visible_of p rows c.in-Some.verdicts.items (form image) c.requires.fits c.in_ok-places.ensures seen (made.visible ∙ ap (map sight_of_verdict) c.deref.ensures.value))
+
+pub returns-clause-shows : goal.returns-clause-shows
+returns-clause-shows c =
+    let p = program_view c.args.program.now in
+    let h = homed_view c.args.homed.now in
+    let rows = c.in_ok-places.places.rows.items in
+    let made = c.in_ok-image.ensures in
+    let image = c.in_ok-image.image in
+    let emitted = emitted_view c.in_ok-emitted.emitted in
+    let few = rows_few p rows c.requires.fits c.in_ok-places.ensures in
+    λ plain.
+    let shown = subst (λ o. IfSome o (λ v. AreShown v.items)) c.in-Some.is (c.in_ok-verdicts.ensures.shown plain) in
+    let seen = subst (λ o. IfSome o (λ v. map sight v.items ≡ sights_from 1 rows)) c.in-Some.is c.in_ok-verdicts.ensures.visible in
+    shows_all p h emitted rows (form image) c.requires.laws c.requires.names c.requires.spots (omega (arith, few)) c.requires.valid c.requires.homes c.requires.shape (c.requires.plain plain)
+    c.in_ok-emitted.ensures.emits c.in_ok-emitted.ensures.coded c.in_ok-emitted.ensures.few
+    (tables_are p h emitted rows (form image) made.code made.initial made.owners made.functions made.spans (made.entries ∙ entries_seen c.args.homed.now.unit.graphs.items) made.variables made.belonging (kept_each h emitted _ image.variables.items made.storages) made.names c.in_ok-places.ensures made.places made.addresses made.changes made.flow made.assigned)
+    c.tables_fit.ensures c.in-Some.verdicts.items seen shown (made.bare (subst AreShown (sym c.deref.ensures.value) shown))
+    (λ fewer. subst (λ l. AreRowsOf (telling_of h rows emitted) image.nodes.items l image.rows.items) c.deref.ensures.value (made.rows fewer))
+    (visible_of p rows c.in-Some.verdicts.items (form image) c.requires.fits c.in_ok-places.ensures seen (made.visible ∙ ap (map sight_of_verdict) c.deref.ensures.value))
 
 pub place_table-requires : goal.place_table-requires
 place_table-requires c = c.requires.fits

@@ -1,10 +1,11 @@
 use Rattle.std.proofs.Common.{◌≡◌, inr, map, rules, subst, sym}
-use Rattle.std.specs.List.{All, flat_map}
+use Rattle.std.specs.List.{flat_map}
 use Rattle.line_form.specs.Lines.{line}
 use Rattle.outside.specs.Held.{Loads}
 use Rattle.command_line.specs.Job.{passes_given}
 use Rattle.session.specs.Limits.{IsThere}
-use Rattle.session.specs.Outcome.{IsChangeLine}
+use Rattle.debug_records.specs.Change.{letters}
+use Rattle.session.specs.Listed.{AreLinesFor}
 use Rattle.session.proofs.Lines.{changes_listed, list_accepted, list_refused, list_within}
 use Rattle.session.proofs.listing.list_changes.Goals as goal
 
@@ -49,7 +50,7 @@ returns-in-Ok-put_lines g c = record {
     accepted = λ e told.
         let name : c.as_str.result.now ≡ (passes_given c.args.job.now).source = search rules in
         let loads = subst (λ n. Loads (g.S.Shelf.held c.args.shelf.now n) 1048576 c.deref.result.now) name (subst (Loads (g.S.Shelf.held c.args.shelf.now c.as_str.result.now) 1048576) (sym c.deref.ensures.value) (c.in-Ok.ensures.value told)) in
-        list_accepted c.deref.result.now (g.S.Shelf.held c.args.shelf.now) (passes_given c.args.job.now) c.in-Ok-list.ensures loads;
+        list_accepted c.deref.result.now (g.S.Shelf.held c.args.shelf.now) (passes_given c.args.job.now) c.in-Ok-list.ensures.understood loads;
     write = search rules;
     write_only = search rules;
   };
@@ -61,8 +62,9 @@ returns-in-Ok-put_lines g c = record {
         let name : c.as_str.result.now ≡ (passes_given c.args.job.now).source = search rules in
         let loads = subst (λ n. Loads (g.S.Shelf.held c.args.shelf.now n) 1048576 c.deref.result.now) name (subst (Loads (g.S.Shelf.held c.args.shelf.now c.as_str.result.now) 1048576) (sym c.deref.ensures.value) (c.in-Ok.ensures.value told)) in
         record {
-          printed = flat_map line (map (λ l. l.items) c.deref-4.result.now);
-          prints = changes_listed c.deref.result.now (g.S.Shelf.held c.args.shelf.now) (passes_given c.args.job.now) c.deref-4.result.now c.in-Ok-list.ensures loads (subst (λ ls. All IsChangeLine (map (λ l. l.items) ls)) (sym c.deref-4.ensures.value) c.in-Ok-lines_of.ensures);
+          printed = flat_map line (map (λ l. l.items) c.deref-3.result.now);
+          prints = changes_listed c.deref.result.now (g.S.Shelf.held c.args.shelf.now) (passes_given c.args.job.now) (map (λ l. l.items) c.deref-3.result.now) (subst (λ ls. AreLinesFor c.deref.result.now (passes_given c.args.job.now).passes (map (λ l. l.items) ls)) (sym c.deref-3.ensures.value)
+              (subst (λ ps. AreLinesFor c.deref.result.now (map letters ps) (map (λ l. l.items) c.in-Ok-list.lines.items)) c.deref-2.ensures.value c.in-Ok-list.ensures)) loads;
           whole = c.in-Ok-put_lines.ensures.whole told_sink;
         };
   };
@@ -84,7 +86,7 @@ returns g c = record {
     accepted = λ e told.
         let name : c.as_str.result.now ≡ (passes_given c.args.job.now).source = search rules in
         let loads = subst (λ n. Loads (g.S.Shelf.held c.args.shelf.now n) 1048576 c.deref.result.now) name (subst (Loads (g.S.Shelf.held c.args.shelf.now c.as_str.result.now) 1048576) (sym c.deref.ensures.value) (c.in-Ok.ensures.value told)) in
-        list_accepted c.deref.result.now (g.S.Shelf.held c.args.shelf.now) (passes_given c.args.job.now) c.in-Ok-list.ensures loads;
+        list_accepted c.deref.result.now (g.S.Shelf.held c.args.shelf.now) (passes_given c.args.job.now) c.in-Ok-list.ensures.understood loads;
     write = search rules;
     write_only = search rules;
   };
@@ -95,8 +97,9 @@ returns g c = record {
         let name : c.as_str.result.now ≡ (passes_given c.args.job.now).source = search rules in
         let loads = subst (λ n. Loads (g.S.Shelf.held c.args.shelf.now n) 1048576 c.deref.result.now) name (subst (Loads (g.S.Shelf.held c.args.shelf.now c.as_str.result.now) 1048576) (sym c.deref.ensures.value) (c.in-Ok.ensures.value told)) in
         inr (record {
-          printed = flat_map line (map (λ l. l.items) c.deref-4.result.now);
-          prints = changes_listed c.deref.result.now (g.S.Shelf.held c.args.shelf.now) (passes_given c.args.job.now) c.deref-4.result.now c.in-Ok-list.ensures loads (subst (λ ls. All IsChangeLine (map (λ l. l.items) ls)) (sym c.deref-4.ensures.value) c.in-Ok-lines_of.ensures);
+          printed = flat_map line (map (λ l. l.items) c.deref-3.result.now);
+          prints = changes_listed c.deref.result.now (g.S.Shelf.held c.args.shelf.now) (passes_given c.args.job.now) (map (λ l. l.items) c.deref-3.result.now) (subst (λ ls. AreLinesFor c.deref.result.now (passes_given c.args.job.now).passes (map (λ l. l.items) ls)) (sym c.deref-3.ensures.value)
+              (subst (λ ps. AreLinesFor c.deref.result.now (map letters ps) (map (λ l. l.items) c.in-Ok-list.lines.items)) c.deref-2.ensures.value c.in-Ok-list.ensures)) loads;
           part = c.in-Err-put_lines.ensures.part told_sink;
         });
     done = search rules;

@@ -1,7 +1,49 @@
+use Rattle.std.proofs.Common.{subst}
+use Rattle.std.specs.Prelude.{IfSome}
+use Rattle.c_tree.specs.Programs.{program_view}
+use Rattle.homed_unit.specs.Homed.{homed_view}
+use Rattle.image_form.specs.Form.{form}
+use Rattle.image_form.specs.Rules.{IsImage}
+use Rattle.program_image.specs.Compiled.{IsCompiledOf}
+use Rattle.program_image.specs.Made.{IsHomed, IsMadeOf}
+use Rattle.program_image.specs.Shown.{ShowsAll}
+use Rattle.program_image.specs.Tables.{HasTablesOf}
+use Rattle.image_truth.proofs.Truth.{runs_true}
+use Rattle.session.proofs.Compiled.{compiled_behind, none_named}
 use Rattle.session.proofs.preparing.image_for.Goals as goal
 
-pub general_image-requires-clause-fits : goal.general_image-requires-clause-fits
-general_image-requires-clause-fits g c = c.requires.fits
+pub image_of_program-requires-clause-fits : goal.image_of_program-requires-clause-fits
+image_of_program-requires-clause-fits g c = c.requires.fits
 
-pub general_image-requires-clause-laws : goal.general_image-requires-clause-laws
-general_image-requires-clause-laws g c = c.requires.laws
+pub image_of_program-requires-clause-laws : goal.image_of_program-requires-clause-laws
+image_of_program-requires-clause-laws g c = c.requires.laws
+
+pub image_of_program-requires-clause-names : goal.image_of_program-requires-clause-names
+image_of_program-requires-clause-names g c = c.requires.names
+
+pub image_of_program-requires-clause-spots : goal.image_of_program-requires-clause-spots
+image_of_program-requires-clause-spots g c = c.requires.spots
+
+pub returns-in-Some-clause-compiled : goal.returns-in-Some-clause-compiled
+returns-in-Some-clause-compiled g c =
+    let p = program_view c.args.program in
+    let is = c.in_ok-build.ensures in
+    compiled_behind p c.args.names.now c.args.mode (homed_view c.in-Some.build.homed) (form c.in-Some.build.image)
+    (subst (λ o. IfSome o (λ b. IsMadeOf p (homed_view b.homed) (form b.image))) c.in-Some.is is.made)
+    (subst (λ o. IfSome o (λ b. IsHomed c.args.mode (homed_view b.homed))) c.in-Some.is is.homed)
+    (λ none. subst (λ o. IfSome o (λ b. IsCompiledOf p (homed_view b.homed).unit)) c.in-Some.is (is.compiled none))
+
+pub returns-in-Some-clause-runs : goal.returns-in-Some-clause-runs
+returns-in-Some-clause-runs g c = λ none.
+    let p = program_view c.args.program in
+    let is = c.in_ok-build.ensures in
+    runs_true c.args.mode p (homed_view c.in-Some.build.homed) (form c.in-Some.build.image) c.requires.laws
+    (subst (λ o. IfSome o (λ b. IsHomed c.args.mode (homed_view b.homed))) c.in-Some.is is.homed)
+    (subst (λ o. IfSome o (λ b. IsMadeOf p (homed_view b.homed) (form b.image))) c.in-Some.is is.made)
+    (subst (λ o. IfSome o (λ b. HasTablesOf p (form b.image))) c.in-Some.is is.tables)
+    (subst (λ o. IfSome o (λ b. IsImage (form b.image))) c.in-Some.is is.image)
+    (subst (λ o. IfSome o (λ b. IsCompiledOf p (homed_view b.homed).unit)) c.in-Some.is (is.compiled (none_named c.args.names.now none)))
+    c.requires.names
+
+pub returns-in-Some-clause-shows : goal.returns-in-Some-clause-shows
+returns-in-Some-clause-shows g c = λ none slots. subst (λ o. IfSome o (λ b. ShowsAll (form b.image))) c.in-Some.is (c.in_ok-build.ensures.shows (none_named c.args.names.now none) slots)

@@ -1,3 +1,7 @@
+use Rattle.std.proofs.Common.{map, ap, ◌∙◌, Ok}
+use Rattle.c_tree.specs.Programs.{program_view}
+use Rattle.debug_records.specs.Change.{letters}
+use Rattle.session.proofs.Compiled.{made_of}
 use Rattle.session.proofs.preparing.make.Goals as goal
 
 pub image_for-requires-clause-fits : goal.image_for-requires-clause-fits
@@ -6,5 +10,13 @@ image_for-requires-clause-fits g c = c.in_ok-program.ensures.fits
 pub image_for-requires-clause-laws : goal.image_for-requires-clause-laws
 image_for-requires-clause-laws g c = c.in_ok-program.ensures.laws
 
-pub image_for-requires-clause-program : goal.image_for-requires-clause-program
-image_for-requires-clause-program g c = c.in_ok-program.ensures.program
+pub image_for-requires-clause-names : goal.image_for-requires-clause-names
+image_for-requires-clause-names g c = c.in_ok-program.ensures.names
+
+pub image_for-requires-clause-spots : goal.image_for-requires-clause-spots
+image_for-requires-clause-spots g c = c.in_ok-program.ensures.spots
+
+pub returns-in-Ok-Some : goal.returns-in-Ok-Some
+returns-in-Ok-Some g c =
+    let is = c.image_for.ensures in
+    made_of c.args.source.now (map letters c.args.names.now) c.args.mode (program_view c.in_ok-program.program) c.image_for.result c.in-Ok-Some.made (c.in-Ok-Some.is ∙ ap Ok c.in-Ok-Some.field-0-is) c.in_ok-program.ensures.ends c.in_ok-program.ensures.program is.image is.bytes is.runs is.shows is.tables is.compiled

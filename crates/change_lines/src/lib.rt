@@ -1,0 +1,7 @@
+//! The lines of the changes of a log.
+#![tactic(auto)]
+
+mod lines;
+mod names;
+
+pub use lines::change_lines;

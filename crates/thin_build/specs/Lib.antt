@@ -1,4 +1,0 @@
-pub mod Code
-pub mod Image
-pub mod Truthful
-pub mod Growing

@@ -1,7 +1,0 @@
-use Rattle.std.proofs.Common.{◌≡◌, ◌+◌, drop}
-use Rattle.std.specs.List.{prefix_len}
-use Rattle.thin_form.specs.Words.{is_word_byte}
-use Rattle.thin_form.proofs.word.word_len.Given as goal
-
-abbrev pub invariant-loop-i : goal.invariant-loop-i
-invariant-loop-i l = prefix_len is_word_byte l.text ≡ l.i + prefix_len is_word_byte (drop l.i l.text)
