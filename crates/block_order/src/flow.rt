@@ -1,5 +1,9 @@
 //! Where the ends of blocks lead.
 
+ghost use Rattle.std.specs.Prelude.{◌≡◌, ◌++◌, ◌∷◌, [], IfOk, OnOk, length, map, min};
+ghost use Rattle.graph_core.specs.Graphs.{block_view, end_view};
+ghost use Rattle.block_order.specs.Flows.{ways_at, ways_of};
+
 use crate::table::{at, count, put};
 use graph_core::{Block, End, Graph};
 use std::alloc::{AllocError, Global};
@@ -13,7 +17,9 @@ pub struct Ways {
 
 impl Ways {
     /// The blocks to which an end leads.
-    fn of(end: End) -> Ways {
+    fn of(end: End) -> Ways
+        ensures { result ≡ ways_of (end_view end) }
+    {
         match end {
             End::Return(_) => Ways {
                 first: None,
@@ -60,7 +66,9 @@ pub struct Flow {
 
 impl Flow {
     /// The blocks to which a block leads.
-    pub fn ways(&self, block: u32) -> Ways {
+    pub fn ways(&self, block: u32) -> Ways
+        ensures { result ≡ ways_at self.now.ways.items block }
+    {
         match self.ways.get(block as usize) {
             Some(ways) => *ways,
             None => Ways {
@@ -92,7 +100,10 @@ impl Flow {
     }
 
     /// Adds an edge to the sources of a block.
-    fn add_source(&mut self, from: u32, to: Option<u32>) -> Result<(), AllocError> {
+    fn add_source(&mut self, from: u32, to: Option<u32>) -> Result<(), AllocError>
+        ensures blocks { OnOk result (self.new.blocks ≡ self.old.blocks) }
+        ensures ways { OnOk result (self.new.ways ≡ self.old.ways) }
+    {
         if let Some(block) = to {
             let next = at(&self.heads, block);
             self.sources.push(Source { from, next })?;
@@ -103,7 +114,10 @@ impl Flow {
     }
 
     /// Adds the edges of a block.
-    fn add(&mut self, from: u32, block: &Block) -> Result<(), AllocError> {
+    fn add(&mut self, from: u32, block: &Block) -> Result<(), AllocError>
+        ensures blocks { OnOk result (self.new.blocks ≡ self.old.blocks) }
+        ensures ways { OnOk result (self.new.ways.items ≡ self.old.ways.items ++ ways_of (block_view block.now).end ∷ []) }
+    {
         let ways = Ways::of(block.end);
         self.ways.push(ways)?;
         self.add_source(from, ways.first)?;
@@ -112,7 +126,10 @@ impl Flow {
 }
 
 /// The edges of a graph.
-pub fn flow_of(alloc: Global, graph: &Graph) -> Result<Flow, AllocError> {
+pub fn flow_of(alloc: Global, graph: &Graph) -> Result<Flow, AllocError>
+    ensures blocks { IfOk result (λ flow. flow.blocks ≡ min (length graph.now.blocks.items) 4294967295) }
+    ensures ways { IfOk result (λ flow. flow.ways.items ≡ map (λ b. ways_of (block_view b).end) graph.now.blocks.items) }
+{
     let blocks = count(graph.blocks.len());
     let mut flow = Flow {
         blocks,

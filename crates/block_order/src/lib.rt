@@ -4,6 +4,7 @@
 mod flow;
 mod loops;
 mod order;
+mod placing;
 mod search;
 pub mod table;
 

@@ -1,7 +1,12 @@
 //! The order of blocks in code, by how often their edges are likely to be followed (Pettis and Hansen 1990).
 
+ghost use Rattle.std.specs.Prelude.{◌≡◌, ◌^◌, IfOk, OnOk, min};
+ghost use Rattle.block_order.specs.Flows.{share};
+ghost use Rattle.block_order.specs.Orders.{placing_view, Grows, IsOrder};
+
 use crate::flow::Flow;
 use crate::loops::Loops;
+use crate::placing::Placing;
 use crate::search::Search;
 use crate::table::{at, count, put};
 use graph_core::{End, Graph};
@@ -16,7 +21,9 @@ struct Link {
 }
 
 /// How often a block at a depth of loops is likely to run, for each run of its function.
-pub fn frequency(depth: u32) -> u32 {
+pub fn frequency(depth: u32) -> u32
+    ensures { result ≡ 8 ^ min depth 8 }
+{
     match depth {
         0 => 1,
         1 => 8,
@@ -31,7 +38,9 @@ pub fn frequency(depth: u32) -> u32 {
 }
 
 /// How many of eight runs of a block with two ways out are likely to take this one, by the depths to which both lead.
-fn share(depth: u32, other: u32) -> u32 {
+fn share(depth: u32, other: u32) -> u32
+    ensures { result ≡ share depth other }
+{
     if depth < other {
         1
     } else if other < depth {
@@ -69,16 +78,30 @@ impl Chains {
         put(&mut self.other_end, last, first);
     }
 
-    /// Appends the blocks of the chain that a block begins.
-    fn push_to(&self, first: u32, order: &mut Vec<u32>) -> Result<(), AllocError> {
+    /// Places the blocks of the chain that a block begins.
+    fn push_to(&self, first: u32, placing: &mut Placing) -> Result<(), AllocError>
+        ensures { OnOk result (Grows (placing_view placing.old) (placing_view placing.new)) }
+    {
         let mut block = first;
         for _ in 0..self.next.len() {
-            order.push(block)?;
+            placing.place(block)?;
             let next = at(&self.next, block);
             if next == 0 {
                 break;
             }
             block = next - 1;
+        }
+        Ok(())
+    }
+
+    /// Places the blocks of all chains but one.
+    fn push_all(&self, last: u32, blocks: u32, placing: &mut Placing) -> Result<(), AllocError>
+        ensures { OnOk result (Grows (placing_view placing.old) (placing_view placing.new)) }
+    {
+        for block in 0..blocks {
+            if at(&self.has_previous, block) == 0 && block != last {
+                self.push_to(block, placing)?;
+            }
         }
         Ok(())
     }
@@ -168,28 +191,36 @@ fn last_chain(graph: &Graph, search: &Search, chains: &Chains) -> u32 {
     last
 }
 
-/// The order of the blocks: block 0 first, a return last where that can be.
+/// Chains of blocks, joined along the edges that paths reach, the most frequent first.
+fn chains_of(
+    alloc: Global,
+    flow: &Flow,
+    search: &Search,
+    loops: &Loops,
+) -> Result<Chains, AllocError> {
+    let mut chains = single(alloc, flow.blocks)?;
+    for link in &links_of(alloc, flow, search, loops)? {
+        chains.join(link.from, link.to);
+    }
+    Ok(chains)
+}
+
+/// The order of the blocks: block 0 first, a return last where that can be. Whatever the chains are, each block is there once.
 pub fn order_of(
     alloc: Global,
     graph: &Graph,
     flow: &Flow,
     search: &Search,
     loops: &Loops,
-) -> Result<Vec<u32>, AllocError> {
-    let mut chains = single(alloc, flow.blocks)?;
-    for link in &links_of(alloc, flow, search, loops)? {
-        chains.join(link.from, link.to);
-    }
+) -> Result<Vec<u32>, AllocError>
+    ensures { IfOk result (λ order. IsOrder flow.now.blocks order.items) }
+{
+    let chains = chains_of(alloc, flow, search, loops)?;
     let last = last_chain(graph, search, &chains);
-    let mut order = Vec::new(alloc);
-    chains.push_to(0, &mut order)?;
-    for block in 1..flow.blocks {
-        if at(&chains.has_previous, block) == 0 && block != last {
-            chains.push_to(block, &mut order)?;
-        }
-    }
-    if last != 0 {
-        chains.push_to(last, &mut order)?;
-    }
-    Ok(order)
+    let mut placing = Placing::begin(alloc, flow.blocks)?;
+    chains.push_to(0, &mut placing)?;
+    chains.push_all(last, flow.blocks, &mut placing)?;
+    chains.push_to(last, &mut placing)?;
+    placing.place_rest(flow.blocks)?;
+    Ok(placing.order)
 }
