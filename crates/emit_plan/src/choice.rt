@@ -1,5 +1,8 @@
 //! Which words the scratch registers of a region hold: those that are fetched most often.
 
+ghost use Rattle.std.specs.Prelude.{IfOk, IfSome, OnOk};
+ghost use Rattle.emit_plan.specs.Plans.{AreChosen, MayHold};
+
 use crate::regions::{Calls, Regions};
 use block_order::table::{at, put};
 use block_order::{Flow, Loops, frequency};
@@ -12,6 +15,16 @@ use std::alloc::{AllocError, Global};
 
 /// The scratch registers that may hold words: a6 to a1, s0, and a7 where nothing of the machine is called.
 const SCRATCH: [u8; 8] = [16, 15, 14, 13, 12, 11, register::S0, register::A7];
+
+/// The scratch register of a number, if there is one.
+fn scratch(number: u32) -> Option<u8>
+    ensures { IfSome result (λ register. MayHold register) }
+{
+    match SCRATCH.get(number as usize) {
+        Some(register) => Some(*register),
+        None => None,
+    }
+}
 
 /// How many words the end of a block has at most.
 const MAX_END_WORDS: u32 = 9;
@@ -233,7 +246,9 @@ struct Choice {
 
 impl Choice {
     /// Gives a word the next register of its region, if there is one, and room to load it.
-    fn choose(&mut self, candidate: Candidate) -> Result<(), AllocError> {
+    fn choose(&mut self, candidate: Candidate) -> Result<(), AllocError>
+        ensures { OnOk result (AreChosen self.old.chosen.items → AreChosen self.new.chosen.items) }
+    {
         if candidate.region != self.region {
             self.region = candidate.region;
             self.taken = 0;
@@ -243,9 +258,9 @@ impl Choice {
         if words > room || self.taken >= at(&self.counts, candidate.region) {
             return Ok(());
         }
-        if let Some(register) = SCRATCH.get(self.taken as usize) {
+        if let Some(register) = scratch(self.taken) {
             let held = Held {
-                register: *register,
+                register,
                 word: candidate.word,
             };
             self.chosen.push(Holding {
@@ -260,7 +275,9 @@ impl Choice {
 }
 
 /// What the regions of a graph hold, region by region.
-pub fn holdings_of(alloc: Global, of: Ground<'_>) -> Result<Vec<Holding>, AllocError> {
+pub fn holdings_of(alloc: Global, of: Ground<'_>) -> Result<Vec<Holding>, AllocError>
+    ensures { IfOk result (λ holdings. AreChosen holdings.items) }
+{
     let fetches = fetches_of(alloc, of)?;
     let mut choice = Choice {
         rooms: rooms_of(alloc, of)?,
