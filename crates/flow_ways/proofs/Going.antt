@@ -1,5 +1,5 @@
 -- From place to place, and what assigns variables.
-use Rattle.std.proofs.Common.{◌≡◌, ◌≢◌, inl, inr, ℕ, zero, suc, ◌<◌, ◌≤◌, Bool, true, false, List, [], ◌∷◌, length, get_or, take, refl, sym, ap, subst, ◌∙◌, arith, true≢false, eqb-true, eq-eqb}
+use Rattle.std.proofs.Common.{◌≡◌, inl, inr, ℕ, zero, suc, ◌<◌, ◌≤◌, Bool, true, false, List, [], ◌∷◌, length, get_or, take, refl, sym, ap, subst, ◌∙◌, arith, true≢false, eqb-true, eq-eqb}
 use Rattle.std.specs.Prelude.{All, Contains, ◌==◌, ◌&&◌, ◌||◌}
 use Rattle.std.specs.List.{list_any}
 use Rattle.places.specs.declared.flow.FlowStep.{FlowStep}
@@ -78,3 +78,18 @@ assigning_all all assigning k le each x p e =
     let there : Contains (entries_of assigning (get_or all f.1 f.0).var.0) (get_or all f.1 f.0).place.0 = subst (λ (l : List Assignment). All (λ (a : Assignment). Contains (entries_of assigning a.var.0) a.place.0) l) whole each f.1 f.0 f.2 in
     let one : Contains (entries_of assigning f.0.var.0) f.0.place.0 = subst (λ (a : Assignment). Contains (entries_of assigning a.var.0) a.place.0) f.3 there in
     subst (λ n. Contains (entries_of assigning n) p) f.5 (subst (λ n. Contains (entries_of assigning f.0.var.0) n) f.4 one)
+
+-- what can be gone is a step
+pub step_found : (all : List FlowStep) (p q : ℕ) → can_go all p q ≡ true → (s : FlowStep) × (k : ℕ) × (k < length all) × (get_or all k s ≡ s) × (s.from.0 ≡ p) × (s.to.0 ≡ q)
+step_found all p q e =
+    let f = any_found (λ (s : FlowStep). s.from.0 == p && s.to.0 == q) all e in
+    (f.0, f.1, f.2, f.3, eqb-true f.0.from.0 p (and_left (f.0.from.0 == p) (f.0.to.0 == q) f.4), eqb-true f.0.to.0 q (and_right (f.0.from.0 == p) (f.0.to.0 == q) f.4))
+
+-- each place to which a step leads is in the list of where it comes from
+pub following_all : (all : List FlowStep) (after : declared-lists.Lists) (k : ℕ) → length all ≤ k → All (λ (s : FlowStep). Contains (entries_of after s.from.0) s.to.0) (take k all) → (p q : ℕ) → can_go all p q ≡ true → Contains (entries_of after p) q
+following_all all after k le each p q e =
+    let f = step_found all p q e in
+    let whole : take k all ≡ all = take_whole all k le in
+    let there : Contains (entries_of after (get_or all f.1 f.0).from.0) (get_or all f.1 f.0).to.0 = subst (λ (l : List FlowStep). All (λ (s : FlowStep). Contains (entries_of after s.from.0) s.to.0) l) whole each f.1 f.0 f.2 in
+    let one : Contains (entries_of after f.0.from.0) f.0.to.0 = subst (λ (s : FlowStep). Contains (entries_of after s.from.0) s.to.0) f.3 there in
+    subst (λ n. Contains (entries_of after n) q) f.4 (subst (λ n. Contains (entries_of after f.0.from.0) n) f.5 one)

@@ -3,4 +3,5 @@ mod Numbers
 mod Going
 mod Marking
 mod Telling
+mod Closing
 pub mod Routes

@@ -1,5 +1,5 @@
 -- From a start by way of a place to a stop there is a route.
-use Rattle.std.proofs.Common.{◌≡◌, inl, inr, ℕ, Bool, true, false, List, [], ◌∷◌, refl, sym, ap, subst, ◌∙◌, eq-eqb}
+use Rattle.std.proofs.Common.{◌≡◌, inl, inr, ℕ, Bool, true, false, List, [], ◌∷◌, refl, sym, ap, subst, ◌∙◌, eq-eqb, eqb-true}
 use Rattle.std.specs.Prelude.{◌⊎◌, ◌==◌, ◌||◌}
 use Rattle.places.specs.Flow.{can_go, assigns}
 use Rattle.places.specs.Path.{Quest, LeadOn, IsRoute}
@@ -45,3 +45,33 @@ module _ (q : Quest) where
           let one : (b : Bool) → LeadOn q (b || q.via == q.via) q.via rest = λ b. subst (λ t. LeadOn q t q.via rest) (sym (ap (λ t. b || t) (eq-eqb q.via q.via refl) ∙ or_true b)) leads in
           let way = lead_by q.start c.0 c.1 rest one in
           (q.start ∷ way.0, record { rest = way.0; begins = refl; leads = way.1 (q.start == q.via) })
+
+  -- a place is another one, or was come to from there and does not assign the variable
+  abbrev pub Is_ahead : (from p : ℕ) → Type 0
+  Is_ahead from p = (p ≡ from) ⊎ (Comes_from from p × (is_free p ≡ false))
+
+  next_from : (from p r : ℕ) → Is_ahead from p → can_go q.steps p r ≡ true → Comes_from from r
+  next_from from p r ahead goes = elim ahead [ inl e ↦ at_once (subst (λ n. can_go q.steps n r ≡ true) e goes) | inr c ↦ on c.0 c.1 goes ]
+
+  -- what is known where the place to go by was passed
+  abbrev Is_passed : (p : ℕ) → Type 0
+  Is_passed p = Is_ahead q.start q.via × Is_ahead q.via p
+
+  passed_on : (passed : Bool) (p r : ℕ) → Is_ahead q.start p → (passed ≡ true → Is_passed p) → can_go q.steps p r ≡ true → is_free r ≡ false → (passed || r == q.via) ≡ true → Is_passed r
+  passed_on true p r ahead known goes free e = (let was = known refl in (was.0, inr (next_from q.via p r was.1 goes, free)))
+  passed_on false p r ahead known goes free e =
+      (let same : r ≡ q.via = eqb-true r q.via e in
+      let there : Is_ahead q.start r = inr (next_from q.start p r ahead goes, free) in
+      (subst (λ n. Is_ahead q.start n) same there, inl same))
+
+  ways_on : (rest : List ℕ) (p : ℕ) (passed : Bool) → Is_ahead q.start p → (passed ≡ true → Is_passed p) → LeadOn q passed p rest → Is_ahead q.start q.via × Comes_from q.via q.stop
+  ways_on [] p passed ahead known leads = absurd leads
+  ways_on (r ∷ []) p passed ahead known leads = (let was = known leads.2 in (was.0, subst (λ n. Comes_from q.via n) leads.1 (next_from q.via p r was.1 leads.0)))
+  ways_on (r ∷ s ∷ path) p passed ahead known leads =
+      ways_on (s ∷ path) r (passed || r == q.via) (inr (next_from q.start p r ahead leads.0, leads.1)) (passed_on passed p r ahead known leads.0 leads.1) leads.2
+
+  -- THE WAYS of a route: from the start to the place to go by, and on to the stop
+  pub ways_by : (path : List ℕ) → IsRoute q path → ((q.start ≡ q.via) ⊎ (Comes_from q.start q.via × (is_free q.via ≡ false))) × Comes_from q.via q.stop
+  ways_by path route =
+      (let found = ways_on route.rest q.start (q.start == q.via) (inl refl) (λ e. (let same : q.start ≡ q.via = eqb-true q.start q.via e in (inl (sym same), inl same))) route.leads in
+      (elim found.0 [ inl e ↦ inl (sym e) | inr c ↦ inr c ], found.1))

@@ -1,14 +1,17 @@
 -- Places that get numbers.
-use Rattle.std.proofs.Common.{◌≡◌, ◌≢◌, inl, inr, ℕ, ◌+◌, ◌<◌, Bool, true, false, List, [], ◌∷◌, ◌++◌, length, get_or, refl, sym, subst, ◌∙◌}
+use Rattle.std.proofs.Common.{◌≡◌, ◌≢◌, inl, inr, ℕ, ◌<◌, Bool, true, false, List, [], ◌∷◌, ◌++◌, length, get_or, refl, sym, ap, subst, ◌∙◌}
 use Rattle.std.specs.Prelude.{All, Contains, ◌⊎◌}
+use Rattle.std.proofs.lemmas.Bool.Decides.{eqb_tells}
 use Rattle.std.proofs.lemmas.List.Elements.{All-contains, All-push, Contains-get_or}
-use Rattle.places.specs.Flow.{assigns}
 use Rattle.flow_ways.specs.declared.flow.Flow as declared-flow
 use Rattle.flow_ways.specs.declared.marks.Marks as declared-marks
 use Rattle.flow_ways.specs.Lists.{entries_of}
 use Rattle.flow_ways.specs.Marks.{number_at}
 use Rattle.flow_ways.specs.Flow.{AreStarts, assigned, ComesOn, IsAhead, IsBlocked, IsFlow, IsToldFrom}
 use Rattle.flow_ways.proofs.Going.{come_next}
+
+is_none : (n : ℕ) → (n ≢ 0 → ⊥) → n ≡ 0
+is_none n none = elim (eqb_tells n 0) [ inl e ↦ e.1 | inr e ↦ absurd (none e.1) ]
 
 by_bool : {C : Type 0} (b : Bool) → (b ≡ true → C) → (b ≡ false → C) → C
 by_bool true t f = t refl
@@ -20,12 +23,22 @@ module _ (f : declared-flow.Flow) (from number : ℕ) where
 
   pub told_on : (a b c : declared-marks.Marks) → IsToldFrom f from number a b → IsToldFrom f from number b c → IsToldFrom f from number a c
   told_on a b c one two p = elim (two p) [
-    | inl e ↦ elim (one p) [ inl g ↦ inl (e ∙ g) | inr r ↦ inr (e ∙ r.0, r.1) ]
-    | inr r ↦ inr r
+    | inl e ↦ elim (one p) [ inl g ↦ inl (e ∙ g) | inr r ↦ inr (r.0, e ∙ r.1, r.2) ]
+    | inr r ↦ elim (one p) [ inl g ↦ inr (sym g ∙ r.0, r.1, r.2) | inr q ↦ inr (q.0, r.1, r.2) ]
   ]
 
-  pub told_put : (old new : declared-marks.Marks) (place : ℕ) → ComesOn f from place → ((p : ℕ) → (number_at new p ≡ number_at old p) ⊎ ((p ≡ place) × (number_at new p ≡ number))) → IsToldFrom f from number old new
-  told_put old new place comes put p = elim (put p) [ inl e ↦ inl e | inr r ↦ inr (r.1, subst (λ q. ComesOn f from q) (sym r.0) comes) ]
+  pub told_put : (old new : declared-marks.Marks) (place : ℕ) → ComesOn f from place → (number_at old place ≢ 0 → ⊥) → ((p : ℕ) → (number_at new p ≡ number_at old p) ⊎ ((p ≡ place) × (number_at new p ≡ number))) → IsToldFrom f from number old new
+  told_put old new place comes none put p = elim (put p) [
+    | inl e ↦ inl e
+    | inr r ↦ inr (ap (λ q. number_at old q) r.0 ∙ is_none (number_at old place) none, r.1, subst (λ q. ComesOn f from q) (sym r.0) comes)
+  ]
+
+  -- a place that has a number keeps it
+  pub told_kept : (old new : declared-marks.Marks) → IsToldFrom f from number old new → (p : ℕ) → number_at old p ≢ 0 → number_at new p ≡ number_at old p
+  told_kept old new told p some = elim (told p) [ inl e ↦ e | inr r ↦ absurd (some r.0) ]
+
+  pub some_kept : (old new : declared-marks.Marks) → IsToldFrom f from number old new → (p : ℕ) → number_at old p ≢ 0 → number_at new p ≢ 0
+  some_kept old new told p some e = some (sym (told_kept old new told p some) ∙ e)
 
   -- a place that is not marked does not assign the variable
   pub ahead_more : (ahead : List ℕ) (place : ℕ) → IsBlocked f → ComesOn f from place → (number_at f.assigns place ≢ 0 → ⊥) → All (λ q. IsAhead f from q) ahead → All (λ q. IsAhead f from q) (ahead ++ (place ∷ []))
@@ -35,14 +48,14 @@ module _ (f : declared-flow.Flow) (from number : ℕ) where
   -- to the places of the list of one execution may go on
   pub come_on : (next : ℕ) (list : List ℕ) (k d : ℕ) → IsFlow f → IsAhead f from next → list ≡ entries_of f.after next → k < length list → ComesOn f from (get_or list k d)
   come_on next list k d flow ahead is lt =
-      come_next f from next (get_or list k d) ahead (flow.after next (get_or list k d) (subst (λ xs. Contains xs (get_or list k d)) is (Contains-get_or list k d lt)))
+      come_next f from next (get_or list k d) ahead (flow.after.sound next (get_or list k d) (subst (λ xs. Contains xs (get_or list k d)) is (Contains-get_or list k d lt)))
 
 -- one start more
 pub starts_next : (f : declared-flow.Flow) (old new : declared-marks.Marks) (list : List ℕ) (k d : ℕ) → IsFlow f → list ≡ entries_of f.assigning f.var.0 → k < length list → AreStarts f old → IsToldFrom f (get_or list k d) (get_or list k d) old new → AreStarts f new
 starts_next f old new list k d flow is lt before told p some = elim (told p) [
   | inl e ↦ (let was = before p (λ q. some (e ∙ q)) in (subst (λ n. assigned f n ≡ true) (sym e) was.0, subst (λ n. ComesOn f n p) (sym e) was.1))
   | inr r ↦ (let assigning : assigned f (get_or list k d) ≡ true = flow.assigning.sound f.var.0 (get_or list k d) (subst (λ xs. Contains xs (get_or list k d)) is (Contains-get_or list k d lt)) in
-      (subst (λ n. assigned f n ≡ true) (sym r.0) assigning, subst (λ n. ComesOn f n p) (sym r.0) r.1))
+      (subst (λ n. assigned f n ≡ true) (sym r.1) assigning, subst (λ n. ComesOn f n p) (sym r.1) r.2))
 ]
 
 -- the places that assign the variable are marked

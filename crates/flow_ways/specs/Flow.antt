@@ -1,5 +1,5 @@
 -- The flow of a program as a search has it, for one variable.
-use Rattle.std.specs.Prelude.{◌≡◌, ◌≢◌, ◌⊎◌, ℕ, Bool, true, false, List, Contains}
+use Rattle.std.specs.Prelude.{◌≡◌, ◌≢◌, ◌⊎◌, ℕ, ◌≤◌, Bool, true, false, List, ◌++◌, Contains}
 use Rattle.places.specs.declared.flow.FlowStep.{FlowStep}
 use Rattle.places.specs.declared.flow.Assignment.{Assignment}
 use Rattle.places.specs.Flow.{can_go, assigns}
@@ -10,9 +10,10 @@ use Rattle.flow_ways.specs.Lists.{entries_of}
 use Rattle.flow_ways.specs.Marks.{number_at}
 use Rattle.flow_ways.specs.Ways.{Comes}
 
--- To each place of the list of a place execution may go from that.
-abbrev pub AreFollowing : List FlowStep → declared-lists.Lists → Type 0
-AreFollowing steps after = (p q : ℕ) → Contains (entries_of after p) q → can_go steps p q ≡ true
+-- The list of a place has the places to which execution may go from it.
+pub record AreFollowing (steps : List FlowStep) (after : declared-lists.Lists) : Type 0 where
+  pub sound : (p q : ℕ) → Contains (entries_of after p) q → can_go steps p q ≡ true
+  pub all : (p q : ℕ) → can_go steps p q ≡ true → Contains (entries_of after p) q
 
 -- The list of a variable has the places that assign it.
 pub record AreAssigning (assignments : List Assignment) (assigning : declared-lists.Lists) : Type 0 where
@@ -46,6 +47,28 @@ module _ (f : declared-flow.Flow) where
   abbrev pub AreStarts : declared-marks.Marks → Type 0
   AreStarts starts = (p : ℕ) → number_at starts p ≢ 0 → (assigned (number_at starts p) ≡ true) × ComesOn (number_at starts p) p
 
-  -- Places keep their numbers, or have this number, and execution may come to them.
+  -- Each place to which execution may come from one that assigns the variable has a number, and that is not above the one of that place.
+  abbrev pub AreLeast : declared-marks.Marks → Type 0
+  AreLeast starts = (start p : ℕ) → assigned start ≡ true → ComesOn start p → (number_at starts p ≢ 0) × (number_at starts p ≤ start)
+
+  -- Places keep what they have; or they had no number, have this one, and execution may come to them.
   abbrev pub IsToldFrom : (from number : ℕ) → (old new : declared-marks.Marks) → Type 0
-  IsToldFrom from number old new = (p : ℕ) → (number_at new p ≡ number_at old p) ⊎ ((number_at new p ≡ number) × ComesOn from p)
+  IsToldFrom from number old new = (p : ℕ) → (number_at new p ≡ number_at old p) ⊎ ((number_at old p ≡ 0) × (number_at new p ≡ number) × ComesOn from p)
+
+  -- Each place to which execution may come from a place has a number.
+  abbrev pub AreTold : (from : ℕ) → declared-marks.Marks → Type 0
+  AreTold from told = (p : ℕ) → ComesOn from p → number_at told p ≢ 0
+
+  -- Each place to which execution may go directly from a place has a number.
+  abbrev pub AreNextTold : (from : ℕ) → declared-marks.Marks → Type 0
+  AreNextTold from told = (p : ℕ) → can_go f.table.now.steps.items from p ≡ true → number_at told p ≢ 0
+
+  -- From a place that has a number and does not assign the variable execution may go on to such alone as have one.
+  abbrev pub IsClosed : declared-marks.Marks → Type 0
+  IsClosed told = (q : ℕ) → number_at told q ≢ 0 → assigned q ≡ false → AreNextTold q told
+
+  -- Places to go on from were added behind the others: all that got numbers and do not assign the variable are among them.
+  pub record AreMoreAhead (old new : declared-marks.Marks) (before after : List ℕ) : Type 0 where
+    pub rest : List ℕ
+    pub is : after ≡ before ++ rest
+    pub all : (p : ℕ) → number_at old p ≡ 0 → number_at new p ≢ 0 → assigned p ≡ false → Contains after p

@@ -1,8 +1,8 @@
 //! Where execution may come from to a place with nothing on its way that assigns a variable.
 
-ghost use Rattle.std.specs.Prelude.{◌≡◌, ◌↔◌, IfOk, IfSome, OnOk, true};
-ghost use Rattle.flow_ways.specs.Flow.{IsFlow, IsToldFrom, assigned};
-ghost use Rattle.flow_ways.specs.Starts.{IsStartBy, IsTurned};
+ghost use Rattle.std.specs.Prelude.{◌≡◌, ◌↔◌, IfOk, IfSome, MatchOption, OnOk, true};
+ghost use Rattle.flow_ways.specs.Flow.{AreTold, IsClosed, IsFlow, IsToldFrom, assigned};
+ghost use Rattle.flow_ways.specs.Starts.{HasNoStart, IsLeastStartBy, IsTurned};
 
 use crate::flow::{Flow, after_of, assigning_of};
 use crate::marks::Marks;
@@ -19,7 +19,7 @@ pub struct Search<'a> {
 }
 
 impl<'a> Search<'a> {
-    /// The flow of a program with places below a number. None where an assignment is of no variable, which is never so.
+    /// The flow of a program with places below a number. None where an assignment is of no variable or a step leads from no place, which is never so.
     pub fn new(
         alloc: Global,
         table: &'a FlowTable,
@@ -28,7 +28,9 @@ impl<'a> Search<'a> {
         ensures flow { IfOk result (λ o. IfSome o (λ made. IsFlow made.flow)) }
         ensures table { IfOk result (λ o. IfSome o (λ made. made.flow.table.now ≡ table.now)) }
     {
-        let after = after_of(alloc, &table.steps, places)?;
+        let Some(after) = after_of(alloc, &table.steps, places)? else {
+            return Ok(None);
+        };
         let Some(assigning) = assigning_of(alloc, &table.assignments)? else {
             return Ok(None);
         };
@@ -43,7 +45,7 @@ impl<'a> Search<'a> {
         Ok(Some(Search { flow, starts }))
     }
 
-    /// The questions are on this variable from here on. Tells whether each place that assigns it is one of the program.
+    /// The questions are on this variable from here on. Tells whether the places that assign it are such of the program, in order.
     pub fn turn_to(&mut self, alloc: Global, var: Var) -> Result<bool, AllocError>
         requires { IsFlow self.old.flow }
         ensures flow { OnOk result (IsFlow self.new.flow) }
@@ -55,8 +57,7 @@ impl<'a> Search<'a> {
         if !self.flow.turn_to(var) {
             return Ok(false);
         }
-        self.flow.find_starts(alloc, &mut self.starts)?;
-        Ok(true)
+        Ok(self.flow.find_starts(alloc, &mut self.starts)?)
     }
 
     /// The variable in question.
@@ -77,7 +78,7 @@ impl<'a> Search<'a> {
     /// The least place that assigns the variable and from which a way leads by this one, if there is one. From one that assigns the variable it is that itself.
     pub fn start_of(&self, place: u32) -> Option<u32>
         requires { IsTurned self.now }
-        ensures { IfSome result (λ start. IsStartBy self.now start place) }
+        ensures { MatchOption result (HasNoStart self.now place) (λ start. IsLeastStartBy self.now start place) }
     {
         if self.assigns(place) {
             return Some(place);
@@ -89,16 +90,19 @@ impl<'a> Search<'a> {
     }
 
     /// Tells by this number each place of which nothing is told yet, and to which execution may come from a place, by one step at least, with nothing between that
-    /// assigns the variable.
+    /// assigns the variable. Tells whether all are told of then.
     pub fn tell_from(
         &self,
         alloc: Global,
         place: u32,
         number: u32,
         told: &mut Marks,
-    ) -> Result<(), AllocError>
-        requires { IsTurned self.now }
-        ensures { OnOk result (IsToldFrom self.now.flow place number told.old told.new) }
+    ) -> Result<bool, AllocError>
+        requires turned { IsTurned self.now }
+        requires closed { IsClosed self.now.flow told.old }
+        ensures told { OnOk result (IsToldFrom self.now.flow place number told.old told.new) }
+        ensures closed { IfOk result (λ b. b ≡ true → IsClosed self.now.flow told.new) }
+        ensures all { IfOk result (λ b. b ≡ true → AreTold self.now.flow place told.new) }
     {
         self.flow.flood(alloc, place, number, told)
     }

@@ -1,5 +1,14 @@
-use Rattle.flow_ways.specs.Flow.{AreStarts}
+use Rattle.std.proofs.Common.{ℕ, ◌≤◌, take}
+use Rattle.std.specs.Prelude.{All}
+use Rattle.flow_ways.specs.Marks.{number_at}
+use Rattle.flow_ways.specs.Flow.{AreStarts, IsClosed}
+use Rattle.flow_ways.proofs.Closing.{IsLeastOf}
 use Rattle.flow_ways.proofs.flow.Flow.find_starts.Given as goal
 
 abbrev pub invariant-loop-place : goal.invariant-loop-place
-invariant-loop-place l = AreStarts l.self l.starts
+invariant-loop-place l = record {
+  starts : AreStarts l.self l.starts;
+  closed : IsClosed l.self l.starts;
+  below : (p : ℕ) → number_at l.starts p ≤ l.last;
+  least : All (λ s. IsLeastOf l.self l.starts s) (take l.place-index l.place-items);
+}

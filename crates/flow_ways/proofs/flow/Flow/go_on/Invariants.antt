@@ -1,9 +1,13 @@
 use Rattle.std.specs.Prelude.{All}
-use Rattle.flow_ways.specs.Flow.{IsAhead, IsToldFrom}
+use Rattle.std.proofs.Common.{◌≢◌, take}
+use Rattle.flow_ways.specs.Marks.{number_at}
+use Rattle.flow_ways.specs.Flow.{AreMoreAhead, IsAhead, IsToldFrom}
 use Rattle.flow_ways.proofs.flow.Flow.go_on.Given as goal
 
 abbrev pub invariant-loop-place : goal.invariant-loop-place
 invariant-loop-place l = record {
   told : IsToldFrom l.self l.from l.number l.fn.told l.told;
   ahead : All (λ q. IsAhead l.self l.from q) l.ahead.items;
+  more : AreMoreAhead l.self l.fn.told l.told l.fn.ahead.items l.ahead.items;
+  next : All (λ q. number_at l.told q ≢ 0) (take l.place-index l.place-items);
 }
