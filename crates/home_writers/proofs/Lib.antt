@@ -1,2 +1,4 @@
-mod Written
 mod Copied
+pub mod Order
+pub mod Indexed
+mod Written

@@ -1,68 +1,64 @@
 -- What writes names, as far as it is known.
 use Rattle.std.proofs.Common.{◌≡◌, inl, inr, ℕ, ◌+◌, ◌<◌, Option, Some, None, List, [], ◌∷◌, ◌++◌, length, get_or, map, take, drop, refl, sym, ap, subst, ◌∙◌, arith}
-use Rattle.std.specs.Prelude.{slice_get, option_map, All, Contains}
+use Rattle.std.specs.Prelude.{slice_get, option_map, All}
 use Rattle.std.specs.Option.{option_or}
 use Rattle.std.proofs.lemmas.Bool.Decides.{eqb_tells}
 use Rattle.std.proofs.lemmas.List.{get_or-map, length-map, length-take-le, take-append-drop, take_more, drop_more, take_at, length-append}
 use Rattle.std.proofs.lemmas.List.Elements.{All-push}
 use Rattle.std.proofs.lemmas.Option.{none-some, same_Some, slice_get-map, slice_get-get_or, slice_get_within}
 use Rattle.debug_records.specs.declared.change.Place.{Place}
-use Rattle.graph_homes.specs.declared.home.Home.{Home}
 use Rattle.graph_core.specs.declared.graph.Binding as declared-binding
 use Rattle.graph_core.specs.declared.block.Block as declared-block
 use Rattle.graph_core.specs.declared.graph.Graph as declared-graph
 use Rattle.graph_core.specs.declared.instruction.Instr as declared-instr
-use Rattle.graph_core.specs.Graphs.{Instruction, Marker, Block, Graph, Binding, ToScalar, ToObject, block_view, binding_view, instruction_view, end_view, graph_view}
+use Rattle.graph_core.specs.Graphs.{Instruction, Marker, Block, Binding, ToScalar, ToObject, block_view, binding_view, instruction_view, end_view, graph_view}
 use Rattle.graph_core.specs.Uses.{target_of, marker_of}
 use Rattle.graph_core.specs.Points.{StandsWith}
 use Rattle.graph_core.specs.Validity.{place_behind}
-use Rattle.note_state.specs.Homes.{home_in, number_at}
-use Rattle.flow_ways.specs.Lists.{entries_of}
 use Rattle.home_writers.specs.declared.writers.Writer as declared-writer
 use Rattle.home_writers.specs.declared.writers.Writer.TheVariants as writer
 use Rattle.home_writers.specs.declared.writers.Writers as declared-writers
 use Rattle.home_writers.specs.declared.writers.Written as declared-written
-use Rattle.home_writers.specs.Writers.{AreBindings, AreBlocks, AreInstructions, AreMore, AreSound, AreWriters, Writes, instruction, parameter, placed, places_of}
+use Rattle.home_writers.specs.Writers.{AreBindings, AreBlocks, AreInstructions, AreMore, AreSound, AreWriters, IsIndexed, IsKnown, Writes, instruction, parameter, placed}
 
 pub more_same : (v : declared-writers.Writers) → AreMore v v
-more_same v = record { function = refl; graph = refl; homes = refl; kept = λ k p c. c }
+more_same v = record { function = refl; graph = refl; homes = refl; kept = λ z c. c }
 
 pub more_on : (u v w : declared-writers.Writers) → AreMore u v → AreMore v w → AreMore u w
-more_on u v w one two = record { function = two.function ∙ one.function; graph = two.graph ∙ one.graph; homes = two.homes ∙ one.homes; kept = λ k p c. two.kept k p (one.kept k p c) }
+more_on u v w one two = record { function = two.function ∙ one.function; graph = two.graph ∙ one.graph; homes = two.homes ∙ one.homes; kept = λ z c. two.kept z (one.kept z c) }
 
--- a place that was known
-there_on : (old new : declared-writers.Writers) → AreMore old new → (x p : ℕ) → Contains (places_of old x) p → Contains (places_of new x) p
-there_on old new more x p c = subst (λ (homes : List Home). Contains (entries_of new.places (number_at (home_in homes x))) p) (sym more.homes) (more.kept (number_at (home_in old.homes.now x)) p c)
+-- what was known
+known_on : (old new : declared-writers.Writers) → AreMore old new → (p x : ℕ) (w : declared-writer.Writer) → IsKnown old p x w → IsKnown new p x w
+known_on old new more p x w c = more.kept (record { place = p; name = x; writer = w }) c
 
 pub bindings_on : (old new : declared-writers.Writers) (count : ℕ) → AreMore old new → AreBindings old count → AreBindings new count
-bindings_on old new count more all k x lt at = at_graph
-  where
-    there : Contains (places_of old x) (graph_view old.graph.now).entry
-    there = all k x lt (subst (λ g. slice_get (graph_view g).parameters k ≡ Some (ToScalar x)) more.graph at)
+bindings_on old new count more all k x lt at =
+    subst (λ (g : declared-graph.Graph). IsKnown new (graph_view g).entry x (writer.Binding new.function k)) (sym more.graph)
+    (subst (λ n. IsKnown new (graph_view old.graph.now).entry x (writer.Binding n k)) (sym more.function)
+    (known_on old new more (graph_view old.graph.now).entry x (writer.Binding old.function k) (all k x lt (subst (λ (g : declared-graph.Graph). slice_get (graph_view g).parameters k ≡ Some (ToScalar x)) more.graph at))))
 
-    at_graph : Contains (places_of new x) (graph_view new.graph.now).entry
-    at_graph = subst (λ g. Contains (places_of new x) (graph_view g).entry) (sym more.graph) (there_on old new more x (graph_view old.graph.now).entry there)
-
-pub instructions_on : (old new : declared-writers.Writers) (all : List Instruction) (place : Option ℕ) (count : ℕ) → AreMore old new → AreInstructions old all place count → AreInstructions new all place count
-instructions_on old new all place count more known p x before i rest e lt at target = there_on old new more x p (known p x before i rest e lt at target)
+pub instructions_on : (old new : declared-writers.Writers) (n : ℕ) (all : List Instruction) (place : Option ℕ) (count : ℕ) → AreMore old new → AreInstructions old n all place count → AreInstructions new n all place count
+instructions_on old new n all place count more known p x before i rest e lt at target =
+    subst (λ m. IsKnown new p x (writer.Instruction m n (length before))) (sym more.function) (known_on old new more p x (writer.Instruction old.function n (length before)) (known p x before i rest e lt at target))
 
 pub blocks_on : (old new : declared-writers.Writers) (count : ℕ) → AreMore old new → AreBlocks old count → AreBlocks new count
 blocks_on old new count more known n b lt at =
-    instructions_on old new b.instructions b.place (length b.instructions) more (known n b lt (subst (λ g. slice_get (graph_view g).blocks n ≡ Some b) more.graph at))
+    instructions_on old new n b.instructions b.place (length b.instructions) more (known n b lt (subst (λ g. slice_get (graph_view g).blocks n ≡ Some b) more.graph at))
 
 -- one binding more
-pub bindings_more : (v : declared-writers.Writers) (k : ℕ) → AreBindings v k → ((x : ℕ) → slice_get (graph_view v.graph.now).parameters k ≡ Some (ToScalar x) → Contains (places_of v x) (graph_view v.graph.now).entry) → AreBindings v (k + 1)
+pub bindings_more : (v : declared-writers.Writers) (k : ℕ) → AreBindings v k → ((x : ℕ) → slice_get (graph_view v.graph.now).parameters k ≡ Some (ToScalar x) → IsKnown v (graph_view v.graph.now).entry x (writer.Binding v.function k)) → AreBindings v (k + 1)
 bindings_more v k before here j x lt at = elim (eqb_tells j k) [
-  | inl e ↦ here x (sym (ap (λ n. slice_get (graph_view v.graph.now).parameters n) e.1) ∙ at)
+  | inl e ↦ subst (λ n. IsKnown v (graph_view v.graph.now).entry x (writer.Binding v.function n)) (sym e.1) (here x (sym (ap (λ n. slice_get (graph_view v.graph.now).parameters n) e.1) ∙ at))
   | inr e ↦ (let other = e.1 in before j x (omega (arith, lt, other)) at)
 ]
 
 -- one instruction more
-pub instructions_more : (v : declared-writers.Writers) (all : List Instruction) (place : Option ℕ) (k : ℕ) → AreInstructions v all place k
-    → ((p x : ℕ) (i : Instruction) → slice_get all k ≡ Some i → place_behind (take k all) place ≡ Some p → target_of i ≡ Some x → Contains (places_of v x) p) → AreInstructions v all place (k + 1)
-instructions_more v all place k known here p x before i rest e lt at target = elim (eqb_tells (length before) k) [
+pub instructions_more : (v : declared-writers.Writers) (n : ℕ) (all : List Instruction) (place : Option ℕ) (k : ℕ) → AreInstructions v n all place k
+    → ((p x : ℕ) (i : Instruction) → slice_get all k ≡ Some i → place_behind (take k all) place ≡ Some p → target_of i ≡ Some x → IsKnown v p x (writer.Instruction v.function n k)) → AreInstructions v n all place (k + 1)
+instructions_more v n all place k known here p x before i rest e lt at target = elim (eqb_tells (length before) k) [
   | inl same ↦ (let index : length before ≡ k = same.1 in
-      here p x i (ap (λ l. slice_get l k) e ∙ ap (λ n. slice_get (before ++ i ∷ rest) n) (sym index) ∙ nth before i rest) (ap (λ l. place_behind l place) (ap (take k) e ∙ take_at before (i ∷ rest) k index) ∙ at) target)
+      subst (λ j. IsKnown v p x (writer.Instruction v.function n j)) (sym index)
+      (here p x i (ap (λ l. slice_get l k) e ∙ ap (λ n. slice_get (before ++ i ∷ rest) n) (sym index) ∙ nth before i rest) (ap (λ l. place_behind l place) (ap (take k) e ∙ take_at before (i ∷ rest) k index) ∙ at) target))
   | inr other ↦ (let differ = other.1 in known p x before i rest e (omega (arith, lt, differ)) at target)
 ]
   where
@@ -71,19 +67,20 @@ instructions_more v all place k known here p x before i rest e lt at target = el
     nth (z ∷ xs) j ys = nth xs j ys
 
 -- one block more
-pub blocks_more : (v : declared-writers.Writers) (n : ℕ) (b : declared-block.Block) → slice_get v.graph.now.blocks.items n ≡ Some b → AreBlocks v n → AreInstructions v (map instruction_view b.instructions.items) (placed b.place) (length b.instructions.items) → AreBlocks v (n + 1)
+pub blocks_more : (v : declared-writers.Writers) (n : ℕ) (b : declared-block.Block) → slice_get v.graph.now.blocks.items n ≡ Some b → AreBlocks v n → AreInstructions v n (map instruction_view b.instructions.items) (placed b.place) (length b.instructions.items) → AreBlocks v (n + 1)
 blocks_more v n b is known here m c lt at = elim (eqb_tells m n) [
   | inl e ↦ (let one : block_view b ≡ c = same_Some (block_view b) c (sym (slice_get-map block_view v.graph.now.blocks.items n ∙ ap (λ o. option_map block_view o) is) ∙ sym (ap (λ k. slice_get (graph_view v.graph.now).blocks k) e.1) ∙ at) in
-      subst (λ (d : Block). AreInstructions v d.instructions d.place (length d.instructions)) one
-      (subst (λ k. AreInstructions v (map instruction_view b.instructions.items) (placed b.place) k) (sym (length-map b.instructions.items instruction_view)) here))
+      subst (λ j. AreInstructions v j c.instructions c.place (length c.instructions)) (sym e.1)
+      (subst (λ (d : Block). AreInstructions v n d.instructions d.place (length d.instructions)) one
+      (subst (λ k. AreInstructions v n (map instruction_view b.instructions.items) (placed b.place) k) (sym (length-map b.instructions.items instruction_view)) here)))
   | inr e ↦ (let other = e.1 in known m c (omega (arith, lt, other)) at)
 ]
 
 -- all that writes
-pub all_written : (v : declared-writers.Writers) → AreSound v → AreBindings v (length v.graph.now.parameters.items) → AreBlocks v (length v.graph.now.blocks.items) → AreWriters v
-all_written v sound bindings blocks = record { sound = sound; all = all }
+pub all_written : (v : declared-writers.Writers) → AreSound v → IsIndexed v → AreBindings v (length v.graph.now.parameters.items) → AreBlocks v (length v.graph.now.blocks.items) → AreWriters v
+all_written v sound indexed bindings blocks = record { sound = sound; all = all; indexed = indexed }
   where
-    all : (p x : ℕ) (w : declared-writer.Writer) → Writes v p x w → Contains (places_of v x) p
+    all : (p x : ℕ) (w : declared-writer.Writer) → Writes v p x w → IsKnown v p x w
     all p x _ (instruction {n} {i} {rest} at target) =
         (let inside = slice_get_within (graph_view v.graph.now).blocks n at.block at.is in
         let long = length-map v.graph.now.blocks.items block_view in
@@ -92,7 +89,7 @@ all_written v sound bindings blocks = record { sound = sound; all = all }
     all p x _ (parameter {k} entry at) =
         (let inside = slice_get_within (graph_view v.graph.now).parameters k (ToScalar x) at in
         let long = length-map v.graph.now.parameters.items binding_view in
-        subst (λ q. Contains (places_of v x) q) (sym entry) (bindings k x (omega (arith, inside, long)) at))
+        subst (λ q. IsKnown v q x (writer.Binding v.function k)) (sym entry) (bindings k x (omega (arith, inside, long)) at))
 
 -- the place behind one more instruction
 behind_last : (all : List Instruction) (i : Instruction) (p : Option ℕ) → place_behind (all ++ i ∷ []) p ≡ place_behind (i ∷ []) (place_behind all p)
@@ -162,12 +159,15 @@ same_scalar x y e = cc
 no_scalar : (o x : ℕ) → ToObject o ≡ ToScalar x → ⊥
 no_scalar o x e = cc
 
-pub binding_there : (old new : declared-writers.Writers) (b : Binding) (n : ℕ) → AreMore old new → b ≡ ToScalar n → Contains (places_of new n) (graph_view old.graph.now).entry → (x : ℕ) → b ≡ ToScalar x → Contains (places_of new x) (graph_view new.graph.now).entry
-binding_there old new b n more is there x same =
-    subst (λ (g : declared-graph.Graph). Contains (places_of new x) (graph_view g).entry) (sym more.graph) (subst (λ y. Contains (places_of new y) (graph_view old.graph.now).entry) (same_scalar n x (sym is ∙ same)) there)
+pub binding_there : (old new : declared-writers.Writers) (b : Binding) (k n : ℕ) → AreMore old new → b ≡ ToScalar n → IsKnown new (graph_view old.graph.now).entry n (writer.Binding old.function k) → (x : ℕ) → b ≡ ToScalar x
+    → IsKnown new (graph_view new.graph.now).entry x (writer.Binding new.function k)
+binding_there old new b k n more is there x same =
+    subst (λ m. IsKnown new (graph_view new.graph.now).entry x (writer.Binding m k)) (sym more.function)
+    (subst (λ (g : declared-graph.Graph). IsKnown new (graph_view g).entry x (writer.Binding old.function k)) (sym more.graph)
+    (subst (λ y. IsKnown new (graph_view old.graph.now).entry y (writer.Binding old.function k)) (same_scalar n x (sym is ∙ same)) there))
 
-pub object_nowhere : (v : declared-writers.Writers) (b : Binding) (o : ℕ) → b ≡ ToObject o → (x : ℕ) → b ≡ ToScalar x → Contains (places_of v x) (graph_view v.graph.now).entry
-object_nowhere v b o is x same = absurd (no_scalar o x (sym is ∙ same))
+pub object_nowhere : (v : declared-writers.Writers) (b : Binding) (k o : ℕ) → b ≡ ToObject o → (x : ℕ) → b ≡ ToScalar x → IsKnown v (graph_view v.graph.now).entry x (writer.Binding v.function k)
+object_nowhere v b k o is x same = absurd (no_scalar o x (sym is ∙ same))
 
 -- the binding of a number
 pub binding_at : (g : declared-graph.Graph) (k n : ℕ) (b d : declared-binding.Binding) → n ≡ k → k < length g.parameters.items → b ≡ get_or g.parameters.items k d → slice_get (graph_view g).parameters n ≡ Some (binding_view b)
@@ -176,7 +176,7 @@ binding_at g k n b d same lt is =
 
 -- one binding more, as it was read
 pub bindings_next : (first old new : declared-writers.Writers) (k : ℕ) (b d : declared-binding.Binding) → AreMore first old → k < length first.graph.now.parameters.items → b ≡ get_or first.graph.now.parameters.items k d → AreBindings old k → AreMore old new
-    → ((x : ℕ) → binding_view b ≡ ToScalar x → Contains (places_of new x) (graph_view new.graph.now).entry) → AreBindings new (k + 1)
+    → ((x : ℕ) → binding_view b ≡ ToScalar x → IsKnown new (graph_view new.graph.now).entry x (writer.Binding new.function k)) → AreBindings new (k + 1)
 bindings_next first old new k b d before lt is known more there =
     let graph : new.graph.now ≡ first.graph.now = more.graph ∙ before.graph in
     let at : slice_get (graph_view new.graph.now).parameters k ≡ Some (binding_view b) = ap (λ (g : declared-graph.Graph). slice_get (graph_view g).parameters k) graph ∙ binding_at first.graph.now k k b d refl lt is in
@@ -188,7 +188,7 @@ block_at g h k n b d graph same lt is = ap (λ (z : declared-graph.Graph). slice
 
 -- one block more, as it was read
 pub blocks_next : (first old new : declared-writers.Writers) (k : ℕ) (b d : declared-block.Block) → AreMore first old → k < length first.graph.now.blocks.items → b ≡ get_or first.graph.now.blocks.items k d → AreBlocks old k → AreMore old new
-    → AreInstructions new (map instruction_view b.instructions.items) (placed b.place) (length b.instructions.items) → AreBlocks new (k + 1)
+    → AreInstructions new k (map instruction_view b.instructions.items) (placed b.place) (length b.instructions.items) → AreBlocks new (k + 1)
 blocks_next first old new k b d before lt is known more there = blocks_more new k b (block_at new.graph.now first.graph.now k k b d (more.graph ∙ before.graph) refl lt is) (blocks_on old new k more known) there
 
 -- an instruction writes its target where it stands, by what was read
@@ -198,10 +198,10 @@ instruction_writes v n b k j i d place p x at lt is same in_force here target =
     subst (λ m. Writes v p x (writer.Instruction v.function n m)) (sym same) (writes_there v n b k (instruction_view i) p x at (at_index instruction_view b.instructions.items k i d lt is) (sym in_force ∙ here) target)
 
 -- one instruction more, as it was read
-pub instructions_next : (old new : declared-writers.Writers) (all : List declared-instr.Instr) (before : Option ℕ) (k : ℕ) (i d : declared-instr.Instr) (place : Option Place) → k < length all → i ≡ get_or all k d → placed place ≡ place_behind (take k (map instruction_view all)) before
-    → AreInstructions old (map instruction_view all) before k → AreMore old new → ((p x : ℕ) → placed place ≡ Some p → target_of (instruction_view i) ≡ Some x → Contains (places_of new x) p) → AreInstructions new (map instruction_view all) before (k + 1)
-instructions_next old new all before k i d place lt is in_force known more there =
-    instructions_more new (map instruction_view all) before k (instructions_on old new (map instruction_view all) before k more known)
+pub instructions_next : (old new : declared-writers.Writers) (n : ℕ) (all : List declared-instr.Instr) (before : Option ℕ) (k : ℕ) (i d : declared-instr.Instr) (place : Option Place) → k < length all → i ≡ get_or all k d → placed place ≡ place_behind (take k (map instruction_view all)) before
+    → AreInstructions old n (map instruction_view all) before k → AreMore old new → ((p x : ℕ) → placed place ≡ Some p → target_of (instruction_view i) ≡ Some x → IsKnown new p x (writer.Instruction new.function n k)) → AreInstructions new n (map instruction_view all) before (k + 1)
+instructions_next old new n all before k i d place lt is in_force known more there =
+    instructions_more new n (map instruction_view all) before k (instructions_on old new n (map instruction_view all) before k more known)
     (λ p x j at here target. there p x (in_force ∙ here) (ap target_of (same_Some (instruction_view i) j (sym (at_index instruction_view all k i d lt is) ∙ at)) ∙ target))
 
 -- the block is still that of its number

@@ -1,14 +1,17 @@
 //! What writes the homes of names, by these homes.
 
-ghost use Rattle.std.specs.Prelude.{◌≡◌, ℕ, ◌<◌, IfOk, IfSome, Contains, OnOk, Some, length, map, slice_get, true};
+ghost use Rattle.std.specs.Prelude.{◌≡◌, ◌≢◌, ◌↔◌, ℕ, ◌<◌, [], ◌∷◌, ◌++◌, IfOk, IfSome, OnOk, Some, length, map, slice_get, true};
+ghost use Rattle.std.specs.List.Sorted.{IsPermutation};
 ghost use Rattle.graph_homes.specs.Homes.{is_same_home};
 ghost use Rattle.graph_core.specs.Graphs.{ToScalar, binding_view, graph_view, instruction_view};
 ghost use Rattle.graph_core.specs.Uses.{target_of};
 ghost use Rattle.note_state.specs.Homes.{home_in};
-ghost use Rattle.home_writers.specs.Writers.{AreBindings, AreBlocks, AreInstructions, AreMore, AreSound, AreWriters, Writes, placed, places_of};
+ghost use Rattle.home_writers.specs.declared.writers.Written as declared-written;
+ghost use Rattle.home_writers.specs.declared.writers.Writer.TheVariants.{Binding as BindingOf};
+ghost use Rattle.home_writers.specs.Order.{IsNoLater, rank_of};
+ghost use Rattle.home_writers.specs.Writers.{AreBindings, AreBlocks, AreInstructions, AreMore, AreSound, AreWriters, AreWritesBy, HaveOneHome, IsIndexed, IsKnown, Writes, home_key, placed, writes_in};
 
 use debug_records::Place;
-use flow_ways::Lists;
 use graph_core::{Binding, Block, Graph, Instr};
 use graph_homes::Home;
 use note_state::{home_count, home_number};
@@ -28,6 +31,57 @@ pub enum Writer {
         function: u32,
         parameter: u32,
     },
+}
+
+impl Writer {
+    /// Whether this comes no later than another: the bindings of parameters come first, and then instructions by block and index.
+    pub fn is_no_later(self, other: Writer) -> bool
+        ensures { result ≡ true → IsNoLater (rank_of self) (rank_of other) }
+    {
+        match self {
+            Writer::Binding { parameter, .. } => is_binding_no_later(parameter, other),
+            Writer::Instruction { block, index, .. } => {
+                is_instruction_no_later(block, index, other)
+            }
+        }
+    }
+}
+
+/// Whether the binding of a parameter comes no later than what writes a name.
+fn is_binding_no_later(parameter: u32, other: Writer) -> bool
+    ensures { result ≡ true → IsNoLater (0 ∷ parameter ∷ []) (rank_of other) }
+{
+    match other {
+        Writer::Binding {
+            parameter: behind,
+            ..
+        } => parameter <= behind,
+        Writer::Instruction { .. } => true,
+    }
+}
+
+/// Whether an instruction comes no later than what writes a name.
+fn is_instruction_no_later(block: u32, index: u32, other: Writer) -> bool
+    ensures { result ≡ true → IsNoLater (1 ∷ block ∷ index ∷ []) (rank_of other) }
+{
+    match other {
+        Writer::Binding { .. } => false,
+        Writer::Instruction {
+            block: next,
+            index: behind,
+            ..
+        } => is_index_no_later(block, index, next, behind),
+    }
+}
+
+/// Whether an index in a block comes no later than another in a block.
+fn is_index_no_later(block: u32, index: u32, next: u32, behind: u32) -> bool
+    ensures { result ≡ true → IsNoLater (block ∷ index ∷ []) (next ∷ behind ∷ []) }
+{
+    if block != next {
+        return block < next;
+    }
+    index <= behind
 }
 
 /// A name is written in a place.
@@ -55,16 +109,16 @@ pub struct Writers<'a> {
     pub homes: &'a [Home],
     /// The bindings of parameters, and then instructions by block and index.
     pub all: Vec<Written>,
-    /// For each home the places where it is written.
-    pub places: Lists,
-    /// For each home what writes it, in order.
+    /// For each number of a home what writes it, in order.
     by_home: Vec<Vec<Write>>,
     /// For each name the same.
     by_name: Vec<Vec<Write>>,
 }
 
 /// So many lists without entries.
-fn no_writes(alloc: Global, count: usize) -> Result<Vec<Vec<Write>>, AllocError> {
+fn no_writes(alloc: Global, count: usize) -> Result<Vec<Vec<Write>>, AllocError>
+    ensures { IfOk result (λ made. (n : ℕ) → writes_in made.items n ≡ []) }
+{
     let mut lists = Vec::new(alloc);
     for _ in 0..count {
         lists.push(Vec::new(alloc))?;
@@ -72,64 +126,131 @@ fn no_writes(alloc: Global, count: usize) -> Result<Vec<Vec<Write>>, AllocError>
     Ok(lists)
 }
 
-/// Appends to the list of this number, if there is one.
-fn push_write(lists: &mut [Vec<Write>], number: u32, write: Write) -> Result<(), AllocError> {
-    if let Some(found) = lists.get_mut(number as usize) {
-        found.push(write)?;
+/// Appends to the list of this number. Tells whether there is one.
+fn push_write(lists: &mut Vec<Vec<Write>>, number: u32, write: Write) -> Result<bool, AllocError>
+    ensures pushed { IfOk result (λ b. b ≡ true → writes_in lists.new.items number ≡ writes_in lists.old.items number ++ (write ∷ [])) }
+    ensures others { OnOk result ((n : ℕ) → n ≢ number → writes_in lists.new.items n ≡ writes_in lists.old.items n) }
+{
+    if number as usize >= lists.len() {
+        return Ok(false);
     }
-    Ok(())
+    lists[number as usize].push(write)?;
+    Ok(true)
 }
 
 /// The list of this number; no entries where there is none.
-fn writes(lists: &[Vec<Write>], number: u32) -> &[Write] {
+fn writes(lists: &[Vec<Write>], number: u32) -> &[Write]
+    ensures { result.now ≡ writes_in lists.now number }
+{
     match lists.get(number as usize) {
         Some(found) => found.as_slice(),
         None => &[],
     }
 }
 
+/// Sorts the list of this number.
+fn sort_one(lists: &mut Vec<Vec<Write>>, number: usize)
+    requires { number < length lists.old.items }
+    ensures count { length lists.new.items ≡ length lists.old.items }
+    ensures moved { (n : ℕ) → IsPermutation (writes_in lists.old.items n) (writes_in lists.new.items n) }
+{
+    lists[number].sort_unstable();
+}
+
 /// Sorts each list.
-fn sort_all(lists: &mut [Vec<Write>]) {
-    for list in lists.iter_mut() {
-        list.sort_unstable();
+fn sort_all(lists: &mut Vec<Vec<Write>>)
+    ensures { (n : ℕ) → IsPermutation (writes_in lists.old.items n) (writes_in lists.new.items n) }
+{
+    for number in 0..lists.len() {
+        sort_one(lists, number);
+    }
+}
+
+/// The home of a name. One that has none counts as kept in the first slot.
+fn home_of(homes: &[Home], name: u32) -> Home
+    ensures { result ≡ home_in homes.now name }
+{
+    match homes.get(name as usize) {
+        Some(home) => *home,
+        None => Home::Slot(0),
     }
 }
 
 impl<'a> Writers<'a> {
-    /// A name is written in a place. Tells whether it has a home.
+    /// Whether what writes a name comes no earlier than what is known to.
+    fn is_next(&self, writer: Writer) -> bool
+        requires { IsIndexed self.now }
+        ensures { result ≡ true → (k : ℕ) (z : declared-written.Written) → slice_get self.now.all.items k ≡ Some z → IsNoLater (rank_of z.writer) (rank_of writer) }
+    {
+        let count = self.all.len();
+        if count == 0 {
+            return true;
+        }
+        let last = self.all[count - 1];
+        last.writer.is_no_later(writer)
+    }
+
+    /// The write of a name in a place, of this number. Tells whether it has a home.
+    fn push(&mut self, number: u32, written: Written) -> Result<bool, AllocError>
+        requires sound { AreSound self.old }
+        requires writes { Writes self.old written.place written.name written.writer }
+        requires indexed { IsIndexed self.old }
+        requires next { (k : ℕ) (z : declared-written.Written) → slice_get self.old.all.items k ≡ Some z → IsNoLater (rank_of z.writer) (rank_of written.writer) }
+        requires number { number ≡ length self.old.all.items }
+        ensures more { OnOk result (AreMore self.old self.new) }
+        ensures sound { OnOk result (AreSound self.new) }
+        ensures indexed { IfOk result (λ b. b ≡ true → IsIndexed self.new) }
+        ensures there { OnOk result (IsKnown self.new written.place written.name written.writer) }
+    {
+        self.all.push(written)?;
+        let write = Write {
+            place: written.place,
+            number,
+        };
+        let home = home_number(self.homes, written.name);
+        if !push_write(&mut self.by_home, home, write)? {
+            return Ok(false);
+        }
+        Ok(push_write(&mut self.by_name, written.name, write)?)
+    }
+
+    /// A name is written in a place. Tells whether it has a home, and the write comes no earlier than those that are known.
     fn add(&mut self, place: Option<Place>, name: u32, writer: Writer) -> Result<bool, AllocError>
         requires sound { AreSound self.old }
         requires writes { (p : ℕ) → placed place ≡ Some p → Writes self.old p name writer }
+        requires indexed { IsIndexed self.old }
         ensures more { OnOk result (AreMore self.old self.new) }
         ensures sound { OnOk result (AreSound self.new) }
-        ensures there { IfOk result (λ b. b ≡ true → (p : ℕ) → placed place ≡ Some p → Contains (places_of self.new name) p) }
+        ensures indexed { IfOk result (λ b. b ≡ true → IsIndexed self.new) }
+        ensures there { IfOk result (λ b. b ≡ true → (p : ℕ) → placed place ≡ Some p → IsKnown self.new p name writer) }
     {
         let Some(place) = place else {
             return Ok(true);
         };
-        let number = u32::try_from(self.all.len()).unwrap_or(u32::MAX);
-        self.all.push(Written {
+        if self.all.len() > 0xffff_ffff {
+            return Ok(false);
+        }
+        if !self.is_next(writer) {
+            return Ok(false);
+        }
+        let number = self.all.len() as u32;
+        let written = Written {
             place: place.0,
             name,
             writer,
-        })?;
-        let write = Write {
-            place: place.0,
-            number,
         };
-        let home = home_number(self.homes, name);
-        push_write(&mut self.by_home, home, write)?;
-        push_write(&mut self.by_name, name, write)?;
-        Ok(self.places.push(home, place.0)?)
+        Ok(self.push(number, written)?)
     }
 
     /// The binding of a parameter. Tells whether it has a home, if it is a scalar.
     fn add_binding(&mut self, parameter: u32, binding: &Binding) -> Result<bool, AllocError>
         requires sound { AreSound self.old }
+        requires indexed { IsIndexed self.old }
         requires binding { slice_get (graph_view self.old.graph.now).parameters parameter ≡ Some (binding_view binding.now) }
         ensures more { OnOk result (AreMore self.old self.new) }
         ensures sound { OnOk result (AreSound self.new) }
-        ensures there { IfOk result (λ b. b ≡ true → (x : ℕ) → binding_view binding.now ≡ ToScalar x → Contains (places_of self.new x) (graph_view self.new.graph.now).entry) }
+        ensures indexed { IfOk result (λ b. b ≡ true → IsIndexed self.new) }
+        ensures there { IfOk result (λ b. b ≡ true → (x : ℕ) → binding_view binding.now ≡ ToScalar x → IsKnown self.new (graph_view self.new.graph.now).entry x (BindingOf self.new.function parameter)) }
     {
         match binding {
             Binding::Scalar(name) => {
@@ -145,9 +266,11 @@ impl<'a> Writers<'a> {
 
     /// The bindings of the parameters. Tells whether each has a home.
     fn add_bindings(&mut self) -> Result<bool, AllocError>
-        requires { AreSound self.old }
+        requires sound { AreSound self.old }
+        requires indexed { IsIndexed self.old }
         ensures more { OnOk result (AreMore self.old self.new) }
         ensures sound { OnOk result (AreSound self.new) }
+        ensures indexed { IfOk result (λ b. b ≡ true → IsIndexed self.new) }
         ensures all { IfOk result (λ b. b ≡ true → AreBindings self.new (length self.new.graph.now.parameters.items)) }
     {
         let bindings = &self.graph.parameters;
@@ -173,9 +296,11 @@ impl<'a> Writers<'a> {
     ) -> Result<bool, AllocError>
         requires sound { AreSound self.old }
         requires writes { (p x : ℕ) → placed place ≡ Some p → target_of (instruction_view instruction.now) ≡ Some x → Writes self.old p x writer }
+        requires indexed { IsIndexed self.old }
         ensures more { OnOk result (AreMore self.old self.new) }
         ensures sound { OnOk result (AreSound self.new) }
-        ensures there { IfOk result (λ b. b ≡ true → (p x : ℕ) → placed place ≡ Some p → target_of (instruction_view instruction.now) ≡ Some x → Contains (places_of self.new x) p) }
+        ensures indexed { IfOk result (λ b. b ≡ true → IsIndexed self.new) }
+        ensures there { IfOk result (λ b. b ≡ true → (p x : ℕ) → placed place ≡ Some p → target_of (instruction_view instruction.now) ≡ Some x → IsKnown self.new p x writer) }
     {
         match instruction.target() {
             Some(target) => Ok(self.add(place, target.0, writer)?),
@@ -186,10 +311,12 @@ impl<'a> Writers<'a> {
     /// The instructions of a block. Tells whether each name that they write has a home.
     fn add_block(&mut self, number: u32, block: &Block) -> Result<bool, AllocError>
         requires sound { AreSound self.old }
+        requires indexed { IsIndexed self.old }
         requires block { slice_get self.old.graph.now.blocks.items number ≡ Some block.now }
         ensures more { OnOk result (AreMore self.old self.new) }
         ensures sound { OnOk result (AreSound self.new) }
-        ensures all { IfOk result (λ b. b ≡ true → AreInstructions self.new (map instruction_view block.now.instructions.items) (placed block.now.place) (length block.now.instructions.items)) }
+        ensures indexed { IfOk result (λ b. b ≡ true → IsIndexed self.new) }
+        ensures all { IfOk result (λ b. b ≡ true → AreInstructions self.new number (map instruction_view block.now.instructions.items) (placed block.now.place) (length block.now.instructions.items)) }
     {
         let mut place = block.place;
         let mut index = 0u32;
@@ -214,9 +341,11 @@ impl<'a> Writers<'a> {
 
     /// The blocks of the function. Tells whether each name that they write has a home.
     fn add_blocks(&mut self) -> Result<bool, AllocError>
-        requires { AreSound self.old }
+        requires sound { AreSound self.old }
+        requires indexed { IsIndexed self.old }
         ensures more { OnOk result (AreMore self.old self.new) }
         ensures sound { OnOk result (AreSound self.new) }
+        ensures indexed { IfOk result (λ b. b ≡ true → IsIndexed self.new) }
         ensures all { IfOk result (λ b. b ≡ true → AreBlocks self.new (length self.new.graph.now.blocks.items)) }
     {
         let blocks = &self.graph.blocks;
@@ -250,7 +379,6 @@ impl<'a> Writers<'a> {
             graph,
             homes,
             all: Vec::new(alloc),
-            places: Lists::new(alloc, home_count(homes))?,
             by_home: no_writes(alloc, home_count(homes))?,
             by_name: no_writes(alloc, homes.len())?,
         };
@@ -262,27 +390,28 @@ impl<'a> Writers<'a> {
         Ok(Some(writers))
     }
 
-    /// The places where the home of a name is written.
-    pub fn places_of(&self, name: u32) -> &[u32]
-        ensures { result.now ≡ places_of self.now name }
+    /// What writes the homes of the number of a name's home, in order.
+    pub fn of_home(&self, name: u32) -> &[Write]
+        requires { AreWriters self.now }
+        ensures { AreWritesBy self.now.all.items (home_key self.now) (home_key self.now name) result.now }
     {
-        self.places.get(home_number(self.homes, name))
-    }
-
-    /// What writes the home of a name, in order.
-    pub fn of_home(&self, name: u32) -> &[Write] {
         writes(&self.by_home, home_number(self.homes, name))
     }
 
     /// What writes a name, in order.
-    pub fn of_name(&self, name: u32) -> &[Write] {
+    pub fn of_name(&self, name: u32) -> &[Write]
+        requires { AreWriters self.now }
+        ensures { AreWritesBy self.now.all.items (λ y. y) name result.now }
+    {
         writes(&self.by_name, name)
     }
 
     /// What writes a name in a place, by its number; none where that is another place.
     pub fn at(&self, number: u32, place: u32) -> Option<Written>
         requires { AreSound self.now }
-        ensures { IfSome result (λ z. Writes self.now place z.name z.writer) }
+        ensures writes { IfSome result (λ z. Writes self.now place z.name z.writer) }
+        ensures some { IfSome result (λ z. (slice_get self.now.all.items number ≡ Some z) × (z.place ≡ place)) }
+        ensures all { (z : declared-written.Written) → slice_get self.now.all.items number ≡ Some z → z.place ≡ place → result ≡ Some z }
     {
         if number as usize >= self.all.len() {
             return None;
@@ -297,12 +426,9 @@ impl<'a> Writers<'a> {
 
     /// Whether two names have one home.
     pub fn have_one_home(&self, x: u32, y: u32) -> bool
-        ensures { result ≡ true → is_same_home (home_in self.now.homes.now x) (home_in self.now.homes.now y) ≡ true }
+        ensures { (result ≡ true) ↔ HaveOneHome self.now x y }
     {
-        match (self.homes.get(x as usize), self.homes.get(y as usize)) {
-            (Some(one), Some(other)) => is_same(*one, *other),
-            _ => false,
-        }
+        is_same(home_of(self.homes, x), home_of(self.homes, y))
     }
 }
 

@@ -9,4 +9,4 @@ add-requires-clause-writes c = λ p e. binding_writes c.args.self.now c.args.par
 
 pub returns-in_ok-add-in-Scalar-clause-there : goal.returns-in_ok-add-in-Scalar-clause-there
 returns-in_ok-add-in-Scalar-clause-there c = λ there x e.
-    binding_there c.args.self.now c.add.new.self (binding_view c.args.binding.now) c.in-Scalar.name.0 c.in_ok-add-in-Scalar.ensures.more (ap binding_view c.in-Scalar.is) (c.in_ok-add-in-Scalar.ensures.there there c.args.self.now.graph.now.entry.0 refl) x e
+    binding_there c.args.self.now c.add.new.self (binding_view c.args.binding.now) c.args.parameter c.in-Scalar.name.0 c.in_ok-add-in-Scalar.ensures.more (ap binding_view c.in-Scalar.is) (c.in_ok-add-in-Scalar.ensures.there there c.args.self.now.graph.now.entry.0 refl) x e

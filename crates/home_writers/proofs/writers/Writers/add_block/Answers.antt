@@ -1,7 +1,8 @@
 use Rattle.std.proofs.Common.{◌≡◌, ◌∙◌, ◌<◌, ap, arith, length, subst, sym}
 use Rattle.graph_core.specs.Graphs.{instruction_view}
+use Rattle.home_writers.specs.declared.writers.Writer as declared-writer
 use Rattle.home_writers.specs.declared.writers.Writer.TheVariants as writer
-use Rattle.home_writers.specs.Writers.{Writes, placed}
+use Rattle.home_writers.specs.Writers.{IsKnown, Writes, placed}
 use Rattle.home_writers.proofs.Written.{at_index, block_still, instructions_next, more_on, place_next, writes_there}
 use Rattle.home_writers.proofs.writers.Writers.add_block.Goals as goal
 
@@ -29,9 +30,12 @@ loop-k-preserved c =
     let known = c.loop-k.invariant in
     let said = c.in_ok-add_instruction.ensures in
     let lt : k < length items = omega arith in
+    let same : k ≡ c.loop-k.index = omega arith in
     record {
       more = more_on old mid new known.more said.more;
       sound = said.sound;
+      indexed = said.indexed c.if-not-branch.false;
       place = ap placed c.or-place.ensures ∙ place_next instruction_view items k i i lt c.index-instruction.ensures c.marker.result c.loop-k.place before c.marker.ensures known.place;
-      all = instructions_next mid new items before k i i c.loop-k.place lt c.index-instruction.ensures known.place known.all said.more (said.there c.if-not-branch.false);
+      all = instructions_next mid new c.args.number items before k i i c.loop-k.place lt c.index-instruction.ensures known.place known.all said.more
+          (λ p x at target. subst (λ (w : declared-writer.Writer). IsKnown new p x w) (ap (λ m. writer.Instruction m c.args.number c.loop-k.index) (sym said.more.function) ∙ ap (λ j. writer.Instruction new.function c.args.number j) (sym same)) (said.there c.if-not-branch.false p x at target));
     })

@@ -1,6 +1,7 @@
-use Rattle.std.proofs.Common.{length, subst, sym}
+use Rattle.std.proofs.Common.{length, refl, subst, sym}
 use Rattle.graph_core.specs.declared.graph.Graph as declared-graph
 use Rattle.home_writers.specs.Writers.{AreBindings}
+use Rattle.home_writers.proofs.Indexed.{indexed_moved}
 use Rattle.home_writers.proofs.Written.{all_written, bindings_on}
 use Rattle.home_writers.proofs.writers.Writers.new.Goals as goal
 
@@ -10,6 +11,6 @@ returns-clause-writers c =
     let new = c.add_blocks.new.self in
     let first = c.in_ok-add_bindings.ensures in
     let last = c.in_ok-add_blocks.ensures in
-    all_written _ last.sound
+    all_written _ last.sound (indexed_moved new _ (last.indexed c.if-not-branch-2.false) refl refl c.sort_all.ensures c.sort_all-2.ensures)
     (subst (λ (g : declared-graph.Graph). AreBindings new (length g.parameters.items)) (sym last.more.graph) (bindings_on mid new (length mid.graph.now.parameters.items) last.more (first.all c.if-not-branch.false)))
     (last.all c.if-not-branch-2.false))
