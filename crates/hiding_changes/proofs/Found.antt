@@ -1,19 +1,18 @@
 -- What hides a scalar.
-use Rattle.std.proofs.Common.{◌≡◌, ◌≢◌, inl, inr, ℕ, zero, suc, ◌+◌, ◌-◌, ◌<◌, ◌≤◌, true, Some, List, [], ◌∷◌, ◌++◌, length, get_or, refl, sym, ap, subst, ◌∙◌, arith}
-use Rattle.std.specs.Prelude.{slice_get, All, ◌⊎◌}
+use Rattle.std.proofs.Common.{◌≡◌, ◌≢◌, inl, inr, ℕ, ◌+◌, ◌-◌, ◌<◌, ◌≤◌, true, Some, List, [], ◌∷◌, ◌++◌, length, get_or, refl, sym, ap, subst, ◌∙◌, arith}
+use Rattle.std.specs.Prelude.{slice_get, All}
 use Rattle.std.proofs.lemmas.List.{length-append}
 use Rattle.std.proofs.lemmas.List.Elements.{All-nil, All-push}
 use Rattle.std.proofs.lemmas.Option.{none-some, same_Some, slice_get-get_or, slice_get_within}
 use Rattle.debug_records.specs.declared.change.Change.{Change}
 use Rattle.debug_records.specs.declared.change.Kind.{Kind}
 use Rattle.debug_records.specs.declared.change.Kind.TheVariants.{Moved, Removed}
-use Rattle.places.specs.Flow.{assigns}
-use Rattle.graph_core.specs.Graphs.{graph_view, logged}
+use Rattle.graph_core.specs.Graphs.{Logged, graph_view, logged}
 use Rattle.graph_core.specs.declared.graph.Graph as declared-graph
 use Rattle.graph_homes.specs.Reused.{first_copy}
 use Rattle.flow_ways.specs.declared.search.Search as declared-search
 use Rattle.flow_ways.specs.Marks.{number_at}
-use Rattle.flow_ways.specs.Flow.{ComesOn, assigned}
+use Rattle.flow_ways.specs.Flow.{AreTold, ComesOn, IsClosed, IsToldFrom, assigned}
 use Rattle.flow_ways.specs.Starts.{IsStartBy}
 use Rattle.flow_ways.proofs.Routes.{route_by}
 use Rattle.home_writers.specs.declared.writers.Writer as declared-writer
@@ -23,12 +22,24 @@ use Rattle.hiding_changes.specs.declared.causes.Cause as declared-cause
 use Rattle.hiding_changes.specs.declared.causes.Cause.TheVariants as cause
 use Rattle.hiding_changes.specs.declared.causes.Found as declared-found
 use Rattle.hiding_changes.specs.declared.causes.Causes as declared-causes
-use Rattle.home_writers.specs.Writers.{Writes}
-use Rattle.hiding_changes.specs.Changes.{AreFound, IsSharing}
-use Rattle.hiding_changes.specs.Found.{AreCauses, HaveOneHome, HidesAt, HidesFrom, IsAsked, IsForeign, IsMovedTo, IsOfKind, variable_of}
-use Rattle.hiding_changes.proofs.Listed.{numbered}
+use Rattle.debug_records.specs.Change.{letters}
+use Rattle.note_state.specs.Homes.{home_in}
+use Rattle.home_writers.specs.Order.{IsNoLater}
+use Rattle.home_writers.specs.Writers.{HaveOneHome, Writes}
+use Rattle.home_writers.proofs.Order.{no_later_same}
+use Rattle.home_writers.proofs.Indexed.{get_cases, get_kept, get_last}
+use Rattle.hiding_changes.specs.Changes.{AreFound, IsLastSharing, IsSharing, log_of}
+use Rattle.hiding_changes.specs.First.{IsLastShared, IsShared, order_of}
+use Rattle.hiding_changes.specs.Found.{AreCauses, AreInOrder, HidesAt, HidesFrom, IsAsked, IsForeign, IsMovedTo, IsOfKind, variable_of}
+use Rattle.hiding_changes.proofs.Listed.{listed_of, numbered}
 
 module _ (l : declared-changes.Changes) (s : declared-search.Search) (f : declared-function.Function) where
+  abbrev IsSharedBy : (number : ℕ) → Type 0
+  IsSharedBy number = IsShared (log_of l) s.flow.table.now (home_in f.writers.homes.now) f.writers.function (graph_view f.writers.graph.now) f.scalar s.flow.var.0 number
+
+  abbrev IsLastSharedBy : (number : ℕ) → Type 0
+  IsLastSharedBy number = IsLastShared (log_of l) s.flow.table.now (home_in f.writers.homes.now) f.writers.function (graph_view f.writers.graph.now) f.scalar s.flow.var.0 number
+
   pub removed_hides : IsAsked l s f → (d : Change) → IsOfKind l s f Removed d → assigned s.flow d.place.0 ≡ true → number_at f.written d.place.0 ≡ 0 → HidesFrom l s f (cause.Removed d.number d.place.0) d.place.0
   removed_hides asked d is assigned none = (
     refl,
@@ -49,13 +60,30 @@ module _ (l : declared-changes.Changes) (s : declared-search.Search) (f : declar
     from,
   )
 
-  pub reused_hides : IsAsked l s f → (number y via start : ℕ) (w : declared-writer.Writer) → IsSharing l s.flow.var.0 number → IsForeign f y → Writes f.writers via y w → IsStartBy s start via → HidesFrom l s f (cause.Reused number start w) via
-  reused_hides asked number y via start w is foreign writes from = (
+  shared_log : (number : ℕ) → IsSharing l s.flow.var.0 number → IsSharedBy number
+  shared_log number is = record { change = logged is.change; is = numbered l number is.change is.is; reused = is.reused; of = is.of; named = is.named }
+
+  -- what the log says of a change is so of it
+  pub shared_back : (number : ℕ) → IsSharedBy number → IsSharing l s.flow.var.0 number
+  shared_back number is = (let one = listed_of l number is.change is.is in
+      record {
+        change = one.0;
+        is = one.1;
+        of = ap (λ (z : Logged). z.variable) one.2 ∙ is.of;
+        reused = ap (λ (z : Logged). z.kind) one.2 ∙ is.reused;
+        named = ap (λ (z : Logged). letters z.pass) one.2 ∙ is.named;
+      })
+
+  pub last_shared : (number : ℕ) → IsLastSharing l s.flow.var.0 number → IsLastSharedBy number
+  last_shared number is = record { is = shared_log number is.is; last = λ other shared. is.last other (shared_back other shared) }
+
+  pub reused_hides : IsAsked l s f → (number y via start : ℕ) (w : declared-writer.Writer) → IsLastSharing l s.flow.var.0 number → IsForeign f y → Writes f.writers via y w → IsStartBy s start via → HidesFrom l s f (cause.Reused number start w) via
+  reused_hides asked number y via start w last foreign writes from = (
     record {
-      change = logged is.change;
-      is = numbered l number is.change is.is;
-      reused = is.reused;
-      of = is.of;
+      change = logged last.is.change;
+      is = numbered l number last.is.change last.is.is;
+      reused = last.is.reused;
+      of = last.is.of;
       y = y;
       other = foreign.other;
       foreign = λ temporary. asked.on.own y temporary foreign.foreign;
@@ -63,37 +91,68 @@ module _ (l : declared-changes.Changes) (s : declared-search.Search) (f : declar
       shared = foreign.shared;
     },
     from,
+    last_shared number last,
   )
 
-  last_one : (all : List declared-found.Found) (z : declared-found.Found) → slice_get (all ++ (z ∷ [])) (length all) ≡ Some z
-  last_one [] z = refl
-  last_one (y ∷ all) z = last_one all z
-
-  first_ones : (all : List declared-found.Found) (z y : declared-found.Found) (k : ℕ) → slice_get all k ≡ Some y → slice_get (all ++ (z ∷ [])) k ≡ Some y
-  first_ones [] z y k e = absurd (none-some y e)
-  first_ones (x ∷ all) z y zero e = e
-  first_ones (x ∷ all) z y (suc k) e = first_ones all z y k e
+  -- what was found is in order with one more
+  ordered_more : (all : List declared-found.Found) (one : declared-found.Found) → AreInOrder all → ((k : ℕ) (z : declared-found.Found) → slice_get all k ≡ Some z → IsNoLater (order_of z.cause z.via) (order_of one.cause one.via)) → AreInOrder (all ++ (one ∷ []))
+  ordered_more all one was next j k z y le first last = elim (get_cases all one y k last) [
+    | inl e ↦ elim (get_cases all one z j first) [
+      | inl g ↦ was j k z y le g e
+      | inr g ↦ (let lt : k < length all = slice_get_within all k y e in let same = g.0 in absurd (omega (arith, lt, same, le)))
+    ]
+    | inr e ↦ elim (get_cases all one z j first) [
+      | inl g ↦ subst (λ (x : declared-found.Found). IsNoLater (order_of z.cause z.via) (order_of x.cause x.via)) e.1 (next j z g)
+      | inr g ↦ subst (λ (x : declared-found.Found). IsNoLater (order_of z.cause z.via) (order_of x.cause x.via)) (sym g.1 ∙ e.1) (no_later_same (order_of z.cause z.via))
+    ]
+  ]
 
   pub causes_more : (old new : declared-causes.Causes) (one : declared-found.Found) → AreCauses l s f old → HidesFrom l s f one.cause one.via → new.found.items ≡ old.found.items ++ (one ∷ [])
-      → ((p : ℕ) → (number_at new.told p ≡ number_at old.told p) ⊎ ((number_at new.told p ≡ length new.found.items) × ComesOn s.flow one.via p)) → AreCauses l s f new
-  causes_more old new one before hides found told = record {
+      → ((k : ℕ) (z : declared-found.Found) → slice_get old.found.items k ≡ Some z → IsNoLater (order_of z.cause z.via) (order_of one.cause one.via)) → IsToldFrom s.flow one.via (length new.found.items) old.told new.told → IsClosed s.flow new.told → AreTold s.flow one.via new.told → AreCauses l s f new
+  causes_more old new one before hides found next told closed all = record {
     each = subst (λ (all : List declared-found.Found). All (λ (z : declared-found.Found). HidesFrom l s f z.cause z.via) all) (sym found) (All-push (λ (z : declared-found.Found). HidesFrom l s f z.cause z.via) old.found.items one before.each hides);
     told = λ p some. elim (told p) [
       | inl e ↦ (let was = before.told p (λ q. some (e ∙ q)) in
           record {
             one = was.one;
-            is = ap (λ (all : List declared-found.Found). slice_get all (number_at new.told p - 1)) found ∙ first_ones old.found.items one was.one (number_at new.told p - 1) (ap (λ n. slice_get old.found.items (n - 1)) e ∙ was.is);
+            is = ap (λ (all : List declared-found.Found). slice_get all (number_at new.told p - 1)) found ∙ get_kept old.found.items one was.one (number_at new.told p - 1) (ap (λ n. slice_get old.found.items (n - 1)) e ∙ was.is);
             comes = was.comes;
           })
-      | inr e ↦ (let long : length new.found.items ≡ length old.found.items + 1 = ap length found ∙ length-append old.found.items (one ∷ []) in
-          let number : number_at new.told p - 1 ≡ length old.found.items = (let same = e.0 in omega (arith, same, long)) in
+      | inr e ↦ (let number : number_at new.told p - 1 ≡ length old.found.items = (let same = e.1 in omega (arith, same, long)) in
           record {
             one = one;
-            is = ap (λ (all : List declared-found.Found). slice_get all (number_at new.told p - 1)) found ∙ ap (λ n. slice_get (old.found.items ++ (one ∷ [])) n) number ∙ last_one old.found.items one;
-            comes = e.1;
+            is = ap (λ (all : List declared-found.Found). slice_get all (number_at new.told p - 1)) found ∙ ap (λ n. slice_get (old.found.items ++ (one ∷ [])) n) number ∙ get_last old.found.items one;
+            comes = e.2;
           })
     ];
+    closed = closed;
+    first = λ k p z at comes. elim (get_cases old.found.items one z k (sym (ap (λ (all : List declared-found.Found). slice_get all k) found) ∙ at)) [
+      | inl e ↦ kept k p (before.first k p z e comes)
+      | inr e ↦ last k p e.0 (subst (λ (y : declared-found.Found). ComesOn s.flow y.via p) (sym e.1) comes)
+    ];
+    ordered = subst (λ (all : List declared-found.Found). AreInOrder all) (sym found) (ordered_more old.found.items one before.ordered next);
   }
+    where
+      long : length new.found.items ≡ length old.found.items + 1
+      long = ap length found ∙ length-append old.found.items (one ∷ [])
+
+      kept : (k p : ℕ) → (number_at old.told p ≢ 0) × (number_at old.told p ≤ k + 1) → (number_at new.told p ≢ 0) × (number_at new.told p ≤ k + 1)
+      kept k p was = elim (told p) [
+        | inl e ↦ (λ q. was.0 (sym e ∙ q), subst (λ n. n ≤ k + 1) (sym e) was.1)
+        | inr r ↦ absurd (was.0 r.0)
+      ]
+
+      not_above : (p : ℕ) → number_at old.told p ≢ 0 → number_at old.told p ≤ length old.found.items
+      not_above p some = (let was = before.told p some in let lt : number_at old.told p - 1 < length old.found.items = slice_get_within old.found.items (number_at old.told p - 1) was.one was.is in omega (arith, lt))
+
+      last : (k p : ℕ) → k ≡ length old.found.items → ComesOn s.flow one.via p → (number_at new.told p ≢ 0) × (number_at new.told p ≤ k + 1)
+      last k p same comes = (
+        all p comes,
+        elim (told p) [
+          | inl e ↦ (let le = not_above p (λ q. all p comes (e ∙ q)) in omega (arith, e, le, same))
+          | inr r ↦ (let e = r.1 in omega (arith, e, long, same))
+        ],
+      )
 
   -- what hides the scalar on ways by a place hides it where execution comes from there
   pub hides_at : (c : declared-cause.Cause) (via stop : ℕ) → HidesFrom l s f c via → ComesOn s.flow via stop → HidesAt l s f stop c
@@ -123,6 +182,9 @@ module _ (l : declared-changes.Changes) (s : declared-search.Search) (f : declar
   causes_none c found told = record {
     each = subst (λ (all : List declared-found.Found). All (λ (z : declared-found.Found). HidesFrom l s f z.cause z.via) all) (sym found) (All-nil (λ (z : declared-found.Found). HidesFrom l s f z.cause z.via));
     told = λ p some. absurd (some (told p));
+    closed = λ q some. absurd (some (told q));
+    first = λ k p z at. absurd (none-some z (sym (ap (λ (all : List declared-found.Found). slice_get all k) found) ∙ at));
+    ordered = λ j k z y le at. absurd (none-some z (sym (ap (λ (all : List declared-found.Found). slice_get all j) found) ∙ at));
   }
 
   -- each of what was found of a kind is of it

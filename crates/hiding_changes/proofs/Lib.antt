@@ -1,4 +1,5 @@
 mod Listed
 mod Asked
 mod Found
+mod First
 pub mod Same

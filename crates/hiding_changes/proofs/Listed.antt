@@ -1,21 +1,31 @@
 -- Changes by their numbers.
-use Rattle.std.proofs.Common.{◌≡◌, inl, inr, ℕ, ◌+◌, ◌-◌, ◌<◌, ◌≤◌, Option, Some, None, List, [], ◌∷◌, ◌++◌, length, get_or, take, refl, sym, ap, subst, ◌∙◌, arith}
-use Rattle.std.specs.Prelude.{slice_get, option_map, All, Contains, IfSome, ◌⊎◌}
+use Rattle.std.proofs.Common.{◌≡◌, inl, inr, ℕ, ◌+◌, ◌-◌, ◌<◌, ◌≤◌, Bool, true, false, true≢false, Option, Some, None, List, [], ◌∷◌, ◌++◌, length, get_or, take, refl, sym, ap, subst, ◌∙◌, arith}
+use Rattle.std.specs.Prelude.{slice_get, option_map, All, Contains, IfSome, MatchOption, ◌⊎◌, ◌↔◌}
 use Rattle.std.proofs.lemmas.Bool.Decides.{eqb_tells}
 use Rattle.std.proofs.lemmas.List.Elements.{All-contains, All-more, All-push, All-weaker, Contains-append_left, Contains-push}
 use Rattle.std.proofs.lemmas.Option.{none-some, same_Some, slice_get-map, slice_get-get_or}
 use Rattle.debug_records.specs.declared.change.Change.{Change}
 use Rattle.debug_records.specs.declared.change.Kind.{Kind}
+use Rattle.debug_records.specs.declared.change.Kind.TheVariants.{Reused}
+use Rattle.debug_records.specs.Change.{letters}
 use Rattle.graph_core.specs.Graphs.{Logged, logged}
 use Rattle.graph_core.specs.Paths.{Among}
 use Rattle.note_state.proofs.Lists.{among_at, take_whole}
 use Rattle.flow_ways.specs.Lists.{entries_of}
 use Rattle.hiding_changes.specs.declared.changes.Changes as declared-changes
-use Rattle.hiding_changes.specs.Changes.{AreFound, AreListed, IsListed, IsNumbered, log_of}
+use Rattle.hiding_changes.specs.Changes.{AreFound, AreListed, IsLastSharing, IsListed, IsNotBefore, IsNumbered, IsSharing, homes_name, log_of}
 
 -- a change that is listed has its number in the log
 pub numbered : (c : declared-changes.Changes) (number : ℕ) (d : Change) → IsListed c number d → IsNumbered (log_of c) number (logged d)
 numbered c number d is = record { some = is.some; is = slice_get-map logged c.all.now (number - 1) ∙ ap (λ o. option_map logged o) is.is }
+
+-- the change of a number of the log is listed
+pub listed_of : (c : declared-changes.Changes) (number : ℕ) (one : Logged) → IsNumbered (log_of c) number one → (d : Change) × IsListed c number d × (logged d ≡ one)
+listed_of c number one is = at_change (slice_get c.all.now (number - 1)) refl
+  where
+    at_change : (o : Option Change) → slice_get c.all.now (number - 1) ≡ o → (d : Change) × IsListed c number d × (logged d ≡ one)
+    at_change None q = absurd (none-some one (sym (slice_get-map logged c.all.now (number - 1) ∙ ap (λ o. option_map logged o) q) ∙ is.is))
+    at_change (Some d) q = (d, record { some = is.some; is = q }, same_Some (logged d) one (sym (slice_get-map logged c.all.now (number - 1) ∙ ap (λ o. option_map logged o) q) ∙ is.is))
 
 -- a change of the log is listed
 pub listed_by : (c : declared-changes.Changes) (one : Logged) → Among one (log_of c) → (number : ℕ) × (d : Change) × IsListed c number d × (logged d ≡ one)
@@ -110,3 +120,40 @@ pub found_done : (c : declared-changes.Changes) (variable : ℕ) (kind : Kind) (
     → All (λ (n : ℕ). (e : Change) → IsListed c n e → e.var.0 ≡ variable → e.kind ≡ kind → Contains found e) (take k all) → AreFound c variable kind found
 found_done c variable kind found all k listed le same each before =
     found_all c variable kind found listed each (subst (λ (l : List ℕ). All (λ (n : ℕ). (e : Change) → IsListed c n e → e.var.0 ≡ variable → e.kind ≡ kind → Contains found e) l) (take_whole all k le ∙ same) before)
+
+-- whether a change is one that shares a register, by what was read of it
+pub sharing_some : (c : declared-changes.Changes) (variable number : ℕ) (o : Option Change) (d : Change) (b : Bool) → o ≡ Some d → IsListed c number d × (d.var.0 ≡ variable) × (d.kind ≡ Reused) → ((e : Change) → IsListed c number e → e.var.0 ≡ variable → e.kind ≡ Reused → o ≡ Some e) → (b ≡ true) ↔ (letters d.pass ≡ homes_name)
+    → (b ≡ true) ↔ IsSharing c variable number
+sharing_some c variable number o d b same is all named = (
+  λ e. record { change = d; is = is.0; of = is.1; reused = is.2; named = named.0 e },
+  λ s. named.1 (ap (λ (z : Change). letters z.pass) (same_Some d s.change (sym same ∙ all s.change s.is s.of s.reused)) ∙ s.named),
+)
+
+pub sharing_none : (c : declared-changes.Changes) (variable number : ℕ) (o : Option Change) (b : Bool) → o ≡ None → b ≡ false → ((e : Change) → IsListed c number e → e.var.0 ≡ variable → e.kind ≡ Reused → o ≡ Some e) → (b ≡ true) ↔ IsSharing c variable number
+sharing_none c variable number o b none off all = (λ e. absurd (true≢false (sym e ∙ off)), λ s. absurd (none-some s.change (sym none ∙ all s.change s.is s.of s.reused)))
+
+pub not_before_own : (o : Option ℕ) (n : ℕ) → o ≡ Some n → IsNotBefore n o
+not_before_own o n is = record { last = n; is = is; le = omega arith }
+
+pub not_before_on : (n : ℕ) (o p : Option ℕ) → ((m : ℕ) → o ≡ Some m → IsNotBefore m p) → IsNotBefore n o → IsNotBefore n p
+not_before_on n o p more is = (let one = more is.last is.is in let below = is.le in let above = one.le in record { last = one.last; is = one.is; le = omega (arith, below, above) })
+
+-- one number more was looked at
+pub sharing_next : (c : declared-changes.Changes) (variable : ℕ) (old new : Option ℕ) (all : List ℕ) (k d : ℕ) → k < length all → ((n : ℕ) → old ≡ Some n → IsNotBefore n new) → (IsSharing c variable (get_or all k d) → IsNotBefore (get_or all k d) new) → All (λ (n : ℕ). IsSharing c variable n → IsNotBefore n old) (take k all)
+    → All (λ (n : ℕ). IsSharing c variable n → IsNotBefore n new) (take (k + 1) all)
+sharing_next c variable old new all k d lt kept here before =
+    All-more (λ (n : ℕ). IsSharing c variable n → IsNotBefore n new) all k d lt (All-weaker (λ (n : ℕ). IsSharing c variable n → IsNotBefore n old) (λ (n : ℕ). IsSharing c variable n → IsNotBefore n new) (λ n was is. not_before_on n old new kept (was is)) (take k all) before) here
+
+-- all numbers of a list were looked at
+pub sharing_done : (c : declared-changes.Changes) (variable : ℕ) (o : Option ℕ) (all : List ℕ) (k : ℕ) → AreListed c → all ≡ entries_of c.by_variable variable → length all ≤ k → IfSome o (λ n. IsSharing c variable n) → All (λ (n : ℕ). IsSharing c variable n → IsNotBefore n o) (take k all)
+    → MatchOption o ((n : ℕ) → IsSharing c variable n → ⊥) (λ n. IsLastSharing c variable n)
+sharing_done c variable o all k listed same le is each = at_found o is each_of
+  where
+    each_of : (n : ℕ) → IsSharing c variable n → IsNotBefore n o
+    each_of n sharing =
+        All-contains (λ (n : ℕ). IsSharing c variable n → IsNotBefore n o) all n (subst (λ (l : List ℕ). All (λ (n : ℕ). IsSharing c variable n → IsNotBefore n o) l) (take_whole all k le) each)
+        (subst (λ (l : List ℕ). Contains l n) (sym same) (in_list c n sharing.change variable listed sharing.is sharing.of)) sharing
+
+    at_found : (p : Option ℕ) → IfSome p (λ n. IsSharing c variable n) → ((n : ℕ) → IsSharing c variable n → IsNotBefore n p) → MatchOption p ((n : ℕ) → IsSharing c variable n → ⊥) (λ n. IsLastSharing c variable n)
+    at_found None some every = λ n sharing. (let one = every n sharing in none-some one.last one.is)
+    at_found (Some m) some every = record { is = some; last = λ other sharing. (let one = every other sharing in let e = same_Some m one.last one.is in let below = one.le in omega (arith, below, e)) }

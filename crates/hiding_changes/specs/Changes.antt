@@ -1,6 +1,7 @@
 -- The changes of a log by their variables.
-use Rattle.std.specs.Prelude.{◌≡◌, ℕ, ◌+◌, ◌-◌, ◌≤◌, Some, List, All, Contains, map, slice_get}
+use Rattle.std.specs.Prelude.{◌≡◌, ℕ, ◌+◌, ◌-◌, ◌≤◌, Option, Some, List, [], ◌∷◌, All, Contains, map, slice_get}
 use Rattle.debug_records.specs.declared.change.Change.{Change}
+use Rattle.debug_records.specs.Change.{letters}
 use Rattle.debug_records.specs.declared.change.Kind.{Kind}
 use Rattle.debug_records.specs.declared.change.Kind.TheVariants.{Reused}
 use Rattle.graph_core.specs.Graphs.{Logged, logged}
@@ -31,9 +32,25 @@ pub record AreFound (c : declared-changes.Changes) (variable : ℕ) (kind : Kind
   pub each : All (λ (d : Change). IsListed c d.number d × (d.var.0 ≡ variable) × (d.kind ≡ kind)) found
   pub all : (number : ℕ) (d : Change) → IsListed c number d → d.var.0 ≡ variable → d.kind ≡ kind → Contains found d
 
--- The change of a number gave the register of a variable to other names too.
+-- the name by which the assignment of homes logs its changes: homes
+abbrev pub homes_name : List ℕ
+homes_name = 104 ∷ 111 ∷ 109 ∷ 101 ∷ 115 ∷ []
+
+-- By the change of a number the assignment of homes gave the register of a variable to other names too.
 pub record IsSharing (c : declared-changes.Changes) (variable number : ℕ) : Type 0 where
   pub change : Change
   pub is : IsListed c number change
   pub of : change.var.0 ≡ variable
   pub reused : change.kind ≡ Reused
+  pub named : letters change.pass ≡ homes_name
+
+-- It is the last change by which that was so.
+pub record IsLastSharing (c : declared-changes.Changes) (variable number : ℕ) : Type 0 where
+  pub is : IsSharing c variable number
+  pub last : (other : ℕ) → IsSharing c variable other → other ≤ number
+
+-- There is a number, and it is not below another one.
+pub record IsNotBefore (n : ℕ) (o : Option ℕ) : Type 0 where
+  pub last : ℕ
+  pub is : o ≡ Some last
+  pub le : n ≤ last

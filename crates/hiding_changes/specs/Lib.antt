@@ -1,3 +1,4 @@
 pub mod Changes
 pub mod Evidence
+pub mod First
 pub mod Found

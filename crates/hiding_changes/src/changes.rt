@@ -1,8 +1,9 @@
 //! The changes of each variable.
 
-ghost use Rattle.std.specs.Prelude.{◌≡◌, All, Contains, IfOk, IfSome, ℕ, Some};
+ghost use Rattle.std.specs.Prelude.{◌≡◌, ◌≤◌, ◌↔◌, All, Contains, IfOk, IfSome, MatchOption, ℕ, Some, false, true};
 ghost use Rattle.debug_records.specs.declared.change.Change as declared-change;
-ghost use Rattle.hiding_changes.specs.Changes.{AreFound, AreListed, IsListed, IsSharing};
+ghost use Rattle.debug_records.specs.Change.{letters};
+ghost use Rattle.hiding_changes.specs.Changes.{AreFound, AreListed, IsLastSharing, IsListed, IsNotBefore, IsSharing, homes_name};
 
 use debug_records::{Change, Kind, Var};
 use flow_ways::Lists;
@@ -17,6 +18,24 @@ pub struct Changes<'a> {
     pub all: &'a [Change],
     /// For each variable the numbers of its changes, in order.
     pub by_variable: Lists,
+}
+
+/// Whether the assignment of homes made a change.
+fn is_of_homes(change: &Change) -> bool
+    ensures { (result ≡ true) ↔ (letters change.now.pass ≡ homes_name) }
+{
+    change.pass.letters() == HOMES
+}
+
+/// Whether there is a number that is not below another one.
+fn is_not_below(found: Option<u32>, number: u32) -> bool
+    ensures some { result ≡ true → IsNotBefore number found }
+    ensures none { (n : ℕ) → result ≡ false → found ≡ Some n → n ≤ number }
+{
+    match found {
+        Some(first) => number <= first,
+        None => false,
+    }
 }
 
 /// How many variables there are, as far as they have changes.
@@ -90,20 +109,41 @@ impl<'a> Changes<'a> {
         Ok(found)
     }
 
+    /// Whether by the change of a number the assignment of homes gave the register of a variable to other names too.
+    fn is_sharing(&self, number: u32, var: Var) -> bool
+        ensures { (result ≡ true) ↔ IsSharing self.now var.0 number }
+    {
+        match self.get_of(number, var, Kind::Reused) {
+            Some(change) => is_of_homes(&change),
+            None => false,
+        }
+    }
+
+    /// The last of two numbers of changes, of which the first one is so already, if there is one, and the other one if it is of a change by which the assignment of
+    /// homes gave the register of a variable to other names too.
+    fn last_of(&self, found: Option<u32>, number: u32, var: Var) -> Option<u32>
+        requires { IfSome found (λ n. IsSharing self.now var.0 n) }
+        ensures is { IfSome result (λ n. IsSharing self.now var.0 n) }
+        ensures first { (n : ℕ) → found ≡ Some n → IsNotBefore n result }
+        ensures second { IsSharing self.now var.0 number → IsNotBefore number result }
+    {
+        if !self.is_sharing(number, var) {
+            return found;
+        }
+        if is_not_below(found, number) {
+            return found;
+        }
+        Some(number)
+    }
+
     /// The last change by which the assignment of homes gave the register of a variable to other names too.
     pub fn sharing(&self, var: Var) -> Option<u32>
-        ensures { IfSome result (λ number. IsSharing self.now var.0 number) }
+        requires { AreListed self.now }
+        ensures { MatchOption result ((n : ℕ) → IsSharing self.now var.0 n → ⊥) (λ n. IsLastSharing self.now var.0 n) }
     {
         let mut found = None;
         for number in self.by_variable.get(var.0) {
-            if let Some(change) = self.get(*number) {
-                if change.kind == Kind::Reused
-                    && change.var.0 == var.0
-                    && change.pass.letters() == HOMES
-                {
-                    found = Some(*number);
-                }
-            }
+            found = self.last_of(found, *number, var);
         }
         found
     }

@@ -1,8 +1,8 @@
 //! What hides the scalars of a unit, one after the other.
 
-ghost use Rattle.std.specs.Prelude.{◌≡◌, ◌<◌, IfOk, IfSome, OnOk, length, true};
+ghost use Rattle.std.specs.Prelude.{◌≡◌, ◌<◌, IfOk, IfSome, MatchOption, OnOk, length, true};
 ghost use Rattle.graph_core.specs.Graphs.{graph_view};
-ghost use Rattle.hiding_changes.specs.Found.{HidesAt, IsFunction, IsReady, IsSameFunction, IsSameTeller, IsTeller};
+ghost use Rattle.hiding_changes.specs.Found.{HasNoneAt, HidesAt, IsFirstAt, IsFunction, IsReady, IsSameFunction, IsSameTeller, IsTeller};
 
 use crate::causes::{Cause, Causes};
 use crate::changes::Changes;
@@ -75,16 +75,20 @@ impl<'a> Teller<'a> {
             search: &self.search,
             function,
         };
-        self.causes.add_removed(alloc, question)?;
-        self.causes.add_moved(alloc, question)?;
-        self.causes.add_reused(alloc, question)?;
-        Ok(true)
+        if !self.causes.add_removed(alloc, question)? {
+            return Ok(false);
+        }
+        if !self.causes.add_moved(alloc, question)? {
+            return Ok(false);
+        }
+        Ok(self.causes.add_reused(alloc, question)?)
     }
 
     /// What hides the scalar of the function at a place, the first that does.
     pub fn cause_at(&self, function: &Function<'_>, place: Place) -> Option<Cause>
         requires { IsReady self.now function.now }
-        ensures { IfSome result (λ cause. HidesAt self.now.changes self.now.search function.now place.0 cause) }
+        ensures hides { IfSome result (λ cause. HidesAt self.now.changes self.now.search function.now place.0 cause) }
+        ensures first { MatchOption result (HasNoneAt self.now.changes self.now.search function.now place.0) (λ cause. IsFirstAt self.now.changes self.now.search function.now place.0 cause) }
     {
         let question = Question {
             changes: &self.changes,

@@ -1,5 +1,12 @@
-use Rattle.hiding_changes.specs.Found.{AreCauses}
+use Rattle.std.proofs.Common.{take}
+use Rattle.std.specs.Prelude.{All}
+use Rattle.debug_records.specs.declared.change.Change.{Change}
+use Rattle.hiding_changes.specs.Found.{AreCauses, AreMoreFound, AreMovesFound}
 use Rattle.hiding_changes.proofs.causes.Causes.add_moved.Given as goal
 
 abbrev pub invariant-loop-change : goal.invariant-loop-change
-invariant-loop-change l = AreCauses l.question.changes.now l.question.search.now l.question.function.now l.self
+invariant-loop-change l = record {
+  causes : AreCauses l.question.changes.now l.question.search.now l.question.function.now l.self;
+  kept : AreMoreFound l.fn.self l.self;
+  all : All (λ (e : Change). AreMovesFound l.question.changes.now l.question.search.now l.question.function.now l.self.found.items e.number) (take l.change-index l.change-items);
+}

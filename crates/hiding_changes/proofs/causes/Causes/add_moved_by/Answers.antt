@@ -1,4 +1,4 @@
-use Rattle.std.proofs.Common.{refl, subst}
+use Rattle.std.proofs.Common.{subst}
 use Rattle.home_writers.specs.Writers.{Writes}
 use Rattle.hiding_changes.proofs.Found.{moved_hides}
 use Rattle.hiding_changes.proofs.causes.Causes.add_moved_by.Goals as goal
@@ -9,4 +9,4 @@ add-requires-clause-hides c =
     let f = q.function.now in
     let via = c.args.via in
     let written = c.in-Some.written in
-    moved_hides q.changes.now q.search.now f c.args.change.now c.args.name via.place via.start written.writer c.requires.moved (subst (λ n. Writes f.writers via.place n written.writer) c.if-written-name.true c.in-Some.ensures) (c.if-is_from.ensures refl))
+    moved_hides q.changes.now q.search.now f c.args.change.now c.args.name via.place via.start written.writer c.requires.moved (subst (λ n. Writes f.writers via.place n written.writer) c.if-written-name.false c.in-Some.ensures.writes) c.requires.way.is)

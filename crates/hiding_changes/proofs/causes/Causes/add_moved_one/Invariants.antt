@@ -1,5 +1,13 @@
-use Rattle.hiding_changes.specs.Found.{AreCauses}
+use Rattle.std.proofs.Common.{take}
+use Rattle.std.specs.Prelude.{All}
+use Rattle.hiding_changes.specs.declared.causes.Via as declared-via
+use Rattle.hiding_changes.specs.declared.causes.Cause.TheVariants as cause
+use Rattle.hiding_changes.specs.Found.{AreCauses, AreMoreFound, IsViaTold}
 use Rattle.hiding_changes.proofs.causes.Causes.add_moved_one.Given as goal
 
 abbrev pub invariant-loop-via : goal.invariant-loop-via
-invariant-loop-via l = AreCauses l.question.changes.now l.question.search.now l.question.function.now l.self
+invariant-loop-via l = record {
+  causes : AreCauses l.question.changes.now l.question.search.now l.question.function.now l.self;
+  kept : AreMoreFound l.fn.self l.self;
+  told : All (λ (v : declared-via.Via). IsViaTold l.question.function.now l.self.found.items (λ start w. cause.Moved l.change.number start w) v) (take l.via-index l.via-items);
+}

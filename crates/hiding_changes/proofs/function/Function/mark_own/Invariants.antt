@@ -2,6 +2,7 @@ use Rattle.std.proofs.Common.{◌≡◌, take}
 use Rattle.std.specs.Prelude.{All}
 use Rattle.debug_records.specs.declared.change.Change.{Change}
 use Rattle.hiding_changes.specs.Found.{IsOwn}
+use Rattle.hiding_changes.proofs.Asked.{AreOwnOnly}
 use Rattle.hiding_changes.proofs.function.Function.mark_own.Given as goal
 
 abbrev pub invariant-loop-change : goal.invariant-loop-change
@@ -11,4 +12,5 @@ invariant-loop-change l = record {
   scalar : l.self.scalar ≡ l.fn.self.scalar;
   written : l.self.written ≡ l.fn.self.written;
   marked : All (λ (d : Change). IsOwn l.self d.place.0) (take l.change-index l.moved);
+  only : AreOwnOnly l.self l.moved;
 }
