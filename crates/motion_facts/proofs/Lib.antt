@@ -1,0 +1,13 @@
+pub mod Bools
+pub mod Walks
+pub mod Standing
+pub mod Reaching
+pub mod Stepping
+pub mod UnsafeFlow
+pub mod UnhadFlow
+pub mod PastFlow
+pub mod WantedFlow
+pub mod Together
+pub mod Pushed
+pub mod Posed
+pub mod Inner
