@@ -10,9 +10,8 @@ ghost use Rattle.emit_assembly.specs.Words.{laid_words, most_words_of_graph, mos
 
 use crate::base::BASE;
 use emit_layout::{Layout, layout_of};
-use emit_plan::plan_of;
 use emit_sequence::table::count;
-use emit_sequence::{Sequence, plain_sequence_of, planned_sequence_of};
+use emit_sequence::{Sequence, plain_sequence_of, sequence_by_plan};
 use emit_storage::{Frame, Statics, Storage, frame_of_function};
 use graph_core::{Graph, Label};
 use graph_homes::Home;
@@ -34,22 +33,6 @@ fn homes_at(homed: &HomedUnit, function: u32) -> &[Home]
     match homed.homes.get(function as usize) {
         Some(of) => &of.homes,
         None => &[],
-    }
-}
-
-/// The code of a function by the plan that is made for it, where that holds.
-fn sequence_by_plan(
-    alloc: Global,
-    storage: &Storage<'_>,
-    graph: &Graph,
-    is_main: bool,
-) -> Result<Sequence, AllocError>
-    ensures { IfOk result (λ made. HasEnd (ground_of storage.now) (graph_view graph.now) → IsSequenceOf (ground_of storage.now) (graph_view graph.now) is_main (sequence_view made)) }
-{
-    let plan = plan_of(alloc, storage, graph)?;
-    match planned_sequence_of(alloc, storage, graph, &plan, is_main)? {
-        Some(sequence) => Ok(sequence),
-        None => plain_sequence_of(alloc, storage, graph, is_main),
     }
 }
 

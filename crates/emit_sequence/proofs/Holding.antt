@@ -1,17 +1,11 @@
 -- What is held, and what is wanted where the end of a block leads.
-use Rattle.std.proofs.Common.{◌≡◌, ◌≤◌, ◌-◌, ◌==◌, ℕ, zero, suc, true, List, [], ◌∷◌, length, take, drop, get_or, slice_get, refl, sym, ap, ◌∙◌, subst, arith}
-use Rattle.std.specs.Option.{option_map_or}
-use Rattle.std.specs.List.{AllByRecursion}
-use Rattle.std.proofs.lemmas.Bool.{eqb-true}
+use Rattle.std.proofs.Common.{◌≡◌, ◌≤◌, ◌-◌, ℕ, List, [], ◌∷◌, length, take, drop, get_or, refl, sym, subst}
 use Rattle.graph_core.specs.declared.block.Comparison.{Comparison}
 use Rattle.graph_core.specs.Graphs.{End, Jump, Branch, Operand}
 use Rattle.graph_core.specs.Paths.{Among, front, behind}
 use Rattle.graph_core.specs.Uses.{targets_of}
 use Rattle.emit_pieces.specs.declared.piece.Held.{Held}
-use Rattle.emit_pieces.specs.declared.piece.PlacedPiece.{PlacedPiece}
-use Rattle.emit_plan.specs.declared.planning.Plan.{Plan}
-use Rattle.emit_sequence.specs.Plans.{held_at, HoldsWell}
-use Rattle.emit_sequence.specs.Sequences.{AreConstants, Holds}
+use Rattle.emit_sequence.specs.Sequences.{Holds}
 use Rattle.emit_sequence.proofs.Splitting.{split_first}
 
 same_held : (x y : Held) → x.register ≡ y.register → x.word ≡ y.word → x ≡ y
@@ -32,21 +26,6 @@ holds_first held left d some one rest = subst (λ l. Holds held l) (sym (split_f
     both : Holds held (get_or left 0 d ∷ take (length left - 1) (drop 1 left))
     both x front = one
     both x (behind there) = rest x there
-
--- ---- Plans
-
-none_held : (held : List Held) → (length held == 0) ≡ true → held ≡ []
-none_held [] e = refl
-none_held (x ∷ more) e = let n : length (x ∷ more) ≡ 0 = eqb-true (length (x ∷ more)) 0 e in absurd (omega (arith, n))
-
-constants_at : {V : Type 0} (items : V → List Held) (all : List V) (n : ℕ) → AllByRecursion (λ of. AreConstants (items of)) all → AreConstants (option_map_or items (slice_get all n) [])
-constants_at items [] n all = tt
-constants_at items (x ∷ more) zero all = all.0
-constants_at items (x ∷ more) (suc n) all = constants_at items more n all.1
-
--- Where each block holds constants, and the first one nothing, a plan holds well.
-pub holds_well : (p : Plan) (first : List Held) → AllByRecursion (λ of. AreConstants of.items) p.held.items → first ≡ held_at p 0 → (length first == 0) ≡ true → HoldsWell p
-holds_well p first all is none = record { constants = λ n. constants_at (λ of. of.items) p.held.items n all; start = sym is ∙ none_held first none }
 
 -- ---- Ends
 

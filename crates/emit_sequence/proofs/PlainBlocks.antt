@@ -1,11 +1,10 @@
 -- Blocks as they stand where nothing is held.
-use Rattle.std.proofs.Common.{◌≡◌, ◌≢◌, ◌<◌, ◌≤◌, ◌+◌, ℕ, Bool, Some, List, [], ◌∷◌, ◌++◌, length, map, slice_get, slice_index, refl, sym, ap, ◌∙◌, subst, arith, append_assoc}
+use Rattle.std.proofs.Common.{◌≡◌, ◌<◌, ◌≤◌, ◌+◌, ℕ, Bool, Some, List, [], ◌∷◌, ◌++◌, length, map, slice_get, slice_index, refl, sym, ap, ◌∙◌, subst, arith, append_assoc}
 use Rattle.std.specs.List.{AllByRecursion}
-use Rattle.std.proofs.lemmas.List.{length-append, length-map, length_push}
+use Rattle.std.proofs.lemmas.List.{length_push}
 use Rattle.graph_core.specs.Graphs.{Block, Graph}
 use Rattle.graph_core.specs.Paths.{Among, front, behind}
-use Rattle.emit_pieces.specs.declared.piece.Held.{Held}
-use Rattle.emit_sequence.specs.Sequences.{Ground, SequenceForm, Standing, counted, standing_code, first_label, plainly, AreConstants, AreInARow, AreOnce, ArePut, HasEnd, Holds, IsOrder, IsSequenceOf, IsStanding, begun, ended, with_standing}
+use Rattle.emit_sequence.specs.Sequences.{Ground, SequenceForm, Standing, counted, plainly, AreInARow, AreOnce, HasEnd, IsSequenceOf, IsStanding, begun, ended, with_standing}
 use Rattle.emit_sequence.proofs.Standing.{sequence_is}
 
 count_is : (n : ℕ) → n < 4294967295 → counted n ≡ n

@@ -1,11 +1,11 @@
 -- Blocks that are put by a plan.
-use Rattle.std.proofs.Common.{◌≡◌, ◌<◌, ◌≤◌, ◌-◌, ◌+◌, ℕ, min, Bool, zero, suc, not, true, false, Some, List, [], ◌∷◌, length, map, take, drop, get_or, slice_get, refl, sym, ap, ◌∙◌, subst, arith}
+use Rattle.std.proofs.Common.{◌≡◌, ◌<◌, ◌≤◌, ◌-◌, ℕ, min, Bool, zero, suc, Some, List, [], ◌∷◌, length, map, take, drop, get_or, slice_get, refl, sym, ap, ◌∙◌, subst, arith}
 use Rattle.graph_core.specs.Graphs.{Block, Graph}
 use Rattle.emit_pieces.specs.declared.piece.Held.{Held}
 use Rattle.emit_pieces.specs.declared.piece.PlacedPiece.{PlacedPiece}
 use Rattle.emit_plan.specs.declared.planning.Plan.{Plan}
-use Rattle.emit_sequence.specs.Plans.{held_at, HoldsWell}
-use Rattle.emit_sequence.specs.Sequences.{Ground, SequenceForm, Standing, first_number, standing_code, AreConstants, ArePut, HasEnd, IsOrder, IsPut, IsSequenceOf, LeadsWell, begun, ended, with_block}
+use Rattle.emit_plan.specs.Plans.{held_at, HoldsWell}
+use Rattle.emit_sequence.specs.Sequences.{Ground, SequenceForm, first_number, standing_code, AreConstants, ArePut, HasEnd, IsOrder, IsPut, IsSequenceOf, LeadsWell, begun, ended, with_block}
 use Rattle.emit_sequence.proofs.Splitting.{split_first}
 use Rattle.emit_sequence.proofs.Standing.{put_before, sequence_is}
 
@@ -34,9 +34,9 @@ put_step g blocks at left d next r s t some is one more =
     (put_before g blocks at (get_or left 0 d) (take (length left - 1) (drop 1 left)) r s t (subst (λ e. IsPut g blocks at (get_or left 0 d) e r s) is one) more)
 
 -- All of it is a sequence of the function.
-pub planned_sequence : (g : Ground) (f : Graph) (is_main : Bool) (p : Plan) (count : ℕ) (s r t : SequenceForm) → HoldsWell p → count ≡ min (length f.blocks) 4294967295 → (count < 4294967295 → IsOrder count p.order.items) → s ≡ begun g f is_main
+pub planned_sequence : (g : Ground) (f : Graph) (is_main : Bool) (p : Plan) (n : ℕ) (s r t : SequenceForm) → n ≡ length f.blocks → IsOrder (min n 4294967295) p.order.items → HoldsWell p → s ≡ begun g f is_main
     → ArePut g f.blocks (held_at p) p.order.items s r → t ≡ ended g r → HasEnd g f → IsSequenceOf g f is_main t
-planned_sequence g f is_main p count s r t well is order start put e end =
+planned_sequence g f is_main p n s r t is order well start put e end =
     let few : length f.blocks < 4294967295 = end.few in
-    let all : count ≡ length f.blocks = omega (arith, is, few) in
-    sequence_is g f is_main (held_at p) p.order.items r t end well.constants well.start (subst (λ n. IsOrder n p.order.items) all (order (omega (arith, all, few)))) (subst (λ u. ArePut g f.blocks (held_at p) p.order.items u r) start put) e
+    let all : min n 4294967295 ≡ length f.blocks = omega (arith, is, few) in
+    sequence_is g f is_main (held_at p) p.order.items r t end well.constants well.start (subst (λ k. IsOrder k p.order.items) all order) (subst (λ u. ArePut g f.blocks (held_at p) p.order.items u r) start put) e

@@ -1,5 +1,5 @@
 -- Blocks that stand one behind the other, with their labels.
-use Rattle.std.proofs.Common.{◌≡◌, ◌≢◌, ◌<◌, ◌≤◌, ◌+◌, ℕ, Bool, None, List, [], ◌∷◌, ◌++◌, length, map, slice_index, slice_set, replicate, refl, sym, ap, ◌∙◌, subst, arith, append_assoc, append-nil}
+use Rattle.std.proofs.Common.{◌≡◌, ◌<◌, ◌+◌, ℕ, Bool, None, List, [], ◌∷◌, ◌++◌, length, map, slice_index, slice_set, replicate, refl, sym, ap, ◌∙◌, subst, arith, append_assoc, append-nil}
 use Rattle.std.specs.List.{AllByRecursion}
 use Rattle.std.proofs.lemmas.List.{get_or-set_same, get_or-set_other, length-set, length-append, length-map, length-replicate, get_or_append_left, get_or_push, length_push, map-append}
 use Rattle.rv_code.specs.declared.instruction.Instruction.{Instruction}
@@ -10,11 +10,10 @@ use Rattle.graph_core.specs.Graphs.{Block, Graph}
 use Rattle.graph_core.specs.Paths.{Among, front, behind}
 use Rattle.emit_pieces.specs.declared.piece.Held.{Held}
 use Rattle.emit_pieces.specs.declared.piece.Piece.TheVariants.{Word}
-use Rattle.emit_pieces.specs.declared.piece.PlacedPiece.{PlacedPiece}
 use Rattle.emit_words.specs.Growing.{CodeState, with_code, with_piece}
 use Rattle.emit_code.specs.Blocks.{no_code}
-use Rattle.emit_code.specs.Leaving.{moving_by, of_no_place, restoring_code, with_leaving, words_of_moving}
-use Rattle.emit_sequence.specs.Sequences.{Ground, SequenceForm, Standing, counted, standing_code, standing_pieces, all_pieces, numbered, first_pieces, last_pieces, first_label, first_number, numbers_from, AreConstants, AreInARow, AreLabelled, AreOnce, ArePut, HasEnd, IsOrder, IsPut, IsSequenceOf, IsStanding, begun, ended, with_block, with_standing}
+use Rattle.emit_code.specs.Leaving.{moving_by, of_no_place, restoring_code, words_of_moving}
+use Rattle.emit_sequence.specs.Sequences.{Ground, SequenceForm, Standing, counted, standing_code, standing_pieces, all_pieces, numbered, first_pieces, last_pieces, first_label, first_number, AreConstants, AreLabelled, AreOnce, ArePut, HasEnd, IsOrder, IsPut, IsSequenceOf, begun, ended, with_block, with_standing}
 
 -- ---- Pieces
 

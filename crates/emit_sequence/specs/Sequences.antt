@@ -1,5 +1,5 @@
 -- The pieces of a function's code in their order.
-use Rattle.std.specs.Prelude.{◌≡◌, ℕ, ◌+◌, ◌<◌, ◌≤◌, ◌⊎◌, min, Bool, None, Some, option_map, List, [], ◌∷◌, ◌++◌, length, map, slice_get, slice_index, slice_set, replicate}
+use Rattle.std.specs.Prelude.{◌≡◌, ℕ, ◌+◌, ◌<◌, min, Bool, Some, option_map, List, [], ◌∷◌, ◌++◌, length, map, slice_get, slice_index, slice_set, replicate}
 use Rattle.std.specs.List.{AllByRecursion}
 use Rattle.graph_core.specs.Graphs.{Block, Graph}
 use Rattle.graph_core.specs.Paths.{Among}
@@ -9,6 +9,7 @@ use Rattle.emit_pieces.specs.declared.piece.PlacedPiece.{PlacedPiece}
 use Rattle.emit_storage.specs.declared.storage.Storage as declared-storage
 use Rattle.emit_storage.specs.Storages.{StorageForm, storage_view}
 use Rattle.emit_words.specs.Growing.{CodeState}
+pub use Rattle.emit_plan.specs.Plans.{AreConstants, AreOnce, IsConstant, IsOrder}
 use Rattle.emit_code.specs.Beginning.{with_beginning}
 use Rattle.emit_code.specs.Blocks.{no_code, block_code}
 use Rattle.emit_code.specs.Leaving.{words_of_moving, with_leaving}
@@ -79,17 +80,6 @@ last_pieces g = (with_leaving (words_of_moving g.size) g.saved g.size (no_code 0
 
 -- ---- Their order
 
--- The numbers of blocks, each once, block 0 first if there is one.
-abbrev pub AreOnce : List ℕ → Type 0
-AreOnce [] = Unit {0}
-AreOnce (n ∷ more) = (Among n more → ⊥) × AreOnce more
-
-pub record IsOrder (blocks : ℕ) (order : List ℕ) : Type 0 where
-  pub all : length order ≡ blocks
-  pub first : slice_index order 0 ≡ 0
-  pub low : AllByRecursion (λ n. n < blocks) order
-  pub once : AreOnce order
-
 -- The label of the first of some blocks, or that of what stands behind them.
 abbrev pub first_label : List Standing → (behind : ℕ) → ℕ
 first_label [] e = e
@@ -109,14 +99,6 @@ AreLabelled g s i (x ∷ more) =
     × AreLabelled g s (i + length (standing_code g x).pieces) more
 
 -- ---- What scratch registers hold
-
--- A constant is a word in a register that may hold one: s0, or one of a1 to a7.
-pub record IsConstant (x : Held) : Type 0 where
-  pub register : (x.register ≡ 8) ⊎ ((11 ≤ x.register) × (x.register ≤ 17))
-  pub word : x.word < 4294967296
-
-abbrev pub AreConstants : List Held → Type 0
-AreConstants held = AllByRecursion IsConstant held
 
 -- What is wanted is held.
 abbrev pub Holds : (held wanted : List Held) → Type 0

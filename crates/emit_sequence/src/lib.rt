@@ -8,5 +8,5 @@ mod sequence;
 pub mod table;
 
 pub use plain::plain_sequence_of;
-pub use planned::planned_sequence_of;
+pub use planned::sequence_by_plan;
 pub use sequence::Sequence;

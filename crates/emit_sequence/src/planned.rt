@@ -1,18 +1,18 @@
 //! The code of a function by a plan.
 
-ghost use Rattle.std.specs.Prelude.{◌≡◌, ℕ, true, IfOk, IfSome, OnOk};
+ghost use Rattle.std.specs.Prelude.{◌≡◌, ℕ, true, IfOk, IfSome, OnOk, length, min};
 ghost use Rattle.graph_core.specs.Graphs.{end_view, graph_view};
 ghost use Rattle.graph_core.specs.Paths.{Among};
 ghost use Rattle.graph_core.specs.Uses.{targets_of};
-ghost use Rattle.emit_sequence.specs.Plans.{held_at, HoldsWell};
+ghost use Rattle.emit_plan.specs.Plans.{held_at, HoldsWell, IsOrder};
 ghost use Rattle.emit_sequence.specs.Sequences.{first_number, ground_of, sequence_view, AreConstants, ArePut, HasEnd, Holds, IsPut, IsSequenceOf};
 
-use crate::plan_test::{held_at, holds, holds_all, is_plan};
+use crate::plain::plain_sequence_of;
+use crate::plan_test::{held_at, holds, holds_all};
 use crate::sequence::Sequence;
-use crate::table::count;
 use emit_code::code_of_block;
 use emit_pieces::Held;
-use emit_plan::Plan;
+use emit_plan::{Plan, plan_of};
 use emit_storage::Storage;
 use graph_core::{End, Graph, Label};
 use std::alloc::{AllocError, Global};
@@ -124,24 +124,36 @@ fn push_all_planned(
     Ok(true)
 }
 
-/// The code of a function by a plan, if the plan holds: its order names each block once, block 0 first; block 0 holds nothing, and each block
-/// what may be held; and along each edge what the block there holds is held, or loaded at the end.
-pub fn planned_sequence_of(
+/// The code of a function by a plan, if the plan holds: along each edge what the block there holds is held, or loaded at the end.
+fn planned_sequence_of(
     alloc: Global,
     storage: &Storage<'_>,
     graph: &Graph,
     plan: &Plan,
     is_main: bool,
 ) -> Result<Option<Sequence>, AllocError>
-    ensures sequence { IfOk result (λ found. IfSome found (λ made. HasEnd (ground_of storage.now) (graph_view graph.now) → IsSequenceOf (ground_of storage.now) (graph_view graph.now) is_main (sequence_view made))) }
+    ensures sequence { IfOk result (λ found. IfSome found (λ made. IsOrder (min (length graph.now.blocks.items) 4294967295) plan.now.order.items → HoldsWell plan.now → HasEnd (ground_of storage.now) (graph_view graph.now) → IsSequenceOf (ground_of storage.now) (graph_view graph.now) is_main (sequence_view made))) }
 {
-    if !is_plan(alloc, plan, count(graph.blocks.len()))? {
-        return Ok(None);
-    }
     let mut sequence = Sequence::new(alloc, storage, graph, is_main)?;
     if !push_all_planned(alloc, storage, graph, plan, &mut sequence)? {
         return Ok(None);
     }
     sequence.push_end(alloc, storage)?;
     Ok(Some(sequence))
+}
+
+/// The code of a function by the plan that is made for it, where that holds, and else its blocks as they stand.
+pub fn sequence_by_plan(
+    alloc: Global,
+    storage: &Storage<'_>,
+    graph: &Graph,
+    is_main: bool,
+) -> Result<Sequence, AllocError>
+    ensures { IfOk result (λ made. HasEnd (ground_of storage.now) (graph_view graph.now) → IsSequenceOf (ground_of storage.now) (graph_view graph.now) is_main (sequence_view made)) }
+{
+    let plan = plan_of(alloc, storage, graph)?;
+    match planned_sequence_of(alloc, storage, graph, &plan, is_main)? {
+        Some(sequence) => Ok(sequence),
+        None => plain_sequence_of(alloc, storage, graph, is_main),
+    }
 }

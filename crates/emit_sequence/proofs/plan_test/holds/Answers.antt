@@ -1,4 +1,3 @@
-use Rattle.emit_pieces.specs.declared.piece.Held.{Held}
 use Rattle.emit_sequence.proofs.Holding.{found_first, found_later}
 use Rattle.emit_sequence.proofs.plan_test.holds.Goals as goal
 

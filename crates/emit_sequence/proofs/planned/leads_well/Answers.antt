@@ -1,6 +1,6 @@
 use Rattle.std.proofs.Common.{subst, ap}
 use Rattle.graph_core.specs.Graphs.{end_view}
-use Rattle.emit_sequence.specs.Plans.{held_at}
+use Rattle.emit_plan.specs.Plans.{held_at}
 use Rattle.emit_sequence.specs.Sequences.{Holds}
 use Rattle.emit_sequence.proofs.Holding.{branch_leads, jump_leads}
 use Rattle.emit_sequence.proofs.planned.leads_well.Goals as goal

@@ -1,6 +1,6 @@
 use Rattle.std.proofs.Common.{◌≡◌, true, rules}
 use Rattle.graph_core.specs.Graphs.{graph_view}
-use Rattle.emit_sequence.specs.Plans.{held_at}
+use Rattle.emit_plan.specs.Plans.{held_at}
 use Rattle.emit_sequence.specs.Sequences.{ground_of, sequence_view}
 use Rattle.emit_sequence.proofs.PlannedBlocks.{put_step}
 use Rattle.emit_sequence.proofs.planned.push_all_planned.Goals as goal

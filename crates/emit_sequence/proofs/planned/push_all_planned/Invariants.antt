@@ -1,6 +1,6 @@
 use Rattle.std.proofs.Common.{length}
 use Rattle.graph_core.specs.Graphs.{graph_view}
-use Rattle.emit_sequence.specs.Plans.{held_at, HoldsWell}
+use Rattle.emit_plan.specs.Plans.{held_at, HoldsWell}
 use Rattle.emit_sequence.specs.Sequences.{ground_of, sequence_view, ArePut, SequenceForm}
 use Rattle.emit_sequence.proofs.planned.push_all_planned.Given as goal
 

@@ -1,6 +1,6 @@
 use Rattle.std.proofs.Common.{◌≡◌, ◌∙◌, true, rules, sym, ap, subst, map, slice_get}
 use Rattle.graph_core.specs.Graphs.{block_view, graph_view}
-use Rattle.emit_sequence.specs.Plans.{held_at}
+use Rattle.emit_plan.specs.Plans.{held_at}
 use Rattle.emit_sequence.specs.Sequences.{ground_of, sequence_view, AreConstants, Holds}
 use Rattle.emit_sequence.proofs.PlannedBlocks.{one_put, seen_there}
 use Rattle.emit_sequence.proofs.sequence.Sequence.push_planned.Goals as goal
