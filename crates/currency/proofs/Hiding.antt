@@ -16,9 +16,9 @@ use Rattle.hiding_changes.specs.declared.function.Function as declared-function
 use Rattle.hiding_changes.specs.declared.teller.Teller as declared-teller
 use Rattle.home_writers.specs.declared.writers.Writers as declared-writers
 use Rattle.hiding_changes.specs.Changes.{log_of}
-use Rattle.hiding_changes.specs.Evidence.{Hides}
-use Rattle.hiding_changes.specs.Found.{HidesBy, HidesFor, IsFunction, IsSameFunction, IsSameTeller, IsTeller}
-use Rattle.hiding_changes.proofs.Same.{hides_same}
+use Rattle.hiding_changes.specs.First.{Tells}
+use Rattle.hiding_changes.specs.Found.{TellsBy, TellsFor, IsFunction, IsSameFunction, IsSameTeller, IsTeller}
+use Rattle.hiding_changes.proofs.Same.{tells_same}
 use Rattle.currency.specs.declared.telling.Told as declared-told
 use Rattle.currency.specs.declared.telling.Told.TheVariants as told
 use Rattle.currency.specs.declared.telling.ToldVariable as declared-variable
@@ -45,20 +45,20 @@ new_one IsEvident old mid new place var what before one hiding p t among = elim 
 
 -- what is told of a scalar on which the questions are, or of one on which none were asked
 pub scalar_hiding : (t u : declared-teller.Teller) (f h : declared-function.Function) (x : ℕ) (var : declared-var.Var) (is_asked : Bool) (old new : declared-places.ToldPlaces)
-    → (is_asked ≡ true → IsSameTeller t u × IsSameFunction f h × (h.scalar ≡ x) × (u.search.flow.var.0 ≡ var.0)) → AreNew (IsHidingOn (λ p c. (is_asked ≡ true) × HidesFor u h p c) var) old new
-    → AreNew (IsHidingOn (λ p c. HidesBy t f.writers x var.0 p c) var) old new
+    → (is_asked ≡ true → IsSameTeller t u × IsSameFunction f h × (h.scalar ≡ x) × (u.search.flow.var.0 ≡ var.0)) → AreNew (IsHidingOn (λ p c. (is_asked ≡ true) × TellsFor u h p c) var) old new
+    → AreNew (IsHidingOn (λ p c. TellsBy t f.writers x var.0 p c) var) old new
 scalar_hiding t u f h x var is_asked old new asked all p one among = elim (all p one among) [
   | inl a ↦ inl a
   | inr b ↦ inr (
     b.0,
-    hiding_by (λ c. (is_asked ≡ true) × HidesFor u h p c) (λ c. HidesBy t f.writers x var.0 p c) one.told
-        (λ c hides. (let same = asked hides.0 in hides_same t u f h x var.0 p c same.0 same.1 same.2 same.3 hides.1)) b.1,
+    hiding_by (λ c. (is_asked ≡ true) × TellsFor u h p c) (λ c. TellsBy t f.writers x var.0 p c) one.told
+        (λ c hides. (let same = asked hides.0 in tells_same t u f h x var.0 p c same.0 same.1 same.2 same.3 hides.1)) b.1,
   )
 ]
 
 -- one more scalar
 pub scalar_more : (t : declared-teller.Teller) (w : declared-writers.Writers) (scalars : List declared-scalar.Scalar) (x : ℕ) (s : declared-scalar.Scalar) (old mid new : declared-places.ToldPlaces) → slice_get scalars x ≡ Some s
-    → AreNew (IsHidingScalar t w scalars) old mid → AreNew (IsHidingOn (λ p c. HidesBy t w x s.var.0 p c) s.var) mid new → AreNew (IsHidingScalar t w scalars) old new
+    → AreNew (IsHidingScalar t w scalars) old mid → AreNew (IsHidingOn (λ p c. TellsBy t w x s.var.0 p c) s.var) mid new → AreNew (IsHidingScalar t w scalars) old new
 scalar_more t w scalars x s old mid new is before more p one among = elim (more p one among) [
   | inl a ↦ before p one a
   | inr b ↦ inr (record { x = x; scalar = s; is = is; hiding = b })
@@ -77,23 +77,23 @@ pub function_on : (f h k : declared-function.Function) → IsSameFunction f h �
 function_on f h k one two = record { function = two.function; writers = two.writers ∙ one.writers }
 
 -- evidence by the same unit and function
-pub evident_same : (t u : declared-teller.Teller) (f h : declared-function.Function) (x variable p : ℕ) (c : declared-cause.Cause) → IsSameTeller t u → IsSameFunction f h → HidesBy u h.writers x variable p c → HidesBy t f.writers x variable p c
+pub evident_same : (t u : declared-teller.Teller) (f h : declared-function.Function) (x variable p : ℕ) (c : declared-cause.Cause) → IsSameTeller t u → IsSameFunction f h → TellsBy u h.writers x variable p c → TellsBy t f.writers x variable p c
 evident_same t u f h x variable p c teller function hides =
-    subst (λ (w : declared-writers.Writers). Hides (map logged t.changes.all.now) t.search.flow.table.now (home_in w.homes.now) w.function (graph_view w.graph.now) x variable p c) function.writers
-    (subst (λ (table : FlowTable). Hides (map logged t.changes.all.now) table (home_in h.writers.homes.now) h.writers.function (graph_view h.writers.graph.now) x variable p c) teller.flow
-    (subst (λ (all : List Change). Hides (map logged all) u.search.flow.table.now (home_in h.writers.homes.now) h.writers.function (graph_view h.writers.graph.now) x variable p c) teller.changes hides))
+    subst (λ (w : declared-writers.Writers). Tells (map logged t.changes.all.now) t.search.flow.table.now (home_in w.homes.now) w.function (graph_view w.graph.now) x variable p c) function.writers
+    (subst (λ (table : FlowTable). Tells (map logged t.changes.all.now) table (home_in h.writers.homes.now) h.writers.function (graph_view h.writers.graph.now) x variable p c) teller.flow
+    (subst (λ (all : List Change). Tells (map logged all) u.search.flow.table.now (home_in h.writers.homes.now) h.writers.function (graph_view h.writers.graph.now) x variable p c) teller.changes hides))
 
 -- one more scalar, as it was read
 pub scalar_more_any : (t u : declared-teller.Teller) (f h : declared-function.Function) (scalars : List declared-scalar.Scalar) (x number : ℕ) (d : declared-scalar.Scalar) (old mid new : declared-places.ToldPlaces) → x < length scalars → number ≡ x → IsSameTeller t u → IsSameFunction f h
-    → AreNew (IsHidingScalar t f.writers scalars) old mid → AreNew (IsHidingOn (λ p c. HidesBy u h.writers number (get_or scalars x d).var.0 p c) (get_or scalars x d).var) mid new → AreNew (IsHidingScalar t f.writers scalars) old new
+    → AreNew (IsHidingScalar t f.writers scalars) old mid → AreNew (IsHidingOn (λ p c. TellsBy u h.writers number (get_or scalars x d).var.0 p c) (get_or scalars x d).var) mid new → AreNew (IsHidingScalar t f.writers scalars) old new
 scalar_more_any t u f h scalars x number d old mid new lt same teller function before more =
     scalar_more t f.writers scalars x (get_or scalars x d) old mid new (slice_get-get_or scalars x d lt) before
     (λ p one among. elim (more p one among) [
       | inl a ↦ inl a
       | inr b ↦ inr (
         b.0,
-        hiding_by (λ c. HidesBy u h.writers number (get_or scalars x d).var.0 p c) (λ c. HidesBy t f.writers x (get_or scalars x d).var.0 p c) one.told
-            (λ c hides. evident_same t u f h x (get_or scalars x d).var.0 p c teller function (subst (λ n. HidesBy u h.writers n (get_or scalars x d).var.0 p c) same hides)) b.1,
+        hiding_by (λ c. TellsBy u h.writers number (get_or scalars x d).var.0 p c) (λ c. TellsBy t f.writers x (get_or scalars x d).var.0 p c) one.told
+            (λ c hides. evident_same t u f h x (get_or scalars x d).var.0 p c teller function (subst (λ n. TellsBy u h.writers n (get_or scalars x d).var.0 p c) same hides)) b.1,
       )
     ])
 
@@ -118,10 +118,10 @@ hiding_in t w g homes number old new function graph kept all p one among = elim 
       inr (record {
         x = b.x;
         of = ap (λ q. option_map (λ (z : Scalar). z.variable) q) (slice_get-map scalar_view g.scalars.items b.x ∙ ap (λ o. option_map scalar_view o) b.is) ∙ ap Some (sym of);
-        hiding = hiding_by (λ c. HidesBy t w b.x b.scalar.var.0 p c) (λ c. Hides (log_of t.changes) t.search.flow.table.now (home_in homes) number (graph_view g) b.x one.var.0 p c) one.told
-            (λ c hides. subst (λ v. Hides (log_of t.changes) t.search.flow.table.now (home_in homes) number (graph_view g) b.x v p c) (sym of)
-            (subst (λ (l : List Home). Hides (log_of t.changes) t.search.flow.table.now (home_in l) number (graph_view g) b.x b.scalar.var.0 p c) kept
-            (subst (λ (z : declared-graph.Graph). Hides (log_of t.changes) t.search.flow.table.now (home_in w.homes.now) number (graph_view z) b.x b.scalar.var.0 p c) graph
-            (subst (λ n. Hides (log_of t.changes) t.search.flow.table.now (home_in w.homes.now) n (graph_view w.graph.now) b.x b.scalar.var.0 p c) function hides)))) b.hiding.1;
+        hiding = hiding_by (λ c. TellsBy t w b.x b.scalar.var.0 p c) (λ c. Tells (log_of t.changes) t.search.flow.table.now (home_in homes) number (graph_view g) b.x one.var.0 p c) one.told
+            (λ c hides. subst (λ v. Tells (log_of t.changes) t.search.flow.table.now (home_in homes) number (graph_view g) b.x v p c) (sym of)
+            (subst (λ (l : List Home). Tells (log_of t.changes) t.search.flow.table.now (home_in l) number (graph_view g) b.x b.scalar.var.0 p c) kept
+            (subst (λ (z : declared-graph.Graph). Tells (log_of t.changes) t.search.flow.table.now (home_in w.homes.now) number (graph_view z) b.x b.scalar.var.0 p c) graph
+            (subst (λ n. Tells (log_of t.changes) t.search.flow.table.now (home_in w.homes.now) n (graph_view w.graph.now) b.x b.scalar.var.0 p c) function hides)))) b.hiding.1;
       }))
 ]

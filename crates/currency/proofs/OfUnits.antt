@@ -13,7 +13,7 @@ use Rattle.note_state.specs.Homes.{home_in}
 use Rattle.homed_unit.specs.declared.homed.FunctionHomes as declared-homes
 use Rattle.homed_unit.specs.declared.homed.HomedUnit as declared-homed
 use Rattle.homed_unit.specs.Homed.{HomedForm, home_of, homed_view, homes_in}
-use Rattle.hiding_changes.specs.Evidence.{Hides}
+use Rattle.hiding_changes.specs.First.{Tells}
 use Rattle.currency.specs.declared.telling.Told as declared-told
 use Rattle.currency.specs.declared.telling.Told.TheVariants as told
 use Rattle.currency.specs.declared.telling.ToldVariable as declared-variable
@@ -53,13 +53,13 @@ module _ (log : List Logged) (flow : FlowTable) where
   ]
 
   module _ (u : HomedForm) where
-    hidden : (variable p f x : ℕ) (g : Graph) → slice_get u.unit.graphs f ≡ Some g → IsVariable g x variable → (what : declared-told.Told) (v : declared-verdict.Verdict) → IsHiding (λ c. Hides log flow (home_of u f) f g x variable p c) what → IsVerdictOf what v → IsEvident log flow u variable p v
+    hidden : (variable p f x : ℕ) (g : Graph) → slice_get u.unit.graphs f ≡ Some g → IsVariable g x variable → (what : declared-told.Told) (v : declared-verdict.Verdict) → IsHiding (λ c. Tells log flow (home_of u f) f g x variable p c) what → IsVerdictOf what v → IsEvident log flow u variable p v
     hidden variable p f x g is of what verdict.Home hiding v = tt
     hidden variable p f x g is of what (verdict.Recovered r c) hiding v = tt
     hidden variable p f x g is of (told.Recovered r d) (verdict.Noncurrent c s w) hiding v = elim v [ ]
     hidden variable p f x g is of (told.Recovered r d) (verdict.Nonresident c s w) hiding v = elim v [ ]
-    hidden variable p f x g is of (told.Hidden cause) (verdict.Noncurrent c s w) hiding v = record { f = f; graph = g; x = x; cause = cause; is = is; scalar = of; told = v; evident = hiding }
-    hidden variable p f x g is of (told.Hidden cause) (verdict.Nonresident c s w) hiding v = record { f = f; graph = g; x = x; cause = cause; is = is; scalar = of; told = v; evident = hiding }
+    hidden variable p f x g is of (told.Hidden cause) (verdict.Noncurrent c s w) hiding v = record { f = f; graph = g; x = x; cause = cause; is = is; scalar = of; told = v; evident = hiding.0; first = hiding.1 }
+    hidden variable p f x g is of (told.Hidden cause) (verdict.Nonresident c s w) hiding v = record { f = f; graph = g; x = x; cause = cause; is = is; scalar = of; told = v; evident = hiding.0; first = hiding.1 }
 
     -- what the verdicts say to hide variables does
     pub are_evident : (table : declared-table.PlaceTable) (found : declared-places.ToldPlaces) (rows : List declared-row.PlaceVerdict) → AreToldEvident log flow u found → AreRowsTold table found rows → AreEvident log flow u rows

@@ -1,4 +1,4 @@
--- What hides variables, where that is told: evidence by a change of the log, a write and a path of the flow.
+-- What hides variables, where that is told: evidence by a change of the log, a write and a path of the flow, and the first that there is.
 use Rattle.std.specs.Prelude.{◌≡◌, ◌⊎◌, ℕ, Some, List, slice_get}
 use Rattle.places.specs.declared.flow.FlowTable.{FlowTable}
 use Rattle.debug_records.specs.declared.change.Var as declared-var
@@ -12,7 +12,8 @@ use Rattle.home_writers.specs.declared.writers.Writers as declared-writers
 use Rattle.hiding_changes.specs.declared.causes.Cause as declared-cause
 use Rattle.hiding_changes.specs.declared.teller.Teller as declared-teller
 use Rattle.hiding_changes.specs.Evidence.{Hides}
-use Rattle.hiding_changes.specs.Found.{HidesBy}
+use Rattle.hiding_changes.specs.First.{IsFirst, Tells}
+use Rattle.hiding_changes.specs.Found.{TellsBy}
 use Rattle.currency.specs.declared.telling.Told as declared-told
 use Rattle.currency.specs.declared.telling.Told.TheVariants as told
 use Rattle.currency.specs.declared.telling.ToldVariable as declared-variable
@@ -40,7 +41,7 @@ pub record IsHidingScalar (t : declared-teller.Teller) (w : declared-writers.Wri
   pub x : ℕ
   pub scalar : declared-scalar.Scalar
   pub is : slice_get scalars x ≡ Some scalar
-  pub hiding : IsHidingOn (λ q c. HidesBy t w x scalar.var.0 q c) scalar.var p one
+  pub hiding : IsHidingOn (λ q c. TellsBy t w x scalar.var.0 q c) scalar.var p one
 
 -- given: the log of a unit, and the flow of its program
 module _ (log : List Logged) (flow : FlowTable) where
@@ -48,9 +49,9 @@ module _ (log : List Logged) (flow : FlowTable) where
   pub record IsHidingIn (home : ℕ → Home) (f : ℕ) (g : Graph) (p : ℕ) (t : declared-variable.ToldVariable) : Type 0 where
     pub x : ℕ
     pub of : IsVariable g x t.var.0
-    pub hiding : IsHiding (λ c. Hides log flow home f g x t.var.0 p c) t.told
+    pub hiding : IsHiding (λ c. Tells log flow home f g x t.var.0 p c) t.told
 
-  -- What hides a variable at a place, as a verdict tells it: it is a scalar of a function of the unit, and this is evident there.
+  -- What hides a variable at a place, as a verdict tells it: it is a scalar of a function of the unit, and this is evident there, and the first that may be told.
   pub record IsEvidentAt (u : HomedForm) (variable p : ℕ) (v : declared-verdict.Verdict) : Type 0 where
     pub f : ℕ
     pub graph : Graph
@@ -60,6 +61,7 @@ module _ (log : List Logged) (flow : FlowTable) where
     pub scalar : IsVariable graph x variable
     pub told : IsCauseOf cause v
     pub evident : Hides log flow (home_of u f) f graph x variable p cause
+    pub first : IsFirst log flow (home_of u f) f graph x variable p cause
 
   -- What each verdict says to hide a variable does.
   abbrev pub IsEvident : HomedForm → (variable p : ℕ) → declared-verdict.Verdict → Type 0

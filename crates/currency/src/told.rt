@@ -4,7 +4,7 @@ ghost use Rattle.std.specs.Prelude.{◌≡◌, ◌<◌, ◌≤◌, ℕ, IfOk, If
 ghost use Rattle.graph_core.specs.Graphs.{graph_view};
 ghost use Rattle.note_state.specs.Homes.{home_in};
 ghost use Rattle.hiding_changes.specs.Changes.{log_of};
-ghost use Rattle.hiding_changes.specs.Found.{HidesBy, HidesFor, IsFunction, IsReady, IsSameFunction, IsSameTeller, IsTeller};
+ghost use Rattle.hiding_changes.specs.Found.{TellsBy, TellsFor, IsFunction, IsReady, IsSameFunction, IsSameTeller, IsTeller};
 ghost use Rattle.currency.specs.Evident.{AreNew, IsHiding, IsHidingIn, IsHidingOn, IsHidingScalar};
 ghost use Rattle.currency.specs.Telling.{AreToldOf, AreToldAll, IsFunctionTold, IsRecipeOf, IsToldOne, told_at};
 
@@ -37,7 +37,7 @@ fn told_of<'a>(
 ) -> Option<Told<'a>>
     requires { is_asked ≡ true → IsReady teller.now function.now }
     ensures recipe { IfSome result (λ told. IsRecipeOf told one.now.last) }
-    ensures hiding { IfSome result (λ told. IsHiding (λ c. (is_asked ≡ true) × HidesFor teller.now function.now one.now.place.0 c) told) }
+    ensures hiding { IfSome result (λ told. IsHiding (λ c. (is_asked ≡ true) × TellsFor teller.now function.now one.now.place.0 c) told) }
 {
     match one.last {
         Some(note) => {
@@ -140,7 +140,7 @@ impl<'a> ToldPlaces<'a> {
     ) -> Result<bool, AllocError>
         requires { is_asked ≡ true → IsReady teller.now function.now }
         ensures told { IfOk result (λ b. b ≡ true → AreToldOf self.old self.new var unshown.now) }
-        ensures hiding { IfOk result (λ b. b ≡ true → AreNew (IsHidingOn (λ p c. (is_asked ≡ true) × HidesFor teller.now function.now p c) var) self.old self.new) }
+        ensures hiding { IfOk result (λ b. b ≡ true → AreNew (IsHidingOn (λ p c. (is_asked ≡ true) × TellsFor teller.now function.now p c) var) self.old self.new) }
     {
         for one in unshown {
             match told_of(one, teller, function, is_asked) {
@@ -169,7 +169,7 @@ impl<'a> ToldPlaces<'a> {
         ensures teller { OnOk result (IsSameTeller teller.old teller.new) }
         ensures function { OnOk result (IsSameFunction function.old function.new) }
         ensures told { IfOk result (λ b. b ≡ true → AreToldOf self.old self.new var unshown.now) }
-        ensures hiding { IfOk result (λ b. b ≡ true → AreNew (IsHidingOn (λ p c. HidesBy teller.old function.old.writers scalar var.0 p c) var) self.old self.new) }
+        ensures hiding { IfOk result (λ b. b ≡ true → AreNew (IsHidingOn (λ p c. TellsBy teller.old function.old.writers scalar var.0 p c) var) self.old self.new) }
     {
         let is_asked = is_hidden_somewhere(unshown);
         if !ask(alloc, teller, function, is_asked, scalar, var)? {
