@@ -6,5 +6,6 @@ mod columns;
 mod fates;
 mod placement;
 mod problems;
+mod reach;
 
 pub use placement::{Action, Placement, place};

@@ -1,11 +1,20 @@
 //! Where computations are done, and where their values are read instead.
 
-use crate::columns::{Placing, numbers_of};
-use crate::fates::{Fate, no_fates};
-use crate::problems::{Facts, facts_of};
-use graph_core::{Block, Graph, Instr, Name};
-use graph_paths::{flag, put_flag, reached_in_order, successor};
-use motion_points::{Computation, Computations, both, either, without};
+ghost use Rattle.std.specs.Prelude.{◌≡◌, ℕ, false, map, slice_index_or};
+ghost use Rattle.graph_core.specs.Graphs.{block_view};
+ghost use Rattle.motion_facts.specs.Facts.{AreReached};
+ghost use Rattle.motion_flow.specs.Flowing.{HasEdge};
+ghost use Rattle.motion_points.specs.Numbers.{AreNumbers};
+ghost use Rattle.motion_points.specs.Words.{has};
+ghost use Rattle.motion_placement.specs.Placed.{is_on_edge, stays_by};
+
+use crate::columns::{Placing, Solved, numbers_of, row_at};
+use crate::fates::{Fate, NO_FATE, fate_at};
+use crate::problems::{Facts, word_of};
+use crate::reach::{comes_back, reached_blocks};
+use graph_core::{Graph, Instr, Name};
+use graph_paths::reached_in_order;
+use motion_points::{Computation, Computations, both, either, is_flagged, is_in, without};
 use std::alloc::{AllocError, Global};
 
 /// What becomes of an instruction.
@@ -25,11 +34,11 @@ pub struct Placement {
     computations: Computations,
     /// For each computation its temporary, if it has one.
     temporaries: Vec<Option<Name>>,
-    /// For each block and instruction the number of the computation that it does, and what becomes of it.
+    /// For each block and instruction the number of the computation that it does, and what is so of it.
     numbers: Vec<Vec<Option<u32>>>,
     fates: Vec<Vec<Fate>>,
     /// For each 64 computations what is so of them at each block.
-    columns: Vec<Vec<Facts>>,
+    columns: Vec<Solved>,
     /// Which blocks some path reaches.
     reached: Vec<bool>,
     /// From here on names are temporaries of computations, up to the other one.
@@ -37,63 +46,83 @@ pub struct Placement {
     end_name: u32,
 }
 
-/// The flags of the numbers among so many.
-fn flags_of(alloc: Global, numbers: &[u32], count: usize) -> Result<Vec<bool>, AllocError> {
-    let mut flags = vec![in alloc; false; count]?;
-    for number in numbers {
-        put_flag(&mut flags, *number, true);
-    }
-    Ok(flags)
-}
-
-/// Whether the first block comes next behind one of these.
-fn comes_back(blocks: &[Block], order: &[u32]) -> bool {
-    for number in order {
-        if let Some(block) = blocks.get(*number as usize) {
-            for which in 0..2u32 {
-                if successor(&block.end, which) == Some(0) {
-                    return true;
-                }
-            }
-        }
-    }
-    false
-}
-
 /// Whether an instruction stays that does a computation: it is the latest point, and its value would not be used again.
-fn stays(fate: Fate) -> bool {
+fn stays(fate: Fate) -> bool
+    ensures { result ≡ stays_by fate }
+{
     fate.is_late && !fate.is_used
 }
 
+/// Those of a column that are done on the edge from a block to another.
+fn bits_on_edge(facts: &Facts, from: usize, to: usize) -> u64
+    ensures { (k : ℕ) → has result k ≡ is_on_edge facts.now from to k }
+{
+    let past_end = word_of(&facts.past_ends, from);
+    let unsafe_start = word_of(&facts.unsafe_starts, to);
+    let past = either(past_end, unsafe_start);
+    let past_start = word_of(&facts.past_starts, to);
+    let used_start = word_of(&facts.used_starts, to);
+    let open = both(past_start, used_start);
+    without(open, past)
+}
+
 impl Placement {
-    /// The number of the computation that an instruction does, and what is so of it, if it does one.
-    fn done_at(&self, block: u32, index: usize) -> Option<(u32, Fate)> {
-        let number = (*self.numbers.get(block as usize)?.get(index)?)?;
-        let fate = *self.fates.get(block as usize)?.get(index)?;
-        Some((number, fate))
+    /// The computation of a number, if there is one.
+    fn computation_of(&self, number: usize) -> Option<Computation> {
+        match self.computations.all.get(number) {
+            Some(computation) => Some(*computation),
+            None => None,
+        }
     }
 
-    /// What becomes of an instruction of a block.
-    pub fn action(&self, block: u32, index: usize) -> Action {
-        let Some((number, fate)) = self.done_at(block, index) else {
-            return Action::Keep;
-        };
-        if stays(fate) {
-            return Action::Keep;
+    /// The temporary of the computation of a number, if it has one.
+    fn temporary_of(&self, number: usize) -> Option<Name> {
+        match self.temporaries.get(number) {
+            Some(temporary) => *temporary,
+            None => None,
         }
-        match (
-            self.computations.all.get(number as usize),
-            self.temporaries.get(number as usize),
-        ) {
-            (Some(computation), Some(Some(temporary))) => {
-                if fate.is_late {
-                    Action::Compute(*computation, *temporary)
+    }
+
+    /// The number of the computation that an instruction does, if it does one.
+    fn number_at(&self, block: usize, index: usize) -> Option<u32> {
+        match row_at(&self.numbers, block).get(index) {
+            Some(number) => *number,
+            None => None,
+        }
+    }
+
+    /// What is so of it there.
+    fn fate_of(&self, block: usize, index: usize) -> Fate {
+        match self.fates.get(block) {
+            Some(row) => fate_at(row, index),
+            None => NO_FATE,
+        }
+    }
+
+    /// What becomes of an instruction that does the computation of a number, and does not stay.
+    fn moved(&self, number: usize, is_late: bool) -> Action {
+        match (self.computation_of(number), self.temporary_of(number)) {
+            (Some(computation), Some(temporary)) => {
+                if is_late {
+                    Action::Compute(computation, temporary)
                 } else {
-                    Action::Read(*temporary)
+                    Action::Read(temporary)
                 }
             }
             _ => Action::Keep,
         }
+    }
+
+    /// What becomes of an instruction of a block.
+    pub fn action(&self, block: u32, index: usize) -> Action {
+        let Some(number) = self.number_at(block as usize, index) else {
+            return Action::Keep;
+        };
+        let fate = self.fate_of(block as usize, index);
+        if stays(fate) {
+            return Action::Keep;
+        }
+        self.moved(number as usize, fate.is_late)
     }
 
     /// The name behind all temporaries of computations.
@@ -101,13 +130,20 @@ impl Placement {
         self.end_name
     }
 
-    /// Appends the computation of this number into its temporary, if it has one.
-    fn push_computation(&self, number: usize, out: &mut Vec<Instr>) -> Result<(), AllocError> {
-        if let (Some(computation), Some(Some(temporary))) = (
-            self.computations.all.get(number),
-            self.temporaries.get(number),
-        ) {
-            out.push(computation.into_name(*temporary))?;
+    /// Appends the computation of a number into its temporary, if it is flagged and has one.
+    fn push_flagged(
+        &self,
+        number: usize,
+        flag: bool,
+        out: &mut Vec<Instr>,
+    ) -> Result<(), AllocError> {
+        if flag {
+            if let (Some(computation), Some(temporary)) = (
+                self.computation_of(number),
+                self.temporary_of(number),
+            ) {
+                out.push(computation.into_name(temporary))?;
+            }
         }
         Ok(())
     }
@@ -117,10 +153,9 @@ impl Placement {
         if bits == 0 {
             return Ok(());
         }
-        for bit in 0..64usize {
-            if (bits >> bit) & 1 == 1 {
-                self.push_computation(column.saturating_mul(64).saturating_add(bit), out)?;
-            }
+        for bit in 0..64u32 {
+            let number = column.saturating_mul(64).saturating_add(bit as usize);
+            self.push_flagged(number, is_in(bits, bit), out)?;
         }
         Ok(())
     }
@@ -128,83 +163,83 @@ impl Placement {
     /// The computations that are done on the edge from a block to another, in order.
     pub fn on_edge(&self, alloc: Global, from: u32, to: u32) -> Result<Vec<Instr>, AllocError> {
         let mut out = Vec::new(alloc);
-        if !flag(&self.reached, from) {
+        if !is_flagged(&self.reached, from as usize) {
             return Ok(out);
         }
-        let mut number = 0usize;
-        for column in &self.columns {
-            let before = facts_of(column, from);
-            let behind = facts_of(column, to);
-            let past = either(before.past_end, behind.unsafe_start);
-            self.push_bits(
-                number,
-                without(both(behind.past_start, behind.used_start), past),
-                &mut out,
-            )?;
-            number = number.saturating_add(1);
+        for number in 0..self.columns.len() {
+            let bits = bits_on_edge(&self.columns[number].facts, from as usize, to as usize);
+            self.push_bits(number, bits, &mut out)?;
         }
         Ok(out)
     }
+}
 
-    /// Marks the computations of a block that do not all stay.
-    fn mark(numbers: &[Option<u32>], fates: &[Fate], treated: &mut [bool]) {
-        let mut index = 0usize;
-        for fate in fates {
-            if let Some(Some(number)) = numbers.get(index) {
-                if !stays(*fate) {
-                    put_flag(treated, *number, true);
-                }
-            }
-            index = index.saturating_add(1);
+/// Marks the computation of a number, if it does not stay.
+fn mark(number: Option<u32>, fate: Fate, treated: &mut [bool]) {
+    if let Some(number) = number {
+        if !stays(fate) && (number as usize) < treated.len() {
+            treated[number as usize] = true;
         }
-    }
-
-    /// The computations that do not all stay.
-    fn treated(&self, alloc: Global) -> Result<Vec<bool>, AllocError> {
-        let mut treated = vec![in alloc; false; self.computations.all.len()]?;
-        let mut block = 0usize;
-        for fates in &self.fates {
-            if let Some(numbers) = self.numbers.get(block) {
-                Self::mark(numbers, fates, &mut treated);
-            }
-            block = block.saturating_add(1);
-        }
-        Ok(treated)
-    }
-
-    /// Gives these computations their temporaries, in order.
-    fn name(&mut self, treated: &[bool]) -> Result<(), AllocError> {
-        for is_treated in treated {
-            if *is_treated {
-                self.temporaries.push(Some(Name(self.end_name)))?;
-                self.end_name = self.end_name.saturating_add(1);
-            } else {
-                self.temporaries.push(None)?;
-            }
-        }
-        Ok(())
     }
 }
 
-/// For each block as many fates as it has instructions whose computations are numbered.
-fn fates_of(alloc: Global, numbers: &[Vec<Option<u32>>]) -> Result<Vec<Vec<Fate>>, AllocError> {
-    let mut fates = Vec::new(alloc);
-    for row in numbers {
-        fates.push(no_fates(alloc, row.len())?)?;
+/// Marks the computations of a block that do not all stay.
+fn mark_row(numbers: &[Option<u32>], fates: &[Fate], treated: &mut [bool]) {
+    for index in 0..fates.len() {
+        let number = match numbers.get(index) {
+            Some(number) => *number,
+            None => None,
+        };
+        mark(number, fates[index], treated);
     }
-    Ok(fates)
 }
 
-/// The placement of the computations of reached code, before they have temporaries. None where the search for it failed.
-fn unnamed(
+/// Of so many computations those that do not all stay.
+fn treated_of(
+    alloc: Global,
+    numbers: &[Vec<Option<u32>>],
+    fates: &[Vec<Fate>],
+    count: usize,
+) -> Result<Vec<bool>, AllocError> {
+    let mut treated = vec![in alloc; false; count]?;
+    for block in 0..fates.len() {
+        mark_row(row_at(numbers, block), &fates[block], &mut treated);
+    }
+    Ok(treated)
+}
+
+/// Temporaries for these computations, in order, and the name behind them.
+fn named(
+    alloc: Global,
+    treated: &[bool],
+    first_name: u32,
+) -> Result<(Vec<Option<Name>>, u32), AllocError> {
+    let mut temporaries = Vec::new(alloc);
+    let mut end_name = first_name;
+    for number in 0..treated.len() {
+        if treated[number] {
+            temporaries.push(Some(Name(end_name)))?;
+            end_name = end_name.saturating_add(1);
+        } else {
+            temporaries.push(None)?;
+        }
+    }
+    Ok((temporaries, end_name))
+}
+
+/// The placement of the computations of reached code. None where the search for it failed.
+fn placed(
     alloc: Global,
     graph: &Graph,
     order: &[u32],
     computations: Computations,
     reached: Vec<bool>,
-) -> Result<Option<Placement>, AllocError> {
+) -> Result<Option<Placement>, AllocError>
+    requires reached { AreReached (map block_view graph.now.blocks.items) (λ n. slice_index_or reached.items n false) }
+    requires once { (m : ℕ) → HasEdge (map block_view graph.now.blocks.items) (λ n. slice_index_or reached.items n false) m 0 → ⊥ }
+    requires known { AreNumbers computations }
+{
     let numbers = numbers_of(alloc, &graph.blocks, &reached, &computations)?;
-    let mut fates = fates_of(alloc, &numbers)?;
     let mut back = Vec::from_slice(alloc, order)?;
     back.reverse();
     let placing = Placing {
@@ -216,24 +251,21 @@ fn unnamed(
         order,
         back: &back,
     };
-    let mut columns = Vec::new(alloc);
-    let mut index = 0u32;
-    for _ in 0..(computations.all.len() / 64).saturating_add(1) {
-        let Some(facts) = placing.column(index, &mut fates)? else {
-            return Ok(None);
-        };
-        columns.push(facts)?;
-        index = index.saturating_add(1);
-    }
+    let Some(columns) = placing.columns()? else {
+        return Ok(None);
+    };
+    let fates = placing.fates(&columns)?;
+    let treated = treated_of(alloc, &numbers, &fates, computations.all.len())?;
+    let (temporaries, end_name) = named(alloc, &treated, graph.name_count)?;
     Ok(Some(Placement {
         computations,
-        temporaries: Vec::new(alloc),
+        temporaries,
         numbers,
         fates,
         columns,
         reached,
         first_name: graph.name_count,
-        end_name: graph.name_count,
+        end_name,
     }))
 }
 
@@ -241,21 +273,22 @@ fn unnamed(
 /// block: nothing can be done before the entry alone then.
 pub fn place(alloc: Global, graph: &Graph) -> Result<Option<Placement>, AllocError> {
     let order = reached_in_order(alloc, &graph.blocks)?;
-    if comes_back(&graph.blocks, &order) {
+    let Some(reached) = reached_blocks(alloc, &graph.blocks, &order)? else {
+        return Ok(None);
+    };
+    let back = comes_back(&graph.blocks, &reached);
+    if back {
         return Ok(None);
     }
-    let reached = flags_of(alloc, &order, graph.blocks.len())?;
     let Some(computations) = Computations::new(alloc, &graph.blocks, &reached)? else {
         return Ok(None);
     };
     if computations.all.is_empty() {
         return Ok(None);
     }
-    let Some(mut placement) = unnamed(alloc, graph, &order, computations, reached)? else {
+    let Some(placement) = placed(alloc, graph, &order, computations, reached)? else {
         return Ok(None);
     };
-    let treated = placement.treated(alloc)?;
-    placement.name(&treated)?;
     if placement.first_name == placement.end_name {
         return Ok(None);
     }

@@ -1,0 +1,4 @@
+pub mod Zeros
+pub mod Rows
+pub mod Fated
+pub mod Reached

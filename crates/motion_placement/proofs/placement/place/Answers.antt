@@ -1,0 +1,22 @@
+use Rattle.std.proofs.Common.{◌≡◌, ℕ, Bool, false, List, map, subst}
+use Rattle.std.specs.Prelude.{IfSome, slice_index_or}
+use Rattle.std.specs.Global.{Vec}
+use Rattle.graph_core.specs.declared.block.Block as declared-block
+use Rattle.graph_core.specs.Graphs.{block_view}
+use Rattle.motion_points.specs.Numbers.{AreNumbers}
+use Rattle.motion_flow.specs.Flowing.{HasEdge}
+use Rattle.motion_facts.specs.Facts.{AreReached}
+use Rattle.motion_placement.proofs.placement.place.Goals as goal
+
+pub placed-requires-clause-reached : goal.placed-requires-clause-reached
+placed-requires-clause-reached c =
+    subst (λ (bs : List declared-block.Block). AreReached (map block_view bs) (λ n. slice_index_or c.in-Some.reached.items n false)) c.deref-2.ensures.value
+    (subst (λ o. IfSome o (λ (flags : Vec Bool). AreReached (map block_view c.deref-2.result.now) (λ n. slice_index_or flags.items n false))) c.in-Some.is c.in_ok-reached.ensures)
+
+pub placed-requires-clause-once : goal.placed-requires-clause-once
+placed-requires-clause-once c =
+    subst (λ (rs : List Bool). (m : ℕ) → HasEdge (map block_view c.args.graph.now.blocks.items) (λ n. slice_index_or rs n false) m 0 → ⊥) c.deref-5.ensures.value
+    (subst (λ (bs : List declared-block.Block). (m : ℕ) → HasEdge (map block_view bs) (λ n. slice_index_or c.deref-5.result.now n false) m 0 → ⊥) c.deref-4.ensures.value (c.comes_back-back.ensures c.if-back.false))
+
+pub placed-requires-clause-known : goal.placed-requires-clause-known
+placed-requires-clause-known c = subst (λ o. IfSome o AreNumbers) c.in-Some-2.is c.in_ok-computations.ensures.numbers

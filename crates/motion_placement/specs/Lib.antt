@@ -1,0 +1,4 @@
+pub mod Problems
+pub mod Fates
+pub mod Columns
+pub mod Placed
