@@ -1,2 +1,3 @@
 pub mod HandedIn
 pub mod Kept
+pub mod Leading

@@ -1,11 +1,12 @@
 //! Lists of passes.
 
-ghost use Rattle.std.specs.Prelude.{◌≡◌, ◌<◌, ◌^◌, ◌↔◌, [], Some, IfOk, IfSome, IsTrue, MatchOption, length, map};
+ghost use Rattle.std.specs.Prelude.{◌≡◌, ◌<◌, ◌^◌, ◌↔◌, [], Some, IfOk, IfSome, IsSomeAnd, IsTrue, MatchOption, length, map, slice_get};
 ghost use Rattle.debug_records.specs.Change.{letters};
 ghost use Rattle.graph_core.specs.Graphs.{unit_view};
 ghost use Rattle.graph_core.specs.Validity.{IsValid};
 ghost use Rattle.pass_runs.specs.HandedIn.{AreHandedIn, IsHandedIn, IsNoPass};
 ghost use Rattle.pass_runs.specs.Kept.{KeepsShape};
+ghost use Rattle.pass_runs.specs.Leading.{IsFirst, Lead};
 
 use crate::pass::UnitPass;
 use debug_records::PassName;
@@ -24,6 +25,7 @@ fn is_called(pass: &Box<dyn UnitPass>, name: &PassName) -> bool
 fn find_pass(passes: &[Box<dyn UnitPass>], name: &PassName) -> Option<usize>
     ensures found { MatchOption result (IsNoPass (λ p. named p) passes.now (letters name.now)) (λ _. IsHandedIn (λ p. named p) passes.now (letters name.now)) }
     ensures within { IfSome result (λ i. i < length passes.now) }
+    ensures first { IfSome result (λ i. IsSomeAnd (slice_get passes.now i) (λ p. IsFirst (λ q. named q) (letters name.now) p passes.now)) }
 {
     for (i, pass) in passes.iter().enumerate() {
         if is_called(pass, name) {
@@ -72,11 +74,12 @@ fn apply_one(
     requires room { length (unit_view unit.now).log < 2 ^ 31 }
     ensures made { IfOk result (λ made. IfSome made (λ v. IsValid (unit_view v))) }
     ensures kept { IfOk result (λ made. IfSome made (λ v. KeepsShape (unit_view unit.now) (unit_view v))) }
+    ensures step { IfOk result (λ made. IfSome made (λ v. steps pass.now (unit_view unit.now) (unit_view v))) }
 {
     pass.apply(alloc, unit)
 }
 
-/// Runs the passes of these names on a valid unit, in order; of two passes of one name the first is taken. None where a name is no pass's, where the log has 2^31
+/// Runs the passes of these names on a valid unit, in order, each by one step; of two passes of one name the first is taken. None where a name is no pass's, where the log has 2^31
 /// changes before a pass, or where a pass makes no unit. No names give the unit back.
 pub fn run_passes(
     alloc: Global,
@@ -87,6 +90,7 @@ pub fn run_passes(
     requires { IsValid (unit_view unit) }
     ensures made { IfOk result (λ made. IfSome made (λ v. IsValid (unit_view v))) }
     ensures kept { IfOk result (λ made. IfSome made (λ v. KeepsShape (unit_view unit) (unit_view v))) }
+    ensures led { IfOk result (λ made. IfSome made (λ v. Lead (λ p. named p) (λ p. steps p) passes.now (map letters names.now) (unit_view unit) (unit_view v))) }
     ensures nothing { names.now ≡ [] → IfOk result (λ made. made ≡ Some unit) }
 {
     let mut last = unit;

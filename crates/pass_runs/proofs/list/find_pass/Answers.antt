@@ -2,6 +2,7 @@ use Rattle.std.proofs.Common.{subst}
 use Rattle.std.proofs.lemmas.List.{take_all}
 use Rattle.debug_records.specs.Change.{letters}
 use Rattle.pass_runs.specs.HandedIn.{IsNoPass}
+use Rattle.pass_runs.proofs.Leading.{found_first}
 use Rattle.pass_runs.proofs.Found.{found, none_more, not_both}
 use Rattle.pass_runs.proofs.list.find_pass.Goals as goal
 
@@ -18,3 +19,8 @@ loop-i-preserved g c =
 pub returns-clause-found : goal.returns-clause-found
 returns-clause-found g c =
     subst (λ all. IsNoPass (λ p. (goal.UnitPass-dyn g (p.vtable, p.value)).named p.value) all (letters c.args.name.now)) (take_all c.loop-i.i c.args.passes.now c.loop-i-test.false) c.loop-i.invariant
+
+pub returns-then-is_called-clause-first : goal.returns-then-is_called-clause-first
+returns-then-is_called-clause-first g c =
+    found_first (λ p. (goal.UnitPass-dyn g (p.vtable, p.value)).named p.value) (letters c.args.name.now) c.args.passes.now c.loop-i.i c.index-passes-i.result c.loop-i-test.true c.index-passes-i.is
+    (c.is_called.ensures.0 c.if-is_called.true) c.loop-i.invariant
