@@ -2,6 +2,7 @@
 
 ghost use Rattle.std.specs.Prelude.{◌≡◌, codes};
 ghost use Rattle.debug_records.specs.Change.{letters};
+ghost use Rattle.pass_runs.specs.Kept.{KeepsShape};
 
 use copy_pass::propagate_copies;
 use dead_pass::remove_dead;
@@ -30,6 +31,8 @@ impl CopyPropagation {
 
 impl UnitPass for CopyPropagation {
     ghost named = { λ pass. pass.name };
+
+    ghost steps = { λ pass u v. KeepsShape u v };
 
     fn name(&self) -> PassName {
         self.name
@@ -60,6 +63,8 @@ impl LazyMotion {
 impl UnitPass for LazyMotion {
     ghost named = { λ pass. pass.name };
 
+    ghost steps = { λ pass u v. KeepsShape u v };
+
     fn name(&self) -> PassName {
         self.name
     }
@@ -88,6 +93,8 @@ impl DeadRemoval {
 
 impl UnitPass for DeadRemoval {
     ghost named = { λ pass. pass.name };
+
+    ghost steps = { λ pass u v. KeepsShape u v };
 
     fn name(&self) -> PassName {
         self.name

@@ -1,6 +1,7 @@
 //! Sessions to which passes of the test's own are handed in.
 
 ghost use Rattle.std.specs.Prelude.{◌≡◌};
+ghost use Rattle.pass_runs.specs.Kept.{KeepsShape};
 
 use super::sessions::{image_of, shelf};
 use super::split;
@@ -24,6 +25,8 @@ struct Same {
 impl UnitPass for Same {
     ghost named = { λ pass. pass.name };
 
+    ghost steps = { λ pass u v. v ≡ u };
+
     fn name(&self) -> PassName {
         self.name
     }
@@ -42,6 +45,8 @@ struct Renamed {
 
 impl UnitPass for Renamed {
     ghost named = { λ pass. pass.name };
+
+    ghost steps = { λ pass u v. KeepsShape u v };
 
     fn name(&self) -> PassName {
         self.name

@@ -4,3 +4,6 @@ use Rattle.program_passes.proofs.passes.CopyPropagationUnitPass.apply.Goals as g
 
 pub returns-clause-kept : goal.returns-clause-kept
 returns-clause-kept c = kept_but_blocks (unit_view c.args.unit.now) c.propagate_copies.result c.propagate_copies.ensures.shared c.propagate_copies.ensures.functions
+
+pub returns-clause-step : goal.returns-clause-step
+returns-clause-step c = kept_but_blocks (unit_view c.args.unit.now) c.propagate_copies.result c.propagate_copies.ensures.shared c.propagate_copies.ensures.functions

@@ -4,3 +4,6 @@ use Rattle.program_passes.proofs.passes.LazyMotionUnitPass.apply.Goals as goal
 
 pub returns-clause-kept : goal.returns-clause-kept
 returns-clause-kept c = kept_by (unit_view c.args.unit.now) c.move_code.result c.move_code.ensures.shared c.move_code.ensures.functions
+
+pub returns-clause-step : goal.returns-clause-step
+returns-clause-step c = kept_by (unit_view c.args.unit.now) c.move_code.result c.move_code.ensures.shared c.move_code.ensures.functions

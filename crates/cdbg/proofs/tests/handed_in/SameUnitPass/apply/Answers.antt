@@ -6,3 +6,6 @@ use Rattle.cdbg.proofs.tests.handed_in.SameUnitPass.apply.Goals as goal
 
 pub returns-clause-kept : goal.returns-clause-kept
 returns-clause-kept c = subst (KeepsShape (unit_view c.args.unit.now)) (sym c.in_ok-duplicate.ensures) (shape_itself (unit_view c.args.unit.now))
+
+pub returns-clause-step : goal.returns-clause-step
+returns-clause-step c = c.in_ok-duplicate.ensures
