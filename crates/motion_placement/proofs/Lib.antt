@@ -2,3 +2,8 @@ pub mod Zeros
 pub mod Rows
 pub mod Fated
 pub mod Reached
+pub mod Members
+pub mod Acted
+pub mod Edges
+pub mod Marks
+pub mod Named

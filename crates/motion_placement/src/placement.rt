@@ -1,12 +1,20 @@
 //! Where computations are done, and where their values are read instead.
 
-ghost use Rattle.std.specs.Prelude.{◌≡◌, ℕ, false, map, slice_index_or};
-ghost use Rattle.graph_core.specs.Graphs.{block_view};
+ghost use Rattle.std.specs.Prelude.{◌≡◌, ◌↔◌, ◌⊎◌, ℕ, ◌+◌, ◌*◌, ◌<◌, ◌/◌, ◌&&◌, ◌||◌, not, false, IfOk, IfSome, List, [], ◌∷◌, ◌++◌, None, Some, is_some, length, map, slice_get, slice_index_or, true};
+ghost use Rattle.graph_core.specs.Computations as spec-computation;
+ghost use Rattle.graph_core.specs.Graphs as spec;
+ghost use Rattle.graph_core.specs.Graphs.{block_view, graph_view, instruction_view};
 ghost use Rattle.motion_facts.specs.Facts.{AreReached};
+ghost use Rattle.motion_facts.specs.Inner.{point_at};
 ghost use Rattle.motion_flow.specs.Flowing.{HasEdge};
-ghost use Rattle.motion_points.specs.Numbers.{AreNumbers};
+ghost use Rattle.motion_points.specs.Columns as column;
+ghost use Rattle.motion_points.specs.Columns.{is_number};
+ghost use Rattle.motion_points.specs.Numbers.{AreNumbers, AreOnce, computed_in, views_of};
 ghost use Rattle.motion_points.specs.Words.{has};
-ghost use Rattle.motion_placement.specs.Placed.{is_on_edge, stays_by};
+ghost use Rattle.motion_rule.specs.Ways.{IsCome, IsInserted, along, within};
+ghost use Rattle.motion_placement.specs.Columns.{fates_of, row_of};
+ghost use Rattle.motion_placement.specs.Fates as fate;
+ghost use Rattle.motion_placement.specs.Placed.{AreNumbered, IsMovedAnywhere, IsMovedBefore, IsPlaced, is_on_edge, moved_by, stays_by};
 
 use crate::columns::{Placing, Solved, numbers_of, row_at};
 use crate::fates::{Fate, NO_FATE, fate_at};
@@ -66,33 +74,61 @@ fn bits_on_edge(facts: &Facts, from: usize, to: usize) -> u64
     without(open, past)
 }
 
+/// The number of a row, if there is one.
+fn number_in_row(row: &[Option<u32>], index: usize) -> Option<u32>
+    ensures { result ≡ column.number_at row.now index }
+{
+    match row.get(index) {
+        Some(number) => *number,
+        None => None,
+    }
+}
+
+/// The temporary of a number, if it has one.
+fn temporary_at(temporaries: &[Option<Name>], number: usize) -> Option<Name>
+    ensures { result ≡ slice_index_or temporaries.now number None }
+{
+    match temporaries.get(number) {
+        Some(temporary) => *temporary,
+        None => None,
+    }
+}
+
+/// The computation of a number, if there is one.
+fn computation_at(all: &[Computation], number: usize) -> Option<Computation>
+    ensures { result ≡ slice_get all.now number }
+{
+    match all.get(number) {
+        Some(computation) => Some(*computation),
+        None => None,
+    }
+}
+
+/// What becomes of an instruction that does this computation, with this temporary, and does not stay.
+fn moved_action(computation: Option<Computation>, temporary: Option<Name>, is_late: bool) -> Action
+    ensures { result ≡ moved_by computation temporary is_late }
+{
+    let Some(computation) = computation else {
+        return Action::Keep;
+    };
+    let Some(temporary) = temporary else {
+        return Action::Keep;
+    };
+    if is_late {
+        Action::Compute(computation, temporary)
+    } else {
+        Action::Read(temporary)
+    }
+}
+
 impl Placement {
-    /// The computation of a number, if there is one.
-    fn computation_of(&self, number: usize) -> Option<Computation> {
-        match self.computations.all.get(number) {
-            Some(computation) => Some(*computation),
-            None => None,
-        }
-    }
+    ghost use Rattle.motion_placement.specs.Placed.{AreDone, IsActed, all_of, temporary_of};
+    ghost use Rattle.motion_placement.specs.declared.placement.Action.TheVariants.{Keep};
 
-    /// The temporary of the computation of a number, if it has one.
-    fn temporary_of(&self, number: usize) -> Option<Name> {
-        match self.temporaries.get(number) {
-            Some(temporary) => *temporary,
-            None => None,
-        }
-    }
-
-    /// The number of the computation that an instruction does, if it does one.
-    fn number_at(&self, block: usize, index: usize) -> Option<u32> {
-        match row_at(&self.numbers, block).get(index) {
-            Some(number) => *number,
-            None => None,
-        }
-    }
-
-    /// What is so of it there.
-    fn fate_of(&self, block: usize, index: usize) -> Fate {
+    /// What is so at an instruction of a block.
+    fn fate_of(&self, block: usize, index: usize) -> Fate
+        ensures { result ≡ fate.fate_of (fates_of self.now.fates.items block) index }
+    {
         match self.fates.get(block) {
             Some(row) => fate_at(row, index),
             None => NO_FATE,
@@ -100,22 +136,21 @@ impl Placement {
     }
 
     /// What becomes of an instruction that does the computation of a number, and does not stay.
-    fn moved(&self, number: usize, is_late: bool) -> Action {
-        match (self.computation_of(number), self.temporary_of(number)) {
-            (Some(computation), Some(temporary)) => {
-                if is_late {
-                    Action::Compute(computation, temporary)
-                } else {
-                    Action::Read(temporary)
-                }
-            }
-            _ => Action::Keep,
-        }
+    fn moved(&self, number: usize, is_late: bool) -> Action
+        ensures { result ≡ moved_by (slice_get self.now.computations.all.items number) (temporary_of self.now.temporaries.items number) is_late }
+    {
+        let computation = computation_at(&self.computations.all, number);
+        let temporary = temporary_at(&self.temporaries, number);
+        moved_action(computation, temporary, is_late)
     }
 
     /// What becomes of an instruction of a block.
-    pub fn action(&self, block: u32, index: usize) -> Action {
-        let Some(number) = self.number_at(block as usize, index) else {
+    pub fn action(&self, block: u32, index: usize) -> Action
+        ensures by_rule { (g : spec.Graph) → IsPlaced g self.now → (b : spec.Block) → slice_get g.blocks block ≡ Some b → index < length b.instructions → IsCome g.blocks (point_at block b index) → IsActed g.blocks self.now (point_at block b index) result }
+        ensures nowhere { (g : spec.Graph) → IsPlaced g self.now → (b : spec.Block) → slice_get g.blocks block ≡ Some b → (IsCome g.blocks (point_at block b index) → ⊥) → result ≡ Keep }
+    {
+        let row = row_at(&self.numbers, block as usize);
+        let Some(number) = number_in_row(row, index) else {
             return Action::Keep;
         };
         let fate = self.fate_of(block as usize, index);
@@ -126,7 +161,9 @@ impl Placement {
     }
 
     /// The name behind all temporaries of computations.
-    pub fn end_name(&self) -> u32 {
+    pub fn end_name(&self) -> u32
+        ensures { result ≡ self.now.end_name }
+    {
         self.end_name
     }
 
@@ -136,38 +173,55 @@ impl Placement {
         number: usize,
         flag: bool,
         out: &mut Vec<Instr>,
-    ) -> Result<(), AllocError> {
-        if flag {
-            if let (Some(computation), Some(temporary)) = (
-                self.computation_of(number),
-                self.temporary_of(number),
-            ) {
-                out.push(computation.into_name(temporary))?;
-            }
+    ) -> Result<(), AllocError>
+        ensures { (g : spec.Graph) → IsPlaced g self.now → (from to : ℕ) → ((e : spec-computation.Computation) → slice_get (all_of self.now) number ≡ Some e → (flag ≡ true) ↔ IsInserted g.blocks e (along from to)) → IsCome g.blocks (along from to)
+            → AreDone g.blocks self.now (along from to) number (map instruction_view out.old.items) → IfOk result (λ _. AreDone g.blocks self.now (along from to) (number + 1) (map instruction_view out.new.items)) }
+    {
+        if !flag {
+            return Ok(());
         }
+        let Some(computation) = computation_at(&self.computations.all, number) else {
+            return Ok(());
+        };
+        let Some(temporary) = temporary_at(&self.temporaries, number) else {
+            return Ok(());
+        };
+        let instruction = computation.into_name(temporary);
+        out.push(instruction)?;
         Ok(())
     }
 
     /// Appends the computations of bits of a column.
-    fn push_bits(&self, column: usize, bits: u64, out: &mut Vec<Instr>) -> Result<(), AllocError> {
+    fn push_bits(&self, column: usize, bits: u64, out: &mut Vec<Instr>) -> Result<(), AllocError>
+        requires { column < 4294967296 }
+        ensures { (g : spec.Graph) → IsPlaced g self.now → (from to : ℕ) → ((k : ℕ) (e : spec-computation.Computation) → k / 64 ≡ column → slice_get (all_of self.now) k ≡ Some e → (has bits k ≡ true) ↔ IsInserted g.blocks e (along from to)) → IsCome g.blocks (along from to)
+            → AreDone g.blocks self.now (along from to) (column * 64) (map instruction_view out.old.items) → IfOk result (λ _. AreDone g.blocks self.now (along from to) (column * 64 + 64) (map instruction_view out.new.items)) }
+    {
         if bits == 0 {
             return Ok(());
         }
         for bit in 0..64u32 {
-            let number = column.saturating_mul(64).saturating_add(bit as usize);
-            self.push_flagged(number, is_in(bits, bit), out)?;
+            let flag = is_in(bits, bit);
+            self.push_flagged(column * 64 + bit as usize, flag, out)?;
         }
         Ok(())
     }
 
     /// The computations that are done on the edge from a block to another, in order.
-    pub fn on_edge(&self, alloc: Global, from: u32, to: u32) -> Result<Vec<Instr>, AllocError> {
+    pub fn on_edge(&self, alloc: Global, from: u32, to: u32) -> Result<Vec<Instr>, AllocError>
+        ensures by_rule { (g : spec.Graph) → IsPlaced g self.now → (b : spec.Block) → slice_get g.blocks to ≡ Some b → IsCome g.blocks (along from to) → IfOk result (λ out. AreDone g.blocks self.now (along from to) (length (all_of self.now)) (map instruction_view out.items)) }
+        ensures nowhere { (g : spec.Graph) → IsPlaced g self.now → (b : spec.Block) → slice_get g.blocks from ≡ Some b → (IsCome g.blocks (within from [] b.end) → ⊥) → IfOk result (λ out. out.items ≡ []) }
+    {
         let mut out = Vec::new(alloc);
         if !is_flagged(&self.reached, from as usize) {
             return Ok(out);
         }
+        if self.columns.len() > 0xffff_ffff {
+            return Ok(out);
+        }
         for number in 0..self.columns.len() {
-            let bits = bits_on_edge(&self.columns[number].facts, from as usize, to as usize);
+            let solved = &self.columns[number];
+            let bits = bits_on_edge(&solved.facts, from as usize, to as usize);
             self.push_bits(number, bits, &mut out)?;
         }
         Ok(out)
@@ -175,22 +229,39 @@ impl Placement {
 }
 
 /// Marks the computation of a number, if it does not stay.
-fn mark(number: Option<u32>, fate: Fate, treated: &mut [bool]) {
+fn mark(number: Option<u32>, fate: Fate, treated: &mut [bool])
+    ensures size { length treated.new ≡ length treated.old }
+    ensures marked { (k : ℕ) → k < length treated.old → slice_index_or treated.new k false ≡ (slice_index_or treated.old k false || (is_number k number && not (stays_by fate))) }
+{
+    if stays(fate) {
+        return;
+    }
     if let Some(number) = number {
-        if !stays(fate) && (number as usize) < treated.len() {
+        if (number as usize) < treated.len() {
             treated[number as usize] = true;
         }
     }
 }
 
 /// Marks the computations of a block that do not all stay.
-fn mark_row(numbers: &[Option<u32>], fates: &[Fate], treated: &mut [bool]) {
+fn mark_row(numbers: &[Option<u32>], fates: &[Fate], treated: &mut [bool])
+    ensures size { length treated.new ≡ length treated.old }
+    ensures marked { (k : ℕ) → k < length treated.old → (slice_index_or treated.new k false ≡ true) ↔ ((slice_index_or treated.old k false ≡ true) ⊎ IsMovedBefore (length fates.now) numbers.now fates.now k) }
+{
     for index in 0..fates.len() {
-        let number = match numbers.get(index) {
-            Some(number) => *number,
-            None => None,
-        };
-        mark(number, fates[index], treated);
+        let number = number_in_row(numbers, index);
+        let fate = fate_at(fates, index);
+        mark(number, fate, treated);
+    }
+}
+
+/// What is so at the instructions of a block; nothing where there is no such row.
+fn told_at(fates: &[Vec<Fate>], number: usize) -> &[Fate]
+    ensures { result.now ≡ fates_of fates.now number }
+{
+    match fates.get(number) {
+        Some(row) => row.as_slice(),
+        None => &[],
     }
 }
 
@@ -200,34 +271,72 @@ fn treated_of(
     numbers: &[Vec<Option<u32>>],
     fates: &[Vec<Fate>],
     count: usize,
-) -> Result<Vec<bool>, AllocError> {
+) -> Result<Vec<bool>, AllocError>
+    ensures size { IfOk result (λ treated. length treated.items ≡ count) }
+    ensures marked { IfOk result (λ treated. (k : ℕ) → k < count → (slice_index_or treated.items k false ≡ true) ↔ IsMovedAnywhere (length fates.now) numbers.now fates.now k) }
+{
     let mut treated = vec![in alloc; false; count]?;
     for block in 0..fates.len() {
-        mark_row(row_at(numbers, block), &fates[block], &mut treated);
+        let row = row_at(numbers, block);
+        let told = told_at(fates, block);
+        mark_row(row, told, &mut treated);
     }
     Ok(treated)
 }
 
-/// Temporaries for these computations, in order, and the name behind them.
-fn named(
+/// Temporaries of computations, as far as they were numbered, and the name behind them.
+#[derive(Drop)]
+struct Numbering {
+    temporaries: Vec<Option<Name>>,
+    end_name: u32,
+}
+
+impl Numbering {
+    /// The next computation has a temporary or none. False where names run out.
+    fn add(&mut self, flag: bool) -> Result<bool, AllocError>
+        ensures numbered { IfOk result (λ whole. whole ≡ true → (first : ℕ) → AreNumbered first self.old.temporaries.items self.old.end_name → AreNumbered first self.new.temporaries.items self.new.end_name) }
+        ensures count { IfOk result (λ whole. whole ≡ true → length self.new.temporaries.items ≡ length self.old.temporaries.items + 1) }
+        ensures before { IfOk result (λ whole. whole ≡ true → (k : ℕ) → k < length self.old.temporaries.items → slice_index_or self.new.temporaries.items k None ≡ slice_index_or self.old.temporaries.items k None) }
+        ensures flagged { IfOk result (λ whole. whole ≡ true → is_some (slice_index_or self.new.temporaries.items (length self.old.temporaries.items) None) ≡ flag) }
+    {
+        if !flag {
+            self.temporaries.push(None)?;
+            return Ok(true);
+        }
+        if self.end_name == u32::MAX {
+            return Ok(false);
+        }
+        self.temporaries.push(Some(Name(self.end_name)))?;
+        self.end_name += 1;
+        Ok(true)
+    }
+}
+
+/// Temporaries for these computations, in order, from a name on. None where names run out.
+fn numbered(
     alloc: Global,
     treated: &[bool],
     first_name: u32,
-) -> Result<(Vec<Option<Name>>, u32), AllocError> {
-    let mut temporaries = Vec::new(alloc);
-    let mut end_name = first_name;
+) -> Result<Option<Numbering>, AllocError>
+    ensures numbered { IfOk result (λ o. IfSome o (λ made. AreNumbered first_name made.temporaries.items made.end_name)) }
+    ensures flagged { IfOk result (λ o. IfSome o (λ made. (k : ℕ) → k < length treated.now → is_some (slice_index_or made.temporaries.items k None) ≡ slice_index_or treated.now k false)) }
+    ensures size { IfOk result (λ o. IfSome o (λ made. length made.temporaries.items ≡ length treated.now)) }
+{
+    let mut made = Numbering {
+        temporaries: Vec::new(alloc),
+        end_name: first_name,
+    };
     for number in 0..treated.len() {
-        if treated[number] {
-            temporaries.push(Some(Name(end_name)))?;
-            end_name = end_name.saturating_add(1);
-        } else {
-            temporaries.push(None)?;
+        let flag = treated[number];
+        let whole = made.add(flag)?;
+        if !whole {
+            return Ok(None);
         }
     }
-    Ok((temporaries, end_name))
+    Ok(Some(made))
 }
 
-/// The placement of the computations of reached code. None where the search for it failed.
+/// The placement of the computations of reached code. None where the search for it failed, or names run out.
 fn placed(
     alloc: Global,
     graph: &Graph,
@@ -238,6 +347,8 @@ fn placed(
     requires reached { AreReached (map block_view graph.now.blocks.items) (λ n. slice_index_or reached.items n false) }
     requires once { (m : ℕ) → HasEdge (map block_view graph.now.blocks.items) (λ n. slice_index_or reached.items n false) m 0 → ⊥ }
     requires known { AreNumbers computations }
+    requires order { AreOnce (computed_in (λ n. slice_index_or reached.items n false) 0 (map block_view graph.now.blocks.items)) (views_of computations) }
+    ensures { IfOk result (λ o. IfSome o (λ made. IsPlaced (graph_view graph.now) made)) }
 {
     let numbers = numbers_of(alloc, &graph.blocks, &reached, &computations)?;
     let mut back = Vec::from_slice(alloc, order)?;
@@ -256,22 +367,26 @@ fn placed(
     };
     let fates = placing.fates(&columns)?;
     let treated = treated_of(alloc, &numbers, &fates, computations.all.len())?;
-    let (temporaries, end_name) = named(alloc, &treated, graph.name_count)?;
+    let Some(made) = numbered(alloc, &treated, graph.name_count)? else {
+        return Ok(None);
+    };
     Ok(Some(Placement {
         computations,
-        temporaries,
+        temporaries: made.temporaries,
         numbers,
         fates,
         columns,
         reached,
         first_name: graph.name_count,
-        end_name,
+        end_name: made.end_name,
     }))
 }
 
 /// Where the computations of a graph's reached code are done by lazy code motion. None where all stay, or where an edge leads into the first
 /// block: nothing can be done before the entry alone then.
-pub fn place(alloc: Global, graph: &Graph) -> Result<Option<Placement>, AllocError> {
+pub fn place(alloc: Global, graph: &Graph) -> Result<Option<Placement>, AllocError>
+    ensures { IfOk result (λ o. IfSome o (λ made. IsPlaced (graph_view graph.now) made)) }
+{
     let order = reached_in_order(alloc, &graph.blocks)?;
     let Some(reached) = reached_blocks(alloc, &graph.blocks, &order)? else {
         return Ok(None);

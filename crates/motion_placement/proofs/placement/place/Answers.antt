@@ -2,10 +2,13 @@ use Rattle.std.proofs.Common.{◌≡◌, ℕ, Bool, false, List, map, subst}
 use Rattle.std.specs.Prelude.{IfSome, slice_index_or}
 use Rattle.std.specs.Global.{Vec}
 use Rattle.graph_core.specs.declared.block.Block as declared-block
-use Rattle.graph_core.specs.Graphs.{block_view}
-use Rattle.motion_points.specs.Numbers.{AreNumbers}
+use Rattle.graph_core.specs.Graphs.{block_view, graph_view}
+use Rattle.motion_points.specs.declared.computations.Computations.{Computations}
+use Rattle.motion_points.specs.Numbers.{AreNumbers, AreOnce, computed_in, views_of}
 use Rattle.motion_flow.specs.Flowing.{HasEdge}
 use Rattle.motion_facts.specs.Facts.{AreReached}
+use Rattle.motion_placement.specs.declared.placement.Placement.{Placement}
+use Rattle.motion_placement.specs.Placed.{IsPlaced}
 use Rattle.motion_placement.proofs.placement.place.Goals as goal
 
 pub placed-requires-clause-reached : goal.placed-requires-clause-reached
@@ -20,3 +23,12 @@ placed-requires-clause-once c =
 
 pub placed-requires-clause-known : goal.placed-requires-clause-known
 placed-requires-clause-known c = subst (λ o. IfSome o AreNumbers) c.in-Some-2.is c.in_ok-computations.ensures.numbers
+
+pub placed-requires-clause-order : goal.placed-requires-clause-order
+placed-requires-clause-order c =
+    subst (λ (rs : List Bool). AreOnce (computed_in (λ n. slice_index_or rs n false) 0 (map block_view c.args.graph.now.blocks.items)) (views_of c.in-Some-2.computations)) c.deref-7.ensures.value
+    (subst (λ (bs : List declared-block.Block). AreOnce (computed_in (λ n. slice_index_or c.deref-7.result.now n false) 0 (map block_view bs)) (views_of c.in-Some-2.computations)) c.deref-6.ensures.value
+    (subst (λ o. IfSome o (λ (made : Computations). AreOnce (computed_in (λ n. slice_index_or c.deref-7.result.now n false) 0 (map block_view c.deref-6.result.now)) (views_of made))) c.in-Some-2.is c.in_ok-computations.ensures.once))
+
+pub returns : goal.returns
+returns c = subst (λ o. IfSome o (λ (made : Placement). IsPlaced (graph_view c.args.graph.now) made)) c.in-Some-3.is c.in_ok-placement.ensures
