@@ -7,3 +7,4 @@ pub mod Units
 pub mod Unremoved
 pub mod Plain
 pub mod Borne
+pub mod Behind

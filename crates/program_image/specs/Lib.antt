@@ -2,3 +2,4 @@ pub mod Tables
 pub mod Made
 pub mod Compiled
 pub mod Shown
+pub mod Behind

@@ -1,16 +1,18 @@
 //! From a program to what is to be its image, step by step.
 
-ghost use Rattle.std.specs.Prelude.{◌≡◌, ◌<◌, ◌^◌, [], IfNone, IfOk, IfSome, length, true};
+ghost use Rattle.std.specs.Prelude.{◌≡◌, ◌<◌, ◌^◌, [], IfNone, IfOk, IfSome, length, map, true};
 ghost use Rattle.c_tree.specs.Programs.{program_view};
 ghost use Rattle.c_flow.specs.Tables.{Fits32};
 ghost use Rattle.c_laws.specs.Laws.{IsWellFormed};
 ghost use Rattle.c_laws.specs.Names.{HasNames};
 ghost use Rattle.c_laws.specs.Spots.{HasSpots};
+ghost use Rattle.debug_records.specs.Change.{letters};
 ghost use Rattle.graph_core.specs.Graphs.{unit_view};
 ghost use Rattle.graph_core.specs.Validity.{IsValid};
 ghost use Rattle.homed_unit.specs.Homed.{HaveHomes, homed_view};
 ghost use Rattle.image_form.specs.Form.{form};
 ghost use Rattle.image_form.specs.Rules.{IsImage};
+ghost use Rattle.program_image.specs.Behind.{ComesOf};
 ghost use Rattle.program_image.specs.Made.{IsMadeOf};
 ghost use Rattle.program_image.specs.Shown.{IsPlainUnit, ShowsAll};
 ghost use Rattle.program_image.specs.Tables.{HasShapeOf, HasTablesOf};
@@ -30,7 +32,7 @@ use program_unit::program_unit;
 use rv_emit::emit;
 use std::alloc::{AllocError, Global};
 
-/// The unit of a program, behind the passes of these names. None where a pass makes no unit.
+/// The unit of a program, behind the passes of these names, of which each in its turn made a step. None where a pass makes no unit.
 pub fn unit_of(
     alloc: Global,
     program: &Program,
@@ -41,6 +43,7 @@ pub fn unit_of(
     requires laws { IsWellFormed (program_view program.now) }
     ensures valid { IfOk result (λ o. IfSome o (λ u. IsValid (unit_view u))) }
     ensures shape { IfOk result (λ o. IfSome o (λ u. HasShapeOf (program_view program.now) (unit_view u))) }
+    ensures comes { IfOk result (λ o. IfSome o (λ u. ComesOf (λ p. named p) (λ p. steps p) passes.now (map letters names.now) (program_view program.now) (unit_view u))) }
     ensures total { names.now ≡ [] → IfOk result (λ o. IfNone o ⊥) }
     ensures built { names.now ≡ [] → IfOk result (λ o. IfSome o (λ u. IsBuilt (program_view program.now) (unit_view u))) }
 {

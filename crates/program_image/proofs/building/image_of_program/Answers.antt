@@ -1,6 +1,7 @@
-use Rattle.std.proofs.Common.{◌<◌, ◌^◌, length, subst}
+use Rattle.std.proofs.Common.{◌<◌, ◌^◌, length, map, subst}
 use Rattle.std.specs.Prelude.{IfSome}
 use Rattle.c_tree.specs.Programs.{program_view}
+use Rattle.debug_records.specs.Change.{letters}
 use Rattle.graph_core.specs.Graphs.{unit_view}
 use Rattle.image_form.specs.Form.{form}
 use Rattle.image_form.specs.Rules.{IsImage}
@@ -8,6 +9,7 @@ use Rattle.image_drafts.specs.Same.{SaysTheSame}
 use Rattle.program_image.specs.Tables.{HasShapeOf, HasTablesOf}
 use Rattle.homed_unit.specs.Homed.{homed_view}
 use Rattle.program_unit.specs.Built.{IsBuilt}
+use Rattle.program_image.specs.Behind.{ComesOf}
 use Rattle.program_image.specs.Made.{IsMadeOf}
 use Rattle.program_image.proofs.Doing.{does_by}
 use Rattle.program_image.specs.Shown.{ShowsAll}
@@ -88,3 +90,13 @@ returns-clause-shows g c = λ none slots.
     shows_again (form c.in-Some-2.draft) (form c.in-Some-3.spelled.image)
     (subst (λ o. IfSome o (λ s. SaysTheSame (form c.in-Some-2.draft) (form s.image))) c.in-Some-3.is c.in_ok-spelled.ensures.same)
     (subst (λ o. IfSome o (λ m. ShowsAll (form m))) c.in-Some-2.is (c.in_ok-draft.ensures.shows (c.is_plain.ensures.so none slots)))
+
+pub returns-clause-comes : goal.returns-clause-comes
+returns-clause-comes g c =
+    let is = c.in_ok-homed.ensures in
+    record {
+      unit = unit_view c.in-Some.unit;
+      comes = subst (λ o. IfSome o (λ u. ComesOf (λ p. (goal.UnitPass-dyn g (p.vtable, p.value)).named p.value) (λ p. (goal.UnitPass-dyn g (p.vtable, p.value)).steps p.value) c.args.passes.now (map letters c.args.names.now) (program_view c.args.program) (unit_view u))) c.in-Some.is c.in_ok-unit.ensures.comes;
+      same = is.unit;
+      changes = is.changes;
+    }

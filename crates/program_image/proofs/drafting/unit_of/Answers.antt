@@ -1,6 +1,10 @@
+use Rattle.std.proofs.Common.{map}
 use Rattle.c_tree.specs.Programs.{program_view}
+use Rattle.debug_records.specs.Change.{letters}
 use Rattle.graph_core.specs.Graphs.{unit_view}
+use Rattle.program_image.proofs.Behind.{comes_by}
 use Rattle.program_image.proofs.Doing.{built_by}
+use Rattle.program_image.proofs.Plain.{well_marked}
 use Rattle.program_image.proofs.Units.{shaped_by}
 use Rattle.program_image.proofs.drafting.unit_of.Goals as goal
 
@@ -21,3 +25,11 @@ program_unit-requires-clause-fits g c = c.requires.fits
 
 pub program_unit-requires-clause-laws : goal.program_unit-requires-clause-laws
 program_unit-requires-clause-laws g c = c.requires.laws
+
+pub returns-clause-comes : goal.returns-clause-comes
+returns-clause-comes g c =
+    let p = program_view c.args.program.now in
+    let u = unit_view c.in_ok-unit.unit in
+    let built = c.in_ok-unit.ensures.built in
+    comes_by (λ p. (goal.UnitPass-dyn g (p.vtable, p.value)).named p.value) (λ p. (goal.UnitPass-dyn g (p.vtable, p.value)).steps p.value) c.args.passes.now (map letters c.args.names.now) p
+    u c.run_passes.result built (well_marked p u c.requires.laws built c.in_ok-unit.ensures.valid) c.run_passes.ensures.led
