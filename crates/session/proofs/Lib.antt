@@ -6,3 +6,4 @@ pub mod AskedLemmas
 pub mod Completeness
 pub mod Lines
 pub mod Compiled
+pub mod Behind

@@ -9,3 +9,4 @@ pub mod Stages
 pub mod Truth
 pub mod Prepared
 pub mod Ending
+pub mod Behind

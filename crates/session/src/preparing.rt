@@ -16,6 +16,7 @@ ghost use Rattle.image_truth.specs.Truthful.{RunsTrue};
 ghost use Rattle.program_image.specs.Compiled.{IsCompiledImage};
 ghost use Rattle.program_image.specs.Shown.{ShowsAll};
 ghost use Rattle.program_image.specs.Tables.{HasTablesOf};
+ghost use Rattle.session.specs.Behind.{AreLinesBehind, ComeOfProgram, ComesOfProgram, ComesOfSource};
 ghost use Rattle.session.specs.Front.{IsPlain};
 ghost use Rattle.session.specs.Listed.{AreLinesOf};
 ghost use Rattle.session.specs.Stages.{FrontEnds, ImageEnds, ListEnds, MakeEnds, ScriptEnds};
@@ -55,6 +56,7 @@ fn image_for(
     ensures shows { map letters names.now ≡ [] → mode ≡ Slots → IfOk result (λ o. IfSome o (λ made. ShowsAll (form made.image))) }
     ensures tables { IfOk result (λ o. IfSome o (λ made. HasTablesOf (program_view program) (form made.image))) }
     ensures compiled { IfOk result (λ o. IfSome o (λ made. IsCompiledImage (program_view program) (map letters names.now) mode (form made.image))) }
+    ensures comes { IfOk result (λ o. IfSome o (λ made. ComesOfProgram (λ p. named p) (λ p. steps p) passes.now (program_view program) (map letters names.now) mode (form made.image))) }
     ensures left_out { IfOk result (λ o. IfNone o (¬ IsPlain (map letters names.now) mode)) }
 {
     match image_of_program(alloc, program, passes, names, mode)? {
@@ -91,7 +93,8 @@ pub fn make(
     names: &[PassName],
     mode: Mode,
 ) -> Result<Made, Status>
-    ensures { MakeEnds result source.now (map letters names.now) mode }
+    ensures ends { MakeEnds result source.now (map letters names.now) mode }
+    ensures comes { IfOk result (λ made. ComesOfSource (λ p. named p) (λ p. steps p) passes.now source.now (map letters names.now) mode (form made.image)) }
 {
     let program = understood(alloc, source)?;
     match image_for(alloc, program, passes, names, mode) {
@@ -110,7 +113,8 @@ fn lines_for(
 ) -> Result<Option<Vec<Vec<u8>>>, AllocError>
     requires laws { IsWellFormed (program_view program.now) }
     requires fits { Fits32 (program_view program.now) }
-    ensures { IfOk result (λ o. IfSome o (λ lines. AreLinesOf (program_view program.now) (map letters names.now) (map (λ line. line.items) lines.items))) }
+    ensures lines { IfOk result (λ o. IfSome o (λ lines. AreLinesOf (program_view program.now) (map letters names.now) (map (λ line. line.items) lines.items))) }
+    ensures behind { IfOk result (λ o. IfSome o (λ lines. ComeOfProgram (λ p. named p) (λ p. steps p) passes.now (program_view program.now) (map letters names.now) (map (λ line. line.items) lines.items))) }
 {
     let Some(unit) = unit_of(alloc, program, passes, names)? else {
         return Ok(None);
@@ -126,7 +130,8 @@ pub fn list(
     passes: &[Box<dyn UnitPass>],
     names: &[PassName],
 ) -> Result<Vec<Vec<u8>>, Status>
-    ensures { ListEnds result source.now (map letters names.now) }
+    ensures ends { ListEnds result source.now (map letters names.now) }
+    ensures behind { IfOk result (λ lines. AreLinesBehind (λ p. named p) (λ p. steps p) passes.now source.now (map letters names.now) (map (λ line. line.items) lines.items)) }
 {
     let program = understood(alloc, source)?;
     match lines_for(alloc, &program, passes, names) {

@@ -6,6 +6,7 @@ ghost use Rattle.outside.specs.Counts.{RoseOrStands};
 ghost use Rattle.line_form.specs.declared.status.Status.TheVariants.{Done, Usage, SourceRefused, ScriptRefused, ReadFault, WriteFault, NoMemory, ImageRefused, TooLong};
 ghost use Rattle.debug_records.specs.declared.code.Code.{Code};
 ghost use Rattle.command_line.specs.Job.{JobGiven, job_given};
+ghost use Rattle.session.specs.Behind.{HasListed, HasSavedComing};
 ghost use Rattle.session.specs.Served.{AreNotServed, AreServed, SavesTo};
 ghost use Rattle.session.specs.Limits.{AreWithin, IsTooLong};
 ghost use Rattle.session.specs.Causes.{SourceIsRefused, ImageIsRefused, ScriptIsRefused, AreAccepted, HasLoaded, IsEarly, IsCut, IsLeftOut};
@@ -32,7 +33,10 @@ fn serve<S: Shelf, K: Sink>(
     shelf: &mut S,
     sink: &mut K,
 ) -> Status
-    ensures { Ends (job_given job.now) (record { loads = S.load_count shelf.old; saves = S.save_count shelf.old; puts = K.fault_count sink.old; shelf_tells = S.tells shelf.old; held = S.held shelf.old; sink_tells = K.tells sink.old; taken = K.taken sink.old }) result (record { loads = S.load_count shelf.new; saves = S.save_count shelf.new; puts = K.fault_count sink.new; shelf_tells = S.tells shelf.new; held = S.held shelf.new; sink_tells = K.tells sink.new; taken = K.taken sink.new }) }
+    ensures ends { Ends (job_given job.now) (record { loads = S.load_count shelf.old; saves = S.save_count shelf.old; puts = K.fault_count sink.old; shelf_tells = S.tells shelf.old; held = S.held shelf.old; sink_tells = K.tells sink.old; taken = K.taken sink.old }) result (record { loads = S.load_count shelf.new; saves = S.save_count shelf.new; puts = K.fault_count sink.new; shelf_tells = S.tells shelf.new; held = S.held shelf.new; sink_tells = K.tells sink.new; taken = K.taken sink.new }) }
+    ensures behind { result ≡ Done → S.tells shelf.old ≡ true → HasSavedComing (λ p. named p) (λ p. steps p) passes.now (S.held shelf.old) (S.held shelf.new) (job_given job.now) }
+    ensures behind_whole { result ≡ WriteFault → ¬ RoseOrStands (S.save_count shelf.old) (S.save_count shelf.new) → S.tells shelf.old ≡ true → HasSavedComing (λ p. named p) (λ p. steps p) passes.now (S.held shelf.old) (S.held shelf.new) (job_given job.now) }
+    ensures listed { result ≡ Done → S.tells shelf.old ≡ true → K.tells sink.old ≡ true → HasListed (λ p. named p) (λ p. steps p) passes.now (S.held shelf.old) (job_given job.now) (K.taken sink.old) (K.taken sink.new) }
 {
     match job {
         Job::Debug(job) => debug(alloc, job, passes, shelf, sink),
@@ -97,6 +101,11 @@ pub fn session<S: Shelf, K: Sink>(
     // image, and the image that a `debug` saved is truthful to the source.
     ensures part { (asked : JobGiven) → AreServed (λ p. named p) passes.now (map string_bytes words.now) asked → IsCut result → S.tells shelf.old ≡ true → K.tells sink.old ≡ true → TookPart (S.held shelf.old) (S.held shelf.new) asked (K.taken sink.old) (K.taken sink.new) }
     ensures done { (asked : JobGiven) → AreServed (λ p. named p) passes.now (map string_bytes words.now) asked → result ≡ Done → S.tells shelf.old ≡ true → K.tells sink.old ≡ true → IsDone (S.held shelf.old) (S.held shelf.new) asked (K.taken sink.old) (K.taken sink.new) }
+
+    // What was saved, and what `passes` puts out, comes of the source behind just the passes that the words name, each in its turn by one step.
+    ensures behind { (asked : JobGiven) → AreServed (λ p. named p) passes.now (map string_bytes words.now) asked → result ≡ Done → S.tells shelf.old ≡ true → HasSavedComing (λ p. named p) (λ p. steps p) passes.now (S.held shelf.old) (S.held shelf.new) asked }
+    ensures behind_whole { (asked : JobGiven) → AreServed (λ p. named p) passes.now (map string_bytes words.now) asked → result ≡ WriteFault → ¬ RoseOrStands (S.save_count shelf.old) (S.save_count shelf.new) → S.tells shelf.old ≡ true → HasSavedComing (λ p. named p) (λ p. steps p) passes.now (S.held shelf.old) (S.held shelf.new) asked }
+    ensures listed { (asked : JobGiven) → AreServed (λ p. named p) passes.now (map string_bytes words.now) asked → result ≡ Done → S.tells shelf.old ≡ true → K.tells sink.old ≡ true → HasListed (λ p. named p) (λ p. steps p) passes.now (S.held shelf.old) asked (K.taken sink.old) (K.taken sink.new) }
 {
     match asked(alloc, words, passes) {
         Ok(job) => serve(alloc, &job, passes, shelf, sink),

@@ -1,9 +1,11 @@
-use Rattle.std.proofs.Common.{subst}
+use Rattle.std.proofs.Common.{map, subst}
+use Rattle.debug_records.specs.Change.{letters}
 use Rattle.std.specs.Prelude.{IfSome}
 use Rattle.c_tree.specs.Programs.{program_view}
 use Rattle.homed_unit.specs.Homed.{homed_view}
 use Rattle.image_form.specs.Form.{form}
 use Rattle.image_form.specs.Rules.{IsImage}
+use Rattle.program_image.specs.Behind.{ComesHomed}
 use Rattle.program_image.specs.Compiled.{IsCompiledOf}
 use Rattle.program_image.specs.Made.{IsHomed, IsMadeOf}
 use Rattle.program_image.specs.Shown.{ShowsAll}
@@ -47,3 +49,14 @@ returns-in-Some-clause-runs g c = λ none.
 
 pub returns-in-Some-clause-shows : goal.returns-in-Some-clause-shows
 returns-in-Some-clause-shows g c = λ none slots. subst (λ o. IfSome o (λ b. ShowsAll (form b.image))) c.in-Some.is (c.in_ok-build.ensures.shows (none_named c.args.names.now none) slots)
+
+pub returns-in-Some-clause-comes : goal.returns-in-Some-clause-comes
+returns-in-Some-clause-comes g c =
+    let p = program_view c.args.program in
+    let is = c.in_ok-build.ensures in
+    record {
+      homed = homed_view c.in-Some.build.homed;
+      homes = subst (λ o. IfSome o (λ b. IsHomed c.args.mode (homed_view b.homed))) c.in-Some.is is.homed;
+      made = subst (λ o. IfSome o (λ b. IsMadeOf p (homed_view b.homed) (form b.image))) c.in-Some.is is.made;
+      comes = subst (λ o. IfSome o (λ b. ComesHomed (λ p. (goal.UnitPass-dyn g (p.vtable, p.value)).named p.value) (λ p. (goal.UnitPass-dyn g (p.vtable, p.value)).steps p.value) c.args.passes.now (map letters c.args.names.now) p (homed_view b.homed))) c.in-Some.is is.comes;
+    }

@@ -4,6 +4,8 @@ use Rattle.c_tree.specs.Programs.{program_view}
 use Rattle.graph_core.specs.Graphs.{logged, unit_view}
 use Rattle.graph_core.specs.Validity.{IsValid}
 use Rattle.change_lines.specs.Lines.{lines_of}
+use Rattle.debug_records.specs.Change.{letters}
+use Rattle.program_image.specs.Behind.{ComesOf}
 use Rattle.program_image.specs.Tables.{HasShapeOf}
 use Rattle.program_unit.specs.Built.{IsBuilt}
 use Rattle.session.proofs.Lines.{lines_are}
@@ -15,8 +17,8 @@ unit_of-requires-clause-fits g c = c.requires.fits
 pub unit_of-requires-clause-laws : goal.unit_of-requires-clause-laws
 unit_of-requires-clause-laws g c = c.requires.laws
 
-pub returns : goal.returns
-returns g c =
+pub returns-clause-lines : goal.returns-clause-lines
+returns-clause-lines g c =
     let p = program_view c.args.program.now in
     let is = c.in_ok-unit.ensures in
     let unit = unit_view c.in-Some.unit in
@@ -25,3 +27,12 @@ returns g c =
     (subst (λ o. IfSome o (λ u. HasShapeOf p (unit_view u))) c.in-Some.is is.shape)
     (λ none. subst (λ o. IfSome o (λ u. IsBuilt p (unit_view u))) c.in-Some.is (is.built none))
     (c.in_ok-lines.ensures ∙ ap (λ cs. lines_of p 1 (map logged cs)) c.changes.ensures)
+
+pub returns-clause-behind : goal.returns-clause-behind
+returns-clause-behind g c =
+    let p = program_view c.args.program.now in
+    record {
+      unit = unit_view c.in-Some.unit;
+      comes = subst (λ o. IfSome o (λ u. ComesOf (λ p. (goal.UnitPass-dyn g (p.vtable, p.value)).named p.value) (λ p. (goal.UnitPass-dyn g (p.vtable, p.value)).steps p.value) c.args.passes.now (map letters c.args.names.now) p (unit_view u))) c.in-Some.is c.in_ok-unit.ensures.comes;
+      lines_are = c.in_ok-lines.ensures ∙ ap (λ cs. lines_of p 1 (map logged cs)) c.changes.ensures;
+    }
