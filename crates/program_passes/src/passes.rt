@@ -2,7 +2,7 @@
 
 ghost use Rattle.std.specs.Prelude.{◌≡◌, codes};
 ghost use Rattle.debug_records.specs.Change.{letters};
-ghost use Rattle.pass_runs.specs.Kept.{KeepsShape};
+ghost use Rattle.program_passes.specs.Steps.{MovesCode, PropagatesCopies, RemovesDead};
 
 use copy_pass::propagate_copies;
 use dead_pass::remove_dead;
@@ -32,7 +32,7 @@ impl CopyPropagation {
 impl UnitPass for CopyPropagation {
     ghost named = { λ pass. pass.name };
 
-    ghost steps = { λ pass u v. KeepsShape u v };
+    ghost steps = { λ pass u v. PropagatesCopies u v };
 
     fn name(&self) -> PassName {
         self.name
@@ -63,7 +63,7 @@ impl LazyMotion {
 impl UnitPass for LazyMotion {
     ghost named = { λ pass. pass.name };
 
-    ghost steps = { λ pass u v. KeepsShape u v };
+    ghost steps = { λ pass u v. MovesCode u v };
 
     fn name(&self) -> PassName {
         self.name
@@ -94,7 +94,7 @@ impl DeadRemoval {
 impl UnitPass for DeadRemoval {
     ghost named = { λ pass. pass.name };
 
-    ghost steps = { λ pass u v. KeepsShape u v };
+    ghost steps = { λ pass u v. RemovesDead u v };
 
     fn name(&self) -> PassName {
         self.name

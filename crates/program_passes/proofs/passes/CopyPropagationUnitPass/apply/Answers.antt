@@ -1,9 +1,21 @@
+use Rattle.std.specs.Prelude.{codes}
+use Rattle.debug_records.specs.Change.{pass_name}
+use Rattle.debug_records.specs.declared.change.Kind.TheVariants.{Replaced}
+use Rattle.graph_edits.specs.Changes.{AddsChangesOf}
+use Rattle.graph_edits.specs.Kept.{EachFunction}
+use Rattle.copy_rule.specs.Copying.{IsPropagated}
+use Rattle.replaced_reads.specs.Reads.{IsReplacedRead}
 use Rattle.graph_core.specs.Graphs.{unit_view}
 use Rattle.pass_runs.proofs.Shape.{kept_but_blocks}
+use Rattle.program_passes.specs.Steps.{PropagatesCopies}
+use Rattle.program_passes.proofs.Made.{of_both}
 use Rattle.program_passes.proofs.passes.CopyPropagationUnitPass.apply.Goals as goal
 
 pub returns-clause-kept : goal.returns-clause-kept
 returns-clause-kept c = kept_but_blocks (unit_view c.args.unit.now) c.propagate_copies.result c.propagate_copies.ensures.shared c.propagate_copies.ensures.functions
 
 pub returns-clause-step : goal.returns-clause-step
-returns-clause-step c = kept_but_blocks (unit_view c.args.unit.now) c.propagate_copies.result c.propagate_copies.ensures.shared c.propagate_copies.ensures.functions
+returns-clause-step c =
+    let u = unit_view c.args.unit.now in
+    of_both c.propagate_copies.result (λ v. AddsChangesOf (pass_name (codes "copy")) Replaced IsReplacedRead u (unit_view v)) (λ v. EachFunction IsPropagated u.graphs (unit_view v).graphs) (λ v. PropagatesCopies u (unit_view v))
+    (λ v changes functions. record { changes = changes; functions = functions }) c.propagate_copies.ensures.changes c.propagate_copies.ensures.exact

@@ -1,9 +1,21 @@
+use Rattle.std.specs.Prelude.{codes}
+use Rattle.debug_records.specs.Change.{pass_name}
+use Rattle.debug_records.specs.declared.change.Kind.TheVariants.{Removed}
+use Rattle.graph_edits.specs.Changes.{AddsChangesOf}
+use Rattle.graph_edits.specs.Kept.{EachFunction}
+use Rattle.idle_rule.specs.Removing.{IsReduced}
+use Rattle.removed_writes.specs.Writes.{IsRemovedWrite}
 use Rattle.graph_core.specs.Graphs.{unit_view}
 use Rattle.pass_runs.proofs.Shape.{kept_but_blocks}
+use Rattle.program_passes.specs.Steps.{RemovesDead}
+use Rattle.program_passes.proofs.Made.{of_both}
 use Rattle.program_passes.proofs.passes.DeadRemovalUnitPass.apply.Goals as goal
 
 pub returns-clause-kept : goal.returns-clause-kept
 returns-clause-kept c = kept_but_blocks (unit_view c.args.unit.now) c.remove_dead.result c.remove_dead.ensures.shared c.remove_dead.ensures.functions
 
 pub returns-clause-step : goal.returns-clause-step
-returns-clause-step c = kept_but_blocks (unit_view c.args.unit.now) c.remove_dead.result c.remove_dead.ensures.shared c.remove_dead.ensures.functions
+returns-clause-step c =
+    let u = unit_view c.args.unit.now in
+    of_both c.remove_dead.result (λ v. AddsChangesOf (pass_name (codes "dead")) Removed (λ before after. IsRemovedWrite before) u (unit_view v)) (λ v. EachFunction IsReduced u.graphs (unit_view v).graphs) (λ v. RemovesDead u (unit_view v))
+    (λ v changes functions. record { changes = changes; functions = functions }) c.remove_dead.ensures.changes c.remove_dead.ensures.exact
