@@ -1,6 +1,6 @@
 //! Where the ends of blocks lead.
 
-ghost use Rattle.std.specs.Prelude.{◌≡◌, ◌++◌, ◌∷◌, [], IfOk, OnOk, length, map, min};
+ghost use Rattle.std.specs.Prelude.{◌≡◌, ◌≢◌, ◌-◌, ◌++◌, ◌∷◌, [], IfOk, None, OnOk, length, map, min, slice_get, slice_index};
 ghost use Rattle.graph_core.specs.Graphs.{block_view, end_view};
 ghost use Rattle.block_order.specs.Flows.{ways_at, ways_of};
 
@@ -79,12 +79,17 @@ impl Flow {
     }
 
     /// The number of the first source of a block, counted from 1; 0 for none.
-    pub fn first_source(&self, block: u32) -> u32 {
+    pub fn first_source(&self, block: u32) -> u32
+        ensures { result ≡ slice_index self.now.heads.items block }
+    {
         at(&self.heads, block)
     }
 
     /// The source of a number.
-    pub fn source(&self, number: u32) -> Option<Source> {
+    pub fn source(&self, number: u32) -> Option<Source>
+        ensures none { number ≡ 0 → result ≡ None }
+        ensures some { number ≢ 0 → result ≡ slice_get self.now.sources.items (number - 1) }
+    {
         if number == 0 {
             return None;
         }
@@ -95,7 +100,9 @@ impl Flow {
     }
 
     /// How many edges there are.
-    pub fn edges(&self) -> u32 {
+    pub fn edges(&self) -> u32
+        ensures { result ≡ min (length self.now.sources.items) 4294967295 }
+    {
         count(self.sources.len())
     }
 

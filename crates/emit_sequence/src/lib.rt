@@ -1,8 +1,8 @@
 //! The pieces of a function's code in their order: by its plan where the plan holds, or as its blocks stand.
 #![tactic(auto)]
 
+mod held;
 mod plain;
-mod plan_test;
 mod planned;
 mod sequence;
 pub mod table;

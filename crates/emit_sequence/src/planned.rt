@@ -8,7 +8,7 @@ ghost use Rattle.emit_plan.specs.Plans.{held_at, HoldsWell, IsOrder};
 ghost use Rattle.emit_sequence.specs.Sequences.{first_number, ground_of, sequence_view, AreConstants, ArePut, HasEnd, Holds, IsPut, IsSequenceOf};
 
 use crate::plain::plain_sequence_of;
-use crate::plan_test::{held_at, holds, holds_all};
+use crate::held::{held_at, holds, holds_all};
 use crate::sequence::Sequence;
 use emit_code::code_of_block;
 use emit_pieces::Held;

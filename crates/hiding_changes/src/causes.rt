@@ -239,7 +239,10 @@ fn is_no_later(one: Found, other: Found) -> bool
 
 impl Causes {
     /// Nothing hides a scalar.
-    pub fn new(alloc: Global, places: usize) -> Result<Causes, AllocError> {
+    pub fn new(alloc: Global, places: usize) -> Result<Causes, AllocError>
+        ensures found { IfOk result (λ made. made.found.items ≡ []) }
+        ensures told { IfOk result (λ made. (p : ℕ) → number_at made.told p ≡ 0) }
+    {
         Ok(Causes {
             found: Vec::new(alloc),
             told: Marks::new(alloc, places)?,

@@ -1,6 +1,6 @@
 use Rattle.std.proofs.Common.{◌≡◌, true, rules}
 use Rattle.emit_sequence.proofs.Holding.{holds_first}
-use Rattle.emit_sequence.proofs.plan_test.holds_all.Goals as goal
+use Rattle.emit_sequence.proofs.held.holds_all.Goals as goal
 
 pub loop-left-preserved : goal.loop-left-preserved
 loop-left-preserved c =

@@ -1,6 +1,6 @@
 use Rattle.std.proofs.Common.{length}
 use Rattle.graph_core.specs.Paths.{Among}
-use Rattle.emit_sequence.proofs.plan_test.holds.Given as goal
+use Rattle.emit_sequence.proofs.held.holds.Given as goal
 
 abbrev pub invariant-loop-left : goal.invariant-loop-left
 invariant-loop-left l = Among l.wanted l.left → Among l.wanted l.held

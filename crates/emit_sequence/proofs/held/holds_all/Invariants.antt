@@ -1,6 +1,6 @@
 use Rattle.std.proofs.Common.{length}
 use Rattle.emit_sequence.specs.Sequences.{Holds}
-use Rattle.emit_sequence.proofs.plan_test.holds_all.Given as goal
+use Rattle.emit_sequence.proofs.held.holds_all.Given as goal
 
 abbrev pub invariant-loop-left : goal.invariant-loop-left
 invariant-loop-left l = Holds l.held l.left → Holds l.held l.wanted
