@@ -7,8 +7,8 @@ ghost use Rattle.graph_core.specs.Uses.{targets_of};
 ghost use Rattle.emit_plan.specs.Plans.{held_at, HoldsWell, IsOrder};
 ghost use Rattle.emit_sequence.specs.Sequences.{first_number, ground_of, sequence_view, AreConstants, ArePut, HasEnd, Holds, IsPut, IsSequenceOf};
 
-use crate::plain::plain_sequence_of;
 use crate::held::{held_at, holds, holds_all};
+use crate::plain::plain_sequence_of;
 use crate::sequence::Sequence;
 use emit_code::code_of_block;
 use emit_pieces::Held;
