@@ -13,7 +13,7 @@ use Rattle.motion_points.specs.Computing.{doing}
 use Rattle.motion_facts.specs.Facts.{AreFacts, AreReached}
 use Rattle.motion_facts.proofs.Bools.{not_true}
 use Rattle.motion_facts.proofs.Standing.{come_at, one_block}
-use Rattle.motion_placement.specs.declared.problems.Facts.{Facts}
+use Rattle.motion_problems.specs.declared.problems.Facts.{Facts}
 use Rattle.motion_placement.specs.declared.placement.Placement.{Placement}
 use Rattle.motion_placement.specs.Columns.{HasFacts}
 use Rattle.motion_placement.specs.Placed.{AreDone, none_done, one_done, one_passed, IsPlaced, IsReadSomewhere, all_of, is_on_edge, reached_by, temporary_of}

@@ -1,7 +1,5 @@
-pub mod Zeros
 pub mod Rows
 pub mod Fated
-pub mod Reached
 pub mod Members
 pub mod Acted
 pub mod Edges

@@ -1,16 +1,11 @@
 -- Rows, one more after the other.
-use Rattle.std.proofs.Common.{◌≡◌, ◌⊎◌, inl, inr, ℕ, zero, suc, ◌+◌, ◌<◌, ◌≤◌, Bool, true, false, true≢false, List, [], ◌∷◌, ◌++◌, length, take, drop, Option, Some, None, refl, sym, ap, ◌∙◌, subst, arith}
+use Rattle.std.proofs.Common.{◌≡◌, ℕ, zero, suc, ◌+◌, ◌<◌, ◌≤◌, List, [], ◌∷◌, ◌++◌, length, take, drop, Some, refl, sym, ap, ◌∙◌, arith}
 use Rattle.std.specs.Prelude.{slice_get}
 use Rattle.std.specs.Option.{option_map_or}
 use Rattle.std.specs.Global.{Vec}
-use Rattle.std.proofs.lemmas.Bool.{cases_eq, cases_lt}
 use Rattle.std.proofs.lemmas.List.{append-nil, drop_all}
 use Rattle.std.proofs.Math.Seq.{take-length}
-use Rattle.std.proofs.lemmas.Option.{same_Some, slice_get_past}
-use Rattle.graph_core.specs.Graphs.{Block}
-use Rattle.graph_core.specs.Uses.{targets_of}
-use Rattle.graph_core.specs.Paths.{Among}
-use Rattle.motion_flow.specs.Flowing.{HasEdge}
+use Rattle.std.proofs.lemmas.Option.{slice_get_past}
 
 pub got_below : {A : Type 0} (xs : List A) (y : A) (n : ℕ) → n < length xs → slice_get (xs ++ y ∷ []) n ≡ slice_get xs n
 got_below [] y n lt = absurd (omega (arith, lt))
@@ -40,13 +35,3 @@ pub whole_written : {A : Type 0} (items new : List A) (len : ℕ) → len ≡ le
 whole_written {A} items new len all same =
     let rest : drop (length new) items ≡ [] = drop_all (length new) items (omega (arith, same)) in
     ap (λ xs. take len (new ++ xs)) rest ∙ ap (take len) (append-nil new) ∙ ap (λ n. take n new) (all ∙ sym same) ∙ take-length new
-
--- one block more does not lead to the first
-pub back_on : (blocks : List Block) (reached : ℕ → Bool) (number : ℕ) (b : Block) → slice_get blocks number ≡ Some b → (reached number ≡ true → Among 0 (targets_of b.end) → ⊥) → ((m : ℕ) → m < number → HasEdge blocks reached m 0 → ⊥)
-    → (m : ℕ) → m < number + 1 → HasEdge blocks reached m 0 → ⊥
-back_on blocks reached number b at never was m lt edge = elim (cases_eq m number) [
-  | inl same ↦
-      let one : edge.block ≡ b = same_Some edge.block b (sym edge.is ∙ ap (slice_get blocks) same ∙ at) in
-      never (sym (ap reached same) ∙ edge.comes) (subst (λ (c : Block). Among 0 (targets_of c.end)) one edge.leads)
-  | inr apart ↦ was m (omega (arith, lt, apart)) edge
-]

@@ -11,7 +11,7 @@ use Rattle.motion_points.specs.Columns.{AreNumbersAlong, IsColumn, told_in}
 use Rattle.motion_points.specs.Numbers.{AreNumbers, views_of}
 use Rattle.motion_flow.specs.Flowing.{HasEdge, is_at}
 use Rattle.motion_facts.specs.Facts.{AreFacts, AreReached}
-use Rattle.motion_placement.specs.declared.problems.Facts.{Facts}
+use Rattle.motion_problems.specs.declared.problems.Facts.{Facts}
 use Rattle.motion_placement.specs.declared.fates.Fate.{Fate}
 use Rattle.motion_placement.specs.declared.columns.Placing.{Placing}
 use Rattle.motion_placement.specs.declared.columns.Solved.{Solved}

@@ -1,4 +1,3 @@
-pub mod Problems
 pub mod Fates
 pub mod Columns
 pub mod Placed

@@ -12,7 +12,7 @@ use Rattle.motion_points.specs.Numbers.{AreNumbers, AreOnce, computed_in, views_
 use Rattle.motion_flow.specs.Flowing.{is_at}
 use Rattle.motion_facts.specs.Facts.{AreReached}
 use Rattle.motion_placement.specs.declared.columns.Solved.{Solved}
-use Rattle.motion_placement.specs.declared.problems.Facts.{Facts}
+use Rattle.motion_problems.specs.declared.problems.Facts.{Facts}
 use Rattle.motion_placement.specs.declared.fates.Fate.{Fate}
 use Rattle.motion_placement.specs.declared.placement.Action.{Action}
 use Rattle.motion_placement.specs.declared.placement.Action.TheVariants.{Keep, Read, Compute}

@@ -11,9 +11,9 @@ ghost use Rattle.motion_placement.specs.Fates.{fate_of};
 ghost use Rattle.motion_placement.specs.Columns.{AreFated, AreRows, HasFacts, row_of};
 
 use crate::fates::{Fate, no_fates, put_late, put_used};
-use crate::problems::{Facts, Problems, word_of};
 use graph_core::{Block, Graph};
 use motion_points::{Column, Computations, Local, is_flagged};
+use motion_problems::{Facts, Problems, word_of};
 use std::alloc::{AllocError, Global};
 
 /// A column of computations, and what is so of them at each block.

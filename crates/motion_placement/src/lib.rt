@@ -5,7 +5,5 @@
 mod columns;
 mod fates;
 mod placement;
-mod problems;
-mod reach;
 
 pub use placement::{Action, Placement, place};

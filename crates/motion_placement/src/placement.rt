@@ -18,11 +18,10 @@ ghost use Rattle.motion_placement.specs.Placed.{AreNumbered, IsMovedAnywhere, Is
 
 use crate::columns::{Placing, Solved, numbers_of, row_at};
 use crate::fates::{Fate, NO_FATE, fate_at};
-use crate::problems::{Facts, word_of};
-use crate::reach::{comes_back, reached_blocks};
 use graph_core::{Graph, Instr, Name};
 use graph_paths::reached_in_order;
 use motion_points::{Computation, Computations, both, either, is_flagged, is_in, without};
+use motion_problems::{Facts, comes_back, reached_blocks, word_of};
 use std::alloc::{AllocError, Global};
 
 /// What becomes of an instruction.

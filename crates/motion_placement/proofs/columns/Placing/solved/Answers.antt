@@ -5,7 +5,7 @@ use Rattle.motion_points.specs.declared.columns.Column.{Column}
 use Rattle.motion_points.specs.declared.columns.Local.{Local}
 use Rattle.motion_points.specs.Columns.{IsColumn}
 use Rattle.motion_facts.specs.Problems.{TellFacts}
-use Rattle.motion_placement.specs.declared.problems.Facts.{Facts}
+use Rattle.motion_problems.specs.declared.problems.Facts.{Facts}
 use Rattle.motion_placement.specs.Columns.{all_in, blocks_in, reached_in}
 use Rattle.motion_placement.proofs.columns.Placing.solved.Goals as goal
 
