@@ -26,7 +26,7 @@ use Rattle.note_flow.specs.declared.survey.Survey as declared-survey
 use Rattle.note_flow.specs.Numbering.{AreNumbered, scalar_in}
 use Rattle.note_flow.specs.Found.{entries_of, IsPlaceOf, Shows}
 use Rattle.note_flow.specs.Survey.{comes_to, AreFirst, IsWithinSome, AreChainsSound, IsChainSound, IsFound, IsReachedSound, IsSound, IsStartWithin, IsWithinNext}
-use Rattle.note_flow.specs.Shown.{AreDifferent, ArePlaced, IsVisible, IsNoEntry, AreOwn, AreRecipes}
+use Rattle.note_flow.specs.Shown.{AreDifferent, ArePlaced, IsVisible, IsNoEntry, AreOther, AreOwn, AreRecipes}
 
 module _ (v : declared-survey.Survey) (f : declared-found.Found) (chains : List (Vec ℕ)) (entered : declared-state.State) (first : AreFirst chains v.first.items) (sound : AreChainsSound v f chains)
     (begins : IsStartWithin v 0 entered) (so : IsSo v.function.now.homes (map binding_view v.function.now.graph.now.parameters.items) entered []) where
@@ -138,3 +138,8 @@ module _ (v : declared-survey.Survey) (f : declared-found.Found) (chains : List 
       let at = found_at way in
       let shown = subst (λ o. Shows m at.0 x o) last (at.2.shown x u among refl) in
       shown_by m g at.0 h x (recipe_view l.recipe.now) at.1 shown.0 shown.1
+
+  pub are_other : AreOther g f.unshown.items
+  are_other x u l among last h n rest e way =
+      let at = found_at way in
+      (subst (λ o. Shows m at.0 x o) last (at.2.shown x u among refl)).2

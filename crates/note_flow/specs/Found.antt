@@ -1,5 +1,5 @@
 -- What is found at places.
-use Rattle.std.specs.Prelude.{◌≡◌, ℕ, ◌-◌, ◌≤◌, ◌<◌, ◌⊎◌, Bool, true, false, Option, Some, List, [], IfSome, length, slice_get, slice_set, get_or}
+use Rattle.std.specs.Prelude.{◌≡◌, ◌≢◌, ℕ, ◌-◌, ◌≤◌, ◌<◌, ◌⊎◌, Bool, true, false, Option, Some, List, [], IfSome, length, slice_get, slice_set, get_or}
 use Rattle.std.specs.Option.{option_map_or}
 use Rattle.debug_records.specs.declared.change.Var as declared-var
 use Rattle.places.specs.declared.table.PlaceRow as declared-row
@@ -36,9 +36,9 @@ module _ (m : declared-homes.Homes) (s : declared-state.State) where
   abbrev pub IsShownBy : (x : ℕ) → Type 0
   IsShownBy x = (recipe_in s.noted.items x ≡ Some (Of (Name x))) × AreHeld m s (Of (Name x))
 
-  -- what is last noted shows a scalar, if it is told
+  -- what is last noted shows a scalar, and is not its own value, if it is told
   abbrev pub Shows : (x : ℕ) → Option declared-last.LastNote → Type 0
-  Shows x last = IfSome last (λ (l : declared-last.LastNote). (recipe_in s.noted.items x ≡ Some (recipe_view l.recipe.now)) × AreHeld m s (recipe_view l.recipe.now))
+  Shows x last = IfSome last (λ (l : declared-last.LastNote). (recipe_in s.noted.items x ≡ Some (recipe_view l.recipe.now)) × AreHeld m s (recipe_view l.recipe.now) × (recipe_view l.recipe.now ≢ Of (Name x)))
 
   -- A scalar is shown at a place by its home, or the place is told of it.
   abbrev pub IsTold : (p : ℕ) → List (Vec declared-unshown.Unshown) → (x : ℕ) → Type 0

@@ -1,12 +1,12 @@
 -- What is told of the scalars that their homes do not show, on all paths.
-use Rattle.std.specs.Prelude.{◌≡◌, ℕ, ◌-◌, ◌≤◌, Option, Some, List, ◌∷◌, slice_get}
+use Rattle.std.specs.Prelude.{◌≡◌, ◌≢◌, ℕ, ◌-◌, ◌≤◌, Option, Some, List, ◌∷◌, slice_get}
 use Rattle.std.specs.Global.{Vec}
 use Rattle.debug_records.specs.declared.change.Var as declared-var
 use Rattle.places.specs.declared.table.PlaceRow as declared-row
 use Rattle.places.specs.declared.table.PlaceTable as declared-table
 use Rattle.graph_homes.specs.declared.home.Home.{Home}
 use Rattle.graph_homes.specs.Homes.{HoldsOnAllPaths}
-use Rattle.graph_core.specs.Graphs.{Instruction, Marker, End, Graph, Of, Name, recipe_view}
+use Rattle.graph_core.specs.Graphs.{Instruction, Marker, End, Graph, Recipe, Of, Name, recipe_view}
 use Rattle.graph_core.specs.Paths.{Among, History, Path}
 use Rattle.graph_core.specs.WellMarked.{IsVariable}
 use Rattle.note_flow.specs.declared.found.LastNote as declared-last
@@ -46,3 +46,11 @@ AreOwn home g table found = (p x variable : ℕ) → IsVariable g x variable →
 abbrev pub AreRecipes : (ℕ → Home) → Graph → List (Vec declared-unshown.Unshown) → Type 0
 AreRecipes home g found =
     (x : ℕ) (u : declared-unshown.Unshown) (l : declared-last.LastNote) → Among u (entries_of found x) → u.last ≡ Some l → HoldsOnAllPaths home g u.place.0 x (recipe_view l.recipe.now)
+
+-- A recipe is not a scalar's own value, at a place that a path reaches.
+abbrev pub IsOther : Graph → (p x : ℕ) → Recipe → Type 0
+IsOther g p x r = (h : History) (n : ℕ) (rest : List Instruction) (e : End) → Path g h n (Marker p ∷ rest) e → r ≢ Of (Name x)
+
+-- Where a scalar is told of with a recipe, that is not its own value.
+abbrev pub AreOther : Graph → List (Vec declared-unshown.Unshown) → Type 0
+AreOther g found = (x : ℕ) (u : declared-unshown.Unshown) (l : declared-last.LastNote) → Among u (entries_of found x) → u.last ≡ Some l → IsOther g u.place.0 x (recipe_view l.recipe.now)

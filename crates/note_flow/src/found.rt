@@ -1,12 +1,13 @@
 //! What is found at the places of a function.
 
-ghost use Rattle.std.specs.Prelude.{◌≡◌, ◌<◌, ℕ, IfOk, Some, false, length, slice_set, true};
+ghost use Rattle.std.specs.Prelude.{◌≡◌, ◌<◌, ◌↔◌, ℕ, IfOk, Some, false, length, slice_set, true};
+ghost use Rattle.graph_core.specs.Graphs.{Name, Of, recipe_view};
 ghost use Rattle.note_flow.specs.Numbering.{scalar_in};
 ghost use Rattle.note_flow.specs.Found.{AreVisibleTold, IsAdded, IsNewPlace, IsShownBy, IsTold, Shows, is_met};
 
 use crate::numbering::Numbering;
 use debug_records::{Place, Var};
-use graph_core::Recipe;
+use graph_core::{Operand, Recipe};
 use note_state::{Function, Noted, State};
 use places::PlaceTable;
 use std::alloc::AllocError;
@@ -28,13 +29,26 @@ pub struct Unshown<'a> {
     pub last: Option<LastNote<'a>>,
 }
 
+/// Whether a recipe is the own value of a scalar.
+fn is_own(scalar: u32, recipe: &Recipe) -> bool
+    ensures { (result ≡ true) ↔ (recipe_view recipe.now ≡ Of (Name scalar)) }
+{
+    match recipe {
+        Recipe::Operand(Operand::Name(name)) => name.0 == scalar,
+        Recipe::Operand(_) | Recipe::Truncated(_, _) | Recipe::Operated(_, _, _) => false,
+    }
+}
+
 /// Whether its home shows a scalar where this is so.
 fn is_shown<'a>(function: &Function<'a>, state: &State<'a>, scalar: u32) -> bool
     ensures { result ≡ true → IsShownBy function.now.homes state.now scalar }
 {
     match state.last_of(scalar) {
         Noted::Own => state.holds(function, scalar),
-        Noted::Lost | Noted::Recipe { .. } => false,
+        Noted::Recipe { recipe, .. } => {
+            is_own(scalar, recipe) && state.holds_all(function, recipe)
+        }
+        Noted::Lost => false,
     }
 }
 
@@ -43,7 +57,9 @@ fn last_note<'a>(function: &Function<'a>, state: &State<'a>, scalar: u32) -> Opt
     ensures { Shows function.now.homes state.now scalar result }
 {
     match state.last_of(scalar) {
-        Noted::Recipe { recipe, change } => if state.holds_all(function, recipe) {
+        Noted::Recipe { recipe, change } => if is_own(scalar, recipe) {
+            None
+        } else if state.holds_all(function, recipe) {
             Some(LastNote { recipe, change })
         } else {
             None

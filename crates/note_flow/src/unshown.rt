@@ -7,7 +7,7 @@ ghost use Rattle.note_state.specs.Notes.{IsSo};
 ghost use Rattle.note_flow.specs.Numbering.{AreNumbered};
 ghost use Rattle.note_flow.specs.Survey.{AreFirst};
 ghost use Rattle.note_flow.specs.Found.{entries_of};
-ghost use Rattle.note_flow.specs.Shown.{AreDifferent, AreOwn, ArePlaced, AreRecipes, AreTheirs};
+ghost use Rattle.note_flow.specs.Shown.{AreDifferent, AreOther, AreOwn, ArePlaced, AreRecipes, AreTheirs};
 
 use crate::chains::chains_of;
 use crate::found::{Found, Unshown};
@@ -52,6 +52,7 @@ fn borne_out<'a>(
     ensures different { IfOk result (λ b. b ≡ true → AreDifferent (graph_view survey.now.function.now.graph.now)) }
     ensures own { IfOk result (λ b. b ≡ true → AreOwn (home_by survey.now.function.now.homes) (graph_view survey.now.function.now.graph.now) survey.now.table.now found.new.unshown.items) }
     ensures recipe { IfOk result (λ b. b ≡ true → AreRecipes (home_by survey.now.function.now.homes) (graph_view survey.now.function.now.graph.now) found.new.unshown.items) }
+    ensures other { IfOk result (λ b. b ≡ true → AreOther (graph_view survey.now.function.now.graph.now) found.new.unshown.items) }
 {
     if !survey.is_within(0, entered) {
         return Ok(false);
@@ -80,6 +81,7 @@ pub fn not_shown<'a>(
     ensures different { IfOk result (λ o. IfSome o (λ found. AreDifferent (graph_view graph.now))) }
     ensures own { IfOk result (λ o. IfSome o (λ found. AreOwn (home_in homes.now) (graph_view graph.now) places.now found.items)) }
     ensures recipe { IfOk result (λ o. IfSome o (λ found. AreRecipes (home_in homes.now) (graph_view graph.now) found.items)) }
+    ensures other { IfOk result (λ o. IfSome o (λ found. AreOther (graph_view graph.now) found.items)) }
 {
     let Some(numbering) = Numbering::new(alloc, &graph.scalars)? else {
         return Ok(None);

@@ -26,3 +26,6 @@ returns-clause-own c =
 pub returns-clause-recipe : goal.returns-clause-recipe
 returns-clause-recipe c =
     subst (λ (homes : List Home). AreRecipes (home_in homes) (graph_view c.args.graph.now) c.borne_out.new.found.unshown.items) c.in_ok-new.ensures (c.in_ok-borne_out.ensures.recipe c.if-not-branch.false)
+
+pub returns-clause-other : goal.returns-clause-other
+returns-clause-other c = c.in_ok-borne_out.ensures.other c.if-not-branch.false
