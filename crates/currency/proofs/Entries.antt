@@ -17,7 +17,7 @@ use Rattle.graph_core.specs.WellMarked.{IsVariable}
 use Rattle.note_state.proofs.Lists.{get_among, each_all, each_more}
 use Rattle.note_flow.specs.declared.found.Unshown as declared-unshown
 use Rattle.note_flow.specs.Found.{entries_of, IsPlaceOf}
-use Rattle.note_flow.specs.Shown.{AreDifferent, AreOwn, ArePlaced, AreRecipes, AreTheirs}
+use Rattle.note_flow.specs.Shown.{AreDifferent, AreOther, AreOwn, ArePlaced, AreRecipes, AreTheirs, IsOther}
 use Rattle.currency.specs.declared.telling.Told as declared-told
 use Rattle.currency.specs.declared.telling.Told.TheVariants as told
 use Rattle.currency.specs.declared.telling.ToldVariable as declared-variable
@@ -117,7 +117,7 @@ find_entry (v ∷ entries) p = elim (eqb_tells v.place.0 p) [
 
 -- What is told of a function.
 module _ (g : declared-graph.Graph) (home : ℕ → Home) (number : ℕ) (table : declared-table.PlaceTable) (old new : declared-places.ToldPlaces) (found : List (Vec declared-unshown.Unshown)) (placed : ArePlaced (graph_view g) number table)
-    (theirs : AreTheirs found number table) (different : AreDifferent (graph_view g)) (own : AreOwn home (graph_view g) table found) (recipes : AreRecipes home (graph_view g) found) (all : AreToldAll old new g.scalars.items found) where
+    (theirs : AreTheirs found number table) (different : AreDifferent (graph_view g)) (own : AreOwn home (graph_view g) table found) (recipes : AreRecipes home (graph_view g) found) (other : AreOther (graph_view g) found) (all : AreToldAll old new g.scalars.items found) where
   -- the scalar of a variable
   variable_at : (x : ℕ) (s : declared-scalar.Scalar) → slice_get g.scalars.items x ≡ Some s → option_map (λ (z : Scalar). z.variable) (slice_get (graph_view g).scalars x) ≡ Some s.var.0
   variable_at x s e = ap (λ q. option_map (λ (z : Scalar). z.variable) q) (slice_get-map scalar_view g.scalars.items x ∙ ap (λ o. option_map scalar_view o) e)
@@ -133,8 +133,13 @@ module _ (g : declared-graph.Graph) (home : ℕ → Home) (number : ℕ) (table 
   is_right p t of (told.Recovered r c) recipe = λ x is.
       (let same : of.x ≡ x = different of.x x t.var.0 (variable_at of.x of.scalar of.is ∙ ap (λ (v : declared-var.Var). Some v.0) (sym of.of.of)) is in
       let holds : HoldsOnAllPaths home (graph_view g) of.of.entry.place.0 of.x (recipe_view recipe.0.recipe.now) = recipes of.x of.of.entry recipe.0 of.of.among recipe.1 in
-      subst (λ (q : Recipe). HoldsOnAllPaths home (graph_view g) p x q) (sym recipe.2) (subst (λ k. HoldsOnAllPaths home (graph_view g) p k (recipe_view recipe.0.recipe.now)) same
-      (subst (λ q. HoldsOnAllPaths home (graph_view g) q of.x (recipe_view recipe.0.recipe.now)) of.of.place holds)))
+      let differs : IsOther (graph_view g) of.of.entry.place.0 of.x (recipe_view recipe.0.recipe.now) = other of.x of.of.entry recipe.0 of.of.among recipe.1 in
+      (
+        subst (λ (q : Recipe). HoldsOnAllPaths home (graph_view g) p x q) (sym recipe.2)
+            (subst (λ k. HoldsOnAllPaths home (graph_view g) p k (recipe_view recipe.0.recipe.now)) same (subst (λ q. HoldsOnAllPaths home (graph_view g) q of.x (recipe_view recipe.0.recipe.now)) of.of.place holds)),
+        subst (λ (q : Recipe). IsOther (graph_view g) p x q) (sym recipe.2)
+            (subst (λ k. IsOther (graph_view g) p k (recipe_view recipe.0.recipe.now)) same (subst (λ q. IsOther (graph_view g) q of.x (recipe_view recipe.0.recipe.now)) of.of.place differs)),
+      ))
   is_right p t of (told.Hidden cause) recipe = tt
 
   pub function_told : IsFunctionTold home (graph_view g) number table old new

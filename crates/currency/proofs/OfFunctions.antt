@@ -35,7 +35,8 @@ one_function table f k p a b = sym a.of ∙ ap (λ (r : declared-row.PlaceRow). 
 
 -- what is told at a place of another function is right, since no path reaches it
 right_elsewhere : (home : ℕ → Home) (g : Graph) (table : declared-table.PlaceTable) (f k p : ℕ) (t : declared-variable.ToldVariable) (what : declared-told.Told) → f ≢ k → ArePlaced g f table → IsPlaceOf table k p → IsToldRight home g p t what
-right_elsewhere home g table f k p t (told.Recovered r c) other placed there = λ x is h n rest e way. absurd (other (one_function table f k p (placed h n p rest e way) there))
+right_elsewhere home g table f k p t (told.Recovered r c) other placed there = λ x is.
+    ((λ h n rest e way. absurd (other (one_function table f k p (placed h n p rest e way) there))), (λ h n rest e way. absurd (other (one_function table f k p (placed h n p rest e way) there))))
 right_elsewhere home g table f k p t (told.Hidden cause) other placed there = tt
 
 module _ (u : HomedForm) (table : declared-table.PlaceTable) where

@@ -9,14 +9,14 @@ use Rattle.places.specs.declared.table.PlaceRow as declared-place
 use Rattle.places.specs.declared.table.PlaceTable as declared-table
 use Rattle.graph_homes.specs.Homes.{HoldsOnAllPaths}
 use Rattle.graph_core.specs.declared.recipe.Recipe as declared-recipe
-use Rattle.graph_core.specs.Graphs.{Graph, Of, Name, Recipe, recipe_view}
+use Rattle.graph_core.specs.Graphs.{Graph, Of, Name, Recipe, Is, NoteValue, recipe_view}
 use Rattle.graph_core.specs.Paths.{Among}
 use Rattle.graph_core.specs.WellMarked.{IsVariable}
 use Rattle.homed_unit.specs.Homed.{HomedForm, home_of}
 use Rattle.note_state.proofs.Lists.{among_at, among_parts, among_one, drop_end, drop_more, get_among, get_any, take_whole}
 use Rattle.std.proofs.lemmas.List.{take_more}
 use Rattle.currency.specs.Visible.{Sight, next, sight, sights_at, sights_from}
-use Rattle.note_flow.specs.Shown.{IsVisible}
+use Rattle.note_flow.specs.Shown.{IsOther, IsVisible}
 use Rattle.currency.specs.declared.telling.Told as declared-told
 use Rattle.currency.specs.declared.telling.Told.TheVariants as told
 use Rattle.currency.specs.declared.telling.ToldVariable as declared-variable
@@ -25,7 +25,7 @@ use Rattle.currency.specs.declared.verdict.Verdict as declared-verdict
 use Rattle.currency.specs.declared.verdict.Verdict.TheVariants as verdict
 use Rattle.currency.specs.declared.verdict.PlaceVerdict as declared-row
 use Rattle.currency.specs.Telling.{told_at, AreRowsTold, AreSlotted, AreTold, IsNoneTold, IsRowTold, IsToldOf, IsToldRight, IsVerdictOf, IsVerdictOn}
-use Rattle.currency.specs.Sound.{AreHome, AreRecovered, AreSo}
+use Rattle.currency.specs.Sound.{AreApart, AreHome, AreOnly, AreRecovered, AreSo}
 
 -- slots of the first of what is told
 abbrev pub AreSlottedTo : List declared-variable.ToldVariable → List ℕ → (count : ℕ) → Type 0
@@ -157,12 +157,14 @@ module _ (u : HomedForm) (table : declared-table.PlaceTable) (found : declared-p
       at_what (Some t) of v = absurd (not_hidden t.told w.verdict home v)
 
   is_right : (what : declared-told.Told) (r : declared-recipe.Recipe) (c : ℕ) (p : ℕ) (t : declared-variable.ToldVariable) (f x : ℕ) (g : Graph) → IsVerdictOf what (verdict.Recovered r c) → IsToldRight (home_of u f) g p t what → IsVariable g x t.var.0
-      → HoldsOnAllPaths (home_of u f) g p x (recipe_view r)
-  is_right (told.Recovered s d) r c p t f x g of right is = subst (λ (q : Recipe). HoldsOnAllPaths (home_of u f) g p x q) of (right x is)
+      → HoldsOnAllPaths (home_of u f) g p x (recipe_view r) × IsOther g p x (recipe_view r)
+  is_right (told.Recovered s d) r c p t f x g of right is = subst (λ (q : Recipe). HoldsOnAllPaths (home_of u f) g p x q × IsOther g p x q) of (right x is)
   is_right (told.Hidden cause) r c p t f x g v right is = elim v [ ]
 
-  pub are_recovered : AreRecovered u rows
-  are_recovered w r c among is f x g at variable = at_what row.what row.is row.verdict
+  -- a recipe that is given, by what is told
+  is_given : (w : declared-row.PlaceVerdict) (r : declared-recipe.Recipe) (c : ℕ) → Among w rows → w.verdict ≡ verdict.Recovered r c → (f x : ℕ) (g : Graph) → slice_get u.unit.graphs f ≡ Some g → IsVariable g x w.var.0
+      → HoldsOnAllPaths (home_of u f) g w.place.0 x (recipe_view r) × IsOther g w.place.0 x (recipe_view r)
+  is_given w r c among is f x g at variable = at_what row.what row.is row.verdict
     where
       row : IsRowTold (told_at found w.place.0) w
       row = (each w among).1
@@ -170,7 +172,25 @@ module _ (u : HomedForm) (table : declared-table.PlaceTable) (found : declared-p
       home_recovered : verdict.Recovered r c ≡ verdict.Home → ⊥
       home_recovered e = cc
 
-      at_what : (o : Option declared-variable.ToldVariable) → MatchOption o (IsNoneTold (told_at found w.place.0) w.var) (λ t. IsToldOf (told_at found w.place.0) w.var t) → IsVerdictOn o w.verdict → HoldsOnAllPaths (home_of u f) g w.place.0 x (recipe_view r)
+      at_what : (o : Option declared-variable.ToldVariable) → MatchOption o (IsNoneTold (told_at found w.place.0) w.var) (λ t. IsToldOf (told_at found w.place.0) w.var t) → IsVerdictOn o w.verdict
+          → HoldsOnAllPaths (home_of u f) g w.place.0 x (recipe_view r) × IsOther g w.place.0 x (recipe_view r)
       at_what None none v = absurd (home_recovered (sym is ∙ v))
       at_what (Some t) of v =
           is_right t.told r c w.place.0 t f x g (subst (λ (z : declared-verdict.Verdict). IsVerdictOf t.told z) is v) (so.right w.place.0 t f g of.0 (slice_get_within u.unit.graphs f g at) at) (subst (λ k. IsVariable g x k) (sym of.1) variable)
+
+  pub are_recovered : AreRecovered u rows
+  are_recovered w r c among is f x g at variable = (is_given w r c among is f x g at variable).0
+
+  -- the recipe that a note says
+  abbrev recipe_in : NoteValue → Recipe → Recipe
+  recipe_in (Is q) d = q
+  recipe_in _ d = d
+
+  pub are_only : AreOnly u rows
+  are_only w r c among is f x g at variable h n rest e way other holds =
+      let given = (is_given w r c among is f x g at variable).0 in
+      let noted : Is other ≡ Is (recipe_view r) = same_Some (Is other) (Is (recipe_view r)) (sym (holds h n rest e way).note ∙ (given h n rest e way).note) in
+      ap (λ (v : NoteValue). recipe_in v other) noted
+
+  pub are_apart : AreApart u rows
+  are_apart w r c among is f x g at variable h n rest e way own = (is_given w r c among is f x g at variable).1 h n rest e way (sym (are_only w r c among is f x g at variable h n rest e way (Of (Name x)) own))

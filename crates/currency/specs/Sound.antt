@@ -1,10 +1,10 @@
 -- What verdicts say on all paths.
-use Rattle.std.specs.Prelude.{◌≡◌, ℕ, ◌<◌, ◌⊎◌, Some, List, length, slice_get}
+use Rattle.std.specs.Prelude.{◌≡◌, ℕ, ◌<◌, ◌⊎◌, Some, List, ◌∷◌, length, slice_get}
 use Rattle.places.specs.declared.table.PlaceTable as declared-table
 use Rattle.graph_homes.specs.Homes.{HoldsOnAllPaths}
 use Rattle.graph_core.specs.declared.recipe.Recipe as declared-recipe
-use Rattle.graph_core.specs.Graphs.{Graph, Of, Name, recipe_view}
-use Rattle.graph_core.specs.Paths.{Among}
+use Rattle.graph_core.specs.Graphs.{Instruction, Marker, End, Graph, Recipe, Of, Name, recipe_view}
+use Rattle.graph_core.specs.Paths.{Among, History, Path}
 use Rattle.graph_core.specs.WellMarked.{IsVariable}
 use Rattle.homed_unit.specs.Homed.{HomedForm, home_of}
 use Rattle.note_flow.specs.Found.{IsPlaceOf}
@@ -38,3 +38,15 @@ module _ (u : HomedForm) where
   AreRecovered rows =
       (w : declared-row.PlaceVerdict) (r : declared-recipe.Recipe) (change : ℕ) → Among w rows → w.verdict ≡ verdict.Recovered r change → (f x : ℕ) (g : Graph) → slice_get u.unit.graphs f ≡ Some g → IsVariable g x w.var.0
       → HoldsOnAllPaths (home_of u f) g w.place.0 x (recipe_view r)
+
+  -- Where a verdict gives a recipe for a variable, and a path reaches the place, its home does not show it there: its own value does not hold on all paths.
+  abbrev pub AreApart : List declared-row.PlaceVerdict → Type 0
+  AreApart rows =
+      (w : declared-row.PlaceVerdict) (r : declared-recipe.Recipe) (change : ℕ) → Among w rows → w.verdict ≡ verdict.Recovered r change → (f x : ℕ) (g : Graph) → slice_get u.unit.graphs f ≡ Some g → IsVariable g x w.var.0
+      → (h : History) (n : ℕ) (rest : List Instruction) (e : End) → Path g h n (Marker w.place.0 ∷ rest) e → HoldsOnAllPaths (home_of u f) g w.place.0 x (Of (Name x)) → ⊥
+
+  -- Where a verdict gives a recipe for a variable, and a path reaches the place, no other recipe holds there on all paths.
+  abbrev pub AreOnly : List declared-row.PlaceVerdict → Type 0
+  AreOnly rows =
+      (w : declared-row.PlaceVerdict) (r : declared-recipe.Recipe) (change : ℕ) → Among w rows → w.verdict ≡ verdict.Recovered r change → (f x : ℕ) (g : Graph) → slice_get u.unit.graphs f ≡ Some g → IsVariable g x w.var.0
+      → (h : History) (n : ℕ) (rest : List Instruction) (e : End) → Path g h n (Marker w.place.0 ∷ rest) e → (other : Recipe) → HoldsOnAllPaths (home_of u f) g w.place.0 x other → other ≡ recipe_view r

@@ -13,7 +13,7 @@ use Rattle.graph_core.specs.WellMarked.{IsVariable}
 use Rattle.note_flow.specs.declared.found.LastNote as declared-last
 use Rattle.note_flow.specs.declared.found.Unshown as declared-unshown
 use Rattle.note_flow.specs.Found.{entries_of, IsPlaceOf}
-use Rattle.note_flow.specs.Shown.{ArePlaced, IsVisible}
+use Rattle.note_flow.specs.Shown.{ArePlaced, IsOther, IsVisible}
 use Rattle.hiding_changes.specs.declared.causes.Cause as declared-cause
 use Rattle.hiding_changes.specs.declared.causes.Cause.TheVariants as cause
 use Rattle.currency.specs.declared.telling.Told as declared-told
@@ -92,9 +92,9 @@ pub record IsSomethingTold (all : declared-places.ToldPlaces) (p variable : ℕ)
   pub among : Among t (told_at all p)
   pub of : t.var.0 ≡ variable
 
--- a recipe that is told gives the variable's value on all paths of a function, of which it is a scalar
+-- a recipe that is told gives the variable's value on all paths of a function, of which it is a scalar, and is not its own value
 abbrev pub IsToldRight : (ℕ → Home) → Graph → (p : ℕ) → declared-variable.ToldVariable → declared-told.Told → Type 0
-IsToldRight home g p t (told.Recovered r c) = (x : ℕ) → IsVariable g x t.var.0 → HoldsOnAllPaths home g p x (recipe_view r.now)
+IsToldRight home g p t (told.Recovered r c) = (x : ℕ) → IsVariable g x t.var.0 → HoldsOnAllPaths home g p x (recipe_view r.now) × IsOther g p x (recipe_view r.now)
 IsToldRight home g p t (told.Hidden cause) = Unit {0}
 
 -- What is told of a function: of each scalar that is visible at a place, its own value holds on all paths, or something is told of it; and a recipe that is told holds.

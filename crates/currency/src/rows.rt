@@ -4,7 +4,7 @@ ghost use Rattle.std.specs.Prelude.{◌≡◌, ◌++◌, ℕ, IfOk, IfSome, Matc
 ghost use Rattle.homed_unit.specs.Homed.{homed_view};
 ghost use Rattle.currency.specs.Telling.{AreRowsTold, AreSlotted, AreTold, IsNoneTold, IsToldOf, IsVerdictOn, told_at};
 ghost use Rattle.currency.specs.Named.{AreNamed};
-ghost use Rattle.currency.specs.Sound.{AreHome, AreRecovered, AreSo};
+ghost use Rattle.currency.specs.Sound.{AreApart, AreHome, AreOnly, AreRecovered, AreSo};
 ghost use Rattle.currency.specs.Written.{AreWritten};
 ghost use Rattle.currency.specs.Evident.{AreEvident, AreToldEvident};
 ghost use Rattle.currency.specs.Visible.{sight, sights_at, sights_from};
@@ -194,6 +194,8 @@ pub fn verdicts(
     ensures visible { IfOk result (λ o. IfSome o (λ v. map sight v.items ≡ sights_from 1 places.now.rows.items)) }
     ensures home { IfOk result (λ o. IfSome o (λ v. AreHome (homed_view homed.now) v.items)) }
     ensures recovered { IfOk result (λ o. IfSome o (λ v. AreRecovered (homed_view homed.now) v.items)) }
+    ensures apart { IfOk result (λ o. IfSome o (λ v. AreApart (homed_view homed.now) v.items)) }
+    ensures only { IfOk result (λ o. IfSome o (λ v. AreOnly (homed_view homed.now) v.items)) }
     ensures named { IfOk result (λ o. IfSome o (λ v. AreNamed (homed_view homed.now).unit.log v.items)) }
     ensures written { IfOk result (λ o. IfSome o (λ v. AreWritten (homed_view homed.now) v.items)) }
     ensures evident { IfOk result (λ o. IfSome o (λ v. AreEvident (homed_view homed.now).unit.log flow.now (homed_view homed.now) v.items)) }
