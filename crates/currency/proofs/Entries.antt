@@ -133,8 +133,7 @@ module _ (g : declared-graph.Graph) (home : ℕ → Home) (number : ℕ) (table 
   is_right p t of (told.Recovered r c) recipe = λ x is.
       (let same : of.x ≡ x = different of.x x t.var.0 (variable_at of.x of.scalar of.is ∙ ap (λ (v : declared-var.Var). Some v.0) (sym of.of.of)) is in
       let holds : HoldsOnAllPaths home (graph_view g) of.of.entry.place.0 of.x (recipe_view recipe.0.recipe.now) = recipes of.x of.of.entry recipe.0 of.of.among recipe.1 in
-      let differs : IsOther (graph_view g) of.of.entry.place.0 of.x (recipe_view recipe.0.recipe.now) = other of.x of.of.entry recipe.0 of.of.among recipe.1 in
-      (
+      let differs : IsOther (graph_view g) of.of.entry.place.0 of.x (recipe_view recipe.0.recipe.now) = other of.x of.of.entry recipe.0 of.of.among recipe.1 in (
         subst (λ (q : Recipe). HoldsOnAllPaths home (graph_view g) p x q) (sym recipe.2)
             (subst (λ k. HoldsOnAllPaths home (graph_view g) p k (recipe_view recipe.0.recipe.now)) same (subst (λ q. HoldsOnAllPaths home (graph_view g) q of.x (recipe_view recipe.0.recipe.now)) of.of.place holds)),
         subst (λ (q : Recipe). IsOther (graph_view g) p x q) (sym recipe.2)

@@ -8,8 +8,7 @@ returns-in-Own c = λ e. (ap (λ n. recipe_of c.args.scalar n) (sym c.last_of.en
 
 pub returns-then-is_own : goal.returns-then-is_own
 returns-then-is_own c = λ e.
-    (let own = c.is_own.ensures.0 c.if-is_own.true in
-    (
+    (let own = c.is_own.ensures.0 c.if-is_own.true in (
       ap (λ n. recipe_of c.args.scalar n) (sym c.last_of.ensures ∙ c.in-Recipe.is) ∙ ap Some own,
       subst (λ r. AreHeld c.args.function.now.homes c.args.state.now r) own (c.holds_all.ensures e),
     ))
