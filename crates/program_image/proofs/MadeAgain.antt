@@ -76,4 +76,5 @@ made_again p h tables image is same made_if =
         needed = subst (λ nodes. AreNodesOf (telling_of h made.places made.emitted) nodes rows.told) (sym same.nodes) rows.needed;
         same = same.rows ∙ rows.same;
       };
+      evident = made.evident;
     }

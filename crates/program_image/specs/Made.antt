@@ -10,6 +10,7 @@ use Rattle.graph_core.specs.Validity.{IsValid}
 use Rattle.homed_unit.specs.Homed.{HaveHomes, HomedForm}
 use Rattle.home_assign.specs.Rule.{HaveHomesApart, HaveRegisters, HaveSlots}
 use Rattle.emitted.specs.Emitted.{EmittedForm}
+use Rattle.emit_placed.specs.Told.{AreCountable}
 use Rattle.rv_emit.specs.Emits.{Emits}
 use Rattle.currency.specs.declared.verdict.PlaceVerdict.{PlaceVerdict}
 use Rattle.currency.specs.Evident.{AreEvident}
@@ -25,6 +26,7 @@ use Rattle.image_declarations.specs.Variables.{declared_names, pass_names, stora
 use Rattle.image_tables.specs.Places.{address, addresses_of}
 use Rattle.image_tables.specs.Rows.{AreNodesOf, AreRowsOf, telling_of}
 use Rattle.image_tables.specs.Tables.{change_record}
+use Rattle.image_evidence.specs.Evidence.{AreEvidentIn}
 
 -- Verdicts are borne out by a unit with homes: where one says that a home shows a variable, or gives a recipe for it, that is so on all paths; the change that one names is in the log, and what
 -- one says to write a home does so, and hides the variable.
@@ -59,7 +61,7 @@ pub record IsHomed (mode : Mode) (h : HomedForm) : Type 0 where
 
 -- AN IMAGE IS MADE OF A UNIT WITH HOMES, of a program. Its words with their owners, and its initial bytes, are the code of the unit, which does what the unit does over its homes; each function lies where its code does, with its
 -- frame; each variable is kept where the code has it; each place has the address of its stop, and an entry that of its function; the changes are the unit's, and the names those of the program
--- and of the passes of the changes; and the rows say what is borne out by the unit.
+-- and of the passes of the changes; the rows say what is borne out by the unit; and what a row says to hide a variable is evident in the words of the code, where 32 bits count the instructions of functions.
 pub record IsMadeOf (p : ProgramTree) (h : HomedForm) (m : Form) : Type 0 where
   pub emitted : EmittedForm
   pub emits : Emits h emitted
@@ -75,3 +77,4 @@ pub record IsMadeOf (p : ProgramTree) (h : HomedForm) (m : Form) : Type 0 where
   pub changes : m.changes ≡ map change_record h.unit.log
   pub names : m.names ≡ declared_names p ++ pass_names h.unit.log
   pub rows : HasRowsOf h emitted places m
+  pub evident : AreCountable h → AreEvidentIn h emits.code.arrangement emitted rows.borne_out.flow rows.rows

@@ -9,6 +9,7 @@ use Rattle.image_tables.specs.Tables.{sight_of_verdict}
 use Rattle.emitted.specs.Emitted.{emitted_view}
 use Rattle.image_declarations.specs.Variables.{pass_names}
 use Rattle.image_tables.specs.Rows.{AreNodesOf, AreRowsOf, AreShown, telling_of}
+use Rattle.image_evidence.proofs.Rows.{rows_evident}
 use Rattle.program_image.specs.Made.{AreBorneOut}
 use Rattle.program_image.proofs.MadeAgain.{kept_each}
 use Rattle.program_image.proofs.Owners.{all_owned}
@@ -40,7 +41,10 @@ returns-clause-made c =
     let made = c.in_ok-image.ensures in
     let image = c.in_ok-image.image in
     let emitted = emitted_view c.in_ok-emitted.emitted in
-    λ few. record {
+    let borne_out : AreBorneOut h c.in-Some.verdicts.items = subst (λ o. IfSome o (λ v. AreBorneOut h v.items)) c.in-Some.is c.in_ok-verdicts.ensures.borne_out in
+    λ few.
+    let say : AreRowsOf (telling_of h rows emitted) image.nodes.items c.in-Some.verdicts.items image.rows.items = subst (λ l. AreRowsOf (telling_of h rows emitted) image.nodes.items l image.rows.items) c.deref.ensures.value (made.rows few) in
+    record {
       emitted = emitted;
       emits = c.in_ok-emitted.ensures.emits;
       mode = made.mode;
@@ -56,12 +60,13 @@ returns-clause-made c =
       names = made.names;
       rows = record {
         told = c.in-Some.verdicts.items;
-        borne_out = subst (λ o. IfSome o (λ v. AreBorneOut h v.items)) c.in-Some.is c.in_ok-verdicts.ensures.borne_out;
+        borne_out = borne_out;
         rows = image.rows.items;
-        say = subst (λ l. AreRowsOf (telling_of h rows emitted) image.nodes.items l image.rows.items) c.deref.ensures.value (made.rows few);
+        say = say;
         needed = subst (AreNodesOf (telling_of h rows emitted) image.nodes.items) c.deref.ensures.value (made.nodes few);
         same = refl;
       };
+      evident = λ countable. rows_evident h c.requires.valid emitted c.in_ok-emitted.ensures.emits countable borne_out.flow image.nodes.items rows c.in-Some.verdicts.items image.rows.items borne_out.named borne_out.evident say;
     }
 
 pub returns-clause-image : goal.returns-clause-image
