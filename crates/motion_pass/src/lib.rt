@@ -2,6 +2,7 @@
 #![tactic(auto)]
 
 mod bounds;
+mod cases;
 mod moving;
 mod pass;
 

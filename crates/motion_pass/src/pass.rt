@@ -1,18 +1,26 @@
 //! The pass.
 
-ghost use Rattle.std.specs.Prelude.{◌≡◌, ◌<◌, ◌^◌, IfOk, IfSome, codes, length, map};
+ghost use Rattle.std.specs.Prelude.{◌≡◌, ◌<◌, ◌≤◌, ◌^◌, ◌++◌, IfOk, IfSome, List, [], ◌∷◌, codes, length, map};
 ghost use Rattle.debug_records.specs.Change.{pass_name};
+ghost use Rattle.graph_core.specs.Bounds.{most_blocks};
+ghost use Rattle.graph_core.specs.Graphs as spec;
 ghost use Rattle.graph_core.specs.Graphs.{graph_view, unit_view};
 ghost use Rattle.graph_core.specs.Validity.{IsValid};
 ghost use Rattle.debug_records.specs.declared.change.Kind.TheVariants.{Moved};
+ghost use Rattle.graph_edits.specs.Changes.{Adds, AddsChangesOf, AreCasesOf};
 ghost use Rattle.graph_edits.specs.Kept.{AddsChanges, EachFunction, KeepsFunction, ShareTheSame};
+ghost use Rattle.motion_placement.specs.Placed.{IsEnteredAgain, IsPlaced};
+ghost use Rattle.motion_pass.specs.Amounts.{AreBounded, IsAmount};
+ghost use Rattle.motion_pass.specs.Moves.{AreAllMoved, BecomesIn, IsMovedAssignment};
+ghost use Rattle.motion_pass.specs.Placing.{LeadInside};
 
 use crate::bounds::Amount;
+use crate::cases::add_moved;
 use crate::moving::moved_graph;
 use debug_records::{Kind, PassName};
 use graph_core::{Graph, Unit};
 use graph_edits::{Case, log_cases};
-use motion_placement::place;
+use motion_placement::{Motion, Placement, place};
 use std::alloc::{AllocError, Global};
 
 /// The name of the pass.
@@ -25,61 +33,104 @@ fn motion_name() -> PassName
     }
 }
 
-/// The graph with its computations moved, if some move and the unit stays within bounds, and else an equal graph. How much the unit has is kept.
+/// The graph with its computations placed so, or an equal one where the unit would not stay within bounds. How much the unit has is kept.
+fn moved_within(
+    alloc: Global,
+    graph: &Graph,
+    placement: &Placement,
+    amount: &mut Amount,
+    cases: &mut Vec<Case>,
+) -> Result<Option<Graph>, AllocError>
+    requires are { IsPlaced (graph_view graph.now) placement.now }
+    requires once { IsEnteredAgain (graph_view graph.now).blocks → ⊥ }
+    requires few { length (graph_view graph.now).blocks ≤ most_blocks }
+    requires inside { LeadInside (graph_view graph.now).blocks }
+    ensures becomes { IfOk result (λ o. IfSome o (λ h. (before behind : List spec.Graph) → IsAmount amount.old (before ++ graph_view graph.now ∷ behind) → BecomesIn before (graph_view graph.now) behind (graph_view h))) }
+    ensures amount { IfOk result (λ o. IfSome o (λ h. (before behind : List spec.Graph) → IsAmount amount.old (before ++ graph_view graph.now ∷ behind) → IsAmount amount.new (before ++ graph_view h ∷ behind))) }
+    ensures cases { IfOk result (λ o. IfSome o (λ h. Adds (IsMovedAssignment (graph_view graph.now) (graph_view h)) cases.old.items cases.new.items)) }
+{
+    let moved = moved_graph(alloc, graph, placement)?;
+    let Some(after) = amount.replaced(graph, &moved) else {
+        let same = graph.duplicate(alloc)?;
+        return Ok(Some(same));
+    };
+    if !add_moved(graph, placement, cases)? {
+        return Ok(None);
+    }
+    *amount = after;
+    Ok(Some(moved))
+}
+
+/// The graph with its computations moved, or an equal one where the unit would not stay within bounds or the first block is entered again. None where the search for a placement failed.
 fn graph_after(
     alloc: Global,
     graph: &Graph,
     amount: &mut Amount,
     cases: &mut Vec<Case>,
-) -> Result<Graph, AllocError>
-    ensures { IfOk result (λ v. KeepsFunction (graph_view graph.now) (graph_view v)) }
+) -> Result<Option<Graph>, AllocError>
+    requires few { length (graph_view graph.now).blocks ≤ most_blocks }
+    requires inside { LeadInside (graph_view graph.now).blocks }
+    ensures becomes { IfOk result (λ o. IfSome o (λ h. (before behind : List spec.Graph) → IsAmount amount.old (before ++ graph_view graph.now ∷ behind) → BecomesIn before (graph_view graph.now) behind (graph_view h))) }
+    ensures amount { IfOk result (λ o. IfSome o (λ h. (before behind : List spec.Graph) → IsAmount amount.old (before ++ graph_view graph.now ∷ behind) → IsAmount amount.new (before ++ graph_view h ∷ behind))) }
+    ensures cases { IfOk result (λ o. IfSome o (λ h. Adds (IsMovedAssignment (graph_view graph.now) (graph_view h)) cases.old.items cases.new.items)) }
 {
-    if let Some(placement) = place(alloc, graph)? {
-        let (moved, mut found) = moved_graph(alloc, graph, &placement)?;
-        if let Some(after) = amount.replaced(graph, &moved) {
-            *amount = after;
-            cases.append(&mut found)?;
-            return Ok(moved);
+    let Some(motion) = place(alloc, graph)? else {
+        return Ok(None);
+    };
+    match motion {
+        Motion::EnteredAgain => {
+            let same = graph.duplicate(alloc)?;
+            Ok(Some(same))
+        }
+        Motion::Placed(placement) => {
+            let made = moved_within(alloc, graph, &placement, amount, cases)?;
+            Ok(made)
         }
     }
-    let same = graph.duplicate(alloc)?;
-    Ok(same)
 }
 
-/// The graphs with their computations moved, one after the other.
+/// The graphs with their computations moved, one after the other. None where one could not be placed, or its numbers are too large.
 fn move_graphs(
     alloc: Global,
     graphs: &[Graph],
     cases: &mut Vec<Case>,
-) -> Result<Vec<Graph>, AllocError>
-    ensures { IfOk result (λ v. EachFunction KeepsFunction (map graph_view graphs.now) (map graph_view v.items)) }
+) -> Result<Option<Vec<Graph>>, AllocError>
+    requires bounded { AreBounded (map graph_view graphs.now) }
+    requires none { cases.old.items ≡ [] }
+    ensures moved { IfOk result (λ o. IfSome o (λ v. AreAllMoved (map graph_view graphs.now) (map graph_view v.items))) }
+    ensures cases { IfOk result (λ o. IfSome o (λ v. AreCasesOf IsMovedAssignment (map graph_view graphs.now) (map graph_view v.items) cases.new.items)) }
 {
     let mut amount = Amount::of(graphs);
     let mut moved = Vec::new(alloc);
-    let mut left = graphs;
-    while let [graph, rest @ ..] = left {
-        let next = graph_after(alloc, graph, &mut amount, cases)?;
+    for number in 0..graphs.len() {
+        let graph = &graphs[number];
+        let Some(next) = graph_after(alloc, graph, &mut amount, cases)? else {
+            return Ok(None);
+        };
         moved.push(next)?;
-        left = rest;
     }
-    Ok(moved)
+    Ok(Some(moved))
 }
 
 /// The unit with its computations moved (Knoop, Rüthing and Steffen 1992), and a change of kind `Moved` for each assignment of a variable that reads a temporary in place of
-/// its computation.
+/// its computation, in order of place, then of block and instruction.
 ///
-/// A function whose graph would pass a bound of valid units is left as it was. None where what was made is not valid, or has 2^31 changes or more:
-/// no unit of a program is known to come to that. The only error is want of memory.
+/// A function whose graph would pass a bound of valid units is left as it was, and one whose first block is entered again. None where the search for a placement failed, what was made
+/// is not valid, or an instruction's number or the number of changes is too large for the log: no unit of a program is known to come to that. The only error is want of memory.
 pub fn move_code(alloc: Global, unit: &Unit) -> Result<Option<Unit>, AllocError>
     requires valid { IsValid (unit_view unit.now) }
     requires room { length (unit_view unit.now).log < 2 ^ 31 }
     ensures valid { IfOk result (λ o. IfSome o (λ v. IsValid (unit_view v))) }
     ensures shared { IfOk result (λ o. IfSome o (λ v. ShareTheSame (unit_view unit.now) (unit_view v))) }
     ensures log { IfOk result (λ o. IfSome o (λ v. AddsChanges (pass_name (codes "motion")) Moved (unit_view unit.now) (unit_view v))) }
+    ensures changes { IfOk result (λ o. IfSome o (λ v. AddsChangesOf (pass_name (codes "motion")) Moved IsMovedAssignment (unit_view unit.now) (unit_view v))) }
     ensures functions { IfOk result (λ o. IfSome o (λ v. EachFunction KeepsFunction (unit_view unit.now).graphs (unit_view v).graphs)) }
+    ensures moved { IfOk result (λ o. IfSome o (λ v. AreAllMoved (unit_view unit.now).graphs (unit_view v).graphs)) }
 {
     let mut cases = Vec::new(alloc);
-    let graphs = move_graphs(alloc, &unit.graphs, &mut cases)?;
+    let Some(graphs) = move_graphs(alloc, &unit.graphs, &mut cases)? else {
+        return Ok(None);
+    };
     let mut moved = unit.duplicate(alloc)?;
     moved.graphs = graphs;
     if !log_cases(&mut moved.log, motion_name(), Kind::Moved, &mut cases)? {

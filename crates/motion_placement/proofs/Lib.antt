@@ -1,5 +1,6 @@
 pub mod Rows
 pub mod Fated
+pub mod Entered
 pub mod Members
 pub mod Acted
 pub mod Edges

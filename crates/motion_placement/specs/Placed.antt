@@ -4,7 +4,7 @@ use Rattle.std.specs.Global.{Vec}
 use Rattle.graph_core.specs.declared.name.Name as declared-name
 use Rattle.graph_core.specs.Graphs.{Block, Graph, Instruction}
 use Rattle.graph_core.specs.Computations.{Computation}
-use Rattle.motion_rule.specs.Ways.{Point, IsCome, IsInserted, IsRead}
+use Rattle.motion_rule.specs.Ways.{Point, along, IsCome, IsInserted, IsRead}
 use Rattle.motion_points.specs.declared.computation.Computation as declared-computation
 use Rattle.motion_points.specs.Columns.{number_at}
 use Rattle.motion_points.specs.Computing.{computation_view, doing}
@@ -16,6 +16,8 @@ use Rattle.motion_problems.specs.declared.problems.Facts.{Facts}
 use Rattle.motion_placement.specs.declared.fates.Fate.{Fate}
 use Rattle.motion_placement.specs.declared.placement.Action.{Action}
 use Rattle.motion_placement.specs.declared.placement.Action.TheVariants.{Keep, Read, Compute}
+use Rattle.motion_placement.specs.declared.placement.Motion.{Motion}
+use Rattle.motion_placement.specs.declared.placement.Motion.TheVariants.{EnteredAgain, Placed}
 use Rattle.motion_placement.specs.declared.placement.Placement.{Placement}
 use Rattle.motion_placement.specs.Fates.{fate_of}
 use Rattle.motion_placement.specs.Columns.{AreFated, AreRows, HasFacts, fates_of, row_of}
@@ -85,8 +87,18 @@ pub record IsPlaced (g : Graph) (p : Placement) : Type 0 where
   pub fates : (n : ℕ) (b : Block) → slice_get g.blocks n ≡ Some b → reached_by p n ≡ true → (k : ℕ) (e : Computation) → slice_get (all_of p) k ≡ Some e → AreFated g.blocks n b (row_of p.numbers.items n) k e (fates_of p.fates.items n)
   pub columns : (k : ℕ) (e : Computation) → slice_get (all_of p) k ≡ Some e → IsInColumn g p k e
   pub few : length p.columns.items < 4294967296
+  pub as_many : length p.temporaries.items ≡ length (all_of p)
   pub named : (k : ℕ) (e : Computation) → slice_get (all_of p) k ≡ Some e → ((t : declared-name.Name) × (temporary_of p.temporaries.items k ≡ Some t)) ↔ IsReadSomewhere g.blocks e
   pub numbered : AreNumbered g.name_count p.temporaries.items p.end_name
+
+-- some path comes to an edge into the first block
+abbrev pub IsEnteredAgain : List Block → Type 0
+IsEnteredAgain blocks = (m : ℕ) × IsCome blocks (along m 0)
+
+-- WHAT IS ANSWERED: a graph whose first block is entered again is left; else what is placed is that by the rule.
+abbrev pub IsAnswered : Graph → Motion → Type 0
+IsAnswered g EnteredAgain = IsEnteredAgain g.blocks
+IsAnswered g (Placed p) = IsPlaced g p × (IsEnteredAgain g.blocks → ⊥)
 
 -- a computation has this temporary
 pub record HasTemporary (p : Placement) (e : Computation) (t : declared-name.Name) : Type 0 where

@@ -6,4 +6,4 @@ mod columns;
 mod fates;
 mod placement;
 
-pub use placement::{Action, Placement, place};
+pub use placement::{Action, Motion, Placement, place};

@@ -14,7 +14,7 @@ ghost use Rattle.motion_points.specs.Words.{has};
 ghost use Rattle.motion_rule.specs.Ways.{IsCome, IsInserted, along, within};
 ghost use Rattle.motion_placement.specs.Columns.{fates_of, row_of};
 ghost use Rattle.motion_placement.specs.Fates as fate;
-ghost use Rattle.motion_placement.specs.Placed.{AreNumbered, IsMovedAnywhere, IsMovedBefore, IsPlaced, is_on_edge, moved_by, stays_by};
+ghost use Rattle.motion_placement.specs.Placed.{AreNumbered, IsAnswered, IsMovedAnywhere, IsMovedBefore, IsPlaced, is_on_edge, moved_by, stays_by};
 
 use crate::columns::{Placing, Solved, numbers_of, row_at};
 use crate::fates::{Fate, NO_FATE, fate_at};
@@ -48,9 +48,17 @@ pub struct Placement {
     columns: Vec<Solved>,
     /// Which blocks some path reaches.
     reached: Vec<bool>,
-    /// From here on names are temporaries of computations, up to the other one.
-    first_name: u32,
+    /// The name behind all temporaries of computations.
     end_name: u32,
+}
+
+/// What the placing of a graph's computations came to.
+#[derive(Drop)]
+pub enum Motion {
+    /// They stay: some path comes to an edge that leads into the first block, so nothing can be done before the entry alone.
+    EnteredAgain,
+    /// They are done so.
+    Placed(Placement),
 }
 
 /// Whether an instruction stays that does a computation: it is the latest point, and its value would not be used again.
@@ -376,15 +384,13 @@ fn placed(
         fates,
         columns,
         reached,
-        first_name: graph.name_count,
         end_name: made.end_name,
     }))
 }
 
-/// Where the computations of a graph's reached code are done by lazy code motion. None where all stay, or where an edge leads into the first
-/// block: nothing can be done before the entry alone then.
-pub fn place(alloc: Global, graph: &Graph) -> Result<Option<Placement>, AllocError>
-    ensures { IfOk result (λ o. IfSome o (λ made. IsPlaced (graph_view graph.now) made)) }
+/// Where the computations of a graph's reached code are done by lazy code motion. None where the search for it failed, or names run out.
+pub fn place(alloc: Global, graph: &Graph) -> Result<Option<Motion>, AllocError>
+    ensures { IfOk result (λ o. IfSome o (λ motion. IsAnswered (graph_view graph.now) motion)) }
 {
     let order = reached_in_order(alloc, &graph.blocks)?;
     let Some(reached) = reached_blocks(alloc, &graph.blocks, &order)? else {
@@ -392,19 +398,13 @@ pub fn place(alloc: Global, graph: &Graph) -> Result<Option<Placement>, AllocErr
     };
     let back = comes_back(&graph.blocks, &reached);
     if back {
-        return Ok(None);
+        return Ok(Some(Motion::EnteredAgain));
     }
     let Some(computations) = Computations::new(alloc, &graph.blocks, &reached)? else {
         return Ok(None);
     };
-    if computations.all.is_empty() {
-        return Ok(None);
-    }
     let Some(placement) = placed(alloc, graph, &order, computations, reached)? else {
         return Ok(None);
     };
-    if placement.first_name == placement.end_name {
-        return Ok(None);
-    }
-    Ok(Some(placement))
+    Ok(Some(Motion::Placed(placement)))
 }

@@ -1,6 +1,6 @@
 //! Which blocks of a graph some path reaches.
 
-ghost use Rattle.std.specs.Prelude.{◌≡◌, ℕ, IfOk, IfSome, false, map, slice_index_or};
+ghost use Rattle.std.specs.Prelude.{◌≡◌, ℕ, IfOk, IfSome, false, map, slice_index_or, true};
 ghost use Rattle.graph_core.specs.Graphs.{block_view, end_view};
 ghost use Rattle.graph_core.specs.Paths.{Among};
 ghost use Rattle.graph_core.specs.Uses.{targets_of};
@@ -58,7 +58,8 @@ pub fn reached_blocks(
 
 /// Whether an end leads to the first block.
 fn leads_to_first(end: &End) -> bool
-    ensures { result ≡ false → Among 0 (targets_of (end_view end.now)) → ⊥ }
+    ensures never { result ≡ false → Among 0 (targets_of (end_view end.now)) → ⊥ }
+    ensures leads { result ≡ true → Among 0 (targets_of (end_view end.now)) }
 {
     match end {
         End::Return(_) => false,
@@ -73,7 +74,8 @@ fn leads_to_first(end: &End) -> bool
 
 /// Whether a block that paths reach leads to the first.
 pub fn comes_back(blocks: &[Block], reached: &[bool]) -> bool
-    ensures { result ≡ false → (m : ℕ) → HasEdge (map block_view blocks.now) (λ n. slice_index_or reached.now n false) m 0 → ⊥ }
+    ensures never { result ≡ false → (m : ℕ) → HasEdge (map block_view blocks.now) (λ n. slice_index_or reached.now n false) m 0 → ⊥ }
+    ensures comes { result ≡ true → (m : ℕ) × HasEdge (map block_view blocks.now) (λ n. slice_index_or reached.now n false) m 0 }
 {
     for number in 0..blocks.len() {
         let block = &blocks[number];

@@ -1,11 +1,15 @@
-use Rattle.std.proofs.Common.{length, map}
+use Rattle.std.proofs.Common.{◌≡◌, ◌++◌, drop, length, map}
 use Rattle.graph_core.specs.Graphs.{graph_view}
-use Rattle.graph_edits.specs.Kept.{KeepsFunction}
-use Rattle.graph_edits.proofs.Functions.{Left}
+use Rattle.graph_edits.proofs.OfFunctions.{AreCasesBelow}
+use Rattle.motion_pass.specs.Amounts.{IsAmount}
+use Rattle.motion_pass.specs.Moves.{IsMovedAssignment}
+use Rattle.motion_pass.proofs.Functions.{IsAhead}
 use Rattle.motion_pass.proofs.pass.move_graphs.Given as goal
 
-abbrev pub invariant-loop-left : goal.invariant-loop-left
-invariant-loop-left l = Left KeepsFunction (map graph_view l.fn.graphs) (map graph_view l.moved.items) (map graph_view l.left)
-
-abbrev pub decreases-loop-left : goal.decreases-loop-left
-decreases-loop-left l = length l.left
+abbrev pub invariant-loop-number : goal.invariant-loop-number
+invariant-loop-number l = record {
+  count : length (map graph_view l.moved.items) ≡ l.number;
+  amount : IsAmount l.amount (map graph_view l.moved.items ++ drop l.number (map graph_view l.graphs));
+  ahead : IsAhead (map graph_view l.graphs) l.number (map graph_view l.moved.items);
+  cases : AreCasesBelow IsMovedAssignment (map graph_view l.graphs) (map graph_view l.moved.items) l.number l.cases.items;
+}

@@ -70,6 +70,7 @@ returns c =
     } in
     let numbered = subst (λ o. IfSome o (λ (m : Numbering). AreNumbered c.args.graph.now.name_count m.temporaries.items m.end_name)) c.in-Some-2.is c.in_ok-made.ensures.numbered in
     let flagged = subst (λ o. IfSome o (λ (m : Numbering). (k : ℕ) → k < length c.deref-9.result.now → is_some (slice_index_or m.temporaries.items k None) ≡ slice_index_or c.deref-9.result.now k false)) c.in-Some-2.is c.in_ok-made.ensures.flagged in
+    let sized = subst (λ o. IfSome o (λ (m : Numbering). length m.temporaries.items ≡ length c.deref-9.result.now)) c.in-Some-2.is c.in_ok-made.ensures.size in
     record {
       reached = c.requires.reached;
       known = c.requires.known;
@@ -90,5 +91,9 @@ returns c =
           let count : length c.deref-9.result.now ≡ c.len.result = ap length c.deref-9.ensures.value ∙ c.in_ok-treated.ensures.size in
           named_rule blocks reached all rows fates told (get key_cmp c.args.computations.numbers) c.requires.known c.in_ok-fates.ensures.sizes k e is_it (temporary_of made.temporaries.items k) (slice_index_or c.in_ok-treated.treated.items k false)
           (flagged k (omega (arith, inside, count)) ∙ ap (λ (ts : List Bool). slice_index_or ts k false) c.deref-9.ensures.value) marked);
+      as_many =
+          (let size = length-map c.args.computations.all.items computation_view in
+          let count : length c.deref-9.result.now ≡ c.len.result = ap length c.deref-9.ensures.value ∙ c.in_ok-treated.ensures.size in
+          omega (arith, sized, size, count, c.len.ensures));
       numbered = numbered;
     }

@@ -1,0 +1,10 @@
+mod Doing
+mod Treated
+mod Acting
+mod Moved
+mod Functions
+mod Reading
+mod Along
+mod Within
+mod Leading
+mod More

@@ -1,0 +1,34 @@
+use Rattle.std.proofs.Common.{◌++◌, ◌∷◌, arith}
+use Rattle.graph_core.specs.Graphs.{graph_view}
+use Rattle.motion_pass.proofs.Within.{blocks_beyond, instructions_beyond, is_amount, is_within, own_beyond}
+use Rattle.motion_pass.proofs.bounds.Amount.replaced.Goals as goal
+
+pub returns-then-moved-gt-MAX_NAMES-clause-beyond : goal.returns-then-moved-gt-MAX_NAMES-clause-beyond
+returns-then-moved-gt-MAX_NAMES-clause-beyond c = λ before behind is none within.
+    (let few = within.names in
+    omega (arith, few, c.if-moved-gt-MAX_NAMES.true))
+
+pub returns-then-own-gt-MAX_FUNCTION_INSTRUCTIONS-clause-beyond : goal.returns-then-own-gt-MAX_FUNCTION_INSTRUCTIONS-clause-beyond
+returns-then-own-gt-MAX_FUNCTION_INSTRUCTIONS-clause-beyond c = λ before behind is none within.
+    own_beyond (graph_view c.args.moved.now) (before ++ graph_view c.args.moved.now ∷ behind) c.counted_of-own.result c.with-all.result.instructions c.with-all.result.blocks c.counted_of-own.ensures (c.with-all.ensures.instructions before behind is) (c.with-all.ensures.blocks before behind is)
+    (omega (arith, c.if-own-gt-MAX_FUNCTION_INSTRUCTIONS.true)) within
+
+pub returns-then-all-gt-MAX_INSTRUCTIONS-clause-beyond : goal.returns-then-all-gt-MAX_INSTRUCTIONS-clause-beyond
+returns-then-all-gt-MAX_INSTRUCTIONS-clause-beyond c = λ before behind is none within.
+    instructions_beyond (graph_view c.args.moved.now) (before ++ graph_view c.args.moved.now ∷ behind) c.counted_of-own.result c.with-all.result.instructions c.with-all.result.blocks c.counted_of-own.ensures (c.with-all.ensures.instructions before behind is) (c.with-all.ensures.blocks before behind is)
+    (omega (arith, c.if-all-gt-MAX_INSTRUCTIONS.true)) within
+
+pub returns-then-all-gt-MAX_BLOCKS-clause-beyond : goal.returns-then-all-gt-MAX_BLOCKS-clause-beyond
+returns-then-all-gt-MAX_BLOCKS-clause-beyond c = λ before behind is none within.
+    blocks_beyond (graph_view c.args.moved.now) (before ++ graph_view c.args.moved.now ∷ behind) c.counted_of-own.result c.with-all.result.instructions c.with-all.result.blocks c.counted_of-own.ensures (c.with-all.ensures.instructions before behind is) (c.with-all.ensures.blocks before behind is)
+    (omega (arith, c.if-all-gt-MAX_BLOCKS.true)) within
+
+pub returns-clause-within : goal.returns-clause-within
+returns-clause-within c = λ before behind is.
+    is_within (graph_view c.args.moved.now) (before ++ graph_view c.args.moved.now ∷ behind) c.counted_of-own.result c.with-all.result.instructions c.with-all.result.blocks c.counted_of-own.ensures (c.with-all.ensures.instructions before behind is) (c.with-all.ensures.blocks before behind is)
+    (omega (arith, c.if-moved-gt-MAX_NAMES.false)) (omega (arith, c.if-own-gt-MAX_FUNCTION_INSTRUCTIONS.false)) (omega (arith, c.if-all-gt-MAX_INSTRUCTIONS.false)) (omega (arith, c.if-all-gt-MAX_BLOCKS.false))
+
+pub returns-clause-amount : goal.returns-clause-amount
+returns-clause-amount c = λ before behind is.
+    is_amount (graph_view c.args.moved.now) (before ++ graph_view c.args.moved.now ∷ behind) c.counted_of-own.result c.with-all.result.instructions c.with-all.result.blocks c.counted_of-own.ensures (c.with-all.ensures.instructions before behind is) (c.with-all.ensures.blocks before behind is)
+    (omega (arith, c.if-all-gt-MAX_INSTRUCTIONS.false)) (omega (arith, c.if-all-gt-MAX_BLOCKS.false))

@@ -1,0 +1,9 @@
+use Rattle.std.proofs.Common.{rules, tests}
+use Rattle.std.proofs.lemmas.Iterator.{YieldsList-from_slice}
+use Rattle.graph_core.specs.Graphs.{Block, block_view}
+use Rattle.graph_core.specs.Validity.{counts, total}
+use Rattle.graph_core.proofs.Lists.{adds_up}
+use Rattle.motion_pass.proofs.bounds.counted_along.Goals as goal
+
+pub returns : goal.returns
+returns c = adds_up (λ (b : Block). total counts b.instructions) block_view _ _ c.fold.ensures.ran (YieldsList-from_slice c.args.blocks.now cc) (λ a x b q k. search (rules, tests))

@@ -1,0 +1,5 @@
+pub mod Moving
+pub mod Moves
+pub mod Placing
+pub mod Amounts
+pub mod Cases

@@ -1,0 +1,135 @@
+//! The assignments that read temporaries, as cases of a log.
+
+ghost use Rattle.std.specs.Prelude.{◌≡◌, ◌↔◌, ◌<◌, ◌≤◌, IfOk, Some, length, map, option_map, slice_get, true};
+ghost use Rattle.debug_records.specs.declared.change.Var as declared-var;
+ghost use Rattle.graph_core.specs.declared.name.Name as declared-name;
+ghost use Rattle.graph_core.specs.Bounds.{most_blocks};
+ghost use Rattle.graph_core.specs.Computations.{Computation};
+ghost use Rattle.graph_core.specs.Graphs as spec;
+ghost use Rattle.graph_core.specs.Graphs.{block_view, graph_view, scalar_view};
+ghost use Rattle.graph_edits.specs.Changes.{Adds};
+ghost use Rattle.motion_facts.specs.Inner.{point_at};
+ghost use Rattle.motion_placement.specs.Placed.{IsPlaced};
+ghost use Rattle.motion_pass.specs.Cases.{IsReadingAt, IsReadingIn, variable_in};
+ghost use Rattle.motion_pass.specs.Moves.{IsReadingAssignment};
+ghost use Rattle.motion_pass.specs.Moving.{IsReadAt};
+ghost use Rattle.motion_pass.specs.Placing.{placed};
+
+use debug_records::{Place, Var};
+use graph_core::{Block, Graph, Name, Scalar};
+use graph_edits::Case;
+use motion_placement::{Action, Placement};
+use std::alloc::AllocError;
+
+/// A point of a graph: the place in force there, if there is one, its block, how many instructions stand before it, and whether a temporary is read there.
+#[derive(Drop)]
+struct Point {
+    place: Option<Place>,
+    block: u32,
+    index: usize,
+    reads: bool,
+}
+
+/// Whether an instruction reads a temporary.
+fn reads_at(placement: &Placement, number: u32, index: usize) -> bool
+    ensures { (g : spec.Graph) → IsPlaced g placement.now → (b : spec.Block) → slice_get g.blocks number ≡ Some b → index < length b.instructions → (result ≡ true) ↔ ((e : Computation) × IsReadAt g.blocks e (point_at number b index)) }
+{
+    match placement.action(number, index) {
+        Action::Keep => false,
+        Action::Read(_) => true,
+        Action::Compute(_, _) => true,
+    }
+}
+
+/// The variable that a name is, if it is one.
+fn variable_of(scalars: &[Scalar], name: Name) -> Option<Var>
+    ensures { option_map (λ (v : declared-var.Var). v.0) result ≡ variable_in (map scalar_view scalars.now) name.0 }
+{
+    match scalars.get(name.0 as usize) {
+        Some(scalar) => Some(scalar.var),
+        None => None,
+    }
+}
+
+/// Appends the case of what a point writes, if it reads a temporary and writes a scalar. False where its number is too large.
+fn add_case(
+    scalars: &[Scalar],
+    point: &Point,
+    target: Option<Name>,
+    cases: &mut Vec<Case>,
+) -> Result<bool, AllocError>
+    ensures { IfOk result (λ whole. whole ≡ true → Adds (IsReadingAt (map scalar_view scalars.now) point.now.reads (placed point.now.place) point.now.block point.now.index (option_map (λ (n : declared-name.Name). n.0) target)) cases.old.items cases.new.items) }
+{
+    if !point.reads {
+        return Ok(true);
+    }
+    let Some(name) = target else {
+        return Ok(true);
+    };
+    let Some(place) = point.place else {
+        return Ok(true);
+    };
+    let Some(var) = variable_of(scalars, name) else {
+        return Ok(true);
+    };
+    if point.index > 0xffff_ffff {
+        return Ok(false);
+    }
+    cases.push(Case {
+        place,
+        block: point.block,
+        index: point.index as u32,
+        operand: 0,
+        var,
+    })?;
+    Ok(true)
+}
+
+/// Appends the cases of a block. False where their numbers are too large.
+fn add_block(
+    graph: &Graph,
+    placement: &Placement,
+    number: u32,
+    block: &Block,
+    cases: &mut Vec<Case>,
+) -> Result<bool, AllocError>
+    requires are { IsPlaced (graph_view graph.now) placement.now }
+    requires at { slice_get (graph_view graph.now).blocks number ≡ Some (block_view block.now) }
+    ensures { IfOk result (λ whole. whole ≡ true → Adds (IsReadingIn (graph_view graph.now).scalars (graph_view graph.now).blocks number (block_view block.now)) cases.old.items cases.new.items) }
+{
+    let mut place = block.place;
+    for index in 0..block.instructions.len() {
+        let instruction = &block.instructions[index];
+        let point = Point {
+            place,
+            block: number,
+            index,
+            reads: reads_at(placement, number, index),
+        };
+        if !add_case(&graph.scalars, &point, instruction.target(), cases)? {
+            return Ok(false);
+        }
+        place = instruction.marker().or(place);
+    }
+    Ok(true)
+}
+
+/// Appends the cases of a function: the assignments of scalars that read temporaries, as its computations are placed. They come block by block. False where an instruction has a number
+/// of 2^32 or more.
+pub fn add_moved(
+    graph: &Graph,
+    placement: &Placement,
+    cases: &mut Vec<Case>,
+) -> Result<bool, AllocError>
+    requires are { IsPlaced (graph_view graph.now) placement.now }
+    requires few { length (graph_view graph.now).blocks ≤ most_blocks }
+    ensures { IfOk result (λ whole. whole ≡ true → Adds (IsReadingAssignment (graph_view graph.now)) cases.old.items cases.new.items) }
+{
+    for number in 0..graph.blocks.len() {
+        let block = &graph.blocks[number];
+        if !add_block(graph, placement, number as u32, block, cases)? {
+            return Ok(false);
+        }
+    }
+    Ok(true)
+}
