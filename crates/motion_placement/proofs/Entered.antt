@@ -1,5 +1,5 @@
 -- Edges that paths come to.
-use Rattle.std.proofs.Common.{◌≡◌, ℕ, Bool, List}
+use Rattle.std.proofs.Common.{ℕ, Bool, List}
 use Rattle.graph_core.specs.Graphs.{Block}
 use Rattle.motion_rule.specs.Ways.{along, leaves, IsCome, goes}
 use Rattle.motion_flow.specs.Flowing.{HasEdge}
