@@ -4,9 +4,10 @@ use Rattle.debug_records.specs.Change.{pass_name}
 use Rattle.debug_records.specs.declared.change.Kind.TheVariants.{Moved, Removed, Replaced}
 use Rattle.graph_core.specs.Graphs.{UnitForm}
 use Rattle.graph_edits.specs.Changes.{AddsChangesOf}
-use Rattle.graph_edits.specs.Kept.{AddsChanges, EachFunction, KeepsFunction}
+use Rattle.graph_edits.specs.Kept.{EachFunction}
 use Rattle.copy_rule.specs.Copying.{IsPropagated}
 use Rattle.replaced_reads.specs.Reads.{IsReplacedRead}
+use Rattle.motion_pass.specs.Moves.{AreAllMoved, IsMovedAssignment}
 use Rattle.idle_rule.specs.Removing.{IsReduced}
 use Rattle.removed_writes.specs.Writes.{IsRemovedWrite}
 
@@ -15,10 +16,11 @@ pub record PropagatesCopies (u v : UnitForm) : Type 0 where
   pub changes : AddsChangesOf (pass_name (codes "copy")) Replaced IsReplacedRead u v
   pub functions : EachFunction IsPropagated u.graphs v.graphs
 
--- A step of lazy code motion: each function keeps its entry, its parameters and its variables, and behind the old changes only moved computations are logged. Which move, and where to, is not said.
+-- A step of lazy code motion: the computations of each function are moved by the rule, where the unit stays within bounds, and behind the old changes one is logged for each assignment of a variable that
+-- reads a temporary in place of its computation, and no other.
 pub record MovesCode (u v : UnitForm) : Type 0 where
-  pub changes : AddsChanges (pass_name (codes "motion")) Moved u v
-  pub functions : EachFunction KeepsFunction u.graphs v.graphs
+  pub changes : AddsChangesOf (pass_name (codes "motion")) Moved IsMovedAssignment u v
+  pub functions : AreAllMoved u.graphs v.graphs
 
 -- A step of the removal of dead assignments: the writes that go are gone from each function, and behind the old changes one is logged for each of them that wrote a variable, and no other.
 pub record RemovesDead (u v : UnitForm) : Type 0 where

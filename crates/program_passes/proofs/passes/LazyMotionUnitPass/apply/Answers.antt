@@ -1,7 +1,8 @@
 use Rattle.std.specs.Prelude.{codes}
 use Rattle.debug_records.specs.Change.{pass_name}
 use Rattle.debug_records.specs.declared.change.Kind.TheVariants.{Moved}
-use Rattle.graph_edits.specs.Kept.{AddsChanges, EachFunction, KeepsFunction}
+use Rattle.graph_edits.specs.Changes.{AddsChangesOf}
+use Rattle.motion_pass.specs.Moves.{AreAllMoved, IsMovedAssignment}
 use Rattle.graph_core.specs.Graphs.{unit_view}
 use Rattle.pass_runs.proofs.Shape.{kept_by}
 use Rattle.program_passes.specs.Steps.{MovesCode}
@@ -14,5 +15,5 @@ returns-clause-kept c = kept_by (unit_view c.args.unit.now) c.move_code.result c
 pub returns-clause-step : goal.returns-clause-step
 returns-clause-step c =
     let u = unit_view c.args.unit.now in
-    of_both c.move_code.result (λ v. AddsChanges (pass_name (codes "motion")) Moved u (unit_view v)) (λ v. EachFunction KeepsFunction u.graphs (unit_view v).graphs) (λ v. MovesCode u (unit_view v))
-    (λ v changes functions. record { changes = changes; functions = functions }) c.move_code.ensures.log c.move_code.ensures.functions
+    of_both c.move_code.result (λ v. AddsChangesOf (pass_name (codes "motion")) Moved IsMovedAssignment u (unit_view v)) (λ v. AreAllMoved u.graphs (unit_view v).graphs) (λ v. MovesCode u (unit_view v))
+    (λ v changes functions. record { changes = changes; functions = functions }) c.move_code.ensures.changes c.move_code.ensures.moved
