@@ -78,7 +78,7 @@ module _ (h : HomedForm) (valid : IsValid h.unit) (e : EmittedForm) (emits : Emi
       → IsWriterOf f g via y w → is_same_home (home_of h f y) (home_of h f x) ≡ true → address_of_writer h.unit.graphs e.functions w ≡ Some address → WasWritten h emits.code.arrangement e flow kind v p change start address
   written kind v p change start f x y via g w address is of logged assigned path writes shared at =
       let one : IsToldAt h valid emits.code.arrangement e emits.told f g is via (home_of h f x) w = writer_words h valid emits.code.arrangement e emits.told f g is emits.tables emits.bindings countable via y x w writes shared in
-      let same : one.address ≡ address = same_Some one.address address (sym one.is ∙ at) in
+      let same : one.address ≡ address = same_Some one.address address (sym one.at ∙ at) in
       record {
         scalar = record { f = f; graph = g; x = x; is = is; of = of };
         logged = logged;
@@ -93,7 +93,7 @@ module _ (h : HomedForm) (valid : IsValid h.unit) (e : EmittedForm) (emits : Emi
       → is_same_home (home_of h f y) (home_of h f x) ≡ true → (address : ℕ) × (address_of_writer h.unit.graphs e.functions w ≡ Some address) × WasWritten h emits.code.arrangement e flow kind v p c start address
   with_address v p c start f x y via kind g w is of logged assigned path writes shared =
       let one : IsToldAt h valid emits.code.arrangement e emits.told f g is via (home_of h f x) w = writer_words h valid emits.code.arrangement e emits.told f g is emits.tables emits.bindings countable via y x w writes shared in
-      (one.address, one.is, written kind v p c start f x y via g w one.address is of logged assigned path writes shared one.is)
+      (one.address, one.at, written kind v p c start f x y via g w one.address is of logged assigned path writes shared one.at)
 
   moved : (v p c start f x : ℕ) (g : Graph) (w : declared-writer.Writer) → slice_get h.unit.graphs f ≡ Some g → IsVariable g x v → IsLogged h.unit.log c Moved v → (c2 : ℕ) → Hides h.unit.log flow (home_of h f) f g x v p (cause.Moved c2 start w)
       → IsShown v p (verdict.Noncurrent c start (address_of_some h.unit.graphs e.functions (Some w)))

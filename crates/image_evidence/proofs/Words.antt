@@ -95,7 +95,7 @@ module _ (h : HomedForm) (valid : IsValid h.unit) (a : Arrangement) (e : Emitted
   -- What is told to write a name is a word that writes its home, in its place.
   pub record IsToldAt (place : ℕ) (home : Home) (w : declared-writer.Writer) : Type 0 where
     pub address : ℕ
-    pub is : address_of_writer h.unit.graphs e.functions w ≡ Some address
+    pub at : address_of_writer h.unit.graphs e.functions w ≡ Some address
     pub word : WritesAt h a e f place home address
 
   code_told : IsTold h a e f
@@ -115,7 +115,7 @@ module _ (h : HomedForm) (valid : IsValid h.unit) (a : Arrangement) (e : Emitted
           let number : instruction_number g l (length before) ≡ instructions_before g.blocks l + length before = number_is g l (length before) b at (omega (arith, all)) (countable f g is) in
           record {
             address = address_of one.writer.index;
-            is = ap (λ (o : Option Graph). option_and_then (λ (q : Graph). option_and_then (λ (c : FunctionCode). slice_get c.writers (instruction_number q l (length before))) (slice_get e.functions f)) o) is
+            at = ap (λ (o : Option Graph). option_and_then (λ (q : Graph). option_and_then (λ (c : FunctionCode). slice_get c.writers (instruction_number q l (length before))) (slice_get e.functions f)) o) is
                 ∙ ap (λ (o : Option FunctionCode). option_and_then (λ (c : FunctionCode). slice_get c.writers (instruction_number g l (length before))) o) code_told.is ∙ ap (slice_get code_told.code.writers) number ∙ one.told;
             word = record { index = one.writer.index; is = refl; writes = one.writer.writes; owner = one.writer.owner ∙ ap (λ (o : Option ℕ). option_map_or (λ p. p) o 0) in_place };
           }
@@ -125,10 +125,10 @@ module _ (h : HomedForm) (valid : IsValid h.unit) (a : Arrangement) (e : Emitted
           let one : IsToldBinder h a e code_told.code f k g.entry (home_of h f y) = binders f g code_told.code is code_told.is k y at in
           record {
             address = address_of one.binder.index;
-            is = ap (λ (o : Option FunctionCode). option_and_then (λ (c : FunctionCode). slice_get c.bindings k) o) code_told.is ∙ one.told;
+            at = ap (λ (o : Option FunctionCode). option_and_then (λ (c : FunctionCode). slice_get c.bindings k) o) code_told.is ∙ one.told;
             word = record { index = one.binder.index; is = refl; writes = one.binder.writes; owner = one.binder.owner ∙ sym entry };
           }
 
       by_form : (w : declared-writer.Writer) → IsWriterOf f g place y w → IsToldAt place (home_of h f y) w
-      by_form _ (stands {l} {i} {rest} at target) = of_instruction l i rest at.block at.before at.is at.instructions at.place target
-      by_form _ (bound {k} entry at) = of_binding k entry at
+      by_form _ (stands {n = l} {i = i} {rest = rest} at target) = of_instruction l i rest at.block at.before at.is at.instructions at.place target
+      by_form _ (bound {k = k} entry at) = of_binding k entry at
