@@ -1,0 +1,5 @@
+mod Coming
+mod Ending
+pub mod Points
+pub mod Scanning
+pub mod Searching
