@@ -1,6 +1,7 @@
 //! What is left of a graph.
 
-ghost use Rattle.std.specs.Prelude.{◌≡◌, ◌<◌, ◌^◌, ◌++◌, IfOk, IfSome, None, OnOk, length, map};
+ghost use Rattle.std.specs.Prelude.{◌≡◌, ◌<◌, ◌^◌, ◌++◌, IfOk, IfSome, None, OnOk, Some, option_map, ℕ, length, map};
+ghost use Rattle.debug_records.specs.declared.change.Place as declared-place;
 ghost use Rattle.removal_notes.specs.Idle.{IsBorneOut, graph_of};
 ghost use Rattle.dead_pass.specs.LeftBy.{AreLeftBlocksBy, AreLeftBy, IsKeptAs, IsLeftBlockBy, IsNoteOf, IsPushed};
 ghost use Rattle.graph_core.specs.Graphs.{Call as CallOf, block_view, graph_view, instruction_view, operand_view};
@@ -9,8 +10,10 @@ ghost use Rattle.idle_rule.specs.Removing.{IsReduced, without};
 ghost use Rattle.idle_rule.specs.Walks.{turn_of};
 ghost use Rattle.path_marks.specs.Table.{bits_of};
 
+use debug_records::Place;
 use graph_core::{Block, Callee, Graph, Instr, Name, NoteValue, Operand};
-use removal_notes::{IdleGraph, Notes, RemovedChanges};
+use place_writes::Spot;
+use removal_notes::{IdleGraph, NotePoint, Notes, RemovedChanges};
 use smallvec::SmallVec;
 use std::alloc::{AllocError, Global};
 
@@ -47,13 +50,13 @@ fn left_note(
     alloc: Global,
     idle: &IdleGraph<'_>,
     notes: &mut Notes<'_>,
-    point: u32,
+    note: NotePoint,
     of: Name,
     value: &NoteValue,
 ) -> Result<Instr, AllocError>
     ensures { IfOk result (λ left. IsNoteOf of.0 (instruction_view left)) }
 {
-    let value = notes.said(alloc, idle, point, of, value)?;
+    let value = notes.said(alloc, idle, note, of, value)?;
     Ok(Instr::Note { of, value })
 }
 
@@ -62,13 +65,13 @@ fn kept(
     alloc: Global,
     idle: &IdleGraph<'_>,
     notes: &mut Notes<'_>,
-    point: u32,
+    at: NotePoint,
     instruction: &Instr,
 ) -> Result<Instr, AllocError>
     ensures { IfOk result (λ left. IsKeptAs (instruction_view instruction.now) (instruction_view left)) }
 {
     if let Instr::Note { of, value } = instruction {
-        let note = left_note(alloc, idle, notes, point, *of, value)?;
+        let note = left_note(alloc, idle, notes, at, *of, value)?;
         return Ok(note);
     }
     let same = instruction.duplicate(alloc)?;
@@ -80,7 +83,7 @@ fn push_left(
     alloc: Global,
     idle: &IdleGraph<'_>,
     notes: &mut Notes<'_>,
-    point: u32,
+    at: NotePoint,
     goes: bool,
     instruction: &Instr,
     left: &mut Vec<Instr>,
@@ -91,30 +94,43 @@ fn push_left(
         push_gone(alloc, instruction, left)?;
         return Ok(());
     }
-    let kept = kept(alloc, idle, notes, point, instruction)?;
+    let kept = kept(alloc, idle, notes, at, instruction)?;
     left.push(kept)?;
     Ok(())
 }
 
-/// What is left of the instructions of a block that some path reaches.
+/// A point of a block with so many instructions behind it, where a place is in force; place 0 where there is none.
+fn note_point(block: u32, left: usize, place: Option<Place>) -> NotePoint
+    ensures spot { result.spot ≡ record { block = block; left = left } }
+    ensures place { (p : ℕ) → option_map (λ (q : declared-place.Place). q.0) place ≡ Some p → result.place.0 ≡ p }
+{
+    NotePoint {
+        spot: Spot { block, left },
+        place: place.unwrap_or(Place(0)),
+    }
+}
+
+/// What is left of the instructions of a block that some path reaches, where it keeps a place.
 fn left_of(
     alloc: Global,
     idle: &IdleGraph<'_>,
     notes: &mut Notes<'_>,
     number: u32,
+    kept_place: Option<Place>,
     instructions: &[Instr],
 ) -> Result<Vec<Instr>, AllocError>
     ensures { IfOk result (λ left. AreLeftBy (is_going (turn_of idle.now.turns.items) number) (map instruction_view instructions.now) (map instruction_view left.items)) }
 {
     notes.begin(number);
     let mut left = Vec::new(alloc);
-    let mut point = idle.points.start(number);
+    let mut place = kept_place;
     let mut ahead = instructions;
     while let [instruction, rest @ ..] = ahead {
         let goes = idle.goes_at(number, rest.len());
-        push_left(alloc, idle, notes, point, goes, instruction, &mut left)?;
+        let at = note_point(number, rest.len(), place);
+        push_left(alloc, idle, notes, at, goes, instruction, &mut left)?;
         notes.step(instruction.target(), goes);
-        point = point.saturating_add(1);
+        place = instruction.marker().or(place);
         ahead = rest;
     }
     Ok(left)
@@ -136,7 +152,7 @@ fn left_block(
     }
     Ok(Block {
         place: block.place,
-        instructions: left_of(alloc, idle, notes, number, &block.instructions)?,
+        instructions: left_of(alloc, idle, notes, number, block.place, &block.instructions)?,
         end: block.end,
     })
 }

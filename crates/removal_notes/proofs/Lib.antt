@@ -1,2 +1,10 @@
+mod Circles
 mod FirstAndLast
+mod Found
+pub mod Knowing
+mod Lost
+mod Reading
+mod Saying
+mod Sources
+mod Unmade
 mod Walking

@@ -20,3 +20,15 @@ pub record AreKnown (idle : IdleGraph) (notes : Notes) : Type 0 where
 abbrev pub HasComeBehind : IdleGraph → Notes → (n : ℕ) → List Instruction → (left : ℕ) → Type 0
 HasComeBehind idle notes n before left =
     (x : ℕ) → x < (graph_of idle).name_count → bits_of notes.stale notes.blocks x ≡ stale_behind (is_going (turn_of idle.turns.items) n) x (bits_of notes.stale n x) before left
+
+-- Only the searches along ways are others.
+pub record HasOtherWays (old new : Notes) : Type 0 where
+  pub stale : new.stale ≡ old.stale
+  pub blocks : new.blocks ≡ old.blocks
+  pub names : new.names ≡ old.names
+  pub removed : new.removed ≡ old.removed
+
+-- The searches along ways and the changes are the same.
+pub record HasSameWays (old new : Notes) : Type 0 where
+  pub ways : new.ways ≡ old.ways
+  pub removed : new.removed ≡ old.removed

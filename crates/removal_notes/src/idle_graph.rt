@@ -1,13 +1,14 @@
 //! A graph and what goes of it.
 
-ghost use Rattle.std.specs.Prelude.{◌≡◌, ℕ, ◌<◌, ◌^◌, IfOk, IfSome, false, length, slice_index_or, true};
-ghost use Rattle.graph_core.specs.Graphs.{graph_view};
+ghost use Rattle.std.specs.Prelude.{◌≡◌, ℕ, ◌<◌, ◌^◌, IfOk, IfSome, None, false, length, slice_index_or, true};
+ghost use Rattle.graph_core.specs.Graphs.{Name as OfName, graph_view, operand_view};
+ghost use Rattle.graph_core.specs.WellMarked.{IsLocal};
 ghost use Rattle.idle_rule.specs.Asking.{is_going};
 ghost use Rattle.idle_rule.specs.Walks.{turn_of};
 ghost use Rattle.path_marks.specs.Table.{bits_of};
 
 use dead_rule::{Points, idle_writes};
-use graph_core::{Graph, Instr, Name, Operand};
+use graph_core::{Graph, Name, Operand};
 use idle_rule::{Heights, are_idle, turn_at};
 use path_marks::Marks;
 use place_writes::PlaceWrites;
@@ -17,7 +18,6 @@ use std::alloc::{AllocError, Global};
 #[derive(Drop)]
 pub struct IdleGraph<'a> {
     pub graph: &'a Graph,
-    pub points: Points,
     /// Which names places write once, and where.
     pub writes: PlaceWrites,
     /// For each block by how many instructions stand behind a write the turn in which it goes; 0 where it stays.
@@ -63,7 +63,6 @@ impl<'a> IdleGraph<'a> {
         };
         Ok(Some(IdleGraph {
             graph,
-            points,
             writes,
             turns: found.turns,
             reached,
@@ -96,52 +95,11 @@ impl<'a> IdleGraph<'a> {
         turn_at(&self.turns, block, left) != 0
     }
 
-    /// The point of the one instruction that writes a name in a place, where nothing else writes it there.
-    pub fn only(&self, place: u32, name: u32) -> Option<u32> {
-        let spot = self.writes.only(place, name)?;
-        let block = self.graph.blocks.get(spot.block as usize)?;
-        let index = block
-            .instructions
-            .len()
-            .checked_sub(spot.left)?
-            .checked_sub(1)?;
-        if index > 0xffff_ffff {
-            return None;
-        }
-        Some(self.points.start(spot.block).saturating_add(index as u32))
-    }
-
-    /// Whether what a point writes goes.
-    pub fn goes(&self, point: u32) -> bool {
-        let Some(found) = self.points.at(point) else {
-            return false;
-        };
-        let Some(block) = self.graph.blocks.get(found.block as usize) else {
-            return false;
-        };
-        match block.instructions.len().checked_sub(1) {
-            Some(last) => match last.checked_sub(found.index as usize) {
-                Some(left) => self.goes_at(found.block, left),
-                None => false,
-            },
-            None => false,
-        }
-    }
-
-    /// Whether a point writes a name, and stays.
-    pub fn still_writes(&self, point: u32, name: u32) -> bool {
-        self.points.target(point) == Some(name) && !self.goes(point)
-    }
-
-    /// The instruction at a point, if it is none of a block's end.
-    pub fn instruction(&self, point: u32) -> Option<&Instr> {
-        let found = self.points.at(point)?;
-        let block = self.graph.blocks.get(found.block as usize)?;
-        block.instructions.get(found.index as usize)
-    }
-
     /// The temporary that an operand reads, where code motion did not make it.
-    pub fn local(&self, operand: Operand) -> Option<Name> {
+    pub fn local(&self, operand: Operand) -> Option<Name>
+        ensures some { IfSome result (λ name. (operand_view operand ≡ OfName name.0) × IsLocal (graph_of self.now) name.0) }
+        ensures none { result ≡ None → (t : ℕ) → operand_view operand ≡ OfName t → IsLocal (graph_of self.now) t → ⊥ }
+    {
         match operand {
             Operand::Name(name) => {
                 let is_temporary = (name.0 as usize) >= self.graph.scalars.len();

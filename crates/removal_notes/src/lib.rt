@@ -5,8 +5,8 @@ mod idle_graph;
 mod notes;
 mod recipes;
 mod removed;
-mod ways;
 
 pub use idle_graph::IdleGraph;
 pub use notes::Notes;
+pub use recipes::NotePoint;
 pub use removed::RemovedChanges;
