@@ -35,12 +35,15 @@ lose_all m name readers i all le each y r said among = each_all (λ z. (s : Reci
 
 -- a write
 pub written_by : (m : declared-homes.Homes) (z k : ℕ) (s t u : declared-state.State) → number_in m z ≡ Some k → t.noted.items ≡ s.noted.items → t.written.items ≡ slice_set s.written.items k (Some z) → u.written.items ≡ t.written.items
-    → ((x : ℕ) (r : Recipe) → recipe_in u.noted.items x ≡ Some r → recipe_in t.noted.items x ≡ Some r) → ((x : ℕ) (r : Recipe) → recipe_in u.noted.items x ≡ Some r → Among x (readers_of m k) → IsUnread m r z) → IsWritten m z s u
-written_by m z k s t u number noted put written less unread = record {
+    → ((x : ℕ) (r : Recipe) → recipe_in u.noted.items x ≡ Some r → recipe_in t.noted.items x ≡ Some r) → ((x : ℕ) (r : Recipe) → recipe_in u.noted.items x ≡ Some r → Among x (readers_of m k) → IsUnread m r z)
+    → ((x : ℕ) (r : Recipe) → recipe_in t.noted.items x ≡ Some r → IsUnread m r z → recipe_in u.noted.items x ≡ Some r) → length u.noted.items ≡ length t.noted.items → IsWritten m z s u
+written_by m z k s t u number noted put written less unread kept size = record {
   less = λ x r said. subst (λ (xs : List declared-noted.Noted). recipe_in xs x ≡ Some r) noted (less x r said);
   unread = λ x r said j other among. unread x r said (subst (λ n. Among x (readers_of m n)) (same_Some j k (sym other ∙ number)) among);
   none = λ none. absurd (none-some k (sym none ∙ number));
   put = λ j other. written ∙ put ∙ ap (λ n. slice_set s.written.items n (Some z)) (same_Some k j (sym number ∙ other));
+  kept = λ x r said. kept x r (subst (λ (xs : List declared-noted.Noted). recipe_in xs x ≡ Some r) (sym noted) said);
+  size = size ∙ ap (λ (xs : List declared-noted.Noted). length xs) noted;
 }
 
 pub written_not : (m : declared-homes.Homes) (z : ℕ) (s : declared-state.State) → number_in m z ≡ None → IsWritten m z s s
@@ -49,6 +52,8 @@ written_not m z s number = record {
   unread = λ x r said k other. absurd (none-some k (sym number ∙ other));
   none = λ none. refl;
   put = λ k other. absurd (none-some k (sym number ∙ other));
+  kept = λ x r said unread. said;
+  size = refl;
 }
 
 -- one parameter more is bound

@@ -1,9 +1,9 @@
 -- Names in recipes of parts.
-use Rattle.std.proofs.Common.{◌≡◌, inl, inr, ℕ, List, [], ◌∷◌, ◌++◌, subst, sym}
-use Rattle.std.specs.Prelude.{◌⊎◌}
-use Rattle.graph_core.specs.Graphs.{Recipe, Of, Name, Operated}
-use Rattle.graph_core.specs.Paths.{Among}
-use Rattle.graph_core.specs.Uses.{names_in}
+use Rattle.std.proofs.Common.{◌≡◌, inl, inr, ℕ, Bool, true, List, [], ◌∷◌, ◌++◌, subst, sym}
+use Rattle.std.specs.Prelude.{◌⊎◌, ◌↔◌}
+use Rattle.graph_core.specs.Graphs.{Operand, Recipe, Of, Name, Operated}
+use Rattle.graph_core.specs.Paths.{Among, front}
+use Rattle.graph_core.specs.Uses.{names_in, names_of}
 use Rattle.note_state.proofs.Lists.{among_parts, among_one}
 
 -- what is so of the names of both parts is so of the names of the whole
@@ -18,3 +18,7 @@ each_of_none P y there = elim there [ ]
 
 pub among_both : (y : ℕ) (xs ys : List ℕ) → Among y (xs ++ ys) → Among y xs ⊎ Among y ys
 among_both y xs ys among = among_parts xs ys among
+
+-- what tells something of a name tells it of each name that its operand reads
+pub each_of_name : (P : ℕ → Type 0) (x : ℕ) (b : Bool) → (b ≡ true) ↔ P x → (o : Operand) → Name x ≡ o → (b ≡ true) ↔ ((y : ℕ) → Among y (names_of o) → P y)
+each_of_name P x b tells o is = subst (λ (q : Operand). (b ≡ true) ↔ ((y : ℕ) → Among y (names_of q) → P y)) is ((λ e. each_of_one P x (tells.0 e)), (λ all. tells.1 (all x front)))

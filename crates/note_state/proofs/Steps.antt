@@ -111,7 +111,7 @@ same_number (Slot k) (Slot j) e = ap (λ n. min (n + 32) 4294967295) (eqb-true k
 same_number (Register r) (Slot j) e = absurd (true≢false (sym e))
 same_number (Slot k) (Register r) e = absurd (true≢false (sym e))
 
-same_self : (a : Home) → is_same_home a a ≡ true
+pub same_self : (a : Home) → is_same_home a a ≡ true
 same_self (Register r) = eq-eqb r r refl
 same_self (Slot k) = eq-eqb k k refl
 

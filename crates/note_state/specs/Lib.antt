@@ -1,2 +1,4 @@
 pub mod Homes
 pub mod Notes
+pub mod Numbers
+pub mod Full

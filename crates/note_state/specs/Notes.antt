@@ -1,9 +1,9 @@
 -- What a state says of the notes and the homes behind a history.
-use Rattle.std.specs.Prelude.{◌≡◌, ℕ, Option, Some, None, List, [], ◌∷◌, false, slice_get, slice_set}
+use Rattle.std.specs.Prelude.{◌≡◌, ℕ, ◌<◌, Option, Some, None, List, [], ◌∷◌, false, length, slice_get, slice_set}
 use Rattle.std.specs.Option.{option_map_or}
-use Rattle.graph_core.specs.Graphs.{Recipe, Of, Name, Is, Binding, ToScalar, ToObject, recipe_view}
-use Rattle.graph_core.specs.Uses.{names_in}
-use Rattle.graph_core.specs.Paths.{History, Among, last_note}
+use Rattle.graph_core.specs.Graphs.{Recipe, Of, Name, Is, Instruction, Note, Binding, ToScalar, ToObject, recipe_view}
+use Rattle.graph_core.specs.Uses.{names_in, target_of}
+use Rattle.graph_core.specs.Paths.{History, Among, last_note, notes}
 use Rattle.graph_homes.specs.Homes.{last_writer, written_since}
 use Rattle.note_state.specs.declared.homes.Homes as declared-homes
 use Rattle.note_state.specs.declared.noted.Noted as declared-noted
@@ -30,6 +30,12 @@ pub record IsWithin (less more : declared-state.State) : Type 0 where
   pub noted : (x : ℕ) (r : Recipe) → recipe_in less.noted.items x ≡ Some r → recipe_in more.noted.items x ≡ Some r
   pub written : (k y : ℕ) → slice_get less.written.items k ≡ Some (Some y) → slice_get more.written.items k ≡ Some (Some y)
 
+-- Of what is so in two states as much is so in a third one.
+pub record IsJoined (one other both : declared-state.State) : Type 0 where
+  pub noted : (x : ℕ) (r : Recipe) → recipe_in one.noted.items x ≡ Some r → recipe_in other.noted.items x ≡ Some r → recipe_in both.noted.items x ≡ Some r
+  pub written : (k y : ℕ) → slice_get one.written.items k ≡ Some (Some y) → slice_get other.written.items k ≡ Some (Some y) → slice_get both.written.items k ≡ Some (Some y)
+  pub sizes : (length both.noted.items ≡ length one.noted.items) × (length both.written.items ≡ length one.written.items)
+
 module _ (m : declared-homes.Homes) where
   -- The home of a name was last written for it.
   abbrev pub IsHeld : declared-state.State → (y : ℕ) → Type 0
@@ -53,6 +59,17 @@ module _ (m : declared-homes.Homes) where
     pub unread : (x : ℕ) (r : Recipe) → recipe_in new.noted.items x ≡ Some r → (k : ℕ) → number_in m z ≡ Some k → Among x (readers_of m k) → IsUnread m r z
     pub none : number_in m z ≡ None → new.written.items ≡ old.written.items
     pub put : (k : ℕ) → number_in m z ≡ Some k → new.written.items ≡ slice_set old.written.items k (Some z)
+    pub kept : (x : ℕ) (r : Recipe) → recipe_in old.noted.items x ≡ Some r → IsUnread m r z → recipe_in new.noted.items x ≡ Some r
+    pub size : length new.noted.items ≡ length old.noted.items
+
+  -- A state comes of another one by an instruction, and no more is lost than must be: a note is noted, if the scalar is among those whose notes may read its homes; what was noted of a
+  -- scalar of which it is no note stays, if its target's home is not read; and the name that it writes is the one for which the home was last written, and each other home's stays.
+  pub record IsKept (i : Instruction) (old new : declared-state.State) : Type 0 where
+    pub noted : (x : ℕ) (r : Recipe) → i ≡ Note x (Is r) → x < length old.noted.items → AreReadBy m r x → recipe_in new.noted.items x ≡ Some r
+    pub kept : (x : ℕ) (r : Recipe) → recipe_in old.noted.items x ≡ Some r → notes x i ≡ false → ((z : ℕ) → target_of i ≡ Some z → IsUnread m r z) → recipe_in new.noted.items x ≡ Some r
+    pub put : (z k : ℕ) → target_of i ≡ Some z → number_in m z ≡ Some k → new.written.items ≡ slice_set old.written.items k (Some z)
+    pub none : ((z k : ℕ) → target_of i ≡ Some z → number_in m z ≡ Some k → ⊥) → new.written.items ≡ old.written.items
+    pub size : length new.noted.items ≡ length old.noted.items
 
   -- A parameter is bound: a scalar's home is written for it.
   abbrev pub IsBound : Binding → (old new : declared-state.State) → Type 0

@@ -1,7 +1,11 @@
 //! What is so on all paths where paths come together.
 
+ghost use Rattle.std.specs.Prelude.{◌≡◌, ℕ, Some, length, slice_get};
+ghost use Rattle.graph_core.specs.Graphs.{Recipe as RecipeForm};
+ghost use Rattle.note_state.specs.Notes.{IsJoined, recipe_in, recipe_of};
+
 use crate::noted::Noted;
-use crate::recipes::is_same;
+use crate::recipes::{is_own, is_same};
 use crate::state::State;
 
 /// The lesser of two numbers, of those that there are.
@@ -13,10 +17,19 @@ fn lesser(one: Option<u32>, other: Option<u32>) -> Option<u32> {
     }
 }
 
-/// What is last noted on all paths, where it is this on some, and that on all others.
-fn join<'a>(one: Noted<'a>, other: Noted<'a>) -> Noted<'a> {
+/// What is last noted of a scalar on all paths, where it is this on some, and that on all others.
+fn join<'a>(scalar: usize, one: Noted<'a>, other: Noted<'a>) -> Noted<'a>
+    ensures { (r : RecipeForm) → recipe_of scalar one.entry ≡ Some r → recipe_of scalar other.entry ≡ Some r → recipe_of scalar result ≡ Some r }
+{
     match (one, other) {
         (Noted::Own, Noted::Own) => Noted::Own,
+        (Noted::Own, Noted::Recipe { recipe, .. }) | (Noted::Recipe { recipe, .. }, Noted::Own) => {
+            if is_own(scalar, recipe) {
+                Noted::Own
+            } else {
+                Noted::Lost
+            }
+        }
         (
             Noted::Recipe { recipe, change },
             Noted::Recipe {
@@ -46,24 +59,32 @@ fn is_less(old: Noted<'_>, joined: Noted<'_>) -> bool {
 }
 
 /// Joins what is noted. Tells whether it changed.
-fn join_noted<'a>(to: &mut [Noted<'a>], from: &[Noted<'a>]) -> bool {
+fn join_noted<'a>(to: &mut [Noted<'a>], from: &[Noted<'a>]) -> bool
+    ensures size { length to.new ≡ length to.old }
+    ensures kept { (x : ℕ) (r : RecipeForm) → recipe_in to.old x ≡ Some r → recipe_in from.now x ≡ Some r → recipe_in to.new x ≡ Some r }
+{
     let mut is_new = false;
-    for (old, other) in to.iter_mut().zip(from.iter()) {
-        let joined = join(*old, *other);
-        if is_less(*old, joined) {
-            *old = joined;
-            is_new = true;
+    for k in 0..to.len() {
+        if k < from.len() {
+            let joined = join(k, to[k], from[k]);
+            if is_less(to[k], joined) {
+                to[k] = joined;
+                is_new = true;
+            }
         }
     }
     is_new
 }
 
 /// Joins for which names homes were last written. Tells whether it changed.
-fn join_written(to: &mut [Option<u32>], from: &[Option<u32>]) -> bool {
+fn join_written(to: &mut [Option<u32>], from: &[Option<u32>]) -> bool
+    ensures size { length to.new ≡ length to.old }
+    ensures kept { (k y : ℕ) → slice_get to.old k ≡ Some (Some y) → slice_get from.now k ≡ Some (Some y) → slice_get to.new k ≡ Some (Some y) }
+{
     let mut is_new = false;
-    for (old, other) in to.iter_mut().zip(from.iter()) {
-        if old.is_some() && *old != *other {
-            *old = None;
+    for k in 0..to.len() {
+        if k < from.len() && to[k].is_some() && to[k] != from[k] {
+            to[k] = None;
             is_new = true;
         }
     }
@@ -72,7 +93,9 @@ fn join_written(to: &mut [Option<u32>], from: &[Option<u32>]) -> bool {
 
 impl<'a> State<'a> {
     /// Keeps what is so in another state too. Tells whether that is less than before.
-    pub fn join(&mut self, other: &State<'a>) -> bool {
+    pub fn join(&mut self, other: &State<'a>) -> bool
+        ensures { IsJoined self.old other.now self.new }
+    {
         let is_less_noted = join_noted(&mut self.noted, &other.noted);
         let is_less_written = join_written(&mut self.written, &other.written);
         is_less_noted || is_less_written

@@ -16,4 +16,4 @@ pub use function::Function;
 pub use homes::{Homes, have_one_home, home_count, home_number};
 pub use noted::Noted;
 pub use removals::Removals;
-pub use state::State;
+pub use state::{State, place_behind};

@@ -32,13 +32,14 @@ pub fn read_note<'a>(
     place: Option<Place>,
 ) -> Noted<'a>
     ensures says { (r : RecipeForm) → recipe_of of.0 result ≡ Some r → note_view value.now ≡ Is r }
+    ensures full { (r : RecipeForm) → note_view value.now ≡ Is r → AreReadBy function.now.homes r of.0 → recipe_of of.0 result ≡ Some r }
     ensures read { (r : RecipeForm) → recipe_of of.0 result ≡ Some r → AreReadBy function.now.homes r of.0 }
 {
     match value {
         NoteValue::Gone(_) => Noted::Lost,
         NoteValue::Is(recipe) => if !is_reader(&function.homes, recipe, of.0) {
             Noted::Lost
-        } else if is_own(of, recipe) {
+        } else if is_own(of.0 as usize, recipe) {
             Noted::Own
         } else {
             Noted::Recipe {

@@ -1,10 +1,11 @@
 //! What is so of the scalars and homes of a function on all paths to a point.
 
-ghost use Rattle.std.specs.Prelude.{◌≡◌, ◌≢◌, ℕ, IfOk, List, [], ◌∷◌, Some, None, map, slice_get, slice_set, false};
-ghost use Rattle.graph_core.specs.Graphs.{Binding as BindingForm, Recipe as RecipeForm, binding_view, instruction_view};
+ghost use Rattle.std.specs.Prelude.{◌≡◌, ◌≢◌, ◌↔◌, ℕ, IfOk, List, [], ◌∷◌, Some, None, length, map, slice_get, slice_set, false};
+ghost use Rattle.graph_core.specs.Graphs.{Binding as BindingForm, Block as BlockForm, End as EndForm, Recipe as RecipeForm, binding_view, graph_view, instruction_view};
 ghost use Rattle.graph_core.specs.Paths.{Among, History, Passed};
 ghost use Rattle.note_state.specs.Homes.{IsUnread, readers_of};
-ghost use Rattle.note_state.specs.Notes.{IsBound, IsSo, IsWithin, IsWritten, noted_in, recipe_in, recipe_of};
+ghost use Rattle.note_state.specs.Notes.{IsBound, IsKept, IsSo, IsWritten, noted_in, recipe_in, recipe_of};
+ghost use Rattle.note_state.specs.Full.{AreExact, IsEqual, IsFullAt};
 
 use crate::function::Function;
 use crate::noted::{Noted, read_note};
@@ -12,6 +13,14 @@ use crate::recipes::reads_home;
 use debug_records::Place;
 use graph_core::{Binding, Block, Instr};
 use std::alloc::{AllocError, Global};
+
+/// The place in force behind an instruction.
+pub fn place_behind(instruction: &Instr, before: Option<Place>) -> Option<Place> {
+    match instruction.marker() {
+        Some(place) => Some(place),
+        None => before,
+    }
+}
 
 /// What is so at a point.
 #[derive(Drop)]
@@ -27,6 +36,8 @@ impl<'a> State<'a> {
     fn new(alloc: Global, function: &Function<'a>) -> Result<State<'a>, AllocError>
         ensures noted { IfOk result (λ s. (x : ℕ) → recipe_in s.noted.items x ≡ None) }
         ensures written { IfOk result (λ s. (k y : ℕ) → slice_get s.written.items k ≢ Some (Some y)) }
+        ensures scalars { IfOk result (λ s. length s.noted.items ≡ length function.now.graph.now.scalars.items) }
+        ensures homes { IfOk result (λ s. length s.written.items ≡ length function.now.homes.readers.items) }
     {
         Ok(State {
             noted: vec![in alloc; Noted::Lost; function.graph.scalars.len()]?,
@@ -36,7 +47,8 @@ impl<'a> State<'a> {
 
     /// The function begins: its parameters are bound, all others were never written.
     pub fn entered(alloc: Global, function: &Function<'a>) -> Result<State<'a>, AllocError>
-        ensures { IfOk result (λ s. IsSo function.now.homes (map binding_view function.now.graph.now.parameters.items) s []) }
+        ensures so { IfOk result (λ s. IsSo function.now.homes (map binding_view function.now.graph.now.parameters.items) s []) }
+        ensures full { IfOk result (λ s. AreExact function.now → (b : BlockForm) → slice_get (graph_view function.now.graph.now).blocks 0 ≡ Some b → IsFullAt function.now s 0 b.instructions b.end) }
     {
         let mut state = State::new(alloc, function)?;
         for binding in &function.graph.parameters {
@@ -47,7 +59,7 @@ impl<'a> State<'a> {
 
     /// An equal state.
     pub fn duplicate(&self, alloc: Global) -> Result<State<'a>, AllocError>
-        ensures { IfOk result (λ s. IsWithin s self.now) }
+        ensures { IfOk result (λ s. IsEqual s self.now) }
     {
         let noted = Vec::from_slice(alloc, &self.noted)?;
         let written = Vec::from_slice(alloc, &self.written)?;
@@ -76,7 +88,7 @@ impl<'a> State<'a> {
 
     /// Whether what is last noted of a scalar reads the home of a name.
     fn reads(&self, function: &Function<'a>, scalar: u32, name: u32) -> bool
-        ensures { result ≡ false → (r : RecipeForm) → recipe_in self.now.noted.items scalar ≡ Some r → IsUnread function.now.homes r name }
+        ensures { (r : RecipeForm) → recipe_in self.now.noted.items scalar ≡ Some r → (result ≡ false) ↔ IsUnread function.now.homes r name }
     {
         match self.last_of(scalar) {
             Noted::Lost => false,
@@ -88,6 +100,8 @@ impl<'a> State<'a> {
     /// What was noted of a scalar is lost where it reads the home of a name.
     fn lose_one(&mut self, function: &Function<'a>, scalar: u32, name: u32)
         ensures written { self.new.written.items ≡ self.old.written.items }
+        ensures size { length self.new.noted.items ≡ length self.old.noted.items }
+        ensures kept { (x : ℕ) (r : RecipeForm) → recipe_in self.old.noted.items x ≡ Some r → IsUnread function.now.homes r name → recipe_in self.new.noted.items x ≡ Some r }
         ensures less { (x : ℕ) (r : RecipeForm) → recipe_in self.new.noted.items x ≡ Some r → recipe_in self.old.noted.items x ≡ Some r }
         ensures unread { (r : RecipeForm) → recipe_in self.new.noted.items scalar ≡ Some r → IsUnread function.now.homes r name }
     {
@@ -99,6 +113,8 @@ impl<'a> State<'a> {
     /// What was noted is lost where it reads the home of a name, of these scalars.
     fn lose(&mut self, function: &Function<'a>, readers: &[u32], name: u32)
         ensures written { self.new.written.items ≡ self.old.written.items }
+        ensures size { length self.new.noted.items ≡ length self.old.noted.items }
+        ensures kept { (x : ℕ) (r : RecipeForm) → recipe_in self.old.noted.items x ≡ Some r → IsUnread function.now.homes r name → recipe_in self.new.noted.items x ≡ Some r }
         ensures less { (x : ℕ) (r : RecipeForm) → recipe_in self.new.noted.items x ≡ Some r → recipe_in self.old.noted.items x ≡ Some r }
         ensures unread { (x : ℕ) (r : RecipeForm) → recipe_in self.new.noted.items x ≡ Some r → Among x readers.now → IsUnread function.now.homes r name }
     {
@@ -108,12 +124,12 @@ impl<'a> State<'a> {
     }
 
     /// A home was last written for a name.
-    fn put_name(&mut self, number: u32, name: u32)
+    fn put_name(&mut self, number: usize, name: u32)
         ensures noted { self.new.noted.items ≡ self.old.noted.items }
         ensures written { self.new.written.items ≡ slice_set self.old.written.items number (Some name) }
     {
-        if (number as usize) < self.written.len() {
-            self.written[number as usize] = Some(name);
+        if number < self.written.len() {
+            self.written[number] = Some(name);
         }
     }
 
@@ -140,7 +156,8 @@ impl<'a> State<'a> {
 
     /// Steps over an instruction in a place.
     pub fn step(&mut self, function: &Function<'a>, instruction: &'a Instr, place: Option<Place>)
-        ensures { (ps : List BindingForm) (p : Passed) (h : History) → p.instruction ≡ instruction_view instruction.now → IsSo function.now.homes ps self.old h → IsSo function.now.homes ps self.new (p ∷ h) }
+        ensures so { (ps : List BindingForm) (p : Passed) (h : History) → p.instruction ≡ instruction_view instruction.now → IsSo function.now.homes ps self.old h → IsSo function.now.homes ps self.new (p ∷ h) }
+        ensures kept { IsKept function.now.homes (instruction_view instruction.now) self.old self.new }
     {
         if let Instr::Note { of, value } = instruction {
             self.put_note(of.0, read_note(function, *of, value, place));
@@ -150,12 +167,12 @@ impl<'a> State<'a> {
     }
 
     /// Steps over the instructions of a block.
-    pub fn walk(&mut self, function: &Function<'a>, block: &'a Block) {
+    pub fn walk(&mut self, function: &Function<'a>, block: &'a Block)
+        ensures { (n : ℕ) (e : EndForm) → AreExact function.now → IsFullAt function.now self.old n (map instruction_view block.now.instructions.items) e → IsFullAt function.now self.new n [] e }
+    {
         let mut place = block.place;
         for instruction in &block.instructions {
-            if let Some(begun) = instruction.marker() {
-                place = Some(begun);
-            }
+            place = place_behind(instruction, place);
             self.step(function, instruction, place);
         }
     }

@@ -1,0 +1,10 @@
+use Rattle.std.proofs.Common.{◌≡◌, ℕ, Some, length}
+use Rattle.graph_core.specs.Graphs.{Recipe}
+use Rattle.note_state.specs.Notes.{recipe_in}
+use Rattle.note_state.proofs.joining.join_noted.Given as goal
+
+abbrev pub invariant-loop-k : goal.invariant-loop-k
+invariant-loop-k l = record {
+  size : length l.to ≡ length l.fn.to;
+  kept : (x : ℕ) (r : Recipe) → recipe_in l.fn.to x ≡ Some r → recipe_in l.from x ≡ Some r → recipe_in l.to x ≡ Some r;
+}

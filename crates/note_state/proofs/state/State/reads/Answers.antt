@@ -1,0 +1,14 @@
+use Rattle.std.proofs.Common.{Some, ap, subst, sym, ◌∙◌}
+use Rattle.std.proofs.lemmas.Option.{none-some, same_Some}
+use Rattle.graph_core.specs.Graphs.{recipe_view}
+use Rattle.note_state.specs.Homes.{IsUnread}
+use Rattle.note_state.specs.Notes.{recipe_of}
+use Rattle.note_state.proofs.Keeping.{unread_own}
+use Rattle.note_state.proofs.state.State.reads.Goals as goal
+
+pub returns-in-Lost : goal.returns-in-Lost
+returns-in-Lost c = λ r said. absurd (none-some r (ap (λ n. recipe_of c.args.scalar n) (sym c.in-Lost.is ∙ c.last_of.ensures) ∙ said))
+
+pub returns-in-Own : goal.returns-in-Own
+returns-in-Own c = λ r said.
+    unread_own c.args.function.now.homes c.args.scalar c.args.name c.have_one.result c.have_one.ensures.0 c.have_one.ensures.1 r (ap (λ n. recipe_of c.args.scalar n) (sym c.in-Own.is ∙ c.last_of.ensures) ∙ said)
