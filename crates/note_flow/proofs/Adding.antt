@@ -14,7 +14,7 @@ use Rattle.note_state.specs.declared.state.State as declared-state
 use Rattle.note_flow.specs.declared.found.Unshown as declared-unshown
 use Rattle.note_flow.specs.declared.found.Found as declared-found
 use Rattle.note_flow.specs.declared.survey.Survey as declared-survey
-use Rattle.note_flow.specs.Found.{entries_of, is_met, IsPlaceOf, IsTold, IsAdded, IsNewPlace, Shows}
+use Rattle.note_flow.specs.Found.{entries_of, is_met, IsPlaceOf, IsShownBy, IsTold, IsAdded, IsNewPlace, Shows}
 use Rattle.note_flow.specs.Survey.{AreMet, IsExtended, IsFound}
 
 pub extended_same : (table : declared-table.PlaceTable) (number : ℕ) (f : declared-found.Found) → AreMet table number f → IsExtended table number f f
@@ -46,6 +46,10 @@ found_on v f g s p more here = record {
   told = λ var x among number. elim (here.told var x among number) [ inl a ↦ inl a | inr b ↦ inr (b.0, more.kept x b.0 b.1, b.2) ];
   shown = λ x u there at. elim (more.only x u there) [
     | inl a ↦ here.shown x u a at
+    | inr b ↦ absurd (true≢false (sym here.met ∙ sym (ap (λ q. is_met f q) at) ∙ b))
+  ];
+  apart = λ x u there at. elim (more.only x u there) [
+    | inl a ↦ here.apart x u a at
     | inr b ↦ absurd (true≢false (sym here.met ∙ sym (ap (λ q. is_met f q) at) ∙ b))
   ];
 }
@@ -84,6 +88,10 @@ module _ (v : declared-survey.Survey) (f g : declared-found.Found) (s : declared
       | inl a ↦ absurd (true≢false (sym (all x u a).0 ∙ ap (λ q. is_met f q) at ∙ new.fresh))
       | inr b ↦ b.1
     ];
+    apart = λ x u there at. elim (new.added.only x u there) [
+      | inl a ↦ absurd (true≢false (sym (all x u a).0 ∙ ap (λ q. is_met f q) at ∙ new.fresh))
+      | inr b ↦ b.2
+    ];
   }
 
 -- what shows scalars at a place, one after the other
@@ -102,7 +110,7 @@ module _ (m : declared-homes.Homes) (s : declared-state.State) (p : ℕ) where
 
   -- an entry of a scalar
   module _ (old new : List (Vec declared-unshown.Unshown)) (x : ℕ) (v w : Vec declared-unshown.Unshown) (u : declared-unshown.Unshown) (lt : x < length old) (is : slice_get old x ≡ Some v) (put : new ≡ slice_set old x w) (more : w.items ≡ v.items ++ (u ∷ []))
-      (at : u.place.0 ≡ p) (shows : Shows m s x u.last) where
+      (at : u.place.0 ≡ p) (shows : Shows m s x u.last) (apart : IsShownBy m s x → ⊥) where
     entries_there : entries_of new x ≡ v.items ++ (u ∷ [])
     entries_there = ap (λ all. entries_of all x) put ∙ ap (λ (o : Option (Vec declared-unshown.Unshown)). option_map_or (λ z. z.items) o []) (get_put_same old x w lt) ∙ more
 
@@ -115,10 +123,10 @@ module _ (m : declared-homes.Homes) (s : declared-state.State) (p : ℕ) where
     kept_there : (z : declared-unshown.Unshown) → Among z (entries_of old x) → Among z (entries_of new x)
     kept_there z there = subst (λ l. Among z l) (sym entries_there) (among_left v.items (u ∷ []) (subst (λ l. Among z l) entries_before there))
 
-    only_there : (z : declared-unshown.Unshown) → Among z (entries_of new x) → Among z (entries_of old x) ⊎ ((z.place.0 ≡ p) × Shows m s x z.last)
+    only_there : (z : declared-unshown.Unshown) → Among z (entries_of new x) → Among z (entries_of old x) ⊎ ((z.place.0 ≡ p) × Shows m s x z.last × (IsShownBy m s x → ⊥))
     only_there z there = elim (among_parts v.items (u ∷ []) (subst (λ l. Among z l) entries_there there)) [
       | inl f ↦ inl (subst (λ l. Among z l) (sym entries_before) f)
-      | inr f ↦ inr (subst (λ (q : declared-unshown.Unshown). (q.place.0 ≡ p) × Shows m s x q.last) (sym (among_one f)) (at, shows))
+      | inr f ↦ inr (subst (λ (q : declared-unshown.Unshown). (q.place.0 ≡ p) × Shows m s x q.last × (IsShownBy m s x → ⊥)) (sym (among_one f)) (at, shows, apart))
     ]
 
     pub added_one : IsAdded m s p old new
@@ -128,7 +136,7 @@ module _ (m : declared-homes.Homes) (s : declared-state.State) (p : ℕ) where
         | inr e ↦ subst (λ l. Among z l) (sym (entries_other y e.1)) there
       ];
       only = λ y z there. elim (eqb_tells y x) [
-        | inl e ↦ subst (λ k. Among z (entries_of old k) ⊎ ((z.place.0 ≡ p) × Shows m s k z.last)) (sym e.1) (only_there z (subst (λ k. Among z (entries_of new k)) e.1 there))
+        | inl e ↦ subst (λ k. Among z (entries_of old k) ⊎ ((z.place.0 ≡ p) × Shows m s k z.last × (IsShownBy m s k → ⊥))) (sym e.1) (only_there z (subst (λ k. Among z (entries_of new k)) e.1 there))
         | inr e ↦ inl (subst (λ l. Among z l) (entries_other y e.1) there)
       ];
     }

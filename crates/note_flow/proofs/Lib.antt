@@ -1,3 +1,5 @@
 mod Adding
 mod Walking
 mod OnPaths
+mod HiddenPlaces
+mod Chaining

@@ -18,6 +18,7 @@ use Rattle.note_state.specs.declared.state.State as declared-state
 use Rattle.note_state.specs.Notes.{IsSo, IsWithin}
 use Rattle.note_state.specs.Homes.{home_by}
 use Rattle.note_state.proofs.Lists.{among_one}
+use Rattle.note_state.proofs.Filling.{within_equal}
 use Rattle.note_state.proofs.Steps.{shown_by, so_within}
 use Rattle.note_flow.specs.declared.found.LastNote as declared-last
 use Rattle.note_flow.specs.declared.found.Unshown as declared-unshown
@@ -64,7 +65,7 @@ module _ (v : declared-survey.Survey) (f : declared-found.Found) (chains : List 
             state = r.0;
             last = chain.1.2.0;
             more = c.1;
-            is = so_within m g.parameters r.0 t h r.1 (so_within m g.parameters t s h within here);
+            is = so_within m g.parameters r.0 t h (within_equal r.0 t r.1) (so_within m g.parameters t s h within here);
             walked = subst (λ (d : Block). IsSound v f d.instructions r.0 chain.1.2.0) one chain.1.2.1;
             chained = subst (λ (d : Block). IsChainSound v f c.1 d.end chain.1.2.0) one chain.1.2.2;
           }
@@ -74,7 +75,7 @@ module _ (v : declared-survey.Survey) (f : declared-found.Found) (chains : List 
     state = at.walked.1.0;
     last = at.last;
     more = at.more;
-    is = at.walked.1.1 g.parameters p h is at.is;
+    is = at.walked.1.1.so g.parameters p h is at.is;
     walked = at.walked.1.2;
     chained = at.chained;
   }

@@ -13,7 +13,7 @@ use Rattle.graph_core.specs.Graphs.{Instruction, Marker, End, Jump, instruction_
 use Rattle.note_state.specs.declared.state.State as declared-state
 use Rattle.note_flow.specs.declared.found.Found as declared-found
 use Rattle.note_flow.specs.declared.survey.Survey as declared-survey
-use Rattle.note_flow.specs.Survey.{comes_to, AreFirst, AreWithinAll, BeginsWith, IsChainSound, IsExtended, IsFound, IsReachedSound, IsSound, IsStep, IsWithinNext}
+use Rattle.note_flow.specs.Survey.{comes_to, AreFirst, AreEqualAll, BeginsWith, IsChainSound, IsExtended, IsFound, IsReachedSound, IsSound, IsStep, IsWithinNext}
 
 -- at first no block is flagged
 pub none_first : (n l : ℕ) → get_or (replicate n false) l false ≡ true → ⊥
@@ -75,15 +75,15 @@ pub chain_end : (v : declared-survey.Survey) (chain : List ℕ) (i : ℕ) (later
 chain_end v chain i later e s le next = subst (λ ls. IsChainSound v later ls e s) (sym (drop_end chain i le)) next
 
 -- a chain that a path comes to, or none does
-pub reached_by : (v : declared-survey.Survey) (chain : List ℕ) (d : ℕ) (later : declared-found.Found) (s : declared-state.State) → AreWithinAll (Some s) (comes_to v.states (get_or chain 0 d)) → IsChainSound v later chain (Jump (get_or chain 0 d)) s → IsReachedSound v later chain
+pub reached_by : (v : declared-survey.Survey) (chain : List ℕ) (d : ℕ) (later : declared-found.Found) (s : declared-state.State) → AreEqualAll (Some s) (comes_to v.states (get_or chain 0 d)) → IsChainSound v later chain (Jump (get_or chain 0 d)) s → IsReachedSound v later chain
 reached_by v chain d later s within sound l more e t comes =
     let one : get_or chain 0 d ≡ l = ap (λ c. get_or c 0 d) e in
-    (s, subst (λ o. AreWithinAll (Some s) o) (ap (λ k. comes_to v.states k) one ∙ comes) within, subst (λ k. IsChainSound v later chain (Jump k) s) one sound)
+    (s, subst (λ o. AreEqualAll (Some s) o) (ap (λ k. comes_to v.states k) one ∙ comes) within, subst (λ k. IsChainSound v later chain (Jump k) s) one sound)
 
-pub reached_not : (v : declared-survey.Survey) (chain : List ℕ) (d : ℕ) (later : declared-found.Found) → AreWithinAll None (comes_to v.states (get_or chain 0 d)) → IsReachedSound v later chain
+pub reached_not : (v : declared-survey.Survey) (chain : List ℕ) (d : ℕ) (later : declared-found.Found) → AreEqualAll None (comes_to v.states (get_or chain 0 d)) → IsReachedSound v later chain
 reached_not v chain d later none l more e t comes =
     let one : get_or chain 0 d ≡ l = ap (λ c. get_or c 0 d) e in
-    absurd (subst (λ o. AreWithinAll None o) (ap (λ k. comes_to v.states k) one ∙ comes) none)
+    absurd (subst (λ o. AreEqualAll None o) (ap (λ k. comes_to v.states k) one ∙ comes) none)
 
 pub reached_empty : (v : declared-survey.Survey) (chain : List ℕ) (later : declared-found.Found) → length chain ≡ 0 → IsReachedSound v later chain
 reached_empty v [] later none l more e t comes = absurd (omega (arith, ap (λ c. length c) e))

@@ -1,11 +1,11 @@
 -- What is found at places.
-use Rattle.std.specs.Prelude.{◌≡◌, ◌≢◌, ℕ, ◌-◌, ◌≤◌, ◌<◌, ◌⊎◌, Bool, true, false, Option, Some, List, [], IfSome, length, slice_get, slice_set, get_or}
+use Rattle.std.specs.Prelude.{◌≡◌, ◌≢◌, ℕ, ◌-◌, ◌≤◌, ◌<◌, ◌⊎◌, Bool, true, false, Option, Some, None, List, [], length, slice_get, slice_set, get_or}
 use Rattle.std.specs.Option.{option_map_or}
 use Rattle.debug_records.specs.declared.change.Var as declared-var
 use Rattle.places.specs.declared.table.PlaceRow as declared-row
 use Rattle.places.specs.declared.table.PlaceTable as declared-table
 use Rattle.std.specs.Global.{Vec}
-use Rattle.graph_core.specs.Graphs.{Of, Name, recipe_view}
+use Rattle.graph_core.specs.Graphs.{Recipe, Of, Name, recipe_view}
 use Rattle.graph_core.specs.Paths.{Among}
 use Rattle.note_state.specs.declared.homes.Homes as declared-homes
 use Rattle.note_state.specs.declared.state.State as declared-state
@@ -36,18 +36,19 @@ module _ (m : declared-homes.Homes) (s : declared-state.State) where
   abbrev pub IsShownBy : (x : ℕ) → Type 0
   IsShownBy x = (recipe_in s.noted.items x ≡ Some (Of (Name x))) × AreHeld m s (Of (Name x))
 
-  -- what is last noted shows a scalar, and is not its own value, if it is told
+  -- what is last noted shows a scalar, and is not its own value, if it is told; else nothing but its own value does
   abbrev pub Shows : (x : ℕ) → Option declared-last.LastNote → Type 0
-  Shows x last = IfSome last (λ (l : declared-last.LastNote). (recipe_in s.noted.items x ≡ Some (recipe_view l.recipe.now)) × AreHeld m s (recipe_view l.recipe.now) × (recipe_view l.recipe.now ≢ Of (Name x)))
+  Shows x None = (r : Recipe) → recipe_in s.noted.items x ≡ Some r → AreHeld m s r → r ≡ Of (Name x)
+  Shows x (Some l) = (recipe_in s.noted.items x ≡ Some (recipe_view l.recipe.now)) × AreHeld m s (recipe_view l.recipe.now) × (recipe_view l.recipe.now ≢ Of (Name x))
 
   -- A scalar is shown at a place by its home, or the place is told of it.
   abbrev pub IsTold : (p : ℕ) → List (Vec declared-unshown.Unshown) → (x : ℕ) → Type 0
   IsTold p all x = IsShownBy x ⊎ ((u : declared-unshown.Unshown) × Among u (entries_of all x) × (u.place.0 ≡ p))
 
-  -- More is told, of a place alone, and what shows a scalar there does.
+  -- More is told, of a place alone, what shows a scalar there does, and its home does not.
   pub record IsAdded (p : ℕ) (old new : List (Vec declared-unshown.Unshown)) : Type 0 where
     pub kept : (x : ℕ) (u : declared-unshown.Unshown) → Among u (entries_of old x) → Among u (entries_of new x)
-    pub only : (x : ℕ) (u : declared-unshown.Unshown) → Among u (entries_of new x) → Among u (entries_of old x) ⊎ ((u.place.0 ≡ p) × Shows x u.last)
+    pub only : (x : ℕ) (u : declared-unshown.Unshown) → Among u (entries_of new x) → Among u (entries_of old x) ⊎ ((u.place.0 ≡ p) × Shows x u.last × (IsShownBy x → ⊥))
 
   module _ (numbering : declared-numbering.Numbering) where
     -- The scalars among these variables are shown at a place by their homes, or the place is told of them.

@@ -1,5 +1,5 @@
 -- What is told of the scalars that their homes do not show, on all paths.
-use Rattle.std.specs.Prelude.{◌≡◌, ◌≢◌, ℕ, ◌-◌, ◌≤◌, Option, Some, List, ◌∷◌, slice_get}
+use Rattle.std.specs.Prelude.{◌≡◌, ◌≢◌, ℕ, ◌+◌, ◌-◌, ◌≤◌, ◌<◌, min, Option, Some, None, List, ◌∷◌, length, slice_get}
 use Rattle.std.specs.Global.{Vec}
 use Rattle.debug_records.specs.declared.change.Var as declared-var
 use Rattle.places.specs.declared.table.PlaceRow as declared-row
@@ -9,6 +9,7 @@ use Rattle.graph_homes.specs.Homes.{HoldsOnAllPaths}
 use Rattle.graph_core.specs.Graphs.{Instruction, Marker, End, Graph, Recipe, Of, Name, recipe_view}
 use Rattle.graph_core.specs.Paths.{Among, History, Path}
 use Rattle.graph_core.specs.WellMarked.{IsVariable}
+use Rattle.note_state.specs.Homes.{home_in, number_at}
 use Rattle.note_flow.specs.declared.found.LastNote as declared-last
 use Rattle.note_flow.specs.declared.found.Unshown as declared-unshown
 use Rattle.note_flow.specs.Found.{entries_of, IsPlaceOf}
@@ -54,3 +55,16 @@ IsOther g p x r = (h : History) (n : ℕ) (rest : List Instruction) (e : End) �
 -- Where a scalar is told of with a recipe, that is not its own value.
 abbrev pub AreOther : Graph → List (Vec declared-unshown.Unshown) → Type 0
 AreOther g found = (x : ℕ) (u : declared-unshown.Unshown) (l : declared-last.LastNote) → Among u (entries_of found x) → u.last ≡ Some l → IsOther g u.place.0 x (recipe_view l.recipe.now)
+
+-- Numbers tell the homes of names apart, and each is one of so many as there are at most.
+pub record AreDistinct (homes : List Home) : Type 0 where
+  pub told : (y z : ℕ) → number_at (home_in homes y) ≡ number_at (home_in homes z) → home_in homes y ≡ home_in homes z
+  pub within : (y : ℕ) → number_at (home_in homes y) < min (length homes + 32) 18446744073709551615
+
+-- At a place that a path reaches no recipe of a scalar holds on all paths, its own value neither.
+abbrev pub IsHiddenAt : (ℕ → Home) → Graph → (p x : ℕ) → Type 0
+IsHiddenAt home g p x = (h : History) (n : ℕ) (rest : List Instruction) (e : End) → Path g h n (Marker p ∷ rest) e → (r : Recipe) → HoldsOnAllPaths home g p x r → ⊥
+
+-- Where a scalar is told of with no recipe, it is hidden so.
+abbrev pub AreHidden : (ℕ → Home) → Graph → List (Vec declared-unshown.Unshown) → Type 0
+AreHidden home g found = (x : ℕ) (u : declared-unshown.Unshown) → Among u (entries_of found x) → u.last ≡ None → x < length g.scalars → IsHiddenAt home g u.place.0 x

@@ -10,12 +10,13 @@ use Rattle.graph_core.specs.Uses.{targets_of}
 use Rattle.graph_core.specs.Paths.{Among, History, Passed}
 use Rattle.note_state.specs.declared.homes.Homes as declared-homes
 use Rattle.note_state.specs.declared.state.State as declared-state
-use Rattle.note_state.specs.Notes.{IsSo, IsWithin}
+use Rattle.note_state.specs.Notes.{IsKept, IsSo, IsWithin}
+use Rattle.note_state.specs.Full.{IsEqual}
 use Rattle.note_flow.specs.declared.found.Unshown as declared-unshown
 use Rattle.note_flow.specs.declared.found.Found as declared-found
 use Rattle.note_flow.specs.declared.states.States as declared-states
 use Rattle.note_flow.specs.declared.survey.Survey as declared-survey
-use Rattle.note_flow.specs.Found.{entries_of, is_met, AreVisibleTold, IsPlaceOf, Shows}
+use Rattle.note_flow.specs.Found.{entries_of, is_met, AreVisibleTold, IsPlaceOf, IsShownBy, Shows}
 
 -- what is so where a chain begins with a block that a path comes to
 abbrev pub comes_to : declared-states.States → (block : ℕ) → Option declared-state.State
@@ -26,12 +27,12 @@ abbrev pub IsWithinSome : Option declared-state.State → declared-state.State �
 IsWithinSome None s = ⊥
 IsWithinSome (Some t) s = IsWithin t s
 
--- there is a state where there is another one, which has no less
-abbrev pub AreWithinAll : (less more : Option declared-state.State) → Type 0
-AreWithinAll None None = Unit {0}
-AreWithinAll None (Some t) = ⊥
-AreWithinAll (Some s) None = ⊥
-AreWithinAll (Some s) (Some t) = IsWithin s t
+-- there is a state where there is another one, which is equal
+abbrev pub AreEqualAll : (one other : Option declared-state.State) → Type 0
+AreEqualAll None None = Unit {0}
+AreEqualAll None (Some t) = ⊥
+AreEqualAll (Some s) None = ⊥
+AreEqualAll (Some s) (Some t) = IsEqual s t
 
 -- a list begins with a number
 abbrev pub BeginsWith : List ℕ → (l : ℕ) → Type 0
@@ -53,9 +54,10 @@ module _ (table : declared-table.PlaceTable) (number : ℕ) where
     pub only : (x : ℕ) (u : declared-unshown.Unshown) → Among u (entries_of new.unshown.items x) → Among u (entries_of old.unshown.items x) ⊎ (is_met old u.place.0 ≡ false)
     pub all : AreMet new
 
--- A state comes behind an instruction of another one: it is so behind the instruction wherever that one is so before it.
-abbrev pub IsStep : declared-homes.Homes → (old new : declared-state.State) → Instruction → Type 0
-IsStep m s t i = (ps : List Binding) (p : Passed) (h : History) → p.instruction ≡ i → IsSo m ps s h → IsSo m ps t (p ∷ h)
+-- A state comes behind an instruction of another one: it is so behind the instruction wherever that one is so before it, and no more is lost than must be.
+pub record IsStep (m : declared-homes.Homes) (old new : declared-state.State) (i : Instruction) : Type 0 where
+  pub so : (ps : List Binding) (p : Passed) (h : History) → p.instruction ≡ i → IsSo m ps old h → IsSo m ps new (p ∷ h)
+  pub kept : IsKept m i old new
 
 module _ (v : declared-survey.Survey) where
   -- a chain begins with a block, and no more is so there than in a state
@@ -71,7 +73,7 @@ module _ (v : declared-survey.Survey) (found : declared-found.Found) where
   homes_of_survey = v.function.now.homes
 
   -- What is found at a place is so in a state: the place was met, and is one of the function; the scalars that are visible are told of, or shown by their homes; and what is told
-  -- is so.
+  -- is so, and their homes do not show them.
   pub record IsFound (s : declared-state.State) (p : ℕ) : Type 0 where
     pub row : declared-row.PlaceRow
     pub some : 1 ≤ p
@@ -80,6 +82,7 @@ module _ (v : declared-survey.Survey) (found : declared-found.Found) where
     pub met : is_met found p ≡ true
     pub told : AreVisibleTold homes_of_survey s v.numbering p found.unshown.items row.visible.items
     pub shown : (x : ℕ) (u : declared-unshown.Unshown) → Among u (entries_of found.unshown.items x) → u.place.0 ≡ p → Shows homes_of_survey s x u.last
+    pub apart : (x : ℕ) (u : declared-unshown.Unshown) → Among u (entries_of found.unshown.items x) → u.place.0 ≡ p → IsShownBy homes_of_survey s x → ⊥
 
   -- From state to state over instructions, and what is found at their markers is so.
   abbrev pub IsSound : List Instruction → (first last : declared-state.State) → Type 0
@@ -96,7 +99,7 @@ module _ (v : declared-survey.Survey) (found : declared-found.Found) where
   -- A chain is sound from what is so where it begins, if a path comes to it.
   abbrev pub IsReachedSound : List ℕ → Type 0
   IsReachedSound chain =
-      (l : ℕ) (more : List ℕ) → chain ≡ l ∷ more → (t : declared-state.State) → comes_to v.states l ≡ Some t → (s : declared-state.State) × IsWithin s t × IsChainSound chain (Jump l) s
+      (l : ℕ) (more : List ℕ) → chain ≡ l ∷ more → (t : declared-state.State) → comes_to v.states l ≡ Some t → (s : declared-state.State) × IsEqual s t × IsChainSound chain (Jump l) s
 
   -- Each chain is.
   abbrev pub AreChainsSound : List (Vec ℕ) → Type 0

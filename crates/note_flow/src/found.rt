@@ -41,7 +41,7 @@ fn is_own(scalar: u32, recipe: &Recipe) -> bool
 
 /// Whether its home shows a scalar where this is so.
 fn is_shown<'a>(function: &Function<'a>, state: &State<'a>, scalar: u32) -> bool
-    ensures { result ≡ true → IsShownBy function.now.homes state.now scalar }
+    ensures { (result ≡ true) ↔ IsShownBy function.now.homes state.now scalar }
 {
     match state.last_of(scalar) {
         Noted::Own => state.holds(function, scalar),
@@ -64,7 +64,8 @@ fn last_note<'a>(function: &Function<'a>, state: &State<'a>, scalar: u32) -> Opt
         } else {
             None
         },
-        Noted::Lost | Noted::Own => None,
+        Noted::Lost => None,
+        Noted::Own => None,
     }
 }
 

@@ -1,10 +1,16 @@
 //! What is so where chains of blocks begin.
 
-ghost use Rattle.std.specs.Prelude.{◌≡◌, IfOk, true};
-ghost use Rattle.note_flow.specs.Survey.{AreWithinAll, IsWithinSome, comes_to};
+ghost use Rattle.std.specs.Prelude.{◌≡◌, ◌<◌, ◌∷◌, ℕ, IfOk, List, OnOk, Some, get_or, length, slice_get, true};
+ghost use Rattle.graph_core.specs.Graphs.{end_view};
+ghost use Rattle.graph_core.specs.Paths.{Among};
+ghost use Rattle.graph_core.specs.Uses.{targets_of};
+ghost use Rattle.note_state.specs.Full.{AreExact};
+ghost use Rattle.note_state.specs.declared.state.State as declared-state;
+ghost use Rattle.note_flow.specs.Chains.{AreFull, AreLinked, IsComeTo, IsFullAtEnd, IsFullAtStart, IsLinked, last_in};
+ghost use Rattle.note_flow.specs.Survey.{AreEqualAll, IsWithinSome, comes_to};
 
-use graph_core::Block;
-use graph_paths::{flag, put_flag, successor};
+use graph_core::End;
+use graph_paths::{flag, put_flag};
 use note_state::{Function, State};
 use std::alloc::{AllocError, Global};
 
@@ -18,7 +24,9 @@ pub struct States<'a> {
 }
 
 /// Nothing has come to so many blocks.
-fn nothing<'a>(alloc: Global, count: usize) -> Result<Vec<Option<State<'a>>>, AllocError> {
+fn nothing<'a>(alloc: Global, count: usize) -> Result<Vec<Option<State<'a>>>, AllocError>
+    ensures { IfOk result (λ arrived. (l : ℕ) (t : declared-state.State) → slice_get arrived.items l ≡ Some (Some t) → ⊥) }
+{
     let mut arrived = Vec::new(alloc);
     for _ in 0..count {
         arrived.push(None)?;
@@ -26,11 +34,39 @@ fn nothing<'a>(alloc: Global, count: usize) -> Result<Vec<Option<State<'a>>>, Al
     Ok(arrived)
 }
 
+/// Steps over a block, if there is one of this number.
+fn walk_block<'a>(function: &Function<'a>, number: u32, state: &mut State<'a>)
+    ensures { AreExact function.now → IsFullAtStart function.now state.old number → IsFullAtEnd function.now state.new number }
+{
+    if number as usize >= function.graph.blocks.len() {
+        return;
+    }
+    let block = &function.graph.blocks[number as usize];
+    state.walk(function, block);
+}
+
 /// Steps over the blocks of a chain.
-fn walk<'a>(function: &Function<'a>, chain: &[u32], state: &mut State<'a>) {
+fn walk<'a>(function: &Function<'a>, chain: &[u32], state: &mut State<'a>)
+    ensures { (first last : ℕ) (more : List ℕ) → AreExact function.now → IsLinked function.now.graph.now.blocks.items chain.now → chain.now ≡ first ∷ more → last_in chain.now ≡ Some last → IsFullAtStart function.now state.old first → IsFullAtEnd function.now state.new last }
+{
     for number in chain {
-        if let Some(block) = function.graph.blocks.get(*number as usize) {
-            state.walk(function, block);
+        walk_block(function, *number, state);
+    }
+}
+
+/// A state comes where this was so before, or nothing. Tells whether less is so there than before.
+fn come<'a>(
+    alloc: Global,
+    found: &mut Option<State<'a>>,
+    state: &State<'a>,
+) -> Result<bool, AllocError>
+    ensures { OnOk result (IsComeTo found.old state.now found.new) }
+{
+    match found {
+        Some(old) => Ok(old.join(state)),
+        None => {
+            *found = Some(state.duplicate(alloc)?);
+            Ok(true)
         }
     }
 }
@@ -43,26 +79,29 @@ impl<'a> States<'a> {
         function: &Function<'a>,
         to: u32,
         state: &State<'a>,
-    ) -> Result<(), AllocError> {
-        let Some(found) = self.arrived.get_mut(to as usize) else {
+    ) -> Result<(), AllocError>
+        ensures { OnOk result (AreFull function.now self.old → IsFullAtStart function.now state.now to → AreFull function.now self.new) }
+    {
+        if to as usize >= self.arrived.len() {
             return Ok(());
-        };
-        let is_new = match found {
-            Some(old) => old.join(state),
-            None => {
-                *found = Some(state.duplicate(alloc)?);
-                true
-            }
-        };
-        if is_new {
-            put_flag(&mut self.waiting, to, true);
         }
+        let is_new = come(alloc, &mut self.arrived[to as usize], state)?;
+        self.wake(to, is_new);
         Ok(())
+    }
+
+    /// A block is to be left again, if less is so there than before.
+    fn wake(&mut self, block: u32, is_new: bool)
+        ensures { self.new.arrived.items ≡ self.old.arrived.items }
+    {
+        if is_new {
+            put_flag(&mut self.waiting, block, true);
+        }
     }
 
     /// What is so where a chain begins that a path comes to.
     pub fn at(&self, alloc: Global, block: u32) -> Result<Option<State<'a>>, AllocError>
-        ensures { IfOk result (λ o. AreWithinAll o (comes_to self.now block)) }
+        ensures { IfOk result (λ o. AreEqualAll o (comes_to self.now block)) }
     {
         match self.arrived.get(block as usize) {
             Some(Some(state)) => Ok(Some(state.duplicate(alloc)?)),
@@ -85,15 +124,27 @@ impl<'a> States<'a> {
         &mut self,
         alloc: Global,
         function: &Function<'a>,
-        block: &Block,
+        end: &End,
         state: &State<'a>,
-    ) -> Result<(), AllocError> {
-        for which in 0..2u32 {
-            if let Some(to) = successor(&block.end, which) {
-                self.arrive(alloc, function, to, state)?;
+    ) -> Result<(), AllocError>
+        ensures { OnOk result (AreFull function.now self.old → ((l : ℕ) → Among l (targets_of (end_view end.now)) → IsFullAtStart function.now state.now l) → AreFull function.now self.new) }
+    {
+        match end {
+            End::Jump(label) => {
+                self.arrive(alloc, function, label.0, state)?;
+                Ok(())
             }
+            End::Branch {
+                then,
+                otherwise,
+                ..
+            } => {
+                self.arrive(alloc, function, then.0, state)?;
+                self.arrive(alloc, function, otherwise.0, state)?;
+                Ok(())
+            }
+            End::Return(_) => Ok(()),
         }
-        Ok(())
     }
 
     /// Leaves a chain with what is so where it begins.
@@ -102,18 +153,57 @@ impl<'a> States<'a> {
         alloc: Global,
         function: &Function<'a>,
         chain: &[u32],
-    ) -> Result<(), AllocError> {
-        let (Some(first), Some(last)) = (chain.first(), chain.last()) else {
+    ) -> Result<(), AllocError>
+        ensures { OnOk result (AreExact function.now → IsLinked function.now.graph.now.blocks.items chain.now → AreFull function.now self.old → AreFull function.now self.new) }
+    {
+        if chain.is_empty() {
             return Ok(());
-        };
-        let Some(mut state) = self.at(alloc, *first)? else {
-            return Ok(());
-        };
-        walk(function, chain, &mut state);
-        match function.graph.blocks.get(*last as usize) {
-            Some(block) => self.go_on(alloc, function, block, &state),
+        }
+        match self.at(alloc, chain[0])? {
+            Some(state) => {
+                self.leave_with(alloc, function, chain, state)?;
+                Ok(())
+            }
             None => Ok(()),
         }
+    }
+
+    /// Leaves a chain with this, which is so where it begins.
+    fn leave_with(
+        &mut self,
+        alloc: Global,
+        function: &Function<'a>,
+        chain: &[u32],
+        mut state: State<'a>,
+    ) -> Result<(), AllocError>
+        requires { 0 < length chain.now }
+        ensures { OnOk result (AreExact function.now → IsLinked function.now.graph.now.blocks.items chain.now → IsFullAtStart function.now state.entry (get_or chain.now 0 0) → AreFull function.now self.old → AreFull function.now self.new) }
+    {
+        walk(function, chain, &mut state);
+        let last = chain[chain.len() - 1];
+        if last as usize >= function.graph.blocks.len() {
+            return Ok(());
+        }
+        let block = &function.graph.blocks[last as usize];
+        self.go_on(alloc, function, &block.end, &state)?;
+        Ok(())
+    }
+
+    /// Leaves a chain, if it waits. Tells whether it did.
+    fn leave_waiting(
+        &mut self,
+        alloc: Global,
+        function: &Function<'a>,
+        chain: &[u32],
+    ) -> Result<bool, AllocError>
+        ensures { OnOk result (AreExact function.now → IsLinked function.now.graph.now.blocks.items chain.now → AreFull function.now self.old → AreFull function.now self.new) }
+    {
+        if chain.is_empty() || !flag(&self.waiting, chain[0]) {
+            return Ok(false);
+        }
+        put_flag(&mut self.waiting, chain[0], false);
+        self.leave(alloc, function, chain)?;
+        Ok(true)
     }
 
     /// Leaves each chain that waits. Tells whether one did.
@@ -122,16 +212,13 @@ impl<'a> States<'a> {
         alloc: Global,
         function: &Function<'a>,
         chains: &[Vec<u32>],
-    ) -> Result<bool, AllocError> {
+    ) -> Result<bool, AllocError>
+        ensures { OnOk result (AreExact function.now → AreLinked function.now.graph.now.blocks.items chains.now → AreFull function.now self.old → AreFull function.now self.new) }
+    {
         let mut is_new = false;
         for chain in chains {
-            if let Some(first) = chain.first() {
-                if flag(&self.waiting, *first) {
-                    put_flag(&mut self.waiting, *first, false);
-                    self.leave(alloc, function, chain)?;
-                    is_new = true;
-                }
-            }
+            let has_left = self.leave_waiting(alloc, function, chain)?;
+            is_new |= has_left;
         }
         Ok(is_new)
     }
@@ -143,7 +230,9 @@ impl<'a> States<'a> {
         function: &Function<'a>,
         chains: &[Vec<u32>],
         changes: usize,
-    ) -> Result<States<'a>, AllocError> {
+    ) -> Result<States<'a>, AllocError>
+        ensures { IfOk result (λ states. AreExact function.now → AreLinked function.now.graph.now.blocks.items chains.now → AreFull function.now states) }
+    {
         let count = function.graph.blocks.len();
         let mut states = States {
             arrived: nothing(alloc, count)?,

@@ -8,9 +8,8 @@ ghost use Rattle.note_flow.specs.declared.found.Found as declared-found;
 use crate::found::Found;
 use crate::numbering::Numbering;
 use crate::states::States;
-use debug_records::Place;
 use graph_core::{Block, End, Instr, Label};
-use note_state::{Function, State};
+use note_state::{Function, State, place_behind};
 use places::PlaceTable;
 use std::alloc::{AllocError, Global};
 
@@ -36,14 +35,6 @@ pub fn first_of_chains(
         put_first(&mut first, chain);
     }
     Ok(first)
-}
-
-/// The place in force behind an instruction.
-fn place_behind(instruction: &Instr, before: Option<Place>) -> Option<Place> {
-    match instruction.marker() {
-        Some(place) => Some(place),
-        None => before,
-    }
 }
 
 /// Whether the end of a block leads to a block alone.

@@ -1,13 +1,15 @@
 //! The scalars that their homes do not show.
 
-ghost use Rattle.std.specs.Prelude.{◌≡◌, ℕ, IfOk, IfSome, [], map, true};
+ghost use Rattle.std.specs.Prelude.{◌≡◌, ◌<◌, ℕ, IfOk, IfSome, [], length, map, true};
 ghost use Rattle.graph_core.specs.Graphs.{binding_view, graph_view};
-ghost use Rattle.note_state.specs.Homes.{home_by, home_in};
+ghost use Rattle.note_state.specs.Full.{AreExact};
+ghost use Rattle.note_state.specs.Homes.{home_by, home_in, number_at};
 ghost use Rattle.note_state.specs.Notes.{IsSo};
 ghost use Rattle.note_flow.specs.Numbering.{AreNumbered};
 ghost use Rattle.note_flow.specs.Survey.{AreFirst};
 ghost use Rattle.note_flow.specs.Found.{entries_of};
-ghost use Rattle.note_flow.specs.Shown.{AreDifferent, AreOther, AreOwn, ArePlaced, AreRecipes, AreTheirs};
+ghost use Rattle.note_flow.specs.Chains.{AreFull};
+ghost use Rattle.note_flow.specs.Shown.{AreDifferent, AreDistinct, AreHidden, AreOther, AreOwn, ArePlaced, AreRecipes, AreTheirs};
 
 use crate::chains::chains_of;
 use crate::found::{Found, Unshown};
@@ -53,6 +55,7 @@ fn borne_out<'a>(
     ensures own { IfOk result (λ b. b ≡ true → AreOwn (home_by survey.now.function.now.homes) (graph_view survey.now.function.now.graph.now) survey.now.table.now found.new.unshown.items) }
     ensures recipe { IfOk result (λ b. b ≡ true → AreRecipes (home_by survey.now.function.now.homes) (graph_view survey.now.function.now.graph.now) found.new.unshown.items) }
     ensures other { IfOk result (λ b. b ≡ true → AreOther (graph_view survey.now.function.now.graph.now) found.new.unshown.items) }
+    ensures hidden { IfOk result (λ b. b ≡ true → AreFull survey.now.function.now survey.now.states → AreExact survey.now.function.now → ((y : ℕ) → number_at (home_by survey.now.function.now.homes y) < length survey.now.function.now.homes.numbers.items) → AreHidden (home_by survey.now.function.now.homes) (graph_view survey.now.function.now.graph.now) found.new.unshown.items) }
 {
     if !survey.is_within(0, entered) {
         return Ok(false);
@@ -62,7 +65,7 @@ fn borne_out<'a>(
 
 /// For each scalar of a function the places that some path reaches, where it is visible, and its home does not show its value: where not on all paths the last note
 /// of it says that its value is its own, its home is not written behind the note on any, and was last written for it. A home that was never written holds no
-/// name's value; parameters are written as the function is called.
+/// name's value; parameters are written as the function is called. With each what is last noted of it, if that shows its value; where numbers tell homes apart, none where no recipe does.
 ///
 /// The homes are those of the function's names, the changes those of its unit with their removals, and the places those of its program, in which the function has this
 /// number. None where what was found of paths is not borne out by a walk over all blocks that they reach, where two scalars are one variable, or where a place is not one of
@@ -82,6 +85,7 @@ pub fn not_shown<'a>(
     ensures own { IfOk result (λ o. IfSome o (λ found. AreOwn (home_in homes.now) (graph_view graph.now) places.now found.items)) }
     ensures recipe { IfOk result (λ o. IfSome o (λ found. AreRecipes (home_in homes.now) (graph_view graph.now) found.items)) }
     ensures other { IfOk result (λ o. IfSome o (λ found. AreOther (graph_view graph.now) found.items)) }
+    ensures hidden { IfOk result (λ o. IfSome o (λ found. AreDistinct homes.now → AreHidden (home_in homes.now) (graph_view graph.now) found.items)) }
 {
     let Some(numbering) = Numbering::new(alloc, &graph.scalars)? else {
         return Ok(None);

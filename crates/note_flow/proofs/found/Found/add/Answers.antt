@@ -1,4 +1,4 @@
-use Rattle.std.proofs.Common.{◌≡◌, Some, ap, arith, refl, sym, ◌∙◌}
+use Rattle.std.proofs.Common.{◌≡◌, Some, ap, arith, refl, sym, true≢false, ◌∙◌}
 use Rattle.std.specs.Prelude.{slice_get, slice_set}
 use Rattle.std.proofs.lemmas.Option.{slice_get-get_or}
 use Rattle.note_flow.specs.declared.found.Unshown as declared-unshown
@@ -11,7 +11,8 @@ returns-clause-added c = λ e.
     let v = c.index_mut.result.now in
     let u : declared-unshown.Unshown = record { place = c.args.place; last = c.last_note-last.result } in
     added_one c.args.function.now.homes c.args.state.now c.args.place.0 old (slice_set old c.args.scalar c.push.new.self) c.args.scalar v c.push.new.self u (omega arith)
-    (slice_get-get_or old c.args.scalar v (omega arith) ∙ ap Some (sym c.index_mut.ensures.value)) refl c.in_ok-push.ensures.items refl c.last_note-last.ensures)
+    (slice_get-get_or old c.args.scalar v (omega arith) ∙ ap Some (sym c.index_mut.ensures.value)) refl c.in_ok-push.ensures.items refl c.last_note-last.ensures
+    (λ shown. true≢false (sym (c.is_shown.ensures.1 shown) ∙ c.if-is_shown.false)))
 
 pub returns-clause-told : goal.returns-clause-told
 returns-clause-told c = λ e.
@@ -19,4 +20,5 @@ returns-clause-told c = λ e.
     let v = c.index_mut.result.now in
     let u : declared-unshown.Unshown = record { place = c.args.place; last = c.last_note-last.result } in
     told_one c.args.function.now.homes c.args.state.now c.args.place.0 old (slice_set old c.args.scalar c.push.new.self) c.args.scalar v c.push.new.self u (omega arith)
-    (slice_get-get_or old c.args.scalar v (omega arith) ∙ ap Some (sym c.index_mut.ensures.value)) refl c.in_ok-push.ensures.items refl c.last_note-last.ensures)
+    (slice_get-get_or old c.args.scalar v (omega arith) ∙ ap Some (sym c.index_mut.ensures.value)) refl c.in_ok-push.ensures.items refl c.last_note-last.ensures
+    (λ shown. true≢false (sym (c.is_shown.ensures.1 shown) ∙ c.if-is_shown.false)))

@@ -21,7 +21,7 @@ loop-instruction-preserved c =
           (subst (λ (is : List declared-instr.Instr). IsSound v later (map instruction_view (drop i is)) c.loop-instruction.state last) e
           (sound_before v later (instruction_view c.instruction-item.result) (map instruction_view (drop (i + 1) c.deref-instruction-items.result.now)) (map instruction_view (drop i c.deref-instruction-items.result.now)) c.loop-instruction.state c.step.new.self last
           (ap (λ is. map instruction_view is) (drop_more c.deref-instruction-items.result.now i c.instruction-item.result c.loop-instruction-test.true c.instruction-item.is))
-          (λ p q. found_on v c.look_at.new.found later c.loop-instruction.state p more (c.in_ok-look_at.ensures.found c.if-not-branch.false p q)) c.step.ensures
+          (λ p q. found_on v c.look_at.new.found later c.loop-instruction.state p more (c.in_ok-look_at.ensures.found c.if-not-branch.false p q)) (record { so = c.step.ensures.so; kept = c.step.ensures.kept })
           (subst (λ (is : List declared-instr.Instr). IsSound v later (map instruction_view (drop (i + 1) is)) c.step.new.self last) (sym e) rest)));
     }
 

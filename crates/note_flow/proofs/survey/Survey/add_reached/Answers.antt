@@ -1,5 +1,5 @@
 use Rattle.std.proofs.Common.{◌≡◌, ◌∙◌, eqb-true, get_or, length, subst, sym}
-use Rattle.note_flow.specs.Survey.{AreWithinAll, comes_to}
+use Rattle.note_flow.specs.Survey.{AreEqualAll, comes_to}
 use Rattle.note_flow.proofs.Walking.{reached_by, reached_empty, reached_not}
 use Rattle.note_flow.proofs.survey.Survey.add_reached.Goals as goal
 
@@ -10,8 +10,8 @@ returns-then-is_empty-clause-sound c = λ e later more.
 
 pub returns-in_ok-add_chain-in-Some-clause-sound : goal.returns-in_ok-add_chain-in-Some-clause-sound
 returns-in_ok-add_chain-in-Some-clause-sound c = λ e later more.
-    reached_by c.args.self.now c.args.chain.now 0 later c.in-Some.state (subst (λ o. AreWithinAll o (comes_to c.args.self.now.states (get_or c.args.chain.now 0 0))) c.in-Some.is c.in_ok-state.ensures) (c.in_ok-add_chain-in-Some.ensures.sound e later more)
+    reached_by c.args.self.now c.args.chain.now 0 later c.in-Some.state (subst (λ o. AreEqualAll o (comes_to c.args.self.now.states (get_or c.args.chain.now 0 0))) c.in-Some.is c.in_ok-state.ensures) (c.in_ok-add_chain-in-Some.ensures.sound e later more)
 
 pub returns-in-None-clause-sound : goal.returns-in-None-clause-sound
 returns-in-None-clause-sound c = λ e later more.
-    reached_not c.args.self.now c.args.chain.now 0 later (subst (λ o. AreWithinAll o (comes_to c.args.self.now.states (get_or c.args.chain.now 0 0))) c.in-None.is c.in_ok-state.ensures)
+    reached_not c.args.self.now c.args.chain.now 0 later (subst (λ o. AreEqualAll o (comes_to c.args.self.now.states (get_or c.args.chain.now 0 0))) c.in-None.is c.in_ok-state.ensures)
