@@ -4,5 +4,6 @@ mod Logged
 mod OfFunctions
 mod Hiding
 mod OfUnits
+mod Distinct
 mod OnRows
 mod WritesHomes

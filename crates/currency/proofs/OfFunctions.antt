@@ -19,7 +19,7 @@ use Rattle.graph_core.specs.Graphs.{graph_view}
 use Rattle.note_state.specs.Homes.{home_in}
 use Rattle.homed_unit.specs.declared.homed.FunctionHomes as declared-homes
 use Rattle.homed_unit.specs.declared.homed.HomedUnit as declared-homed
-use Rattle.homed_unit.specs.Homed.{HomedForm, home_of, homed_view, homes_in}
+use Rattle.homed_unit.specs.Homed.{HomedForm, homed_view, homes_in}
 use Rattle.note_flow.specs.Found.{IsPlaceOf}
 use Rattle.note_flow.specs.Shown.{ArePlaced}
 use Rattle.currency.specs.declared.telling.Told as declared-told
@@ -34,10 +34,10 @@ one_function : (table : declared-table.PlaceTable) (f k p : ℕ) → IsPlaceOf t
 one_function table f k p a b = sym a.of ∙ ap (λ (r : declared-row.PlaceRow). r.function) (same_Some a.row b.row (sym a.is ∙ b.is)) ∙ b.of
 
 -- what is told at a place of another function is right, since no path reaches it
-right_elsewhere : (home : ℕ → Home) (g : Graph) (table : declared-table.PlaceTable) (f k p : ℕ) (t : declared-variable.ToldVariable) (what : declared-told.Told) → f ≢ k → ArePlaced g f table → IsPlaceOf table k p → IsToldRight home g p t what
-right_elsewhere home g table f k p t (told.Recovered r c) other placed there = λ x is.
+right_elsewhere : (homes : List Home) (g : Graph) (table : declared-table.PlaceTable) (f k p : ℕ) (t : declared-variable.ToldVariable) (what : declared-told.Told) → f ≢ k → ArePlaced g f table → IsPlaceOf table k p → IsToldRight homes g p t what
+right_elsewhere homes g table f k p t (told.Recovered r c) other placed there = λ x is.
     ((λ h n rest e way. absurd (other (one_function table f k p (placed h n p rest e way) there))), (λ h n rest e way. absurd (other (one_function table f k p (placed h n p rest e way) there))))
-right_elsewhere home g table f k p t (told.Hidden cause) other placed there = tt
+right_elsewhere homes g table f k p t (told.Hidden cause) other placed there = λ distinct x is h n rest e way r holds. other (one_function table f k p (placed h n p rest e way) there)
 
 module _ (u : HomedForm) (table : declared-table.PlaceTable) where
   pub told_first : (all : declared-places.ToldPlaces) → ((p : ℕ) → told_at all p ≡ []) → AreFunctionsTold u table 0 all
@@ -51,9 +51,9 @@ module _ (u : HomedForm) (table : declared-table.PlaceTable) where
       nothing : (t : declared-variable.ToldVariable) → Among t [] → ⊥
       nothing t among = elim among [ ]
 
-  pub told_next : (old new : declared-places.ToldPlaces) (count : ℕ) (g : Graph) (home : ℕ → Home) → slice_get u.unit.graphs count ≡ Some g → home_of u count ≡ home → AreFunctionsTold u table count old → IsFunctionTold home g count table old new
+  pub told_next : (old new : declared-places.ToldPlaces) (count : ℕ) (g : Graph) (names : List Home) → slice_get u.unit.graphs count ≡ Some g → homes_in u count ≡ names → AreFunctionsTold u table count old → IsFunctionTold names g count table old new
       → AreFunctionsTold u table (count + 1) new
-  told_next old new count g home at kept before next = record {
+  told_next old new count g names at kept before next = record {
     placed = λ f d lt there. elim (eqb_tells f count) [
       | inl e ↦ placed_here f d e.1 there
       | inr e ↦ before.placed f d (omega (arith, lt, e.1)) there
@@ -61,24 +61,24 @@ module _ (u : HomedForm) (table : declared-table.PlaceTable) where
     own = λ f d p x variable lt there is visible. elim (eqb_tells f count) [
       | inl e ↦ (let here : slice_get u.unit.graphs count ≡ Some d = sym (ap (λ k. slice_get u.unit.graphs k) e.1) ∙ there in
           let same : g ≡ d = same_Some g d (sym at ∙ here) in
-          let homes : home ≡ home_of u f = sym kept ∙ ap (λ k. home_of u k) (sym e.1) in
+          let homes : names ≡ homes_in u f = sym kept ∙ ap (λ k. homes_in u k) (sym e.1) in
           elim (next.own p x variable (subst (λ (c : Graph). IsVariable c x variable) (sym same) is) visible) [
-            | inl a ↦ inl (subst (λ h. HoldsOnAllPaths h d p x (Of (Name x))) homes (subst (λ (c : Graph). HoldsOnAllPaths home c p x (Of (Name x))) same a))
+            | inl a ↦ inl (subst (λ (hs : List Home). HoldsOnAllPaths (home_in hs) d p x (Of (Name x))) homes (subst (λ (c : Graph). HoldsOnAllPaths (home_in names) c p x (Of (Name x))) same a))
             | inr b ↦ inr b
           ])
       | inr e ↦ elim (before.own f d p x variable (omega (arith, lt, e.1)) there is visible) [ inl a ↦ inl a | inr b ↦ inr (record { t = b.t; among = next.kept p b.t b.among; of = b.of }) ]
     ];
     right = λ p t f d among lt there. elim (next.only p t among) [
       | inl a ↦ elim (eqb_tells f count) [
-        | inl e ↦ (let o = before.of p t a in right_elsewhere (home_of u f) d table f o.0 p t t.told (λ q. omega (arith, q, e.1, o.1)) (placed_here f d e.1 there) o.2)
+        | inl e ↦ (let o = before.of p t a in right_elsewhere (homes_in u f) d table f o.0 p t t.told (λ q. omega (arith, q, e.1, o.1)) (placed_here f d e.1 there) o.2)
         | inr e ↦ before.right p t f d a (omega (arith, lt, e.1)) there
       ]
       | inr b ↦ elim (eqb_tells f count) [
         | inl e ↦ (let here : slice_get u.unit.graphs count ≡ Some d = sym (ap (λ k. slice_get u.unit.graphs k) e.1) ∙ there in
             let same : g ≡ d = same_Some g d (sym at ∙ here) in
-            let homes : home ≡ home_of u f = sym kept ∙ ap (λ k. home_of u k) (sym e.1) in
-            subst (λ h. IsToldRight h d p t t.told) homes (subst (λ (c : Graph). IsToldRight home c p t t.told) same b.1))
-        | inr e ↦ right_elsewhere (home_of u f) d table f count p t t.told e.1 (before.placed f d (omega (arith, lt, e.1)) there) b.0
+            let homes : names ≡ homes_in u f = sym kept ∙ ap (λ k. homes_in u k) (sym e.1) in
+            subst (λ (hs : List Home). IsToldRight hs d p t t.told) homes (subst (λ (c : Graph). IsToldRight names c p t t.told) same b.1))
+        | inr e ↦ right_elsewhere (homes_in u f) d table f count p t t.told e.1 (before.placed f d (omega (arith, lt, e.1)) there) b.0
       ]
     ];
     of = λ p t among. elim (next.only p t among) [
@@ -99,11 +99,11 @@ names_at h f one e =
 
 -- one more function, as it was read
 pub told_next_any : (h : declared-homed.HomedUnit) (table : declared-table.PlaceTable) (old new : declared-places.ToldPlaces) (f number : ℕ) (g : declared-graph.Graph) (one : declared-homes.FunctionHomes) (names : List Home) → number ≡ f → f < length h.unit.graphs.items → g ≡ get_or h.unit.graphs.items f g
-    → f < length h.homes.items → one ≡ get_or h.homes.items f one → names ≡ one.homes.items → AreFunctionsTold (homed_view h) table f old → IsFunctionTold (home_in names) (graph_view g) number table old new → AreFunctionsTold (homed_view h) table (f + 1) new
+    → f < length h.homes.items → one ≡ get_or h.homes.items f one → names ≡ one.homes.items → AreFunctionsTold (homed_view h) table f old → IsFunctionTold names (graph_view g) number table old new → AreFunctionsTold (homed_view h) table (f + 1) new
 told_next_any h table old new f number g one names same lt is small kept of before next =
     let at : slice_get (homed_view h).unit.graphs f ≡ Some (graph_view g) = slice_get-map graph_view h.unit.graphs.items f ∙ ap (λ o. option_map graph_view o) (slice_get-get_or h.unit.graphs.items f g lt ∙ ap Some (sym is)) in
     let homes : homes_in (homed_view h) f ≡ names = names_at h f one (slice_get-get_or h.homes.items f one small ∙ ap Some (sym kept)) ∙ sym of in
-    told_next (homed_view h) table old new f (graph_view g) (home_in names) at (ap (λ (all : List Home). home_in all) homes) before (subst (λ n. IsFunctionTold (home_in names) (graph_view g) n table old new) same next)
+    told_next (homed_view h) table old new f (graph_view g) names at homes before (subst (λ n. IsFunctionTold names (graph_view g) n table old new) same next)
 
 -- all functions
 pub told_all : (h : declared-homed.HomedUnit) (table : declared-table.PlaceTable) (told : declared-places.ToldPlaces) (f : ℕ) → f ≡ length h.unit.graphs.items → AreFunctionsTold (homed_view h) table f told → AreSo (homed_view h) table told

@@ -7,16 +7,18 @@ use Rattle.std.proofs.lemmas.Option.{same_Some, slice_get_within}
 use Rattle.debug_records.specs.declared.change.Var as declared-var
 use Rattle.places.specs.declared.table.PlaceRow as declared-place
 use Rattle.places.specs.declared.table.PlaceTable as declared-table
+use Rattle.graph_homes.specs.declared.home.Home.{Home}
 use Rattle.graph_homes.specs.Homes.{HoldsOnAllPaths}
 use Rattle.graph_core.specs.declared.recipe.Recipe as declared-recipe
 use Rattle.graph_core.specs.Graphs.{Graph, Of, Name, Recipe, Is, NoteValue, recipe_view}
 use Rattle.graph_core.specs.Paths.{Among}
 use Rattle.graph_core.specs.WellMarked.{IsVariable}
-use Rattle.homed_unit.specs.Homed.{HomedForm, home_of}
+use Rattle.homed_unit.specs.Homed.{HomedForm, home_of, homes_in}
+use Rattle.note_state.specs.Homes.{home_in}
 use Rattle.note_state.proofs.Lists.{among_at, among_parts, among_one, drop_end, drop_more, get_among, get_any, take_whole}
 use Rattle.std.proofs.lemmas.List.{take_more}
 use Rattle.currency.specs.Visible.{Sight, next, sight, sights_at, sights_from}
-use Rattle.note_flow.specs.Shown.{IsOther, IsVisible}
+use Rattle.note_flow.specs.Shown.{AreDistinct, IsHiddenAt, IsOther, IsVisible}
 use Rattle.currency.specs.declared.telling.Told as declared-told
 use Rattle.currency.specs.declared.telling.Told.TheVariants as told
 use Rattle.currency.specs.declared.telling.ToldVariable as declared-variable
@@ -25,7 +27,16 @@ use Rattle.currency.specs.declared.verdict.Verdict as declared-verdict
 use Rattle.currency.specs.declared.verdict.Verdict.TheVariants as verdict
 use Rattle.currency.specs.declared.verdict.PlaceVerdict as declared-row
 use Rattle.currency.specs.Telling.{told_at, AreRowsTold, AreSlotted, AreTold, IsNoneTold, IsRowTold, IsToldOf, IsToldRight, IsVerdictOf, IsVerdictOn}
-use Rattle.currency.specs.Sound.{AreApart, AreHome, AreOnly, AreRecovered, AreSo}
+use Rattle.currency.proofs.Distinct.{distinct_homes}
+use Rattle.currency.specs.Sound.{AreApart, AreHidden, AreHome, AreOnly, AreRecovered, AreSo, IsHidden}
+
+-- where a verdict hides a variable, nothing is told that shows it
+hidden_told : (homes : List Home) (g : Graph) (p : ℕ) (t : declared-variable.ToldVariable) (what : declared-told.Told) (v : declared-verdict.Verdict) → IsHidden v → IsVerdictOf what v → IsToldRight homes g p t what → AreDistinct homes → (x : ℕ) → IsVariable g x t.var.0 → IsHiddenAt (home_in homes) g p x
+hidden_told homes g p t (told.Hidden cause) v hid of right = right
+hidden_told homes g p t (told.Recovered r c) verdict.Home hid of right = elim hid [ ]
+hidden_told homes g p t (told.Recovered r c) (verdict.Recovered s d) hid of right = elim hid [ ]
+hidden_told homes g p t (told.Recovered r c) (verdict.Noncurrent d s w) hid of right = elim of [ ]
+hidden_told homes g p t (told.Recovered r c) (verdict.Nonresident d s w) hid of right = elim of [ ]
 
 -- slots of the first of what is told
 abbrev pub AreSlottedTo : List declared-variable.ToldVariable → List ℕ → (count : ℕ) → Type 0
@@ -156,7 +167,7 @@ module _ (u : HomedForm) (table : declared-table.PlaceTable) (found : declared-p
       at_what None none v = elim (so.own f g w.place.0 x w.var.0 (slice_get_within u.unit.graphs f g at) at is visible) [ inl a ↦ a | inr b ↦ absurd (none b.t b.among b.of) ]
       at_what (Some t) of v = absurd (not_hidden t.told w.verdict home v)
 
-  is_right : (what : declared-told.Told) (r : declared-recipe.Recipe) (c : ℕ) (p : ℕ) (t : declared-variable.ToldVariable) (f x : ℕ) (g : Graph) → IsVerdictOf what (verdict.Recovered r c) → IsToldRight (home_of u f) g p t what → IsVariable g x t.var.0
+  is_right : (what : declared-told.Told) (r : declared-recipe.Recipe) (c : ℕ) (p : ℕ) (t : declared-variable.ToldVariable) (f x : ℕ) (g : Graph) → IsVerdictOf what (verdict.Recovered r c) → IsToldRight (homes_in u f) g p t what → IsVariable g x t.var.0
       → HoldsOnAllPaths (home_of u f) g p x (recipe_view r) × IsOther g p x (recipe_view r)
   is_right (told.Recovered s d) r c p t f x g of right is = subst (λ (q : Recipe). HoldsOnAllPaths (home_of u f) g p x q × IsOther g p x q) of (right x is)
   is_right (told.Hidden cause) r c p t f x g v right is = elim v [ ]
@@ -194,3 +205,17 @@ module _ (u : HomedForm) (table : declared-table.PlaceTable) (found : declared-p
 
   pub are_apart : AreApart u rows
   are_apart w r c among is f x g at variable h n rest e way own = (is_given w r c among is f x g at variable).1 h n rest e way (sym (are_only w r c among is f x g at variable h n rest e way (Of (Name x)) own))
+
+  pub are_hidden : AreHidden u rows
+  are_hidden w among hid homed f x g at some few variable = at_what row.what row.is row.verdict
+    where
+      row : IsRowTold (told_at found w.place.0) w
+      row = (each w among).1
+
+      no_home : w.verdict ≡ verdict.Home → ⊥
+      no_home e = subst (λ (v : declared-verdict.Verdict). IsHidden v) e hid
+
+      at_what : (o : Option declared-variable.ToldVariable) → MatchOption o (IsNoneTold (told_at found w.place.0) w.var) (λ t. IsToldOf (told_at found w.place.0) w.var t) → IsVerdictOn o w.verdict → IsHiddenAt (home_of u f) g w.place.0 x
+      at_what None none v = absurd (no_home v)
+      at_what (Some t) of v =
+          hidden_told (homes_in u f) g w.place.0 t t.told w.verdict hid v (so.right w.place.0 t f g of.0 (slice_get_within u.unit.graphs f g at) at) (distinct_homes u f g homed at some few) x (subst (λ k. IsVariable g x k) (sym of.1) variable)

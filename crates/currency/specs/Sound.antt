@@ -1,26 +1,34 @@
 -- What verdicts say on all paths.
-use Rattle.std.specs.Prelude.{◌≡◌, ℕ, ◌<◌, ◌⊎◌, Some, List, ◌∷◌, length, slice_get}
+use Rattle.std.specs.Prelude.{◌≡◌, ℕ, ◌<◌, ◌≤◌, ◌⊎◌, Some, List, ◌∷◌, length, slice_get}
 use Rattle.places.specs.declared.table.PlaceTable as declared-table
 use Rattle.graph_homes.specs.Homes.{HoldsOnAllPaths}
 use Rattle.graph_core.specs.declared.recipe.Recipe as declared-recipe
 use Rattle.graph_core.specs.Graphs.{Instruction, Marker, End, Graph, Recipe, Of, Name, recipe_view}
 use Rattle.graph_core.specs.Paths.{Among, History, Path}
 use Rattle.graph_core.specs.WellMarked.{IsVariable}
-use Rattle.homed_unit.specs.Homed.{HomedForm, home_of}
+use Rattle.homed_unit.specs.Homed.{HomedForm, HaveHomes, home_of, homes_in}
 use Rattle.note_flow.specs.Found.{IsPlaceOf}
-use Rattle.note_flow.specs.Shown.{ArePlaced, IsVisible}
+use Rattle.note_flow.specs.Shown.{ArePlaced, IsHiddenAt, IsVisible}
 use Rattle.currency.specs.declared.telling.ToldVariable as declared-variable
 use Rattle.currency.specs.declared.told.ToldPlaces as declared-places
+use Rattle.currency.specs.declared.verdict.Verdict as declared-verdict
 use Rattle.currency.specs.declared.verdict.Verdict.TheVariants as verdict
 use Rattle.currency.specs.declared.verdict.PlaceVerdict as declared-row
 use Rattle.currency.specs.Telling.{told_at, IsSomethingTold, IsToldRight}
+
+-- a verdict says that a variable is hidden
+abbrev pub IsHidden : declared-verdict.Verdict → Type 0
+IsHidden verdict.Home = ⊥
+IsHidden (verdict.Recovered r c) = ⊥
+IsHidden (verdict.Noncurrent c start w) = Unit {0}
+IsHidden (verdict.Nonresident c start w) = Unit {0}
 
 module _ (u : HomedForm) where
   -- What is told of the first functions of a unit.
   pub record AreFunctionsTold (table : declared-table.PlaceTable) (count : ℕ) (told : declared-places.ToldPlaces) : Type 0 where
     pub placed : (f : ℕ) (g : Graph) → f < count → slice_get u.unit.graphs f ≡ Some g → ArePlaced g f table
     pub own : (f : ℕ) (g : Graph) (p x variable : ℕ) → f < count → slice_get u.unit.graphs f ≡ Some g → IsVariable g x variable → IsVisible table p variable → HoldsOnAllPaths (home_of u f) g p x (Of (Name x)) ⊎ IsSomethingTold told p variable
-    pub right : (p : ℕ) (t : declared-variable.ToldVariable) (f : ℕ) (g : Graph) → Among t (told_at told p) → f < count → slice_get u.unit.graphs f ≡ Some g → IsToldRight (home_of u f) g p t t.told
+    pub right : (p : ℕ) (t : declared-variable.ToldVariable) (f : ℕ) (g : Graph) → Among t (told_at told p) → f < count → slice_get u.unit.graphs f ≡ Some g → IsToldRight (homes_in u f) g p t t.told
     pub of : (p : ℕ) (t : declared-variable.ToldVariable) → Among t (told_at told p) → (f : ℕ) × (f < count) × IsPlaceOf table f p
 
   -- What is told of all its functions.
@@ -50,3 +58,10 @@ module _ (u : HomedForm) where
   AreOnly rows =
       (w : declared-row.PlaceVerdict) (r : declared-recipe.Recipe) (change : ℕ) → Among w rows → w.verdict ≡ verdict.Recovered r change → (f x : ℕ) (g : Graph) → slice_get u.unit.graphs f ≡ Some g → IsVariable g x w.var.0
       → (h : History) (n : ℕ) (rest : List Instruction) (e : End) → Path g h n (Marker w.place.0 ∷ rest) e → (other : Recipe) → HoldsOnAllPaths (home_of u f) g w.place.0 x other → other ≡ recipe_view r
+
+  -- Where a verdict says that a variable is hidden, no recipe holds there on all paths, its own value neither, if a path reaches the place. The names have their homes, and are at least
+  -- one and not more than numbers of 32 bits tell apart beside the registers.
+  abbrev pub AreHidden : List declared-row.PlaceVerdict → Type 0
+  AreHidden rows =
+      (w : declared-row.PlaceVerdict) → Among w rows → IsHidden w.verdict → HaveHomes u → (f x : ℕ) (g : Graph) → slice_get u.unit.graphs f ≡ Some g → 1 ≤ g.name_count → g.name_count ≤ 4294967264 → IsVariable g x w.var.0
+      → IsHiddenAt (home_of u f) g w.place.0 x

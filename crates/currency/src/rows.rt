@@ -4,7 +4,7 @@ ghost use Rattle.std.specs.Prelude.{◌≡◌, ◌++◌, ℕ, IfOk, IfSome, Matc
 ghost use Rattle.homed_unit.specs.Homed.{homed_view};
 ghost use Rattle.currency.specs.Telling.{AreRowsTold, AreSlotted, AreTold, IsNoneTold, IsToldOf, IsVerdictOn, told_at};
 ghost use Rattle.currency.specs.Named.{AreNamed};
-ghost use Rattle.currency.specs.Sound.{AreApart, AreHome, AreOnly, AreRecovered, AreSo};
+ghost use Rattle.currency.specs.Sound.{AreApart, AreHidden, AreHome, AreOnly, AreRecovered, AreSo};
 ghost use Rattle.currency.specs.Written.{AreWritten};
 ghost use Rattle.currency.specs.Evident.{AreEvident, AreToldEvident};
 ghost use Rattle.currency.specs.Visible.{sight, sights_at, sights_from};
@@ -196,6 +196,7 @@ pub fn verdicts(
     ensures recovered { IfOk result (λ o. IfSome o (λ v. AreRecovered (homed_view homed.now) v.items)) }
     ensures apart { IfOk result (λ o. IfSome o (λ v. AreApart (homed_view homed.now) v.items)) }
     ensures only { IfOk result (λ o. IfSome o (λ v. AreOnly (homed_view homed.now) v.items)) }
+    ensures hidden { IfOk result (λ o. IfSome o (λ v. AreHidden (homed_view homed.now) v.items)) }
     ensures named { IfOk result (λ o. IfSome o (λ v. AreNamed (homed_view homed.now).unit.log v.items)) }
     ensures written { IfOk result (λ o. IfSome o (λ v. AreWritten (homed_view homed.now) v.items)) }
     ensures evident { IfOk result (λ o. IfSome o (λ v. AreEvident (homed_view homed.now).unit.log flow.now (homed_view homed.now) v.items)) }

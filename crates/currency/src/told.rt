@@ -220,7 +220,7 @@ impl<'a> ToldPlaces<'a> {
     ) -> Result<bool, AllocError>
         requires { IsTeller teller.old }
         ensures teller { OnOk result (IsSameTeller teller.old teller.new) }
-        ensures told { IfOk result (λ b. b ≡ true → IsFunctionTold (home_in homes.now) (graph_view graph.now) number unit.now.places.now self.old self.new) }
+        ensures told { IfOk result (λ b. b ≡ true → IsFunctionTold homes.now (graph_view graph.now) number unit.now.places.now self.old self.new) }
         ensures hiding { IfOk result (λ b. b ≡ true → AreNew (IsHidingIn (log_of teller.old.changes) teller.old.search.flow.table.now (home_in homes.now) number (graph_view graph.now)) self.old self.new) }
     {
         let (changes, removals, places) = (unit.changes, unit.removals, unit.places);

@@ -4,7 +4,7 @@ use Rattle.homed_unit.specs.Homed.{homed_view}
 use Rattle.currency.specs.Telling.{AreRowsTold}
 use Rattle.currency.specs.Sound.{AreSo}
 use Rattle.currency.specs.Evident.{AreToldEvident}
-use Rattle.currency.proofs.OnRows.{are_apart, are_home, are_only, are_recovered}
+use Rattle.currency.proofs.OnRows.{are_apart, are_hidden, are_home, are_only, are_recovered}
 use Rattle.currency.proofs.OfUnits.{are_evident}
 use Rattle.currency.proofs.rows.verdicts.Goals as goal
 
@@ -40,3 +40,9 @@ returns-clause-evident c =
     let flow = c.args.flow.now in
     are_evident u.unit.log flow u table c.in-Some.told c.in-Some-2.rows.items (subst (λ o. IfSome o (λ t. AreToldEvident u.unit.log flow u t)) c.in-Some.is c.in_ok-told.ensures.evident)
     (subst (λ o. IfSome o (λ v. AreRowsTold table c.in-Some.told v.items)) c.in-Some-2.is c.in_ok-rows.ensures.told)
+
+pub returns-clause-hidden : goal.returns-clause-hidden
+returns-clause-hidden c =
+    let u = homed_view c.args.homed.now in
+    let table = c.args.places.now in
+    are_hidden u table c.in-Some.told c.in-Some-2.rows.items (subst (λ o. IfSome o (λ t. AreSo u table t)) c.in-Some.is c.in_ok-told.ensures.so) (subst (λ o. IfSome o (λ v. AreRowsTold table c.in-Some.told v.items)) c.in-Some-2.is c.in_ok-rows.ensures.told)
