@@ -7,11 +7,11 @@ use Rattle.graph_core.specs.Graphs.{NoteValue, Instruction, Note, Block}
 use Rattle.idle_rule.specs.Removing.{without}
 use Rattle.dead_pass.specs.LeftBy.{IsKeptAs, noted, IsPushed, went, stayed, AreLeftBy, none, gone, kept, IsLeftBlockBy, AreLeftBlocksBy, IsNoteOf, notes}
 
-append_nil : {A : Type 0} (xs : List A) → xs ++ [] ≡ xs
+pub append_nil : {A : Type 0} (xs : List A) → xs ++ [] ≡ xs
 append_nil [] = refl
 append_nil (x ∷ xs) = ap (λ ys. x ∷ ys) (append_nil xs)
 
-rest_is : {A : Type 0} (y : A) (left : List A) → take (length (y ∷ left) - 1) (drop 1 (y ∷ left)) ≡ left
+pub rest_is : {A : Type 0} (y : A) (left : List A) → take (length (y ∷ left) - 1) (drop 1 (y ∷ left)) ≡ left
 rest_is y left = (let count : length (y ∷ left) - 1 ≡ length left = omega arith in ap (λ n. take n left) count ∙ take-length left)
 
 -- a note of the same scalar
@@ -77,6 +77,10 @@ first_of_all P (y ∷ ahead) x le e all = subst P (sym e) all.0
 pub all_behind : {A : Type 0} (P : A → Type 0) (ahead : List A) → 1 ≤ length ahead → AllByRecursion P ahead → AllByRecursion P (take (length ahead - 1) (drop 1 ahead))
 all_behind P [] le all = absurd (omega (arith, le))
 all_behind {A} P (y ∷ ahead) le all = (let Q : List A → Type 0 = λ zs. AllByRecursion P zs in subst Q (sym (rest_is y ahead)) all.1)
+
+pub all_unmapped : {A B : Type 0} (P : B → Type 0) (view : A → B) (xs : List A) → AllByRecursion P (map view xs) → AllByRecursion (λ x. P (view x)) xs
+all_unmapped P view [] all = tt
+all_unmapped P view (x ∷ xs) all = (all.0, all_unmapped P view xs all.1)
 
 pub one_of_all : {A : Type 0} (P : A → Type 0) (all : List A) (k : ℕ) (x : A) → k < length all → x ≡ get_or all k x → AllByRecursion P all → P x
 one_of_all P [] k x lt e all = absurd (omega (arith, lt))

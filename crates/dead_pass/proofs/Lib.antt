@@ -1,2 +1,5 @@
 pub mod Leaving
+pub mod Placed
+pub mod Noting
+pub mod Saying
 pub mod ByRule

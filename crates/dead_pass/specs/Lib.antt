@@ -1,2 +1,4 @@
 pub mod Left
 pub mod LeftBy
+pub mod Noted
+pub mod Notes

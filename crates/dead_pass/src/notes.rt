@@ -1,10 +1,16 @@
 //! What is left of a graph.
 
-ghost use Rattle.std.specs.Prelude.{◌≡◌, ◌<◌, ◌^◌, ◌++◌, IfOk, IfSome, None, OnOk, Some, option_map, ℕ, length, map};
-ghost use Rattle.debug_records.specs.declared.change.Place as declared-place;
+ghost use Rattle.std.specs.Prelude.{◌≡◌, ◌<◌, ◌^◌, ◌++◌, IfOk, IfSome, List, None, OnOk, Some, false, ℕ, length, map, slice_get};
 ghost use Rattle.removal_notes.specs.Idle.{IsBorneOut, graph_of};
+ghost use Rattle.removal_notes.specs.Said.{AreSaid, SaysAs, SaysWhatItShall};
+ghost use Rattle.removal_notes.specs.Sources.{HasRoom};
+ghost use Rattle.removal_notes.specs.Stale.{HasOtherWays};
+ghost use Rattle.removal_notes.specs.Telling.{AreToldOf};
+ghost use Rattle.removed_writes.specs.Points.{placed};
 ghost use Rattle.dead_pass.specs.LeftBy.{AreLeftBlocksBy, AreLeftBy, IsKeptAs, IsLeftBlockBy, IsNoteOf, IsPushed};
-ghost use Rattle.graph_core.specs.Graphs.{Call as CallOf, block_view, graph_view, instruction_view, operand_view};
+ghost use Rattle.dead_pass.specs.Noted.{IsHere, IsReady, IsSaidBehind, IsVisited};
+ghost use Rattle.graph_core.specs.Graphs.{Block as BlockForm, Call as CallOf, Instruction as InstructionForm, Logged, Note as NoteOf, UnitForm, block_view, graph_view, instruction_view, note_view, operand_view};
+ghost use Rattle.graph_core.specs.Validity.{IsGraph};
 ghost use Rattle.idle_rule.specs.Asking.{is_going};
 ghost use Rattle.idle_rule.specs.Removing.{IsReduced, without};
 ghost use Rattle.idle_rule.specs.Walks.{turn_of};
@@ -54,7 +60,10 @@ fn left_note(
     of: Name,
     value: &NoteValue,
 ) -> Result<Instr, AllocError>
-    ensures { IfOk result (λ left. IsNoteOf of.0 (instruction_view left)) }
+    ensures note { IfOk result (λ left. IsNoteOf of.0 (instruction_view left)) }
+    ensures same { OnOk result (HasOtherWays notes.old notes.new) }
+    ensures room { OnOk result (HasRoom idle.now notes.old.ways → HasRoom idle.now notes.new.ways) }
+    ensures said { IfOk result (λ left. (log : List Logged) (b : BlockForm) (before rest : List InstructionForm) → IsReady log idle.now notes.old → IsHere idle.now notes.old note b before (NoteOf of.0 (note_view value.now)) rest → SaysAs log (graph_of idle.now) note.spot.block rest b.end (NoteOf of.0 (note_view value.now)) (instruction_view left)) }
 {
     let value = notes.said(alloc, idle, note, of, value)?;
     Ok(Instr::Note { of, value })
@@ -68,7 +77,10 @@ fn kept(
     at: NotePoint,
     instruction: &Instr,
 ) -> Result<Instr, AllocError>
-    ensures { IfOk result (λ left. IsKeptAs (instruction_view instruction.now) (instruction_view left)) }
+    ensures left { IfOk result (λ left. IsKeptAs (instruction_view instruction.now) (instruction_view left)) }
+    ensures same { OnOk result (HasOtherWays notes.old notes.new) }
+    ensures room { OnOk result (HasRoom idle.now notes.old.ways → HasRoom idle.now notes.new.ways) }
+    ensures said { IfOk result (λ left. (log : List Logged) (b : BlockForm) (before rest : List InstructionForm) → IsReady log idle.now notes.old → IsHere idle.now notes.old at b before (instruction_view instruction.now) rest → SaysAs log (graph_of idle.now) at.spot.block rest b.end (instruction_view instruction.now) (instruction_view left)) }
 {
     if let Instr::Note { of, value } = instruction {
         let note = left_note(alloc, idle, notes, at, *of, value)?;
@@ -88,7 +100,10 @@ fn push_left(
     instruction: &Instr,
     left: &mut Vec<Instr>,
 ) -> Result<(), AllocError>
-    ensures { OnOk result (IsPushed goes (instruction_view instruction.now) (map instruction_view left.old.items) (map instruction_view left.new.items)) }
+    ensures left { OnOk result (IsPushed goes (instruction_view instruction.now) (map instruction_view left.old.items) (map instruction_view left.new.items)) }
+    ensures same { OnOk result (HasOtherWays notes.old notes.new) }
+    ensures room { OnOk result (HasRoom idle.now notes.old.ways → HasRoom idle.now notes.new.ways) }
+    ensures said { OnOk result ((log : List Logged) (b : BlockForm) (before rest : List InstructionForm) → goes ≡ false → IsReady log idle.now notes.old → IsHere idle.now notes.old at b before (instruction_view instruction.now) rest → IsSaidBehind log (graph_of idle.now) at.spot.block b (instruction_view instruction.now) rest (map instruction_view left.old.items) (map instruction_view left.new.items)) }
 {
     if goes {
         push_gone(alloc, instruction, left)?;
@@ -102,7 +117,8 @@ fn push_left(
 /// A point of a block with so many instructions behind it, where a place is in force; place 0 where there is none.
 fn note_point(block: u32, left: usize, place: Option<Place>) -> NotePoint
     ensures spot { result.spot ≡ record { block = block; left = left } }
-    ensures place { (p : ℕ) → option_map (λ (q : declared-place.Place). q.0) place ≡ Some p → result.place.0 ≡ p }
+    ensures place { (p : ℕ) → placed place ≡ Some p → result.place.0 ≡ p }
+    ensures none { place ≡ None → result.place.0 ≡ 0 }
 {
     NotePoint {
         spot: Spot { block, left },
@@ -119,7 +135,9 @@ fn left_of(
     kept_place: Option<Place>,
     instructions: &[Instr],
 ) -> Result<Vec<Instr>, AllocError>
-    ensures { IfOk result (λ left. AreLeftBy (is_going (turn_of idle.now.turns.items) number) (map instruction_view instructions.now) (map instruction_view left.items)) }
+    ensures left { IfOk result (λ left. AreLeftBy (is_going (turn_of idle.now.turns.items) number) (map instruction_view instructions.now) (map instruction_view left.items)) }
+    ensures ready { OnOk result ((log : List Logged) → IsReady log idle.now notes.old → IsReady log idle.now notes.new) }
+    ensures said { IfOk result (λ left. (log : List Logged) (b : BlockForm) → IsReady log idle.now notes.old → IsVisited idle.now number b → b.place ≡ placed kept_place → b.instructions ≡ map instruction_view instructions.now → AreSaid log (graph_of idle.now) number b.end b.instructions (map instruction_view left.items)) }
 {
     notes.begin(number);
     let mut left = Vec::new(alloc);
@@ -144,7 +162,9 @@ fn left_block(
     number: u32,
     block: &Block,
 ) -> Result<Block, AllocError>
-    ensures { IfOk result (λ left. IsLeftBlockBy (is_going (turn_of idle.now.turns.items)) (bits_of idle.now.reached 0) number (block_view block.now) (block_view left)) }
+    ensures left { IfOk result (λ left. IsLeftBlockBy (is_going (turn_of idle.now.turns.items)) (bits_of idle.now.reached 0) number (block_view block.now) (block_view left)) }
+    ensures ready { OnOk result ((log : List Logged) → IsReady log idle.now notes.old → IsReady log idle.now notes.new) }
+    ensures said { IfOk result (λ left. (log : List Logged) → IsReady log idle.now notes.old → slice_get (graph_of idle.now).blocks number ≡ Some (block_view block.now) → AreSaid log (graph_of idle.now) number (block_view block.now).end (block_view block.now).instructions (block_view left).instructions) }
 {
     if !idle.is_reached(number) {
         let same = block.duplicate(alloc)?;
@@ -165,7 +185,8 @@ fn blocks_left(
     blocks: &[Block],
 ) -> Result<Vec<Block>, AllocError>
     requires few { length blocks.now < 2 ^ 32 }
-    ensures { IfOk result (λ left. AreLeftBlocksBy (is_going (turn_of idle.now.turns.items)) (bits_of idle.now.reached 0) 0 (map block_view blocks.now) (map block_view left.items)) }
+    ensures left { IfOk result (λ left. AreLeftBlocksBy (is_going (turn_of idle.now.turns.items)) (bits_of idle.now.reached 0) 0 (map block_view blocks.now) (map block_view left.items)) }
+    ensures said { IfOk result (λ left. (log : List Logged) → IsReady log idle.now notes.old → (graph_of idle.now).blocks ≡ map block_view blocks.now → SaysWhatItShall log (graph_of idle.now) (record (graph_of idle.now) { blocks = map block_view left.items })) }
 {
     let mut left = Vec::new(alloc);
     let mut number = 0u32;
@@ -186,7 +207,8 @@ pub fn graph_left(
     removed: &RemovedChanges,
 ) -> Result<Option<Graph>, AllocError>
     requires { IsBorneOut idle.now }
-    ensures { IfOk result (λ o. IfSome o (λ left. IsReduced (graph_of idle.now) (graph_view left))) }
+    ensures left { IfOk result (λ o. IfSome o (λ left. IsReduced (graph_of idle.now) (graph_view left))) }
+    ensures notes { IfOk result (λ o. IfSome o (λ left. (log : List Logged) (u : UnitForm) → AreToldOf log removed.now → IsGraph u (graph_of idle.now) → SaysWhatItShall log (graph_of idle.now) (graph_view left))) }
 {
     if idle.stays() {
         let same = idle.graph.duplicate(alloc)?;

@@ -1,13 +1,16 @@
 //! The pass.
 
-ghost use Rattle.std.specs.Prelude.{◌≡◌, ◌<◌, ◌^◌, IfOk, IfSome, codes, length, map};
+ghost use Rattle.std.specs.Prelude.{◌≡◌, ◌<◌, ◌^◌, IfOk, IfSome, List, codes, length, map};
 ghost use Rattle.std.specs.List.{AllByRecursion};
 ghost use Rattle.debug_records.specs.Change.{pass_name};
 ghost use Rattle.debug_records.specs.declared.change.Kind.TheVariants.{Removed};
 ghost use Rattle.removal_notes.specs.Idle.{IsBorneOut, graph_of};
+ghost use Rattle.removal_notes.specs.Said.{SaysWhatItShall};
+ghost use Rattle.removal_notes.specs.Telling.{AreToldOf};
 ghost use Rattle.dead_pass.specs.Left.{IsLeftGraph};
-ghost use Rattle.graph_core.specs.Graphs.{graph_view, unit_view};
-ghost use Rattle.graph_core.specs.Validity.{IsValid};
+ghost use Rattle.dead_pass.specs.Notes.{SayWhatTheyShall};
+ghost use Rattle.graph_core.specs.Graphs.{Logged, UnitForm, graph_view, unit_view};
+ghost use Rattle.graph_core.specs.Validity.{IsGraph, IsValid};
 ghost use Rattle.idle_rule.specs.Removing.{IsReduced};
 ghost use Rattle.graph_edits.specs.Changes.{AddsChangesOf, AreCasesOf};
 ghost use Rattle.graph_edits.specs.Kept.{AddsChanges, EachFunction, KeepsAllButBlocks, ShareTheSame};
@@ -68,7 +71,8 @@ fn graphs_left(
     removed: &RemovedChanges,
 ) -> Result<Option<Vec<Graph>>, AllocError>
     requires { AllByRecursion IsBorneOut idle.now }
-    ensures { IfOk result (λ o. IfSome o (λ left. EachFunction IsReduced (map graph_of idle.now) (map graph_view left.items))) }
+    ensures left { IfOk result (λ o. IfSome o (λ left. EachFunction IsReduced (map graph_of idle.now) (map graph_view left.items))) }
+    ensures notes { IfOk result (λ o. IfSome o (λ left. (log : List Logged) (u : UnitForm) → AreToldOf log removed.now → AllByRecursion (IsGraph u) (map graph_of idle.now) → EachFunction (SaysWhatItShall log) (map graph_of idle.now) (map graph_view left.items))) }
 {
     let mut left = Vec::new(alloc);
     let mut ahead = idle;
@@ -99,6 +103,7 @@ pub fn remove_dead(alloc: Global, unit: &Unit) -> Result<Option<Unit>, AllocErro
     ensures functions { IfOk result (λ o. IfSome o (λ v. EachFunction KeepsAllButBlocks (unit_view unit.now).graphs (unit_view v).graphs)) }
     ensures left { IfOk result (λ o. IfSome o (λ v. EachFunction IsLeftGraph (unit_view unit.now).graphs (unit_view v).graphs)) }
     ensures exact { IfOk result (λ o. IfSome o (λ v. EachFunction IsReduced (unit_view unit.now).graphs (unit_view v).graphs)) }
+    ensures notes { IfOk result (λ o. IfSome o (λ v. SayWhatTheyShall (unit_view unit.now) (unit_view v))) }
 {
     let Some(idle) = idle_graphs(alloc, &unit.graphs)? else {
         return Ok(None);

@@ -10,6 +10,7 @@ use Rattle.replaced_reads.specs.Reads.{IsReplacedRead}
 use Rattle.motion_pass.specs.Moves.{AreAllMoved, IsMovedAssignment}
 use Rattle.idle_rule.specs.Removing.{IsReduced}
 use Rattle.removed_writes.specs.Writes.{IsRemovedWrite}
+use Rattle.dead_pass.specs.Notes.{SayWhatTheyShall}
 
 -- A step of copy propagation: copies are propagated in each function, and behind the old changes one is logged for each read that was replaced, and no other.
 pub record PropagatesCopies (u v : UnitForm) : Type 0 where
@@ -22,7 +23,8 @@ pub record MovesCode (u v : UnitForm) : Type 0 where
   pub changes : AddsChangesOf (pass_name (codes "motion")) Moved IsMovedAssignment u v
   pub functions : AreAllMoved u.graphs v.graphs
 
--- A step of the removal of dead assignments: the writes that go are gone from each function, and behind the old changes one is logged for each of them that wrote a variable, and no other.
+-- A step of the removal of dead assignments: the writes that go are gone from each function, behind the old changes one is logged for each of them that wrote a variable, and no other, and each note says what it shall.
 pub record RemovesDead (u v : UnitForm) : Type 0 where
   pub changes : AddsChangesOf (pass_name (codes "dead")) Removed (λ before after. IsRemovedWrite before) u v
   pub functions : EachFunction IsReduced u.graphs v.graphs
+  pub notes : SayWhatTheyShall u v

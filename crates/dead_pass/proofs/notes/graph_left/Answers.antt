@@ -1,4 +1,4 @@
-use Rattle.std.proofs.Common.{List, ap, map, subst, sym, ◌∙◌}
+use Rattle.std.proofs.Common.{◌≡◌, List, ap, map, rules, subst, sym, ◌∙◌}
 use Rattle.graph_core.specs.declared.graph.MemoryObject.{MemoryObject}
 use Rattle.graph_core.specs.Graphs.{Binding, Block, Graph, Scalar, binding_view, block_view, graph_view, scalar_view}
 use Rattle.path_marks.specs.Table.{bits_of}
@@ -6,21 +6,48 @@ use Rattle.idle_rule.specs.Asking.{is_going}
 use Rattle.idle_rule.specs.Removing.{IsReduced}
 use Rattle.idle_rule.specs.Walks.{turn_of}
 use Rattle.removal_notes.specs.Idle.{graph_of}
+use Rattle.removal_notes.specs.Said.{SaysWhatItShall}
+use Rattle.removal_notes.specs.Sources.{HasRoom}
+use Rattle.removal_notes.specs.Stale.{AreKnown}
+use Rattle.removal_notes.specs.Telling.{AreToldOf}
 use Rattle.dead_pass.specs.LeftBy.{AreLeftBlocksBy}
 use Rattle.dead_pass.proofs.ByRule.{graph_reduced, graph_stays}
+use Rattle.dead_pass.proofs.Placed.{graph_named, graph_placed}
+use Rattle.dead_pass.proofs.Saying.{graph_same}
 use Rattle.dead_pass.proofs.notes.graph_left.Goals as goal
 
-pub returns-then-stays : goal.returns-then-stays
-returns-then-stays c =
+pub returns-then-stays-clause-left : goal.returns-then-stays-clause-left
+returns-then-stays-clause-left c =
     let idle = c.args.idle.now in
     subst (λ (g : Graph). IsReduced (graph_of idle) g) (sym c.in_ok-same.ensures) (graph_stays (graph_of idle) (is_going (turn_of idle.turns.items)) c.requires.goes (bits_of idle.reached 0) c.requires.led (c.stays.ensures c.if-stays.true))
 
-pub returns : goal.returns
-returns c =
+pub returns-then-stays-clause-notes : goal.returns-then-stays-clause-notes
+returns-then-stays-clause-notes c = λ log u told valid.
+    (let idle = c.args.idle.now in
+    subst (λ (h : Graph). SaysWhatItShall log (graph_of idle) h) (sym c.in_ok-same.ensures) (graph_same log idle c.requires (c.stays.ensures c.if-stays.true) (graph_placed u (graph_of idle) valid)))
+
+pub returns-clause-notes : goal.returns-clause-notes
+returns-clause-notes c = λ log u told valid.
+    (let g = graph_of c.args.idle.now in
+    let known : AreKnown c.args.idle.now c.in-Some.notes = search rules in
+    let room : HasRoom c.args.idle.now c.in-Some.notes.ways = search rules in
+    let removed : c.in-Some.notes.removed.now ≡ c.args.removed.now = search rules in
+    let said = c.in_ok-blocks.ensures.said log (record {
+      borne_out = c.requires;
+      known = known;
+      room = room;
+      told = subst (λ r. AreToldOf log r) (sym removed) told;
+      named = graph_named u g valid;
+      placed = graph_placed u g valid;
+    }) (ap (λ xs. map block_view xs) (sym c.deref.ensures.value)) in
+    record { notes = said.notes })
+
+pub returns-clause-left : goal.returns-clause-left
+returns-clause-left c =
     let idle = c.args.idle.now in
     let g = idle.graph.now in
     let after : List Block = map block_view c.in_ok-blocks.blocks.items in
-    let all = subst (λ xs. AreLeftBlocksBy (is_going (turn_of idle.turns.items)) (bits_of idle.reached 0) 0 (map block_view xs) after) c.deref.ensures.value c.in_ok-blocks.ensures in
+    let all = subst (λ xs. AreLeftBlocksBy (is_going (turn_of idle.turns.items)) (bits_of idle.reached 0) 0 (map block_view xs) after) c.deref.ensures.value c.in_ok-blocks.ensures.left in
     let made : List Binding → List Scalar → List MemoryObject → Graph =
     λ (bindings : List Binding) (scalars : List Scalar) (objects : List MemoryObject).
     record { entry = g.entry.0; parameters = bindings; scalars = scalars; objects = objects; name_count = g.name_count; first_moved = g.first_moved; blocks = after } in

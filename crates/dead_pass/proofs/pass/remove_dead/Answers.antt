@@ -1,13 +1,21 @@
-use Rattle.std.proofs.Common.{map, refl, rules, subst, sym}
+use Rattle.std.proofs.Common.{◌≡◌, List, map, refl, rules, subst, sym}
+use Rattle.std.specs.List.{AllByRecursion}
 use Rattle.debug_records.specs.declared.change.Kind.TheVariants.{Removed}
-use Rattle.graph_core.specs.Graphs.{graph_view}
+use Rattle.debug_records.specs.declared.change.Change.{Change}
+use Rattle.graph_core.specs.Graphs.{graph_view, logged, unit_view}
+use Rattle.graph_core.specs.Validity.{IsGraph}
 use Rattle.graph_edits.specs.Kept.{EachFunction}
 use Rattle.graph_edits.specs.Changes.{AreCasesOf}
 use Rattle.graph_edits.proofs.Log.{changes_added, changes_of_cases}
 use Rattle.idle_rule.specs.Removing.{IsReduced}
+use Rattle.removal_notes.specs.declared.idle_graph.IdleGraph.{IdleGraph}
+use Rattle.removal_notes.specs.Idle.{graph_of}
+use Rattle.removal_notes.specs.Said.{SaysWhatItShall}
+use Rattle.removal_notes.specs.Telling.{AreToldOf}
 use Rattle.removed_writes.specs.Writes.{IsRemovedWrite}
 use Rattle.removed_writes.proofs.OfUnits.{cases_before, each_count}
 use Rattle.dead_pass.proofs.ByRule.{each_keeps, each_left}
+use Rattle.dead_pass.proofs.Saying.{some_of}
 use Rattle.dead_pass.proofs.pass.remove_dead.Goals as goal
 
 pub returns-then-is_valid-clause-log : goal.returns-then-is_valid-clause-log
@@ -33,3 +41,15 @@ pub returns-then-is_valid-clause-left : goal.returns-then-is_valid-clause-left
 returns-then-is_valid-clause-left c =
     let left : EachFunction IsReduced (map graph_view c.args.unit.now.graphs.items) (map graph_view c.in-Some-4.graphs.items) = search rules in
     each_left (map graph_view c.args.unit.now.graphs.items) (map graph_view c.in-Some-4.graphs.items) left
+
+pub returns-then-is_valid-clause-notes : goal.returns-then-is_valid-clause-notes
+returns-then-is_valid-clause-notes c =
+    let u = unit_view c.args.unit.now in
+    let after = map graph_view c.in-Some-4.graphs.items in
+    let log = map logged c.changes.result.now in
+    let told : AreToldOf log c.in-Some-3.removed = search rules in
+    let before : map graph_of c.in-Some.idle.items ≡ u.graphs = search rules in
+    let valid = subst (λ (xs : List IdleGraph). AllByRecursion (IsGraph u) (map graph_of xs)) (sym c.deref-3.ensures.value) (subst (λ gs. AllByRecursion (IsGraph u) gs) (sym before) c.requires.valid.graphs) in
+    let said = some_of _ _ _ c.in-Some-4.is c.in_ok-graphs.ensures.notes log u told valid in
+    subst (λ (cs : List Change). EachFunction (SaysWhatItShall (map logged cs)) u.graphs after) c.changes.ensures
+    (subst (λ gs. EachFunction (SaysWhatItShall log) gs after) before (subst (λ (xs : List IdleGraph). EachFunction (SaysWhatItShall log) (map graph_of xs) after) c.deref-3.ensures.value said))

@@ -5,10 +5,11 @@ use Rattle.graph_edits.specs.Changes.{AddsChangesOf}
 use Rattle.graph_edits.specs.Kept.{EachFunction}
 use Rattle.idle_rule.specs.Removing.{IsReduced}
 use Rattle.removed_writes.specs.Writes.{IsRemovedWrite}
+use Rattle.dead_pass.specs.Notes.{SayWhatTheyShall}
 use Rattle.graph_core.specs.Graphs.{unit_view}
 use Rattle.pass_runs.proofs.Shape.{kept_but_blocks}
 use Rattle.program_passes.specs.Steps.{RemovesDead}
-use Rattle.program_passes.proofs.Made.{of_both}
+use Rattle.program_passes.proofs.Made.{of_three}
 use Rattle.program_passes.proofs.passes.DeadRemovalUnitPass.apply.Goals as goal
 
 pub returns-clause-kept : goal.returns-clause-kept
@@ -17,5 +18,5 @@ returns-clause-kept c = kept_but_blocks (unit_view c.args.unit.now) c.remove_dea
 pub returns-clause-step : goal.returns-clause-step
 returns-clause-step c =
     let u = unit_view c.args.unit.now in
-    of_both c.remove_dead.result (λ v. AddsChangesOf (pass_name (codes "dead")) Removed (λ before after. IsRemovedWrite before) u (unit_view v)) (λ v. EachFunction IsReduced u.graphs (unit_view v).graphs) (λ v. RemovesDead u (unit_view v))
-    (λ v changes functions. record { changes = changes; functions = functions }) c.remove_dead.ensures.changes c.remove_dead.ensures.exact
+    of_three c.remove_dead.result (λ v. AddsChangesOf (pass_name (codes "dead")) Removed (λ before after. IsRemovedWrite before) u (unit_view v)) (λ v. EachFunction IsReduced u.graphs (unit_view v).graphs) (λ v. SayWhatTheyShall u (unit_view v))
+    (λ v. RemovesDead u (unit_view v)) (λ v changes functions notes. record { changes = changes; functions = functions; notes = notes }) c.remove_dead.ensures.changes c.remove_dead.ensures.exact c.remove_dead.ensures.notes
