@@ -19,7 +19,7 @@ use Rattle.removal_notes.specs.Idle.{graph_of}
 use Rattle.removal_notes.specs.Said.{IsSaid, SaysAs, noted, AreSaid, ends, gone, stays}
 use Rattle.removal_notes.specs.Sources.{HasRoom, IsKnown, IsSaidAt}
 use Rattle.removal_notes.specs.Stale.{AreKnown, HasComeBehind, HasOtherWays, HasSameWays}
-use Rattle.removal_notes.specs.Telling.{AreToldOf}
+use Rattle.removed_changes.specs.Telling.{AreToldOf}
 use Rattle.removal_notes.proofs.Knowing.{known_at}
 use Rattle.stale_names.specs.Rows.{AreStale, AreAll, stale_behind}
 use Rattle.dead_pass.specs.LeftBy.{IsPushed, went, stayed}

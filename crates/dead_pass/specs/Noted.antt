@@ -10,7 +10,7 @@ use Rattle.removal_notes.specs.Idle.{IsBorneOut, graph_of}
 use Rattle.removal_notes.specs.Said.{SaysAs}
 use Rattle.removal_notes.specs.Sources.{AreNamed, HasRoom}
 use Rattle.removal_notes.specs.Stale.{AreKnown, HasComeBehind}
-use Rattle.removal_notes.specs.Telling.{AreToldOf}
+use Rattle.removed_changes.specs.Telling.{AreToldOf}
 
 -- Each instruction of a graph has a place.
 abbrev pub ArePlaced : Graph → Type 0

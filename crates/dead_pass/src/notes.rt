@@ -5,7 +5,7 @@ ghost use Rattle.removal_notes.specs.Idle.{IsBorneOut, graph_of};
 ghost use Rattle.removal_notes.specs.Said.{AreSaid, SaysAs, SaysWhatItShall};
 ghost use Rattle.removal_notes.specs.Sources.{HasRoom};
 ghost use Rattle.removal_notes.specs.Stale.{HasOtherWays};
-ghost use Rattle.removal_notes.specs.Telling.{AreToldOf};
+ghost use Rattle.removed_changes.specs.Telling.{AreToldOf};
 ghost use Rattle.removed_writes.specs.Points.{placed};
 ghost use Rattle.dead_pass.specs.LeftBy.{AreLeftBlocksBy, AreLeftBy, IsKeptAs, IsLeftBlockBy, IsNoteOf, IsPushed};
 ghost use Rattle.dead_pass.specs.Noted.{IsHere, IsReady, IsSaidBehind, IsVisited};
@@ -19,7 +19,8 @@ ghost use Rattle.path_marks.specs.Table.{bits_of};
 use debug_records::Place;
 use graph_core::{Block, Callee, Graph, Instr, Name, NoteValue, Operand};
 use place_writes::Spot;
-use removal_notes::{IdleGraph, NotePoint, Notes, RemovedChanges};
+use removal_notes::{IdleGraph, NotePoint, Notes};
+use removed_changes::RemovedChanges;
 use smallvec::SmallVec;
 use std::alloc::{AllocError, Global};
 

@@ -6,7 +6,7 @@ ghost use Rattle.debug_records.specs.Change.{pass_name};
 ghost use Rattle.debug_records.specs.declared.change.Kind.TheVariants.{Removed};
 ghost use Rattle.removal_notes.specs.Idle.{IsBorneOut, graph_of};
 ghost use Rattle.removal_notes.specs.Said.{SaysWhatItShall};
-ghost use Rattle.removal_notes.specs.Telling.{AreToldOf};
+ghost use Rattle.removed_changes.specs.Telling.{AreToldOf};
 ghost use Rattle.dead_pass.specs.Left.{IsLeftGraph};
 ghost use Rattle.dead_pass.specs.Notes.{SayWhatTheyShall};
 ghost use Rattle.graph_core.specs.Graphs.{Logged, UnitForm, graph_view, unit_view};
@@ -20,7 +20,8 @@ use crate::notes::graph_left;
 use debug_records::{Kind, PassName};
 use graph_core::{Graph, Unit};
 use graph_edits::{Case, log_cases};
-use removal_notes::{IdleGraph, RemovedChanges};
+use removal_notes::IdleGraph;
+use removed_changes::RemovedChanges;
 use removed_writes::removed_writes;
 use std::alloc::{AllocError, Global};
 

@@ -1,5 +1,4 @@
 mod Circles
-mod FirstAndLast
 mod Found
 pub mod Knowing
 mod Lost

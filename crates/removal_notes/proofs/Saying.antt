@@ -24,7 +24,7 @@ use Rattle.removal_notes.specs.declared.idle_graph.IdleGraph.{IdleGraph}
 use Rattle.removal_notes.specs.declared.recipes.NotePoint.{NotePoint}
 use Rattle.removal_notes.specs.Idle.{IsBorneOut, graph_of}
 use Rattle.removal_notes.specs.Lost.{HasStale, IsToldLost, said_by}
-use Rattle.removal_notes.specs.Removals.{IsRemoval, IsFirstRemoval, IsLastRemoval}
+use Rattle.removed_changes.specs.Removals.{IsRemoval, IsFirstRemoval, IsLastRemoval}
 use Rattle.removal_notes.specs.Said.{IsDropped, IsRightSide, IsRecipeOf, IsLost, WasNeverRemoved, IsSaid, recipe, gone, unlogged, lost, unlost, stays}
 use Rattle.removal_notes.specs.Sources.{noted, IsMade, IsFound, IsKnown, IsSaidAt}
 use Rattle.removal_notes.proofs.Sources.{IsAtSpot, at_spot, same_spot, front_same}

@@ -13,7 +13,7 @@ use Rattle.idle_rule.specs.Idle.{Goes}
 use Rattle.idle_rule.specs.Removing.{without}
 use Rattle.path_marks.specs.Reached.{IsReached}
 use Rattle.place_ways.specs.Between.{IsWrittenBetween}
-use Rattle.removal_notes.specs.Removals.{IsRemoval, IsFirstRemoval, IsLastRemoval}
+use Rattle.removed_changes.specs.Removals.{IsRemoval, IsFirstRemoval, IsLastRemoval}
 use Rattle.stale_names.specs.Stale.{ComesStale}
 
 -- The one assignment of a scalar in a place goes.

@@ -12,19 +12,19 @@ ghost use Rattle.path_marks.specs.Table.{bits_of};
 ghost use Rattle.place_writes.specs.Once.{IsOnce};
 ghost use Rattle.removal_notes.specs.Idle.{IsBorneOut, graph_of};
 ghost use Rattle.removal_notes.specs.Lost.{HasStale, IsToldLost, said_by};
-ghost use Rattle.removal_notes.specs.Removals.{IsFirstRemoval, IsLastRemoval};
+ghost use Rattle.removed_changes.specs.Removals.{IsFirstRemoval, IsLastRemoval};
 ghost use Rattle.removal_notes.specs.Said.{IsDropped, WasNeverRemoved};
-ghost use Rattle.removal_notes.specs.Telling.{AreToldOf};
+ghost use Rattle.removed_changes.specs.Telling.{AreToldOf};
 
 use crate::idle_graph::IdleGraph;
 use crate::recipes::{NotePoint, recipe_of};
-use crate::removed::RemovedChanges;
 use debug_records::{Place, Var};
 use graph_core::{Graph, MAX_RECIPE_DEPTH, Name, NoteValue, Operand, Recipe};
 use graph_paths::reached_in_order;
 use path_marks::Marks;
 use place_ways::Ways;
 use place_writes::Spot;
+use removed_changes::RemovedChanges;
 use stale_names::{begin, stale_names, step};
 use std::alloc::{AllocError, Global};
 

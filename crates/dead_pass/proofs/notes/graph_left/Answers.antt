@@ -9,7 +9,7 @@ use Rattle.removal_notes.specs.Idle.{graph_of}
 use Rattle.removal_notes.specs.Said.{SaysWhatItShall}
 use Rattle.removal_notes.specs.Sources.{HasRoom}
 use Rattle.removal_notes.specs.Stale.{AreKnown}
-use Rattle.removal_notes.specs.Telling.{AreToldOf}
+use Rattle.removed_changes.specs.Telling.{AreToldOf}
 use Rattle.dead_pass.specs.LeftBy.{AreLeftBlocksBy}
 use Rattle.dead_pass.proofs.ByRule.{graph_reduced, graph_stays}
 use Rattle.dead_pass.proofs.Placed.{graph_named, graph_placed}

@@ -7,7 +7,7 @@ use Rattle.graph_edits.proofs.Functions.{Left, left_first, functions_step, funct
 use Rattle.idle_rule.specs.Removing.{IsReduced}
 use Rattle.removal_notes.specs.Idle.{IsBorneOut, graph_of}
 use Rattle.removal_notes.specs.Said.{SaysWhatItShall}
-use Rattle.removal_notes.specs.Telling.{AreToldOf}
+use Rattle.removed_changes.specs.Telling.{AreToldOf}
 use Rattle.dead_pass.proofs.Leaving.{all_behind, all_unmapped, first_of_all}
 use Rattle.dead_pass.proofs.pass.graphs_left.Goals as goal
 

@@ -6,7 +6,7 @@ use Rattle.idle_rule.specs.Removing.{IsReduced}
 use Rattle.graph_edits.proofs.Functions.{Left}
 use Rattle.removal_notes.specs.Idle.{IsBorneOut, graph_of}
 use Rattle.removal_notes.specs.Said.{SaysWhatItShall}
-use Rattle.removal_notes.specs.Telling.{AreToldOf}
+use Rattle.removed_changes.specs.Telling.{AreToldOf}
 use Rattle.dead_pass.proofs.pass.graphs_left.Given as goal
 
 abbrev pub invariant-loop-ahead : goal.invariant-loop-ahead

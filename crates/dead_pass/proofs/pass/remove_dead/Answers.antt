@@ -11,7 +11,7 @@ use Rattle.idle_rule.specs.Removing.{IsReduced}
 use Rattle.removal_notes.specs.declared.idle_graph.IdleGraph.{IdleGraph}
 use Rattle.removal_notes.specs.Idle.{graph_of}
 use Rattle.removal_notes.specs.Said.{SaysWhatItShall}
-use Rattle.removal_notes.specs.Telling.{AreToldOf}
+use Rattle.removed_changes.specs.Telling.{AreToldOf}
 use Rattle.removed_writes.specs.Writes.{IsRemovedWrite}
 use Rattle.removed_writes.proofs.OfUnits.{cases_before, each_count}
 use Rattle.dead_pass.proofs.ByRule.{each_keeps, each_left}

@@ -1,8 +1,8 @@
 use Rattle.std.proofs.Common.{◌∙◌, ap}
 use Rattle.place_writes.proofs.Keys.{same_pair}
-use Rattle.removal_notes.specs.Telling.{told}
-use Rattle.removal_notes.proofs.FirstAndLast.{put_removal, told_same}
-use Rattle.removal_notes.proofs.removed.RemovedChanges.add.Goals as goal
+use Rattle.removed_changes.specs.Telling.{told}
+use Rattle.removed_changes.proofs.FirstAndLast.{put_removal, told_same}
+use Rattle.removed_changes.proofs.removed.RemovedChanges.add.Goals as goal
 
 pub returns : goal.returns
 returns c = λ p v.

@@ -1,8 +1,8 @@
 use Rattle.std.proofs.Common.{◌≡◌, ◌+◌, get_or, length, arith}
 use Rattle.graph_core.specs.Graphs.{logged}
 use Rattle.place_writes.proofs.Steps.{front_same, rest_count}
-use Rattle.removal_notes.proofs.FirstAndLast.{change_done, change_step}
-use Rattle.removal_notes.proofs.removed.RemovedChanges.new.Goals as goal
+use Rattle.removed_changes.proofs.FirstAndLast.{change_done, change_step}
+use Rattle.removed_changes.proofs.removed.RemovedChanges.new.Goals as goal
 use Rattle.std.proofs.Common.{refl}
 
 pub loop-ahead-preserved : goal.loop-ahead-preserved

@@ -1,8 +1,8 @@
 use Rattle.std.proofs.Common.{◌≡◌, ◌+◌, ℕ, length, map}
 use Rattle.graph_core.specs.Graphs.{logged}
-use Rattle.removal_notes.specs.Telling.{told, removals_by}
+use Rattle.removed_changes.specs.Telling.{told, removals_by}
 use Rattle.std.specs.Prelude.{None}
-use Rattle.removal_notes.proofs.removed.RemovedChanges.new.Given as goal
+use Rattle.removed_changes.proofs.removed.RemovedChanges.new.Given as goal
 
 abbrev pub invariant-loop-ahead : goal.invariant-loop-ahead
 invariant-loop-ahead l = record {

@@ -5,8 +5,8 @@ use Rattle.debug_records.specs.declared.change.Kind.{Kind}
 use Rattle.debug_records.specs.declared.change.Kind.TheVariants.{Removed}
 use Rattle.graph_core.specs.Graphs.{Logged}
 use Rattle.place_writes.specs.Telling.{pair_cmp}
-use Rattle.removal_notes.specs.declared.removed.Removals.{Removals}
-use Rattle.removal_notes.specs.declared.removed.RemovedChanges.{RemovedChanges}
+use Rattle.removed_changes.specs.declared.removed.Removals.{Removals}
+use Rattle.removed_changes.specs.declared.removed.RemovedChanges.{RemovedChanges}
 
 -- what is told of a variable in a place
 abbrev pub told : RemovedChanges → (p v : ℕ) → Option Removals

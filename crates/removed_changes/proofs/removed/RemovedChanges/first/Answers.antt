@@ -1,7 +1,7 @@
 use Rattle.std.proofs.Common.{sym, ap, ◌∙◌}
-use Rattle.removal_notes.specs.Telling.{first_of}
-use Rattle.removal_notes.proofs.FirstAndLast.{first_told, none_first}
-use Rattle.removal_notes.proofs.removed.RemovedChanges.first.Goals as goal
+use Rattle.removed_changes.specs.Telling.{first_of}
+use Rattle.removed_changes.proofs.FirstAndLast.{first_told, none_first}
+use Rattle.removed_changes.proofs.removed.RemovedChanges.first.Goals as goal
 
 pub returns-in-Some-clause-first : goal.returns-in-Some-clause-first
 returns-in-Some-clause-first c = λ log is. first_told log c.args.place.0 c.args.var.0 _ (ap first_of (sym (is c.args.place.0 c.args.var.0) ∙ sym c.in-Some.ensures.value))

@@ -7,10 +7,10 @@ use Rattle.debug_records.specs.declared.change.Kind.{Kind}
 use Rattle.debug_records.specs.declared.change.Kind.TheVariants.{Removed, Moved, Reused, Replaced}
 use Rattle.graph_core.specs.Graphs.{Logged}
 use Rattle.place_writes.proofs.Steps.{ahead_is, none_ahead}
-use Rattle.removal_notes.specs.declared.removed.Removals.{Removals}
-use Rattle.removal_notes.specs.declared.removed.RemovedChanges.{RemovedChanges}
-use Rattle.removal_notes.specs.Removals.{IsRemoval, IsFirstRemoval, IsLastRemoval}
-use Rattle.removal_notes.specs.Telling.{told, is_removal, with_removal, first_with, removals_by, first_of, last_of}
+use Rattle.removed_changes.specs.declared.removed.Removals.{Removals}
+use Rattle.removed_changes.specs.declared.removed.RemovedChanges.{RemovedChanges}
+use Rattle.removed_changes.specs.Removals.{IsRemoval, IsFirstRemoval, IsLastRemoval}
+use Rattle.removed_changes.specs.Telling.{told, is_removal, with_removal, first_with, removals_by, first_of, last_of}
 
 removal_kind : (k : Kind) → is_removal k ≡ true → k ≡ Removed
 removal_kind Removed e = refl

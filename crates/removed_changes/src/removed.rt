@@ -2,8 +2,8 @@
 
 ghost use Rattle.std.specs.Prelude.{◌≡◌, ◌&&◌, ◌==◌, ℕ, IfOk, IfSome, OnOk, None, List, map};
 ghost use Rattle.graph_core.specs.Graphs.{Logged, logged};
-ghost use Rattle.removal_notes.specs.Removals.{IsFirstRemoval, IsLastRemoval, IsRemoval};
-ghost use Rattle.removal_notes.specs.Telling.{AreToldOf, first_with, is_removal, told, with_removal};
+ghost use Rattle.removed_changes.specs.Removals.{IsFirstRemoval, IsLastRemoval, IsRemoval};
+ghost use Rattle.removed_changes.specs.Telling.{AreToldOf, first_with, is_removal, told, with_removal};
 
 use debug_records::{Change, Kind, Place, Var};
 use std::alloc::{AllocError, Global};

@@ -1,7 +1,7 @@
 use Rattle.std.proofs.Common.{sym, ap, ◌∙◌}
-use Rattle.removal_notes.specs.Telling.{last_of}
-use Rattle.removal_notes.proofs.FirstAndLast.{last_told, none_last}
-use Rattle.removal_notes.proofs.removed.RemovedChanges.last.Goals as goal
+use Rattle.removed_changes.specs.Telling.{last_of}
+use Rattle.removed_changes.proofs.FirstAndLast.{last_told, none_last}
+use Rattle.removed_changes.proofs.removed.RemovedChanges.last.Goals as goal
 
 pub returns-in-Some-clause-last : goal.returns-in-Some-clause-last
 returns-in-Some-clause-last c = λ log is. last_told log c.args.place.0 c.args.var.0 _ (ap last_of (sym (is c.args.place.0 c.args.var.0) ∙ sym c.in-Some.ensures.value))
