@@ -19,6 +19,7 @@ use Rattle.note_state.specs.Notes.{recipe_in, IsBound, IsJoined, IsKept, IsWithi
 use Rattle.note_state.specs.Full.{AreNumbered, AreToldApart, IsEqual, IsFull, IsLeft, IsNoteIn}
 use Rattle.note_state.proofs.Lists.{get_any, get_put_other, get_put_same, take_one_more}
 use Rattle.note_state.proofs.Steps.{bound_more, same_self}
+use Rattle.note_state.proofs.Sourcing.{told_equal}
 
 -- an instruction that is no note of a scalar changes none of its notes
 plain_note : (x : ℕ) (i : Instruction) (before : Option NoteValue) → notes x i ≡ false → note_by x i before ≡ before
@@ -256,6 +257,7 @@ pub within_equal : (s t : declared-state.State) → IsEqual s t → IsWithin s t
 within_equal s t equal = record {
   noted = λ x r said. subst (λ xs. recipe_in xs x ≡ Some r) equal.noted said;
   written = λ k y said. subst (λ xs. slice_get xs k ≡ Some (Some y)) equal.written said;
+  told = told_equal s.noted.items t.noted.items equal.noted;
 }
 
 -- Homes were last written for the names that parameters are bound to.

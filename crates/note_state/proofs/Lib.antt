@@ -1,6 +1,7 @@
 pub mod Lists
 pub mod ReadNames
 pub mod Steps
+pub mod Sourcing
 mod Losing
 mod Keeping
 pub mod Filling

@@ -13,7 +13,7 @@ use Rattle.note_state.specs.declared.noted.Noted.TheVariants as noted
 use Rattle.graph_homes.specs.Homes.{bound_last}
 use Rattle.note_state.specs.declared.state.State as declared-state
 use Rattle.note_state.specs.Homes.{home_by, number_in, readers_of, IsUnread}
-use Rattle.note_state.specs.Notes.{recipe_in, recipe_of, IsBound, IsHeld, IsSo, IsWritten}
+use Rattle.note_state.specs.Notes.{recipe_in, recipe_of, told_in, IsBound, IsHeld, IsSo, IsWritten}
 use Rattle.note_state.proofs.Lists.{each_all, each_more, get_any, take_one_more}
 use Rattle.note_state.proofs.Steps.{put_cases, said_at, at_said, bound_more, held_behind}
 
@@ -36,13 +36,14 @@ lose_all m name readers i all le each y r said among = each_all (λ z. (s : Reci
 -- a write
 pub written_by : (m : declared-homes.Homes) (z k : ℕ) (s t u : declared-state.State) → number_in m z ≡ Some k → t.noted.items ≡ s.noted.items → t.written.items ≡ slice_set s.written.items k (Some z) → u.written.items ≡ t.written.items
     → ((x : ℕ) (r : Recipe) → recipe_in u.noted.items x ≡ Some r → recipe_in t.noted.items x ≡ Some r) → ((x : ℕ) (r : Recipe) → recipe_in u.noted.items x ≡ Some r → Among x (readers_of m k) → IsUnread m r z)
-    → ((x : ℕ) (r : Recipe) → recipe_in t.noted.items x ≡ Some r → IsUnread m r z → recipe_in u.noted.items x ≡ Some r) → length u.noted.items ≡ length t.noted.items → IsWritten m z s u
-written_by m z k s t u number noted put written less unread kept size = record {
+    → ((x : ℕ) (r : Recipe) → recipe_in t.noted.items x ≡ Some r → IsUnread m r z → recipe_in u.noted.items x ≡ Some r) → ((x : ℕ) (c : Option ℕ) → told_in u.noted.items x ≡ Some c → told_in t.noted.items x ≡ Some c) → length u.noted.items ≡ length t.noted.items → IsWritten m z s u
+written_by m z k s t u number noted put written less unread kept told size = record {
   less = λ x r said. subst (λ (xs : List declared-noted.Noted). recipe_in xs x ≡ Some r) noted (less x r said);
   unread = λ x r said j other among. unread x r said (subst (λ n. Among x (readers_of m n)) (same_Some j k (sym other ∙ number)) among);
   none = λ none. absurd (none-some k (sym none ∙ number));
   put = λ j other. written ∙ put ∙ ap (λ n. slice_set s.written.items n (Some z)) (same_Some k j (sym number ∙ other));
   kept = λ x r said. kept x r (subst (λ (xs : List declared-noted.Noted). recipe_in xs x ≡ Some r) (sym noted) said);
+  told = λ x c said. subst (λ (xs : List declared-noted.Noted). told_in xs x ≡ Some c) noted (told x c said);
   size = size ∙ ap (λ (xs : List declared-noted.Noted). length xs) noted;
 }
 
@@ -53,6 +54,7 @@ written_not m z s number = record {
   none = λ none. refl;
   put = λ k other. absurd (none-some k (sym number ∙ other));
   kept = λ x r said unread. said;
+  told = λ x c said. said;
   size = refl;
 }
 

@@ -2,3 +2,4 @@ pub mod Homes
 pub mod Notes
 pub mod Numbers
 pub mod Full
+pub mod Sources

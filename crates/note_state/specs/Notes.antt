@@ -1,5 +1,5 @@
 -- What a state says of the notes and the homes behind a history.
-use Rattle.std.specs.Prelude.{◌≡◌, ℕ, ◌<◌, Option, Some, None, List, [], ◌∷◌, false, length, slice_get, slice_set}
+use Rattle.std.specs.Prelude.{◌≡◌, ◌⊎◌, ℕ, ◌<◌, ◌≤◌, Option, Some, None, List, [], ◌∷◌, false, length, slice_get, slice_set}
 use Rattle.std.specs.Option.{option_map_or}
 use Rattle.graph_core.specs.Graphs.{Recipe, Of, Name, Is, Instruction, Note, Binding, ToScalar, ToObject, recipe_view}
 use Rattle.graph_core.specs.Uses.{names_in, target_of}
@@ -25,15 +25,36 @@ noted_in all x = option_map_or (λ (n : declared-noted.Noted). n) (slice_get all
 abbrev pub recipe_in : List declared-noted.Noted → (x : ℕ) → Option Recipe
 recipe_in all x = recipe_of x (noted_in all x)
 
--- No more is so in a state than in another one.
+-- what is told beside a recipe: a change, or that there is none
+abbrev pub told_of : declared-noted.Noted → Option (Option ℕ)
+told_of noted.Lost = None
+told_of noted.Own = None
+told_of (noted.Recipe r change) = Some change
+
+-- what is told beside the recipe that is noted of a scalar, if one is
+abbrev pub told_in : List declared-noted.Noted → (x : ℕ) → Option (Option ℕ)
+told_in all x = told_of (noted_in all x)
+
+-- it is a change, and no greater than a number
+abbrev pub IsAtMost : Option ℕ → (d : ℕ) → Type 0
+IsAtMost None d = ⊥
+IsAtMost (Some c) d = c ≤ d
+
+-- Where something is told, something else is, and is no less.
+abbrev pub IsToldWithin : (less more : Option (Option ℕ)) → Type 0
+IsToldWithin less more = (c : Option ℕ) → less ≡ Some c → (e : Option ℕ) × (more ≡ Some e) × ((d : ℕ) → IsAtMost e d → IsAtMost c d)
+
+-- No more is so in a state than in another one, and the changes that are told are no greater.
 pub record IsWithin (less more : declared-state.State) : Type 0 where
   pub noted : (x : ℕ) (r : Recipe) → recipe_in less.noted.items x ≡ Some r → recipe_in more.noted.items x ≡ Some r
   pub written : (k y : ℕ) → slice_get less.written.items k ≡ Some (Some y) → slice_get more.written.items k ≡ Some (Some y)
+  pub told : (x : ℕ) → IsToldWithin (told_in less.noted.items x) (told_in more.noted.items x)
 
--- Of what is so in two states as much is so in a third one.
+-- Of what is so in two states as much is so in a third one, and what is told is of one of them.
 pub record IsJoined (one other both : declared-state.State) : Type 0 where
   pub noted : (x : ℕ) (r : Recipe) → recipe_in one.noted.items x ≡ Some r → recipe_in other.noted.items x ≡ Some r → recipe_in both.noted.items x ≡ Some r
   pub written : (k y : ℕ) → slice_get one.written.items k ≡ Some (Some y) → slice_get other.written.items k ≡ Some (Some y) → slice_get both.written.items k ≡ Some (Some y)
+  pub told : (x : ℕ) (c : Option ℕ) → told_in both.noted.items x ≡ Some c → (told_in one.noted.items x ≡ Some c) ⊎ (told_in other.noted.items x ≡ Some c)
   pub sizes : (length both.noted.items ≡ length one.noted.items) × (length both.written.items ≡ length one.written.items)
 
 module _ (m : declared-homes.Homes) where
@@ -60,6 +81,7 @@ module _ (m : declared-homes.Homes) where
     pub none : number_in m z ≡ None → new.written.items ≡ old.written.items
     pub put : (k : ℕ) → number_in m z ≡ Some k → new.written.items ≡ slice_set old.written.items k (Some z)
     pub kept : (x : ℕ) (r : Recipe) → recipe_in old.noted.items x ≡ Some r → IsUnread m r z → recipe_in new.noted.items x ≡ Some r
+    pub told : (x : ℕ) (c : Option ℕ) → told_in new.noted.items x ≡ Some c → told_in old.noted.items x ≡ Some c
     pub size : length new.noted.items ≡ length old.noted.items
 
   -- A state comes of another one by an instruction, and no more is lost than must be: a note is noted, if the scalar is among those whose notes may read its homes; what was noted of a

@@ -1,15 +1,17 @@
 //! What is so on all paths where paths come together.
 
-ghost use Rattle.std.specs.Prelude.{◌≡◌, ℕ, Some, length, slice_get};
+ghost use Rattle.std.specs.Prelude.{◌≡◌, ◌⊎◌, ℕ, Option, Some, length, slice_get};
 ghost use Rattle.graph_core.specs.Graphs.{Recipe as RecipeForm};
-ghost use Rattle.note_state.specs.Notes.{IsJoined, recipe_in, recipe_of};
+ghost use Rattle.note_state.specs.Notes.{IsJoined, recipe_in, recipe_of, told_in, told_of};
 
 use crate::noted::Noted;
 use crate::recipes::{is_own, is_same};
 use crate::state::State;
 
 /// The lesser of two numbers, of those that there are.
-fn lesser(one: Option<u32>, other: Option<u32>) -> Option<u32> {
+fn lesser(one: Option<u32>, other: Option<u32>) -> Option<u32>
+    ensures { (result ≡ one) ⊎ (result ≡ other) }
+{
     match (one, other) {
         (Some(x), Some(y)) => Some(x.min(y)),
         (Some(x), None) => Some(x),
@@ -19,7 +21,8 @@ fn lesser(one: Option<u32>, other: Option<u32>) -> Option<u32> {
 
 /// What is last noted of a scalar on all paths, where it is this on some, and that on all others.
 fn join<'a>(scalar: usize, one: Noted<'a>, other: Noted<'a>) -> Noted<'a>
-    ensures { (r : RecipeForm) → recipe_of scalar one.entry ≡ Some r → recipe_of scalar other.entry ≡ Some r → recipe_of scalar result ≡ Some r }
+    ensures kept { (r : RecipeForm) → recipe_of scalar one.entry ≡ Some r → recipe_of scalar other.entry ≡ Some r → recipe_of scalar result ≡ Some r }
+    ensures told { (c : Option ℕ) → told_of result ≡ Some c → (told_of one.entry ≡ Some c) ⊎ (told_of other.entry ≡ Some c) }
 {
     match (one, other) {
         (Noted::Own, Noted::Own) => Noted::Own,
@@ -62,6 +65,7 @@ fn is_less(old: Noted<'_>, joined: Noted<'_>) -> bool {
 fn join_noted<'a>(to: &mut [Noted<'a>], from: &[Noted<'a>]) -> bool
     ensures size { length to.new ≡ length to.old }
     ensures kept { (x : ℕ) (r : RecipeForm) → recipe_in to.old x ≡ Some r → recipe_in from.now x ≡ Some r → recipe_in to.new x ≡ Some r }
+    ensures told { (x : ℕ) (c : Option ℕ) → told_in to.new x ≡ Some c → (told_in to.old x ≡ Some c) ⊎ (told_in from.now x ≡ Some c) }
 {
     let mut is_new = false;
     for k in 0..to.len() {

@@ -1,9 +1,12 @@
 //! What is noted of scalars.
 
-ghost use Rattle.std.specs.Prelude.{◌≡◌, ℕ, Some};
-ghost use Rattle.graph_core.specs.Graphs.{Is, Recipe as RecipeForm, note_view};
+ghost use Rattle.std.specs.Prelude.{◌≡◌, ℕ, List, Option, Some, option_map};
+ghost use Rattle.debug_records.specs.declared.change.Place as declared-place;
+ghost use Rattle.graph_core.specs.Graphs.{Is, Logged, Recipe as RecipeForm, graph_view, note_view};
 ghost use Rattle.note_state.specs.Homes.{AreReadBy};
-ghost use Rattle.note_state.specs.Notes.{recipe_of};
+ghost use Rattle.note_state.specs.Notes.{recipe_of, told_of};
+ghost use Rattle.note_state.specs.Sources.{IsFirstOf};
+ghost use Rattle.removed_changes.specs.Telling.{AreToldOf};
 
 use crate::function::Function;
 use crate::recipes::{is_own, is_reader};
@@ -34,6 +37,7 @@ pub fn read_note<'a>(
     ensures says { (r : RecipeForm) → recipe_of of.0 result ≡ Some r → note_view value.now ≡ Is r }
     ensures full { (r : RecipeForm) → note_view value.now ≡ Is r → AreReadBy function.now.homes r of.0 → recipe_of of.0 result ≡ Some r }
     ensures read { (r : RecipeForm) → recipe_of of.0 result ≡ Some r → AreReadBy function.now.homes r of.0 }
+    ensures told { (log : List Logged) (c : Option ℕ) → AreToldOf log function.now.removed.now → told_of result ≡ Some c → IsFirstOf log (graph_view function.now.graph.now) (option_map (λ (p : declared-place.Place). p.0) place) of.0 c }
 {
     match value {
         NoteValue::Gone(_) => Noted::Lost,

@@ -1,11 +1,15 @@
 //! What is so of the scalars and homes of a function on all paths to a point.
 
-ghost use Rattle.std.specs.Prelude.{◌≡◌, ◌≢◌, ◌↔◌, ℕ, IfOk, List, [], ◌∷◌, Some, None, length, map, slice_get, slice_set, false};
-ghost use Rattle.graph_core.specs.Graphs.{Binding as BindingForm, Block as BlockForm, End as EndForm, Recipe as RecipeForm, binding_view, graph_view, instruction_view};
+ghost use Rattle.std.specs.Prelude.{◌≡◌, ◌≢◌, ◌↔◌, ℕ, IfOk, List, [], ◌∷◌, Option, Some, None, length, map, option_map, slice_get, slice_set, false};
+ghost use Rattle.debug_records.specs.declared.change.Place as declared-place;
+ghost use Rattle.graph_core.specs.Graphs.{Binding as BindingForm, Block as BlockForm, End as EndForm, Logged, Recipe as RecipeForm, binding_view, block_view, graph_view, instruction_view};
 ghost use Rattle.graph_core.specs.Paths.{Among, History, Passed};
+ghost use Rattle.graph_core.specs.Validity.{place_behind as place_behind_all};
 ghost use Rattle.note_state.specs.Homes.{IsUnread, readers_of};
-ghost use Rattle.note_state.specs.Notes.{IsBound, IsKept, IsSo, IsWritten, noted_in, recipe_in, recipe_of};
+ghost use Rattle.note_state.specs.Notes.{IsBound, IsKept, IsSo, IsWritten, noted_in, recipe_in, recipe_of, told_in};
 ghost use Rattle.note_state.specs.Full.{AreExact, IsEqual, IsFullAt};
+ghost use Rattle.note_state.specs.Sources.{IsAttained, IsToldBy};
+ghost use Rattle.removed_changes.specs.Telling.{AreToldOf};
 
 use crate::function::Function;
 use crate::noted::{Noted, read_note};
@@ -15,7 +19,9 @@ use graph_core::{Binding, Block, Instr};
 use std::alloc::{AllocError, Global};
 
 /// The place in force behind an instruction.
-pub fn place_behind(instruction: &Instr, before: Option<Place>) -> Option<Place> {
+pub fn place_behind(instruction: &Instr, before: Option<Place>) -> Option<Place>
+    ensures { option_map (λ (p : declared-place.Place). p.0) result ≡ place_behind_all (instruction_view instruction.now ∷ []) (option_map (λ (p : declared-place.Place). p.0) before) }
+{
     match instruction.marker() {
         Some(place) => Some(place),
         None => before,
@@ -49,6 +55,7 @@ impl<'a> State<'a> {
     pub fn entered(alloc: Global, function: &Function<'a>) -> Result<State<'a>, AllocError>
         ensures so { IfOk result (λ s. IsSo function.now.homes (map binding_view function.now.graph.now.parameters.items) s []) }
         ensures full { IfOk result (λ s. AreExact function.now → (b : BlockForm) → slice_get (graph_view function.now.graph.now).blocks 0 ≡ Some b → IsFullAt function.now s 0 b.instructions b.end) }
+        ensures told { IfOk result (λ s. (x : ℕ) (c : Option ℕ) → told_in s.noted.items x ≡ Some c → ⊥) }
     {
         let mut state = State::new(alloc, function)?;
         for binding in &function.graph.parameters {
@@ -104,6 +111,7 @@ impl<'a> State<'a> {
         ensures kept { (x : ℕ) (r : RecipeForm) → recipe_in self.old.noted.items x ≡ Some r → IsUnread function.now.homes r name → recipe_in self.new.noted.items x ≡ Some r }
         ensures less { (x : ℕ) (r : RecipeForm) → recipe_in self.new.noted.items x ≡ Some r → recipe_in self.old.noted.items x ≡ Some r }
         ensures unread { (r : RecipeForm) → recipe_in self.new.noted.items scalar ≡ Some r → IsUnread function.now.homes r name }
+        ensures told { (x : ℕ) (c : Option ℕ) → told_in self.new.noted.items x ≡ Some c → told_in self.old.noted.items x ≡ Some c }
     {
         if self.reads(function, scalar, name) {
             self.put_note(scalar, Noted::Lost);
@@ -117,6 +125,7 @@ impl<'a> State<'a> {
         ensures kept { (x : ℕ) (r : RecipeForm) → recipe_in self.old.noted.items x ≡ Some r → IsUnread function.now.homes r name → recipe_in self.new.noted.items x ≡ Some r }
         ensures less { (x : ℕ) (r : RecipeForm) → recipe_in self.new.noted.items x ≡ Some r → recipe_in self.old.noted.items x ≡ Some r }
         ensures unread { (x : ℕ) (r : RecipeForm) → recipe_in self.new.noted.items x ≡ Some r → Among x readers.now → IsUnread function.now.homes r name }
+        ensures told { (x : ℕ) (c : Option ℕ) → told_in self.new.noted.items x ≡ Some c → told_in self.old.noted.items x ≡ Some c }
     {
         for scalar in readers {
             self.lose_one(function, *scalar, name);
@@ -158,6 +167,7 @@ impl<'a> State<'a> {
     pub fn step(&mut self, function: &Function<'a>, instruction: &'a Instr, place: Option<Place>)
         ensures so { (ps : List BindingForm) (p : Passed) (h : History) → p.instruction ≡ instruction_view instruction.now → IsSo function.now.homes ps self.old h → IsSo function.now.homes ps self.new (p ∷ h) }
         ensures kept { IsKept function.now.homes (instruction_view instruction.now) self.old self.new }
+        ensures told { (log : List Logged) → AreToldOf log function.now.removed.now → IsToldBy log (graph_view function.now.graph.now) (instruction_view instruction.now) (option_map (λ (p : declared-place.Place). p.0) place) self.old self.new }
     {
         if let Instr::Note { of, value } = instruction {
             self.put_note(of.0, read_note(function, *of, value, place));
@@ -168,7 +178,8 @@ impl<'a> State<'a> {
 
     /// Steps over the instructions of a block.
     pub fn walk(&mut self, function: &Function<'a>, block: &'a Block)
-        ensures { (n : ℕ) (e : EndForm) → AreExact function.now → IsFullAt function.now self.old n (map instruction_view block.now.instructions.items) e → IsFullAt function.now self.new n [] e }
+        ensures full { (n : ℕ) (e : EndForm) → AreExact function.now → IsFullAt function.now self.old n (map instruction_view block.now.instructions.items) e → IsFullAt function.now self.new n [] e }
+        ensures attained { (log : List Logged) (n : ℕ) (e : EndForm) → AreToldOf log function.now.removed.now → slice_get (graph_view function.now.graph.now).blocks n ≡ Some (block_view block.now) → IsAttained log (graph_view function.now.graph.now) self.old n (map instruction_view block.now.instructions.items) e → IsAttained log (graph_view function.now.graph.now) self.new n [] e }
     {
         let mut place = block.place;
         for instruction in &block.instructions {

@@ -1,29 +1,46 @@
 //! Whether less is so in one state than in another.
 
-ghost use Rattle.std.specs.Prelude.{◌≡◌, ℕ, Some, slice_get, true};
+ghost use Rattle.std.specs.Prelude.{◌≡◌, ℕ, Option, Some, slice_get, true};
 ghost use Rattle.graph_core.specs.Graphs.{Recipe as RecipeForm};
-ghost use Rattle.note_state.specs.Notes.{IsWithin, recipe_in, recipe_of};
+ghost use Rattle.note_state.specs.Notes.{IsAtMost, IsToldWithin, IsWithin, recipe_in, recipe_of, told_in, told_of};
 
 use crate::noted::Noted;
 use crate::recipes::is_same;
 use crate::state::State;
 
-/// Whether what is noted is as in another state, or nothing.
+/// Whether a change is no greater than another one, if that is one.
+fn is_at_most(one: Option<u32>, other: Option<u32>) -> bool
+    ensures { result ≡ true → (d : ℕ) → IsAtMost other d → IsAtMost one d }
+{
+    match (one, other) {
+        (Some(x), Some(y)) => x <= y,
+        (Some(_), None) | (None, None) => true,
+        (None, Some(_)) => false,
+    }
+}
+
+/// Whether what is noted is as in another state, with a change that is no greater, or nothing.
 fn is_noted(one: Noted<'_>, other: Noted<'_>) -> bool
-    ensures { result ≡ true → (x : ℕ) (r : RecipeForm) → recipe_of x one.entry ≡ Some r → recipe_of x other.entry ≡ Some r }
+    ensures noted { result ≡ true → (x : ℕ) (r : RecipeForm) → recipe_of x one.entry ≡ Some r → recipe_of x other.entry ≡ Some r }
+    ensures told { result ≡ true → IsToldWithin (told_of one.entry) (told_of other.entry) }
 {
     match (one, other) {
         (Noted::Lost, _) | (Noted::Own, Noted::Own) => true,
-        (Noted::Recipe { recipe, .. }, Noted::Recipe { recipe: other, .. }) => {
-            is_same(recipe, other)
-        }
+        (
+            Noted::Recipe { recipe, change },
+            Noted::Recipe {
+                recipe: other_recipe,
+                change: other_change,
+            },
+        ) => is_at_most(change, other_change) && is_same(recipe, other_recipe),
         _ => false,
     }
 }
 
 /// Whether what is noted of each scalar is as in another state, or nothing.
 fn are_noted(less: &[Noted<'_>], more: &[Noted<'_>]) -> bool
-    ensures { result ≡ true → (x : ℕ) (r : RecipeForm) → recipe_in less.now x ≡ Some r → recipe_in more.now x ≡ Some r }
+    ensures noted { result ≡ true → (x : ℕ) (r : RecipeForm) → recipe_in less.now x ≡ Some r → recipe_in more.now x ≡ Some r }
+    ensures told { result ≡ true → (x : ℕ) → IsToldWithin (told_in less.now x) (told_in more.now x) }
 {
     if less.len() > more.len() {
         return false;

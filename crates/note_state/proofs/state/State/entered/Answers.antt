@@ -7,6 +7,7 @@ use Rattle.note_state.specs.Homes.{home_by}
 use Rattle.note_state.specs.Notes.{IsHeld, IsSo}
 use Rattle.note_state.proofs.Lists.{take_whole}
 use Rattle.note_state.proofs.Losing.{next_bound, so_first}
+use Rattle.note_state.proofs.Sourcing.{told_recipe}
 use Rattle.note_state.proofs.Filling.{AreBound, full_first, next_full, next_sizes}
 use Rattle.note_state.proofs.state.State.entered.Goals as goal
 
@@ -42,3 +43,6 @@ returns-clause-full c = λ exact b at.
     let whole : take c.loop-binding.binding-index ps ≡ ps = take_whole ps c.loop-binding.binding-index (omega arith) in
     full_first m (graph_view c.args.function.now.graph.now) b c.loop-binding.state at (c.loop-binding.invariant.scalars ∙ sym (length-map c.args.function.now.graph.now.scalars.items scalar_view)) c.loop-binding.invariant.homes
     (subst (λ (qs : List declared-binding.Binding). AreBound m c.loop-binding.state (map binding_view qs)) whole (c.loop-binding.invariant.full exact)))
+
+pub returns-clause-told : goal.returns-clause-told
+returns-clause-told c = λ x d said. (let found = told_recipe c.loop-binding.state.noted.items x d said in c.loop-binding.invariant.none x found.0 found.1)

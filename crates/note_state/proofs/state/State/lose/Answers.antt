@@ -10,6 +10,7 @@ loop-scalar-preserved c =
       size = one.size ∙ inv.size;
       kept = λ x r said unread. one.kept x r (inv.kept x r said unread) unread;
       less = λ x r said. inv.less x r (one.less x r said);
+      told = λ x d said. inv.told x d (one.told x d said);
       unread = lose_more c.args.function.now.homes c.args.name c.args.readers.now c.loop-scalar.scalar-index _ c.loop-scalar.self.noted.items c.lose_one.new.self.noted.items c.loop-scalar-test.true one.less one.unread inv.unread;
     }
 

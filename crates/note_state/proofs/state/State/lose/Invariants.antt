@@ -1,8 +1,8 @@
-use Rattle.std.proofs.Common.{◌≡◌, ℕ, Some, length, take}
+use Rattle.std.proofs.Common.{◌≡◌, ℕ, Option, Some, length, take}
 use Rattle.graph_core.specs.Graphs.{Recipe}
 use Rattle.graph_core.specs.Paths.{Among}
 use Rattle.note_state.specs.Homes.{IsUnread}
-use Rattle.note_state.specs.Notes.{recipe_in}
+use Rattle.note_state.specs.Notes.{recipe_in, told_in}
 use Rattle.note_state.proofs.state.State.lose.Given as goal
 
 abbrev pub invariant-loop-scalar : goal.invariant-loop-scalar
@@ -12,4 +12,5 @@ invariant-loop-scalar l = record {
   kept : (x : ℕ) (r : Recipe) → recipe_in l.fn.self.noted.items x ≡ Some r → IsUnread l.function.homes r l.name → recipe_in l.self.noted.items x ≡ Some r;
   less : (x : ℕ) (r : Recipe) → recipe_in l.self.noted.items x ≡ Some r → recipe_in l.fn.self.noted.items x ≡ Some r;
   unread : (x : ℕ) (r : Recipe) → recipe_in l.self.noted.items x ≡ Some r → Among x (take l.scalar-index l.readers) → IsUnread l.function.homes r l.name;
+  told : (x : ℕ) (c : Option ℕ) → told_in l.self.noted.items x ≡ Some c → told_in l.fn.self.noted.items x ≡ Some c;
 }

@@ -1,6 +1,7 @@
 use Rattle.std.proofs.Common.{length, sym, ap, ◌∙◌, true≢false}
 use Rattle.std.proofs.lemmas.List.{length-set}
 use Rattle.note_state.proofs.Keeping.{lost_kept}
+use Rattle.note_state.proofs.Sourcing.{told_lost}
 use Rattle.note_state.proofs.state.State.lose_one.Goals as goal
 
 pub returns-then-reads-clause-kept : goal.returns-then-reads-clause-kept
@@ -9,3 +10,6 @@ returns-then-reads-clause-kept c =
 
 pub returns-then-reads-clause-size : goal.returns-then-reads-clause-size
 returns-then-reads-clause-size c = ap (λ xs. length xs) c.put_note.ensures.noted ∙ length-set c.args.self.now.noted.items c.args.scalar _
+
+pub returns-then-reads-clause-told : goal.returns-then-reads-clause-told
+returns-then-reads-clause-told c = told_lost c.args.self.now.noted.items c.put_note.new.self.noted.items c.args.scalar c.put_note.ensures.noted
