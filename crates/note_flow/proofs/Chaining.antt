@@ -6,17 +6,19 @@ use Rattle.std.specs.Global.{Vec}
 use Rattle.std.proofs.lemmas.Bool.Decides.{eqb_tells}
 use Rattle.std.proofs.lemmas.Option.{none-some, same_Some, slice_get-map, slice_get_within}
 use Rattle.graph_core.specs.declared.block.Block as declared-block
-use Rattle.graph_core.specs.Graphs.{Block, End, Jump, block_view, end_view, graph_view}
+use Rattle.graph_core.specs.Graphs.{Instruction, Block, End, Jump, block_view, end_view, graph_view}
 use Rattle.graph_core.specs.Paths.{Among, front}
 use Rattle.graph_core.specs.Uses.{targets_of}
 use Rattle.note_state.specs.declared.function.Function as declared-function
 use Rattle.note_state.specs.declared.state.State as declared-state
-use Rattle.note_state.specs.Full.{IsFullAt}
+use Rattle.note_state.specs.Full.{IsEqual}
+use Rattle.note_state.specs.Notes.{IsJoined}
 use Rattle.note_state.proofs.Filling.{full_equal, full_joined, full_next}
+use Rattle.note_state.proofs.Sourcing.{attained_equal, attained_joined, attained_next}
 use Rattle.note_state.proofs.Lists.{among_one, among_parts, get_put_other, get_put_same}
 use Rattle.note_flow.specs.declared.states.States as declared-states
 use Rattle.note_flow.specs.Survey.{comes_to, AreEqualAll}
-use Rattle.note_flow.specs.Chains.{last_in, AreFull, AreLinked, IsComeTo, IsFullAtEnd, IsFullAtStart, IsLinked, LeadsTo}
+use Rattle.note_flow.specs.Chains.{last_in, AreFull, AreLinked, IsComeTo, IsFullAtEnd, IsFullAtStart, IsLinked, IsWholeAt, LeadsTo}
 
 -- one block more, to which the last one leads alone
 pub linked_push : (blocks : List declared-block.Block) (chain : List ℕ) (next : ℕ) → IsLinked blocks chain → ((l : ℕ) → last_in chain ≡ Some l → LeadsTo blocks l next) → IsLinked blocks (chain ++ (next ∷ []))
@@ -60,6 +62,26 @@ last_at (l ∷ []) (suc k) d e = absurd (omega (arith, e))
 last_at (l ∷ n ∷ more) zero d e = absurd (omega (arith, e))
 last_at (l ∷ n ∷ more) (suc k) d e = last_at (n ∷ more) k d (omega (arith, e))
 
+module _ (f : declared-function.Function) where
+  -- what is whole is so of an equal state, of what two states leave, and in a block to which one leads
+  pub whole_equal : (n : ℕ) (rest : List Instruction) (e : End) (s t : declared-state.State) → IsEqual s t → IsWholeAt f t n rest e → IsWholeAt f s n rest e
+  whole_equal n rest e s t equal whole = record {
+    full = λ exact. full_equal f.homes (graph_view f.graph.now) n rest e s t equal (whole.full exact);
+    attained = λ log told. attained_equal log (graph_view f.graph.now) n rest e s t equal (whole.attained log told);
+  }
+
+  pub whole_joined : (n : ℕ) (rest : List Instruction) (e : End) (one other both : declared-state.State) → IsJoined one other both → IsWholeAt f one n rest e → IsWholeAt f other n rest e → IsWholeAt f both n rest e
+  whole_joined n rest e one other both joined a b = record {
+    full = λ exact. full_joined f.homes (graph_view f.graph.now) n rest e one other both joined (a.full exact) (b.full exact);
+    attained = λ log told. attained_joined log (graph_view f.graph.now) n rest e one other both joined (a.attained log told) (b.attained log told);
+  }
+
+  pub whole_next : (n l : ℕ) (e : End) (c : Block) (s : declared-state.State) → Among l (targets_of e) → slice_get (graph_view f.graph.now).blocks l ≡ Some c → IsWholeAt f s n [] e → IsWholeAt f s l c.instructions c.end
+  whole_next n l e c s among is whole = record {
+    full = λ exact. full_next f.homes (graph_view f.graph.now) n l e c s among is (whole.full exact);
+    attained = λ log told. attained_next log (graph_view f.graph.now) n l e c s among is (whole.attained log told);
+  }
+
 -- what comes of one state comes of the list of states
 abbrev come_of : Option (Option declared-state.State) → Option declared-state.State
 come_of o = option_map_or (λ (s : Option declared-state.State). s) o None
@@ -78,9 +100,9 @@ module _ (f : declared-function.Function) (old new : declared-states.States) (to
   full_here : AreFull f old → IsFullAtStart f s to → (u : declared-state.State) → t ≡ Some u → IsFullAtStart f u to
   full_here before start u e b at = at_old o here_before (subst (λ (w : Option declared-state.State). IsComeTo o s w) e come)
     where
-      at_old : (q : Option declared-state.State) → comes_to old to ≡ q → IsComeTo q s (Some u) → IsFullAt f u to b.instructions b.end
-      at_old None e equal = full_equal f.homes (graph_view f.graph.now) to b.instructions b.end u s equal (start b at)
-      at_old (Some q) e joined = full_joined f.homes (graph_view f.graph.now) to b.instructions b.end q s u joined (before to q e b at) (start b at)
+      at_old : (q : Option declared-state.State) → comes_to old to ≡ q → IsComeTo q s (Some u) → IsWholeAt f u to b.instructions b.end
+      at_old None e equal = whole_equal f to b.instructions b.end u s equal (start b at)
+      at_old (Some q) e joined = whole_joined f to b.instructions b.end q s u joined (before to q e b at) (start b at)
 
   pub full_arrived : AreFull f old → IsFullAtStart f s to → AreFull f new
   full_arrived before start l u e = elim (eqb_tells l to) [
@@ -92,28 +114,28 @@ module _ (f : declared-function.Function) where
   viewed : (l : ℕ) (b : Block) → slice_get (graph_view f.graph.now).blocks l ≡ Some b → (o : Option declared-block.Block) → slice_get f.graph.now.blocks.items l ≡ o → option_map block_view o ≡ Some b
   viewed l b at o is = sym (slice_get-map block_view f.graph.now.blocks.items l ∙ ap (λ p. option_map block_view p) is) ∙ at
 
-  view_at : (l : ℕ) (d : declared-block.Block) → slice_get f.graph.now.blocks.items l ≡ Some d → slice_get (graph_view f.graph.now).blocks l ≡ Some (block_view d)
+  pub view_at : (l : ℕ) (d : declared-block.Block) → slice_get f.graph.now.blocks.items l ≡ Some d → slice_get (graph_view f.graph.now).blocks l ≡ Some (block_view d)
   view_at l d is = slice_get-map block_view f.graph.now.blocks.items l ∙ ap (λ p. option_map block_view p) is
 
   -- a state that is full where a block ends, which leads to another one, is full where that begins
   pub start_next : (s : declared-state.State) (l next : ℕ) → LeadsTo f.graph.now.blocks.items l next → IsFullAtEnd f s l → IsFullAtStart f s next
   start_next s l next leads end b at =
       let d = leads.0 in
-      full_next f.homes (graph_view f.graph.now) l next (Jump next) b s front at (subst (λ (e : End). IsFullAt f s l [] e) leads.2 (end (block_view d) (view_at l d leads.1)))
+      whole_next f l next (Jump next) b s front at (subst (λ (e : End). IsWholeAt f s l [] e) leads.2 (end (block_view d) (view_at l d leads.1)))
 
   -- the same for each block to which it leads
   pub start_each : (s : declared-state.State) (l : ℕ) (d : declared-block.Block) → slice_get f.graph.now.blocks.items l ≡ Some d → IsFullAtEnd f s l → (next : ℕ) → Among next (targets_of (end_view d.end)) → IsFullAtStart f s next
-  start_each s l d is end next among b at = full_next f.homes (graph_view f.graph.now) l next (end_view d.end) b s among at (end (block_view d) (view_at l d is))
+  start_each s l d is end next among b at = whole_next f l next (end_view d.end) b s among at (end (block_view d) (view_at l d is))
 
   -- a block that there is not
   pub no_end : (s : declared-state.State) (l : ℕ) → slice_get f.graph.now.blocks.items l ≡ None → IsFullAtEnd f s l
   no_end s l none b at = absurd (none-some b (viewed l b at None none))
 
   -- a block that was walked over
-  pub end_walked : (s t : declared-state.State) (l : ℕ) (d : declared-block.Block) → slice_get f.graph.now.blocks.items l ≡ Some d → (IsFullAt f s l (block_view d).instructions (block_view d).end → IsFullAt f t l [] (block_view d).end) → IsFullAtStart f s l → IsFullAtEnd f t l
+  pub end_walked : (s t : declared-state.State) (l : ℕ) (d : declared-block.Block) → slice_get f.graph.now.blocks.items l ≡ Some d → (IsWholeAt f s l (block_view d).instructions (block_view d).end → IsWholeAt f t l [] (block_view d).end) → IsFullAtStart f s l → IsFullAtEnd f t l
   end_walked s t l d is walked start b at =
       let one : block_view d ≡ b = same_Some (block_view d) b (viewed l b at (Some d) is) in
-      subst (λ (c : Block). IsFullAt f t l [] c.end) one (walked (start (block_view d) (view_at l d is)))
+      subst (λ (c : Block). IsWholeAt f t l [] c.end) one (walked (start (block_view d) (view_at l d is)))
 
   -- what is left of a chain that is walked over, from a state that is full where it begins; or the state is full where the last block ends
   abbrev pub GoesOn : declared-state.State → List ℕ → (last : ℕ) → Type 0
@@ -136,7 +158,7 @@ module _ (f : declared-function.Function) where
     where
       at_come : (o : Option declared-state.State) → comes_to states l ≡ o → AreEqualAll (Some s) o → IsFullAtStart f s l
       at_come None e none = elim none [ ]
-      at_come (Some t) e same = λ b at. full_equal f.homes (graph_view f.graph.now) l b.instructions b.end s t same (full l t e b at)
+      at_come (Some t) e same = λ b at. whole_equal f l b.instructions b.end s t same (full l t e b at)
 
 -- nothing came to one block more
 pub nothing_more : (xs : List (Option declared-state.State)) → ((l : ℕ) (t : declared-state.State) → slice_get xs l ≡ Some (Some t) → ⊥) → (l : ℕ) (t : declared-state.State) → slice_get (xs ++ (None ∷ [])) l ≡ Some (Some t) → ⊥

@@ -1,5 +1,7 @@
 mod Adding
 mod Walking
 mod OnPaths
+mod Carried
 mod HiddenPlaces
+mod LeastPlaces
 mod Chaining

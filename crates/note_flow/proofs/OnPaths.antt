@@ -1,5 +1,5 @@
 -- What a walk bears out is so on all paths.
-use Rattle.std.proofs.Common.{◌≡◌, inl, inr, ℕ, Bool, true, false, Option, Some, None, List, [], ◌∷◌, map, get_or, refl, sym, ap, subst, ◌∙◌}
+use Rattle.std.proofs.Common.{◌≡◌, inl, inr, ℕ, Bool, true, false, Option, Some, None, List, [], ◌∷◌, length, map, get_or, refl, sym, ap, subst, ◌∙◌}
 use Rattle.std.specs.Prelude.{slice_get, option_map, ◌⊎◌}
 use Rattle.std.specs.Global.{Vec}
 use Rattle.std.proofs.lemmas.Option.{none-some, same_Some, slice_get-map}
@@ -9,7 +9,7 @@ use Rattle.places.specs.declared.table.PlaceRow as declared-row
 use Rattle.debug_records.specs.declared.change.Var as declared-var
 use Rattle.graph_core.specs.declared.graph.Scalar as declared-scalar
 use Rattle.graph_core.specs.declared.block.Block as declared-block
-use Rattle.graph_core.specs.Graphs.{Instruction, Marker, Binding, Scalar, Block, Graph, End, Jump, Branch, Return, Of, Name, block_view, binding_view, graph_view, instruction_view, end_view, recipe_view, scalar_view}
+use Rattle.graph_core.specs.Graphs.{Instruction, Marker, Binding, Scalar, Block, Graph, End, Logged, Jump, Branch, Return, Of, Name, block_view, binding_view, graph_view, instruction_view, end_view, recipe_view, scalar_view}
 use Rattle.graph_core.specs.Paths.{Among, History, Passed, Path, Way, path, stays, passes, goes}
 use Rattle.graph_core.specs.Uses.{targets_of}
 use Rattle.graph_core.specs.WellMarked.{IsVariable}
@@ -20,6 +20,10 @@ use Rattle.note_state.specs.Homes.{home_by}
 use Rattle.note_state.proofs.Lists.{among_one}
 use Rattle.note_state.proofs.Filling.{within_equal}
 use Rattle.note_state.proofs.Steps.{shown_by, so_within}
+use Rattle.note_state.proofs.Sourcing.{least_first, least_step, least_within}
+use Rattle.note_state.specs.Sources.{IsLeastTold}
+use Rattle.removed_changes.specs.Telling.{AreToldOf}
+use Rattle.graph_core.specs.declared.value.Value.{Value}
 use Rattle.note_flow.specs.declared.found.LastNote as declared-last
 use Rattle.note_flow.specs.declared.found.Unshown as declared-unshown
 use Rattle.note_flow.specs.declared.found.Found as declared-found
@@ -37,13 +41,18 @@ module _ (v : declared-survey.Survey) (f : declared-found.Found) (chains : List 
   abbrev m : declared-homes.Homes
   m = v.function.now.homes
 
+  -- no change is less than is told, of each log that was looked at
+  abbrev IsLeastOf : declared-state.State → History → Type 0
+  IsLeastOf s h = (log : List Logged) → AreToldOf log v.function.now.removed.now → IsLeastTold log g s h
+
   -- a point behind a history, with a state that is so there, and sound from there on
-  record IsAt (h : History) (rest : List Instruction) (e : End) : Type 0 where
+  record IsAt (h : History) (n : ℕ) (rest : List Instruction) (e : End) : Type 0 where
     state : declared-state.State
     last : declared-state.State
     more : List ℕ
     is : IsSo m g.parameters state h
-    walked : IsSound v f rest state last
+    least : IsLeastOf state h
+    walked : IsSound v f n rest state last
     chained : IsChainSound v f more e last
 
   -- a block of the view
@@ -51,10 +60,10 @@ module _ (v : declared-survey.Survey) (f : declared-found.Found) (chains : List 
   one_block l b at d is = same_Some (block_view d) b (sym (slice_get-map block_view v.function.now.graph.now.blocks.items l ∙ ap (λ o. option_map block_view o) is) ∙ at)
 
   -- the first block of a chain
-  at_start : (l : ℕ) (b : Block) (s : declared-state.State) (h : History) → slice_get g.blocks l ≡ Some b → IsStartWithin v l s → IsSo m g.parameters s h → IsAt h b.instructions b.end
-  at_start l b s h at begin here = at_state (comes_to v.states l) refl begin.1
+  at_start : (l : ℕ) (b : Block) (s : declared-state.State) (h : History) → slice_get g.blocks l ≡ Some b → IsStartWithin v l s → IsSo m g.parameters s h → IsLeastOf s h → IsAt h l b.instructions b.end
+  at_start l b s h at begin here less = at_state (comes_to v.states l) refl begin.1
     where
-      at_state : (o : Option declared-state.State) → comes_to v.states l ≡ o → IsWithinSome o s → IsAt h b.instructions b.end
+      at_state : (o : Option declared-state.State) → comes_to v.states l ≡ o → IsWithinSome o s → IsAt h l b.instructions b.end
       at_state None e within = elim within [ ]
       at_state (Some t) e within =
           let c = first l begin.0 in
@@ -66,23 +75,26 @@ module _ (v : declared-survey.Survey) (f : declared-found.Found) (chains : List 
             last = chain.1.2.0;
             more = c.1;
             is = so_within m g.parameters r.0 t h (within_equal r.0 t r.1) (so_within m g.parameters t s h within here);
-            walked = subst (λ (d : Block). IsSound v f d.instructions r.0 chain.1.2.0) one chain.1.2.1;
+            least = λ log told. least_within log g r.0 t h (within_equal r.0 t r.1) (least_within log g t s h within (less log told));
+            walked = subst (λ (d : Block). IsSound v f l d.instructions r.0 chain.1.2.0) one chain.1.2.1;
             chained = subst (λ (d : Block). IsChainSound v f c.1 d.end chain.1.2.0) one chain.1.2.2;
           }
 
-  at_passed : (h : History) (p : Passed) (i : Instruction) (left : List Instruction) (e : End) → p.instruction ≡ i → IsAt h (i ∷ left) e → IsAt (p ∷ h) left e
-  at_passed h p i left e is at = record {
+  at_passed : (h : History) (n : ℕ) (i : Instruction) (left : List Instruction) (e : End) (value : Value) → IsAt h n (i ∷ left) e → IsAt (record { block = n; left = length left; instruction = i; wrote = value } ∷ h) n left e
+  at_passed h n i left e value at = record {
     state = at.walked.1.0;
     last = at.last;
     more = at.more;
-    is = at.walked.1.1.so g.parameters p h is at.is;
+    is = at.walked.1.1.so g.parameters (record { block = n; left = length left; instruction = i; wrote = value }) h refl at.is;
+    least = λ log told. least_step log g at.state at.walked.1.0 (record { block = n; left = length left; instruction = i; wrote = value }) h (at.walked.1.1.told log told) (at.least log told);
     walked = at.walked.1.2;
     chained = at.chained;
   }
 
-  at_next : (h : History) (e : End) (l : ℕ) (b : Block) → Among l (targets_of e) → slice_get g.blocks l ≡ Some b → (s t : declared-state.State) (more : List ℕ) → IsSo m g.parameters s h → s ≡ t → IsChainSound v f more e t → IsAt h b.instructions b.end
-  at_next h e l b among at s t [] here same chained = at_start l b t h at (chained l among) (subst (λ (u : declared-state.State). IsSo m g.parameters u h) same here)
-  at_next h e l b among at s t (n ∷ more) here same chained =
+  at_next : (h : History) (e : End) (l : ℕ) (b : Block) → Among l (targets_of e) → slice_get g.blocks l ≡ Some b → (s t : declared-state.State) (more : List ℕ) → IsSo m g.parameters s h → IsLeastOf s h → s ≡ t → IsChainSound v f more e t → IsAt h l b.instructions b.end
+  at_next h e l b among at s t [] here less same chained =
+      at_start l b t h at (chained l among) (subst (λ (u : declared-state.State). IsSo m g.parameters u h) same here) (subst (λ (u : declared-state.State). IsLeastOf u h) same less)
+  at_next h e l b among at s t (n ∷ more) here less same chained =
       let one : l ≡ n = among_one (subst (λ (d : End). Among l (targets_of d)) chained.0 among) in
       let there : slice_get g.blocks n ≡ Some b = subst (λ k. slice_get g.blocks k ≡ Some b) one at in
       let same_block = one_block n b there chained.1.0 chained.1.1 in
@@ -91,21 +103,26 @@ module _ (v : declared-survey.Survey) (f : declared-found.Found) (chains : List 
         last = chained.1.2.0;
         more = more;
         is = subst (λ (u : declared-state.State). IsSo m g.parameters u h) same here;
-        walked = subst (λ (d : Block). IsSound v f d.instructions t chained.1.2.0) same_block chained.1.2.1;
+        least = subst (λ (u : declared-state.State). IsLeastOf u h) same less;
+        walked = subst (λ k. IsSound v f k b.instructions t chained.1.2.0) (sym one) (subst (λ (d : Block). IsSound v f n d.instructions t chained.1.2.0) same_block chained.1.2.1);
         chained = subst (λ (d : Block). IsChainSound v f more d.end chained.1.2.0) same_block chained.1.2.2;
       }
 
-  on_way : {b : Block} {h : History} {n : ℕ} {rest : List Instruction} {e : End} → slice_get g.blocks 0 ≡ Some b → Way g 0 b.instructions b.end h n rest e → IsAt h rest e
-  on_way {b} at stays = at_start 0 b entered [] at begins so
-  on_way at (passes {h} {n} {i} {left} {e} way value) = at_passed h _ i left e refl (on_way at way)
-  on_way at (goes {h} {n} {l} {e} way among b is) = (let here = on_way at way in at_next h e l b among is here.state here.last here.more here.is here.walked here.chained)
+  on_way : {b : Block} {h : History} {n : ℕ} {rest : List Instruction} {e : End} → slice_get g.blocks 0 ≡ Some b → Way g 0 b.instructions b.end h n rest e → IsAt h n rest e
+  on_way {b} at stays = at_start 0 b entered [] at begins so (λ log told. least_first log g entered)
+  on_way at (passes {h} {n} {i} {left} {e} way value) = at_passed h n i left e value (on_way at way)
+  on_way at (goes {h} {n} {l} {e} way among b is) = (let here = on_way at way in at_next h e l b among is here.state here.last here.more here.is here.least here.walked here.chained)
 
-  on_path : {h : History} {n : ℕ} {rest : List Instruction} {e : End} → Path g h n rest e → IsAt h rest e
+  on_path : {h : History} {n : ℕ} {rest : List Instruction} {e : End} → Path g h n rest e → IsAt h n rest e
   on_path (path b at way) = on_way at way
 
   -- what is found at a marker
   found_at : {h : History} {n : ℕ} {p : ℕ} {rest : List Instruction} {e : End} → Path g h n (Marker p ∷ rest) e → (s : declared-state.State) × IsSo m g.parameters s h × IsFound v f s p
   found_at {h} {n} {p} way = (let at = on_path way in (at.state, at.is, at.walked.0 p refl))
+
+  -- with no less change than is told
+  pub least_at : {h : History} {n : ℕ} {p : ℕ} {rest : List Instruction} {e : End} → Path g h n (Marker p ∷ rest) e → (s : declared-state.State) × IsLeastOf s h × IsFound v f s p
+  least_at {h} {n} {p} way = (let at = on_path way in (at.state, at.least, at.walked.0 p refl))
 
   pub are_placed : ArePlaced g v.number v.table.now
   are_placed h n p rest e way = (let at = found_at way in record { row = at.2.row; some = at.2.some; is = at.2.is; of = at.2.of })

@@ -9,8 +9,9 @@ use Rattle.std.specs.Prelude.{slice_get, slice_set, ◌⊎◌}
 use Rattle.graph_core.specs.declared.block.Block as declared-block
 use Rattle.graph_core.specs.declared.instruction.Instr as declared-instr
 use Rattle.note_flow.proofs.Adding.{found_on}
-use Rattle.graph_core.specs.Graphs.{Instruction, Marker, End, Jump, instruction_view, end_view}
+use Rattle.graph_core.specs.Graphs.{Instruction, Marker, End, Jump, graph_view, instruction_view, end_view}
 use Rattle.note_state.specs.declared.state.State as declared-state
+use Rattle.note_state.specs.Sources.{place_where}
 use Rattle.note_flow.specs.declared.found.Found as declared-found
 use Rattle.note_flow.specs.declared.survey.Survey as declared-survey
 use Rattle.note_flow.specs.Survey.{comes_to, AreFirst, AreEqualAll, BeginsWith, IsChainSound, IsExtended, IsFound, IsReachedSound, IsSound, IsStep, IsWithinNext}
@@ -49,26 +50,22 @@ among_two (behind there) = inr (among_one there)
 
 module _ (v : declared-survey.Survey) (f : declared-found.Found) where
   -- one instruction before what is left
-  pub sound_before : (i : Instruction) (rest all : List Instruction) (s t u : declared-state.State) → all ≡ i ∷ rest → ((p : ℕ) → i ≡ Marker p → IsFound v f s p) → IsStep (v.function.now.homes) s t i → IsSound v f rest t u → IsSound v f all s u
-  sound_before i rest all s t u e here step later = subst (λ (is : List Instruction). IsSound v f is s u) (sym e) (here, (t, step, later))
+  pub sound_before : (n : ℕ) (i : Instruction) (rest all : List Instruction) (s t u : declared-state.State) → all ≡ i ∷ rest → ((p : ℕ) → i ≡ Marker p → IsFound v f s p) → IsStep v.function.now (place_where (graph_view v.function.now.graph.now) n (length rest)) s t i
+      → IsSound v f n rest t u → IsSound v f n all s u
+  sound_before n i rest all s t u e here step later = subst (λ (is : List Instruction). IsSound v f n is s u) (sym e) (here, (t, step, later))
 
   -- one block before what is left of a chain
   pub chain_before : (l : ℕ) (b : declared-block.Block) (rest all : List ℕ) (e : End) (s t : declared-state.State) → all ≡ l ∷ rest → e ≡ Jump l → slice_get v.function.now.graph.now.blocks.items l ≡ Some b
-      → IsSound v f (map instruction_view b.instructions.items) s t → IsChainSound v f rest (end_view b.end) t → IsChainSound v f all e s
+      → IsSound v f l (map instruction_view b.instructions.items) s t → IsChainSound v f rest (end_view b.end) t → IsChainSound v f all e s
   chain_before l b rest all e s t q leads is sound later = subst (λ (ls : List ℕ). IsChainSound v f ls e s) (sym q) (leads, (b, is, (t, sound, later)))
 
--- the next instruction of a list
-pub sound_next : (v : declared-survey.Survey) (items : List declared-instr.Instr) (i : ℕ) (d : declared-instr.Instr) (f later : declared-found.Found) (s t u : declared-state.State) → i < length items → ((p : ℕ) → instruction_view (get_or items i d) ≡ Marker p → IsFound v f s p)
-    → IsExtended v.table.now v.number f later → IsStep v.function.now.homes s t (instruction_view (get_or items i d)) → IsSound v later (map instruction_view (drop (i + 1) items)) t u → IsSound v later (map instruction_view (drop i items)) s u
-sound_next v items i d f later s t u lt look more step rest =
-    sound_before v later (instruction_view (get_or items i d)) (map instruction_view (drop (i + 1) items)) (map instruction_view (drop i items)) s t u (ap (map instruction_view) (drop_more_any items i d lt)) (λ p e. found_on v f later s p more (look p e)) step rest
-
-pub sound_end : (v : declared-survey.Survey) (items : List declared-instr.Instr) (i : ℕ) (later : declared-found.Found) (s : declared-state.State) → length items ≤ i → IsSound v later (map instruction_view (drop i items)) s s
-sound_end v items i later s le = subst (λ (is : List declared-instr.Instr). IsSound v later (map instruction_view is) s s) (sym (drop_end items i le)) refl
+-- nothing is left of a list
+pub sound_end : (v : declared-survey.Survey) (items : List declared-instr.Instr) (i n : ℕ) (later : declared-found.Found) (s : declared-state.State) → length items ≤ i → IsSound v later n (map instruction_view (drop i items)) s s
+sound_end v items i n later s le = subst (λ (is : List declared-instr.Instr). IsSound v later n (map instruction_view is) s s) (sym (drop_end items i le)) refl
 
 -- the next block of a chain
 pub chain_next : (v : declared-survey.Survey) (chain : List ℕ) (i d : ℕ) (later : declared-found.Found) (e : End) (s t : declared-state.State) (b : declared-block.Block) → i < length chain → e ≡ Jump (get_or chain i d) → slice_get v.function.now.graph.now.blocks.items (get_or chain i d) ≡ Some b
-    → IsSound v later (map instruction_view b.instructions.items) s t → IsChainSound v later (drop (i + 1) chain) (end_view b.end) t → IsChainSound v later (drop i chain) e s
+    → IsSound v later (get_or chain i d) (map instruction_view b.instructions.items) s t → IsChainSound v later (drop (i + 1) chain) (end_view b.end) t → IsChainSound v later (drop i chain) e s
 chain_next v chain i d later e s t b lt leads is sound rest = chain_before v later (get_or chain i d) b (drop (i + 1) chain) (drop i chain) e s t (drop_more_any chain i d lt) leads is sound rest
 
 pub chain_end : (v : declared-survey.Survey) (chain : List ℕ) (i : ℕ) (later : declared-found.Found) (e : End) (s : declared-state.State) → length chain ≤ i → IsWithinNext v e s → IsChainSound v later (drop i chain) e s

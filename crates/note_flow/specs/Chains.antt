@@ -2,12 +2,14 @@
 use Rattle.std.specs.Prelude.{◌≡◌, ℕ, Option, Some, None, List, [], ◌∷◌, slice_get}
 use Rattle.std.specs.Global.{Vec}
 use Rattle.graph_core.specs.declared.block.Block as declared-block
-use Rattle.graph_core.specs.Graphs.{Block, Jump, end_view, graph_view}
+use Rattle.graph_core.specs.Graphs.{Instruction, Block, End, Jump, Logged, end_view, graph_view}
 use Rattle.graph_core.specs.Paths.{Among}
 use Rattle.note_state.specs.declared.function.Function as declared-function
 use Rattle.note_state.specs.declared.state.State as declared-state
 use Rattle.note_state.specs.Notes.{IsJoined}
-use Rattle.note_state.specs.Full.{IsEqual, IsFullAt}
+use Rattle.removed_changes.specs.Telling.{AreToldOf}
+use Rattle.note_state.specs.Full.{AreExact, IsEqual, IsFullAt}
+use Rattle.note_state.specs.Sources.{IsAttained}
 use Rattle.note_flow.specs.declared.states.States as declared-states
 use Rattle.note_flow.specs.Survey.{comes_to}
 
@@ -39,14 +41,19 @@ IsComeTo None s (Some t) = IsEqual t s
 IsComeTo (Some q) s (Some t) = IsJoined q s t
 
 module _ (f : declared-function.Function) where
-  -- all is so in a state that is so on all paths to where a block begins
+  -- In a state all is so that is so on all paths to a point, if homes are numbered and told apart; and each change that is told is that of a note on some path to it.
+  pub record IsWholeAt (s : declared-state.State) (n : ℕ) (rest : List Instruction) (e : End) : Type 0 where
+    pub full : AreExact f → IsFullAt f s n rest e
+    pub attained : (log : List Logged) → AreToldOf log f.removed.now → IsAttained log (graph_view f.graph.now) s n rest e
+
+  -- the same where a block begins
   abbrev pub IsFullAtStart : declared-state.State → (l : ℕ) → Type 0
-  IsFullAtStart s l = (b : Block) → slice_get (graph_view f.graph.now).blocks l ≡ Some b → IsFullAt f s l b.instructions b.end
+  IsFullAtStart s l = (b : Block) → slice_get (graph_view f.graph.now).blocks l ≡ Some b → IsWholeAt s l b.instructions b.end
 
   -- the same where it ends
   abbrev pub IsFullAtEnd : declared-state.State → (l : ℕ) → Type 0
-  IsFullAtEnd s l = (b : Block) → slice_get (graph_view f.graph.now).blocks l ≡ Some b → IsFullAt f s l [] b.end
+  IsFullAtEnd s l = (b : Block) → slice_get (graph_view f.graph.now).blocks l ≡ Some b → IsWholeAt s l [] b.end
 
-  -- All is so where chains begin, as far as paths were found, that is so on all paths to there.
+  -- The same where chains begin, as far as paths were found.
   abbrev pub AreFull : declared-states.States → Type 0
   AreFull states = (l : ℕ) (t : declared-state.State) → comes_to states l ≡ Some t → IsFullAtStart t l

@@ -9,7 +9,7 @@ use Rattle.graph_core.specs.Graphs.{Recipe, Of, Name, recipe_view}
 use Rattle.graph_core.specs.Paths.{Among}
 use Rattle.note_state.specs.declared.homes.Homes as declared-homes
 use Rattle.note_state.specs.declared.state.State as declared-state
-use Rattle.note_state.specs.Notes.{recipe_in, AreHeld}
+use Rattle.note_state.specs.Notes.{recipe_in, told_in, AreHeld}
 use Rattle.note_flow.specs.declared.numbering.Numbering as declared-numbering
 use Rattle.note_flow.specs.declared.found.LastNote as declared-last
 use Rattle.note_flow.specs.declared.found.Unshown as declared-unshown
@@ -36,10 +36,10 @@ module _ (m : declared-homes.Homes) (s : declared-state.State) where
   abbrev pub IsShownBy : (x : ℕ) → Type 0
   IsShownBy x = (recipe_in s.noted.items x ≡ Some (Of (Name x))) × AreHeld m s (Of (Name x))
 
-  -- what is last noted shows a scalar, and is not its own value, if it is told; else nothing but its own value does
+  -- what is last noted shows a scalar, and is not its own value, if it is told, with the change that is told beside it; else nothing but its own value does
   abbrev pub Shows : (x : ℕ) → Option declared-last.LastNote → Type 0
   Shows x None = (r : Recipe) → recipe_in s.noted.items x ≡ Some r → AreHeld m s r → r ≡ Of (Name x)
-  Shows x (Some l) = (recipe_in s.noted.items x ≡ Some (recipe_view l.recipe.now)) × AreHeld m s (recipe_view l.recipe.now) × (recipe_view l.recipe.now ≢ Of (Name x))
+  Shows x (Some l) = (recipe_in s.noted.items x ≡ Some (recipe_view l.recipe.now)) × AreHeld m s (recipe_view l.recipe.now) × (recipe_view l.recipe.now ≢ Of (Name x)) × (told_in s.noted.items x ≡ Some l.change)
 
   -- A scalar is shown at a place by its home, or the place is told of it.
   abbrev pub IsTold : (p : ℕ) → List (Vec declared-unshown.Unshown) → (x : ℕ) → Type 0

@@ -6,10 +6,11 @@ use Rattle.places.specs.declared.table.PlaceRow as declared-row
 use Rattle.places.specs.declared.table.PlaceTable as declared-table
 use Rattle.graph_homes.specs.declared.home.Home.{Home}
 use Rattle.graph_homes.specs.Homes.{HoldsOnAllPaths}
-use Rattle.graph_core.specs.Graphs.{Instruction, Marker, End, Graph, Recipe, Of, Name, recipe_view}
+use Rattle.graph_core.specs.Graphs.{Instruction, Marker, End, Graph, Logged, Recipe, Of, Name, recipe_view}
 use Rattle.graph_core.specs.Paths.{Among, History, Path}
 use Rattle.graph_core.specs.WellMarked.{IsVariable}
 use Rattle.note_state.specs.Homes.{home_in, number_at}
+use Rattle.note_state.specs.Sources.{IsSource}
 use Rattle.note_flow.specs.declared.found.LastNote as declared-last
 use Rattle.note_flow.specs.declared.found.Unshown as declared-unshown
 use Rattle.note_flow.specs.Found.{entries_of, IsPlaceOf}
@@ -68,3 +69,18 @@ IsHiddenAt home g p x = (h : History) (n : ℕ) (rest : List Instruction) (e : E
 -- Where a scalar is told of with no recipe, it is hidden so.
 abbrev pub AreHidden : (ℕ → Home) → Graph → List (Vec declared-unshown.Unshown) → Type 0
 AreHidden home g found = (x : ℕ) (u : declared-unshown.Unshown) → Among u (entries_of found x) → u.last ≡ None → x < length g.scalars → IsHiddenAt home g u.place.0 x
+
+module _ (log : List Logged) (g : Graph) where
+  -- The least change that removed an assignment of a scalar where its last note stands on some path to a place.
+  pub record IsLeastSource (p x change : ℕ) : Type 0 where
+    pub is : (h : History) × (n : ℕ) × (rest : List Instruction) × (e : End) × Path g h n (Marker p ∷ rest) e × IsSource log g x h change
+    pub least : (h : History) (n : ℕ) (rest : List Instruction) (e : End) → Path g h n (Marker p ∷ rest) e → (other : ℕ) → IsSource log g x h other → change ≤ other
+
+  -- At a place that a path reaches this is that change, or there is none.
+  abbrev pub IsLeastAt : (p x : ℕ) → Option ℕ → Type 0
+  IsLeastAt p x None = (h : History) (n : ℕ) (rest : List Instruction) (e : End) → Path g h n (Marker p ∷ rest) e → (other : ℕ) → IsSource log g x h other → ⊥
+  IsLeastAt p x (Some change) = (h : History) (n : ℕ) (rest : List Instruction) (e : End) → Path g h n (Marker p ∷ rest) e → IsLeastSource p x change
+
+  -- Where a scalar is told of with a recipe, the change beside it is that one.
+  abbrev pub AreLeast : List (Vec declared-unshown.Unshown) → Type 0
+  AreLeast found = (x : ℕ) (u : declared-unshown.Unshown) (l : declared-last.LastNote) → Among u (entries_of found x) → u.last ≡ Some l → IsLeastAt u.place.0 x l.change

@@ -1,5 +1,5 @@
 -- What a walk over a function bears out: at each place what is found there, and in each block to which one leads what is so where it begins.
-use Rattle.std.specs.Prelude.{◌≡◌, ℕ, ◌-◌, ◌≤◌, ◌⊎◌, Bool, true, false, Option, Some, None, List, [], ◌∷◌, map, slice_get, get_or}
+use Rattle.std.specs.Prelude.{◌≡◌, ℕ, ◌-◌, ◌≤◌, ◌⊎◌, Bool, true, false, Option, Some, None, List, [], ◌∷◌, length, map, slice_get, get_or}
 use Rattle.std.specs.Option.{option_map_or}
 use Rattle.std.specs.Global.{Vec}
 use Rattle.places.specs.declared.table.PlaceRow as declared-row
@@ -8,7 +8,11 @@ use Rattle.graph_core.specs.declared.block.Block as declared-block
 use Rattle.graph_core.specs.Graphs.{Instruction, Marker, Binding, End, Jump, block_view, instruction_view, end_view}
 use Rattle.graph_core.specs.Uses.{targets_of}
 use Rattle.graph_core.specs.Paths.{Among, History, Passed}
+use Rattle.graph_core.specs.Graphs.{Logged, graph_view}
+use Rattle.removed_changes.specs.Telling.{AreToldOf}
+use Rattle.note_state.specs.declared.function.Function as declared-function
 use Rattle.note_state.specs.declared.homes.Homes as declared-homes
+use Rattle.note_state.specs.Sources.{place_where, IsToldBy}
 use Rattle.note_state.specs.declared.state.State as declared-state
 use Rattle.note_state.specs.Notes.{IsKept, IsSo, IsWithin}
 use Rattle.note_state.specs.Full.{IsEqual}
@@ -54,10 +58,12 @@ module _ (table : declared-table.PlaceTable) (number : ℕ) where
     pub only : (x : ℕ) (u : declared-unshown.Unshown) → Among u (entries_of new.unshown.items x) → Among u (entries_of old.unshown.items x) ⊎ (is_met old u.place.0 ≡ false)
     pub all : AreMet new
 
--- A state comes behind an instruction of another one: it is so behind the instruction wherever that one is so before it, and no more is lost than must be.
-pub record IsStep (m : declared-homes.Homes) (old new : declared-state.State) (i : Instruction) : Type 0 where
-  pub so : (ps : List Binding) (p : Passed) (h : History) → p.instruction ≡ i → IsSo m ps old h → IsSo m ps new (p ∷ h)
-  pub kept : IsKept m i old new
+-- A state comes behind an instruction of another one, where a place is in force behind it: it is so behind the instruction wherever that one is so before it, no more is lost than must be,
+-- and of a note the first change is told that removed an assignment of its scalar in the place.
+pub record IsStep (f : declared-function.Function) (place : Option ℕ) (old new : declared-state.State) (i : Instruction) : Type 0 where
+  pub so : (ps : List Binding) (p : Passed) (h : History) → p.instruction ≡ i → IsSo f.homes ps old h → IsSo f.homes ps new (p ∷ h)
+  pub kept : IsKept f.homes i old new
+  pub told : (log : List Logged) → AreToldOf log f.removed.now → IsToldBy log (graph_view f.graph.now) i place old new
 
 module _ (v : declared-survey.Survey) where
   -- a chain begins with a block, and no more is so there than in a state
@@ -84,17 +90,18 @@ module _ (v : declared-survey.Survey) (found : declared-found.Found) where
     pub shown : (x : ℕ) (u : declared-unshown.Unshown) → Among u (entries_of found.unshown.items x) → u.place.0 ≡ p → Shows homes_of_survey s x u.last
     pub apart : (x : ℕ) (u : declared-unshown.Unshown) → Among u (entries_of found.unshown.items x) → u.place.0 ≡ p → IsShownBy homes_of_survey s x → ⊥
 
-  -- From state to state over instructions, and what is found at their markers is so.
-  abbrev pub IsSound : List Instruction → (first last : declared-state.State) → Type 0
-  IsSound [] s t = s ≡ t
-  IsSound (i ∷ rest) s t = ((p : ℕ) → i ≡ Marker p → IsFound s p) × ((u : declared-state.State) × IsStep homes_of_survey s u i × IsSound rest u t)
+  -- From state to state over instructions that are left of a block, and what is found at their markers is so.
+  abbrev pub IsSound : (block : ℕ) → List Instruction → (first last : declared-state.State) → Type 0
+  IsSound n [] s t = s ≡ t
+  IsSound n (i ∷ rest) s t =
+      ((p : ℕ) → i ≡ Marker p → IsFound s p) × ((u : declared-state.State) × IsStep v.function.now (place_where (graph_view v.function.now.graph.now) n (length rest)) s u i × IsSound n rest u t)
 
   -- Blocks follow one another, from state to state, and are sound, and no more is so where the last of them leads.
   abbrev pub IsChainSound : List ℕ → End → declared-state.State → Type 0
   IsChainSound [] e s = IsWithinNext v e s
   IsChainSound (l ∷ more) e s =
       (e ≡ Jump l) × ((b : declared-block.Block) × (slice_get v.function.now.graph.now.blocks.items l ≡ Some b)
-      × ((t : declared-state.State) × IsSound (map instruction_view b.instructions.items) s t × IsChainSound more (end_view b.end) t))
+      × ((t : declared-state.State) × IsSound l (map instruction_view b.instructions.items) s t × IsChainSound more (end_view b.end) t))
 
   -- A chain is sound from what is so where it begins, if a path comes to it.
   abbrev pub IsReachedSound : List ℕ → Type 0

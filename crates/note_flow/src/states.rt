@@ -4,7 +4,6 @@ ghost use Rattle.std.specs.Prelude.{◌≡◌, ◌<◌, ◌∷◌, ℕ, IfOk, Li
 ghost use Rattle.graph_core.specs.Graphs.{end_view};
 ghost use Rattle.graph_core.specs.Paths.{Among};
 ghost use Rattle.graph_core.specs.Uses.{targets_of};
-ghost use Rattle.note_state.specs.Full.{AreExact};
 ghost use Rattle.note_state.specs.declared.state.State as declared-state;
 ghost use Rattle.note_flow.specs.Chains.{AreFull, AreLinked, IsComeTo, IsFullAtEnd, IsFullAtStart, IsLinked, last_in};
 ghost use Rattle.note_flow.specs.Survey.{AreEqualAll, IsWithinSome, comes_to};
@@ -36,7 +35,7 @@ fn nothing<'a>(alloc: Global, count: usize) -> Result<Vec<Option<State<'a>>>, Al
 
 /// Steps over a block, if there is one of this number.
 fn walk_block<'a>(function: &Function<'a>, number: u32, state: &mut State<'a>)
-    ensures { AreExact function.now → IsFullAtStart function.now state.old number → IsFullAtEnd function.now state.new number }
+    ensures { IsFullAtStart function.now state.old number → IsFullAtEnd function.now state.new number }
 {
     if number as usize >= function.graph.blocks.len() {
         return;
@@ -47,7 +46,7 @@ fn walk_block<'a>(function: &Function<'a>, number: u32, state: &mut State<'a>)
 
 /// Steps over the blocks of a chain.
 fn walk<'a>(function: &Function<'a>, chain: &[u32], state: &mut State<'a>)
-    ensures { (first last : ℕ) (more : List ℕ) → AreExact function.now → IsLinked function.now.graph.now.blocks.items chain.now → chain.now ≡ first ∷ more → last_in chain.now ≡ Some last → IsFullAtStart function.now state.old first → IsFullAtEnd function.now state.new last }
+    ensures { (first last : ℕ) (more : List ℕ) → IsLinked function.now.graph.now.blocks.items chain.now → chain.now ≡ first ∷ more → last_in chain.now ≡ Some last → IsFullAtStart function.now state.old first → IsFullAtEnd function.now state.new last }
 {
     for number in chain {
         walk_block(function, *number, state);
@@ -154,7 +153,7 @@ impl<'a> States<'a> {
         function: &Function<'a>,
         chain: &[u32],
     ) -> Result<(), AllocError>
-        ensures { OnOk result (AreExact function.now → IsLinked function.now.graph.now.blocks.items chain.now → AreFull function.now self.old → AreFull function.now self.new) }
+        ensures { OnOk result (IsLinked function.now.graph.now.blocks.items chain.now → AreFull function.now self.old → AreFull function.now self.new) }
     {
         if chain.is_empty() {
             return Ok(());
@@ -177,7 +176,7 @@ impl<'a> States<'a> {
         mut state: State<'a>,
     ) -> Result<(), AllocError>
         requires { 0 < length chain.now }
-        ensures { OnOk result (AreExact function.now → IsLinked function.now.graph.now.blocks.items chain.now → IsFullAtStart function.now state.entry (get_or chain.now 0 0) → AreFull function.now self.old → AreFull function.now self.new) }
+        ensures { OnOk result (IsLinked function.now.graph.now.blocks.items chain.now → IsFullAtStart function.now state.entry (get_or chain.now 0 0) → AreFull function.now self.old → AreFull function.now self.new) }
     {
         walk(function, chain, &mut state);
         let last = chain[chain.len() - 1];
@@ -196,7 +195,7 @@ impl<'a> States<'a> {
         function: &Function<'a>,
         chain: &[u32],
     ) -> Result<bool, AllocError>
-        ensures { OnOk result (AreExact function.now → IsLinked function.now.graph.now.blocks.items chain.now → AreFull function.now self.old → AreFull function.now self.new) }
+        ensures { OnOk result (IsLinked function.now.graph.now.blocks.items chain.now → AreFull function.now self.old → AreFull function.now self.new) }
     {
         if chain.is_empty() || !flag(&self.waiting, chain[0]) {
             return Ok(false);
@@ -213,7 +212,7 @@ impl<'a> States<'a> {
         function: &Function<'a>,
         chains: &[Vec<u32>],
     ) -> Result<bool, AllocError>
-        ensures { OnOk result (AreExact function.now → AreLinked function.now.graph.now.blocks.items chains.now → AreFull function.now self.old → AreFull function.now self.new) }
+        ensures { OnOk result (AreLinked function.now.graph.now.blocks.items chains.now → AreFull function.now self.old → AreFull function.now self.new) }
     {
         let mut is_new = false;
         for chain in chains {
@@ -231,7 +230,7 @@ impl<'a> States<'a> {
         chains: &[Vec<u32>],
         changes: usize,
     ) -> Result<States<'a>, AllocError>
-        ensures { IfOk result (λ states. AreExact function.now → AreLinked function.now.graph.now.blocks.items chains.now → AreFull function.now states) }
+        ensures { IfOk result (λ states. AreLinked function.now.graph.now.blocks.items chains.now → AreFull function.now states) }
     {
         let count = function.graph.blocks.len();
         let mut states = States {

@@ -1,7 +1,7 @@
 //! The walk over all that some path reaches: what is found at its places, and whether the states where chains begin are so.
 
-ghost use Rattle.std.specs.Prelude.{◌≡◌, ◌⊎◌, ℕ, IfOk, false, get_or, map, true};
-ghost use Rattle.graph_core.specs.Graphs.{Jump, Marker, end_view, instruction_view};
+ghost use Rattle.std.specs.Prelude.{◌≡◌, ◌⊎◌, ℕ, IfOk, Some, false, get_or, map, slice_get, true};
+ghost use Rattle.graph_core.specs.Graphs.{Jump, Marker, block_view, end_view, graph_view, instruction_view};
 ghost use Rattle.note_flow.specs.Survey.{AreChainsSound, AreFirst, AreMet, BeginsWith, IsChainSound, IsExtended, IsFound, IsReachedSound, IsSound, IsStartWithin, IsWithinNext};
 ghost use Rattle.note_flow.specs.declared.found.Found as declared-found;
 
@@ -117,7 +117,7 @@ impl<'a> Survey<'a, '_> {
     ) -> Result<bool, AllocError>
         requires met { AreMet self.now.table.now self.now.number found.old }
         ensures extended { IfOk result (λ b. b ≡ true → IsExtended self.now.table.now self.now.number found.old found.new) }
-        ensures sound { IfOk result (λ b. b ≡ true → (later : declared-found.Found) → IsExtended self.now.table.now self.now.number found.new later → IsSound self.now later (map instruction_view block.now.instructions.items) state.old state.new) }
+        ensures sound { IfOk result (λ b. b ≡ true → (later : declared-found.Found) (n : ℕ) → IsExtended self.now.table.now self.now.number found.new later → slice_get (graph_view self.now.function.now.graph.now).blocks n ≡ Some (block_view block.now) → IsSound self.now later n (map instruction_view block.now.instructions.items) state.old state.new) }
     {
         let mut place = block.place;
         for instruction in &block.instructions {

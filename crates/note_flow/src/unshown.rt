@@ -1,7 +1,7 @@
 //! The scalars that their homes do not show.
 
-ghost use Rattle.std.specs.Prelude.{◌≡◌, ◌<◌, ℕ, IfOk, IfSome, [], length, map, true};
-ghost use Rattle.graph_core.specs.Graphs.{binding_view, graph_view};
+ghost use Rattle.std.specs.Prelude.{◌≡◌, ◌<◌, ℕ, IfOk, IfSome, List, [], length, map, true};
+ghost use Rattle.graph_core.specs.Graphs.{Logged, binding_view, graph_view};
 ghost use Rattle.note_state.specs.Full.{AreExact};
 ghost use Rattle.note_state.specs.Homes.{home_by, home_in, number_at};
 ghost use Rattle.note_state.specs.Notes.{IsSo};
@@ -9,7 +9,8 @@ ghost use Rattle.note_flow.specs.Numbering.{AreNumbered};
 ghost use Rattle.note_flow.specs.Survey.{AreFirst};
 ghost use Rattle.note_flow.specs.Found.{entries_of};
 ghost use Rattle.note_flow.specs.Chains.{AreFull};
-ghost use Rattle.note_flow.specs.Shown.{AreDifferent, AreDistinct, AreHidden, AreOther, AreOwn, ArePlaced, AreRecipes, AreTheirs};
+ghost use Rattle.removed_changes.specs.Telling.{AreToldOf};
+ghost use Rattle.note_flow.specs.Shown.{AreDifferent, AreDistinct, AreHidden, AreLeast, AreOther, AreOwn, ArePlaced, AreRecipes, AreTheirs};
 
 use crate::chains::chains_of;
 use crate::found::{Found, Unshown};
@@ -19,8 +20,9 @@ use crate::survey::{Survey, first_of_chains};
 use debug_records::Change;
 use graph_core::Graph;
 use graph_homes::Home;
-use note_state::{Function, Homes, Removals, State};
+use note_state::{Function, Homes, State};
 use places::PlaceTable;
+use removed_changes::RemovedChanges;
 use std::alloc::{AllocError, Global};
 
 /// Nothing is found yet of so many scalars and places.
@@ -56,6 +58,7 @@ fn borne_out<'a>(
     ensures recipe { IfOk result (λ b. b ≡ true → AreRecipes (home_by survey.now.function.now.homes) (graph_view survey.now.function.now.graph.now) found.new.unshown.items) }
     ensures other { IfOk result (λ b. b ≡ true → AreOther (graph_view survey.now.function.now.graph.now) found.new.unshown.items) }
     ensures hidden { IfOk result (λ b. b ≡ true → AreFull survey.now.function.now survey.now.states → AreExact survey.now.function.now → ((y : ℕ) → number_at (home_by survey.now.function.now.homes y) < length survey.now.function.now.homes.numbers.items) → AreHidden (home_by survey.now.function.now.homes) (graph_view survey.now.function.now.graph.now) found.new.unshown.items) }
+    ensures least { IfOk result (λ b. b ≡ true → (log : List Logged) → AreToldOf log survey.now.function.now.removed.now → AreFull survey.now.function.now survey.now.states → AreLeast log (graph_view survey.now.function.now.graph.now) found.new.unshown.items) }
 {
     if !survey.is_within(0, entered) {
         return Ok(false);
@@ -67,7 +70,7 @@ fn borne_out<'a>(
 /// of it says that its value is its own, its home is not written behind the note on any, and was last written for it. A home that was never written holds no
 /// name's value; parameters are written as the function is called. With each what is last noted of it, if that shows its value; where numbers tell homes apart, none where no recipe does.
 ///
-/// The homes are those of the function's names, the changes those of its unit with their removals, and the places those of its program, in which the function has this
+/// The homes are those of the function's names, the changes those of its unit, with those that removed assignments, and the places those of its program, in which the function has this
 /// number. None where what was found of paths is not borne out by a walk over all blocks that they reach, where two scalars are one variable, or where a place is not one of
 /// the function's or has two markers. The only error is want of memory.
 pub fn not_shown<'a>(
@@ -76,7 +79,7 @@ pub fn not_shown<'a>(
     graph: &'a Graph,
     homes: &'a [Home],
     changes: &[Change],
-    removals: &'a Removals,
+    removed: &'a RemovedChanges,
     places: &PlaceTable,
 ) -> Result<Option<Vec<Vec<Unshown<'a>>>>, AllocError>
     ensures placed { IfOk result (λ o. IfSome o (λ found. ArePlaced (graph_view graph.now) number places.now)) }
@@ -86,6 +89,7 @@ pub fn not_shown<'a>(
     ensures recipe { IfOk result (λ o. IfSome o (λ found. AreRecipes (home_in homes.now) (graph_view graph.now) found.items)) }
     ensures other { IfOk result (λ o. IfSome o (λ found. AreOther (graph_view graph.now) found.items)) }
     ensures hidden { IfOk result (λ o. IfSome o (λ found. AreDistinct homes.now → AreHidden (home_in homes.now) (graph_view graph.now) found.items)) }
+    ensures least { IfOk result (λ o. IfSome o (λ found. (log : List Logged) → AreToldOf log removed.now → AreLeast log (graph_view graph.now) found.items)) }
 {
     let Some(numbering) = Numbering::new(alloc, &graph.scalars)? else {
         return Ok(None);
@@ -93,7 +97,7 @@ pub fn not_shown<'a>(
     let function = Function {
         graph,
         homes: Homes::new(alloc, graph, homes)?,
-        removals,
+        removed,
     };
     let chains = chains_of(alloc, &graph.blocks)?;
     let survey = Survey {

@@ -1,7 +1,7 @@
 use Rattle.std.proofs.Common.{true, true≢false, sym, ap, subst, ◌∙◌}
 use Rattle.std.proofs.lemmas.Option.{none-some, same_Some}
 use Rattle.graph_core.specs.Graphs.{Of, Name, recipe_view}
-use Rattle.note_state.specs.Notes.{recipe_of, AreHeld}
+use Rattle.note_state.specs.Notes.{recipe_of, told_of, AreHeld}
 use Rattle.note_flow.proofs.found.last_note.Goals as goal
 
 pub returns-then-is_own : goal.returns-then-is_own
@@ -14,6 +14,7 @@ returns-then-holds_all c = (
   ap (λ n. recipe_of c.args.scalar n) (sym c.last_of.ensures ∙ c.in-Recipe.is),
   c.holds_all.ensures.0 c.if-holds_all.true,
   (λ own. true≢false (sym (c.is_own.ensures.1 own) ∙ c.if-is_own.false)),
+  ap told_of (sym c.last_of.ensures ∙ c.in-Recipe.is),
 )
 
 pub returns-else-holds_all : goal.returns-else-holds_all

@@ -5,6 +5,7 @@ use Rattle.note_flow.specs.Found.{entries_of}
 use Rattle.note_flow.specs.Survey.{AreMet}
 use Rattle.note_flow.proofs.Adding.{extended_same}
 use Rattle.note_flow.proofs.HiddenPlaces.{are_hidden}
+use Rattle.note_flow.proofs.LeastPlaces.{are_least}
 use Rattle.note_flow.proofs.OnPaths.{are_different, are_other, are_own, are_placed, are_recipes}
 use Rattle.note_flow.proofs.unshown.borne_out.Goals as goal
 
@@ -56,3 +57,10 @@ returns-clause-hidden c = λ e full exact within.
     let f = c.add_chains.new.found in
     let extended = c.in_ok-add_chains.ensures.extended e in
     are_hidden v f c.args.chains.now c.args.entered.now c.requires.first (c.in_ok-add_chains.ensures.sound e f (extended_same v.table.now v.number f extended.all)) (c.is_within.ensures c.if-not-is_within.false) exact full within)
+
+pub returns-clause-least : goal.returns-clause-least
+returns-clause-least c = λ e log told full.
+    (let v = c.args.survey.now in
+    let f = c.add_chains.new.found in
+    let extended = c.in_ok-add_chains.ensures.extended e in
+    are_least v f c.args.chains.now c.args.entered.now c.requires.first (c.in_ok-add_chains.ensures.sound e f (extended_same v.table.now v.number f extended.all)) (c.is_within.ensures c.if-not-is_within.false) c.requires.so full log told)

@@ -38,7 +38,7 @@ pub returns-clause-hidden : goal.returns-clause-hidden
 returns-clause-hidden c = λ distinct.
     (let m = c.in_ok-new.field-0 in
     let made = c.in_ok-new.ensures in
-    let f : declared-function.Function = record { graph = c.args.graph; homes = m; removals = c.args.removals } in
+    let f : declared-function.Function = record { graph = c.args.graph; homes = m; removed = c.args.removed } in
     let exact : AreExact f = record {
       told = λ y z read. subst (λ (homes : List Home). home_in homes y ≡ home_in homes z) (sym made.homes) (distinct.told y z (subst (λ (homes : List Home). number_at (home_in homes y) ≡ number_at (home_in homes z)) made.homes read));
       numbered = made.numbered;
@@ -46,4 +46,9 @@ returns-clause-hidden c = λ distinct.
     let linked = subst (λ (chains : List (Vec ℕ)). AreLinked c.args.graph.now.blocks.items chains) (sym c.deref-4.ensures.value) (subst (λ (blocks : List declared-block.Block). AreLinked blocks c.in_ok-chains.chains.items) c.deref-2.ensures.value c.in_ok-chains.ensures) in
     let within : (y : ℕ) → number_at (home_in m.homes.now y) < length m.numbers.items = λ y. subst (λ k. number_at (home_in m.homes.now y) < k) (sym made.count) (subst (λ (homes : List Home). number_at (home_in homes y) < min (length c.args.homes.now + 32) 18446744073709551615) (sym made.homes) (distinct.within y)) in
     subst (λ (homes : List Home). AreHidden (home_in homes) (graph_view c.args.graph.now) c.borne_out.new.found.unshown.items) made.homes
-    (c.in_ok-borne_out.ensures.hidden c.if-not-branch.false (c.in_ok-new-2.ensures exact linked) exact within))
+    (c.in_ok-borne_out.ensures.hidden c.if-not-branch.false (c.in_ok-new-2.ensures linked) exact within))
+
+pub returns-clause-least : goal.returns-clause-least
+returns-clause-least c = λ log told.
+    (let linked = subst (λ (chains : List (Vec ℕ)). AreLinked c.args.graph.now.blocks.items chains) (sym c.deref-4.ensures.value) (subst (λ (blocks : List declared-block.Block). AreLinked blocks c.in_ok-chains.chains.items) c.deref-2.ensures.value c.in_ok-chains.ensures) in
+    c.in_ok-borne_out.ensures.least c.if-not-branch.false log told (c.in_ok-new-2.ensures linked))

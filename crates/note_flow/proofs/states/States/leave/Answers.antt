@@ -4,7 +4,7 @@ use Rattle.note_flow.proofs.Chaining.{start_of}
 use Rattle.note_flow.proofs.states.States.leave.Goals as goal
 
 pub returns-in_ok-leave_with-in-Some : goal.returns-in_ok-leave_with-in-Some
-returns-in_ok-leave_with-in-Some c = λ exact linked before.
+returns-in_ok-leave_with-in-Some c = λ linked before.
     (let f = c.args.function.now in
     let l = get_or c.args.chain.now 0 0 in
-    c.in_ok-leave_with-in-Some.ensures exact linked (start_of f c.args.self.now l c.in-Some.state (subst (λ o. AreEqualAll o (comes_to c.args.self.now l)) c.in-Some.is c.in_ok-state.ensures) before) before)
+    c.in_ok-leave_with-in-Some.ensures linked (start_of f c.args.self.now l c.in-Some.state (subst (λ o. AreEqualAll o (comes_to c.args.self.now l)) c.in-Some.is c.in_ok-state.ensures) before) before)

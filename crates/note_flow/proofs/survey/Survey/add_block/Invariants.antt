@@ -1,6 +1,9 @@
-use Rattle.std.proofs.Common.{map, drop}
-use Rattle.graph_core.specs.Graphs.{instruction_view}
+use Rattle.std.proofs.Common.{◌≡◌, ℕ, Some, map, drop, option_map}
+use Rattle.std.specs.Prelude.{slice_get}
+use Rattle.debug_records.specs.declared.change.Place as declared-place
+use Rattle.graph_core.specs.Graphs.{block_view, graph_view, instruction_view}
 use Rattle.note_state.specs.declared.state.State as declared-state
+use Rattle.note_state.proofs.Sourcing.{place_behind_first}
 use Rattle.note_flow.specs.declared.found.Found as declared-found
 use Rattle.note_flow.specs.Survey.{IsExtended, IsSound}
 use Rattle.note_flow.proofs.survey.Survey.add_block.Given as goal
@@ -8,6 +11,7 @@ use Rattle.note_flow.proofs.survey.Survey.add_block.Given as goal
 abbrev pub invariant-loop-instruction : goal.invariant-loop-instruction
 invariant-loop-instruction l = record {
   extended : IsExtended l.self.table.now l.self.number l.fn.found l.found;
-  sound : (later : declared-found.Found) (last : declared-state.State) → IsExtended l.self.table.now l.self.number l.found later
-      → IsSound l.self later (map instruction_view (drop l.instruction-index l.block.instructions.items)) l.state last → IsSound l.self later (map instruction_view l.block.instructions.items) l.fn.state last;
+  place : option_map (λ (p : declared-place.Place). p.0) l.place ≡ place_behind_first instruction_view l.block.instructions.items (option_map (λ (p : declared-place.Place). p.0) l.block.place) l.instruction-index;
+  sound : (later : declared-found.Found) (last : declared-state.State) (n : ℕ) → IsExtended l.self.table.now l.self.number l.found later → slice_get (graph_view l.self.function.now.graph.now).blocks n ≡ Some (block_view l.block)
+      → IsSound l.self later n (map instruction_view (drop l.instruction-index l.block.instructions.items)) l.state last → IsSound l.self later n (map instruction_view l.block.instructions.items) l.fn.state last;
 }
