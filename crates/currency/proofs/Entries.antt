@@ -12,14 +12,14 @@ use Rattle.graph_homes.specs.declared.home.Home.{Home}
 use Rattle.graph_homes.specs.Homes.{HoldsOnAllPaths}
 use Rattle.graph_core.specs.declared.graph.Scalar as declared-scalar
 use Rattle.graph_core.specs.declared.graph.Graph as declared-graph
-use Rattle.graph_core.specs.Graphs.{Scalar, Recipe, graph_view, recipe_view, scalar_view}
+use Rattle.graph_core.specs.Graphs.{Logged, Scalar, Recipe, graph_view, recipe_view, scalar_view}
 use Rattle.graph_core.specs.Paths.{Among, front, behind}
 use Rattle.graph_core.specs.WellMarked.{IsVariable}
 use Rattle.note_state.specs.Homes.{home_in}
 use Rattle.note_state.proofs.Lists.{get_among, each_all, each_more}
 use Rattle.note_flow.specs.declared.found.Unshown as declared-unshown
 use Rattle.note_flow.specs.Found.{entries_of, IsPlaceOf}
-use Rattle.note_flow.specs.Shown.{AreDifferent, AreDistinct, AreHidden, AreOther, AreOwn, ArePlaced, AreRecipes, AreTheirs, IsHiddenAt, IsOther}
+use Rattle.note_flow.specs.Shown.{AreDifferent, AreDistinct, AreHidden, AreLeast, AreOther, AreOwn, ArePlaced, AreRecipes, AreTheirs, IsHiddenAt, IsLeastAt, IsOther}
 use Rattle.currency.specs.declared.telling.Told as declared-told
 use Rattle.currency.specs.declared.telling.Told.TheVariants as told
 use Rattle.currency.specs.declared.telling.ToldVariable as declared-variable
@@ -118,8 +118,8 @@ find_entry (v ∷ entries) p = elim (eqb_tells v.place.0 p) [
     none e f u (behind among) at = f u among at
 
 -- What is told of a function.
-module _ (g : declared-graph.Graph) (homes : List Home) (number : ℕ) (table : declared-table.PlaceTable) (old new : declared-places.ToldPlaces) (found : List (Vec declared-unshown.Unshown)) (placed : ArePlaced (graph_view g) number table)
-    (theirs : AreTheirs found number table) (different : AreDifferent (graph_view g)) (own : AreOwn (home_in homes) (graph_view g) table found) (recipes : AreRecipes (home_in homes) (graph_view g) found) (other : AreOther (graph_view g) found) (hidden : AreDistinct homes → AreHidden (home_in homes) (graph_view g) found) (all : AreToldAll old new g.scalars.items found) where
+module _ (log : List Logged) (g : declared-graph.Graph) (homes : List Home) (number : ℕ) (table : declared-table.PlaceTable) (old new : declared-places.ToldPlaces) (found : List (Vec declared-unshown.Unshown)) (placed : ArePlaced (graph_view g) number table)
+    (theirs : AreTheirs found number table) (different : AreDifferent (graph_view g)) (own : AreOwn (home_in homes) (graph_view g) table found) (recipes : AreRecipes (home_in homes) (graph_view g) found) (other : AreOther (graph_view g) found) (hidden : AreDistinct homes → AreHidden (home_in homes) (graph_view g) found) (least : AreLeast log (graph_view g) found) (all : AreToldAll old new g.scalars.items found) where
   -- the scalar of a variable
   variable_at : (x : ℕ) (s : declared-scalar.Scalar) → slice_get g.scalars.items x ≡ Some s → option_map (λ (z : Scalar). z.variable) (slice_get (graph_view g).scalars x) ≡ Some s.var.0
   variable_at x s e = ap (λ q. option_map (λ (z : Scalar). z.variable) q) (slice_get-map scalar_view g.scalars.items x ∙ ap (λ o. option_map scalar_view o) e)
@@ -131,7 +131,7 @@ module _ (g : declared-graph.Graph) (homes : List Home) (number : ℕ) (table : 
       at_scalar None e = absurd (none-some variable (sym (ap (λ q. option_map (λ (z : Scalar). z.variable) q) (slice_get-map scalar_view g.scalars.items x ∙ ap (λ o. option_map scalar_view o) e)) ∙ is))
       at_scalar (Some s) e = (s, e, same_Some s.var.0 variable (sym (variable_at x s e) ∙ is))
 
-  is_right : (p : ℕ) (t : declared-variable.ToldVariable) (of : IsOfScalar g.scalars.items found p t) (what : declared-told.Told) → IsRecipeOf what of.of.entry.last → IsToldRight homes (graph_view g) p t what
+  is_right : (p : ℕ) (t : declared-variable.ToldVariable) (of : IsOfScalar g.scalars.items found p t) (what : declared-told.Told) → IsRecipeOf what of.of.entry.last → IsToldRight log homes (graph_view g) p t what
   is_right p t of (told.Recovered r c) recipe = λ x is.
       (let same : of.x ≡ x = different of.x x t.var.0 (variable_at of.x of.scalar of.is ∙ ap (λ (v : declared-var.Var). Some v.0) (sym of.of.of)) is in
       let holds : HoldsOnAllPaths (home_in homes) (graph_view g) of.of.entry.place.0 of.x (recipe_view recipe.0.recipe.now) = recipes of.x of.of.entry recipe.0 of.of.among recipe.1 in
@@ -140,6 +140,8 @@ module _ (g : declared-graph.Graph) (homes : List Home) (number : ℕ) (table : 
             (subst (λ k. HoldsOnAllPaths (home_in homes) (graph_view g) p k (recipe_view recipe.0.recipe.now)) same (subst (λ q. HoldsOnAllPaths (home_in homes) (graph_view g) q of.x (recipe_view recipe.0.recipe.now)) of.of.place holds)),
         subst (λ (q : Recipe). IsOther (graph_view g) p x q) (sym recipe.2)
             (subst (λ k. IsOther (graph_view g) p k (recipe_view recipe.0.recipe.now)) same (subst (λ q. IsOther (graph_view g) q of.x (recipe_view recipe.0.recipe.now)) of.of.place differs)),
+        subst (λ k. IsLeastAt log (graph_view g) p k (Some c)) same
+            (subst (λ q. IsLeastAt log (graph_view g) q of.x (Some c)) of.of.place (subst (λ (o : Option ℕ). IsLeastAt log (graph_view g) of.of.entry.place.0 of.x o) recipe.3 (least of.x of.of.entry recipe.0 of.of.among recipe.1))),
       ))
   is_right p t of (told.Hidden cause) recipe = λ distinct x is.
       (let same : of.x ≡ x = different of.x x t.var.0 (variable_at of.x of.scalar of.is ∙ ap (λ (v : declared-var.Var). Some v.0) (sym of.of.of)) is in
@@ -147,7 +149,7 @@ module _ (g : declared-graph.Graph) (homes : List Home) (number : ℕ) (table : 
       let here : IsHiddenAt (home_in homes) (graph_view g) of.of.entry.place.0 of.x = hidden distinct of.x of.of.entry of.of.among recipe lt in
       subst (λ k. IsHiddenAt (home_in homes) (graph_view g) p k) same (subst (λ q. IsHiddenAt (home_in homes) (graph_view g) q of.x) of.of.place here))
 
-  pub function_told : IsFunctionTold homes (graph_view g) number table old new
+  pub function_told : IsFunctionTold log homes (graph_view g) number table old new
   function_told = record {
     placed = placed;
     kept = all.kept;

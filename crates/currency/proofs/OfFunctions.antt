@@ -7,7 +7,7 @@ use Rattle.places.specs.declared.table.PlaceRow as declared-row
 use Rattle.places.specs.declared.table.PlaceTable as declared-table
 use Rattle.graph_homes.specs.declared.home.Home.{Home}
 use Rattle.graph_homes.specs.Homes.{HoldsOnAllPaths}
-use Rattle.graph_core.specs.Graphs.{Graph, Of, Name}
+use Rattle.graph_core.specs.Graphs.{Graph, Logged, Of, Name}
 use Rattle.graph_core.specs.Paths.{Among}
 use Rattle.graph_core.specs.WellMarked.{IsVariable}
 use Rattle.std.specs.Prelude.{option_map}
@@ -34,10 +34,13 @@ one_function : (table : declared-table.PlaceTable) (f k p : ℕ) → IsPlaceOf t
 one_function table f k p a b = sym a.of ∙ ap (λ (r : declared-row.PlaceRow). r.function) (same_Some a.row b.row (sym a.is ∙ b.is)) ∙ b.of
 
 -- what is told at a place of another function is right, since no path reaches it
-right_elsewhere : (homes : List Home) (g : Graph) (table : declared-table.PlaceTable) (f k p : ℕ) (t : declared-variable.ToldVariable) (what : declared-told.Told) → f ≢ k → ArePlaced g f table → IsPlaceOf table k p → IsToldRight homes g p t what
-right_elsewhere homes g table f k p t (told.Recovered r c) other placed there = λ x is.
-    ((λ h n rest e way. absurd (other (one_function table f k p (placed h n p rest e way) there))), (λ h n rest e way. absurd (other (one_function table f k p (placed h n p rest e way) there))))
-right_elsewhere homes g table f k p t (told.Hidden cause) other placed there = λ distinct x is h n rest e way r holds. other (one_function table f k p (placed h n p rest e way) there)
+right_elsewhere : (log : List Logged) (homes : List Home) (g : Graph) (table : declared-table.PlaceTable) (f k p : ℕ) (t : declared-variable.ToldVariable) (what : declared-told.Told) → f ≢ k → ArePlaced g f table → IsPlaceOf table k p → IsToldRight log homes g p t what
+right_elsewhere log homes g table f k p t (told.Recovered r c) other placed there = λ x is. (
+  (λ h n rest e way. absurd (other (one_function table f k p (placed h n p rest e way) there))),
+  (λ h n rest e way. absurd (other (one_function table f k p (placed h n p rest e way) there))),
+  (λ h n rest e way. absurd (other (one_function table f k p (placed h n p rest e way) there))),
+)
+right_elsewhere log homes g table f k p t (told.Hidden cause) other placed there = λ distinct x is h n rest e way r holds. other (one_function table f k p (placed h n p rest e way) there)
 
 module _ (u : HomedForm) (table : declared-table.PlaceTable) where
   pub told_first : (all : declared-places.ToldPlaces) → ((p : ℕ) → told_at all p ≡ []) → AreFunctionsTold u table 0 all
@@ -51,7 +54,7 @@ module _ (u : HomedForm) (table : declared-table.PlaceTable) where
       nothing : (t : declared-variable.ToldVariable) → Among t [] → ⊥
       nothing t among = elim among [ ]
 
-  pub told_next : (old new : declared-places.ToldPlaces) (count : ℕ) (g : Graph) (names : List Home) → slice_get u.unit.graphs count ≡ Some g → homes_in u count ≡ names → AreFunctionsTold u table count old → IsFunctionTold names g count table old new
+  pub told_next : (old new : declared-places.ToldPlaces) (count : ℕ) (g : Graph) (names : List Home) → slice_get u.unit.graphs count ≡ Some g → homes_in u count ≡ names → AreFunctionsTold u table count old → IsFunctionTold u.unit.log names g count table old new
       → AreFunctionsTold u table (count + 1) new
   told_next old new count g names at kept before next = record {
     placed = λ f d lt there. elim (eqb_tells f count) [
@@ -70,15 +73,15 @@ module _ (u : HomedForm) (table : declared-table.PlaceTable) where
     ];
     right = λ p t f d among lt there. elim (next.only p t among) [
       | inl a ↦ elim (eqb_tells f count) [
-        | inl e ↦ (let o = before.of p t a in right_elsewhere (homes_in u f) d table f o.0 p t t.told (λ q. omega (arith, q, e.1, o.1)) (placed_here f d e.1 there) o.2)
+        | inl e ↦ (let o = before.of p t a in right_elsewhere u.unit.log (homes_in u f) d table f o.0 p t t.told (λ q. omega (arith, q, e.1, o.1)) (placed_here f d e.1 there) o.2)
         | inr e ↦ before.right p t f d a (omega (arith, lt, e.1)) there
       ]
       | inr b ↦ elim (eqb_tells f count) [
         | inl e ↦ (let here : slice_get u.unit.graphs count ≡ Some d = sym (ap (λ k. slice_get u.unit.graphs k) e.1) ∙ there in
             let same : g ≡ d = same_Some g d (sym at ∙ here) in
             let homes : names ≡ homes_in u f = sym kept ∙ ap (λ k. homes_in u k) (sym e.1) in
-            subst (λ (hs : List Home). IsToldRight hs d p t t.told) homes (subst (λ (c : Graph). IsToldRight names c p t t.told) same b.1))
-        | inr e ↦ right_elsewhere (homes_in u f) d table f count p t t.told e.1 (before.placed f d (omega (arith, lt, e.1)) there) b.0
+            subst (λ (hs : List Home). IsToldRight u.unit.log hs d p t t.told) homes (subst (λ (c : Graph). IsToldRight u.unit.log names c p t t.told) same b.1))
+        | inr e ↦ right_elsewhere u.unit.log (homes_in u f) d table f count p t t.told e.1 (before.placed f d (omega (arith, lt, e.1)) there) b.0
       ]
     ];
     of = λ p t among. elim (next.only p t among) [
@@ -99,11 +102,11 @@ names_at h f one e =
 
 -- one more function, as it was read
 pub told_next_any : (h : declared-homed.HomedUnit) (table : declared-table.PlaceTable) (old new : declared-places.ToldPlaces) (f number : ℕ) (g : declared-graph.Graph) (one : declared-homes.FunctionHomes) (names : List Home) → number ≡ f → f < length h.unit.graphs.items → g ≡ get_or h.unit.graphs.items f g
-    → f < length h.homes.items → one ≡ get_or h.homes.items f one → names ≡ one.homes.items → AreFunctionsTold (homed_view h) table f old → IsFunctionTold names (graph_view g) number table old new → AreFunctionsTold (homed_view h) table (f + 1) new
+    → f < length h.homes.items → one ≡ get_or h.homes.items f one → names ≡ one.homes.items → AreFunctionsTold (homed_view h) table f old → IsFunctionTold (homed_view h).unit.log names (graph_view g) number table old new → AreFunctionsTold (homed_view h) table (f + 1) new
 told_next_any h table old new f number g one names same lt is small kept of before next =
     let at : slice_get (homed_view h).unit.graphs f ≡ Some (graph_view g) = slice_get-map graph_view h.unit.graphs.items f ∙ ap (λ o. option_map graph_view o) (slice_get-get_or h.unit.graphs.items f g lt ∙ ap Some (sym is)) in
     let homes : homes_in (homed_view h) f ≡ names = names_at h f one (slice_get-get_or h.homes.items f one small ∙ ap Some (sym kept)) ∙ sym of in
-    told_next (homed_view h) table old new f (graph_view g) names at homes before (subst (λ n. IsFunctionTold names (graph_view g) n table old new) same next)
+    told_next (homed_view h) table old new f (graph_view g) names at homes before (subst (λ n. IsFunctionTold (homed_view h).unit.log names (graph_view g) n table old new) same next)
 
 -- all functions
 pub told_all : (h : declared-homed.HomedUnit) (table : declared-table.PlaceTable) (told : declared-places.ToldPlaces) (f : ℕ) → f ≡ length h.unit.graphs.items → AreFunctionsTold (homed_view h) table f told → AreSo (homed_view h) table told

@@ -10,7 +10,7 @@ use Rattle.places.specs.declared.table.PlaceTable as declared-table
 use Rattle.graph_homes.specs.declared.home.Home.{Home}
 use Rattle.graph_homes.specs.Homes.{HoldsOnAllPaths}
 use Rattle.graph_core.specs.declared.recipe.Recipe as declared-recipe
-use Rattle.graph_core.specs.Graphs.{Graph, Of, Name, Recipe, Is, NoteValue, recipe_view}
+use Rattle.graph_core.specs.Graphs.{Graph, Logged, Of, Name, Recipe, Is, NoteValue, recipe_view}
 use Rattle.graph_core.specs.Paths.{Among}
 use Rattle.graph_core.specs.WellMarked.{IsVariable}
 use Rattle.homed_unit.specs.Homed.{HomedForm, home_of, homes_in}
@@ -18,7 +18,7 @@ use Rattle.note_state.specs.Homes.{home_in}
 use Rattle.note_state.proofs.Lists.{among_at, among_parts, among_one, drop_end, drop_more, get_among, get_any, take_whole}
 use Rattle.std.proofs.lemmas.List.{take_more}
 use Rattle.currency.specs.Visible.{Sight, next, sight, sights_at, sights_from}
-use Rattle.note_flow.specs.Shown.{AreDistinct, IsHiddenAt, IsOther, IsVisible}
+use Rattle.note_flow.specs.Shown.{AreDistinct, IsHiddenAt, IsLeastAt, IsOther, IsVisible}
 use Rattle.currency.specs.declared.telling.Told as declared-told
 use Rattle.currency.specs.declared.telling.Told.TheVariants as told
 use Rattle.currency.specs.declared.telling.ToldVariable as declared-variable
@@ -28,15 +28,15 @@ use Rattle.currency.specs.declared.verdict.Verdict.TheVariants as verdict
 use Rattle.currency.specs.declared.verdict.PlaceVerdict as declared-row
 use Rattle.currency.specs.Telling.{told_at, AreRowsTold, AreSlotted, AreTold, IsNoneTold, IsRowTold, IsToldOf, IsToldRight, IsVerdictOf, IsVerdictOn}
 use Rattle.currency.proofs.Distinct.{distinct_homes}
-use Rattle.currency.specs.Sound.{AreApart, AreHidden, AreHome, AreOnly, AreRecovered, AreSo, IsHidden}
+use Rattle.currency.specs.Sound.{AreApart, AreHidden, AreHome, AreLeast, AreOnly, AreRecovered, AreSo, IsHidden}
 
 -- where a verdict hides a variable, nothing is told that shows it
-hidden_told : (homes : List Home) (g : Graph) (p : ℕ) (t : declared-variable.ToldVariable) (what : declared-told.Told) (v : declared-verdict.Verdict) → IsHidden v → IsVerdictOf what v → IsToldRight homes g p t what → AreDistinct homes → (x : ℕ) → IsVariable g x t.var.0 → IsHiddenAt (home_in homes) g p x
-hidden_told homes g p t (told.Hidden cause) v hid of right = right
-hidden_told homes g p t (told.Recovered r c) verdict.Home hid of right = elim hid [ ]
-hidden_told homes g p t (told.Recovered r c) (verdict.Recovered s d) hid of right = elim hid [ ]
-hidden_told homes g p t (told.Recovered r c) (verdict.Noncurrent d s w) hid of right = elim of [ ]
-hidden_told homes g p t (told.Recovered r c) (verdict.Nonresident d s w) hid of right = elim of [ ]
+hidden_told : (log : List Logged) (homes : List Home) (g : Graph) (p : ℕ) (t : declared-variable.ToldVariable) (what : declared-told.Told) (v : declared-verdict.Verdict) → IsHidden v → IsVerdictOf what v → IsToldRight log homes g p t what → AreDistinct homes → (x : ℕ) → IsVariable g x t.var.0 → IsHiddenAt (home_in homes) g p x
+hidden_told log homes g p t (told.Hidden cause) v hid of right = right
+hidden_told log homes g p t (told.Recovered r c) verdict.Home hid of right = elim hid [ ]
+hidden_told log homes g p t (told.Recovered r c) (verdict.Recovered s d) hid of right = elim hid [ ]
+hidden_told log homes g p t (told.Recovered r c) (verdict.Noncurrent d s w) hid of right = elim of [ ]
+hidden_told log homes g p t (told.Recovered r c) (verdict.Nonresident d s w) hid of right = elim of [ ]
 
 -- slots of the first of what is told
 abbrev pub AreSlottedTo : List declared-variable.ToldVariable → List ℕ → (count : ℕ) → Type 0
@@ -167,14 +167,18 @@ module _ (u : HomedForm) (table : declared-table.PlaceTable) (found : declared-p
       at_what None none v = elim (so.own f g w.place.0 x w.var.0 (slice_get_within u.unit.graphs f g at) at is visible) [ inl a ↦ a | inr b ↦ absurd (none b.t b.among b.of) ]
       at_what (Some t) of v = absurd (not_hidden t.told w.verdict home v)
 
-  is_right : (what : declared-told.Told) (r : declared-recipe.Recipe) (c : ℕ) (p : ℕ) (t : declared-variable.ToldVariable) (f x : ℕ) (g : Graph) → IsVerdictOf what (verdict.Recovered r c) → IsToldRight (homes_in u f) g p t what → IsVariable g x t.var.0
-      → HoldsOnAllPaths (home_of u f) g p x (recipe_view r) × IsOther g p x (recipe_view r)
-  is_right (told.Recovered s d) r c p t f x g of right is = subst (λ (q : Recipe). HoldsOnAllPaths (home_of u f) g p x q × IsOther g p x q) of (right x is)
+  -- a recipe that is given holds on all paths, is not the variable's own value, and has the least change
+  abbrev IsGiven : (f p x : ℕ) → Graph → Recipe → (change : ℕ) → Type 0
+  IsGiven f p x g r c = HoldsOnAllPaths (home_of u f) g p x r × IsOther g p x r × IsLeastAt u.unit.log g p x (Some c)
+
+  is_right : (what : declared-told.Told) (r : declared-recipe.Recipe) (c : ℕ) (p : ℕ) (t : declared-variable.ToldVariable) (f x : ℕ) (g : Graph) → IsVerdictOf what (verdict.Recovered r c) → IsToldRight u.unit.log (homes_in u f) g p t what → IsVariable g x t.var.0
+      → IsGiven f p x g (recipe_view r) c
+  is_right (told.Recovered s d) r c p t f x g of right is = subst (λ k. IsGiven f p x g (recipe_view r) k) of.1 (subst (λ (q : Recipe). IsGiven f p x g q d) of.0 (right x is))
   is_right (told.Hidden cause) r c p t f x g v right is = elim v [ ]
 
   -- a recipe that is given, by what is told
   is_given : (w : declared-row.PlaceVerdict) (r : declared-recipe.Recipe) (c : ℕ) → Among w rows → w.verdict ≡ verdict.Recovered r c → (f x : ℕ) (g : Graph) → slice_get u.unit.graphs f ≡ Some g → IsVariable g x w.var.0
-      → HoldsOnAllPaths (home_of u f) g w.place.0 x (recipe_view r) × IsOther g w.place.0 x (recipe_view r)
+      → IsGiven f w.place.0 x g (recipe_view r) c
   is_given w r c among is f x g at variable = at_what row.what row.is row.verdict
     where
       row : IsRowTold (told_at found w.place.0) w
@@ -184,13 +188,16 @@ module _ (u : HomedForm) (table : declared-table.PlaceTable) (found : declared-p
       home_recovered e = cc
 
       at_what : (o : Option declared-variable.ToldVariable) → MatchOption o (IsNoneTold (told_at found w.place.0) w.var) (λ t. IsToldOf (told_at found w.place.0) w.var t) → IsVerdictOn o w.verdict
-          → HoldsOnAllPaths (home_of u f) g w.place.0 x (recipe_view r) × IsOther g w.place.0 x (recipe_view r)
+          → IsGiven f w.place.0 x g (recipe_view r) c
       at_what None none v = absurd (home_recovered (sym is ∙ v))
       at_what (Some t) of v =
           is_right t.told r c w.place.0 t f x g (subst (λ (z : declared-verdict.Verdict). IsVerdictOf t.told z) is v) (so.right w.place.0 t f g of.0 (slice_get_within u.unit.graphs f g at) at) (subst (λ k. IsVariable g x k) (sym of.1) variable)
 
   pub are_recovered : AreRecovered u rows
   are_recovered w r c among is f x g at variable = (is_given w r c among is f x g at variable).0
+
+  pub are_least : AreLeast u rows
+  are_least w r c among is f x g at variable = (is_given w r c among is f x g at variable).2
 
   -- the recipe that a note says
   abbrev recipe_in : NoteValue → Recipe → Recipe
@@ -218,4 +225,4 @@ module _ (u : HomedForm) (table : declared-table.PlaceTable) (found : declared-p
       at_what : (o : Option declared-variable.ToldVariable) → MatchOption o (IsNoneTold (told_at found w.place.0) w.var) (λ t. IsToldOf (told_at found w.place.0) w.var t) → IsVerdictOn o w.verdict → IsHiddenAt (home_of u f) g w.place.0 x
       at_what None none v = absurd (no_home v)
       at_what (Some t) of v =
-          hidden_told (homes_in u f) g w.place.0 t t.told w.verdict hid v (so.right w.place.0 t f g of.0 (slice_get_within u.unit.graphs f g at) at) (distinct_homes u f g homed at some few) x (subst (λ k. IsVariable g x k) (sym of.1) variable)
+          hidden_told u.unit.log (homes_in u f) g w.place.0 t t.told w.verdict hid v (so.right w.place.0 t f g of.0 (slice_get_within u.unit.graphs f g at) at) (distinct_homes u f g homed at some few) x (subst (λ k. IsVariable g x k) (sym of.1) variable)

@@ -8,7 +8,7 @@ use Rattle.graph_core.specs.Paths.{Among, History, Path}
 use Rattle.graph_core.specs.WellMarked.{IsVariable}
 use Rattle.homed_unit.specs.Homed.{HomedForm, HaveHomes, home_of, homes_in}
 use Rattle.note_flow.specs.Found.{IsPlaceOf}
-use Rattle.note_flow.specs.Shown.{ArePlaced, IsHiddenAt, IsVisible}
+use Rattle.note_flow.specs.Shown.{ArePlaced, IsHiddenAt, IsLeastAt, IsVisible}
 use Rattle.currency.specs.declared.telling.ToldVariable as declared-variable
 use Rattle.currency.specs.declared.told.ToldPlaces as declared-places
 use Rattle.currency.specs.declared.verdict.Verdict as declared-verdict
@@ -28,7 +28,7 @@ module _ (u : HomedForm) where
   pub record AreFunctionsTold (table : declared-table.PlaceTable) (count : ℕ) (told : declared-places.ToldPlaces) : Type 0 where
     pub placed : (f : ℕ) (g : Graph) → f < count → slice_get u.unit.graphs f ≡ Some g → ArePlaced g f table
     pub own : (f : ℕ) (g : Graph) (p x variable : ℕ) → f < count → slice_get u.unit.graphs f ≡ Some g → IsVariable g x variable → IsVisible table p variable → HoldsOnAllPaths (home_of u f) g p x (Of (Name x)) ⊎ IsSomethingTold told p variable
-    pub right : (p : ℕ) (t : declared-variable.ToldVariable) (f : ℕ) (g : Graph) → Among t (told_at told p) → f < count → slice_get u.unit.graphs f ≡ Some g → IsToldRight (homes_in u f) g p t t.told
+    pub right : (p : ℕ) (t : declared-variable.ToldVariable) (f : ℕ) (g : Graph) → Among t (told_at told p) → f < count → slice_get u.unit.graphs f ≡ Some g → IsToldRight u.unit.log (homes_in u f) g p t t.told
     pub of : (p : ℕ) (t : declared-variable.ToldVariable) → Among t (told_at told p) → (f : ℕ) × (f < count) × IsPlaceOf table f p
 
   -- What is told of all its functions.
@@ -58,6 +58,13 @@ module _ (u : HomedForm) where
   AreOnly rows =
       (w : declared-row.PlaceVerdict) (r : declared-recipe.Recipe) (change : ℕ) → Among w rows → w.verdict ≡ verdict.Recovered r change → (f x : ℕ) (g : Graph) → slice_get u.unit.graphs f ≡ Some g → IsVariable g x w.var.0
       → (h : History) (n : ℕ) (rest : List Instruction) (e : End) → Path g h n (Marker w.place.0 ∷ rest) e → (other : Recipe) → HoldsOnAllPaths (home_of u f) g w.place.0 x other → other ≡ recipe_view r
+
+  -- Where a verdict gives a recipe for a variable, and a path reaches the place, the change that it names is the least that removed an assignment of the variable in a place where its
+  -- last note stands on some path to there.
+  abbrev pub AreLeast : List declared-row.PlaceVerdict → Type 0
+  AreLeast rows =
+      (w : declared-row.PlaceVerdict) (r : declared-recipe.Recipe) (change : ℕ) → Among w rows → w.verdict ≡ verdict.Recovered r change → (f x : ℕ) (g : Graph) → slice_get u.unit.graphs f ≡ Some g → IsVariable g x w.var.0
+      → IsLeastAt u.unit.log g w.place.0 x (Some change)
 
   -- Where a verdict says that a variable is hidden, no recipe holds there on all paths, its own value neither, if a path reaches the place. The names have their homes, and are at least
   -- one and not more than numbers of 32 bits tell apart beside the registers.

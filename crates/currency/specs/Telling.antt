@@ -7,14 +7,14 @@ use Rattle.places.specs.declared.table.PlaceTable as declared-table
 use Rattle.graph_homes.specs.declared.home.Home.{Home}
 use Rattle.graph_homes.specs.Homes.{HoldsOnAllPaths}
 use Rattle.graph_core.specs.declared.graph.Scalar as declared-scalar
-use Rattle.graph_core.specs.Graphs.{Graph, Of, Name, recipe_view}
+use Rattle.graph_core.specs.Graphs.{Graph, Logged, Of, Name, recipe_view}
 use Rattle.graph_core.specs.Paths.{Among}
 use Rattle.graph_core.specs.WellMarked.{IsVariable}
 use Rattle.note_state.specs.Homes.{home_in}
 use Rattle.note_flow.specs.declared.found.LastNote as declared-last
 use Rattle.note_flow.specs.declared.found.Unshown as declared-unshown
 use Rattle.note_flow.specs.Found.{entries_of, IsPlaceOf}
-use Rattle.note_flow.specs.Shown.{AreDistinct, ArePlaced, IsHiddenAt, IsOther, IsVisible}
+use Rattle.note_flow.specs.Shown.{AreDistinct, ArePlaced, IsHiddenAt, IsLeastAt, IsOther, IsVisible}
 use Rattle.hiding_changes.specs.declared.causes.Cause as declared-cause
 use Rattle.hiding_changes.specs.declared.causes.Cause.TheVariants as cause
 use Rattle.currency.specs.declared.telling.Told as declared-told
@@ -29,9 +29,9 @@ use Rattle.currency.specs.declared.verdict.PlaceVerdict as declared-row
 abbrev pub told_at : declared-places.ToldPlaces → (p : ℕ) → List declared-variable.ToldVariable
 told_at all p = option_map_or (λ v. v.items) (slice_get all.by_place.items p) []
 
--- A recipe that is told is that of the last note, and where none is, none shows the value.
+-- A recipe that is told is that of the last note, with the change beside it, and where none is, none shows the value.
 abbrev pub IsRecipeOf : declared-told.Told → Option declared-last.LastNote → Type 0
-IsRecipeOf (told.Recovered r c) last = (l : declared-last.LastNote) × (last ≡ Some l) × (recipe_view r.now ≡ recipe_view l.recipe.now)
+IsRecipeOf (told.Recovered r c) last = (l : declared-last.LastNote) × (last ≡ Some l) × (recipe_view r.now ≡ recipe_view l.recipe.now) × (l.change ≡ Some c)
 IsRecipeOf (told.Hidden cause) last = last ≡ None
 
 -- a verdict tells what hides a scalar
@@ -43,7 +43,7 @@ IsCauseOf (cause.Reused c start w) v = v ≡ verdict.Nonresident c (record { 0 =
 -- a verdict tells what is told
 abbrev pub IsVerdictOf : declared-told.Told → declared-verdict.Verdict → Type 0
 IsVerdictOf t verdict.Home = ⊥
-IsVerdictOf (told.Recovered r c) (verdict.Recovered s d) = recipe_view r.now ≡ recipe_view s
+IsVerdictOf (told.Recovered r c) (verdict.Recovered s d) = (recipe_view r.now ≡ recipe_view s) × (c ≡ d)
 IsVerdictOf (told.Hidden cause) (verdict.Recovered s d) = ⊥
 IsVerdictOf (told.Hidden cause) (verdict.Noncurrent c p w) = IsCauseOf cause (verdict.Noncurrent c p w)
 IsVerdictOf (told.Hidden cause) (verdict.Nonresident c p w) = IsCauseOf cause (verdict.Nonresident c p w)
@@ -93,16 +93,18 @@ pub record IsSomethingTold (all : declared-places.ToldPlaces) (p variable : ℕ)
   pub among : Among t (told_at all p)
   pub of : t.var.0 ≡ variable
 
--- a recipe that is told gives the variable's value on all paths of a function, of which it is a scalar, and is not its own value; where none is told, none does, if numbers tell homes apart
-abbrev pub IsToldRight : List Home → Graph → (p : ℕ) → declared-variable.ToldVariable → declared-told.Told → Type 0
-IsToldRight homes g p t (told.Recovered r c) = (x : ℕ) → IsVariable g x t.var.0 → HoldsOnAllPaths (home_in homes) g p x (recipe_view r.now) × IsOther g p x (recipe_view r.now)
-IsToldRight homes g p t (told.Hidden cause) = AreDistinct homes → (x : ℕ) → IsVariable g x t.var.0 → IsHiddenAt (home_in homes) g p x
+-- A recipe that is told gives the variable's value on all paths of a function, of which it is a scalar, and is not its own value, and its change is the least of those where its notes
+-- stand; where none is told, none does, if numbers tell homes apart.
+abbrev pub IsToldRight : List Logged → List Home → Graph → (p : ℕ) → declared-variable.ToldVariable → declared-told.Told → Type 0
+IsToldRight log homes g p t (told.Recovered r c) =
+    (x : ℕ) → IsVariable g x t.var.0 → HoldsOnAllPaths (home_in homes) g p x (recipe_view r.now) × IsOther g p x (recipe_view r.now) × IsLeastAt log g p x (Some c)
+IsToldRight log homes g p t (told.Hidden cause) = AreDistinct homes → (x : ℕ) → IsVariable g x t.var.0 → IsHiddenAt (home_in homes) g p x
 
 -- What is told of a function: of each scalar that is visible at a place, its own value holds on all paths, or something is told of it; and what is told is right.
-pub record IsFunctionTold (homes : List Home) (g : Graph) (number : ℕ) (table : declared-table.PlaceTable) (old new : declared-places.ToldPlaces) : Type 0 where
+pub record IsFunctionTold (log : List Logged) (homes : List Home) (g : Graph) (number : ℕ) (table : declared-table.PlaceTable) (old new : declared-places.ToldPlaces) : Type 0 where
   pub placed : ArePlaced g number table
   pub kept : (p : ℕ) (t : declared-variable.ToldVariable) → Among t (told_at old p) → Among t (told_at new p)
-  pub only : (p : ℕ) (t : declared-variable.ToldVariable) → Among t (told_at new p) → Among t (told_at old p) ⊎ (IsPlaceOf table number p × IsToldRight homes g p t t.told)
+  pub only : (p : ℕ) (t : declared-variable.ToldVariable) → Among t (told_at new p) → Among t (told_at old p) ⊎ (IsPlaceOf table number p × IsToldRight log homes g p t t.told)
   pub own : (p x variable : ℕ) → IsVariable g x variable → IsVisible table p variable → HoldsOnAllPaths (home_in homes) g p x (Of (Name x)) ⊎ IsSomethingTold new p variable
 
 -- of a variable nothing is told

@@ -2,9 +2,10 @@
 
 ghost use Rattle.std.specs.Prelude.{◌≡◌, ◌++◌, ℕ, IfOk, IfSome, MatchOption, get_or, map, true};
 ghost use Rattle.homed_unit.specs.Homed.{homed_view};
+ghost use Rattle.removed_changes.specs.Telling.{AreToldOf as AreRemovalsTold};
 ghost use Rattle.currency.specs.Telling.{AreRowsTold, AreSlotted, AreTold, IsNoneTold, IsToldOf, IsVerdictOn, told_at};
 ghost use Rattle.currency.specs.Named.{AreNamed};
-ghost use Rattle.currency.specs.Sound.{AreApart, AreHidden, AreHome, AreOnly, AreRecovered, AreSo};
+ghost use Rattle.currency.specs.Sound.{AreApart, AreHidden, AreHome, AreLeast, AreOnly, AreRecovered, AreSo};
 ghost use Rattle.currency.specs.Written.{AreWritten};
 ghost use Rattle.currency.specs.Evident.{AreEvident, AreToldEvident};
 ghost use Rattle.currency.specs.Visible.{sight, sights_at, sights_from};
@@ -17,8 +18,8 @@ use crate::written::are_written;
 use debug_records::{Place, Var};
 use hiding_changes::Teller;
 use homed_unit::HomedUnit;
-use note_state::Removals;
 use places::{FlowTable, PlaceTable};
+use removed_changes::RemovedChanges;
 use std::alloc::{AllocError, Global};
 
 /// Puts for each variable of which something is told at a place the number of what is told, from 1 on. Tells whether each has a slot.
@@ -141,10 +142,11 @@ fn variable_count(homed: &HomedUnit) -> usize {
 fn told_of_all<'a>(
     alloc: Global,
     homed: &'a HomedUnit,
-    removals: &'a Removals,
+    removed: &'a RemovedChanges,
     places: &PlaceTable,
     flow: &FlowTable,
 ) -> Result<Option<ToldPlaces<'a>>, AllocError>
+    requires removed { AreRemovalsTold (homed_view homed.now).unit.log removed.now }
     ensures so { IfOk result (λ o. IfSome o (λ told. AreSo (homed_view homed.now) places.now told)) }
     ensures evident { IfOk result (λ o. IfSome o (λ told. AreToldEvident (homed_view homed.now).unit.log flow.now (homed_view homed.now) told)) }
 {
@@ -156,7 +158,7 @@ fn told_of_all<'a>(
     let mut told = ToldPlaces::new(alloc, count)?;
     let unit = Surroundings {
         changes,
-        removals,
+        removed,
         places,
     };
     let graphs = &homed.unit.graphs;
@@ -183,8 +185,9 @@ fn told_of_all<'a>(
 ///
 /// The places and their flow are the unit's, and its homes are those that are assigned by rule. None where a variable is not shown and nothing hides it, or a recipe
 /// shows its value and no change removed an assignment of it, or what was found of paths is not borne out (`not_shown` of `note_flow`), or the log has not the change that a
-/// verdict names, or what it says to write a home does not, or the changes do not stand in the order of their numbers, or a name that is written has no home, or what assigns a hidden
-/// variable or writes its home stands in no place of the table, which no unit that the passes make of a program is known to meet. The only error is want of memory.
+/// verdict names, or what it says to write a home does not, or the changes do not stand in the order of their numbers, or there are 2^32 - 1 of them or more, or a name
+/// that is written has no home, or what assigns a hidden variable or writes its home stands in no place of the table, which no unit that the passes make of a program is
+/// known to meet. The only error is want of memory.
 pub fn verdicts(
     alloc: Global,
     homed: &HomedUnit,
@@ -196,14 +199,17 @@ pub fn verdicts(
     ensures recovered { IfOk result (λ o. IfSome o (λ v. AreRecovered (homed_view homed.now) v.items)) }
     ensures apart { IfOk result (λ o. IfSome o (λ v. AreApart (homed_view homed.now) v.items)) }
     ensures only { IfOk result (λ o. IfSome o (λ v. AreOnly (homed_view homed.now) v.items)) }
+    ensures least { IfOk result (λ o. IfSome o (λ v. AreLeast (homed_view homed.now) v.items)) }
     ensures hidden { IfOk result (λ o. IfSome o (λ v. AreHidden (homed_view homed.now) v.items)) }
     ensures named { IfOk result (λ o. IfSome o (λ v. AreNamed (homed_view homed.now).unit.log v.items)) }
     ensures written { IfOk result (λ o. IfSome o (λ v. AreWritten (homed_view homed.now) v.items)) }
     ensures evident { IfOk result (λ o. IfSome o (λ v. AreEvident (homed_view homed.now).unit.log flow.now (homed_view homed.now) v.items)) }
 {
     let changes = homed.unit.log.changes();
-    let removals = Removals::new(alloc, changes)?;
-    let Some(told) = told_of_all(alloc, homed, &removals, places, flow)? else {
+    let Some(removed) = RemovedChanges::new(alloc, changes)? else {
+        return Ok(None);
+    };
+    let Some(told) = told_of_all(alloc, homed, &removed, places, flow)? else {
         return Ok(None);
     };
     let Some(rows) = rows_of(alloc, places, &told, variable_count(homed))? else {

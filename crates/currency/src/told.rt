@@ -1,7 +1,8 @@
 //! What is told at places.
 
-ghost use Rattle.std.specs.Prelude.{◌≡◌, ◌<◌, ◌≤◌, ℕ, IfOk, IfSome, OnOk, [], length, true};
-ghost use Rattle.graph_core.specs.Graphs.{graph_view};
+ghost use Rattle.std.specs.Prelude.{◌≡◌, ◌<◌, ◌≤◌, ℕ, IfOk, IfSome, List, OnOk, [], length, true};
+ghost use Rattle.graph_core.specs.Graphs.{Logged, graph_view};
+ghost use Rattle.removed_changes.specs.Telling.{AreToldOf as AreRemovalsTold};
 ghost use Rattle.note_state.specs.Homes.{home_in};
 ghost use Rattle.hiding_changes.specs.Changes.{log_of};
 ghost use Rattle.hiding_changes.specs.Found.{TellsBy, TellsFor, IsFunction, IsReady, IsSameFunction, IsSameTeller, IsTeller};
@@ -14,8 +15,8 @@ use graph_core::{Graph, Scalar};
 use graph_homes::Home;
 use hiding_changes::{Function, Teller};
 use note_flow::{Unshown, not_shown};
-use note_state::Removals;
 use places::PlaceTable;
+use removed_changes::RemovedChanges;
 use std::alloc::{AllocError, Global};
 
 /// Whether one of these is shown by no recipe.
@@ -59,7 +60,7 @@ fn told_of<'a>(
 #[derive(Drop)]
 pub struct Surroundings<'a, 'b> {
     pub changes: &'b [Change],
-    pub removals: &'a Removals,
+    pub removed: &'a RemovedChanges,
     pub places: &'b PlaceTable,
 }
 
@@ -220,12 +221,11 @@ impl<'a> ToldPlaces<'a> {
     ) -> Result<bool, AllocError>
         requires { IsTeller teller.old }
         ensures teller { OnOk result (IsSameTeller teller.old teller.new) }
-        ensures told { IfOk result (λ b. b ≡ true → IsFunctionTold homes.now (graph_view graph.now) number unit.now.places.now self.old self.new) }
+        ensures told { IfOk result (λ b. b ≡ true → (log : List Logged) → AreRemovalsTold log unit.now.removed.now → IsFunctionTold log homes.now (graph_view graph.now) number unit.now.places.now self.old self.new) }
         ensures hiding { IfOk result (λ b. b ≡ true → AreNew (IsHidingIn (log_of teller.old.changes) teller.old.search.flow.table.now (home_in homes.now) number (graph_view graph.now)) self.old self.new) }
     {
-        let (changes, removals, places) = (unit.changes, unit.removals, unit.places);
-        let Some(unshown) = not_shown(alloc, number, graph, homes, changes, removals, places)?
-        else {
+        let (changes, removed, places) = (unit.changes, unit.removed, unit.places);
+        let Some(unshown) = not_shown(alloc, number, graph, homes, changes, removed, places)? else {
             return Ok(false);
         };
         let count = places.rows.len().saturating_add(1);

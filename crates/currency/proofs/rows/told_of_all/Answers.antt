@@ -27,7 +27,7 @@ loop-f-preserved c =
     let h = c.args.homed.now in
     record {
       so = told_next_any h c.args.places.now c.loop-f.told c.add_function.new.self c.loop-f.f c.loop-f.number c.index-graph.result.now c.index-names.result.now c.deref.result.now (omega arith) (omega arith) c.index-graph.ensures (omega arith) c.index-names.ensures c.deref.ensures.value
-          known.so (said.told done);
+          known.so (said.told done (homed_view h).unit.log c.requires.removed);
       teller = said.teller.teller;
       log = ap (λ (all : List Change). map logged all) said.teller.changes ∙ known.log;
       flow = said.teller.flow ∙ known.flow;

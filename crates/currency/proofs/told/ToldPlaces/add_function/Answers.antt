@@ -2,10 +2,11 @@ use Rattle.std.proofs.Common.{◌≡◌, List, subst}
 use Rattle.std.specs.Prelude.{IfSome}
 use Rattle.std.specs.Global.{Vec}
 use Rattle.graph_core.specs.declared.graph.Scalar as declared-scalar
-use Rattle.graph_core.specs.Graphs.{graph_view}
+use Rattle.graph_core.specs.Graphs.{Logged, graph_view}
+use Rattle.removed_changes.specs.Telling.{AreToldOf}
 use Rattle.note_state.specs.Homes.{home_in}
 use Rattle.note_flow.specs.declared.found.Unshown as declared-unshown
-use Rattle.note_flow.specs.Shown.{AreDifferent, AreDistinct, AreHidden, AreOther, AreOwn, ArePlaced, AreRecipes, AreTheirs}
+use Rattle.note_flow.specs.Shown.{AreDifferent, AreDistinct, AreHidden, AreLeast, AreOther, AreOwn, ArePlaced, AreRecipes, AreTheirs}
 use Rattle.currency.specs.Telling.{AreToldAll}
 use Rattle.hiding_changes.specs.declared.function.Function as declared-function
 use Rattle.currency.specs.Evident.{AreNew, IsHidingScalar}
@@ -14,7 +15,7 @@ use Rattle.currency.proofs.Hiding.{hiding_in}
 use Rattle.currency.proofs.told.ToldPlaces.add_function.Goals as goal
 
 pub returns-clause-told : goal.returns-clause-told
-returns-clause-told c = λ e.
+returns-clause-told c = λ e log told.
     (let g = c.args.graph.now in
     let home = home_in c.args.homes.now in
     let table = c.args.unit.now.places.now in
@@ -25,11 +26,12 @@ returns-clause-told c = λ e.
     let all : AreToldAll old new g.scalars.items found.items =
     subst (λ (scalars : List declared-scalar.Scalar). AreToldAll old new scalars found.items) c.deref.ensures.value
     (subst (λ (entries : List (Vec declared-unshown.Unshown)). AreToldAll old new c.deref.result.now entries) c.deref-2.ensures.value (c.in_ok-add_scalars.ensures.told e)) in
-    function_told g c.args.homes.now c.args.number table old new found.items (subst (λ o. IfSome o (λ f. ArePlaced (graph_view g) c.args.number table)) c.in-Some.is said.placed)
+    function_told log g c.args.homes.now c.args.number table old new found.items (subst (λ o. IfSome o (λ f. ArePlaced (graph_view g) c.args.number table)) c.in-Some.is said.placed)
     (subst (λ o. IfSome o (λ f. AreTheirs f.items c.args.number table)) c.in-Some.is said.theirs) (subst (λ o. IfSome o (λ f. AreDifferent (graph_view g))) c.in-Some.is said.different)
     (subst (λ o. IfSome o (λ f. AreOwn home (graph_view g) table f.items)) c.in-Some.is said.own) (subst (λ o. IfSome o (λ f. AreRecipes home (graph_view g) f.items)) c.in-Some.is said.recipe)
     (subst (λ o. IfSome o (λ f. AreOther (graph_view g) f.items)) c.in-Some.is said.other)
-    (subst (λ o. IfSome o (λ f. AreDistinct c.args.homes.now → AreHidden home (graph_view g) f.items)) c.in-Some.is said.hidden) all)
+    (subst (λ o. IfSome o (λ f. AreDistinct c.args.homes.now → AreHidden home (graph_view g) f.items)) c.in-Some.is said.hidden)
+    (subst (λ o. IfSome o (λ f. (all : List Logged) → AreToldOf all c.args.unit.now.removed.now → AreLeast all (graph_view g) f.items)) c.in-Some.is said.least log told) all)
 
 pub returns-clause-hiding : goal.returns-clause-hiding
 returns-clause-hiding c = λ e.
