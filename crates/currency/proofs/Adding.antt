@@ -6,7 +6,7 @@ use Rattle.std.specs.Global.{Vec}
 use Rattle.std.proofs.lemmas.Bool.Decides.{eqb_tells}
 use Rattle.debug_records.specs.declared.change.Var as declared-var
 use Rattle.graph_core.specs.Paths.{Among, front}
-use Rattle.note_state.proofs.Lists.{among_left, among_one, among_parts, among_right, get_put_other, get_put_same}
+use Rattle.numbered_homes.proofs.Lists.{among_left, among_one, among_parts, among_right, get_put_other, get_put_same}
 use Rattle.hiding_changes.specs.declared.causes.Cause as declared-cause
 use Rattle.home_writers.specs.declared.writers.Writer as declared-writer
 use Rattle.currency.specs.declared.telling.Told as declared-told

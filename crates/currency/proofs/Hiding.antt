@@ -8,7 +8,7 @@ use Rattle.debug_records.specs.declared.change.Change.{Change}
 use Rattle.graph_homes.specs.declared.home.Home.{Home}
 use Rattle.graph_core.specs.declared.graph.Graph as declared-graph
 use Rattle.graph_core.specs.Graphs.{Scalar, graph_view, logged, scalar_view}
-use Rattle.note_state.specs.Homes.{home_in}
+use Rattle.numbered_homes.specs.Homes.{home_in}
 use Rattle.debug_records.specs.declared.change.Var as declared-var
 use Rattle.graph_core.specs.declared.graph.Scalar as declared-scalar
 use Rattle.hiding_changes.specs.declared.causes.Cause as declared-cause

@@ -14,8 +14,8 @@ use Rattle.graph_core.specs.Graphs.{Graph, Logged, Of, Name, Recipe, Is, NoteVal
 use Rattle.graph_core.specs.Paths.{Among}
 use Rattle.graph_core.specs.WellMarked.{IsVariable}
 use Rattle.homed_unit.specs.Homed.{HomedForm, home_of, homes_in}
-use Rattle.note_state.specs.Homes.{home_in}
-use Rattle.note_state.proofs.Lists.{among_at, among_parts, among_one, drop_end, drop_more, get_among, get_any, take_whole}
+use Rattle.numbered_homes.specs.Homes.{home_in}
+use Rattle.numbered_homes.proofs.Lists.{among_at, among_parts, among_one, drop_end, drop_more, get_among, get_any, take_whole}
 use Rattle.std.proofs.lemmas.List.{take_more}
 use Rattle.currency.specs.Visible.{Sight, next, sight, sights_at, sights_from}
 use Rattle.note_flow.specs.Shown.{AreDistinct, IsHiddenAt, IsLeastAt, IsOther, IsVisible}

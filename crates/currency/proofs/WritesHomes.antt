@@ -15,7 +15,7 @@ use Rattle.graph_core.specs.WellMarked.{IsVariable}
 use Rattle.homed_unit.specs.declared.homed.FunctionHomes as declared-homes
 use Rattle.homed_unit.specs.declared.homed.HomedUnit as declared-homed
 use Rattle.homed_unit.specs.Homed.{HomedForm, home_of, homed_view}
-use Rattle.note_state.specs.Homes.{home_in}
+use Rattle.numbered_homes.specs.Homes.{home_in}
 use Rattle.home_writers.specs.declared.writers.Writer as declared-writer
 use Rattle.home_writers.specs.declared.writers.Writer.TheVariants as writer
 use Rattle.currency.specs.declared.verdict.PlaceVerdict as declared-row

@@ -3,7 +3,7 @@
 ghost use Rattle.std.specs.Prelude.{◌≡◌, ◌<◌, ◌≤◌, ℕ, IfOk, IfSome, List, OnOk, [], length, true};
 ghost use Rattle.graph_core.specs.Graphs.{Logged, graph_view};
 ghost use Rattle.removed_changes.specs.Telling.{AreToldOf as AreRemovalsTold};
-ghost use Rattle.note_state.specs.Homes.{home_in};
+ghost use Rattle.numbered_homes.specs.Homes.{home_in};
 ghost use Rattle.hiding_changes.specs.Changes.{log_of};
 ghost use Rattle.hiding_changes.specs.Found.{TellsBy, TellsFor, IsFunction, IsReady, IsSameFunction, IsSameTeller, IsTeller};
 ghost use Rattle.currency.specs.Evident.{AreNew, IsHiding, IsHidingIn, IsHidingOn, IsHidingScalar};

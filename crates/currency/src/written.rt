@@ -5,7 +5,7 @@ ghost use Rattle.graph_homes.specs.Homes.{is_same_home};
 ghost use Rattle.graph_core.specs.Graphs.{graph_view};
 ghost use Rattle.graph_core.specs.declared.graph.Scalar as declared-scalar;
 ghost use Rattle.homed_unit.specs.Homed.{homed_view};
-ghost use Rattle.note_state.specs.Homes.{home_in};
+ghost use Rattle.numbered_homes.specs.Homes.{home_in};
 ghost use Rattle.currency.specs.Written.{AreWritten, IsWritten, Writes, WritesHome, function_of};
 
 use crate::verdict::{PlaceVerdict, Verdict};

@@ -11,10 +11,10 @@ use Rattle.graph_homes.specs.declared.home.Home.TheVariants.{Register, Slot}
 use Rattle.graph_homes.specs.Homes.{is_same_home}
 use Rattle.graph_homes.specs.Reused.{IsTemporaryOf, first_copy}
 use Rattle.graph_core.specs.Graphs.{Logged, graph_view, logged}
-use Rattle.note_state.specs.Homes.{home_in, number_at}
+use Rattle.numbered_homes.specs.Homes.{home_in, number_at}
 use Rattle.flow_ways.specs.Marks.{number_at as mark_of}
 use Rattle.flow_ways.specs.declared.marks.Marks as declared-marks
-use Rattle.note_state.proofs.Lists.{at_among, take_whole}
+use Rattle.numbered_homes.proofs.Lists.{at_among, take_whole}
 use Rattle.home_writers.specs.declared.writers.Writer as declared-writer
 use Rattle.home_writers.specs.declared.writers.Writers as declared-writers
 use Rattle.home_writers.specs.declared.writers.Write as declared-write

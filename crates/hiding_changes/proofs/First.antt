@@ -11,8 +11,8 @@ use Rattle.debug_records.specs.declared.change.Kind.TheVariants.{Moved, Removed}
 use Rattle.graph_core.specs.Graphs.{Logged, graph_view, logged}
 use Rattle.graph_core.specs.declared.graph.Graph as declared-graph
 use Rattle.graph_homes.specs.Reused.{IsTemporaryOf, first_copy}
-use Rattle.note_state.specs.Homes.{home_in}
-use Rattle.note_state.proofs.Lists.{take_whole}
+use Rattle.numbered_homes.specs.Homes.{home_in}
+use Rattle.numbered_homes.proofs.Lists.{take_whole}
 use Rattle.flow_ways.specs.declared.search.Search as declared-search
 use Rattle.flow_ways.specs.Marks.{number_at}
 use Rattle.flow_ways.specs.Flow.{ComesOn, assigned}

@@ -23,7 +23,7 @@ use Rattle.hiding_changes.specs.declared.causes.Cause.TheVariants as cause
 use Rattle.hiding_changes.specs.declared.causes.Found as declared-found
 use Rattle.hiding_changes.specs.declared.causes.Causes as declared-causes
 use Rattle.debug_records.specs.Change.{letters}
-use Rattle.note_state.specs.Homes.{home_in}
+use Rattle.numbered_homes.specs.Homes.{home_in}
 use Rattle.home_writers.specs.Order.{IsNoLater}
 use Rattle.home_writers.specs.Writers.{HaveOneHome, Writes}
 use Rattle.home_writers.proofs.Order.{no_later_same}

@@ -10,7 +10,7 @@ use Rattle.debug_records.specs.declared.change.Kind.TheVariants.{Reused}
 use Rattle.debug_records.specs.Change.{letters}
 use Rattle.graph_core.specs.Graphs.{Logged, logged}
 use Rattle.graph_core.specs.Paths.{Among}
-use Rattle.note_state.proofs.Lists.{among_at, take_whole}
+use Rattle.numbered_homes.proofs.Lists.{among_at, take_whole}
 use Rattle.flow_ways.specs.Lists.{entries_of}
 use Rattle.hiding_changes.specs.declared.changes.Changes as declared-changes
 use Rattle.hiding_changes.specs.Changes.{AreFound, AreListed, IsLastSharing, IsListed, IsNotBefore, IsNumbered, IsSharing, homes_name, log_of}

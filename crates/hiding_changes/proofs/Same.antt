@@ -3,7 +3,7 @@ use Rattle.std.proofs.Common.{◌≡◌, ℕ, List, map, subst}
 use Rattle.places.specs.declared.flow.FlowTable.{FlowTable}
 use Rattle.debug_records.specs.declared.change.Change.{Change}
 use Rattle.graph_core.specs.Graphs.{graph_view, logged}
-use Rattle.note_state.specs.Homes.{home_in}
+use Rattle.numbered_homes.specs.Homes.{home_in}
 use Rattle.home_writers.specs.declared.writers.Writers as declared-writers
 use Rattle.hiding_changes.specs.declared.function.Function as declared-function
 use Rattle.hiding_changes.specs.declared.teller.Teller as declared-teller

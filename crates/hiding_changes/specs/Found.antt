@@ -5,7 +5,7 @@ use Rattle.debug_records.specs.declared.change.Kind.{Kind}
 use Rattle.debug_records.specs.declared.change.Kind.TheVariants.{Moved}
 use Rattle.graph_homes.specs.Reused.{IsTemporaryOf, first_copy}
 use Rattle.graph_core.specs.Graphs.{Logged, graph_view}
-use Rattle.note_state.specs.Homes.{home_in}
+use Rattle.numbered_homes.specs.Homes.{home_in}
 use Rattle.flow_ways.specs.Marks.{number_at}
 use Rattle.flow_ways.specs.Flow.{ComesOn, IsClosed, IsFlow}
 use Rattle.flow_ways.specs.Starts.{IsLeastStartBy, IsStartBy, IsTurned}

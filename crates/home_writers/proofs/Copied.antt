@@ -13,7 +13,7 @@ use Rattle.graph_core.specs.Graphs.{Name, Constant, StaticAddress, Instruction, 
 use Rattle.graph_core.specs.Validity.{place_behind}
 use Rattle.graph_core.specs.Points.{is_place}
 use Rattle.graph_homes.specs.Reused.{first_among, first_copy, or_else}
-use Rattle.note_state.proofs.Lists.{get_put_other, get_put_same, take_whole}
+use Rattle.numbered_homes.proofs.Lists.{get_put_other, get_put_same, take_whole}
 use Rattle.home_writers.specs.declared.copies.Copied as declared-copied
 use Rattle.home_writers.specs.declared.copies.Copies as declared-copies
 use Rattle.home_writers.specs.Copies.{AreCopied, AreCopies, copies_to, first_of}

@@ -8,7 +8,7 @@ use Rattle.std.proofs.lemmas.Bool.Decides.{eqb_tells}
 use Rattle.std.proofs.lemmas.List.Elements.{All-nil, All-push, All-weaker, Contains-append_left, Contains-push}
 use Rattle.std.proofs.lemmas.List.Sorted.{All-permutation, Contains-permutation, IsPermutation-refl}
 use Rattle.std.proofs.lemmas.Option.{none-some, same_Some, slice_get_within}
-use Rattle.note_state.specs.Homes.{home_in, number_at}
+use Rattle.numbered_homes.specs.Homes.{home_in, number_at}
 use Rattle.graph_homes.specs.declared.home.Home.{Home}
 use Rattle.home_writers.specs.declared.writers.Writers as declared-writers
 use Rattle.home_writers.specs.declared.writers.Written as declared-written

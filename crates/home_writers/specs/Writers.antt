@@ -8,7 +8,7 @@ use Rattle.graph_core.specs.Graphs.{Instruction, Block, End, Graph, ToScalar, gr
 use Rattle.graph_core.specs.Uses.{target_of}
 use Rattle.graph_core.specs.Points.{StandsWith}
 use Rattle.graph_core.specs.Validity.{place_behind}
-use Rattle.note_state.specs.Homes.{home_in, number_at}
+use Rattle.numbered_homes.specs.Homes.{home_in, number_at}
 use Rattle.home_writers.specs.declared.writers.Writer as declared-writer
 use Rattle.home_writers.specs.declared.writers.Writer.TheVariants as writer
 use Rattle.home_writers.specs.declared.writers.Written as declared-written

@@ -5,7 +5,7 @@ ghost use Rattle.std.specs.List.Sorted.{IsPermutation};
 ghost use Rattle.graph_homes.specs.Homes.{is_same_home};
 ghost use Rattle.graph_core.specs.Graphs.{ToScalar, binding_view, graph_view, instruction_view};
 ghost use Rattle.graph_core.specs.Uses.{target_of};
-ghost use Rattle.note_state.specs.Homes.{home_in};
+ghost use Rattle.numbered_homes.specs.Homes.{home_in};
 ghost use Rattle.home_writers.specs.declared.writers.Written as declared-written;
 ghost use Rattle.home_writers.specs.declared.writers.Writer.TheVariants.{Binding as BindingOf};
 ghost use Rattle.home_writers.specs.Order.{IsNoLater, rank_of};
@@ -14,7 +14,7 @@ ghost use Rattle.home_writers.specs.Writers.{AreBindings, AreBlocks, AreInstruct
 use debug_records::Place;
 use graph_core::{Binding, Block, Graph, Instr};
 use graph_homes::Home;
-use note_state::{home_count, home_number};
+use numbered_homes::{home_count, home_number};
 use std::alloc::{AllocError, Global};
 
 /// What writes the home of a name.

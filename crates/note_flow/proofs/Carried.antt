@@ -10,7 +10,7 @@ use Rattle.graph_core.specs.Uses.{targets_of}
 use Rattle.note_state.specs.declared.state.State as declared-state
 use Rattle.note_state.specs.Full.{IsEqual}
 use Rattle.note_state.specs.Sources.{place_where}
-use Rattle.note_state.proofs.Lists.{among_one}
+use Rattle.numbered_homes.proofs.Lists.{among_one}
 use Rattle.note_flow.specs.declared.found.Found as declared-found
 use Rattle.note_flow.specs.declared.survey.Survey as declared-survey
 use Rattle.note_flow.specs.Survey.{comes_to, AreFirst, IsWithinSome, AreChainsSound, IsChainSound, IsFound, IsSound, IsStartWithin, IsStep}

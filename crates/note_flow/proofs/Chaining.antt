@@ -1,6 +1,6 @@
 -- Chains are linked, and what comes to their blocks is full.
 use Rattle.std.proofs.Common.{◌≡◌, inl, inr, ℕ, zero, suc, ◌+◌, ◌<◌, ◌≤◌, Option, Some, None, List, [], ◌∷◌, ◌++◌, length, get_or, refl, sym, ap, subst, ◌∙◌, arith}
-use Rattle.std.specs.Prelude.{slice_get, slice_set, option_map, IfSome, ◌⊎◌}
+use Rattle.std.specs.Prelude.{slice_get, slice_set, option_map, IfSome}
 use Rattle.std.specs.Option.{option_map_or}
 use Rattle.std.specs.Global.{Vec}
 use Rattle.std.proofs.lemmas.Bool.Decides.{eqb_tells}
@@ -15,7 +15,7 @@ use Rattle.note_state.specs.Full.{IsEqual}
 use Rattle.note_state.specs.Notes.{IsJoined}
 use Rattle.note_state.proofs.Filling.{full_equal, full_joined, full_next}
 use Rattle.note_state.proofs.Sourcing.{attained_equal, attained_joined, attained_next}
-use Rattle.note_state.proofs.Lists.{among_one, among_parts, get_put_other, get_put_same}
+use Rattle.numbered_homes.proofs.Lists.{among_one, among_parts, get_put_other, get_put_same}
 use Rattle.note_flow.specs.declared.states.States as declared-states
 use Rattle.note_flow.specs.Survey.{comes_to, AreEqualAll}
 use Rattle.note_flow.specs.Chains.{last_in, AreFull, AreLinked, IsComeTo, IsFullAtEnd, IsFullAtStart, IsLinked, IsWholeAt, LeadsTo}

@@ -3,11 +3,12 @@ use Rattle.std.proofs.Common.{◌≡◌, ℕ, ◌<◌, Option, Some, None, List,
 use Rattle.std.specs.Global.{Vec}
 use Rattle.graph_homes.specs.Homes.{HoldsOnAllPaths}
 use Rattle.graph_core.specs.Graphs.{Instruction, Marker, Recipe, Of, Name, Graph, End, graph_view}
-use Rattle.note_state.specs.declared.homes.Homes as declared-homes
+use Rattle.numbered_homes.specs.declared.homes.Homes as declared-homes
 use Rattle.note_state.specs.declared.state.State as declared-state
-use Rattle.note_state.specs.Homes.{home_by, number_at}
+use Rattle.numbered_homes.specs.Homes.{home_by, number_at}
 use Rattle.note_state.specs.Notes.{recipe_in, AreHeld}
-use Rattle.note_state.specs.Full.{AreExact, IsFullAt, IsNoteIn}
+use Rattle.numbered_homes.specs.Numbered.{IsNoteIn}
+use Rattle.note_state.specs.Full.{AreExact, IsFullAt}
 use Rattle.note_state.proofs.Filling.{full_equal, full_next, full_step, path_note}
 use Rattle.note_flow.specs.declared.found.LastNote as declared-last
 use Rattle.note_flow.specs.declared.found.Found as declared-found

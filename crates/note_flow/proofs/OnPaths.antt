@@ -1,37 +1,32 @@
 -- What a walk bears out is so on all paths.
-use Rattle.std.proofs.Common.{◌≡◌, inl, inr, ℕ, Bool, true, false, Option, Some, None, List, [], ◌∷◌, length, map, get_or, refl, sym, ap, subst, ◌∙◌}
-use Rattle.std.specs.Prelude.{slice_get, option_map, ◌⊎◌}
+use Rattle.std.proofs.Common.{◌≡◌, inl, inr, ℕ, Option, Some, None, List, [], ◌∷◌, length, map, refl, sym, ap, subst, ◌∙◌}
+use Rattle.std.specs.Prelude.{slice_get, option_map}
 use Rattle.std.specs.Global.{Vec}
 use Rattle.std.proofs.lemmas.Option.{none-some, same_Some, slice_get-map}
-use Rattle.graph_homes.specs.declared.home.Home.{Home}
-use Rattle.graph_homes.specs.Homes.{Holds, HoldsOnAllPaths}
 use Rattle.places.specs.declared.table.PlaceRow as declared-row
-use Rattle.debug_records.specs.declared.change.Var as declared-var
 use Rattle.graph_core.specs.declared.graph.Scalar as declared-scalar
 use Rattle.graph_core.specs.declared.block.Block as declared-block
-use Rattle.graph_core.specs.Graphs.{Instruction, Marker, Binding, Scalar, Block, Graph, End, Logged, Jump, Branch, Return, Of, Name, block_view, binding_view, graph_view, instruction_view, end_view, recipe_view, scalar_view}
-use Rattle.graph_core.specs.Paths.{Among, History, Passed, Path, Way, path, stays, passes, goes}
+use Rattle.graph_core.specs.Graphs.{Instruction, Marker, Scalar, Block, Graph, End, Logged, Jump, Of, Name, block_view, binding_view, graph_view, recipe_view, scalar_view}
+use Rattle.graph_core.specs.Paths.{Among, History, Path, Way, path, stays, passes, goes}
 use Rattle.graph_core.specs.Uses.{targets_of}
 use Rattle.graph_core.specs.WellMarked.{IsVariable}
-use Rattle.note_state.specs.declared.homes.Homes as declared-homes
+use Rattle.numbered_homes.specs.declared.homes.Homes as declared-homes
 use Rattle.note_state.specs.declared.state.State as declared-state
-use Rattle.note_state.specs.Notes.{IsSo, IsWithin}
-use Rattle.note_state.specs.Homes.{home_by}
-use Rattle.note_state.proofs.Lists.{among_one}
+use Rattle.note_state.specs.Notes.{IsSo}
+use Rattle.numbered_homes.specs.Homes.{home_by}
+use Rattle.numbered_homes.proofs.Lists.{among_one}
 use Rattle.note_state.proofs.Filling.{within_equal}
 use Rattle.note_state.proofs.Steps.{shown_by, so_within}
 use Rattle.note_state.proofs.Sourcing.{least_first, least_step, least_within}
 use Rattle.note_state.specs.Sources.{IsLeastTold}
 use Rattle.removed_changes.specs.Telling.{AreToldOf}
 use Rattle.graph_core.specs.declared.value.Value.{Value}
-use Rattle.note_flow.specs.declared.found.LastNote as declared-last
-use Rattle.note_flow.specs.declared.found.Unshown as declared-unshown
 use Rattle.note_flow.specs.declared.found.Found as declared-found
 use Rattle.note_flow.specs.declared.survey.Survey as declared-survey
 use Rattle.note_flow.specs.Numbering.{AreNumbered, scalar_in}
-use Rattle.note_flow.specs.Found.{entries_of, IsPlaceOf, Shows}
-use Rattle.note_flow.specs.Survey.{comes_to, AreFirst, IsWithinSome, AreChainsSound, IsChainSound, IsFound, IsReachedSound, IsSound, IsStartWithin, IsWithinNext}
-use Rattle.note_flow.specs.Shown.{AreDifferent, ArePlaced, IsVisible, IsNoEntry, AreOther, AreOwn, AreRecipes}
+use Rattle.note_flow.specs.Found.{Shows}
+use Rattle.note_flow.specs.Survey.{comes_to, AreFirst, IsWithinSome, AreChainsSound, IsChainSound, IsFound, IsSound, IsStartWithin}
+use Rattle.note_flow.specs.Shown.{AreDifferent, ArePlaced, AreOther, AreOwn, AreRecipes}
 
 module _ (v : declared-survey.Survey) (f : declared-found.Found) (chains : List (Vec ℕ)) (entered : declared-state.State) (first : AreFirst chains v.first.items) (sound : AreChainsSound v f chains)
     (begins : IsStartWithin v 0 entered) (so : IsSo v.function.now.homes (map binding_view v.function.now.graph.now.parameters.items) entered []) where

@@ -1,20 +1,19 @@
 -- From state to state over what is left.
-use Rattle.std.proofs.Common.{◌≡◌, inl, inr, ℕ, zero, suc, ◌+◌, ◌<◌, ◌≤◌, Bool, true, false, Option, Some, None, List, [], ◌∷◌, length, get_or, replicate, drop, map, refl, sym, ap, subst, ◌∙◌, arith, true≢false, take, ◌++◌}
+use Rattle.std.proofs.Common.{◌≡◌, inl, inr, ℕ, zero, suc, ◌+◌, ◌<◌, ◌≤◌, Bool, true, false, Some, None, List, [], ◌∷◌, length, get_or, replicate, drop, map, refl, sym, ap, subst, ◌∙◌, arith, true≢false, take, ◌++◌}
 use Rattle.std.specs.Global.{Vec}
 use Rattle.std.proofs.lemmas.Bool.Decides.{eqb_tells}
 use Rattle.std.proofs.lemmas.List.{get_or-set_other}
 use Rattle.graph_core.specs.Paths.{Among, front, behind}
-use Rattle.note_state.proofs.Lists.{among_one, drop_end, drop_more_any}
+use Rattle.numbered_homes.proofs.Lists.{among_one, drop_end, drop_more_any}
 use Rattle.std.specs.Prelude.{slice_get, slice_set, ◌⊎◌}
 use Rattle.graph_core.specs.declared.block.Block as declared-block
 use Rattle.graph_core.specs.declared.instruction.Instr as declared-instr
-use Rattle.note_flow.proofs.Adding.{found_on}
 use Rattle.graph_core.specs.Graphs.{Instruction, Marker, End, Jump, graph_view, instruction_view, end_view}
 use Rattle.note_state.specs.declared.state.State as declared-state
 use Rattle.note_state.specs.Sources.{place_where}
 use Rattle.note_flow.specs.declared.found.Found as declared-found
 use Rattle.note_flow.specs.declared.survey.Survey as declared-survey
-use Rattle.note_flow.specs.Survey.{comes_to, AreFirst, AreEqualAll, BeginsWith, IsChainSound, IsExtended, IsFound, IsReachedSound, IsSound, IsStep, IsWithinNext}
+use Rattle.note_flow.specs.Survey.{comes_to, AreFirst, AreEqualAll, BeginsWith, IsChainSound, IsFound, IsReachedSound, IsSound, IsStep, IsWithinNext}
 
 -- at first no block is flagged
 pub none_first : (n l : ℕ) → get_or (replicate n false) l false ≡ true → ⊥

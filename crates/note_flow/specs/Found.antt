@@ -7,7 +7,7 @@ use Rattle.places.specs.declared.table.PlaceTable as declared-table
 use Rattle.std.specs.Global.{Vec}
 use Rattle.graph_core.specs.Graphs.{Recipe, Of, Name, recipe_view}
 use Rattle.graph_core.specs.Paths.{Among}
-use Rattle.note_state.specs.declared.homes.Homes as declared-homes
+use Rattle.numbered_homes.specs.declared.homes.Homes as declared-homes
 use Rattle.note_state.specs.declared.state.State as declared-state
 use Rattle.note_state.specs.Notes.{recipe_in, told_in, AreHeld}
 use Rattle.note_flow.specs.declared.numbering.Numbering as declared-numbering

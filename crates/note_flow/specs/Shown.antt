@@ -9,7 +9,7 @@ use Rattle.graph_homes.specs.Homes.{HoldsOnAllPaths}
 use Rattle.graph_core.specs.Graphs.{Instruction, Marker, End, Graph, Logged, Recipe, Of, Name, recipe_view}
 use Rattle.graph_core.specs.Paths.{Among, History, Path}
 use Rattle.graph_core.specs.WellMarked.{IsVariable}
-use Rattle.note_state.specs.Homes.{home_in, number_at}
+use Rattle.numbered_homes.specs.Homes.{home_in, number_at}
 use Rattle.note_state.specs.Sources.{IsSource}
 use Rattle.note_flow.specs.declared.found.LastNote as declared-last
 use Rattle.note_flow.specs.declared.found.Unshown as declared-unshown

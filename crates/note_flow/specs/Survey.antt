@@ -5,13 +5,13 @@ use Rattle.std.specs.Global.{Vec}
 use Rattle.places.specs.declared.table.PlaceRow as declared-row
 use Rattle.places.specs.declared.table.PlaceTable as declared-table
 use Rattle.graph_core.specs.declared.block.Block as declared-block
-use Rattle.graph_core.specs.Graphs.{Instruction, Marker, Binding, End, Jump, block_view, instruction_view, end_view}
+use Rattle.graph_core.specs.Graphs.{Instruction, Marker, Binding, End, Jump, instruction_view, end_view}
 use Rattle.graph_core.specs.Uses.{targets_of}
 use Rattle.graph_core.specs.Paths.{Among, History, Passed}
 use Rattle.graph_core.specs.Graphs.{Logged, graph_view}
 use Rattle.removed_changes.specs.Telling.{AreToldOf}
 use Rattle.note_state.specs.declared.function.Function as declared-function
-use Rattle.note_state.specs.declared.homes.Homes as declared-homes
+use Rattle.numbered_homes.specs.declared.homes.Homes as declared-homes
 use Rattle.note_state.specs.Sources.{place_where, IsToldBy}
 use Rattle.note_state.specs.declared.state.State as declared-state
 use Rattle.note_state.specs.Notes.{IsKept, IsSo, IsWithin}

@@ -3,7 +3,7 @@
 ghost use Rattle.std.specs.Prelude.{◌≡◌, ◌<◌, ℕ, IfOk, IfSome, List, [], length, map, true};
 ghost use Rattle.graph_core.specs.Graphs.{Logged, binding_view, graph_view};
 ghost use Rattle.note_state.specs.Full.{AreExact};
-ghost use Rattle.note_state.specs.Homes.{home_by, home_in, number_at};
+ghost use Rattle.numbered_homes.specs.Homes.{home_by, home_in, number_at};
 ghost use Rattle.note_state.specs.Notes.{IsSo};
 ghost use Rattle.note_flow.specs.Numbering.{AreNumbered};
 ghost use Rattle.note_flow.specs.Survey.{AreFirst};
@@ -20,7 +20,8 @@ use crate::survey::{Survey, first_of_chains};
 use debug_records::Change;
 use graph_core::Graph;
 use graph_homes::Home;
-use note_state::{Function, Homes, State};
+use note_state::{Function, State};
+use numbered_homes::Homes;
 use places::PlaceTable;
 use removed_changes::RemovedChanges;
 use std::alloc::{AllocError, Global};

@@ -10,14 +10,15 @@ use Rattle.graph_homes.specs.Homes.{bound_last, is_home_of, is_same_home, last_w
 use Rattle.graph_core.specs.declared.graph.Binding as declared-binding
 use Rattle.graph_core.specs.declared.value.Value.TheVariants.{Odd}
 use Rattle.graph_core.specs.Graphs.{Recipe, NoteValue, Is, Instruction, Marker, Note, Move, Operate, Truncate, Same, Address, Load, Store, Zero, CopyWords, Call, Binding, ToScalar, ToObject, Block, End, Graph, binding_view}
-use Rattle.graph_core.specs.Uses.{names_in, target_of, targets_of}
+use Rattle.graph_core.specs.Uses.{target_of, targets_of}
 use Rattle.graph_core.specs.Paths.{Among, front, behind, History, Path, Way, path, stays, passes, goes, last_note, note_by, notes}
-use Rattle.note_state.specs.declared.homes.Homes as declared-homes
+use Rattle.numbered_homes.specs.declared.homes.Homes as declared-homes
 use Rattle.note_state.specs.declared.state.State as declared-state
-use Rattle.note_state.specs.Homes.{home_by, number_in, IsRead, IsUnread}
+use Rattle.numbered_homes.specs.Homes.{home_by, number_in, IsRead, IsUnread}
 use Rattle.note_state.specs.Notes.{recipe_in, IsBound, IsJoined, IsKept, IsWithin}
-use Rattle.note_state.specs.Full.{AreNumbered, AreToldApart, IsEqual, IsFull, IsLeft, IsNoteIn}
-use Rattle.note_state.proofs.Lists.{get_any, get_put_other, get_put_same, take_one_more}
+use Rattle.numbered_homes.specs.Numbered.{AreNumbered, AreToldApart, IsNoteIn}
+use Rattle.note_state.specs.Full.{IsEqual, IsFull, IsLeft}
+use Rattle.numbered_homes.proofs.Lists.{get_any, get_put_other, get_put_same, take_one_more}
 use Rattle.note_state.proofs.Steps.{bound_more, same_self}
 use Rattle.note_state.proofs.Sourcing.{told_equal}
 

@@ -1,22 +1,22 @@
 -- What an instruction does not lose of a state.
 use mathlib.Core.Bool.{true≢false}
-use Rattle.std.proofs.Common.{◌≡◌, ◌≢◌, inl, inr, ℕ, ◌<◌, Bool, true, false, Option, Some, None, List, length, get_or, refl, sym, ap, subst, ◌∙◌}
-use Rattle.std.specs.Prelude.{slice_get, slice_set, ◌⊎◌, ◌↔◌, ◌==◌}
+use Rattle.std.proofs.Common.{◌≡◌, ◌≢◌, inl, inr, ℕ, ◌<◌, false, Option, Some, None, List, length, get_or, refl, sym, ap, subst, ◌∙◌}
+use Rattle.std.specs.Prelude.{slice_get, slice_set, ◌==◌}
 use Rattle.std.specs.Option.{option_map_or}
 use Rattle.std.proofs.lemmas.Bool.{eq-eqb}
 use Rattle.std.proofs.lemmas.Bool.Decides.{eqb_tells}
 use Rattle.std.proofs.lemmas.List.{length-set}
 use Rattle.std.proofs.lemmas.Option.{none-some, same_Some, slice_get-get_or}
-use Rattle.graph_core.specs.Graphs.{Recipe, Of, Name, NoteValue, Is, Instruction, Note}
+use Rattle.graph_core.specs.Graphs.{Recipe, NoteValue, Is, Instruction, Note}
 use Rattle.graph_core.specs.Uses.{target_of}
-use Rattle.graph_core.specs.Paths.{front, notes}
-use Rattle.note_state.specs.declared.homes.Homes as declared-homes
+use Rattle.graph_core.specs.Paths.{notes}
+use Rattle.numbered_homes.specs.declared.homes.Homes as declared-homes
 use Rattle.note_state.specs.declared.noted.Noted as declared-noted
 use Rattle.note_state.specs.declared.noted.Noted.TheVariants as noted
 use Rattle.note_state.specs.declared.state.State as declared-state
-use Rattle.note_state.specs.Homes.{number_in, AreReadBy, IsRead, IsUnread}
+use Rattle.numbered_homes.specs.Homes.{number_in, AreReadBy, IsUnread}
 use Rattle.note_state.specs.Notes.{recipe_in, recipe_of, IsKept, IsWritten}
-use Rattle.note_state.proofs.Lists.{among_one, get_put_other, get_put_same}
+use Rattle.numbered_homes.proofs.Lists.{get_put_other, get_put_same}
 use Rattle.note_state.proofs.Steps.{at_said, is_note}
 
 -- what is noted of another scalar stays behind a store
@@ -109,17 +109,3 @@ joined_none old from now k a b lt is lt2 is2 differ before x y said too = elim (
       absurd (differ (one ∙ sym two)))
   | inr e ↦ get_put_other now k None x e.1 ∙ before x y said too
 ]
-
-by_bool : {C : Type 0} (b : Bool) → (b ≡ true → C) → (b ≡ false → C) → C
-by_bool true t f = t refl
-by_bool false t f = f refl
-
--- whether a scalar's own value reads the home of a name
-pub unread_own : (m : declared-homes.Homes) (x name : ℕ) (b : Bool) → (b ≡ true → IsRead m x name) → (IsRead m x name → b ≡ true) → (r : Recipe) → Some (Of (Name x)) ≡ Some r → (b ≡ false) ↔ IsUnread m r name
-unread_own m x name b to from r e = subst (λ q. (b ≡ false) ↔ IsUnread m q name) (same_Some (Of (Name x)) r e) (none, all)
-  where
-    none : b ≡ false → IsUnread m (Of (Name x)) name
-    none f y among read = true≢false (sym (from (subst (λ z. IsRead m z name) (among_one among) read)) ∙ f)
-
-    all : IsUnread m (Of (Name x)) name → b ≡ false
-    all unread = by_bool b (λ t. absurd (unread x front (to t))) (λ f. f)

@@ -1,20 +1,20 @@
 -- What is left of notes that read a home, as far as scalars were looked at; and as far as a state was compared.
-use Rattle.std.proofs.Common.{◌≡◌, ◌≢◌, inl, inr, ℕ, suc, ◌+◌, ◌<◌, ◌≤◌, Option, Some, None, List, [], ◌∷◌, ◌++◌, length, get_or, map, take, refl, sym, ap, subst, ◌∙◌, arith}
-use Rattle.std.specs.Prelude.{slice_get, slice_set, ◌⊎◌}
+use Rattle.std.proofs.Common.{◌≡◌, ◌≢◌, inl, inr, ℕ, ◌+◌, ◌<◌, ◌≤◌, Option, Some, None, List, [], ◌∷◌, ◌++◌, length, get_or, map, take, refl, sym, ap, subst, ◌∙◌, arith}
+use Rattle.std.specs.Prelude.{slice_get, slice_set}
 use Rattle.std.proofs.lemmas.Option.{none-some, same_Some, slice_get-get_or, slice_get_within}
 use Rattle.std.proofs.lemmas.Bool.Decides.{eqb_tells}
 use Rattle.graph_core.specs.Graphs.{Recipe, Binding, ToScalar, ToObject, binding_view}
 use Rattle.graph_core.specs.declared.graph.Binding as declared-binding
 use Rattle.std.proofs.lemmas.List.{map-append}
 use Rattle.graph_core.specs.Paths.{Among}
-use Rattle.note_state.specs.declared.homes.Homes as declared-homes
+use Rattle.numbered_homes.specs.declared.homes.Homes as declared-homes
 use Rattle.note_state.specs.declared.noted.Noted as declared-noted
 use Rattle.note_state.specs.declared.noted.Noted.TheVariants as noted
 use Rattle.graph_homes.specs.Homes.{bound_last}
 use Rattle.note_state.specs.declared.state.State as declared-state
-use Rattle.note_state.specs.Homes.{home_by, number_in, readers_of, IsUnread}
+use Rattle.numbered_homes.specs.Homes.{home_by, number_in, readers_of, IsUnread}
 use Rattle.note_state.specs.Notes.{recipe_in, recipe_of, told_in, IsBound, IsHeld, IsSo, IsWritten}
-use Rattle.note_state.proofs.Lists.{each_all, each_more, get_any, take_one_more}
+use Rattle.numbered_homes.proofs.Lists.{each_all, each_more, get_any, take_one_more}
 use Rattle.note_state.proofs.Steps.{put_cases, said_at, at_said, bound_more, held_behind}
 
 -- what is noted where one was lost was noted before, of another scalar

@@ -20,8 +20,8 @@ use Rattle.note_state.specs.declared.state.State as declared-state
 use Rattle.note_state.specs.Full.{IsEqual}
 use Rattle.note_state.specs.Notes.{noted_in, recipe_in, recipe_of, told_in, told_of, IsAtMost, IsJoined, IsToldWithin, IsWithin}
 use Rattle.note_state.specs.Sources.{noted_place, place_where, variable_in, IsAttained, IsFirstOf, IsLeastTold, IsSource, IsToldBy}
-use Rattle.note_state.proofs.Lists.{get_any, take_one_more}
-use Rattle.note_state.proofs.Steps.{is_note, set_cases}
+use Rattle.numbered_homes.proofs.Lists.{get_any, set_cases, take_one_more}
+use Rattle.note_state.proofs.Steps.{is_note}
 
 -- where something is told, a recipe is noted
 told_noted : (x : ℕ) (n : declared-noted.Noted) (c : Option ℕ) → told_of n ≡ Some c → (r : Recipe) × (recipe_of x n ≡ Some r)

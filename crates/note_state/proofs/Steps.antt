@@ -1,6 +1,6 @@
 -- What is so behind a history is so behind one more instruction.
 use mathlib.Core.Bool.{true≢false}
-use Rattle.std.proofs.Common.{◌≡◌, ◌≢◌, inl, inr, ℕ, zero, suc, ◌+◌, ◌<◌, min, Bool, true, false, Option, Some, None, List, [], ◌∷◌, ◌++◌, refl, sym, ap, subst, ◌∙◌, arith}
+use Rattle.std.proofs.Common.{◌≡◌, ◌≢◌, inl, inr, ℕ, ◌+◌, min, Bool, true, false, Option, Some, None, List, [], ◌∷◌, ◌++◌, refl, sym, ap, subst, ◌∙◌}
 use Rattle.std.specs.Prelude.{slice_get, slice_set, ◌⊎◌, ◌==◌, ◌||◌, if◌then◌else◌}
 use Rattle.std.specs.Option.{option_map_or}
 use Rattle.std.proofs.lemmas.Bool.{eq-eqb, eqb-true}
@@ -9,23 +9,16 @@ use Rattle.std.proofs.lemmas.Option.{none-some, same_Some}
 use Rattle.graph_homes.specs.declared.home.Home.{Home}
 use Rattle.graph_homes.specs.declared.home.Home.TheVariants.{Register, Slot}
 use Rattle.graph_homes.specs.Homes.{Holds, bound_last, is_home_of, is_same_home, last_writer, written_since}
-use Rattle.graph_core.specs.Graphs.{Recipe, Of, Name, NoteValue, Is, Instruction, Marker, Note, Move, Operate, Truncate, Same, Address, Load, Store, Zero, CopyWords, Call, Binding, ToScalar, ToObject, Graph}
+use Rattle.graph_core.specs.Graphs.{Recipe, NoteValue, Is, Instruction, Marker, Note, Move, Operate, Truncate, Same, Address, Load, Store, Zero, CopyWords, Call, Binding, ToScalar, ToObject, Graph}
 use Rattle.graph_core.specs.Uses.{names_in, target_of}
 use Rattle.graph_core.specs.Paths.{Among, History, Passed, last_note, note_by, notes}
-use Rattle.note_state.specs.declared.homes.Homes as declared-homes
+use Rattle.numbered_homes.specs.declared.homes.Homes as declared-homes
+use Rattle.numbered_homes.proofs.Lists.{set_cases}
 use Rattle.note_state.specs.declared.noted.Noted as declared-noted
 use Rattle.note_state.specs.declared.noted.Noted.TheVariants as noted
 use Rattle.note_state.specs.declared.state.State as declared-state
-use Rattle.note_state.specs.Homes.{home_by, number_at, number_in, readers_of, AreReadBy, IsUnread}
-use Rattle.note_state.specs.Notes.{recipe_of, noted_in, recipe_in, IsWithin, IsHeld, AreHeld, IsSo, IsWritten}
-
--- what stands in a list behind a store
-pub set_cases : {A : Type 0} (xs : List A) (i : ℕ) (a : A) (k : ℕ) (b : A) → slice_get (slice_set xs i a) k ≡ Some b → ((k ≡ i) × (b ≡ a)) ⊎ ((k ≢ i) × (slice_get xs k ≡ Some b))
-set_cases [] i a k b e = absurd (none-some b e)
-set_cases (x ∷ xs) zero a zero b e = inl (refl, sym (same_Some a b e))
-set_cases (x ∷ xs) zero a (suc k) b e = inr ((λ q. omega (arith, q)), e)
-set_cases (x ∷ xs) (suc i) a zero b e = inr ((λ q. omega (arith, q)), e)
-set_cases (x ∷ xs) (suc i) a (suc k) b e = elim (set_cases xs i a k b e) [ inl f ↦ inl (ap suc f.0, f.1) | inr f ↦ inr ((λ q. f.0 (omega (arith, q))), f.1) ]
+use Rattle.numbered_homes.specs.Homes.{home_by, number_at, number_in, readers_of, AreReadBy}
+use Rattle.note_state.specs.Notes.{recipe_of, recipe_in, IsWithin, IsHeld, AreHeld, IsSo, IsWritten}
 
 -- what is noted stands in the list
 pub said_at : (all : List declared-noted.Noted) (x : ℕ) (r : Recipe) → recipe_in all x ≡ Some r → (n : declared-noted.Noted) × (slice_get all x ≡ Some n) × (recipe_of x n ≡ Some r)

@@ -2,13 +2,14 @@
 use Rattle.std.specs.Prelude.{◌≡◌, ℕ, ◌<◌, false, Some, List, length, slice_get}
 use Rattle.graph_homes.specs.declared.home.Home.{Home}
 use Rattle.graph_homes.specs.Homes.{last_writer, written_since}
-use Rattle.graph_core.specs.Graphs.{Recipe, Is, Instruction, Note, Block, End, Graph, graph_view}
+use Rattle.graph_core.specs.Graphs.{Recipe, Is, Instruction, End, Graph, graph_view}
 use Rattle.graph_core.specs.Paths.{Among, History, Path, last_note}
 use Rattle.graph_core.specs.Uses.{names_in}
 use Rattle.note_state.specs.declared.function.Function as declared-function
-use Rattle.note_state.specs.declared.homes.Homes as declared-homes
+use Rattle.numbered_homes.specs.declared.homes.Homes as declared-homes
 use Rattle.note_state.specs.declared.state.State as declared-state
-use Rattle.note_state.specs.Homes.{home_by, number_at, number_in, AreReadBy, IsRead}
+use Rattle.numbered_homes.specs.Homes.{home_by, number_in}
+use Rattle.numbered_homes.specs.Numbered.{AreNumbered, AreToldApart}
 use Rattle.note_state.specs.Notes.{recipe_in}
 
 -- On a path a recipe is the last note of a scalar, and no home that it reads was written behind the note.
@@ -16,26 +17,7 @@ pub record IsLeft (home : ℕ → Home) (x : ℕ) (r : Recipe) (h : History) : T
   pub note : last_note x h ≡ Some (Is r)
   pub before : (y : ℕ) → Among y (names_in r) → written_since home x (home y) h ≡ false
 
--- A note of a scalar with this recipe stands in a graph.
-pub record IsNoteIn (g : Graph) (x : ℕ) (r : Recipe) : Type 0 where
-  pub n : ℕ
-  pub block : Block
-  pub scalar : x < length g.scalars
-  pub is : slice_get g.blocks n ≡ Some block
-  pub among : Among (Note x (Is r)) block.instructions
-
--- Numbers tell the homes of names apart.
-abbrev pub AreToldApart : declared-homes.Homes → Type 0
-AreToldApart m = (y z : ℕ) → IsRead m y z → home_by m y ≡ home_by m z
-
 module _ (m : declared-homes.Homes) (g : Graph) where
-  -- The new numbers are those of homes, no two of one; each name that a note of the graph reads has one, if its home is one of so many, and the note's scalar is among its readers.
-  pub record AreNumbered : Type 0 where
-    pub within : (y k : ℕ) → number_in m y ≡ Some k → k < length m.readers.items
-    pub apart : (y z k : ℕ) → number_in m y ≡ Some k → number_in m z ≡ Some k → IsRead m y z
-    pub given : (x : ℕ) (r : Recipe) → IsNoteIn g x r → (y : ℕ) → Among y (names_in r) → number_at (home_by m y) < length m.numbers.items → (k : ℕ) × (number_in m y ≡ Some k)
-    pub readers : (x : ℕ) (r : Recipe) → IsNoteIn g x r → AreReadBy m r x
-
   -- A path comes to a point, and what is so on all paths to it is so in a state: what is left of notes, and for which name each home with a new number was last written.
   pub record IsFull (s : declared-state.State) (n : ℕ) (rest : List Instruction) (e : End) : Type 0 where
     pub history : History

@@ -1,5 +1,3 @@
-pub mod Homes
 pub mod Notes
-pub mod Numbers
 pub mod Full
 pub mod Sources

@@ -1,15 +1,15 @@
 -- What a state says of the notes and the homes behind a history.
-use Rattle.std.specs.Prelude.{◌≡◌, ◌⊎◌, ℕ, ◌<◌, ◌≤◌, Option, Some, None, List, [], ◌∷◌, false, length, slice_get, slice_set}
+use Rattle.std.specs.Prelude.{◌≡◌, ◌⊎◌, ℕ, ◌<◌, ◌≤◌, Option, Some, None, List, false, length, slice_get, slice_set}
 use Rattle.std.specs.Option.{option_map_or}
 use Rattle.graph_core.specs.Graphs.{Recipe, Of, Name, Is, Instruction, Note, Binding, ToScalar, ToObject, recipe_view}
 use Rattle.graph_core.specs.Uses.{names_in, target_of}
 use Rattle.graph_core.specs.Paths.{History, Among, last_note, notes}
 use Rattle.graph_homes.specs.Homes.{last_writer, written_since}
-use Rattle.note_state.specs.declared.homes.Homes as declared-homes
+use Rattle.numbered_homes.specs.declared.homes.Homes as declared-homes
 use Rattle.note_state.specs.declared.noted.Noted as declared-noted
 use Rattle.note_state.specs.declared.noted.Noted.TheVariants as noted
 use Rattle.note_state.specs.declared.state.State as declared-state
-use Rattle.note_state.specs.Homes.{home_by, number_in, readers_of, AreReadBy, IsUnread}
+use Rattle.numbered_homes.specs.Homes.{home_by, number_in, readers_of, AreReadBy, IsUnread}
 
 -- the recipe that is noted of a scalar
 abbrev pub recipe_of : (x : ℕ) → declared-noted.Noted → Option Recipe

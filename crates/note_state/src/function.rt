@@ -8,9 +8,9 @@ ghost use Rattle.graph_core.specs.WellMarked.{IsVariable};
 ghost use Rattle.note_state.specs.Sources.{IsFirstOf, variable_in};
 ghost use Rattle.removed_changes.specs.Telling.{AreToldOf};
 
-use crate::homes::Homes;
 use debug_records::{Place, Var};
 use graph_core::Graph;
+use numbered_homes::Homes;
 use removed_changes::RemovedChanges;
 
 /// A function with the homes of its names, and the changes that removed assignments in its unit.

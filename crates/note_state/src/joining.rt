@@ -5,8 +5,8 @@ ghost use Rattle.graph_core.specs.Graphs.{Recipe as RecipeForm};
 ghost use Rattle.note_state.specs.Notes.{IsJoined, recipe_in, recipe_of, told_in, told_of};
 
 use crate::noted::Noted;
-use crate::recipes::{is_own, is_same};
 use crate::state::State;
+use numbered_homes::{is_own, is_same};
 
 /// The lesser of two numbers, of those that there are.
 fn lesser(one: Option<u32>, other: Option<u32>) -> Option<u32>

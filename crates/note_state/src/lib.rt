@@ -3,15 +3,12 @@
 #![tactic(auto)]
 
 mod function;
-mod homes;
 mod joining;
 mod noted;
-mod recipes;
 mod showing;
 mod state;
 mod within;
 
 pub use function::Function;
-pub use homes::{Homes, have_one_home, home_count, home_number};
 pub use noted::Noted;
 pub use state::{State, place_behind};

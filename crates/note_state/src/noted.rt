@@ -3,15 +3,15 @@
 ghost use Rattle.std.specs.Prelude.{◌≡◌, ℕ, List, Option, Some, option_map};
 ghost use Rattle.debug_records.specs.declared.change.Place as declared-place;
 ghost use Rattle.graph_core.specs.Graphs.{Is, Logged, Recipe as RecipeForm, graph_view, note_view};
-ghost use Rattle.note_state.specs.Homes.{AreReadBy};
+ghost use Rattle.numbered_homes.specs.Homes.{AreReadBy};
 ghost use Rattle.note_state.specs.Notes.{recipe_of, told_of};
 ghost use Rattle.note_state.specs.Sources.{IsFirstOf};
 ghost use Rattle.removed_changes.specs.Telling.{AreToldOf};
 
 use crate::function::Function;
-use crate::recipes::{is_own, is_reader};
 use debug_records::Place;
 use graph_core::{Name, NoteValue, Recipe};
+use numbered_homes::{is_own, is_reader};
 
 /// What is last noted of a scalar.
 #[derive(Clone, Copy)]

@@ -5,7 +5,7 @@ ghost use Rattle.debug_records.specs.declared.change.Place as declared-place;
 ghost use Rattle.graph_core.specs.Graphs.{Binding as BindingForm, Block as BlockForm, End as EndForm, Logged, Recipe as RecipeForm, binding_view, block_view, graph_view, instruction_view};
 ghost use Rattle.graph_core.specs.Paths.{Among, History, Passed};
 ghost use Rattle.graph_core.specs.Validity.{place_behind as place_behind_all};
-ghost use Rattle.note_state.specs.Homes.{IsUnread, readers_of};
+ghost use Rattle.numbered_homes.specs.Homes.{IsUnread, readers_of};
 ghost use Rattle.note_state.specs.Notes.{IsBound, IsKept, IsSo, IsWritten, noted_in, recipe_in, recipe_of, told_in};
 ghost use Rattle.note_state.specs.Full.{AreExact, IsEqual, IsFullAt};
 ghost use Rattle.note_state.specs.Sources.{IsAttained, IsToldBy};
@@ -13,9 +13,9 @@ ghost use Rattle.removed_changes.specs.Telling.{AreToldOf};
 
 use crate::function::Function;
 use crate::noted::{Noted, read_note};
-use crate::recipes::reads_home;
 use debug_records::Place;
 use graph_core::{Binding, Block, Instr};
+use numbered_homes::reads_home;
 use std::alloc::{AllocError, Global};
 
 /// The place in force behind an instruction.

@@ -5,8 +5,8 @@ ghost use Rattle.graph_core.specs.Graphs.{Recipe as RecipeForm};
 ghost use Rattle.note_state.specs.Notes.{IsAtMost, IsToldWithin, IsWithin, recipe_in, recipe_of, told_in, told_of};
 
 use crate::noted::Noted;
-use crate::recipes::is_same;
 use crate::state::State;
+use numbered_homes::is_same;
 
 /// Whether a change is no greater than another one, if that is one.
 fn is_at_most(one: Option<u32>, other: Option<u32>) -> bool

@@ -4,7 +4,7 @@ use Rattle.std.proofs.lemmas.List.{append_assoc, append-nil, map-append, take_mo
 use Rattle.debug_records.specs.declared.change.Var as declared-var
 use Rattle.places.specs.declared.table.PlaceRow as declared-place
 use Rattle.graph_core.specs.Paths.{Among}
-use Rattle.note_state.proofs.Lists.{among_one, among_parts, drop_end, drop_more, take_whole}
+use Rattle.numbered_homes.proofs.Lists.{among_one, among_parts, drop_end, drop_more, take_whole}
 use Rattle.currency.specs.declared.verdict.Verdict.TheVariants as verdict
 use Rattle.currency.specs.declared.verdict.PlaceVerdict as declared-row
 use Rattle.currency.specs.Visible.{Sight, next, sight, sights_at, sights_from}

@@ -2,7 +2,7 @@ use Rattle.std.proofs.Common.{◌≡◌, ◌∙◌, List, ap, arith, length, map
 use Rattle.std.specs.Prelude.{IfSome}
 use Rattle.debug_records.specs.declared.change.Change.{Change}
 use Rattle.graph_core.specs.Graphs.{graph_view, logged}
-use Rattle.note_state.specs.Homes.{home_in}
+use Rattle.numbered_homes.specs.Homes.{home_in}
 use Rattle.homed_unit.specs.Homed.{homed_view}
 use Rattle.hiding_changes.specs.declared.teller.Teller as declared-teller
 use Rattle.hiding_changes.specs.Found.{IsTeller}

@@ -3,7 +3,7 @@ use Rattle.std.proofs.lemmas.Option.{none-some, same_Some}
 use Rattle.graph_core.specs.Graphs.{Of, Name, recipe_view}
 use Rattle.graph_core.specs.Paths.{front}
 use Rattle.note_state.specs.Notes.{recipe_of, AreHeld, IsHeld}
-use Rattle.note_state.proofs.ReadNames.{each_of_one}
+use Rattle.numbered_homes.proofs.ReadNames.{each_of_one}
 use Rattle.note_flow.proofs.found.is_shown.Goals as goal
 
 pub returns-in-Own : goal.returns-in-Own

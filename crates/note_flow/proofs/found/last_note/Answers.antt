@@ -1,4 +1,4 @@
-use Rattle.std.proofs.Common.{true, true≢false, sym, ap, subst, ◌∙◌}
+use Rattle.std.proofs.Common.{true≢false, sym, ap, subst, ◌∙◌}
 use Rattle.std.proofs.lemmas.Option.{none-some, same_Some}
 use Rattle.graph_core.specs.Graphs.{Of, Name, recipe_view}
 use Rattle.note_state.specs.Notes.{recipe_of, told_of, AreHeld}

@@ -1,5 +1,5 @@
 use Rattle.std.proofs.Common.{◌+◌, List, ℕ, arith, drop, get_or, subst}
-use Rattle.note_state.proofs.Lists.{drop_end, drop_more_any}
+use Rattle.numbered_homes.proofs.Lists.{drop_end, drop_more_any}
 use Rattle.note_flow.proofs.Chaining.{GoesOn, goes_first, goes_on}
 use Rattle.note_flow.proofs.states.walk.Goals as goal
 

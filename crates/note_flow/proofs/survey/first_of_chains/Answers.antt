@@ -1,6 +1,6 @@
-use Rattle.std.proofs.Common.{◌≡◌, ◌++◌, true, false, length, drop, get_or, ap, arith, subst, sym}
+use Rattle.std.proofs.Common.{◌≡◌, true, false, length, drop, get_or, ap, arith, subst, sym}
 use Rattle.std.specs.Prelude.{◌⊎◌}
-use Rattle.note_state.proofs.Lists.{get_among}
+use Rattle.numbered_homes.proofs.Lists.{get_among}
 use Rattle.note_flow.specs.Survey.{AreFirst, BeginsWith}
 use Rattle.note_flow.proofs.Walking.{first_more, take_back}
 use Rattle.note_flow.proofs.survey.first_of_chains.Goals as goal

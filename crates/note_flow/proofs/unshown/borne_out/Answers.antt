@@ -1,8 +1,6 @@
-use Rattle.std.proofs.Common.{◌≡◌, ℕ, [], List, subst}
+use Rattle.std.proofs.Common.{List, subst}
 use Rattle.graph_core.specs.Paths.{Among}
 use Rattle.note_flow.specs.declared.found.Unshown as declared-unshown
-use Rattle.note_flow.specs.Found.{entries_of}
-use Rattle.note_flow.specs.Survey.{AreMet}
 use Rattle.note_flow.proofs.Adding.{extended_same}
 use Rattle.note_flow.proofs.HiddenPlaces.{are_hidden}
 use Rattle.note_flow.proofs.LeastPlaces.{are_least}

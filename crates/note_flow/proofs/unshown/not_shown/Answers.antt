@@ -3,7 +3,7 @@ use Rattle.std.specs.Global.{Vec}
 use Rattle.graph_homes.specs.declared.home.Home.{Home}
 use Rattle.graph_core.specs.declared.block.Block as declared-block
 use Rattle.graph_core.specs.Graphs.{graph_view}
-use Rattle.note_state.specs.Homes.{home_in, number_at}
+use Rattle.numbered_homes.specs.Homes.{home_in, number_at}
 use Rattle.note_state.specs.declared.function.Function as declared-function
 use Rattle.note_state.specs.Full.{AreExact}
 use Rattle.note_flow.specs.Chains.{AreLinked}

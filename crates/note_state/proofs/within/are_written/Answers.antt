@@ -1,6 +1,5 @@
 use Rattle.std.proofs.Common.{arith}
 use Rattle.std.proofs.lemmas.Option.{slice_get_within}
-use Rattle.note_state.proofs.Losing.{written_more}
 use Rattle.note_state.proofs.within.are_written.Goals as goal
 
 pub returns : goal.returns

@@ -4,7 +4,7 @@ use Rattle.std.specs.Global.{Vec}
 use Rattle.graph_core.specs.declared.graph.Scalar as declared-scalar
 use Rattle.graph_core.specs.Graphs.{Logged, graph_view}
 use Rattle.removed_changes.specs.Telling.{AreToldOf}
-use Rattle.note_state.specs.Homes.{home_in}
+use Rattle.numbered_homes.specs.Homes.{home_in}
 use Rattle.note_flow.specs.declared.found.Unshown as declared-unshown
 use Rattle.note_flow.specs.Shown.{AreDifferent, AreDistinct, AreHidden, AreLeast, AreOther, AreOwn, ArePlaced, AreRecipes, AreTheirs}
 use Rattle.currency.specs.Telling.{AreToldAll}

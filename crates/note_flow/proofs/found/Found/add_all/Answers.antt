@@ -1,5 +1,5 @@
 use Rattle.std.proofs.Common.{◌≡◌, ℕ, Some, arith, ◌∙◌}
-use Rattle.note_state.proofs.Lists.{each_all, each_more_any}
+use Rattle.numbered_homes.proofs.Lists.{each_all, each_more_any}
 use Rattle.note_flow.specs.Numbering.{scalar_in}
 use Rattle.note_flow.specs.Found.{IsTold}
 use Rattle.note_flow.proofs.Adding.{added_on, told_on}

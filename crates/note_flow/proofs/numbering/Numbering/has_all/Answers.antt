@@ -1,5 +1,5 @@
 use Rattle.std.proofs.Common.{◌≡◌, Some, arith, sym, ap, ◌∙◌}
-use Rattle.note_state.proofs.Lists.{at_all, at_more_any}
+use Rattle.numbered_homes.proofs.Lists.{at_all, at_more_any}
 use Rattle.note_flow.specs.Numbering.{scalar_in}
 use Rattle.note_flow.proofs.numbering.Numbering.has_all.Goals as goal
 

@@ -1,4 +1,4 @@
-use Rattle.std.proofs.Common.{◌+◌, ◌-◌, Some, ap, arith, get_or, length, sym, ◌∙◌}
+use Rattle.std.proofs.Common.{◌-◌, Some, ap, arith, get_or, length, sym, ◌∙◌}
 use Rattle.std.proofs.lemmas.Option.{slice_get-get_or}
 use Rattle.note_flow.proofs.Chaining.{last_at, list_begins, start_each}
 use Rattle.note_flow.proofs.states.States.leave_with.Goals as goal

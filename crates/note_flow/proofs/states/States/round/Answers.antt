@@ -1,5 +1,5 @@
 use Rattle.std.proofs.Common.{List, ℕ, subst, sym}
-use Rattle.note_state.proofs.Lists.{get_among}
+use Rattle.numbered_homes.proofs.Lists.{get_among}
 use Rattle.note_flow.specs.Chains.{IsLinked}
 use Rattle.note_flow.proofs.states.States.round.Goals as goal
 

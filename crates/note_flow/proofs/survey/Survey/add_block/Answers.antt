@@ -4,7 +4,7 @@ use Rattle.graph_core.specs.declared.instruction.Instr as declared-instr
 use Rattle.graph_core.specs.Graphs.{block_view, graph_view, instruction_view}
 use Rattle.graph_core.specs.Validity.{place_behind}
 use Rattle.note_state.specs.Sources.{IsToldBy}
-use Rattle.note_state.proofs.Lists.{drop_more}
+use Rattle.numbered_homes.proofs.Lists.{drop_more}
 use Rattle.note_state.proofs.Sourcing.{place_behind_first, place_next, place_there}
 use Rattle.note_flow.proofs.Adding.{extended_on, found_on}
 use Rattle.note_flow.proofs.Walking.{sound_before, sound_end}

@@ -1,4 +1,4 @@
-use Rattle.std.proofs.Common.{◌≡◌, arith, ap, get_or, sym, ◌∙◌, Some}
+use Rattle.std.proofs.Common.{arith, ap, get_or, sym, ◌∙◌, Some}
 use Rattle.std.proofs.lemmas.Option.{slice_get-get_or}
 use Rattle.note_flow.proofs.Adding.{extended_on}
 use Rattle.note_flow.proofs.Chaining.{view_at}

@@ -1,5 +1,5 @@
 use Rattle.std.proofs.Common.{◌≡◌, arith, subst}
-use Rattle.note_state.proofs.Lists.{each_all, each_more}
+use Rattle.numbered_homes.proofs.Lists.{each_all, each_more}
 use Rattle.note_flow.specs.Survey.{IsReachedSound}
 use Rattle.note_flow.proofs.Adding.{extended_on}
 use Rattle.note_flow.proofs.survey.Survey.add_chains.Goals as goal

@@ -3,8 +3,8 @@ use Rattle.std.specs.Prelude.{◌↔◌}
 use Rattle.graph_core.specs.Graphs.{Recipe, recipe_view}
 use Rattle.graph_core.specs.Uses.{names_in}
 use Rattle.note_state.specs.Notes.{AreHeld, IsHeld}
-use Rattle.note_state.proofs.Lists.{among_left, among_right}
-use Rattle.note_state.proofs.ReadNames.{each_of_both}
+use Rattle.numbered_homes.proofs.Lists.{among_left, among_right}
+use Rattle.numbered_homes.proofs.ReadNames.{each_of_both}
 use Rattle.note_state.proofs.state.State.+holds_all.Goals as goal
 
 pub returns-then-holds_all : goal.returns-then-holds_all

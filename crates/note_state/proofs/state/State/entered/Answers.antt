@@ -3,9 +3,9 @@ use Rattle.std.proofs.lemmas.List.{length-map}
 use Rattle.graph_homes.specs.Homes.{bound_last}
 use Rattle.graph_core.specs.declared.graph.Binding as declared-binding
 use Rattle.graph_core.specs.Graphs.{binding_view, graph_view, scalar_view}
-use Rattle.note_state.specs.Homes.{home_by}
+use Rattle.numbered_homes.specs.Homes.{home_by}
 use Rattle.note_state.specs.Notes.{IsHeld, IsSo}
-use Rattle.note_state.proofs.Lists.{take_whole}
+use Rattle.numbered_homes.proofs.Lists.{take_whole}
 use Rattle.note_state.proofs.Losing.{next_bound, so_first}
 use Rattle.note_state.proofs.Sourcing.{told_recipe}
 use Rattle.note_state.proofs.Filling.{AreBound, full_first, next_full, next_sizes}

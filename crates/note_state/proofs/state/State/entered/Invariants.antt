@@ -1,7 +1,7 @@
 use Rattle.std.proofs.Common.{◌≡◌, ℕ, Some, None, length, map, take}
 use Rattle.graph_homes.specs.Homes.{bound_last}
 use Rattle.graph_core.specs.Graphs.{Recipe, binding_view}
-use Rattle.note_state.specs.Homes.{home_by}
+use Rattle.numbered_homes.specs.Homes.{home_by}
 use Rattle.note_state.specs.Notes.{IsHeld, recipe_in}
 use Rattle.note_state.specs.Full.{AreExact}
 use Rattle.note_state.proofs.Filling.{AreBound}

@@ -1,7 +1,7 @@
 use Rattle.std.proofs.Common.{ap, sym}
 use Rattle.graph_core.specs.Graphs.{operand_view}
 use Rattle.note_state.specs.Notes.{IsHeld}
-use Rattle.note_state.proofs.ReadNames.{each_of_name}
+use Rattle.numbered_homes.proofs.ReadNames.{each_of_name}
 use Rattle.note_state.proofs.state.State.holds_operand.Goals as goal
 
 pub returns-in-Name : goal.returns-in-Name

@@ -1,7 +1,7 @@
 use Rattle.std.proofs.Common.{◌≡◌, ℕ, Option, Some, length, take}
 use Rattle.graph_core.specs.Graphs.{Recipe}
 use Rattle.graph_core.specs.Paths.{Among}
-use Rattle.note_state.specs.Homes.{IsUnread}
+use Rattle.numbered_homes.specs.Homes.{IsUnread}
 use Rattle.note_state.specs.Notes.{recipe_in, told_in}
 use Rattle.note_state.proofs.state.State.lose.Given as goal
 

@@ -1,9 +1,7 @@
-use Rattle.std.proofs.Common.{Some, ap, subst, sym, ◌∙◌}
-use Rattle.std.proofs.lemmas.Option.{none-some, same_Some}
-use Rattle.graph_core.specs.Graphs.{recipe_view}
-use Rattle.note_state.specs.Homes.{IsUnread}
+use Rattle.std.proofs.Common.{ap, sym, ◌∙◌}
+use Rattle.std.proofs.lemmas.Option.{none-some}
 use Rattle.note_state.specs.Notes.{recipe_of}
-use Rattle.note_state.proofs.Keeping.{unread_own}
+use Rattle.numbered_homes.proofs.ReadNames.{unread_own}
 use Rattle.note_state.proofs.state.State.reads.Goals as goal
 
 pub returns-in-Lost : goal.returns-in-Lost

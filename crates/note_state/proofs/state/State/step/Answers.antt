@@ -1,8 +1,8 @@
 use Rattle.std.proofs.Common.{sym, ap, ◌∙◌}
-use Rattle.graph_core.specs.Graphs.{instruction_view, note_view}
+use Rattle.graph_core.specs.Graphs.{instruction_view}
 use Rattle.graph_core.specs.Uses.{target_of}
 use Rattle.note_state.proofs.Steps.{written_step}
-use Rattle.note_state.proofs.Keeping.{kept_idle, kept_note, kept_write}
+use Rattle.note_state.proofs.Keeping.{kept_write}
 use Rattle.note_state.proofs.state.State.step.Goals as goal
 
 pub returns-in-Some-clause-so : goal.returns-in-Some-clause-so

@@ -6,7 +6,7 @@ use Rattle.graph_core.specs.Validity.{place_behind}
 use Rattle.note_state.specs.Full.{IsFullAt}
 use Rattle.note_state.specs.Sources.{IsAttained, IsToldBy}
 use Rattle.note_state.proofs.Filling.{full_step}
-use Rattle.note_state.proofs.Lists.{drop_end, drop_more}
+use Rattle.numbered_homes.proofs.Lists.{drop_end, drop_more}
 use Rattle.note_state.proofs.Sourcing.{attained_step, place_behind_first, place_next, place_there}
 use Rattle.note_state.proofs.state.State.walk.Goals as goal
 

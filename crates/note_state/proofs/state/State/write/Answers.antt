@@ -1,7 +1,6 @@
-use Rattle.std.proofs.Common.{sym, ap, subst, List, ℕ, ◌∙◌}
+use Rattle.std.proofs.Common.{sym, subst, List, ℕ, ◌∙◌}
 use Rattle.graph_core.specs.Paths.{Among}
-use Rattle.note_state.specs.Homes.{IsUnread}
-use Rattle.note_state.proofs.Losing.{written_by, written_not}
+use Rattle.note_state.proofs.Losing.{written_by}
 use Rattle.note_state.proofs.state.State.write.Goals as goal
 
 pub returns : goal.returns
