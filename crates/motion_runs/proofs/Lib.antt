@@ -1,0 +1,15 @@
+pub mod Ready
+pub mod Values
+pub mod Quiet
+pub mod Carried
+pub mod Settling
+pub mod Blocks
+pub mod Fits
+pub mod Passing
+pub mod Landing
+pub mod Lives
+pub mod Related
+pub mod Begins
+pub mod Reading
+pub mod Steps
+pub mod Whole
