@@ -8,8 +8,8 @@ use Rattle.removed_writes.specs.Writes.{IsRemovedWrite}
 use Rattle.dead_pass.specs.Notes.{SayWhatTheyShall}
 use Rattle.graph_core.specs.Graphs.{unit_view}
 use Rattle.pass_runs.proofs.Shape.{kept_but_blocks}
-use Rattle.program_passes.specs.Steps.{RemovesDead}
-use Rattle.program_passes.proofs.Made.{of_three}
+use Rattle.program_passes.specs.Steps.{MakesValid, RemovesDead}
+use Rattle.program_passes.proofs.Made.{made_valid, of_four}
 use Rattle.program_passes.proofs.passes.DeadRemovalUnitPass.apply.Goals as goal
 
 pub returns-clause-kept : goal.returns-clause-kept
@@ -18,5 +18,5 @@ returns-clause-kept c = kept_but_blocks (unit_view c.args.unit.now) c.remove_dea
 pub returns-clause-step : goal.returns-clause-step
 returns-clause-step c =
     let u = unit_view c.args.unit.now in
-    of_three c.remove_dead.result (λ v. AddsChangesOf (pass_name (codes "dead")) Removed (λ before after. IsRemovedWrite before) u (unit_view v)) (λ v. EachFunction IsReduced u.graphs (unit_view v).graphs) (λ v. SayWhatTheyShall u (unit_view v))
-    (λ v. RemovesDead u (unit_view v)) (λ v changes functions notes. record { changes = changes; functions = functions; notes = notes }) c.remove_dead.ensures.changes c.remove_dead.ensures.exact c.remove_dead.ensures.notes
+    of_four c.remove_dead.result (λ v. MakesValid u (unit_view v)) (λ v. AddsChangesOf (pass_name (codes "dead")) Removed (λ before after. IsRemovedWrite before) u (unit_view v)) (λ v. EachFunction IsReduced u.graphs (unit_view v).graphs) (λ v. SayWhatTheyShall u (unit_view v))
+    (λ v. RemovesDead u (unit_view v)) (λ v made changes functions notes. record { made = made; changes = changes; functions = functions; notes = notes }) (made_valid u c.remove_dead.result c.remove_dead.ensures.valid c.remove_dead.ensures.shared) c.remove_dead.ensures.changes c.remove_dead.ensures.exact c.remove_dead.ensures.notes
