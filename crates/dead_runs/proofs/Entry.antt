@@ -32,7 +32,7 @@ place_plain (CopyWords o w v) place plain = refl
 place_plain (Call x f all) place plain = refl
 
 -- Behind a marker its place is in force.
-marker_is : (i : Instruction) (place : Option ℕ) (p : ℕ) → is_marker i ≡ true → place_by i place ≡ Some p → i ≡ Marker p
+pub marker_is : (i : Instruction) (place : Option ℕ) (p : ℕ) → is_marker i ≡ true → place_by i place ≡ Some p → i ≡ Marker p
 marker_is (Marker q) place p it at = ap Marker (same_Some q p at)
 marker_is (Note x v) place p it at = absurd (true≢false (sym it))
 marker_is (Move x a) place p it at = absurd (true≢false (sym it))

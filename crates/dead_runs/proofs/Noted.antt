@@ -28,8 +28,8 @@ use Rattle.dead_runs.proofs.Walks.{IsLast, HasLast, has_last}
 
 -- ---- Places, and variables of scalars
 
--- the place in force behind one instruction and then others
-behind_one : (j : Instruction) (more : List Instruction) (place : Option ℕ) → place_behind more (place_behind (j ∷ []) place) ≡ place_behind (j ∷ more) place
+-- The place in force behind one instruction and then others is the one behind all of them.
+pub behind_one : (j : Instruction) (more : List Instruction) (place : Option ℕ) → place_behind more (place_behind (j ∷ []) place) ≡ place_behind (j ∷ more) place
 behind_one (Marker p) more place = refl
 behind_one _ more place = refl
 
@@ -47,13 +47,13 @@ written_in : (g : Graph) (p x n : ℕ) (i : Instruction) (rest : List Instructio
 written_in g p x n i rest e s target = instruction i (in_place g p n i rest e s) (writes_target x i target)
 
 -- Each scalar has a variable.
-scalar_at : (all : List Scalar) (x : ℕ) → x < length all → (variable : ℕ) × (option_map (λ (s : Scalar). s.variable) (slice_get all x) ≡ Some variable)
+pub scalar_at : (all : List Scalar) (x : ℕ) → x < length all → (variable : ℕ) × (option_map (λ (s : Scalar). s.variable) (slice_get all x) ≡ Some variable)
 scalar_at [] x less = absurd (omega (arith, less))
 scalar_at (s ∷ all) zero less = (s.variable, refl)
 scalar_at (s ∷ all) (suc x) less = scalar_at all x (omega (arith, less))
 
--- notes that say the same say the same recipe
-same_is : {r s : Recipe} → Is r ≡ Is s → r ≡ s
+-- Notes that say the same say the same recipe.
+pub same_is : {r s : Recipe} → Is r ≡ Is s → r ≡ s
 same_is e = cc
 
 module _ (u : UnitForm) (log : List Logged) (g : Graph) (blocks : List Block) (names others : ℕ → Value) (n p x : ℕ) (v : NoteValue) (rest : List Instruction) (e : End) (came : Came u log g blocks names others n (Note x v ∷ rest) e) (stands : StandsWith g p n (Note x v ∷ rest) e) where

@@ -21,8 +21,8 @@ use Rattle.dead_runs.proofs.Noted.{notes_hold}
 use Rattle.dead_runs.proofs.Runs.{made_follows}
 
 module _ (u v : UnitForm) (marked : AreWellMarked u) (pass : PassName) (adds : AddsChangesOf pass Removed (λ before after. IsRemovedWrite before) u v) where
-  -- what was made of a function
-  function_made : (f : ℕ) (g h : Graph) → slice_get u.graphs f ≡ Some g → slice_get v.graphs f ≡ Some h → IsReduced g h → SaysWhatItShall v.log g h → IsMade u v.log g h
+  -- What was made of a function.
+  pub function_made : (f : ℕ) (g h : Graph) → slice_get u.graphs f ≡ Some g → slice_get v.graphs f ≡ Some h → IsReduced g h → SaysWhatItShall v.log g h → IsMade u v.log g h
   function_made f g h stood stands reduced said = record {
     is = reduced.rest;
     taken = record {

@@ -1,0 +1,10 @@
+pub mod Instructions
+pub mod Followed
+pub mod Ways
+pub mod Standing
+pub mod Written
+pub mod Notes
+pub mod Markers
+pub mod Marked
+pub mod Program
+pub mod Whole
