@@ -43,6 +43,14 @@ pub record IsHidingScalar (t : declared-teller.Teller) (w : declared-writers.Wri
   pub is : slice_get scalars x ≡ Some scalar
   pub hiding : IsHidingOn (λ q c. TellsBy t w x scalar.var.0 q c) scalar.var p one
 
+-- A variable is a scalar of a function of a unit.
+pub record IsScalarOf (u : HomedForm) (variable : ℕ) : Type 0 where
+  pub function : ℕ
+  pub index : ℕ
+  pub graph : Graph
+  pub is : slice_get u.unit.graphs function ≡ Some graph
+  pub of : IsVariable graph index variable
+
 -- given: the log of a unit, and the flow of its program
 module _ (log : List Logged) (flow : FlowTable) where
   -- What is told is of a scalar of a function of this number, and evident.
@@ -63,10 +71,10 @@ module _ (log : List Logged) (flow : FlowTable) where
     pub evident : Hides log flow (home_of u f) f graph x variable p cause
     pub first : IsFirst log flow (home_of u f) f graph x variable p cause
 
-  -- What each verdict says to hide a variable does.
+  -- What each verdict says to hide a variable does, and one that gives a recipe gives it for a scalar.
   abbrev pub IsEvident : HomedForm → (variable p : ℕ) → declared-verdict.Verdict → Type 0
   IsEvident u v p verdict.Home = Unit {0}
-  IsEvident u v p (verdict.Recovered r c) = Unit {0}
+  IsEvident u v p (verdict.Recovered r c) = IsScalarOf u v
   IsEvident u v p (verdict.Noncurrent c start w) = IsEvidentAt u v p (verdict.Noncurrent c start w)
   IsEvident u v p (verdict.Nonresident c start w) = IsEvidentAt u v p (verdict.Nonresident c start w)
 

@@ -15,7 +15,7 @@ use Rattle.homed_unit.specs.Statics.{static_addresses}
 use Rattle.emitted.specs.declared.emitted.PlacedStop.{PlacedStop}
 use Rattle.emitted.specs.Emitted.{EmittedForm}
 use Rattle.emit_pieces.specs.declared.piece.Held.{Held}
-use Rattle.machine_steps.specs.Holding.{Holding}
+use Rattle.machine_steps.specs.Holding.{AreInRange, Holding}
 use Rattle.machine_steps.specs.Programs.{address_of, Stands}
 use Rattle.emit_moves.specs.Doing.{value_of_home}
 use Rattle.emit_memory.specs.Meaning.{Means, HoldsObjects}
@@ -140,4 +140,7 @@ module _ (h : HomedForm) (valid : IsValid h.unit) (homed : HaveHomes h) (e : Emi
         stack = subst (λ (z : Holding). IsStack e (codes_in h e code) addresses z.memory (z.registers 2) d.here d.waiting) (sym stands.holds) (stack_is d.memory d.input held d.here d.waiting g all.here all.waiting);
         homes = λ home among. subst (λ (z : Holding). Means addresses d.memory (d.here.names (home_number home)) (value_of_home (codes_in h e code d.here.function).storage z home)) (sym stands.holds) (all.here.homes home among);
         objects = subst (λ (z : Holding). HoldsObjects addresses d.memory z.memory) (sym stands.holds) all.here.objects;
+        laid = all.here.laid;
+        sizes = λ n o is. (all.here.static n o is).0;
+        range = subst AreInRange (sym stands.holds) stands.in_range;
       }

@@ -1,9 +1,10 @@
 -- What the machine holds where it stands at a stop of a unit over homes, and when it shows what the unit shows.
-use Rattle.std.specs.Prelude.{◌≡◌, ℕ, ◌+◌, ◌%◌, ◌<◌, ◌≤◌, List, [], ◌∷◌, length, slice_index}
+use Rattle.std.specs.Prelude.{◌≡◌, ℕ, ◌+◌, ◌%◌, ◌<◌, ◌≤◌, Some, List, [], ◌∷◌, length, slice_get, slice_index}
 use Rattle.std.specs.Int.{cast_signed, w32}
 use Rattle.rv_machine.specs.State.{State, reg}
 use Rattle.rv_machine.specs.Run.{MachineEvent, Byte, Arrival, Exit, TooDeep}
-use Rattle.graph_core.specs.Memory.{Memory}
+use Rattle.graph_core.specs.Graphs.{StaticObject}
+use Rattle.graph_core.specs.Memory.{Memory, static_bytes}
 use Rattle.graph_core.specs.Paths.{Among}
 use Rattle.graph_core.specs.Runs as unit
 use Rattle.graph_core.specs.Runs.{Activation, Configuration}
@@ -13,10 +14,10 @@ use Rattle.homed_unit.specs.Seen.{Seen, Going, Over}
 use Rattle.homed_unit.specs.Statics.{static_at}
 use Rattle.emitted.specs.Emitted.{EmittedForm}
 use Rattle.emit_storage.specs.Storages.{object_at}
-use Rattle.machine_steps.specs.Holding.{held, word_at}
+use Rattle.machine_steps.specs.Holding.{AreInRange, held, word_at}
 use Rattle.machine_steps.specs.Programs.{address_of}
 use Rattle.emit_moves.specs.Doing.{value_of_home}
-use Rattle.emit_memory.specs.Meaning.{Means, HoldsObjects}
+use Rattle.emit_memory.specs.Meaning.{AreLaid, HoldsObjects, Means, size_at}
 use Rattle.emit_calls.specs.Waiting.{FunctionCode}
 use Rattle.emit_runs.specs.Laid.{Arrangement, code_of}
 
@@ -46,7 +47,8 @@ IsStack e codes addresses memory sp a (b ∷ more) =
 -- ---- Stops
 
 -- The machine stands where a unit over homes is at a stop: at the address of the place, with as many activations alive, their frames in the stack, in each home of the innermost one the word
--- of the value that was last written there, and at its address each object that lives, also those of activations that wait.
+-- of the value that was last written there, and at its address each object that lives, also those of activations that wait. Objects, also those that have ended, lie in memory, and
+-- static ones have their sizes; each register is a word, and each byte of memory a byte.
 pub record StandsAt (h : HomedForm) (e : EmittedForm) (a : Arrangement) (c : Configuration) (s : State) : Type 0 where
   pub addresses : ℕ → ℕ
   pub place : Among (record { place = c.here.place; address = s.pc }) e.stops
@@ -55,6 +57,9 @@ pub record StandsAt (h : HomedForm) (e : EmittedForm) (a : Arrangement) (c : Con
   pub stack : IsStack e (code_of h a) addresses (held s).memory (reg s 2) c.here c.waiting
   pub homes : (home : Home) → IsHomeAmong (code_of h a c.here.function).slots home → Means addresses c.memory (c.here.names (home_number home)) (value_of_home (code_of h a c.here.function).storage (held s) home)
   pub objects : HoldsObjects addresses c.memory (held s).memory
+  pub laid : AreLaid addresses c.memory
+  pub sizes : (n : ℕ) (o : StaticObject) → slice_get h.unit.statics n ≡ Some o → size_at c.memory n ≡ Some (static_bytes o)
+  pub range : AreInRange (held s)
 
 -- An event of the machine is one of the unit over homes: the same byte, the same status, a call too many in both, or a stop of the unit where the machine stands at it.
 pub data SameSeen (h : HomedForm) (e : EmittedForm) (a : Arrangement) : Seen → MachineEvent → Type 0 where
