@@ -1,0 +1,17 @@
+pub mod Markers
+pub mod Carried
+pub mod Timed
+pub mod StopAddresses
+pub mod Logs
+pub mod Reaching
+pub mod Shadowed
+pub mod Whole
+pub mod RecoveredRows
+pub mod Recipes
+pub mod Recovered
+pub mod Tables
+pub mod Truth
+pub mod Noted
+pub mod Words
+pub mod Nodes
+pub mod Coming

@@ -1,0 +1,2 @@
+//! The image of a program runs true to it behind passes, too, where each of them keeps what its unit does. There is no code here, only definitions and lemmas.
+#![tactic(auto)]
