@@ -13,13 +13,28 @@ use Rattle.c_tree.specs.Programs.{ProgramTree}
 use Rattle.debug_records.specs.declared.change.PassName.{PassName}
 use Rattle.debug_records.specs.declared.mode.Mode.{Mode}
 use Rattle.graph_core.specs.Graphs.{UnitForm}
+use Rattle.homed_unit.specs.Homed.{HomedForm}
 use Rattle.image_form.specs.Form.{form}
+use Rattle.lawful_lists.specs.Lawful.{AreLawful}
+use Rattle.lawful_lists.proofs.Lists.{lists_kept}
+use Rattle.passes_truth.specs.Kept.{IsKeptOf}
+use Rattle.program_image.specs.Behind.{ComesHomed}
 use Rattle.session.specs.declared.preparing.Made.{Made}
 use Rattle.session.specs.Behind.{AreLinesBehind, ComeOfProgram, ComesOfProgram, ComesOfSource, HoldsComing, ListsBehind}
 use Rattle.session.specs.Limits.{Held}
 use Rattle.session.specs.Prepared.{IsMade}
 use Rattle.session.specs.Served.{Saving}
 use Rattle.session.proofs.Sessions.{held_is}
+
+-- A unit with homes to which lawful passes lead is kept of the program.
+pub kept_behind : {P : Type 0} (named : P → PassName) (steps : P → UnitForm → UnitForm → Type 0) (passes : List P) (names : List Text) (p : ProgramTree) (h : HomedForm) → ComesHomed named steps passes names p h → AreLawful steps passes → IsKeptOf p h.unit
+kept_behind named steps passes names p h comes lawful = record {
+  first = comes.comes.first;
+  last = comes.unit;
+  built = comes.comes.built;
+  keeps = lists_kept named steps passes lawful names comes.comes.first comes.unit comes.comes.marked comes.comes.led;
+  same = comes.same;
+}
 
 -- a source has one program
 one_program : (source : List ℕ) (p q : ProgramTree) → program_of_source source ≡ Ok p → program_of_source source ≡ Ok q → p ≡ q
@@ -40,6 +55,7 @@ module _ {P : Type 0} (named : P → PassName) (steps : P → UnitForm → UnitF
     source = source;
     source_held = held_is 1048576 (held saving.source) source loads (program_is_short source is.image.understood);
     form = form made.image;
+    image = is.image.image;
     saved = ap held' (sym named_so) ∙ saved ∙ ap Some (same ∙ is.bytes);
     comes = comes;
   }

@@ -11,6 +11,8 @@ use Rattle.program_image.specs.Made.{IsHomed, IsMadeOf}
 use Rattle.program_image.specs.Shown.{ShowsAll}
 use Rattle.program_image.specs.Tables.{HasTablesOf}
 use Rattle.image_truth.proofs.Truth.{runs_true}
+use Rattle.passes_truth.proofs.Truth as behind-passes
+use Rattle.session.proofs.Behind.{kept_behind}
 use Rattle.session.proofs.Compiled.{compiled_behind, none_named}
 use Rattle.session.proofs.preparing.image_for.Goals as goal
 
@@ -53,10 +55,20 @@ returns-in-Some-clause-shows g c = λ none slots. subst (λ o. IfSome o (λ b. S
 pub returns-in-Some-clause-comes : goal.returns-in-Some-clause-comes
 returns-in-Some-clause-comes g c =
     let p = program_view c.args.program in
+    let h = homed_view c.in-Some.build.homed in
+    let m = form c.in-Some.build.image in
     let is = c.in_ok-build.ensures in
+    let homes : IsHomed c.args.mode h = subst (λ o. IfSome o (λ b. IsHomed c.args.mode (homed_view b.homed))) c.in-Some.is is.homed in
+    let made : IsMadeOf p h m = subst (λ o. IfSome o (λ b. IsMadeOf p (homed_view b.homed) (form b.image))) c.in-Some.is is.made in
+    let comes = subst (λ o. IfSome o (λ b. ComesHomed (λ p. (goal.UnitPass-dyn g (p.vtable, p.value)).named p.value) (λ p. (goal.UnitPass-dyn g (p.vtable, p.value)).steps p.value) c.args.passes.now (map letters c.args.names.now) p (homed_view b.homed))) c.in-Some.is is.comes in
     record {
-      homed = homed_view c.in-Some.build.homed;
-      homes = subst (λ o. IfSome o (λ b. IsHomed c.args.mode (homed_view b.homed))) c.in-Some.is is.homed;
-      made = subst (λ o. IfSome o (λ b. IsMadeOf p (homed_view b.homed) (form b.image))) c.in-Some.is is.made;
-      comes = subst (λ o. IfSome o (λ b. ComesHomed (λ p. (goal.UnitPass-dyn g (p.vtable, p.value)).named p.value) (λ p. (goal.UnitPass-dyn g (p.vtable, p.value)).steps p.value) c.args.passes.now (map letters c.args.names.now) p (homed_view b.homed))) c.in-Some.is is.comes;
+      homed = h;
+      homes = homes;
+      made = made;
+      comes = comes;
+      runs = λ lawful. behind-passes.runs_true c.args.mode p h m c.requires.laws homes made
+          (subst (λ o. IfSome o (λ b. HasTablesOf p (form b.image))) c.in-Some.is is.tables)
+          (subst (λ o. IfSome o (λ b. IsImage (form b.image))) c.in-Some.is is.image)
+          (kept_behind (λ p. (goal.UnitPass-dyn g (p.vtable, p.value)).named p.value) (λ p. (goal.UnitPass-dyn g (p.vtable, p.value)).steps p.value) c.args.passes.now (map letters c.args.names.now) p h comes lawful)
+          c.requires.names;
     }
