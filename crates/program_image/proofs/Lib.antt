@@ -1,10 +1,8 @@
-pub mod Doing
 pub mod Elements
 pub mod MadeAgain
 pub mod Owners
 pub mod Tables
 pub mod Units
-pub mod Unremoved
 pub mod Plain
 pub mod Borne
 pub mod Behind

@@ -3,19 +3,19 @@ use Rattle.std.specs.Prelude.{◌≡◌, ℕ, List}
 use Rattle.c_tree.specs.Programs.{ProgramTree}
 use Rattle.debug_records.specs.declared.change.PassName.{PassName}
 use Rattle.graph_core.specs.Graphs.{UnitForm}
-use Rattle.graph_core.specs.WellMarked.{AreWellMarked}
 use Rattle.home_assign.specs.Changes.{HaveChanges}
 use Rattle.homed_unit.specs.Homed.{HomedForm}
+use Rattle.pass_law.specs.Keeps.{Keeps}
 use Rattle.pass_runs.specs.Leading.{Lead}
 use Rattle.program_unit.specs.Built.{IsBuilt}
 
 module _ {P : Type 0} (named : P → PassName) (steps : P → UnitForm → UnitForm → Type 0) (passes : List P) (names : List (List ℕ)) (p : ProgramTree) where
-  -- A UNIT COMES OF A PROGRAM behind passes: the names lead to it from one that is built of the program and well marked, each by a step of the first pass of that name.
+  -- A UNIT COMES OF A PROGRAM behind passes: the names lead to it from one that is built of the program, each by a step of the first pass of that name; and it keeps what that one does.
   pub record ComesOf (u : UnitForm) : Type 0 where
     pub first : UnitForm
     pub built : IsBuilt p first
-    pub marked : AreWellMarked first
     pub led : Lead named steps passes names first u
+    pub keeps : Keeps first u
 
   -- A UNIT WITH HOMES COMES OF A PROGRAM behind passes: but for its log it is a unit that does, and its log is that one's and behind it the changes of registers that are shared.
   pub record ComesHomed (h : HomedForm) : Type 0 where

@@ -13,7 +13,6 @@ ghost use Rattle.image_form.specs.Rules.{IsImage};
 ghost use Rattle.image_form.specs.Spelling.{spelling};
 ghost use Rattle.homed_unit.specs.Homed.{homed_view};
 ghost use Rattle.program_image.specs.Behind.{ComesHomed};
-ghost use Rattle.program_image.specs.Compiled.{IsCompiledOf};
 ghost use Rattle.program_image.specs.Made.{IsHomed, IsMadeOf};
 ghost use Rattle.program_image.specs.Shown.{ShowsAll};
 ghost use Rattle.program_image.specs.Tables.{HasTablesOf};
@@ -36,8 +35,8 @@ fn is_plain(names: &[PassName], mode: Mode) -> bool
 }
 
 /// The image of a program that keeps the laws of accepted ones, with its scalars in slots or in registers, behind the passes of these names. What is given is an image whose tables are the
-/// program's, and that is made of the code of its unit with homes, of which each pass in its turn made a step: it was written and read back, and what was read is given. Where no pass is run
-/// the unit does what the program does. Where variables are kept in slots too, it is compiled, and each variable is shown wherever it is visible. Else none where the program is not compiled
+/// program's, and that is made of the code of its unit with homes, of which each pass in its turn made a step, and which keeps what the unit does that is built of the program: it was written and read back, and what was read is given. Where no pass is run
+/// and variables are kept in slots, it is compiled, and each variable is shown wherever it is visible. Else none where the program is not compiled
 /// so far. The only error is want of memory.
 pub fn image_of_program(
     alloc: Global,
@@ -56,7 +55,6 @@ pub fn image_of_program(
     ensures made { IfOk result (λ o. IfSome o (λ b. IsMadeOf (program_view program) (homed_view b.homed) (form b.image))) }
     ensures homed { IfOk result (λ o. IfSome o (λ b. IsHomed mode (homed_view b.homed))) }
     ensures comes { IfOk result (λ o. IfSome o (λ b. ComesHomed (λ p. named p) (λ p. steps p) passes.now (map letters names.now) (program_view program) (homed_view b.homed))) }
-    ensures compiled { names.now ≡ [] → IfOk result (λ o. IfSome o (λ b. IsCompiledOf (program_view program) (homed_view b.homed).unit)) }
     ensures shows { names.now ≡ [] → mode ≡ Slots → IfOk result (λ o. IfSome o (λ b. ShowsAll (form b.image))) }
     ensures plain { names.now ≡ [] → mode ≡ Slots → IfOk result (λ o. IfNone o ⊥) }
     ensures program { IfOk result (λ o. IfSome o (λ b. program_view b.program ≡ program_view program)) }

@@ -3,7 +3,9 @@ use Rattle.std.specs.Prelude.{IfOk, IfSome, Option, Some, None, Result, Ok, Err}
 use Rattle.graph_core.specs.declared.unit.Unit as declared-unit
 use Rattle.graph_core.specs.Graphs.{UnitForm, unit_view}
 use Rattle.graph_core.specs.Validity.{IsValid}
+use Rattle.graph_core.specs.WellMarked.{AreWellMarked}
 use Rattle.graph_edits.specs.Kept.{ShareTheSame}
+use Rattle.pass_law.specs.Keeps.{Keeps}
 use Rattle.program_passes.specs.Steps.{MakesValid}
 
 -- where it has two properties it has each that follows from them
@@ -31,3 +33,10 @@ of_four (Err e) One Other Third Fourth All follows one other third fourth = tt
 pub made_valid : {E : Type 0} (u : UnitForm) (made : Result (Option declared-unit.Unit) E) → IfOk made (λ o. IfSome o (λ v. IsValid (unit_view v))) → IfOk made (λ o. IfSome o (λ v. ShareTheSame u (unit_view v)))
     → IfOk made (λ o. IfSome o (λ v. MakesValid u (unit_view v)))
 made_valid u made valid shared = of_both made (λ v. IsValid (unit_view v)) (λ v. ShareTheSame u (unit_view v)) (λ v. MakesValid u (unit_view v)) (λ v one other. record { valid = one; shared = other }) valid shared
+
+-- What is made by a lawful step of a well marked unit keeps what that does.
+pub made_keeps : {E : Type 0} (Step : UnitForm → UnitForm → Type 0) → ((u v : UnitForm) → AreWellMarked u → Step u v → Keeps u v)
+    → (u : UnitForm) (made : Result (Option declared-unit.Unit) E) → IfOk made (λ o. IfSome o (λ v. Step u (unit_view v))) → AreWellMarked u → IfOk made (λ o. IfSome o (λ v. Keeps u (unit_view v)))
+made_keeps Step lawful u (Ok (Some v)) step marked = lawful u (unit_view v) marked step
+made_keeps Step lawful u (Ok None) step marked = tt
+made_keeps Step lawful u (Err e) step marked = tt

@@ -15,8 +15,6 @@ use Rattle.debug_records.specs.declared.mode.Mode.{Mode}
 use Rattle.graph_core.specs.Graphs.{UnitForm}
 use Rattle.homed_unit.specs.Homed.{HomedForm}
 use Rattle.image_form.specs.Form.{form}
-use Rattle.lawful_lists.specs.Lawful.{AreLawful}
-use Rattle.lawful_lists.proofs.Lists.{lists_kept}
 use Rattle.passes_truth.specs.Kept.{IsKeptOf}
 use Rattle.program_image.specs.Behind.{ComesHomed}
 use Rattle.session.specs.declared.preparing.Made.{Made}
@@ -26,13 +24,13 @@ use Rattle.session.specs.Prepared.{IsMade}
 use Rattle.session.specs.Served.{Saving}
 use Rattle.session.proofs.Sessions.{held_is}
 
--- A unit with homes to which lawful passes lead is kept of the program.
-pub kept_behind : {P : Type 0} (named : P → PassName) (steps : P → UnitForm → UnitForm → Type 0) (passes : List P) (names : List Text) (p : ProgramTree) (h : HomedForm) → ComesHomed named steps passes names p h → AreLawful steps passes → IsKeptOf p h.unit
-kept_behind named steps passes names p h comes lawful = record {
+-- A unit with homes that comes of a program is kept of it.
+pub kept_behind : {P : Type 0} (named : P → PassName) (steps : P → UnitForm → UnitForm → Type 0) (passes : List P) (names : List Text) (p : ProgramTree) (h : HomedForm) → ComesHomed named steps passes names p h → IsKeptOf p h.unit
+kept_behind named steps passes names p h comes = record {
   first = comes.comes.first;
   last = comes.unit;
   built = comes.comes.built;
-  keeps = lists_kept named steps passes lawful names comes.comes.first comes.unit comes.comes.marked comes.comes.led;
+  keeps = comes.comes.keeps;
   same = comes.same;
 }
 

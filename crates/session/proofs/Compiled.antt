@@ -1,4 +1,4 @@
--- Passes by their names: what is compiled behind none.
+-- What is so of the image of a source.
 use Rattle.std.proofs.Common.{◌≡◌, ℕ, List, [], ◌∷◌, map, refl, subst}
 use Rattle.std.specs.Prelude.{IfOk, IfSome, Ok, Option, Result, Some}
 use Rattle.command_line.specs.Words.{Text}
@@ -18,7 +18,7 @@ use Rattle.homed_unit.specs.Homed.{HomedForm}
 use Rattle.image_form.specs.Form.{Form, form}
 use Rattle.image_form.specs.Rules.{IsImage}
 use Rattle.image_form.specs.Spelling.{spelling}
-use Rattle.program_image.specs.Compiled.{IsCompiledImage, IsCompiledOf}
+use Rattle.program_image.specs.Compiled.{IsCompiledImage}
 use Rattle.program_image.specs.Made.{IsHomed, IsMadeOf}
 
 -- passes of no names are none
@@ -26,29 +26,25 @@ pub none_named : (names : List PassName) → map letters names ≡ [] → names 
 none_named [] none = refl
 none_named (name ∷ names) none = cc
 
--- what is compiled of a program, behind passes of these names
-pub compiled_behind : (p : ProgramTree) (names : List PassName) (mode : Mode) (h : HomedForm) (m : Form) → IsMadeOf p h m → IsHomed mode h → (names ≡ [] → IsCompiledOf p h.unit) → IsCompiledImage p (map letters names) mode m
-compiled_behind p names mode h m made homes compiled = record { homed = h; homes = homes; made = made; does = λ none. (compiled (none_named names none)).does }
-
 -- a source has one program
 one_program : (source : List ℕ) (p q : ProgramTree) → program_of_source source ≡ Ok p → program_of_source source ≡ Ok q → p ≡ q
 one_program source p q one other = cc
 
 -- WHAT IS SO OF THE IMAGE OF A SOURCE'S PROGRAM IS SO OF THE SOURCE
-pub truthful_by : (source : List ℕ) (names : List Text) (mode : Mode) (p : ProgramTree) (m : Form) → program_of_source source ≡ Ok p → (names ≡ [] → RunsTrue p m) → (names ≡ [] → mode ≡ Slots → ShowsAll m) → HasTablesOf p m → IsCompiledImage p names mode m
+pub truthful_by : (source : List ℕ) (names : List Text) (mode : Mode) (p : ProgramTree) (m : Form) → program_of_source source ≡ Ok p → RunsTrue p m → (names ≡ [] → mode ≡ Slots → ShowsAll m) → HasTablesOf p m → IsCompiledImage p mode m
     → IsTruthfulTo source names mode m
 truthful_by source names mode p m is runs shows tables compiled = record {
-  runs = λ none q other. subst (λ (r : ProgramTree). RunsTrue r m) (one_program source p q is other) (runs none);
+  runs = λ q other. subst (λ (r : ProgramTree). RunsTrue r m) (one_program source p q is other) runs;
   shows = shows;
   tables = λ q other. subst (λ (r : ProgramTree). HasTablesOf r m) (one_program source p q is other) tables;
-  compiled = λ q other. subst (λ (r : ProgramTree). IsCompiledImage r names mode m) (one_program source p q is other) compiled;
+  compiled = λ q other. subst (λ (r : ProgramTree). IsCompiledImage r mode m) (one_program source p q is other) compiled;
 }
 
 -- An image that is made of the program of a source is one of the source.
 pub made_of : {E : Type 0} (source : List ℕ) (names : List Text) (mode : Mode) (p : ProgramTree) (result : Result (Option Made) E) (made : Made) → result ≡ Ok (Some made) → HasProgram source → program_of_source source ≡ Ok p
     → IfOk result (λ o. IfSome o (λ (m : Made). IsImage (form m.image))) → IfOk result (λ o. IfSome o (λ (m : Made). m.bytes.items ≡ spelling (form m.image)))
-    → (names ≡ [] → IfOk result (λ o. IfSome o (λ (m : Made). RunsTrue p (form m.image)))) → (names ≡ [] → mode ≡ Slots → IfOk result (λ o. IfSome o (λ (m : Made). ShowsAll (form m.image))))
-    → IfOk result (λ o. IfSome o (λ (m : Made). HasTablesOf p (form m.image))) → IfOk result (λ o. IfSome o (λ (m : Made). IsCompiledImage p names mode (form m.image))) → IsMade source names mode made
+    → IfOk result (λ o. IfSome o (λ (m : Made). RunsTrue p (form m.image))) → (names ≡ [] → mode ≡ Slots → IfOk result (λ o. IfSome o (λ (m : Made). ShowsAll (form m.image))))
+    → IfOk result (λ o. IfSome o (λ (m : Made). HasTablesOf p (form m.image))) → IfOk result (λ o. IfSome o (λ (m : Made). IsCompiledImage p mode (form m.image))) → IsMade source names mode made
 made_of source names mode p result made is understood program image bytes runs shows tables compiled =
     let image_is = subst (λ r. IfOk r (λ o. IfSome o (λ (m : Made). IsImage (form m.image)))) is image in
     let bytes_are = subst (λ r. IfOk r (λ o. IfSome o (λ (m : Made). m.bytes.items ≡ spelling (form m.image)))) is bytes in
@@ -56,10 +52,10 @@ made_of source names mode p result made is understood program image bytes runs s
       image = record {
         understood = understood;
         image = image_is;
-        truthful = truthful_by source names mode p (form made.image) program (λ none. subst (λ r. IfOk r (λ o. IfSome o (λ (m : Made). RunsTrue p (form m.image)))) is (runs none))
+        truthful = truthful_by source names mode p (form made.image) program (subst (λ r. IfOk r (λ o. IfSome o (λ (m : Made). RunsTrue p (form m.image)))) is runs)
             (λ none slots. subst (λ r. IfOk r (λ o. IfSome o (λ (m : Made). ShowsAll (form m.image)))) is (shows none slots))
             (subst (λ r. IfOk r (λ o. IfSome o (λ (m : Made). HasTablesOf p (form m.image)))) is tables)
-            (subst (λ r. IfOk r (λ o. IfSome o (λ (m : Made). IsCompiledImage p names mode (form m.image)))) is compiled);
+            (subst (λ r. IfOk r (λ o. IfSome o (λ (m : Made). IsCompiledImage p mode (form m.image)))) is compiled);
       };
       bytes = bytes_are;
     }

@@ -14,22 +14,18 @@ use Rattle.homed_unit.specs.Homed.{HomedForm}
 use Rattle.image_form.specs.Form.{Form}
 use Rattle.image_form.specs.Rules.{IsImage}
 use Rattle.image_form.specs.Spelling.{spelling}
-use Rattle.image_truth.specs.Truthful.{RunsTrue}
-use Rattle.lawful_lists.specs.Lawful.{AreLawful}
 use Rattle.program_image.specs.Behind.{ComesHomed, ComesOf}
 use Rattle.program_image.specs.Made.{IsHomed, IsMadeOf}
 use Rattle.session.specs.Limits.{Held}
 use Rattle.session.specs.Served.{IfGiven, Saving, saving_of}
 
 module _ {P : Type 0} (named : P → PassName) (steps : P → UnitForm → UnitForm → Type 0) (handed_in : List P) where
-  -- AN IMAGE COMES OF A PROGRAM behind passes of these names, with homes of the mode: it is made of a unit with such homes to which the passes lead, each in its turn by one step; and
-  -- where the passes are lawful, it runs true to the program.
+  -- AN IMAGE COMES OF A PROGRAM behind passes of these names, with homes of the mode: it is made of a unit with such homes to which the passes lead, each in its turn by one step.
   pub record ComesOfProgram (p : ProgramTree) (names : List Text) (mode : Mode) (form : Form) : Type 0 where
     pub homed : HomedForm
     pub homes : IsHomed mode homed
     pub made : IsMadeOf p homed form
     pub comes : ComesHomed named steps handed_in names p homed
-    pub runs : AreLawful steps handed_in → RunsTrue p form
 
   -- it comes of the program of a source
   abbrev pub ComesOfSource : (source : List ℕ) → (names : List Text) → Mode → Form → Type 0

@@ -11,21 +11,21 @@ use Rattle.program_image.specs.Compiled.{IsCompiledImage}
 use Rattle.program_image.specs.Shown.{ShowsAll}
 use Rattle.program_image.specs.Tables.{HasTablesOf}
 
--- Where no pass is run, the image runs true to the program of its source: on each input output, ending and stops are the program's, and at each stop the text of each variable that is shown is that of its value.
-abbrev pub RunsAsItsSource : (source : List ℕ) → (passes : List Text) → Form → Type 0
-RunsAsItsSource source passes form = passes ≡ [] → (p : ProgramTree) → program_of_source source ≡ Ok p → RunsTrue p form
+-- The image runs true to the program of its source: on each input output, ending and stops are the program's, and at each stop the text of each variable that is shown is that of its value.
+abbrev pub RunsAsItsSource : (source : List ℕ) → Form → Type 0
+RunsAsItsSource source form = (p : ProgramTree) → program_of_source source ≡ Ok p → RunsTrue p form
 
 -- The tables of the image are those of the source's program: its places, its flow, its assignments, and the variables that are visible at each place.
 abbrev pub HasTablesOfSource : (source : List ℕ) → Form → Type 0
 HasTablesOfSource source form = (p : ProgramTree) → program_of_source source ≡ Ok p → HasTablesOf p form
 
--- It is made of a unit with homes of the mode, over which its code does what that unit does; and where no pass is run, this unit does what the source's program does, as far as C defines it.
-abbrev pub IsCompiledOfSource : (source : List ℕ) → (passes : List Text) → Mode → Form → Type 0
-IsCompiledOfSource source passes mode form = (p : ProgramTree) → program_of_source source ≡ Ok p → IsCompiledImage p passes mode form
+-- It is made of a unit with homes of the mode, over which its code does what that unit does.
+abbrev pub IsCompiledOfSource : (source : List ℕ) → Mode → Form → Type 0
+IsCompiledOfSource source mode form = (p : ProgramTree) → program_of_source source ≡ Ok p → IsCompiledImage p mode form
 
--- WHAT IS PROMISED OF AN IMAGE AND ITS SOURCE, of every source: its tables are the source's, and it is compiled of it; and where no pass is run, it runs true to the source, and with slots shows every variable.
+-- WHAT IS PROMISED OF AN IMAGE AND ITS SOURCE, of every source, every list of passes and both modes: it runs true to the source, its tables are the source's, and it is compiled of it; and where no pass is run, with slots, it shows every variable.
 pub record IsTruthfulTo (source : List ℕ) (passes : List Text) (mode : Mode) (form : Form) : Type 0 where
-  pub runs : RunsAsItsSource source passes form
+  pub runs : RunsAsItsSource source form
   pub shows : passes ≡ [] → mode ≡ Slots → ShowsAll form
   pub tables : HasTablesOfSource source form
-  pub compiled : IsCompiledOfSource source passes mode form
+  pub compiled : IsCompiledOfSource source mode form

@@ -52,10 +52,10 @@ fn image_for(
     requires spots { HasSpots (program_view program) }
     ensures image { IfOk result (λ o. IfSome o (λ made. IsImage (form made.image))) }
     ensures bytes { IfOk result (λ o. IfSome o (λ made. made.bytes.items ≡ spelling (form made.image))) }
-    ensures runs { map letters names.now ≡ [] → IfOk result (λ o. IfSome o (λ made. RunsTrue (program_view program) (form made.image))) }
+    ensures runs { IfOk result (λ o. IfSome o (λ made. RunsTrue (program_view program) (form made.image))) }
     ensures shows { map letters names.now ≡ [] → mode ≡ Slots → IfOk result (λ o. IfSome o (λ made. ShowsAll (form made.image))) }
     ensures tables { IfOk result (λ o. IfSome o (λ made. HasTablesOf (program_view program) (form made.image))) }
-    ensures compiled { IfOk result (λ o. IfSome o (λ made. IsCompiledImage (program_view program) (map letters names.now) mode (form made.image))) }
+    ensures compiled { IfOk result (λ o. IfSome o (λ made. IsCompiledImage (program_view program) mode (form made.image))) }
     ensures comes { IfOk result (λ o. IfSome o (λ made. ComesOfProgram (λ p. named p) (λ p. steps p) passes.now (program_view program) (map letters names.now) mode (form made.image))) }
     ensures left_out { IfOk result (λ o. IfNone o (¬ IsPlain (map letters names.now) mode)) }
 {

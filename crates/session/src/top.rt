@@ -92,7 +92,7 @@ pub fn session<S: Shelf, K: Sink>(
     ensures silent { AreNotServed (λ p. named p) passes.now (map string_bytes words.now) → K.tells sink.old ≡ true → K.taken sink.new ≡ K.taken sink.old }
 
     // Under the name of the image a `debug` or a `compile` that is done, or that failed at a line and not at the save, leaves an image that is
-    // truthful to the source, and one that is cut off the first part of such an image, or what stood there.
+    // truthful to the source, whatever the list of passes and the mode, and one that is cut off the first part of such an image, or what stood there.
     ensures saved { (asked : JobGiven) → AreServed (λ p. named p) passes.now (map string_bytes words.now) asked → result ≡ Done → S.tells shelf.old ≡ true → HasSaved (S.held shelf.old) (S.held shelf.new) asked }
     ensures whole { (asked : JobGiven) → AreServed (λ p. named p) passes.now (map string_bytes words.now) asked → result ≡ WriteFault → ¬ RoseOrStands (S.save_count shelf.old) (S.save_count shelf.new) → S.tells shelf.old ≡ true → HasSaved (S.held shelf.old) (S.held shelf.new) asked }
     ensures left { (asked : JobGiven) → AreServed (λ p. named p) passes.now (map string_bytes words.now) asked → IsCut result → S.tells shelf.old ≡ true → HasLeft (S.held shelf.old) (S.held shelf.new) asked }
@@ -102,8 +102,7 @@ pub fn session<S: Shelf, K: Sink>(
     ensures part { (asked : JobGiven) → AreServed (λ p. named p) passes.now (map string_bytes words.now) asked → IsCut result → S.tells shelf.old ≡ true → K.tells sink.old ≡ true → TookPart (S.held shelf.old) (S.held shelf.new) asked (K.taken sink.old) (K.taken sink.new) }
     ensures done { (asked : JobGiven) → AreServed (λ p. named p) passes.now (map string_bytes words.now) asked → result ≡ Done → S.tells shelf.old ≡ true → K.tells sink.old ≡ true → IsDone (S.held shelf.old) (S.held shelf.new) asked (K.taken sink.old) (K.taken sink.new) }
 
-    // What was saved, and what `passes` puts out, comes of the source behind just the passes that the words name, each in its turn by one step. Where the passes that
-    // were handed in are lawful, what was saved runs true to the source, whatever the list and the mode.
+    // What was saved, and what `passes` puts out, comes of the source behind just the passes that the words name, each in its turn by one step.
     ensures behind { (asked : JobGiven) → AreServed (λ p. named p) passes.now (map string_bytes words.now) asked → result ≡ Done → S.tells shelf.old ≡ true → HasSavedComing (λ p. named p) (λ p. steps p) passes.now (S.held shelf.old) (S.held shelf.new) asked }
     ensures behind_whole { (asked : JobGiven) → AreServed (λ p. named p) passes.now (map string_bytes words.now) asked → result ≡ WriteFault → ¬ RoseOrStands (S.save_count shelf.old) (S.save_count shelf.new) → S.tells shelf.old ≡ true → HasSavedComing (λ p. named p) (λ p. steps p) passes.now (S.held shelf.old) (S.held shelf.new) asked }
     ensures listed { (asked : JobGiven) → AreServed (λ p. named p) passes.now (map string_bytes words.now) asked → result ≡ Done → S.tells shelf.old ≡ true → K.tells sink.old ≡ true → HasListed (λ p. named p) (λ p. steps p) passes.now (S.held shelf.old) asked (K.taken sink.old) (K.taken sink.new) }

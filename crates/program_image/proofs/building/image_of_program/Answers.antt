@@ -11,13 +11,11 @@ use Rattle.homed_unit.specs.Homed.{homed_view}
 use Rattle.program_unit.specs.Built.{IsBuilt}
 use Rattle.program_image.specs.Behind.{ComesOf}
 use Rattle.program_image.specs.Made.{IsMadeOf}
-use Rattle.program_image.proofs.Doing.{does_by}
 use Rattle.program_image.specs.Shown.{ShowsAll}
 use Rattle.program_image.proofs.MadeAgain.{made_again}
 use Rattle.program_image.proofs.Plain.{plain_of, shows_again}
 use Rattle.program_image.proofs.Tables.{tables_again}
 use Rattle.program_image.proofs.Units.{log_only}
-use Rattle.program_image.proofs.Unremoved.{built_removes_nothing}
 use Rattle.program_image.proofs.building.image_of_program.Goals as goal
 
 pub draft_of-requires-clause-shape : goal.draft_of-requires-clause-shape
@@ -60,15 +58,6 @@ pub returns-clause-homed : goal.returns-clause-homed
 returns-clause-homed g c =
     let is = c.in_ok-homed.ensures in
     record { valid = is.valid; homes = is.homes; mode_is = is.mode; slots = is.slots; registers = is.rule; apart = is.apart }
-
-pub returns-clause-compiled : goal.returns-clause-compiled
-returns-clause-compiled g c =
-    let p = program_view c.args.program in
-    let unit = unit_view c.in-Some.unit in
-    let same = c.in_ok-homed.ensures.unit in
-    λ none.
-    let built = subst (λ o. IfSome o (λ u. IsBuilt p (unit_view u))) c.in-Some.is (c.in_ok-unit.ensures.built none) in
-    record { unit = unit; built = built; same = same; unremoved = built_removes_nothing unit (homed_view c.in_ok-homed.homed) c.in_ok-homed.ensures.changes built.forms.log; does = does_by p unit (unit_view c.in_ok-homed.homed.unit) same built.does }
 
 pub draft_of-requires-clause-names : goal.draft_of-requires-clause-names
 draft_of-requires-clause-names g c = c.requires.names

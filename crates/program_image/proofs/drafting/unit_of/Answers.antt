@@ -2,8 +2,7 @@ use Rattle.std.proofs.Common.{map}
 use Rattle.c_tree.specs.Programs.{program_view}
 use Rattle.debug_records.specs.Change.{letters}
 use Rattle.graph_core.specs.Graphs.{unit_view}
-use Rattle.program_image.proofs.Behind.{comes_by}
-use Rattle.program_image.proofs.Doing.{built_by}
+use Rattle.program_image.proofs.Behind.{built_by, comes_by}
 use Rattle.program_image.proofs.Plain.{well_marked}
 use Rattle.program_image.proofs.Units.{shaped_by}
 use Rattle.program_image.proofs.drafting.unit_of.Goals as goal
@@ -32,4 +31,4 @@ returns-clause-comes g c =
     let u = unit_view c.in_ok-unit.unit in
     let built = c.in_ok-unit.ensures.built in
     comes_by (λ p. (goal.UnitPass-dyn g (p.vtable, p.value)).named p.value) (λ p. (goal.UnitPass-dyn g (p.vtable, p.value)).steps p.value) c.args.passes.now (map letters c.args.names.now) p
-    u c.run_passes.result built (well_marked p u c.requires.laws built c.in_ok-unit.ensures.valid) c.run_passes.ensures.led
+    u c.run_passes.result built c.run_passes.ensures.led (c.run_passes.ensures.keeps (well_marked p u c.requires.laws built c.in_ok-unit.ensures.valid))

@@ -6,14 +6,12 @@ use Rattle.homed_unit.specs.Homed.{homed_view}
 use Rattle.image_form.specs.Form.{form}
 use Rattle.image_form.specs.Rules.{IsImage}
 use Rattle.program_image.specs.Behind.{ComesHomed}
-use Rattle.program_image.specs.Compiled.{IsCompiledOf}
 use Rattle.program_image.specs.Made.{IsHomed, IsMadeOf}
 use Rattle.program_image.specs.Shown.{ShowsAll}
 use Rattle.program_image.specs.Tables.{HasTablesOf}
-use Rattle.image_truth.proofs.Truth.{runs_true}
-use Rattle.passes_truth.proofs.Truth as behind-passes
+use Rattle.passes_truth.proofs.Truth.{runs_true}
 use Rattle.session.proofs.Behind.{kept_behind}
-use Rattle.session.proofs.Compiled.{compiled_behind, none_named}
+use Rattle.session.proofs.Compiled.{none_named}
 use Rattle.session.proofs.preparing.image_for.Goals as goal
 
 pub image_of_program-requires-clause-fits : goal.image_of_program-requires-clause-fits
@@ -32,22 +30,11 @@ pub returns-in-Some-clause-compiled : goal.returns-in-Some-clause-compiled
 returns-in-Some-clause-compiled g c =
     let p = program_view c.args.program in
     let is = c.in_ok-build.ensures in
-    compiled_behind p c.args.names.now c.args.mode (homed_view c.in-Some.build.homed) (form c.in-Some.build.image)
-    (subst (λ o. IfSome o (λ b. IsMadeOf p (homed_view b.homed) (form b.image))) c.in-Some.is is.made)
-    (subst (λ o. IfSome o (λ b. IsHomed c.args.mode (homed_view b.homed))) c.in-Some.is is.homed)
-    (λ none. subst (λ o. IfSome o (λ b. IsCompiledOf p (homed_view b.homed).unit)) c.in-Some.is (is.compiled none))
-
-pub returns-in-Some-clause-runs : goal.returns-in-Some-clause-runs
-returns-in-Some-clause-runs g c = λ none.
-    let p = program_view c.args.program in
-    let is = c.in_ok-build.ensures in
-    runs_true c.args.mode p (homed_view c.in-Some.build.homed) (form c.in-Some.build.image) c.requires.laws
-    (subst (λ o. IfSome o (λ b. IsHomed c.args.mode (homed_view b.homed))) c.in-Some.is is.homed)
-    (subst (λ o. IfSome o (λ b. IsMadeOf p (homed_view b.homed) (form b.image))) c.in-Some.is is.made)
-    (subst (λ o. IfSome o (λ b. HasTablesOf p (form b.image))) c.in-Some.is is.tables)
-    (subst (λ o. IfSome o (λ b. IsImage (form b.image))) c.in-Some.is is.image)
-    (subst (λ o. IfSome o (λ b. IsCompiledOf p (homed_view b.homed).unit)) c.in-Some.is (is.compiled (none_named c.args.names.now none)))
-    c.requires.names
+    record {
+      homed = homed_view c.in-Some.build.homed;
+      homes = subst (λ o. IfSome o (λ b. IsHomed c.args.mode (homed_view b.homed))) c.in-Some.is is.homed;
+      made = subst (λ o. IfSome o (λ b. IsMadeOf p (homed_view b.homed) (form b.image))) c.in-Some.is is.made;
+    }
 
 pub returns-in-Some-clause-shows : goal.returns-in-Some-clause-shows
 returns-in-Some-clause-shows g c = λ none slots. subst (λ o. IfSome o (λ b. ShowsAll (form b.image))) c.in-Some.is (c.in_ok-build.ensures.shows (none_named c.args.names.now none) slots)
@@ -55,20 +42,22 @@ returns-in-Some-clause-shows g c = λ none slots. subst (λ o. IfSome o (λ b. S
 pub returns-in-Some-clause-comes : goal.returns-in-Some-clause-comes
 returns-in-Some-clause-comes g c =
     let p = program_view c.args.program in
-    let h = homed_view c.in-Some.build.homed in
-    let m = form c.in-Some.build.image in
     let is = c.in_ok-build.ensures in
-    let homes : IsHomed c.args.mode h = subst (λ o. IfSome o (λ b. IsHomed c.args.mode (homed_view b.homed))) c.in-Some.is is.homed in
-    let made : IsMadeOf p h m = subst (λ o. IfSome o (λ b. IsMadeOf p (homed_view b.homed) (form b.image))) c.in-Some.is is.made in
-    let comes = subst (λ o. IfSome o (λ b. ComesHomed (λ p. (goal.UnitPass-dyn g (p.vtable, p.value)).named p.value) (λ p. (goal.UnitPass-dyn g (p.vtable, p.value)).steps p.value) c.args.passes.now (map letters c.args.names.now) p (homed_view b.homed))) c.in-Some.is is.comes in
     record {
-      homed = h;
-      homes = homes;
-      made = made;
-      comes = comes;
-      runs = λ lawful. behind-passes.runs_true c.args.mode p h m c.requires.laws homes made
-          (subst (λ o. IfSome o (λ b. HasTablesOf p (form b.image))) c.in-Some.is is.tables)
-          (subst (λ o. IfSome o (λ b. IsImage (form b.image))) c.in-Some.is is.image)
-          (kept_behind (λ p. (goal.UnitPass-dyn g (p.vtable, p.value)).named p.value) (λ p. (goal.UnitPass-dyn g (p.vtable, p.value)).steps p.value) c.args.passes.now (map letters c.args.names.now) p h comes lawful)
-          c.requires.names;
+      homed = homed_view c.in-Some.build.homed;
+      homes = subst (λ o. IfSome o (λ b. IsHomed c.args.mode (homed_view b.homed))) c.in-Some.is is.homed;
+      made = subst (λ o. IfSome o (λ b. IsMadeOf p (homed_view b.homed) (form b.image))) c.in-Some.is is.made;
+      comes = subst (λ o. IfSome o (λ b. ComesHomed (λ p. (goal.UnitPass-dyn g (p.vtable, p.value)).named p.value) (λ p. (goal.UnitPass-dyn g (p.vtable, p.value)).steps p.value) c.args.passes.now (map letters c.args.names.now) p (homed_view b.homed))) c.in-Some.is is.comes;
     }
+
+pub returns-in-Some-clause-runs : goal.returns-in-Some-clause-runs
+returns-in-Some-clause-runs g c =
+    let p = program_view c.args.program in
+    let h = homed_view c.in-Some.build.homed in
+    let is = c.in_ok-build.ensures in
+    let comes = returns-in-Some-clause-comes g c in
+    runs_true c.args.mode p h (form c.in-Some.build.image) c.requires.laws comes.homes comes.made
+    (subst (λ o. IfSome o (λ b. HasTablesOf p (form b.image))) c.in-Some.is is.tables)
+    (subst (λ o. IfSome o (λ b. IsImage (form b.image))) c.in-Some.is is.image)
+    (kept_behind (λ p. (goal.UnitPass-dyn g (p.vtable, p.value)).named p.value) (λ p. (goal.UnitPass-dyn g (p.vtable, p.value)).steps p.value) c.args.passes.now (map letters c.args.names.now) p h comes.comes)
+    c.requires.names

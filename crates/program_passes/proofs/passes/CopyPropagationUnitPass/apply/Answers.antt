@@ -8,7 +8,8 @@ use Rattle.replaced_reads.specs.Reads.{IsReplacedRead}
 use Rattle.graph_core.specs.Graphs.{unit_view}
 use Rattle.pass_runs.proofs.Shape.{kept_but_blocks}
 use Rattle.program_passes.specs.Steps.{MakesValid, PropagatesCopies}
-use Rattle.program_passes.proofs.Made.{made_valid, of_three}
+use Rattle.program_passes.proofs.Made.{made_keeps, made_valid, of_three}
+use Rattle.program_passes.proofs.Lawful.{copies_kept}
 use Rattle.program_passes.proofs.passes.CopyPropagationUnitPass.apply.Goals as goal
 
 pub returns-clause-kept : goal.returns-clause-kept
@@ -19,3 +20,6 @@ returns-clause-step c =
     let u = unit_view c.args.unit.now in
     of_three c.propagate_copies.result (λ v. MakesValid u (unit_view v)) (λ v. AddsChangesOf (pass_name (codes "copy")) Replaced IsReplacedRead u (unit_view v)) (λ v. EachFunction IsPropagated u.graphs (unit_view v).graphs) (λ v. PropagatesCopies u (unit_view v))
     (λ v made changes functions. record { made = made; changes = changes; functions = functions }) (made_valid u c.propagate_copies.result c.propagate_copies.ensures.valid c.propagate_copies.ensures.shared) c.propagate_copies.ensures.changes c.propagate_copies.ensures.exact
+
+pub returns-clause-keeps : goal.returns-clause-keeps
+returns-clause-keeps c = made_keeps PropagatesCopies copies_kept (unit_view c.args.unit.now) c.propagate_copies.result (returns-clause-step c)

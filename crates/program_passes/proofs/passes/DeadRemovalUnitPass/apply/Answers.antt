@@ -9,7 +9,8 @@ use Rattle.dead_pass.specs.Notes.{SayWhatTheyShall}
 use Rattle.graph_core.specs.Graphs.{unit_view}
 use Rattle.pass_runs.proofs.Shape.{kept_but_blocks}
 use Rattle.program_passes.specs.Steps.{MakesValid, RemovesDead}
-use Rattle.program_passes.proofs.Made.{made_valid, of_four}
+use Rattle.program_passes.proofs.Made.{made_keeps, made_valid, of_four}
+use Rattle.program_passes.proofs.Lawful.{dead_kept}
 use Rattle.program_passes.proofs.passes.DeadRemovalUnitPass.apply.Goals as goal
 
 pub returns-clause-kept : goal.returns-clause-kept
@@ -20,3 +21,6 @@ returns-clause-step c =
     let u = unit_view c.args.unit.now in
     of_four c.remove_dead.result (λ v. MakesValid u (unit_view v)) (λ v. AddsChangesOf (pass_name (codes "dead")) Removed (λ before after. IsRemovedWrite before) u (unit_view v)) (λ v. EachFunction IsReduced u.graphs (unit_view v).graphs) (λ v. SayWhatTheyShall u (unit_view v))
     (λ v. RemovesDead u (unit_view v)) (λ v made changes functions notes. record { made = made; changes = changes; functions = functions; notes = notes }) (made_valid u c.remove_dead.result c.remove_dead.ensures.valid c.remove_dead.ensures.shared) c.remove_dead.ensures.changes c.remove_dead.ensures.exact c.remove_dead.ensures.notes
+
+pub returns-clause-keeps : goal.returns-clause-keeps
+returns-clause-keeps c = made_keeps RemovesDead dead_kept (unit_view c.args.unit.now) c.remove_dead.result (returns-clause-step c)

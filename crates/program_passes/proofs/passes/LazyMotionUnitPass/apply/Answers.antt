@@ -6,7 +6,8 @@ use Rattle.motion_pass.specs.Moves.{AreAllMoved, IsMovedAssignment}
 use Rattle.graph_core.specs.Graphs.{unit_view}
 use Rattle.pass_runs.proofs.Shape.{kept_by}
 use Rattle.program_passes.specs.Steps.{MakesValid, MovesCode}
-use Rattle.program_passes.proofs.Made.{made_valid, of_three}
+use Rattle.program_passes.proofs.Made.{made_keeps, made_valid, of_three}
+use Rattle.program_passes.proofs.Lawful.{motion_kept}
 use Rattle.program_passes.proofs.passes.LazyMotionUnitPass.apply.Goals as goal
 
 pub returns-clause-kept : goal.returns-clause-kept
@@ -17,3 +18,6 @@ returns-clause-step c =
     let u = unit_view c.args.unit.now in
     of_three c.move_code.result (λ v. MakesValid u (unit_view v)) (λ v. AddsChangesOf (pass_name (codes "motion")) Moved IsMovedAssignment u (unit_view v)) (λ v. AreAllMoved u.graphs (unit_view v).graphs) (λ v. MovesCode u (unit_view v))
     (λ v made changes functions. record { made = made; changes = changes; functions = functions }) (made_valid u c.move_code.result c.move_code.ensures.valid c.move_code.ensures.shared) c.move_code.ensures.changes c.move_code.ensures.moved
+
+pub returns-clause-keeps : goal.returns-clause-keeps
+returns-clause-keeps c = made_keeps MovesCode motion_kept (unit_view c.args.unit.now) c.move_code.result (returns-clause-step c)

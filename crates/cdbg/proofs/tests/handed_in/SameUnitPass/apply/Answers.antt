@@ -1,5 +1,7 @@
 use Rattle.std.proofs.Common.{subst, sym}
 use Rattle.graph_core.specs.Graphs.{unit_view}
+use Rattle.pass_law.specs.Keeps.{Keeps}
+use Rattle.pass_law.proofs.Keeping.{keeps_itself}
 use Rattle.pass_runs.specs.Kept.{KeepsShape}
 use Rattle.pass_runs.proofs.Shape.{shape_itself}
 use Rattle.cdbg.proofs.tests.handed_in.SameUnitPass.apply.Goals as goal
@@ -9,3 +11,6 @@ returns-clause-kept c = subst (KeepsShape (unit_view c.args.unit.now)) (sym c.in
 
 pub returns-clause-step : goal.returns-clause-step
 returns-clause-step c = c.in_ok-duplicate.ensures
+
+pub returns-clause-keeps : goal.returns-clause-keeps
+returns-clause-keeps c = λ marked. subst (Keeps (unit_view c.args.unit.now)) (sym c.in_ok-duplicate.ensures) (keeps_itself (unit_view c.args.unit.now) marked)
