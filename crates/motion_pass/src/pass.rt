@@ -10,8 +10,8 @@ ghost use Rattle.debug_records.specs.declared.change.Kind.TheVariants.{Moved};
 ghost use Rattle.graph_edits.specs.Changes.{Adds, AddsChangesOf, AreCasesOf};
 ghost use Rattle.graph_edits.specs.Kept.{AddsChanges, EachFunction, KeepsFunction, ShareTheSame};
 ghost use Rattle.motion_placement.specs.Placed.{IsEnteredAgain, IsPlaced};
+ghost use Rattle.motion_moves.specs.Moves.{AreAllMoved, BecomesIn, IsMovedAssignment};
 ghost use Rattle.motion_pass.specs.Amounts.{AreBounded, IsAmount};
-ghost use Rattle.motion_pass.specs.Moves.{AreAllMoved, BecomesIn, IsMovedAssignment};
 ghost use Rattle.motion_pass.specs.Placing.{LeadInside};
 
 use crate::bounds::Amount;

@@ -4,8 +4,8 @@ use Rattle.graph_core.specs.declared.graph.Graph as declared-graph
 use Rattle.graph_core.specs.Graphs.{graph_view, unit_view}
 use Rattle.graph_edits.specs.Changes.{AreCasesOf}
 use Rattle.graph_edits.proofs.Log.{changes_added, changes_of_cases}
+use Rattle.motion_moves.specs.Moves.{AreAllMoved, IsMovedAssignment}
 use Rattle.motion_pass.specs.Amounts.{AreBounded}
-use Rattle.motion_pass.specs.Moves.{AreAllMoved, IsMovedAssignment}
 use Rattle.motion_pass.proofs.Functions.{bounded, each_keeps}
 use Rattle.motion_pass.proofs.pass.move_code.Goals as goal
 
