@@ -13,7 +13,7 @@ use Rattle.motion_rule.specs.Ways.{Point, within, along, Leads, passes, IsPast}
 use Rattle.motion_rule.proofs.Keys.{it_does}
 use Rattle.motion_facts.specs.Facts.{AreReached}
 use Rattle.motion_facts.proofs.Standing.{come_at, past_before}
-use Rattle.motion_pass.specs.Moving.{IsDoneAt, AreDoneAt, no_computation, one_done, one_passed, Becomes, stays, reads, AreMoved, no_more, one_more, IsLed, directly, by_own, IsEnd, returns, jumps, branches, IsMovedBlock, AreMovedBlocks, no_block, one_block, IsMoved}
+use Rattle.motion_moves.specs.Moving.{IsDoneAt, AreDoneAt, no_computation, one_done, one_passed, Becomes, stays, reads, AreMoved, no_more, one_more, IsLed, directly, by_own, IsEnd, returns, jumps, branches, IsMovedBlock, AreMovedBlocks, no_block, one_block, IsMoved}
 use Rattle.motion_runs.proofs.Blocks.{at_left, at_right, as_many}
 use Rattle.motion_runs.proofs.Quiet.{moved_graph}
 use Rattle.motion_runs.proofs.Fits.{moved_to}

@@ -9,7 +9,7 @@ use Rattle.graph_core.specs.WellMarked.{AreWellMarked}
 use Rattle.graph_edits.specs.Changes.{AddsChangesOf, logged_as}
 use Rattle.graph_edits.specs.Kept.{ShareTheSame}
 use Rattle.pass_law.specs.Keeps.{SameFunction, SameProgram, Keeps}
-use Rattle.motion_pass.specs.Moves.{BecomesIn, moves, passes_a_bound, is_entered_again, BecomeIn, no_function, one_function, AreAllMoved, IsMovedAssignment}
+use Rattle.motion_moves.specs.Moves.{BecomesIn, moves, passes_a_bound, is_entered_again, BecomeIn, no_function, one_function, AreAllMoved, IsMovedAssignment}
 use Rattle.motion_runs.proofs.Carried.{all_at}
 use Rattle.motion_runs.proofs.Whole.{moved_follows}
 use Rattle.motion_marks.specs.Made.{IsMade}

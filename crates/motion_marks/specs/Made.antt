@@ -9,7 +9,7 @@ use Rattle.graph_core.specs.Paths.{Among, Passed, History}
 use Rattle.graph_core.specs.Computations.{Computation, computed_by}
 use Rattle.motion_rule.specs.Ways.{along}
 use Rattle.motion_points.specs.Computing.{doing}
-use Rattle.motion_pass.specs.Moving.{IsDoneAt}
+use Rattle.motion_moves.specs.Moving.{IsDoneAt}
 
 module _ (g : Graph) where
   -- What becomes of an instruction: it stays, or its target is assigned a temporary that the graph had not, in place of its computation.

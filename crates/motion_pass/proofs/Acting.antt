@@ -26,7 +26,7 @@ use Rattle.motion_placement.specs.declared.placement.Placement.{Placement}
 use Rattle.motion_placement.specs.Placed.{AreDone, HasTemporary, IsActed, IsPlaced, all_of, reached_by}
 use Rattle.motion_placement.proofs.Acted.{come_there, reached_there, told_so}
 use Rattle.motion_placement.proofs.Entered.{come_edge, edge_come}
-use Rattle.motion_pass.specs.Moving.{IsDoneAt, IsReadAt, AreDoneAt, Becomes, stays, reads}
+use Rattle.motion_moves.specs.Moving.{IsDoneAt, IsReadAt, AreDoneAt, Becomes, stays, reads}
 use Rattle.motion_pass.specs.Placing.{treated_by}
 use Rattle.motion_pass.proofs.Doing.{NamedOn, all_pairs, done_at, named_on, none_done_at, pairs_one, temporary_at}
 

@@ -13,9 +13,9 @@ use Rattle.graph_edits.proofs.Adding.{adds_first, adds_last, adds_next, adds_sam
 use Rattle.motion_rule.specs.Ways.{within}
 use Rattle.motion_facts.specs.Inner.{point_at}
 use Rattle.motion_facts.proofs.Inner.{drop_at}
+use Rattle.motion_moves.specs.Moves.{IsReadingAssignment}
+use Rattle.motion_moves.specs.Moving.{IsReadAt}
 use Rattle.motion_pass.specs.Cases.{IsReadingAt, IsReadingIn}
-use Rattle.motion_pass.specs.Moves.{IsReadingAssignment}
-use Rattle.motion_pass.specs.Moving.{IsReadAt}
 
 abbrev pub index_of : Case → ℕ
 index_of c = c.index

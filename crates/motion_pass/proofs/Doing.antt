@@ -11,8 +11,8 @@ use Rattle.motion_points.specs.Computing.{doing}
 use Rattle.motion_facts.proofs.Inner.{at_inside}
 use Rattle.motion_placement.specs.declared.placement.Placement.{Placement}
 use Rattle.motion_placement.specs.Placed.{AreNumbered, nothing_yet, and_none, and_one, AreDone, none_done, one_done, one_passed, all_of}
-use Rattle.motion_pass.specs.Moving as moving
-use Rattle.motion_pass.specs.Moving.{IsDoneAt, AreDoneAt}
+use Rattle.motion_moves.specs.Moving as moving
+use Rattle.motion_moves.specs.Moving.{IsDoneAt, AreDoneAt}
 use Rattle.motion_pass.specs.Placing.{with_temporaries}
 
 abbrev Names : Type 0

@@ -15,9 +15,9 @@ use Rattle.graph_edits.proofs.OfFunctions.{AreCasesBelow}
 use Rattle.motion_facts.proofs.Inner.{drop_at}
 use Rattle.motion_points.proofs.Numbering.{snoc_old}
 use Rattle.motion_placement.proofs.Rows.{got_below}
+use Rattle.motion_moves.specs.Moves.{BecomesIn, moves, passes_a_bound, is_entered_again, BecomeIn, no_function, one_function}
 use Rattle.motion_pass.specs.declared.bounds.Amount.{Amount}
 use Rattle.motion_pass.specs.Amounts.{AreBounded, IsAmount}
-use Rattle.motion_pass.specs.Moves.{BecomesIn, moves, passes_a_bound, is_entered_again, BecomeIn, no_function, one_function}
 
 -- what several have together
 pub total_parts : {A : Type 0} (count : A → ℕ) (xs ys : List A) → total count (xs ++ ys) ≡ total count xs + total count ys

@@ -12,8 +12,8 @@ use Rattle.motion_rule.proofs.Keys.{it_does}
 use Rattle.motion_facts.proofs.Standing.{come_at}
 use Rattle.motion_placement.specs.Placed.{IsReadSomewhere}
 use Rattle.motion_placement.proofs.Members.{IsIn, in_along, in_blocks, in_once}
-use Rattle.motion_pass.specs.Moves.{IsMovedAssignment, IsReadingAssignment}
-use Rattle.motion_pass.specs.Moving.{AreRead, none_is, read_somewhere, read_nowhere, AreTreated, IsMoved, IsReadAt}
+use Rattle.motion_moves.specs.Moves.{IsMovedAssignment, IsReadingAssignment}
+use Rattle.motion_moves.specs.Moving.{AreRead, none_is, read_somewhere, read_nowhere, AreTreated, IsMoved, IsReadAt}
 use Rattle.motion_pass.proofs.Along.{behind_others}
 
 read_count : {blocks : List Block} {computations read : List Computation} → AreRead blocks computations read → (k : ℕ) (e : Computation) → slice_get computations k ≡ Some e → IsReadSomewhere blocks e → 0 < length read

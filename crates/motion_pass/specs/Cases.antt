@@ -6,7 +6,7 @@ use Rattle.graph_core.specs.Validity.{place_behind}
 use Rattle.graph_core.specs.Computations.{Computation}
 use Rattle.graph_edits.specs.declared.cases.Case.{Case}
 use Rattle.motion_facts.specs.Inner.{point_at}
-use Rattle.motion_pass.specs.Moving.{IsReadAt}
+use Rattle.motion_moves.specs.Moving.{IsReadAt}
 
 -- the variable of a name, if it is a scalar
 abbrev pub variable_in : List Scalar → (x : ℕ) → Option ℕ

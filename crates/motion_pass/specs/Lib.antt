@@ -1,5 +1,3 @@
-pub mod Moving
-pub mod Moves
 pub mod Placing
 pub mod Amounts
 pub mod Cases

@@ -10,8 +10,8 @@ use Rattle.graph_core.specs.Computations.{Computation}
 use Rattle.motion_rule.specs.Ways.{Point}
 use Rattle.motion_placement.specs.declared.placement.Placement.{Placement}
 use Rattle.motion_placement.specs.Placed.{IsPlaced, all_of}
+use Rattle.motion_moves.specs.Moving.{AreDone, Becomes, IsLed, IsEnd, IsMovedBlock, AreMovedBlocks}
 use Rattle.motion_pass.specs.declared.moving.Moving.{Moving}
-use Rattle.motion_pass.specs.Moving.{AreDone, Becomes, IsLed, IsEnd, IsMovedBlock, AreMovedBlocks}
 
 -- a place by its number
 abbrev pub placed : Option declared-place.Place → Option ℕ

@@ -10,9 +10,9 @@ ghost use Rattle.graph_core.specs.Graphs.{block_view, graph_view, scalar_view};
 ghost use Rattle.graph_edits.specs.Changes.{Adds};
 ghost use Rattle.motion_facts.specs.Inner.{point_at};
 ghost use Rattle.motion_placement.specs.Placed.{IsPlaced};
+ghost use Rattle.motion_moves.specs.Moves.{IsReadingAssignment};
+ghost use Rattle.motion_moves.specs.Moving.{IsReadAt};
 ghost use Rattle.motion_pass.specs.Cases.{IsReadingAt, IsReadingIn, variable_in};
-ghost use Rattle.motion_pass.specs.Moves.{IsReadingAssignment};
-ghost use Rattle.motion_pass.specs.Moving.{IsReadAt};
 ghost use Rattle.motion_pass.specs.Placing.{placed};
 
 use debug_records::{Place, Var};

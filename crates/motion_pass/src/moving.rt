@@ -8,7 +8,7 @@ ghost use Rattle.graph_core.specs.Uses.{target_of};
 ghost use Rattle.graph_core.specs.Validity.{place_at_end};
 ghost use Rattle.motion_facts.specs.Inner.{point_at};
 ghost use Rattle.motion_placement.specs.Placed.{IsPlaced};
-ghost use Rattle.motion_pass.specs.Moving.{AreMoved, IsMoved};
+ghost use Rattle.motion_moves.specs.Moving.{AreMoved, IsMoved};
 ghost use Rattle.motion_pass.specs.Placing.{LeadInside, placed};
 
 use debug_records::Place;

@@ -10,8 +10,8 @@ ghost use Rattle.debug_records.specs.declared.change.Kind.TheVariants.{Moved};
 ghost use Rattle.graph_edits.specs.Changes.{Adds, AddsChangesOf, AreCasesOf};
 ghost use Rattle.graph_edits.specs.Kept.{AddsChanges, EachFunction, KeepsFunction, ShareTheSame};
 ghost use Rattle.motion_placement.specs.Placed.{IsEnteredAgain, IsPlaced};
+ghost use Rattle.motion_moves.specs.Moves.{AreAllMoved, BecomesIn, IsMovedAssignment};
 ghost use Rattle.motion_pass.specs.Amounts.{AreBounded, IsAmount};
-ghost use Rattle.motion_pass.specs.Moves.{AreAllMoved, BecomesIn, IsMovedAssignment};
 ghost use Rattle.motion_pass.specs.Placing.{LeadInside};
 
 use crate::bounds::Amount;
@@ -115,8 +115,8 @@ fn move_graphs(
 /// The unit with its computations moved (Knoop, Rüthing and Steffen 1992), and a change of kind `Moved` for each assignment of a variable that reads a temporary in place of
 /// its computation, in order of place, then of block and instruction.
 ///
-/// A function whose graph would pass a bound of valid units is left as it was, and one whose first block is entered again. None where the search for a placement failed, what was made
-/// is not valid, or an instruction's number or the number of changes is too large for the log: no unit of a program is known to come to that. The only error is want of memory.
+/// A function whose graph would pass a bound of valid units is left as it was, and one whose first block is entered again. None where the search for a placement failed, or an
+/// instruction's number or the number of changes is too large for the log: no unit of a program is known to come to that. The only error is want of memory.
 pub fn move_code(alloc: Global, unit: &Unit) -> Result<Option<Unit>, AllocError>
     requires valid { IsValid (unit_view unit.now) }
     requires room { length (unit_view unit.now).log < 2 ^ 31 }
@@ -136,9 +136,5 @@ pub fn move_code(alloc: Global, unit: &Unit) -> Result<Option<Unit>, AllocError>
     if !log_cases(&mut moved.log, motion_name(), Kind::Moved, &mut cases)? {
         return Ok(None);
     }
-    if moved.is_valid() {
-        Ok(Some(moved))
-    } else {
-        Ok(None)
-    }
+    Ok(Some(moved))
 }

@@ -8,8 +8,8 @@ use Rattle.graph_core.specs.Memory.{Memory, is_live, ended_from}
 use Rattle.graph_core.specs.Validity.{IsBlock, IsGraph, IsValid}
 use Rattle.graph_core.specs.Runs.{Activation, Configuration, Stepped, Wild, take_wanted, exited, returned, goes_if, bind_names, bind_objects, with_objects, new_activation, begun, enter}
 use Rattle.motion_rule.specs.Ways.{begins}
-use Rattle.motion_pass.specs.Moves.{AreAllMoved, BecomesIn, moves, passes_a_bound, is_entered_again, BecomeIn, no_function, one_function}
-use Rattle.motion_pass.specs.Moving.{IsMoved}
+use Rattle.motion_moves.specs.Moves.{AreAllMoved, BecomesIn, moves, passes_a_bound, is_entered_again, BecomeIn, no_function, one_function}
+use Rattle.motion_moves.specs.Moving.{IsMoved}
 use Rattle.std.proofs.lemmas.Option.{none-some, same_Some}
 use Rattle.motion_runs.proofs.Carried.{all_at}
 use Rattle.motion_runs.proofs.Fits.{Fits, left, moved, moved_to, at_block, GoesOn}

@@ -4,7 +4,7 @@ use Rattle.std.specs.Prelude.{slice_get}
 use Rattle.std.proofs.lemmas.Option.{none-some, same_Some}
 use Rattle.graph_core.specs.Graphs.{Block}
 use Rattle.graph_core.specs.Computations.{Computation}
-use Rattle.motion_pass.specs.Moving.{IsMovedBlock, AreMovedBlocks, no_block, one_block}
+use Rattle.motion_moves.specs.Moving.{IsMovedBlock, AreMovedBlocks, no_block, one_block}
 
 -- What a list has it has with others behind.
 pub at_left : {A : Type 0} (xs ys : List A) (k : ℕ) (x : A) → slice_get xs k ≡ Some x → slice_get (xs ++ ys) k ≡ Some x

@@ -10,7 +10,7 @@ use Rattle.graph_core.specs.Validity.{IsInstruction, AreOperandsOfEnd, IsBlock, 
 use Rattle.graph_core.specs.Runs.{put}
 use Rattle.motion_rule.specs.Ways.{Point, within, along, spoils_at, Leads, IsCome, goes, IsWanted, wanted_here, wanted_later, IsInserted}
 use Rattle.motion_rule.proofs.Keys.{it_does}
-use Rattle.motion_pass.specs.Moving.{IsDoneAt}
+use Rattle.motion_moves.specs.Moving.{IsDoneAt}
 use Rattle.motion_runs.proofs.Ready.{come_stands, IsReady, ready_unspoiled, ready_before}
 use Rattle.motion_runs.proofs.Values.{computed, value_stable, put_other, put_same, AreOwn, own_computed}
 

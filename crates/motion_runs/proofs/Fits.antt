@@ -9,7 +9,7 @@ use Rattle.graph_core.specs.Uses.{target_of}
 use Rattle.graph_core.specs.Validity.{IsInstruction, AreOperandsOfEnd, IsGraph, place_at_end}
 use Rattle.graph_core.specs.Runs.{put}
 use Rattle.motion_rule.specs.Ways.{within, IsCome}
-use Rattle.motion_pass.specs.Moving.{AreMoved, IsEnd, IsMovedBlock, IsMoved}
+use Rattle.motion_moves.specs.Moving.{AreMoved, IsEnd, IsMovedBlock, IsMoved}
 use Rattle.motion_runs.proofs.Blocks.{IsFound, found, as_many, at_left, at_right}
 use Rattle.motion_runs.proofs.Carried.{AreCarried}
 use Rattle.motion_runs.proofs.Quiet.{moved_graph}

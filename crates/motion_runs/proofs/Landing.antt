@@ -11,7 +11,7 @@ use Rattle.graph_core.specs.Memory.{is_live}
 use Rattle.graph_core.specs.Validity.{AreOperandsOfEnd, IsBlock, IsGraph}
 use Rattle.graph_core.specs.Runs.{Activation, Configuration, entered}
 use Rattle.motion_rule.specs.Ways.{within, along, leaves, enters, IsCome, goes}
-use Rattle.motion_pass.specs.Moving.{AreDoneAt, AreMoved, no_more, IsLed, directly, by_own, IsEnd, returns, jumps, branches, IsMoved}
+use Rattle.motion_moves.specs.Moving.{AreDoneAt, AreMoved, no_more, IsLed, directly, by_own, IsEnd, returns, jumps, branches, IsMoved}
 use Rattle.motion_runs.proofs.Ready.{end_inserted}
 use Rattle.motion_runs.proofs.Quiet.{moved_graph, after_of, moved_configuration, IsQuiet, quiet_none, quiet_step, quiet_and}
 use Rattle.motion_runs.proofs.Carried.{all_at, AreCarried, AreHeld, held_there, held_behind, carried_on, valid_at}

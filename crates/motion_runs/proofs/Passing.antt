@@ -11,7 +11,7 @@ use Rattle.graph_core.specs.Validity.{IsInstruction}
 use Rattle.graph_core.specs.Runs.{Activation, Configuration, put}
 use Rattle.motion_rule.specs.Ways.{Point, within, passes, goes}
 use Rattle.motion_rule.proofs.Keys.{it_does}
-use Rattle.motion_pass.specs.Moving.{Becomes, stays, reads, AreMoved, one_more}
+use Rattle.motion_moves.specs.Moving.{Becomes, stays, reads, AreMoved, one_more}
 use Rattle.motion_runs.proofs.Values.{computed, put_other, computed_kept}
 use Rattle.motion_runs.proofs.Ready.{read_ready}
 use Rattle.motion_runs.proofs.Quiet.{after_of, moved_configuration, IsQuiet, quiet_none}

@@ -9,7 +9,7 @@ use Rattle.graph_core.specs.Runs.{Activation, Configuration, Goes, put, step}
 use Rattle.graph_core.specs.Validity.{IsGraph}
 use Rattle.motion_rule.specs.Ways.{Point}
 use Rattle.motion_points.specs.Computing.{doing}
-use Rattle.motion_pass.specs.Moving.{IsDoneAt, AreDoneAt, no_computation, one_done, one_passed}
+use Rattle.motion_moves.specs.Moving.{IsDoneAt, AreDoneAt, no_computation, one_done, one_passed}
 use Rattle.motion_runs.proofs.Values.{computed, computed_same, put_other}
 use Rattle.motion_runs.proofs.Quiet.{after_of, moved_configuration, IsQuiet, quiet_none, quiet_step, quiet_and, done_step}
 use Rattle.motion_runs.proofs.Carried.{worth, Agree, IsSettled, settled_first, settled_passed, done_own}

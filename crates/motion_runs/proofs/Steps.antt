@@ -16,7 +16,7 @@ use Rattle.graph_core.specs.Values.{operate, truncate, same, holds, is_odd}
 use Rattle.graph_core.specs.Validity.{IsInstruction, AreOperandsOfEnd, IsOperand, IsLocation, IsValid}
 use Rattle.graph_core.specs.Memory.{Memory, is_live, address_of, read, write, zeroed, copied}
 use Rattle.graph_core.specs.Runs.{Activation, Configuration, TooDeep, Stop, Goes, Shows, Ends, Wild, frame, put, value, recipe_value, pointed, entered, wrote, wrote_some, with_memory, unless_odd, at_place, go_to, branched, leave, put_out, got, goes_if, first_of, enter, call_function, call, execute, execute_end}
-use Rattle.motion_pass.specs.Moves.{AreAllMoved}
+use Rattle.motion_moves.specs.Moves.{AreAllMoved}
 use Rattle.motion_runs.proofs.Values.{computed}
 use Rattle.motion_runs.proofs.Reading.{value_same, two_same, values_same, recipe_same, pointed_same, computes}
 use Rattle.motion_runs.proofs.Quiet.{after_of, moved_configuration}

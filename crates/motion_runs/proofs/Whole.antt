@@ -9,7 +9,7 @@ use Rattle.graph_core.specs.Runs.{Activation, Configuration, Stepped, Goes, Show
 use Rattle.graph_edits.specs.Kept.{ShareTheSame}
 use Rattle.pass_law.specs.Keeps.{SameEvent}
 use Rattle.pass_law.proofs.Keeping.{reached_itself}
-use Rattle.motion_pass.specs.Moves.{AreAllMoved}
+use Rattle.motion_moves.specs.Moves.{AreAllMoved}
 use Rattle.motion_runs.specs.MovedRuns.{ShowsTheSame}
 use Rattle.motion_runs.proofs.Quiet.{after_of, moved_configuration, IsQuiet}
 use Rattle.motion_runs.proofs.Fits.{Fits}

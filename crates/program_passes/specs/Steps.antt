@@ -8,7 +8,7 @@ use Rattle.graph_edits.specs.Changes.{AddsChangesOf}
 use Rattle.graph_edits.specs.Kept.{EachFunction, ShareTheSame}
 use Rattle.copy_rule.specs.Copying.{IsPropagated}
 use Rattle.replaced_reads.specs.Reads.{IsReplacedRead}
-use Rattle.motion_pass.specs.Moves.{AreAllMoved, IsMovedAssignment}
+use Rattle.motion_moves.specs.Moves.{AreAllMoved, IsMovedAssignment}
 use Rattle.idle_rule.specs.Removing.{IsReduced}
 use Rattle.removed_writes.specs.Writes.{IsRemovedWrite}
 use Rattle.dead_pass.specs.Notes.{SayWhatTheyShall}

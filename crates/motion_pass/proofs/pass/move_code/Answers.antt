@@ -1,23 +1,24 @@
-use Rattle.std.proofs.Common.{List, map, refl, rules, subst, sym}
+use Rattle.std.proofs.Common.{List, ap, map, refl, rules, subst, sym}
 use Rattle.debug_records.specs.declared.change.Kind.TheVariants.{Moved}
 use Rattle.graph_core.specs.declared.graph.Graph as declared-graph
-use Rattle.graph_core.specs.Graphs.{graph_view, unit_view}
+use Rattle.graph_core.specs.Graphs.{UnitForm, graph_view, unit_view}
 use Rattle.graph_edits.specs.Changes.{AreCasesOf}
 use Rattle.graph_edits.proofs.Log.{changes_added, changes_of_cases}
+use Rattle.motion_moves.specs.Moves.{AreAllMoved, IsMovedAssignment}
+use Rattle.motion_valid.proofs.Valid.{moved_valid}
 use Rattle.motion_pass.specs.Amounts.{AreBounded}
-use Rattle.motion_pass.specs.Moves.{AreAllMoved, IsMovedAssignment}
 use Rattle.motion_pass.proofs.Functions.{bounded, each_keeps}
 use Rattle.motion_pass.proofs.pass.move_code.Goals as goal
 
 pub move_graphs-requires-clause-bounded : goal.move_graphs-requires-clause-bounded
 move_graphs-requires-clause-bounded c = subst (λ (gs : List declared-graph.Graph). AreBounded (map graph_view gs)) (sym c.deref.ensures.value) (bounded (unit_view c.args.unit.now) c.requires.valid)
 
-pub returns-then-is_valid-clause-log : goal.returns-then-is_valid-clause-log
-returns-then-is_valid-clause-log c =
+pub returns-clause-log : goal.returns-clause-log
+returns-clause-log c =
     changes_added c.motion_name.result _ Moved c.in_ok-moved.moved _ _ _ _ _ refl (c.in_ok-log_cases.ensures.logged c.if-not-branch.false) c.in_ok-moved.ensures c.motion_name.ensures
 
-pub returns-then-is_valid-clause-changes : goal.returns-then-is_valid-clause-changes
-returns-then-is_valid-clause-changes c =
+pub returns-clause-changes : goal.returns-clause-changes
+returns-clause-changes c =
     let before = map graph_view c.args.unit.now.graphs.items in
     let after = map graph_view c.in-Some.graphs.items in
     let are : AreCasesOf IsMovedAssignment before after c.move_graphs.new.cases.items = search rules in
@@ -25,7 +26,20 @@ returns-then-is_valid-clause-changes c =
     (subst (AreCasesOf IsMovedAssignment before after) (sym c.deref_mut.ensures.value) are)
     (c.in_ok-log_cases.ensures.same c.if-not-branch.false) (c.in_ok-log_cases.ensures.in_order c.if-not-branch.false)
 
-pub returns-then-is_valid-clause-functions : goal.returns-then-is_valid-clause-functions
-returns-then-is_valid-clause-functions c =
+pub returns-clause-functions : goal.returns-clause-functions
+returns-clause-functions c =
     let moved : AreAllMoved (map graph_view c.args.unit.now.graphs.items) (map graph_view c.in-Some.graphs.items) = search rules in
     each_keeps moved
+
+pub returns-clause-valid : goal.returns-clause-valid
+returns-clause-valid c =
+    let same = c.in_ok-moved.ensures in
+    let log = returns-clause-log c in
+    let moved : AreAllMoved (map graph_view c.args.unit.now.graphs.items) (map graph_view c.in-Some.graphs.items) = search rules in
+    moved_valid (unit_view c.args.unit.now) _ log.added c.requires.valid (record {
+      main = ap (λ (w : UnitForm). w.main) same;
+      statics = ap (λ (w : UnitForm). w.statics) same;
+      array_bytes = ap (λ (w : UnitForm). w.array_bytes) same;
+      steps = ap (λ (w : UnitForm). w.steps) same;
+      assignments = ap (λ (w : UnitForm). w.assignments) same;
+    }) moved log.log

@@ -7,8 +7,8 @@ use Rattle.graph_core.specs.Graphs.{Graph, graph_view}
 use Rattle.graph_edits.specs.Changes.{Adds}
 use Rattle.graph_edits.proofs.OfFunctions.{AreCasesBelow, cases_first, cases_last, cases_next, function_step}
 use Rattle.motion_points.proofs.Numbering.{snoc_new}
+use Rattle.motion_moves.specs.Moves.{BecomesIn, IsMovedAssignment}
 use Rattle.motion_pass.specs.Amounts.{IsAmount}
-use Rattle.motion_pass.specs.Moves.{BecomesIn, IsMovedAssignment}
 use Rattle.motion_pass.proofs.Functions.{IsAhead, ahead_none, ahead_one, ahead_all, amount_at, amount_behind, cases_longer, one_of_total}
 use Rattle.motion_pass.proofs.pass.move_graphs.Goals as goal
 

@@ -1,9 +1,9 @@
 use Rattle.std.proofs.Common.{◌++◌, ◌∷◌, sym, subst}
 use Rattle.std.specs.Prelude.{IfSome}
 use Rattle.graph_core.specs.Graphs.{graph_view}
+use Rattle.motion_moves.specs.Moves.{BecomesIn, moves, passes_a_bound, IsWithin}
 use Rattle.motion_pass.specs.declared.bounds.Amount.{Amount}
 use Rattle.motion_pass.specs.Amounts.{IsAmount}
-use Rattle.motion_pass.specs.Moves.{BecomesIn, moves, passes_a_bound, IsWithin}
 use Rattle.motion_pass.proofs.More.{left_cases, moved_cases}
 use Rattle.motion_pass.proofs.pass.moved_within.Goals as goal
 

@@ -2,7 +2,7 @@ use Rattle.std.specs.Prelude.{codes}
 use Rattle.debug_records.specs.Change.{pass_name}
 use Rattle.debug_records.specs.declared.change.Kind.TheVariants.{Moved}
 use Rattle.graph_edits.specs.Changes.{AddsChangesOf}
-use Rattle.motion_pass.specs.Moves.{AreAllMoved, IsMovedAssignment}
+use Rattle.motion_moves.specs.Moves.{AreAllMoved, IsMovedAssignment}
 use Rattle.graph_core.specs.Graphs.{unit_view}
 use Rattle.pass_runs.proofs.Shape.{kept_by}
 use Rattle.program_passes.specs.Steps.{MakesValid, MovesCode}

@@ -10,7 +10,7 @@ use Rattle.graph_core.specs.WellMarked.{IsVariable}
 use Rattle.graph_edits.specs.declared.cases.Case.{Case}
 use Rattle.motion_rule.specs.Ways.{within}
 use Rattle.motion_placement.specs.Placed.{IsEnteredAgain}
-use Rattle.motion_pass.specs.Moving.{IsMoved, IsReadAt}
+use Rattle.motion_moves.specs.Moving.{IsMoved, IsReadAt}
 
 -- A graph and all graphs of its unit stay within the bounds of what motion makes more: names, instructions and blocks.
 pub record IsWithin (h : Graph) (all : List Graph) : Type 0 where
