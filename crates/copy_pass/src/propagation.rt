@@ -60,8 +60,8 @@ fn graphs_after(alloc: Global, graphs: &[Graph]) -> Result<Option<Vec<Graph>>, A
 /// reaches nothing changes. The log tells each read that became another by a change `Replaced` of the pass `copy`: of the place, and of the variable
 /// that was read before; in order of place, then of block, instruction and operand.
 ///
-/// None where the search for copies told others than those that the unit then makes, the unit so made is not valid, or a number of its blocks, instructions or
-/// changes is too large for the log, which no unit is known to meet. `AllocError` where memory was refused.
+/// None where the search for copies told others than those that the unit then makes, or a number of its blocks, instructions or changes is too large for the log,
+/// which no unit is known to meet. `AllocError` where memory was refused.
 pub fn propagate_copies(alloc: Global, unit: &Unit) -> Result<Option<Unit>, AllocError>
     requires valid { IsValid (unit_view unit.now) }
     requires room { length (unit_view unit.now).log < 2 ^ 31 }
@@ -83,9 +83,5 @@ pub fn propagate_copies(alloc: Global, unit: &Unit) -> Result<Option<Unit>, Allo
     if !log_cases(&mut made.log, copy_name(), Kind::Replaced, &mut cases)? {
         return Ok(None);
     }
-    if made.is_valid() {
-        Ok(Some(made))
-    } else {
-        Ok(None)
-    }
+    Ok(Some(made))
 }

@@ -1,4 +1,4 @@
-use Rattle.std.proofs.Common.{map, refl, subst, sym}
+use Rattle.std.proofs.Common.{map, refl, rules, subst, sym}
 use Rattle.std.specs.Prelude.{IfSome}
 use Rattle.debug_records.specs.declared.change.Kind.TheVariants.{Replaced}
 use Rattle.graph_core.specs.Graphs.{graph_view}
@@ -6,16 +6,17 @@ use Rattle.graph_edits.specs.Changes.{AreCasesOf}
 use Rattle.graph_edits.specs.Kept.{EachFunction}
 use Rattle.graph_edits.proofs.Log.{changes_added, changes_of_cases}
 use Rattle.copy_rule.specs.Copying.{IsPropagated}
+use Rattle.copy_valid.proofs.Valid.{propagated_valid}
 use Rattle.replaced_reads.specs.Reads.{IsReplacedRead}
 use Rattle.copy_pass.proofs.Keeping.{each_keeps}
 use Rattle.copy_pass.proofs.propagation.propagate_copies.Goals as goal
 
-pub returns-then-is_valid-clause-log : goal.returns-then-is_valid-clause-log
-returns-then-is_valid-clause-log c =
+pub returns-clause-log : goal.returns-clause-log
+returns-clause-log c =
     changes_added c.copy_name.result _ Replaced c.in_ok-made.made _ _ _ _ _ refl (c.in_ok-log_cases.ensures.logged c.if-not-branch.false) c.in_ok-made.ensures c.copy_name.ensures
 
-pub returns-then-is_valid-clause-changes : goal.returns-then-is_valid-clause-changes
-returns-then-is_valid-clause-changes c =
+pub returns-clause-changes : goal.returns-clause-changes
+returns-clause-changes c =
     let before = map graph_view c.args.unit.now.graphs.items in
     let after = map graph_view c.in-Some.graphs.items in
     let are = subst (λ o. IfSome o (λ cases. AreCasesOf IsReplacedRead before after cases.items)) c.in-Some-2.is
@@ -25,9 +26,14 @@ returns-then-is_valid-clause-changes c =
     (subst (AreCasesOf IsReplacedRead before after) (sym c.deref_mut.ensures.value) are)
     (c.in_ok-log_cases.ensures.same c.if-not-branch.false) (c.in_ok-log_cases.ensures.in_order c.if-not-branch.false)
 
-pub returns-then-is_valid-clause-functions : goal.returns-then-is_valid-clause-functions
-returns-then-is_valid-clause-functions c =
+pub returns-clause-functions : goal.returns-clause-functions
+returns-clause-functions c =
     let before = map graph_view c.args.unit.now.graphs.items in
     each_keeps before (map graph_view c.in-Some.graphs.items)
     (subst (λ o. IfSome o (λ all. EachFunction IsPropagated before (map graph_view all.items))) c.in-Some.is
     (subst (λ xs. IfSome c.in_ok-graphs.field-0 (λ all. EachFunction IsPropagated (map graph_view xs) (map graph_view all.items))) c.deref.ensures.value c.in_ok-graphs.ensures))
+
+pub returns-clause-valid : goal.returns-clause-valid
+returns-clause-valid c =
+    let adds = returns-clause-log c in
+    propagated_valid _ _ adds.added c.requires.valid (search rules) (search rules) adds.log
