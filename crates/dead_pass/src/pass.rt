@@ -92,7 +92,7 @@ fn graphs_left(
 /// assignment of a scalar that goes by a change `Removed` of the pass `dead`: of its place and variable; in order of place, then of block and instruction. Its note gives the recipe of its right side, where there is one, or else that the value is gone by the change;
 /// earlier notes become so where a name of their recipe is no longer written.
 ///
-/// None where the search told others to go than those that do by this rule, what is left is not valid, or a number of its blocks, instructions or changes is too large for the log, which no
+/// None where the search told others to go than those that do by this rule, or a number of its blocks, instructions or changes is too large for the log, which no
 /// unit is known to meet. `AllocError` where memory was refused.
 pub fn remove_dead(alloc: Global, unit: &Unit) -> Result<Option<Unit>, AllocError>
     requires valid { IsValid (unit_view unit.now) }
@@ -123,9 +123,5 @@ pub fn remove_dead(alloc: Global, unit: &Unit) -> Result<Option<Unit>, AllocErro
         return Ok(None);
     };
     left.graphs = graphs;
-    if left.is_valid() {
-        Ok(Some(left))
-    } else {
-        Ok(None)
-    }
+    Ok(Some(left))
 }

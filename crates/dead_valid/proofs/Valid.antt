@@ -3,12 +3,12 @@ use Rattle.std.proofs.Common.{◌≡◌, ◌≤◌, List, length, map, refl, sym
 use Rattle.event_runs.specs.Agreement.{Pairs}
 use Rattle.debug_records.specs.declared.change.PassName.{PassName}
 use Rattle.debug_records.specs.declared.change.Kind.TheVariants.{Removed}
-use Rattle.dead_pass.specs.Notes.{SayWhatTheyShall}
 use Rattle.graph_core.specs.Graphs.{Logged, UnitForm}
 use Rattle.graph_core.specs.Validity.{IsValid}
 use Rattle.graph_edits.specs.Changes.{AddsChangesOf, logged_as}
 use Rattle.graph_edits.specs.Kept.{EachFunction, ShareTheSame}
 use Rattle.idle_rule.specs.Removing.{IsReduced}
+use Rattle.removal_notes.specs.Said.{SaysWhatItShall}
 use Rattle.removed_writes.specs.Writes.{IsRemovedWrite}
 use Rattle.dead_valid.specs.Thinned.{IsThinned}
 use Rattle.dead_valid.proofs.Keeping.{graphs_replaced}
@@ -24,7 +24,7 @@ pub thinned_valid : (u v : UnitForm) → IsValid u → ShareTheSame u v → Pair
 thinned_valid u v valid share thinned grown = subst IsValid (sym (shared u v share)) (graphs_replaced u v.graphs v.log thinned grown valid)
 
 -- THE UNIT THAT THE REMOVAL OF DEAD ASSIGNMENTS MAKES OF A VALID UNIT IS VALID.
-pub removed_valid : (u v : UnitForm) → IsValid u → ShareTheSame u v → (pass : PassName) → AddsChangesOf pass Removed (λ before after. IsRemovedWrite before) u v → EachFunction IsReduced u.graphs v.graphs → SayWhatTheyShall u v → IsValid v
+pub removed_valid : (u v : UnitForm) → IsValid u → ShareTheSame u v → (pass : PassName) → AddsChangesOf pass Removed (λ before after. IsRemovedWrite before) u v → EachFunction IsReduced u.graphs v.graphs → EachFunction (SaysWhatItShall v.log) u.graphs v.graphs → IsValid v
 removed_valid u v valid share pass adds reduced said = thinned_valid u v valid share (graphs_thinned u v.log grown u.graphs v.graphs valid.graphs reduced said) grown
   where
     grown : length u.log ≤ length v.log

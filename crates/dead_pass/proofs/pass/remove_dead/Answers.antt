@@ -14,16 +14,17 @@ use Rattle.removal_notes.specs.Said.{SaysWhatItShall}
 use Rattle.removed_changes.specs.Telling.{AreToldOf}
 use Rattle.removed_writes.specs.Writes.{IsRemovedWrite}
 use Rattle.removed_writes.proofs.OfUnits.{cases_before, each_count}
+use Rattle.dead_valid.proofs.Valid.{removed_valid}
 use Rattle.dead_pass.proofs.ByRule.{each_keeps, each_left}
 use Rattle.dead_pass.proofs.Saying.{some_of}
 use Rattle.dead_pass.proofs.pass.remove_dead.Goals as goal
 
-pub returns-then-is_valid-clause-log : goal.returns-then-is_valid-clause-log
-returns-then-is_valid-clause-log c =
+pub returns-clause-log : goal.returns-clause-log
+returns-clause-log c =
     changes_added c.dead_name.result _ Removed c.in_ok-left.left _ _ _ _ _ refl (c.in_ok-log_cases.ensures.logged c.if-not-branch.false) c.in_ok-left.ensures c.dead_name.ensures
 
-pub returns-then-is_valid-clause-changes : goal.returns-then-is_valid-clause-changes
-returns-then-is_valid-clause-changes c =
+pub returns-clause-changes : goal.returns-clause-changes
+returns-clause-changes c =
     let before = map graph_view c.args.unit.now.graphs.items in
     let after = map graph_view c.in-Some-4.graphs.items in
     let left : EachFunction IsReduced before after = search rules in
@@ -32,18 +33,18 @@ returns-then-is_valid-clause-changes c =
     (subst (AreCasesOf (λ g h. IsRemovedWrite g) before after) (sym c.deref_mut.ensures.value) (cases_before IsRemovedWrite before after (each_count IsReduced before after left) _ are))
     (c.in_ok-log_cases.ensures.same c.if-not-branch.false) (c.in_ok-log_cases.ensures.in_order c.if-not-branch.false)
 
-pub returns-then-is_valid-clause-functions : goal.returns-then-is_valid-clause-functions
-returns-then-is_valid-clause-functions c =
+pub returns-clause-functions : goal.returns-clause-functions
+returns-clause-functions c =
     let left : EachFunction IsReduced (map graph_view c.args.unit.now.graphs.items) (map graph_view c.in-Some-4.graphs.items) = search rules in
     each_keeps (map graph_view c.args.unit.now.graphs.items) (map graph_view c.in-Some-4.graphs.items) left
 
-pub returns-then-is_valid-clause-left : goal.returns-then-is_valid-clause-left
-returns-then-is_valid-clause-left c =
+pub returns-clause-left : goal.returns-clause-left
+returns-clause-left c =
     let left : EachFunction IsReduced (map graph_view c.args.unit.now.graphs.items) (map graph_view c.in-Some-4.graphs.items) = search rules in
     each_left (map graph_view c.args.unit.now.graphs.items) (map graph_view c.in-Some-4.graphs.items) left
 
-pub returns-then-is_valid-clause-notes : goal.returns-then-is_valid-clause-notes
-returns-then-is_valid-clause-notes c =
+pub returns-clause-notes : goal.returns-clause-notes
+returns-clause-notes c =
     let u = unit_view c.args.unit.now in
     let after = map graph_view c.in-Some-4.graphs.items in
     let log = map logged c.changes.result.now in
@@ -53,3 +54,6 @@ returns-then-is_valid-clause-notes c =
     let said = some_of _ _ _ c.in-Some-4.is c.in_ok-graphs.ensures.notes log u told valid in
     subst (λ (cs : List Change). EachFunction (SaysWhatItShall (map logged cs)) u.graphs after) c.changes.ensures
     (subst (λ gs. EachFunction (SaysWhatItShall log) gs after) before (subst (λ (xs : List IdleGraph). EachFunction (SaysWhatItShall log) (map graph_of xs) after) c.deref-3.ensures.value said))
+
+pub returns-clause-valid : goal.returns-clause-valid
+returns-clause-valid c = removed_valid _ _ c.requires.valid (search rules) _ (returns-clause-changes c) (search rules) (returns-clause-notes c)
