@@ -1,6 +1,5 @@
 pub mod Joining
 pub mod Runs
-pub mod Whole
 pub mod Frames
 pub mod Stopping
 pub mod Listed
@@ -9,6 +8,5 @@ pub mod Visible
 pub mod Outermost
 pub mod PutStops
 pub mod ProgramPlaces
-pub mod StopAddresses
+pub mod Tables
 pub mod Naming
-pub mod Truth

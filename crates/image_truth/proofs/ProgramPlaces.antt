@@ -3,7 +3,7 @@ use Rattle.std.proofs.Common.{◌≡◌, ◌≢◌, ℕ, zero, suc, ◌+◌, ◌
 use Rattle.std.proofs.lemmas.Bool.{true≢false}
 use Rattle.std.proofs.lemmas.Option.{none-some, same_Some}
 use Rattle.c_tree.specs.Programs.{ProgramTree, TypedFunctionTree}
-use Rattle.c_places.specs.Places.{Place, parameters_of, entry_of, close_of, places_of_all, places_of_function, places_of_functions, places_of_program, number_at}
+use Rattle.c_places.specs.Places.{Place, entry_of, places_of_function, places_of_functions, places_of_program, number_at}
 use Rattle.c_laws.specs.Laws.{IsWellFormed}
 use Rattle.graph_core.specs.Graphs.{Graph, UnitForm}
 use Rattle.graph_core.specs.Paths.{Among, front, behind}

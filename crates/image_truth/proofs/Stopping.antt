@@ -1,9 +1,11 @@
 -- The machine of an image stands at a program's stop: the place, the depth, the activations, and what static variables hold.
-use Rattle.std.proofs.Common.{◌≡◌, ◌≢◌, ℕ, suc, ◌+◌, ◌≤◌, refl, sym, ap, ◌∙◌, subst, arith, Some, List, [], ◌∷◌, ◌++◌, length, map, slice_get}
+use Rattle.std.proofs.Common.{◌≡◌, ◌≢◌, ℕ, suc, ◌+◌, ◌-◌, ◌≤◌, refl, sym, ap, ◌∙◌, subst, arith, Some, List, [], ◌∷◌, ◌++◌, length, map, slice_get}
 use Rattle.std.specs.Prelude.{slice_index}
 use Rattle.event_runs.specs.Agreement.{Pairs}
 use Rattle.word_base.specs.Owners.{Static}
 use Rattle.c_tree.specs.Programs.{ProgramTree, StaticTree, AutomaticTree, LiteralTree}
+use Rattle.c_places.specs.Places.{places_of_program}
+use Rattle.c_places.specs.Places as places
 use Rattle.c_memory.specs.Memory as source-memory
 use Rattle.c_memory.specs.Memory.{contents}
 use Rattle.c_states.specs.declared.event.Frame as source-frame
@@ -24,7 +26,7 @@ use Rattle.graph_core.specs.Memory as unit-memory
 use Rattle.graph_core.specs.Runs.{Activation, frame}
 use Rattle.graph_core.specs.Validity.{IsValid}
 use Rattle.graph_values.specs.Correspondence as source
-use Rattle.graph_values.specs.Correspondence.{SameMemory}
+use Rattle.graph_values.specs.Correspondence.{SameMemory, Seen}
 use Rattle.homed_unit.specs.Homed.{HomedForm, HaveHomes}
 use Rattle.home_runs.specs.Alike.{IsSame, IsSameWaiting}
 use Rattle.emitted.specs.Emitted.{EmittedForm}
@@ -149,6 +151,27 @@ module _ (p : ProgramTree) (m : Form) (functions : map name_length m.functions �
       ∙ ap (λ l. t.lower.here.place ∷ l) (standing_places (code_of h code.arrangement) (reg s 2 + (code_of h code.arrangement t.lower.here.function).size) t.lower.waiting ∙ lower_places h t.upper.waiting t.lower.waiting t.same.waiting)
       ∙ ap (λ k. k ∷ map at_place t.upper.waiting) (same_place h t.upper.here t.lower.here t.same.here.0)
       ∙ source_places p memory t.upper.memory h.unit activations (t.upper.here ∷ t.upper.waiting) t.frames
+
+  -- the variables that are visible
+  abbrev pub there : List ℕ
+  there = places.visible p.automatics t.stop.at.scope
+
+  -- Each is seen.
+  pub seen_here : (k x : ℕ) → slice_get there k ≡ Some x → Seen p memory t.upper.memory t.upper.here.graph deep (frame t.upper.here) x
+  seen_here k x is = by_frames activations t.frames t.at t.many
+    where
+      by_frames : (all : List source-frame.Frame) → source.SameFrames p memory t.upper.memory h.unit all (frame t.upper.here ∷ map frame t.upper.waiting) → source.StandsAt place all → deep ≡ length all → Seen p memory t.upper.memory t.upper.here.graph deep (frame t.upper.here) x
+      by_frames [] same at many = absurd same
+      by_frames (f ∷ all) same at many =
+          let depth : length all + 1 ≡ deep = omega (arith, many) in
+          subst (λ d. Seen p memory t.upper.memory t.upper.here.graph d (frame t.upper.here) x) depth
+          (same.0.seen t.upper.here.graph t.stop.at x (ap (slice_get h.unit.graphs) (sym same.0.function) ∙ t.same.here.0.of) (ap (λ n. slice_get (places_of_program p) (n - 1)) at ∙ t.stop.is) k is)
+
+  -- So it is over homes.
+  pub seen_lower : (k x : ℕ) → slice_get there k ≡ Some x → Seen p memory t.lower.memory t.upper.here.graph (length t.lower.waiting + 1) (frame t.upper.here) x
+  seen_lower k x is =
+      subst (λ n. Seen p memory n t.upper.here.graph (length t.lower.waiting + 1) (frame t.upper.here) x) (sym t.same.memory)
+      (subst (λ d. Seen p memory t.upper.memory t.upper.here.graph d (frame t.upper.here) x) (sym many_here) (seen_here k x is))
 
   -- static variables are shown with what they hold
   pub statics_are : (n : ℕ) (v : StaticTree) → slice_get p.statics n ≡ Some v → IsObjectText p memory v.of (contents (Static n) memory) (held_text m s place n)

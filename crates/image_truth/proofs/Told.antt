@@ -1,8 +1,7 @@
 -- What the rows of an image say of homes is borne out where verdicts are.
-use Rattle.std.proofs.Common.{◌≡◌, ℕ, zero, suc, ◌-◌, refl, sym, ap, ◌∙◌, subst, arith, Some, List, [], ◌∷◌, map, slice_get}
+use Rattle.std.proofs.Common.{◌≡◌, ℕ, zero, suc, refl, sym, ap, ◌∙◌, subst, arith, Some, List, [], ◌∷◌, map, slice_get}
 use Rattle.std.proofs.lemmas.Option.{none-some, same_Some}
-use Rattle.debug_records.specs.declared.change.Kind.TheVariants.{Removed}
-use Rattle.graph_core.specs.Graphs.{Graph, Logged, Of, Name}
+use Rattle.graph_core.specs.Graphs.{Graph, Of, Name}
 use Rattle.graph_core.specs.Paths.{Among, front, behind}
 use Rattle.graph_core.specs.WellMarked.{IsVariable}
 use Rattle.graph_homes.specs.Homes.{HoldsOnAllPaths}
@@ -10,7 +9,6 @@ use Rattle.homed_unit.specs.Homed.{HomedForm, home_of}
 use Rattle.currency.specs.declared.verdict.Verdict as told-verdict
 use Rattle.currency.specs.declared.verdict.Verdict.TheVariants as told
 use Rattle.currency.specs.declared.verdict.PlaceVerdict.{PlaceVerdict}
-use Rattle.currency.specs.Named.{IsLogged, IsNamed, AreNamed}
 use Rattle.currency.specs.Sound.{AreHome}
 use Rattle.image_form.specs.Form.{Form}
 use Rattle.image_form.specs.Numbers.{row_numbers, verdict_numbers}
@@ -20,12 +18,13 @@ use Rattle.image_form.specs.declared.verdicts.Verdict.TheVariants.{Home, Recover
 use Rattle.image_form.specs.declared.verdicts.VisibleRow.{VisibleRow}
 use Rattle.image_tables.specs.Rows.{Telling, IsVerdictOf, IsRowOf, AreRowsOf}
 use Rattle.image_texts.proofs.Tables.{map_at, from_map}
-use Rattle.program_image.specs.Compiled.{HasNoRemoval}
 
-first_same : (a b : ℕ) (xs ys : List ℕ) → a ∷ xs ≡ b ∷ ys → a ≡ b
+-- lists that are the same begin with the same
+pub first_same : (a b : ℕ) (xs ys : List ℕ) → a ∷ xs ≡ b ∷ ys → a ≡ b
 first_same a b xs ys e = cc
 
-rest_same : (a b : ℕ) (xs ys : List ℕ) → a ∷ xs ≡ b ∷ ys → xs ≡ ys
+-- and go on with the same
+pub rest_same : (a b : ℕ) (xs ys : List ℕ) → a ∷ xs ≡ b ∷ ys → xs ≡ ys
 rest_same a b xs ys e = cc
 
 -- a verdict with the numbers of a home is that
@@ -42,7 +41,8 @@ module _ (t : Telling) (nodes : List Node) where
   told_home (told.Noncurrent change start w) place v is e = absurd (let f = sym e ∙ is in cc)
   told_home (told.Nonresident change start w) place v is e = absurd (let f = sym e ∙ is in cc)
 
-  said_by : (all : List PlaceVerdict) (rows : List VisibleRow) (k : ℕ) (r : VisibleRow) → AreRowsOf t nodes all rows → slice_get rows k ≡ Some r → (w : PlaceVerdict) × Among w all × IsRowOf t nodes w r
+  -- the verdict of a row
+  pub said_by : (all : List PlaceVerdict) (rows : List VisibleRow) (k : ℕ) (r : VisibleRow) → AreRowsOf t nodes all rows → slice_get rows k ≡ Some r → (w : PlaceVerdict) × Among w all × IsRowOf t nodes w r
   said_by [] [] k r say is = absurd (none-some r is)
   said_by [] (q ∷ rows) k r say is = absurd say
   said_by (w ∷ all) [] k r say is = absurd say
@@ -65,40 +65,3 @@ home_holds h t m all rows say same home k r is at_home f x g graph variable =
     let of : IsRowOf t m.nodes w row = found.2 in
     subst (λ p. HoldsOnAllPaths (home_of h f) g p x (Of (Name x))) (sym of.place ∙ place)
     (home w found.1 (told_home t m.nodes w.verdict w.place.0 row.verdict of.verdict verdict) f x g graph (subst (IsVariable g x) (sym var ∙ of.variable) variable))
-
--- ---- Where no assignment was removed
-
-recovered_by_numbers : (v : Verdict) (change node : ℕ) → verdict_numbers v ≡ verdict_numbers (Recovered change node) → v ≡ Recovered change node
-recovered_by_numbers Home change node e = absurd (let f = first_same _ _ _ _ e in omega (arith, f))
-recovered_by_numbers (Recovered c n) change node e = cc
-recovered_by_numbers (Noncurrent c start writer) change node e = absurd (let f = first_same _ _ _ _ e in omega (arith, f))
-recovered_by_numbers (Nonresident c start writer) change node e = absurd (let f = first_same _ _ _ _ e in omega (arith, f))
-
-among_at : (log : List Logged) (k : ℕ) (change : Logged) → slice_get log k ≡ Some change → Among change log
-among_at [] k change is = absurd (none-some change is)
-among_at (c ∷ log) zero change is = subst (λ d. Among d (c ∷ log)) (same_Some c change is) front
-among_at (c ∷ log) (suc k) change is = behind (among_at log k change is)
-
-module _ (t : Telling) (nodes : List Node) (log : List Logged) (none : HasNoRemoval log) where
-  no_removal : (number variable : ℕ) → IsLogged log number Removed variable → ⊥
-  no_removal number variable is = none is.change (among_at log (number - 1) is.change is.is.is) is.kind
-
-  told_none : (w : told-verdict.Verdict) (place variable change node : ℕ) (v : Verdict) → IsVerdictOf t nodes place w v → v ≡ Recovered change node → IsNamed log variable w → ⊥
-  told_none told.Home place variable change node v is e named = let f : Home ≡ Recovered change node = sym is ∙ e in cc
-  told_none (told.Recovered r c) place variable change node v is e named = no_removal c variable named
-  told_none (told.Noncurrent c start w) place variable change node v is e named = let f = sym is ∙ e in cc
-  told_none (told.Nonresident c start w) place variable change node v is e named = let f = sym is ∙ e in cc
-
--- Where no change removed an assignment, no row says that a value is recovered.
-pub none_recovered : (t : Telling) (m : Form) (log : List Logged) (all : List PlaceVerdict) (rows : List VisibleRow) → HasNoRemoval log → AreRowsOf t m.nodes all rows → map row_numbers m.rows ≡ map row_numbers rows → AreNamed log all
-    → (k change node : ℕ) (r : VisibleRow) → slice_get m.rows k ≡ Some r → r.verdict ≡ Recovered change node → ⊥
-none_recovered t m log all rows none say same named k change node r is recovered =
-    let q = from_map row_numbers rows k (row_numbers r) (ap (λ l. slice_get l k) (sym same) ∙ map_at row_numbers m.rows k r is) in
-    let row : VisibleRow = q.0 in
-    let numbers : row.place ∷ row.variable ∷ verdict_numbers row.verdict ≡ r.place ∷ r.variable ∷ verdict_numbers r.verdict = q.2 in
-    let rest : row.variable ∷ verdict_numbers row.verdict ≡ r.variable ∷ verdict_numbers r.verdict = rest_same row.place r.place (row.variable ∷ verdict_numbers row.verdict) (r.variable ∷ verdict_numbers r.verdict) numbers in
-    let verdict : row.verdict ≡ Recovered change node = recovered_by_numbers row.verdict change node (rest_same row.variable r.variable (verdict_numbers row.verdict) (verdict_numbers r.verdict) rest ∙ ap verdict_numbers recovered) in
-    let found = said_by t m.nodes all rows k row say q.1 in
-    let w : PlaceVerdict = found.0 in
-    let of : IsRowOf t m.nodes w row = found.2 in
-    told_none t m.nodes log none w.verdict w.place.0 w.var.0 change node row.verdict of.verdict verdict (named w found.1)

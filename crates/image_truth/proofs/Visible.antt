@@ -32,7 +32,7 @@ use Rattle.rv_machine.specs.State.{State}
 use Rattle.rv_machine.specs.Run.{is_stop}
 use Rattle.stop_view.specs.Rows.{rows_at}
 use Rattle.stop_view.specs.Run as image
-use Rattle.graph_core.specs.Graphs.{Graph, Scalar, Of, Name}
+use Rattle.graph_core.specs.Graphs.{Graph, Scalar, Of, Name, UnitForm}
 use Rattle.graph_core.specs.WellMarked.{IsVariable}
 use Rattle.graph_core.specs.Runs.{Activation, frame}
 use Rattle.graph_core.specs.Validity.{IsValid}
@@ -46,6 +46,7 @@ use Rattle.emitted.specs.Emitted.{EmittedForm}
 use Rattle.emit_runs.specs.Laid as laid
 use Rattle.emit_runs.specs.Laid.{IsCode}
 use Rattle.emit_placed.specs.Told.{Tells}
+use Rattle.unit_objects.specs.Owned.{IsPlaceOf}
 use Rattle.image_texts.specs.Rows.{IsShown}
 use Rattle.image_texts.specs.Standing.{IsDeclared}
 use Rattle.image_texts.specs.Units.{HasVariablesIn}
@@ -77,6 +78,12 @@ pub record IsScalarIn (g : Graph) (number : ℕ) (of : ObjectType) : Type 0 wher
   pub variable_is : scalar.variable ≡ number
   pub scalar_type : declared-scalar.Scalar
   pub of_is : of ≡ type.Scalar scalar_type
+
+-- A variable that is visible at a place of a graph of a unit, and is not kept in memory, is one of its scalars.
+abbrev pub AreScalars : ProgramTree → UnitForm → Type 0
+AreScalars p u =
+    (f i k x : ℕ) (g : Graph) (q : Place) (v : AutomaticTree) → slice_get u.graphs f ≡ Some g → slice_get (places_of_program p) i ≡ Some q → IsPlaceOf g (i + 1) → slice_get (places.visible p.automatics q.scope) k ≡ Some x → slice_get p.automatics x ≡ Some v → v.in_memory ≡ false
+    → IsScalarIn g (automatic_number p x) v.of
 
 -- ---- The rows
 
@@ -117,20 +124,11 @@ module _ (p : ProgramTree) (m : Form) (functions : map name_length m.functions �
 
   -- each is seen
   seen_here : (k x : ℕ) → slice_get there k ≡ Some x → Seen p memory t.upper.memory t.upper.here.graph deep (frame t.upper.here) x
-  seen_here k x is = by_frames activations t.frames t.at t.many
-    where
-      by_frames : (all : List source-frame.Frame) → source.SameFrames p memory t.upper.memory h.unit all (frame t.upper.here ∷ map frame t.upper.waiting) → source.StandsAt place all → deep ≡ length all → Seen p memory t.upper.memory t.upper.here.graph deep (frame t.upper.here) x
-      by_frames [] same at many = absurd same
-      by_frames (f ∷ all) same at many =
-          let depth : length all + 1 ≡ deep = omega (arith, many) in
-          subst (λ d. Seen p memory t.upper.memory t.upper.here.graph d (frame t.upper.here) x) depth
-          (same.0.seen t.upper.here.graph t.stop.at x (ap (slice_get h.unit.graphs) (sym same.0.function) ∙ t.same.here.0.of) (ap (λ n. slice_get (places_of_program p) (n - 1)) at ∙ t.stop.is) k is)
+  seen_here = stopping.seen_here p m functions variables owners more names rules static_law automatic_law literal_law h valid homed e code storages spans words outermost unit has tells stops_are place deep activations visible memory s t
 
   -- over homes too
   seen_lower : (k x : ℕ) → slice_get there k ≡ Some x → Seen p memory t.lower.memory t.upper.here.graph (length t.lower.waiting + 1) (frame t.upper.here) x
-  seen_lower k x is =
-      subst (λ n. Seen p memory n t.upper.here.graph (length t.lower.waiting + 1) (frame t.upper.here) x) (sym t.same.memory)
-      (subst (λ d. Seen p memory t.upper.memory t.upper.here.graph d (frame t.upper.here) x) (sym many_here) (seen_here k x is))
+  seen_lower = stopping.seen_lower p m functions variables owners more names rules static_law automatic_law literal_law h valid homed e code storages spans words outermost unit has tells stops_are place deep activations visible memory s t
 
   declared_there : (k x : ℕ) → slice_get there k ≡ Some x → (v : AutomaticTree) × (slice_get p.automatics x ≡ Some v)
   declared_there k x is =

@@ -6,15 +6,14 @@ use Rattle.c_tree.specs.Programs.{ProgramTree}
 use Rattle.c_memory.specs.Memory as source-memory
 use Rattle.c_states.specs.declared.event.Frame as source-frame
 use Rattle.graph_core.specs.declared.graph.MemoryObject.{MemoryObject}
-use Rattle.graph_core.specs.Graphs.{Graph, Scalar, StaticObject, UnitForm}
+use Rattle.graph_core.specs.Graphs.{Graph, Scalar, UnitForm}
 use Rattle.graph_core.specs.Memory as unit-memory
 use Rattle.graph_core.specs.Runs as unit-event
 use Rattle.graph_values.specs.Correspondence as source
 use Rattle.image_form.specs.Form.{Form}
 use Rattle.image_holding.specs.Keeping.{HasPlacesOf}
 use Rattle.image_texts.specs.Units.{HasVariablesIn}
-use Rattle.image_truth.proofs.Truth.{AreScalars}
-use Rattle.image_truth.proofs.Visible.{IsScalarIn}
+use Rattle.image_truth.proofs.Visible.{AreScalars}
 use Rattle.pass_law.specs.Keeps.{SameFunction}
 use Rattle.passes_truth.proofs.Markers.{place_back}
 

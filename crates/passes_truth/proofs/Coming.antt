@@ -1,5 +1,5 @@
 -- The nodes of recipes come to the words of their values over homes.
-use Rattle.std.proofs.Common.{◌≡◌, ℕ, suc, ◌≤◌, Some, List, [], ◌++◌, length, map, slice_get, refl, sym, ap, ◌∙◌, subst}
+use Rattle.std.proofs.Common.{◌≡◌, ℕ, suc, ◌≤◌, Some, List, ◌++◌, length, map, slice_get, refl, sym, ap, ◌∙◌, subst}
 use Rattle.std.specs.Prelude.{option_and_then, option_map}
 use Rattle.std.proofs.lemmas.Option.{same_Some}
 use Rattle.places.specs.declared.table.PlaceRow.{PlaceRow}
@@ -7,27 +7,23 @@ use Rattle.c_tree.specs.Programs.{ProgramTree}
 use Rattle.emit_memory.specs.Meaning.{Means}
 use Rattle.emit_placed.specs.Told.{Tells}
 use Rattle.emit_runs.specs.Laid.{Arrangement}
-use Rattle.emit_runs.specs.Standing.{StandsAt}
 use Rattle.emitted.specs.Emitted.{EmittedForm, FunctionCode}
-use Rattle.graph_core.specs.Graphs.{Graph, Recipe}
-use Rattle.graph_core.specs.Runs.{Activation, Configuration}
+use Rattle.graph_core.specs.Graphs.{Graph}
+use Rattle.graph_core.specs.Runs.{Activation}
 use Rattle.graph_core.specs.Validity.{IsValid, IsGraph, depth_of}
 use Rattle.graph_homes.specs.declared.home.Home.{Home}
-use Rattle.graph_homes.specs.Homes.{HoldsOnAllPaths}
-use Rattle.home_runs.specs.Alike.{IsSame, AreShown, shown_value}
-use Rattle.homed_unit.specs.Homed.{HomedForm, HaveHomes, home_of, over_homes}
+use Rattle.home_runs.specs.Alike.{shown_value}
+use Rattle.homed_unit.specs.Homed.{HomedForm, HaveHomes}
 use Rattle.image_declarations.specs.Storages.{storages_of}
 use Rattle.image_declarations.specs.Variables.{shape, shapes_of, owner, owners_of, declared_names, name_length, length_of_name, storage}
 use Rattle.image_form.specs.Form.{Form}
 use Rattle.image_form.specs.Rules.{IsImage}
-use Rattle.image_tables.specs.Nodes.{Naming}
 use Rattle.image_tables.specs.Rows.{IsNodeIn, naming_at, naming_in, telling_of}
 use Rattle.image_texts.specs.Units.{HasVariablesIn}
 use Rattle.image_texts.proofs.Tables.{all_at}
-use Rattle.rv_machine.specs.State.{State}
 use Rattle.stop_view.specs.Recipes.{recipe_value}
 use Rattle.stop_view.specs.Values.{recipe_levels}
-use Rattle.unit_objects.specs.Owned.{IsPlaceOf, IsRunning}
+use Rattle.unit_objects.specs.Owned.{IsPlaceOf}
 use Rattle.unit_objects.proofs.Homes.{of_function}
 use Rattle.passes_truth.specs.Recovered.{ComeToRecipes}
 use Rattle.passes_truth.proofs.Nodes as nodes

@@ -9,7 +9,6 @@ pub mod Whole
 pub mod RecoveredRows
 pub mod Recipes
 pub mod Recovered
-pub mod Tables
 pub mod Truth
 pub mod Noted
 pub mod Words

@@ -5,7 +5,7 @@ use Rattle.graph_core.specs.Graphs.{Instruction, Marker, Note, Move, Operate, Tr
 use Rattle.graph_core.specs.Paths.{Among, front, behind}
 use Rattle.graph_core.specs.Validity.{markers_in, markers_of_blocks}
 use Rattle.pass_law.specs.Keeps.{SameFunction}
-use Rattle.unit_objects.specs.Owned.{HasMarker, IsPlaceOf}
+use Rattle.unit_objects.specs.Owned.{IsPlaceOf}
 
 -- what is among the first of two lists is among both
 pub among_front : {A : Type 0} (xs ys : List A) (x : A) → Among x xs → Among x (xs ++ ys)

@@ -1,12 +1,12 @@
 -- Recipes that notes on paths give are valid, and so is one that gives a scalar's value where values are shown.
-use Rattle.std.proofs.Common.{◌≡◌, ◌≢◌, ℕ, zero, suc, ◌+◌, ◌<◌, ◌≤◌, ◌⊎◌, inl, inr, ⊎_elim, refl, sym, ap, ◌∙◌, subst, arith, Bool, true, false, Option, Some, None, List, [], ◌∷◌, length, slice_get}
+use Rattle.std.proofs.Common.{◌≡◌, ℕ, ◌<◌, ◌≤◌, ◌⊎◌, inl, inr, ⊎_elim, refl, sym, ap, ◌∙◌, subst, arith, Bool, true, false, Option, Some, None, List, [], ◌∷◌, length, slice_get}
 use Rattle.std.specs.Prelude.{◌==◌, if◌then◌else◌}
 use Rattle.std.specs.List.{AllByRecursion}
 use Rattle.std.specs.Option.{option_map_or}
 use Rattle.std.proofs.lemmas.Bool.{cases_lt}
 use Rattle.std.proofs.lemmas.Option.{none-some, same_Some}
 use Rattle.graph_core.specs.declared.value.Value.TheVariants.{Odd}
-use Rattle.graph_core.specs.Graphs.{Operand, Name, Constant, StaticAddress, Recipe, Of, Truncated, Operated, NoteValue, Is, Gone, Instruction, Marker, Note, Move, Operate, Truncate, Same, Address, Load, Store, Zero, CopyWords, Call, End, Block, Graph, StaticObject, UnitForm}
+use Rattle.graph_core.specs.Graphs.{Operand, Name, Constant, StaticAddress, Recipe, Of, Truncated, Operated, NoteValue, Is, Instruction, Marker, Note, Move, Operate, Truncate, Same, Address, Load, Store, Zero, CopyWords, Call, End, Graph, StaticObject, UnitForm}
 use Rattle.graph_core.specs.Memory.{static_bytes}
 use Rattle.graph_core.specs.Paths.{History, Way, stays, passes, goes, Path, path, note_by, last_note}
 use Rattle.graph_core.specs.Runs.{Activation, static_address}
@@ -14,7 +14,7 @@ use Rattle.graph_core.specs.Validity.{IsOperand, AreOperandsOf, IsNoteValue, IsI
 use Rattle.graph_core.specs.Values.{is_odd, pointer_at}
 use Rattle.graph_homes.specs.Homes.{HoldsOnAllPaths}
 use Rattle.homed_unit.specs.Homed.{HomedForm, home_of}
-use Rattle.home_runs.specs.Alike.{AreShown, shown_value}
+use Rattle.home_runs.specs.Alike.{AreShown}
 use Rattle.image_texts.proofs.Tables.{all_at}
 
 -- ---- What is noted

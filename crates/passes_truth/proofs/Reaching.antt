@@ -1,5 +1,5 @@
 -- A run that reaches what another one shows reaches, by way of it, what that one reaches.
-use Rattle.std.proofs.Common.{◌≡◌, ℕ, List, [], ◌∷◌, ◌++◌, refl, sym, ap, ◌∙◌, subst, append_assoc}
+use Rattle.std.proofs.Common.{◌≡◌, ℕ, List, [], ◌∷◌, ◌++◌, refl, ap, ◌∙◌, subst, append_assoc}
 use Rattle.event_runs.specs.Agreement.{Pairs}
 use Rattle.event_runs.specs.Following.{Reached, Both}
 

@@ -1,7 +1,6 @@
 -- What an image that is made of a program's unit recovers of a scalar is the text of what the program's variable holds.
-use Rattle.std.proofs.Common.{◌≡◌, ◌≢◌, ℕ, ◌+◌, ◌<◌, ◌≤◌, true, Option, Some, None, List, [], ◌∷◌, ◌++◌, length, map, slice_get, refl, sym, ap, ◌∙◌, subst, arith}
+use Rattle.std.proofs.Common.{◌≡◌, ◌≢◌, ℕ, ◌+◌, ◌≤◌, true, Option, Some, None, List, [], ◌∷◌, ◌++◌, length, map, slice_get, refl, sym, ap, ◌∙◌, subst}
 use Rattle.std.specs.Prelude.{slice_index, option_map}
-use Rattle.std.specs.Option.{option_map_or}
 use Rattle.std.proofs.lemmas.Option.{none-some, same_Some}
 use Rattle.word_base.specs.Owners.{Variable as OfVariable}
 use Rattle.c_tree.specs.declared.object_type.ObjectType.TheVariants as type
@@ -31,11 +30,9 @@ use Rattle.graph_core.specs.Runs as unit-run
 use Rattle.graph_core.specs.Validity.{IsValid}
 use Rattle.graph_homes.specs.declared.home.Home as declared-home
 use Rattle.graph_homes.specs.declared.home.Home.TheVariants.{Register, Slot}
-use Rattle.emitted.specs.Emitted as emitted
-use Rattle.emit_runs.proofs.Frames.{all_codes, graph_is, graph_valid}
 use Rattle.graph_values.specs.Typed.{AreTyped, OwnersDiffer}
 use Rattle.graph_values.specs.Correspondence.{IsInMemory, SameMemory, SameValue, Seen, owner_of}
-use Rattle.homed_unit.specs.Homed.{HomedForm, HaveHomes, IsHomeAmong, home_number, home_of, over_homes}
+use Rattle.homed_unit.specs.Homed.{HomedForm, HaveHomes, over_homes}
 use Rattle.emitted.specs.Emitted.{EmittedForm}
 use Rattle.emit_runs.specs.Laid.{Arrangement, code_of}
 use Rattle.emit_runs.specs.Standing.{StandsAt}

@@ -1,63 +1,42 @@
 -- What a recovered row shows is the text of what its variable holds.
-use Rattle.std.proofs.Common.{◌≡◌, ◌≢◌, ℕ, suc, ◌+◌, ◌-◌, ◌<◌, ◌≤◌, refl, sym, ap, ◌∙◌, subst, arith, Bool, true, false, Some, None, List, [], ◌∷◌, ◌++◌, length, map, slice_get}
-use Rattle.std.specs.Prelude.{slice_index, option_map, if◌then◌else◌}
-use Rattle.std.proofs.lemmas.Bool.{lt-ltb}
-use Rattle.std.proofs.lemmas.List.{length-map}
-use Rattle.std.proofs.lemmas.Option.{same_Some, slice_get_within}
-use Rattle.event_runs.specs.Agreement.{Pairs}
+use Rattle.std.proofs.Common.{◌≡◌, ◌≢◌, ℕ, ◌+◌, ◌≤◌, refl, sym, ap, ◌∙◌, subst, Bool, true, false, Some, List, [], ◌++◌, length, map, slice_get}
+use Rattle.std.specs.Prelude.{slice_index, option_map}
+use Rattle.std.proofs.lemmas.Option.{slice_get_within}
 use Rattle.word_base.specs.Owners.{Variable as OfVariable}
-use Rattle.c_tree.specs.declared.object_type.Object.TheVariants as object
-use Rattle.c_tree.specs.declared.object_type.ObjectType.{ObjectType}
-use Rattle.c_tree.specs.declared.object_type.ObjectType.TheVariants as type
-use Rattle.c_tree.specs.declared.object_type.Scalar as declared-scalar
 use Rattle.c_tree.specs.Programs.{ProgramTree, StaticTree, AutomaticTree, LiteralTree}
-use Rattle.c_places.specs.Places.{Place, places_of_program}
 use Rattle.c_places.specs.Places as places
-use Rattle.c_flow.specs.Assigns.{variable_number}
-use Rattle.c_place_table.specs.Rows.{Row, variable_if, numbers_of, row_of, rows_of_program}
 use Rattle.c_memory.specs.Memory as source-memory
 use Rattle.c_memory.specs.Memory.{contents}
 use Rattle.c_states.specs.declared.event.Frame as source-frame
 use Rattle.c_states.specs.States.{Shown}
 use Rattle.image_form.specs.Form.{Form}
 use Rattle.image_form.specs.Rules.{IsImage}
-use Rattle.image_form.specs.declared.verdicts.Verdict.{Verdict}
-use Rattle.image_form.specs.declared.verdicts.Verdict.TheVariants.{Home, Recovered, Noncurrent, Nonresident}
+use Rattle.image_form.specs.declared.verdicts.Verdict.TheVariants.{Recovered}
 use Rattle.image_form.specs.declared.verdicts.VisibleRow.{VisibleRow}
 use Rattle.image_declarations.specs.Spans.{span, code_span}
 use Rattle.image_declarations.specs.Storages.{storages_of}
 use Rattle.image_declarations.specs.Variables.{shape, shapes_of, owner, owners_of, declared_names, name_length, length_of_name, storage}
-use Rattle.image_tables.specs.Tables.{Sight, sight}
 use Rattle.rv_machine.specs.State.{State}
 use Rattle.rv_machine.specs.Run.{is_stop}
-use Rattle.stop_view.specs.Rows.{rows_at}
 use Rattle.stop_view.specs.Run as image
-use Rattle.graph_core.specs.Graphs.{Graph, Scalar, Of, Name}
+use Rattle.graph_core.specs.Graphs.{Scalar}
 use Rattle.graph_core.specs.WellMarked.{IsVariable}
-use Rattle.graph_core.specs.Runs.{Activation, frame}
+use Rattle.graph_core.specs.Runs.{frame}
 use Rattle.graph_core.specs.Validity.{IsValid}
-use Rattle.graph_core.specs.declared.value.Shadow.TheVariants.{Known}
 use Rattle.graph_homes.specs.Homes.{HoldsOnAllPaths}
 use Rattle.graph_values.specs.Correspondence as source
 use Rattle.graph_values.specs.Correspondence.{Seen}
-use Rattle.homed_unit.specs.Homed.{HomedForm, HaveHomes, home_of, home_number}
+use Rattle.homed_unit.specs.Homed.{HomedForm, HaveHomes, home_of}
 use Rattle.home_runs.proofs.Stops as home-stops
 use Rattle.emitted.specs.Emitted.{EmittedForm}
 use Rattle.emit_runs.specs.Laid as laid
 use Rattle.emit_runs.specs.Laid.{IsCode}
 use Rattle.emit_placed.specs.Told.{Tells}
 use Rattle.image_texts.specs.Rows.{IsShown}
-use Rattle.image_texts.specs.Standing.{IsDeclared}
 use Rattle.image_texts.specs.Units.{HasVariablesIn}
 use Rattle.image_texts.specs.Variables.{HasElements, automatic_number}
-use Rattle.image_texts.proofs.Tables.{map_at}
 use Rattle.image_holding.specs.Keeping.{HasPlacesOf}
-use Rattle.image_holding.proofs.Texts as texts
-use Rattle.image_holding.proofs.Scalars as scalars
-use Rattle.image_truth.specs.Truthful.{SameVisible}
-use Rattle.source_events.specs.Sources.{shown_of}
 use Rattle.image_truth.specs.Meeting.{MeetAt}
-use Rattle.image_truth.proofs.Listed.{seen_at, seen_from, rows_of_place, row_there, pairs_at}
 use Rattle.image_truth.proofs.Stopping as stopping
 use Rattle.currency.specs.declared.verdict.PlaceVerdict.{PlaceVerdict}
 use Rattle.currency.specs.Sound.{AreRecovered}
@@ -101,22 +80,9 @@ module _ (p : ProgramTree) (m : Form) (functions : map name_length m.functions �
   abbrev there : List ℕ
   there = places.visible p.automatics t.stop.at.scope
 
-  -- each is seen
-  seen_here : (k x : ℕ) → slice_get there k ≡ Some x → Seen p memory t.upper.memory t.upper.here.graph deep (frame t.upper.here) x
-  seen_here k x is = by_frames activations t.frames t.at t.many
-    where
-      by_frames : (all : List source-frame.Frame) → source.SameFrames p memory t.upper.memory h.unit all (frame t.upper.here ∷ map frame t.upper.waiting) → source.StandsAt place all → deep ≡ length all → Seen p memory t.upper.memory t.upper.here.graph deep (frame t.upper.here) x
-      by_frames [] same at many = absurd same
-      by_frames (f ∷ all) same at many =
-          let depth : length all + 1 ≡ deep = omega (arith, many) in
-          subst (λ d. Seen p memory t.upper.memory t.upper.here.graph d (frame t.upper.here) x) depth
-          (same.0.seen t.upper.here.graph t.stop.at x (ap (slice_get h.unit.graphs) (sym same.0.function) ∙ t.same.here.0.of) (ap (λ n. slice_get (places_of_program p) (n - 1)) at ∙ t.stop.is) k is)
-
-  -- over homes too
+  -- each is seen over homes
   seen_lower : (k x : ℕ) → slice_get there k ≡ Some x → Seen p memory t.lower.memory t.upper.here.graph (length t.lower.waiting + 1) (frame t.upper.here) x
-  seen_lower k x is =
-      subst (λ n. Seen p memory n t.upper.here.graph (length t.lower.waiting + 1) (frame t.upper.here) x) (sym t.same.memory)
-      (subst (λ d. Seen p memory t.upper.memory t.upper.here.graph d (frame t.upper.here) x) (sym many_here) (seen_here k x is))
+  seen_lower = stopping.seen_lower p m functions variables owners more names rules static_law automatic_law literal_law h valid homed e code storages spans words outermost unit has tells stops_are place deep activations visible memory s t
 
   -- What a recovered row shows.
   lower_shown : (k i x change node : ℕ) (v : AutomaticTree) (r : VisibleRow) → slice_get there k ≡ Some x → slice_get p.automatics x ≡ Some v → slice_get m.rows i ≡ Some r → r.place ≡ place → r.variable ≡ automatic_number p x → r.verdict ≡ Recovered change node

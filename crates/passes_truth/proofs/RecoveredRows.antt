@@ -1,9 +1,8 @@
 -- What the rows of an image say of recipes is what verdicts say.
-use Rattle.std.proofs.Common.{◌≡◌, ℕ, zero, suc, sym, ap, ◌∙◌, subst, arith, Some, List, [], ◌∷◌, map, slice_get, refl}
-use Rattle.std.proofs.lemmas.Option.{none-some, same_Some}
+use Rattle.std.proofs.Common.{◌≡◌, ℕ, sym, ap, ◌∙◌, subst, arith, Some, List, ◌∷◌, map, slice_get, refl}
 use Rattle.graph_core.specs.declared.recipe.Recipe as declared-recipe
 use Rattle.graph_core.specs.Graphs.{recipe_view}
-use Rattle.graph_core.specs.Paths.{Among, front, behind}
+use Rattle.graph_core.specs.Paths.{Among}
 use Rattle.currency.specs.declared.verdict.Verdict as told-verdict
 use Rattle.currency.specs.declared.verdict.Verdict.TheVariants as told
 use Rattle.currency.specs.declared.verdict.PlaceVerdict.{PlaceVerdict}
@@ -15,12 +14,7 @@ use Rattle.image_form.specs.declared.verdicts.Verdict.TheVariants.{Home, Recover
 use Rattle.image_form.specs.declared.verdicts.VisibleRow.{VisibleRow}
 use Rattle.image_tables.specs.Rows.{Telling, IsNodeIn, IsVerdictOf, IsRowOf, AreRowsOf, naming_at}
 use Rattle.image_texts.proofs.Tables.{map_at, from_map}
-
-first_same : (a b : ℕ) (xs ys : List ℕ) → a ∷ xs ≡ b ∷ ys → a ≡ b
-first_same a b xs ys e = cc
-
-rest_same : (a b : ℕ) (xs ys : List ℕ) → a ∷ xs ≡ b ∷ ys → xs ≡ ys
-rest_same a b xs ys e = cc
+use Rattle.image_truth.proofs.Told.{first_same, rest_same, said_by}
 
 -- a verdict with the numbers of a recovered one is that
 recovered_by_numbers : (v : Verdict) (change node : ℕ) → verdict_numbers v ≡ verdict_numbers (Recovered change node) → v ≡ Recovered change node
@@ -41,14 +35,6 @@ pub record GivesRecipe (t : Telling) (nodes : List Node) (all : List PlaceVerdic
   pub node_is : IsNodeIn nodes (naming_at t place) (recipe_view recipe) node
 
 module _ (t : Telling) (nodes : List Node) where
-  -- the verdict of a row
-  said_by : (all : List PlaceVerdict) (rows : List VisibleRow) (k : ℕ) (r : VisibleRow) → AreRowsOf t nodes all rows → slice_get rows k ≡ Some r → (w : PlaceVerdict) × Among w all × IsRowOf t nodes w r
-  said_by [] [] k r say is = absurd (none-some r is)
-  said_by [] (q ∷ rows) k r say is = absurd say
-  said_by (w ∷ all) [] k r say is = absurd say
-  said_by (w ∷ all) (q ∷ rows) zero r say is = (w, front, subst (IsRowOf t nodes w) (same_Some q r is) say.0)
-  said_by (w ∷ all) (q ∷ rows) (suc k) r say is = let found = said_by all rows k r say.1 is in (found.0, behind found.1, found.2)
-
   same_node : (change c node n : ℕ) → Recovered change node ≡ Recovered c n → node ≡ n
   same_node change c node n e = cc
 

@@ -6,12 +6,9 @@ use Rattle.event_runs.specs.Agreement.{Pairs}
 use Rattle.graph_core.specs.declared.value.Shadow.{Shadow}
 use Rattle.graph_core.specs.declared.value.Shadow.TheVariants as shadow
 use Rattle.graph_core.specs.declared.value.Value.{Value}
-use Rattle.graph_core.specs.Graphs.{Recipe}
 use Rattle.graph_core.specs.Runs.{Activation, Configuration, Frame, frame, numbers_from}
-use Rattle.graph_core.specs.Values.{is_odd}
-use Rattle.graph_homes.specs.Homes.{HoldsOnAllPaths}
-use Rattle.homed_unit.specs.Homed.{HomedForm, home_of}
-use Rattle.home_runs.specs.Alike.{IsSame, HoldsNames, HoldsOthers, IsSameHere, IsSameWaiting, AreSame, AreShown, shown_value}
+use Rattle.homed_unit.specs.Homed.{HomedForm}
+use Rattle.home_runs.specs.Alike.{IsSame, IsSameWaiting, AreSame, AreShown, shown_value}
 use Rattle.pass_law.specs.Keeps.{StaysOrGoes, stays, goes, SameFrame}
 
 -- ---- Lists

@@ -1,8 +1,7 @@
 -- An image stops where its code does, also behind passes: at the addresses of the code's stops, which are those of the program's places but entries.
-use Rattle.std.proofs.Common.{◌≡◌, ℕ, suc, ◌+◌, ◌<◌, refl, sym, ap, ◌∙◌, subst, arith, Bool, true, false, Some, get_or, List, length, map, slice_get}
+use Rattle.std.proofs.Common.{◌≡◌, ℕ, ◌+◌, ◌<◌, refl, sym, ap, ◌∙◌, subst, arith, Bool, true, false, Some, get_or, List, length, map, slice_get}
 use Rattle.std.specs.Prelude.{replicate}
-use Rattle.std.proofs.lemmas.Bool.{true≢false}
-use Rattle.std.proofs.lemmas.List.{length-map, length-replicate}
+use Rattle.std.proofs.lemmas.List.{length-replicate}
 use Rattle.std.proofs.lemmas.Option.{same_Some, slice_get_within}
 use Rattle.places.specs.declared.table.PlaceRow.{PlaceRow}
 use Rattle.c_tree.specs.Programs.{ProgramTree}
@@ -18,7 +17,6 @@ use Rattle.emit_placed.specs.Markers.{AreStopsOf}
 use Rattle.event_runs.specs.Agreement.{Pairs}
 use Rattle.emit_placed.proofs.StopPlaces as code
 use Rattle.image_form.specs.Form.{Form}
-use Rattle.image_form.specs.declared.tables.Place.{Place as ImagePlace}
 use Rattle.image_declarations.specs.Variables.{entry}
 use Rattle.image_tables.specs.Places.{address, addresses_of, stop_addresses}
 use Rattle.image_texts.proofs.Tables.{map_at, from_map}

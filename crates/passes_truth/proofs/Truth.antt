@@ -1,32 +1,27 @@
 -- THE IMAGE OF A PROGRAM RUNS TRUE TO IT behind passes that keep what its unit does, in both modes.
-use Rattle.std.proofs.Common.{◌≡◌, ℕ, ◌+◌, ◌-◌, refl, sym, ap, ◌∙◌, subst, arith, true, false, ◌&&◌, Some, List, [], ◌∷◌, ◌++◌, length, map, slice_get}
-use Rattle.std.proofs.lemmas.Bool.{and_parts}
+use Rattle.std.proofs.Common.{◌≡◌, ℕ, ◌+◌, ◌-◌, sym, ap, ◌∙◌, subst, arith, false, Some, List, map, slice_get}
 use Rattle.std.proofs.lemmas.Option.{same_Some}
 use Rattle.debug_records.specs.declared.mode.Mode.{Mode}
 use Rattle.c_tree.specs.Programs.{ProgramTree, AutomaticTree}
-use Rattle.c_places.specs.Places.{Place, places_of_program, visible}
+use Rattle.c_places.specs.Places.{places_of_program, visible}
 use Rattle.c_place_table.specs.Rows.{Row, row_of, row_view, rows_of_program}
-use Rattle.c_laws.specs.Laws.{IsWellFormed, follow, are_functions, are_objects, is_main, is_sound, is_within, objects_ascend, places_ascend}
+use Rattle.c_laws.specs.Laws.{IsWellFormed}
 use Rattle.c_laws.specs.Names.{HasNames}
-use Rattle.c_laws.specs.Parameters.{parameters_single}
 use Rattle.c_memory.specs.Memory as source-memory
 use Rattle.c_states.specs.declared.event.Frame as source-frame
 use Rattle.c_states.specs.States.{Shown}
 use Rattle.image_form.specs.Form.{Form}
 use Rattle.image_form.specs.Rules.{IsImage}
-use Rattle.image_form.specs.declared.tables.Place.{Place as ImagePlace}
-use Rattle.image_tables.specs.Tables.{Spot, sight, spot}
+use Rattle.image_tables.specs.Tables.{sight}
 use Rattle.image_tables.specs.Rows.{telling_of}
 use Rattle.rv_machine.specs.State.{State}
 use Rattle.rv_machine.specs.Run.{is_stop}
 use Rattle.stop_view.specs.Run as image
-use Rattle.graph_core.specs.Graphs.{Graph, Logged, UnitForm}
+use Rattle.graph_core.specs.Graphs.{Graph, UnitForm}
 use Rattle.graph_build.specs.Units.{IsUnitOf}
 use Rattle.homed_unit.specs.Homed.{HomedForm}
 use Rattle.home_runs.proofs.Whole.{leads_over_homes}
-use Rattle.emitted.specs.declared.emitted.PlacedStop.{PlacedStop}
 use Rattle.emit_runs.specs.Laid as laid
-use Rattle.emit_placed.specs.Markers.{AreStopsOf}
 use Rattle.unit_objects.specs.Owned.{IsPlaceOf}
 use Rattle.unit_objects.proofs.Homes.{of_function}
 use Rattle.image_texts.specs.Units.{HasVariablesIn}
@@ -36,9 +31,8 @@ use Rattle.image_units.proofs.Whole as units
 use Rattle.emit_bound.specs.Timed.{AreTimed}
 use Rattle.unit_facts.proofs.Places as first-places
 use Rattle.unit_facts.proofs.Scalars.{HasScalar, has_scalars}
-use Rattle.image_truth.proofs.Truth.{AreScalars}
 use Rattle.program_image.specs.Made.{IsHomed, IsMadeOf}
-use Rattle.program_image.specs.Tables.{HasTablesOf, spot_of, visible_from}
+use Rattle.program_image.specs.Tables.{HasTablesOf}
 use Rattle.image_truth.specs.Truthful.{RunsTrue}
 use Rattle.source_events.proofs.Programs.{source_events}
 use Rattle.image_truth.specs.Meeting.{MeetAt}
@@ -48,8 +42,9 @@ use Rattle.image_truth.proofs.Naming.{static_law, automatic_law, literal_law}
 use Rattle.image_truth.proofs.Outermost.{outermost}
 use Rattle.image_truth.proofs.Stopping as stopping
 use Rattle.image_truth.proofs.Stopping.{same_function}
+use Rattle.image_truth.proofs.Tables.{functions_of, seen_same, variables_follow}
 use Rattle.image_truth.proofs.Visible as visibles
-use Rattle.image_truth.proofs.Visible.{IsScalarIn}
+use Rattle.image_truth.proofs.Visible.{AreScalars, IsScalarIn}
 use Rattle.event_runs.specs.Agreement.{Pairs}
 use Rattle.event_runs.specs.Following.{Reached, Both}
 use Rattle.graph_core.specs.Runs.{unit_run}
@@ -74,7 +69,6 @@ use Rattle.passes_truth.proofs.Reaching.{reached_both}
 use Rattle.passes_truth.proofs.Recovered as recovered
 use Rattle.passes_truth.proofs.RecoveredRows.{gives_recipe}
 use Rattle.passes_truth.proofs.StopAddresses as stop-addresses
-use Rattle.passes_truth.proofs.Tables.{functions_of, seen_same, variables_follow}
 use Rattle.passes_truth.proofs.Timed.{timed}
 use Rattle.passes_truth.proofs.Whole as whole
 

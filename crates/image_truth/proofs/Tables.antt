@@ -1,58 +1,16 @@
 -- What the tables of an image say of its program's places, and how a program's variables follow one another.
-use Rattle.std.proofs.Common.{◌≡◌, ℕ, ◌+◌, ◌-◌, refl, sym, ap, ◌∙◌, subst, arith, true, false, ◌&&◌, Some, List, [], ◌∷◌, ◌++◌, length, map, slice_get}
+use Rattle.std.proofs.Common.{◌≡◌, ℕ, ◌+◌, refl, sym, ap, ◌∙◌, true, ◌&&◌, List, [], ◌∷◌, ◌++◌, length, map, slice_get}
 use Rattle.std.proofs.lemmas.Bool.{and_parts}
-use Rattle.std.proofs.lemmas.Option.{same_Some}
-use Rattle.debug_records.specs.declared.mode.Mode.{Mode}
-use Rattle.c_tree.specs.Programs.{ProgramTree, AutomaticTree}
-use Rattle.c_places.specs.Places.{Place, places_of_program, visible}
+use Rattle.c_tree.specs.Programs.{ProgramTree}
+use Rattle.c_places.specs.Places.{Place, places_of_program}
 use Rattle.c_place_table.specs.Rows.{Row, row_of, rows_of_program}
 use Rattle.c_laws.specs.Laws.{IsWellFormed, follow, are_functions, are_objects, is_main, is_sound, is_within, objects_ascend, places_ascend}
-use Rattle.c_laws.specs.Names.{HasNames}
 use Rattle.c_laws.specs.Parameters.{parameters_single}
-use Rattle.c_memory.specs.Memory as source-memory
-use Rattle.c_states.specs.declared.event.Frame as source-frame
-use Rattle.c_states.specs.States.{Shown}
 use Rattle.image_form.specs.Form.{Form}
-use Rattle.image_form.specs.Rules.{IsImage}
 use Rattle.image_form.specs.declared.tables.Place.{Place as ImagePlace}
-use Rattle.image_tables.specs.Tables.{Spot, sight, spot}
-use Rattle.image_tables.specs.Rows.{telling_of}
-use Rattle.rv_machine.specs.State.{State}
-use Rattle.rv_machine.specs.Run.{is_stop}
-use Rattle.stop_view.specs.Run as image
-use Rattle.graph_core.specs.Graphs.{Graph, Logged, UnitForm}
-use Rattle.graph_build.specs.Units.{IsUnitOf}
-use Rattle.homed_unit.specs.Homed.{HomedForm}
-use Rattle.home_runs.proofs.Whole.{leads_over_homes}
-use Rattle.emitted.specs.declared.emitted.PlacedStop.{PlacedStop}
-use Rattle.emit_runs.specs.Laid as laid
-use Rattle.emit_placed.specs.Markers.{AreStopsOf}
-use Rattle.unit_objects.specs.Owned.{IsPlaceOf}
-use Rattle.unit_objects.proofs.Homes.{of_function}
-use Rattle.image_texts.specs.Units.{HasVariablesIn}
-use Rattle.image_texts.specs.Variables.{automatic_number}
-use Rattle.image_holding.specs.Keeping.{HasPlacesOf}
-use Rattle.image_units.proofs.Whole.{has_variables}
-use Rattle.emit_bound.specs.Timed.{AreTimed}
-use Rattle.unit_facts.proofs.Timed.{timed}
-use Rattle.unit_facts.proofs.Places.{has_places}
-use Rattle.unit_facts.proofs.Scalars.{HasScalar, has_scalars}
-use Rattle.program_image.specs.Made.{IsHomed, IsMadeOf}
-use Rattle.program_image.specs.Tables.{HasTablesOf, spot_of, visible_from}
-use Rattle.program_image.specs.Compiled.{IsCompiledOf}
-use Rattle.image_truth.specs.Truthful.{RunsTrue}
-use Rattle.source_events.proofs.Programs.{source_events}
-use Rattle.image_truth.specs.Meeting.{MeetAt}
+use Rattle.image_tables.specs.Tables.{Spot, spot}
+use Rattle.program_image.specs.Tables.{spot_of, visible_from}
 use Rattle.image_truth.proofs.Listed.{seen_from}
-use Rattle.image_truth.proofs.Told.{home_holds, none_recovered}
-use Rattle.image_truth.proofs.Naming.{static_law, automatic_law, literal_law}
-use Rattle.image_truth.proofs.Outermost.{outermost}
-use Rattle.image_truth.proofs.StopAddresses as stop-addresses
-use Rattle.image_truth.proofs.Stopping as stopping
-use Rattle.image_truth.proofs.Stopping.{same_function}
-use Rattle.image_truth.proofs.Visible as visibles
-use Rattle.image_truth.proofs.Visible.{IsScalarIn}
-use Rattle.image_truth.proofs.Whole as whole
 
 -- what is visible place by place
 pub seen_same : (place : ℕ) (rows : List Row) → visible_from place rows ≡ seen_from place (map (λ (r : Row). r.visible) rows)
