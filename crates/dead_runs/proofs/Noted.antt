@@ -5,7 +5,7 @@ use Rattle.std.specs.Prelude.{◌==◌, ◌&&◌, slice_get, option_map}
 use Rattle.std.proofs.lemmas.Bool.{cases_Bool, and_parts, eqb-true}
 use Rattle.std.proofs.lemmas.Option.{same_Some}
 use Rattle.graph_core.specs.declared.value.Value.{Value}
-use Rattle.graph_core.specs.Graphs.{Name, Recipe, Of, NoteValue, Is, Gone, Instruction, Marker, Note, Scalar, End, Block, Graph, Logged, UnitForm}
+use Rattle.graph_core.specs.Graphs.{Name, Recipe, Of, NoteValue, Is, Gone, Instruction, Note, Scalar, End, Block, Graph, Logged, UnitForm}
 use Rattle.graph_core.specs.Runs.{recipe_value}
 use Rattle.graph_core.specs.Paths.{History, Path, place_of, is_bound, written}
 use Rattle.graph_core.specs.Points.{StandsWith, assignments_in}
@@ -21,17 +21,13 @@ use Rattle.dead_runs.proofs.Entry.{plain_target, goes_once, bound_fresh}
 use Rattle.dead_runs.proofs.Lists.{all_at, all_within}
 use Rattle.dead_runs.proofs.Moves.{NotesHold}
 use Rattle.dead_runs.proofs.Points.{stands_path}
+pub use Rattle.dead_runs.proofs.Points.{behind_one}
 use Rattle.dead_runs.proofs.Recipes.{IsReader, last_reader, once_last, written_value}
 use Rattle.dead_runs.proofs.Still.{SaysStill, is_gone, is_same}
 use Rattle.dead_runs.proofs.Values.{recipe_same, writes_target}
 use Rattle.dead_runs.proofs.Walks.{IsLast, HasLast, has_last}
 
 -- ---- Places, and variables of scalars
-
--- The place in force behind one instruction and then others is the one behind all of them.
-pub behind_one : (j : Instruction) (more : List Instruction) (place : Option ℕ) → place_behind more (place_behind (j ∷ []) place) ≡ place_behind (j ∷ more) place
-behind_one (Marker p) more place = refl
-behind_one _ more place = refl
 
 -- what stands behind instructions stands in the place that is in force behind them
 stands_in : (p : ℕ) (i : Instruction) (rest before : List Instruction) (place : Option ℕ) → place_behind before place ≡ Some p → StandsIn p i place (before ++ i ∷ rest)

@@ -3,22 +3,17 @@ use Rattle.std.proofs.Common.{◌≡◌, ℕ, zero, suc, ◌+◌, ◌≤◌, Boo
 use Rattle.std.specs.Prelude.{◌==◌, ◌&&◌, if◌then◌else◌, slice_get}
 use Rattle.std.proofs.lemmas.Bool.{and_from, eq-eqb}
 use Rattle.std.proofs.lemmas.Option.{none-some, same_Some}
-use Rattle.graph_core.specs.Graphs.{Instruction, Marker, End, Block, Graph}
+use Rattle.graph_core.specs.Graphs.{Instruction, End, Block, Graph}
 use Rattle.graph_core.specs.Paths.{writes, is_bound}
 use Rattle.graph_core.specs.Points.{is_place, writes_among, writes_in, assignments_in, StandsWith}
 use Rattle.graph_core.specs.Uses.{target_of}
 use Rattle.graph_core.specs.Validity.{place_behind, total}
-use Rattle.dead_runs.proofs.Points.{first_same, rest_same}
+use Rattle.dead_runs.proofs.Points.{behind_one, first_same, rest_same}
 use Rattle.dead_runs.proofs.Values.{writes_target}
 
 -- one more is counted
 counted_yes : (b : Bool) (r : ℕ) → b ≡ true → (if b then 1 else 0) + r ≡ suc r
 counted_yes b r e = (let z : 1 + r ≡ suc r = omega arith in ap (λ c. (if c then 1 else 0) + r) e ∙ z)
-
--- the place in force behind one instruction and then others
-behind_one : (k : Instruction) (more : List Instruction) (place : Option ℕ) → place_behind more (place_behind (k ∷ []) place) ≡ place_behind (k ∷ more) place
-behind_one (Marker p) more place = refl
-behind_one _ more place = refl
 
 module _ (p x : ℕ) where
   -- an instruction writes the name in the place

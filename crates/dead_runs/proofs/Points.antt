@@ -11,6 +11,11 @@ use Rattle.graph_core.specs.Validity.{KeepsPlace, IsKept, IsBlock, IsGraph, plac
 use Rattle.graph_core.specs.WellMarked.{IsWellMarked}
 use Rattle.dead_runs.proofs.Lists.{all_at, all_among}
 
+-- The place in force behind one instruction and then others is the one behind all of them.
+pub behind_one : (j : Instruction) (more : List Instruction) (place : Option ℕ) → place_behind more (place_behind (j ∷ []) place) ≡ place_behind (j ∷ more) place
+behind_one (Marker p) more place = refl
+behind_one _ more place = refl
+
 -- A block that keeps the place in force keeps it whatever comes next.
 keeps_same : (rest : List Instruction) (a b : Option ℕ) → a ≡ b → KeepsPlace rest a b
 keeps_same [] a b e = e
