@@ -51,6 +51,7 @@ returns-in-Some-clause-comes g c =
     }
 
 pub returns-in-Some-clause-runs : goal.returns-in-Some-clause-runs
+unfolding returns-in-Some-clause-comes
 returns-in-Some-clause-runs g c =
     let p = program_view c.args.program in
     let h = homed_view c.in-Some.build.homed in
