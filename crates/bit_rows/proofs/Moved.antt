@@ -26,14 +26,3 @@ module _ (old : List ℕ) (to : ℕ) (wanted : ℕ → ℕ) (words : List ℕ) (
       further : (j : ℕ) → (j < to) ⊎ (to + (k + 1) ≤ j) → (j < to) ⊎ (to + k ≤ j)
       further j (inl less) = inl less
       further j (inr more) = inr (omega arith)
-
--- It is told whether one of the first words differs from what it was.
-pub tells_more : (wanted was : ℕ → ℕ) (k : ℕ) (changed : Bool) → (changed ≡ false) ↔ ((j : ℕ) → j < k → wanted j ≡ was j) → (after before : ℕ) → after ≡ wanted k → before ≡ was k →
-    ((changed || not (after == before)) ≡ false) ↔ ((j : ℕ) → j < k + 1 → wanted j ≡ was j)
-tells_more wanted was k changed tells after before is_after is_before = (
-  (λ e j lt. elim (cases_eq j k) [
-    | inl q ↦ ap wanted q ∙ sym is_after ∙ eqb-true after before (not-false _ (or_parts _ _ e).1) ∙ is_before ∙ ap was (sym q)
-    | inr ne ↦ tells.0 (or_parts _ _ e).0 j (omega (arith, ne))
-  ]),
-  (λ all. or_from _ _ (tells.1 (λ j lt. all j (omega arith))) (ap not (eq-eqb after before (is_after ∙ all k (omega arith) ∙ sym is_before)))),
-)

@@ -103,21 +103,6 @@ grows_same s = record { count = refl; stay = λ n was. was; placed = λ is. is }
 pub grows_on : (s t u : PlacingForm) → Grows s t → Grows t u → Grows s u
 grows_on s t u one two = record { count = two.count ∙ one.count; stay = λ n was. two.stay n (one.stay n was); placed = λ is. two.placed (one.placed is) }
 
--- Placing a block keeps what was placed, and it is there then.
-pub grows_placed : (n : ℕ) (s : PlacingForm) → Grows s (with_placed n s)
-grows_placed n s = by (get_or s.is_placed n true) refl
-  where
-    by : (b : Bool) → get_or s.is_placed n true ≡ b → Grows s (if b then s else put_last n s)
-    by true e = grows_same s
-    by false e = grows_by n s e
-
-pub there_placed : (n : ℕ) (s : PlacingForm) → get_or (with_placed n s).is_placed n true ≡ true
-there_placed n s = by (get_or s.is_placed n true) refl
-  where
-    by : (b : Bool) → get_or s.is_placed n true ≡ b → get_or (if b then s else put_last n s).is_placed n true ≡ true
-    by true e = e
-    by false e = get_or-set_same s.is_placed n true true (low_of s.is_placed n e)
-
 -- Block 0 is placed first.
 pub begins : (blocks : ℕ) → ArePlaced (with_placed 0 (record { is_placed = replicate blocks false; order = [] }))
 begins zero = record { begun = λ some. absurd (omega (arith, some)); first = refl; low = tt; once = tt; marked = λ n none. elim none [ ]; counted = refl }

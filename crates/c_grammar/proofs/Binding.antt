@@ -72,10 +72,6 @@ binding_at (t ∷ ts) = binding t.kind
 pub loose : (t : Lexeme) (ts : List Lexeme) {p : Punctuator} (n : ℕ) → IsPunctuator p t → n < rank p → n < binding_at (t ∷ ts)
 loose t ts {p} n k h = subst (λ (m : ℕ). n < m) (sym (ap binding k)) h
 
--- a keyword does not bind
-pub keyword_loose : (t : Lexeme) (ts : List Lexeme) {k : Keyword} (n : ℕ) → IsKeyword k t → n < 15 → n < binding_at (t ∷ ts)
-keyword_loose t ts {k} n e h = subst (λ (m : ℕ). n < m) (sym (ap binding e)) h
-
 suffix_rank : (p : Punctuator) (s : SuffixStart) → suffix_start p ≡ Some s → rank p ≡ 1
 unfolding suffix_start
 suffix_rank punctuator.OpenBracket s e = refl

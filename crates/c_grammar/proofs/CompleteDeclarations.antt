@@ -48,10 +48,6 @@ pub ends_loose : (ts : List Lexeme) → Ends ts → 13 < binding_at ts
 ends_loose [] h = elim h [ ]
 ends_loose (t ∷ ts) h = loose t ts 13 h.1 h.2
 
-pub ends_no_keyword : (ts : List Lexeme) → Ends ts → keyword_at ts ≡ None
-ends_no_keyword [] h = refl
-ends_no_keyword (t ∷ ts) h = ap Rattle.c_parse_tokens.specs.Specifiers.keyword_of h.1
-
 -- ---- names
 
 pub name_read : (n : NameTree) (t : Lexeme) (ts : List Lexeme) → IsName n t → identifier (t ∷ ts) ≡ Ok (n, ts)

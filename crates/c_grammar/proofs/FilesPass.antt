@@ -32,11 +32,6 @@ pub result_stars_pass : {found : SpecifierList} {count : ℕ} {ts rest : List Le
 result_stars_pass (of_void e) = here
 result_stars_pass (of_integer e s) = stars_pass s
 
-pub item_passes : {i : ItemTree} {ts rest : List Lexeme} → IsItem i ts rest → Passes ts rest
-item_passes (include k i) = behind here
-item_passes (function s c k o ps d b) = join (specifiers_pass s.words) (join (step (step (result_stars_pass c))) (join (step (parameters_pass ps)) (body_passes b)))
-item_passes (objects s v all k) = step (join (specifiers_pass s.words) (separated_pass (λ d us more g. declarator_passes g) all))
-
 -- an item has a token
 pub item_shorter : {i : ItemTree} {ts rest : List Lexeme} → IsItem i ts rest → suc (length rest) ≤ length ts
 item_shorter (include k i) = omega arith

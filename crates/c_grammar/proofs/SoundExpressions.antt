@@ -342,10 +342,6 @@ module _ (depth : ℕ) (good : Goods depth) where
 
 -- ---- casts
 
--- what a cast names
-abbrev Pointed : SpecifierList → List Lexeme → ℕ × List Lexeme → Type 0
-Pointed found ts x = IsTypeName (record { base = base_of found; stars = x.0 }) ts x.1
-
 type_name_found : (ts : List Lexeme) → Found IsTypeName ts (type_name ts)
 unfolding type_name base_of integer_type
 type_name_found ts =

@@ -26,10 +26,6 @@ owned_later w (x ∷ m) (suc n) o lt e t =
     let same : suc n + 1 ≡ suc (n + 1) = omega arith in
     owned_later w m n o (omega arith) e t ∙ ap (λ k. option_map (λ j. suc j) (object_of w (drop k (map object_view (x ∷ m))))) (sym same)
 
--- an object is replaced, seen through the view
-pub set_maps : (m : List declared-object.Object) (n : ℕ) (o : declared-object.Object) → map object_view (set m n o) ≡ set (map object_view m) n (object_view o)
-set_maps m n o = map-set object_view m n o
-
 -- further on by one
 pub one_further : (i : ℕ) (o : Option ℕ) → option_map (λ k. i + k) (option_map (λ k. suc k) o) ≡ option_map (λ k. (i + 1) + k) o
 one_further i None = refl
@@ -63,10 +59,3 @@ ends_one (x ∷ m) (y ∷ before) (suc k) (suc n) o p is lt same e h inv =
     let first : object_view x ≡ y = cc in
     let rest : map object_view m ≡ ended_from k before = cc in
     ap (λ z. z ∷ map object_view (set m n p)) first ∙ ap (λ z. y ∷ z) (ends_one m before k n o p (omega (arith, is)) (omega (arith, lt)) (omega (arith, same)) e h rest)
-
--- objects from behind the last end: nothing changes
-pub ends_none : (n : ℕ) (m : List Object) → length m ≤ n → ended_from n m ≡ m
-ends_none zero [] le = refl
-ends_none zero (x ∷ m) le = absurd (omega arith)
-ends_none (suc n) [] le = refl
-ends_none (suc n) (x ∷ m) le = ap (λ z. x ∷ z) (ends_none n m (omega arith))

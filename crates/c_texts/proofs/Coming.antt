@@ -47,9 +47,6 @@ advances_on {q = q} {t = t} {u = u} g h =
 pub found_advances : (q : ProgressTree) (s : FoundTree) → Grows q.found s → Advances q (record q { found = s })
 found_advances q s g = record { found = g; automatics = begins_itself q.automatics; array_literals = begins_itself q.array_literals; statics = refl; signatures = refl; scopes = outer_itself q.names.scopes; kept = λ h. h; ended = λ h. h }
 
-pub breaks_advances : (code : Code) (extent : Extent) (q : ProgressTree) → Advances q (breaks code extent q)
-breaks_advances code extent q = found_advances q _ (grows_fault code extent.first extent.last q.found)
-
 -- variables so far are no more than later
 begins_shorter : {A : Type 0} (xs ys : List A) → Begins xs ys → length xs ≤ length ys
 begins_shorter xs ys b = let e : length ys ≡ length xs + length b.0 = ap length b.1 ∙ length-append xs b.0 in omega arith

@@ -40,12 +40,6 @@ pub part_last : {A : Type 0} (some before whole : List A) → IsPart some whole 
 part_last some [] whole h = h
 part_last some (x ∷ before) whole h = inl (part_last some before whole h)
 
--- what is left behind the first item
-pub part_rest : {A : Type 0} (x : A) (some whole : List A) → IsPart (x ∷ some) whole → IsPart some whole
-part_rest x some [] h = cc
-part_rest x some (y ∷ whole) (inl h) = inl (part_rest x some whole h)
-part_rest x some (y ∷ whole) (inr h) = let same : h.0 ≡ some = cc in inl (subst (λ z. IsPart z whole) same h.2)
-
 -- a part of a part
 part_step : {A : Type 0} (x : A) (some rest all : List A) → IsPart some (x ∷ rest) → (IsPart some rest → IsPart some all) → ((r : List A) → IsPart r rest → IsPart r all) → IsPart some (x ∷ all)
 part_step x some rest all (inl g) h k = inl (h g)

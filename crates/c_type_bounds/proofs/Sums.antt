@@ -10,9 +10,6 @@ sum_map : {X Y : Type 0} (f : Y → ℕ) (g : X → Y) (xs : List X) → sum_by 
 sum_map f g [] = refl
 sum_map f g (x ∷ xs) = sum_by-cons f (g x) (map g xs) ∙ ap (λ n. f (g x) + n) (sum_map f g xs) ∙ sym (sum_by-cons (λ y. f (g y)) x xs)
 
-pub capped_sum : (x y : ℕ) → capped (capped x + capped y) ≡ capped (x + y)
-capped_sum x y = omega arith
-
 -- the sum so far, where it is of all
 pub sum_whole : {X Y : Type 0} (f : Y → ℕ) (g : X → Y) (xs : List X) (i : ℕ) → length xs ≤ i → sum_by (λ x. f (g x)) (take i xs) ≡ sum_by f (map g xs)
 sum_whole f g xs i all = ap (sum_by (λ x. f (g x))) (take_all i xs all) ∙ sym (sum_map f g xs)

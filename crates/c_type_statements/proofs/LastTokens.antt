@@ -16,10 +16,6 @@ pub last_of_else : (b : BranchTree) (bs : List BranchTree) (s : StatementTree) �
 last_of_else b [] s = refl
 last_of_else b (c ∷ cs) s = last_of_else c cs s
 
-pub last_of_branches : (b : BranchTree) (bs : List BranchTree) (c : BranchTree) → last_of_statement (if_tree b (else_tree (bs ++ c ∷ []) None)) ≡ last_of_statement c.then
-last_of_branches b [] c = refl
-last_of_branches b (d ∷ ds) c = last_of_branches d ds c
-
 -- an `if` without `else` ends where its last branch does
 pub last_of_last : (b : BranchTree) (xs : List Branch) (x : Branch) → slice_get xs (length xs - 1) ≡ Some x → last_of_statement (if_tree b (else_tree (map branch_view xs) None)) ≡ last_of_statement (branch_view x).then
 last_of_last b [] x h = cc

@@ -14,16 +14,6 @@ pub next_next : {A B C : Type 0} (m : Met A) (f : A → ProgressTree → Met B) 
 unfolding next_met
 next_next (means a p) f g = refl
 
--- what does not look at what the part before it means
-pub next_apart : {A B : Type 0} (m : Met A) (f : ProgressTree → Met B) → next_met m (λ a. f) ≡ f (reached_by m (λ a q. q))
-unfolding next_met reached_by
-next_apart (means a p) f = refl
-
--- parts of a block behind none
-pub behind_none : (m : Met Parts) → next_met m (behind []) ≡ m
-unfolding next_met
-behind_none (means q p) = refl
-
 -- parts of a block behind parts behind parts
 pub behind_both : (m : Met Parts) (first second : List PartTree) → next_met (next_met m (behind second)) (behind first) ≡ next_met m (behind (first ++ second))
 unfolding next_met

@@ -26,10 +26,6 @@ places_from i (p ∷ ps) = place_built i p ∷ places_from (suc i) ps
 abbrev pub rules_of : Form → List Rule
 rules_of f = map option_built f.options ++ places_from 1 f.places
 
-or_none : (b : Bool) → (b || false) ≡ b
-or_none true = refl
-or_none false = refl
-
 no_long : (n : Text) (i : ℕ) (ps : List Text) → arg_by_long (places_from i ps) n ≡ None
 no_long n i [] = refl
 no_long n i (p ∷ ps) = no_long n (suc i) ps

@@ -9,13 +9,6 @@ use Rattle.debug_records.specs.Change.{IsPassName, is_lower_case}
 use Rattle.command_line.specs.Words.{Text}
 use Rattle.command_line.specs.Values.{all_named, is_pass_name}
 
-pub is_named : (t : Text) → IsPassName t → is_pass_name t ≡ true
-is_named t h =
-    let some : nat_le 1 (length t) ≡ true = (let s = h.some in grind (arith, nat_tests)) in
-    let most : nat_le (length t) 16 ≡ true = (let m = h.most in grind (arith, nat_tests)) in
-    let lower = h.lower_case in
-    rw (some, most, lower) refl
-
 pub not_named : (t : Text) → ¬ IsPassName t → is_pass_name t ≡ false
 not_named t other = go (nat_le 1 (length t)) (nat_le (length t) 16) (list_all is_lower_case t) refl refl refl
   where
@@ -27,19 +20,6 @@ not_named t other = go (nat_le 1 (length t)) (nat_le (length t) 16) (list_all is
         let some : 1 ≤ length t = grind (arith, nat_tests) in
         let most : length t ≤ 16 = grind (arith, nat_tests) in
         absurd (other (record { some = some; most = most; lower_case = r }))
-
--- one more text passes
-pub all_more : {X : Type 0} (p : X → Bool) (xs : List X) (i : ℕ) (d : X) → i < length xs → p (slice_index_or xs i d) ≡ true → list_all p (take i xs) ≡ true → list_all p (take (i + 1) xs) ≡ true
-all_more p [] i d lt one all = absurd (omega arith)
-all_more p (x ∷ xs) zero d lt one all = rw one refl
-all_more p (x ∷ xs) (suc i) d lt one all = go (p x) refl (all_more p xs i d (omega arith) one)
-  where
-    go : (b : Bool) → p x ≡ b → (list_all p (take i xs) ≡ true → list_all p (take (i + 1) xs) ≡ true) → list_all p (take (suc i + 1) (x ∷ xs)) ≡ true
-    go true e rest =
-        let here : list_all p (take i xs) ≡ true = rw e at all in
-        let k : suc (i + 1) ≡ suc i + 1 = omega arith in
-        ap (λ (n : ℕ). list_all p (take n (x ∷ xs))) (sym k) ∙ ap (λ (b : Bool). b && list_all p (take (i + 1) xs)) e ∙ rest here
-    go false e rest = let bad : false ≡ true = rw e at all in absurd (true≢false (sym bad))
 
 -- a text fails
 pub one_fails : {X : Type 0} (p : X → Bool) (xs : List X) (i : ℕ) (d : X) → i < length xs → p (slice_index_or xs i d) ≡ false → list_all p xs ≡ false

@@ -46,10 +46,6 @@ pub plain_other : (w : Text) → is_dashed w ≡ false → bytes_eq w (45 ∷ 45
 plain_other [] h = refl
 plain_other (c ∷ cs) h = rw h refl
 
--- the two names of one function
-pub long_same : (w : Text) → long_of w ≡ long_word w
-long_same w = refl
-
 abbrev pub place_built : ℕ → Text → Rule
 place_built i name = with_index i (filled (place_rule name))
 
@@ -102,12 +98,6 @@ fault_option id v us h = let e = has_used id us ∙ h in rw e refl
 
 fault_again : (id v : Text) (us : List Use) → is_used id us ≡ true → fails (use_fault false (option_built id) (v ∷ []) (map row us)) ≡ true
 fault_again id v us h = let e = has_used id us ∙ h in rw e refl
-
-place_use : (i : ℕ) (id v : Text) (rows : List Row) → use_fault false (place_built i id) (v ∷ []) rows ≡ use_fault false (option_built id) (v ∷ []) rows
-place_use i id v rows = refl
-
-place_used : (i : ℕ) (id v : Text) (rows : List Row) → used (place_built i id) (v ∷ []) rows ≡ used (option_built id) (v ∷ []) rows
-place_used i id v rows = refl
 
 -- ---- the end of the words
 

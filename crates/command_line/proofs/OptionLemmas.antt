@@ -35,11 +35,3 @@ readable_option (a ∷ b ∷ c ∷ cs) d s = go (b == 45) refl
         subst (λ (x : ℕ). not (has_dashed_value (x ∷ b ∷ c ∷ cs)) ≡ is_readable (x ∷ b ∷ c ∷ cs)) one
         (subst (λ (y : ℕ). not (has_dashed_value (45 ∷ y ∷ c ∷ cs)) ≡ is_readable (45 ∷ y ∷ c ∷ cs)) two (dashed_value c cs))
     go false e = let bad : false ≡ true = rw (d, e) at s in absurd (true≢false (sym bad))
-
--- a word that is no option cannot be read
-pub no_option : (w : Text) → is_dashed w ≡ true → is_some (long_word w) ≡ false → false ≡ is_readable w
-no_option w d s = go (long_word w) refl
-  where
-    go : (o : Option (Text × Option Text)) → long_word w ≡ o → false ≡ is_readable w
-    go None e = rw (d, e) refl
-    go (Some p) e = let bad : true ≡ false = rw e at s in absurd (true≢false bad)

@@ -35,15 +35,6 @@ passes_ready = ready passes_form (omega arith) (refl, tt) (refl, tt)
 sweep_ready : IsReady sweep_form (rules_of sweep_form)
 sweep_ready = ready sweep_form (omega arith) tt (refl, (refl, tt))
 
-pub is_plain_app : is_simple_and_free raw_app ≡ true
-is_plain_app = refl
-
-pub is_simple_app : is_simple raw_app ≡ true
-is_simple_app = refl
-
-app_built : built raw_app ≡ app (codes "cdbg") jobs
-app_built = refl
-
 abbrev EachJob : (Text × Form → Type 0) → List (Text × Form) → Type 0
 EachJob P [] = Unit {0}
 EachJob P (x ∷ xs) = P x × EachJob P xs

@@ -116,20 +116,3 @@ block_same scalars copies bits others n b _ same (unled gone) = unled (sym (same
 block_same scalars copies bits others n b _ same (led {later} after way read) =
     let from : missing_in bits n ≡ missing_in others n = fun_ext (λ k. same (suc k)) in
     led after (sym (same 0) ∙ way) (subst (λ s. AreRead scalars copies n b.instructions s later after) from read)
-
--- the search for what a name is read as goes on, or ends
-pub name_step : (all : List CopyAt) (m : ℕ → Bool) (k x : ℕ) (d : CopyAt) (whole : ℕ) → k < length all → (((get_or all k d).target == x) && not (m k)) ≡ false → source_among (drop k all) m k x ≡ whole → source_among (drop (k + 1) all) m (k + 1) x ≡ whole
-name_step all m k x d whole lt test so_far =
-    sym (ap (λ z. if z then (get_or all k d).source else source_among (drop (k + 1) all) m (k + 1) x) test) ∙ sym (at_drop_more (λ l. source_among l m k x) all k d lt) ∙ so_far
-
-pub name_found : (all : List CopyAt) (m : ℕ → Bool) (k x : ℕ) (d : CopyAt) (whole : ℕ) → k < length all → (((get_or all k d).target == x) && not (m k)) ≡ true → source_among (drop k all) m k x ≡ whole → (get_or all k d).source ≡ whole
-name_found all m k x d whole lt test so_far =
-    sym (ap (λ z. if z then (get_or all k d).source else source_among (drop (k + 1) all) m (k + 1) x) test) ∙ sym (at_drop_more (λ l. source_among l m k x) all k d lt) ∙ so_far
-
--- one more argument is read
-pub arguments_step : {A : Type 0} (view : A → Operand) (f : ℕ → ℕ) (xs items longer : List A) (i : ℕ) (d made : A) (whole : List Operand) → i < length xs → longer ≡ items ++ made ∷ [] → view made ≡ reading_operand f (view (get_or xs i d))
-    → map view items ++ reading_all f (map view (drop i xs)) ≡ whole → map view longer ++ reading_all f (map view (drop (i + 1) xs)) ≡ whole
-arguments_step view f xs items longer i d made whole lt grown is so_far =
-    let rest : List Operand = reading_all f (map view (drop (i + 1) xs)) in
-    ap (λ l. map view l ++ rest) grown ∙ ap (λ l. l ++ rest) (map-append view items (made ∷ [])) ∙ append_assoc (map view items) (view made ∷ []) rest
-    ∙ ap (λ a. map view items ++ a ∷ rest) is ∙ sym (at_drop_more (λ l. map view items ++ reading_all f (map view l)) xs i d lt) ∙ so_far

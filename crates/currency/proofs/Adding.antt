@@ -27,14 +27,6 @@ cause_moved z n start w e = subst (λ (y : declared-cause.Cause). IsCauseOf y (v
 pub cause_reused : (z : declared-cause.Cause) (n start : ℕ) (w : declared-writer.Writer) → z ≡ cause.Reused n start w → IsCauseOf z (verdict.Nonresident n (record { 0 = start }) w)
 cause_reused z n start w e = subst (λ (y : declared-cause.Cause). IsCauseOf y (verdict.Nonresident n (record { 0 = start }) w)) (sym e) refl
 
--- one more place of which nothing is told
-pub none_more : (all : List (Vec declared-variable.ToldVariable)) (v : Vec declared-variable.ToldVariable) → v.items ≡ [] → ((p : ℕ) → option_map_or (λ (z : Vec declared-variable.ToldVariable). z.items) (slice_get all p) [] ≡ [])
-    → (p : ℕ) → option_map_or (λ (z : Vec declared-variable.ToldVariable). z.items) (slice_get (all ++ (v ∷ [])) p) [] ≡ []
-none_more [] v e none zero = e
-none_more [] v e none (suc p) = refl
-none_more (w ∷ all) v e none zero = none 0
-none_more (w ∷ all) v e none (suc p) = none_more all v e (λ q. none (suc q)) p
-
 module _ (old new : declared-places.ToldPlaces) (place : ℕ) (var : declared-var.Var) (what : declared-told.Told) (v w : Vec declared-variable.ToldVariable) (lt : place < length old.by_place.items) (is : slice_get old.by_place.items place ≡ Some v)
     (put : new.by_place.items ≡ slice_set old.by_place.items place w) (more : w.items ≡ v.items ++ (record { var = var; told = what } ∷ [])) where
   abbrev one : declared-variable.ToldVariable

@@ -103,12 +103,6 @@ scalar_within f h scalars x number function same lt le =
     (let long : length (graph_view h.writers.graph.now).scalars ≡ length (graph_view f.writers.graph.now).scalars = ap (λ (w : declared-writers.Writers). length (graph_view w.graph.now).scalars) function.writers in
     omega (arith, long, same, lt, le))
 
--- the scalars of a graph are those of its function
-pub scalars_within : (f : declared-function.Function) (g : declared-graph.Graph) (scalars : List declared-scalar.Scalar) → f.writers.graph.now ≡ g → scalars ≡ g.scalars.items → length scalars ≤ length (graph_view f.writers.graph.now).scalars
-scalars_within f g scalars graph same =
-    (let long : length (graph_view f.writers.graph.now).scalars ≡ length scalars = ap (λ (z : declared-graph.Graph). length (graph_view z).scalars) graph ∙ length-map g.scalars.items scalar_view ∙ sym (ap length same) in
-    omega (arith, long))
-
 -- what is told of the scalars of a function
 pub hiding_in : (t : declared-teller.Teller) (w : declared-writers.Writers) (g : declared-graph.Graph) (homes : List Home) (number : ℕ) (old new : declared-places.ToldPlaces) → w.function ≡ number → w.graph.now ≡ g → w.homes.now ≡ homes → AreNew (IsHidingScalar t w g.scalars.items) old new
     → AreNew (IsHidingIn (log_of t.changes) t.search.flow.table.now (home_in homes) number (graph_view g)) old new

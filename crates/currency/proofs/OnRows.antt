@@ -105,16 +105,6 @@ sights_first p visible rows = sym (ap (λ vars. map sight rows ++ sights_at p va
 pub sights_all : (p : ℕ) (visible : List declared-var.Var) (k : ℕ) (before after : List Sight) → length visible ≤ k → after ≡ before ++ sights_at p (take k visible) → after ≡ before ++ sights_at p visible
 sights_all p visible k before after le e = e ∙ ap (λ vars. before ++ sights_at p vars) (take_whole visible k le)
 
-pub rows_none : (table : declared-table.PlaceTable) (told : declared-places.ToldPlaces) (rows : List declared-row.PlaceVerdict) → rows ≡ [] → AreRowsTold table told rows
-rows_none table told rows e w among = absurd (nothing w (subst (λ l. Among w l) e among))
-  where
-    nothing : (w : declared-row.PlaceVerdict) → Among w [] → ⊥
-    nothing w among = elim among [ ]
-
-pub sights_none : (rows : List declared-row.PlaceVerdict) (all : List declared-place.PlaceRow) → rows ≡ [] → map sight rows ++ sights_from 1 (drop 0 all) ≡ sights_from 1 all
-sights_none rows [] e = ap (λ l. map sight l ++ sights_from 1 []) e
-sights_none rows (r ∷ all) e = ap (λ l. map sight l ++ sights_from 1 (r ∷ all)) e
-
 -- the variables of one more place
 pub sights_more : (p q : ℕ) (rows new : List declared-row.PlaceVerdict) (all : List declared-place.PlaceRow) (k : ℕ) (row : declared-place.PlaceRow) (visible : List declared-var.Var) (whole : List Sight) → k < length all → row ≡ get_or all k row → visible ≡ row.visible.items
     → map sight new ≡ map sight rows ++ sights_at p visible → q ≡ next p → map sight rows ++ sights_from p (drop k all) ≡ whole → map sight new ++ sights_from q (drop (k + 1) all) ≡ whole
@@ -125,12 +115,6 @@ sights_more p q rows new all k row visible whole lt is same more number before =
 
 pub sights_done : (p : ℕ) (rows : List declared-row.PlaceVerdict) (all : List declared-place.PlaceRow) (k : ℕ) (whole : List Sight) → length all ≤ k → map sight rows ++ sights_from p (drop k all) ≡ whole → map sight rows ≡ whole
 sights_done p rows all k whole le e = sym (more_none (map sight rows)) ∙ sym (ap (λ (l : List declared-place.PlaceRow). map sight rows ++ sights_from p l) (drop_end all k le)) ∙ e
-
--- what is told of a variable by its slot
-pub none_by_slot : (told : List declared-variable.ToldVariable) (slots : List ℕ) (v : declared-var.Var) (number : ℕ) → AreSlotted told slots → number ≡ get_or slots v.0 0 → (number ≡ 0) ⊎ (length told < number) → IsNoneTold told v
-none_by_slot told slots v number slotted is none = none_told told slots v slotted (λ k one e at of.
-    (let lt = slice_get_within told k one at in
-    elim none [ inl z ↦ omega (arith, is, e, z) | inr z ↦ omega (arith, is, e, z, lt) ]))
 
 pub other_by_slot : (told : List declared-variable.ToldVariable) (slots : List ℕ) (v : declared-var.Var) (number : ℕ) (one : declared-variable.ToldVariable) → AreSlotted told slots → number ≡ get_or slots v.0 0 → slice_get told (number - 1) ≡ Some one → (one.var.0 ≡ v.0 → ⊥) → IsNoneTold told v
 other_by_slot told slots v number one slotted is at other = none_told told slots v slotted (λ k two e there of.

@@ -33,27 +33,6 @@ instruction_read g f n k y b i inside is lt at target =
 pub binding_read : (g : declared-graph.Graph) (f k y : ℕ) (b : declared-binding.Binding) → k < length g.parameters.items → b ≡ get_or g.parameters.items k b → binding_view b ≡ ToScalar y → Writes (graph_view g) f y (writer.Binding f k)
 binding_read g f k y b lt is of = binding (slice_get-map binding_view g.parameters.items k ∙ ap (λ o. option_map binding_view o) (slice_get-get_or g.parameters.items k b lt ∙ ap Some (sym is)) ∙ ap Some of)
 
--- the variable of a scalar
-variable_of : (g : declared-graph.Graph) (x variable : ℕ) (o : Option declared-scalar.Scalar) → slice_get g.scalars.items x ≡ o → option_map (λ (s : declared-scalar.Scalar). s.var.0) o ≡ Some variable → IsVariable (graph_view g) x variable
-variable_of g x variable o e at = ap (λ q. option_map (λ (s : Scalar). s.variable) q) (slice_get-map scalar_view g.scalars.items x) ∙ ap (λ q. option_map (λ (s : Scalar). s.variable) (option_map scalar_view q)) e ∙ two o ∙ at
-  where
-    two : (q : Option declared-scalar.Scalar) → option_map (λ (s : Scalar). s.variable) (option_map scalar_view q) ≡ option_map (λ (s : declared-scalar.Scalar). s.var.0) q
-    two None = refl
-    two (Some s) = refl
-
-pub home_written : (h : declared-homed.HomedUnit) (w : declared-writer.Writer) (f x y variable : ℕ) (g : declared-graph.Graph) (one : declared-homes.FunctionHomes) → f ≡ function_of w → f < length h.unit.graphs.items → g ≡ get_or h.unit.graphs.items f g → f < length h.homes.items → one ≡ get_or h.homes.items f one
-    → Writes (graph_view g) (function_of w) y w → option_map (λ (s : declared-scalar.Scalar). s.var.0) (slice_get g.scalars.items x) ≡ Some variable → y ≢ x → is_same_home (home_in one.homes.items y) (home_in one.homes.items x) ≡ true → WritesHome (homed_view h) variable w
-home_written h w f x y variable g one same lt is small kept writes scalar other shared = record {
-  graph = graph_view g;
-  x = x;
-  y = y;
-  is = subst (λ k. slice_get (homed_view h).unit.graphs k ≡ Some (graph_view g)) same (slice_get-map graph_view h.unit.graphs.items f ∙ ap (λ o. option_map graph_view o) (slice_get-get_or h.unit.graphs.items f g lt ∙ ap Some (sym is)));
-  scalar = variable_of g x variable (slice_get g.scalars.items x) refl scalar;
-  writes = writes;
-  other = other;
-  shared = subst (λ k. is_same_home (home_of (homed_view h) k y) (home_of (homed_view h) k x) ≡ true) same (subst (λ (all : List Home). is_same_home (home_in all y) (home_in all x) ≡ true) (sym (names_at h f one (slice_get-get_or h.homes.items f one small ∙ ap Some (sym kept)))) shared);
-}
-
 -- of the first none of verdicts
 pub written_first : (u : HomedForm) (rows : List declared-row.PlaceVerdict) → AreWritten u (take 0 rows)
 written_first u [] w among = elim among [ ]

@@ -26,9 +26,6 @@ state_one : {S : Type 0} (c : Costs S) (passed : List Instruction) (i : Instruct
 state_one c [] i s = refl
 state_one c (j ∷ passed) i s = state_one c passed i (c.next j s)
 
-same_block : {A : Type 0} {x y : A} → Some x ≡ Some y → x ≡ y
-same_block e = cc
-
 module _ (h : HomedForm) (timed : AreTimed h.unit) (e : EmittedForm) (code : IsCode h e) where
   cycles_in : (f : ℕ) → f < length h.unit.graphs → (n : ℕ) (b : Block) → slice_get (codes_in h e code f).graph.blocks n ≡ Some b → ComesToMarker (codes_in h e code f).graph b.instructions b.end
   cycles_in f low = (timed.graphs f (codes_in h e code f).graph (graph_there h.unit f low)).cycles

@@ -30,31 +30,6 @@ use Rattle.emit_calls.proofs.Loading.{all_left, held_forgotten, scratch_forgotte
 
 -- ---- The code
 
-with_code_both : (front back : List Instruction) (s : CodeState) → with_code (front ++ back) s ≡ with_code back (with_code front s)
-with_code_both [] back s = refl
-with_code_both (x ∷ front) back s = with_code_both front back (with_piece (piece.Word x) s)
-
-with_code_held : (code : List Instruction) (s : CodeState) (held : List Held) → with_code code (record s { held = held }) ≡ record (with_code code s) { held = held }
-with_code_held [] s held = refl
-with_code_held (x ∷ code) s held = with_code_held code (with_piece (piece.Word x) s) held
-
-code_held : (code : List Instruction) (s : CodeState) → (with_code code s).held ≡ s.held
-code_held [] s = refl
-code_held (x ∷ code) s = code_held code (with_piece (piece.Word x) s)
-
--- The words of arguments are those that they become.
-pub passing_appended : (g : StorageForm) (n : ℕ) (all : List Operand) (s : CodeState) → passed_from g n all s ≡ record (with_code (passing_code g n s.held all) s) { held = passing_held n s.held all }
-passing_appended g n [] s = refl
-passing_appended g n (a ∷ more) s =
-    let r : ℕ = argument_register n in
-    let front = bringing g s.held r (source_of g a) in
-    let later : List Held = forgotten r s.held in
-    let one : passed g n a s ≡ record (with_code front s) { held = later } = ap (λ l. record (with_code front s) { held = forgotten r l }) (code_held front s) in
-    let back = passing_code g (n + 1) later more in
-    ap (passed_from g (n + 1) more) one ∙ passing_appended g (n + 1) more (record (with_code front s) { held = later })
-    ∙ ap (λ (q : CodeState). record q { held = passing_held (n + 1) later more }) (with_code_held back (with_code front s) later)
-    ∙ ap (λ (q : CodeState). record q { held = passing_held (n + 1) later more }) (sym (with_code_both front back s))
-
 -- ---- What they do
 
 -- A register is none that arguments pass in from this number on.

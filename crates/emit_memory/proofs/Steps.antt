@@ -64,18 +64,6 @@ step_done w c h x rest storage frame range is valid straight =
     subst (λ all. DoesStep w (going_on c rest) h (option_map (home_at w.storage) (target_of x)) (straight_code w.storage w.held x) (step_from w.unit all c)) (sym is)
     (straight_does w (going_on c rest) h storage (rest_framed w c h rest frame) range x valid straight)
 
--- The machine comes behind the words, in as many instructions, unseen, and holds the frame of the configuration to which the step leads.
-pub record Arrives (p : Program) (s : State) (index : ℕ) (b : Bool) (w : Setting) (x : Instruction) (h : Holding) (d : Configuration) : Type 0 where
-  pub reaches : Reaches p (length (straight_code w.storage w.held x)) (record { state = s; shown = b }) [] (index + length (straight_code w.storage w.held x)) (behind b (straight_code w.storage w.held x)) (done_by_all (straight_code w.storage w.held x) h)
-  pub frame : HoldsFrame w d (done_by_all (straight_code w.storage w.held x) h)
-
-pub step_arrives : (p : Program) (s : State) (index : ℕ) (b : Bool) (w : Setting) (c d : Configuration) (h : Holding) (x : Instruction) (rest : List Instruction) → IsStorage w → HoldsFrame w c h → Stands p s index h
-    → CodeAt p index b (straight_code w.storage w.held x) → c.here.rest ≡ placed_instruction (home_at w.storage) x ∷ rest → IsInstruction w.unit w.graph x → IsStraight x → step w.unit c ≡ Goes d → Arrives p s index b w x h d
-step_arrives p s index b w c d h x rest storage frame stands there is valid straight goes =
-    let done : Performs w (going_on c rest) h (option_map (home_at w.storage) (target_of x)) (straight_code w.storage w.held x) d =
-    subst (λ q. DoesStep w (going_on c rest) h (option_map (home_at w.storage) (target_of x)) (straight_code w.storage w.held x) q) goes (step_done w c h x rest storage frame stands.in_range is valid straight) in
-    record { reaches = code_does p s index h b (straight_code w.storage w.held x) stands there done.can; frame = done.frame }
-
 -- Where the words stand that set an object to zero, the machine comes behind them, in at most as many instructions as they are and three for each word, unseen, and holds the frame of the configuration to which the step leads.
 pub zero_arrives : (p : Program) (s : State) (index : ℕ) (b : Bool) (w : Setting) (c d : Configuration) (h : Holding) (object words : ℕ) (rest : List Instruction) → IsStorage w → HoldsFrame w c h → Stands p s index h
     → CodeAt p index b (zero_code w.storage object words) → c.here.rest ≡ placed_instruction (home_at w.storage) (Zero object words) ∷ rest → IsInstruction w.unit w.graph (Zero object words) → step w.unit c ≡ Goes d
@@ -90,9 +78,6 @@ zero_arrives p s index b w c d h object words rest storage frame stands there is
         let same : record (going_on c rest) { memory = later } ≡ d = cc in
         subst (λ q. Comes p s index b (length (zero_code w.storage object words) + 3 * words) (zero_code w.storage object words) w c.memory h q) same
         (zero_comes p s index b w (going_on c rest) h storage (rest_framed w c h rest frame) object words later valid stands made there)
-
-pub zero_appended : (g : StorageForm) (entry object words : ℕ) (s : CodeState) → with_instruction g entry (Zero object words) s ≡ with_code (zero_code g object words) s
-zero_appended g entry object words s = refl
 
 -- The same of the words that copy an array's bytes, with five instructions for each word.
 pub copy_arrives : (p : Program) (s : State) (index : ℕ) (b : Bool) (w : Setting) (c d : Configuration) (h : Holding) (object bytes words : ℕ) (rest : List Instruction) → IsStorage w → HoldsFrame w c h → Stands p s index h
@@ -113,6 +98,3 @@ copy_arrives p s index b w c d h object bytes words rest storage frame stands co
         → Comes p s index b (length (copy_code w.storage w.held object bytes words) + 5 * words) (copy_code w.storage w.held object bytes words) w c.memory h d
     by_array None there e = cc
     by_array (Some all) there e = by_memory all there (copied c.memory (c.here.first_object + object) all words) refl e
-
-pub copy_appended : (g : StorageForm) (entry object bytes words : ℕ) (s : CodeState) → with_instruction g entry (CopyWords object bytes words) s ≡ with_code (copy_code g s.held object bytes words) s
-copy_appended g entry object bytes words s = refl

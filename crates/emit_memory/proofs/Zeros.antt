@@ -95,9 +95,6 @@ zero_bits Unsigned16 a = refl
 zero_bits Signed16 a = refl
 zero_bits Word a = refl
 
-zeros_new : (words : ℕ) (o : Object) → List Value
-zeros_new words o = replicate (4 * words / size_of o.element) (Number 0)
-
 -- ---- The frame behind them
 
 module _ (w : Setting) (c : Configuration) (h : Holding) (storage : IsStorage w) (frame : HoldsFrame w c h) (n words : ℕ) (later : Memory) (is : IsFilled c.memory n words (λ o. replicate (4 * words / size_of o.element) (Number 0)) later) where

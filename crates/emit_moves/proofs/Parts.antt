@@ -17,12 +17,6 @@ low_part_by w = ⊎_elim
 pub high_part_fits : (w : ℕ) → high_part w < 1048576
 high_part_fits w = omega arith
 
-pub low_part_signed : (w : ℕ) → IsSigned12 (low_part w)
-low_part_signed w = ⊎_elim
-    (λ (h : (w % 4096 < 2048) × (low_part w ≡ w % 4096)). let a = h.0 in let b = h.1 in inl (omega arith))
-    (λ (h : (2048 ≤ w % 4096) × (low_part w ≡ w % 4096 + 4294963200)). let a = h.0 in let b = h.1 in inr (omega arith, omega arith))
-    (low_part_by w)
-
 -- The upper part and the lower one, added to it, make the word, on top of any other number too.
 pub parts_reach : (w b : ℕ) → w < 4294967296 → word (word (high_part w * 4096 + b) + low_part w) ≡ word (b + w)
 parts_reach w b fits = ⊎_elim

@@ -5,12 +5,6 @@ use Rattle.std.proofs.lemmas.Bool.{eq-eqb, ne_eqb}
 use Rattle.std.proofs.lemmas.Nat.{one_shl}
 use Rattle.emit_operations.specs.Operations.{power_from}
 
--- It is found, or the search goes on.
-pub power_found : (e w : ℕ) → e < 32 → w ≡ 2 ^ e → power_from e (32 - e) w ≡ Some e
-power_found e w low is =
-    let more : 32 - e ≡ suc (32 - (e + 1)) = omega arith in
-    ap (λ n. power_from e n w) more ∙ ap (λ b. cond b (Some e) (power_from (e + 1) (32 - (e + 1)) w)) (eq-eqb w (2 ^ e) is)
-
 pub power_next : (e w : ℕ) → e < 32 → w ≢ 2 ^ e → power_from e (32 - e) w ≡ power_from (e + 1) (32 - (e + 1)) w
 power_next e w low is_not =
     let more : 32 - e ≡ suc (32 - (e + 1)) = omega arith in

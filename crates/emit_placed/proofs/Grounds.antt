@@ -83,13 +83,6 @@ arrays_low u valid s are n =
     subst (λ k. k < 4294967296) (sym (ap (λ l. slice_index l n) are.arrays ∙ get_or-drop (length u.statics) (static_addresses u) n 0))
     (addresses_low (static_sizes u) statics_start (length u.statics + n) fits)
 
--- Addresses that are those of a unit, and as many for objects as it has.
-pub addresses_in_two : (u : UnitForm) (s : StaticForm) → length s.objects ≡ length u.statics → s.objects ++ s.arrays ≡ static_addresses u → AreAddressesOf u s
-addresses_in_two u s count are = record {
-  objects = sym (take_at s.objects s.arrays (length u.statics) count) ∙ ap (λ l. take (length u.statics) l) are;
-  arrays = sym (drop_at s.objects s.arrays (length u.statics) count) ∙ ap (λ l. drop (length u.statics) l) are;
-}
-
 padded_count : (n : ℕ) (bytes : List ℕ) → length (padded n bytes) ≡ n
 padded_count n bytes =
     let all = length-append bytes (replicate n 0) in

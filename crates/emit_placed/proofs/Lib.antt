@@ -30,7 +30,6 @@ pub mod Unflagged
 pub mod UnitCode
 pub mod UnitOwners
 pub mod UnitPlaced
-pub mod UnitRuns
 pub mod UnitStops
 pub mod Walking
 pub mod WriterTables

@@ -51,10 +51,6 @@ piece_begun place x s (inr (none, begins, owner)) =
     let one : PlacedPiece = record { piece = x; owner = s.owner; is_stop = s.begins; writes = None } in
     record { first = one; more = []; is = ap (λ l. l ++ one ∷ []) none; stop = begins; owner = owner }
 
-pieces_begin : (place : ℕ) (more : List Piece) (s : CodeState) → Begins place s → Begins place (with_pieces more s)
-pieces_begin place [] s begins = begins
-pieces_begin place (x ∷ more) s begins = pieces_begin place more (with_piece x s) (inl (piece_begun place x s begins))
-
 code_begin : (place : ℕ) (code : List MachineInstruction) (s : CodeState) → Begins place s → Begins place (with_code code s)
 code_begin place [] s begins = begins
 code_begin place (x ∷ code) s begins = code_begin place code (with_piece (piece.Word x) s) (inl (piece_begun place (piece.Word x) s begins))
@@ -70,10 +66,6 @@ code_begun place (x ∷ code) s begun = code_begun place code (with_piece (piece
 
 some_begun : (place : ℕ) (x : Piece) (more : List Piece) (s : CodeState) → Begins place s → IsBegun place (with_pieces (x ∷ more) s).pieces
 some_begun place x more s begins = pieces_begun place more (with_piece x s) (piece_begun place x s begins)
-
--- What is held is no part of it.
-reheld_begin : (place : ℕ) (held : List Held) (s : CodeState) → Begins place s → Begins place (record s { held = held })
-reheld_begin place held s begins = begins
 
 -- ---- Instructions
 

@@ -107,15 +107,6 @@ words_at u o index (suc count) (suc i) j lt small =
     ap (slice_index (w ++ words_there u o (index + 1) count)) at ∙ behind_front w (words_there u o (index + 1) count) (4 * i + j) ∙ words_at u o (index + 1) count i j (omega (arith, lt)) small
     ∙ ap (λ n. slice_index (word_there u o n (word_of_bytes o.bytes n)) j) here
 
-words_length : (u : UnitForm) (o : StaticObject) (index count : ℕ) → length (words_there u o index count) ≡ 4 * count
-words_length u o index zero = refl
-words_length u o index (suc count) =
-    let w : List ℕ = word_there u o index (word_of_bytes o.bytes index) in
-    let four : length w ≡ 4 = word_length u o index (word_of_bytes o.bytes index) refl in
-    let both = length-append w (words_there u o (index + 1) count) in
-    let later = words_length u o (index + 1) count in
-    omega (arith, four, both, later)
-
 -- The first relocation at an offset is the one by which an element holds an address there.
 relocated : (statics : List StaticObject) (all : List Relocation) (at : ℕ) → AreRelocations statics all
     → ((relocation_at all at ≡ None) × (address_at statics all at ≡ None))

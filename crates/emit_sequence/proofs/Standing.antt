@@ -123,10 +123,6 @@ first_is : (xs : List Standing) (e : ℕ) → first_label xs e ≡ first_number 
 first_is [] e = refl
 first_is (x ∷ xs) e = refl
 
--- None stand.
-pub none_put : (g : Ground) (blocks : List Block) (at : ℕ → List Held) (s : SequenceForm) → ArePut g blocks at [] s s
-none_put g blocks at s = record { standing = []; order = refl; next = tt; all = tt; pieces = refl }
-
 -- One, and others behind it.
 pub put_before : (g : Ground) (blocks : List Block) (at : ℕ → List Held) (n : ℕ) (order : List ℕ) (r s t : SequenceForm) → IsPut g blocks at n (first_number order g.end) r s → ArePut g blocks at order s t → ArePut g blocks at (n ∷ order) r t
 put_before g blocks at n order r s t one more = record {

@@ -45,18 +45,6 @@ word_behind n w a b c d xs =
 word_first : (w a b c d : ℕ) (xs : List ℕ) → with_word 0 w (a ∷ b ∷ c ∷ d ∷ xs) ≡ word_bytes w ++ xs
 word_first w a b c d xs = refl
 
--- Only the lowest 32 bits of a word are written.
-bytes_of_word : (n : ℕ) → word_bytes (n % 4294967296) ≡ word_bytes n
-bytes_of_word n =
-    let a : n % 4294967296 % 256 ≡ n % 256 = omega arith in
-    let b : n % 4294967296 / 256 % 256 ≡ n / 256 % 256 = omega arith in
-    let c : n % 4294967296 / 65536 % 256 ≡ n / 65536 % 256 = omega arith in
-    let d : n % 4294967296 / 16777216 % 256 ≡ n / 16777216 % 256 = omega arith in
-    ap (λ x. x ∷ n % 4294967296 / 256 % 256 ∷ n % 4294967296 / 65536 % 256 ∷ n % 4294967296 / 16777216 % 256 ∷ []) a
-    ∙ ap (λ x. n % 256 ∷ x ∷ n % 4294967296 / 65536 % 256 ∷ n % 4294967296 / 16777216 % 256 ∷ []) b
-    ∙ ap (λ x. n % 256 ∷ n / 256 % 256 ∷ x ∷ n % 4294967296 / 16777216 % 256 ∷ []) c
-    ∙ ap (λ x. n % 256 ∷ n / 256 % 256 ∷ n / 65536 % 256 ∷ x ∷ []) d
-
 -- ---- The words of an object
 
 -- A list of four.

@@ -3,11 +3,6 @@ use Rattle.std.proofs.Common.{◌≡◌, ℕ, ◌+◌, ◌≤◌, sym, ap, ◌�
 use Rattle.event_runs.specs.Agreement.{Agree, Begins, Grows}
 use Rattle.event_runs.specs.Following.{Shows}
 
--- a list begins with itself
-pub begins_itself : {A : Type 0} (xs : List A) → Begins xs xs
-begins_itself [] = ([], refl)
-begins_itself (x ∷ xs) = let whole = begins_itself xs in (whole.0, ap (λ l. x ∷ l) whole.1)
-
 -- what stands before both does not matter
 pub begins_behind : {A : Type 0} (x : A) (front whole : List A) → Begins front whole → Begins (x ∷ front) (x ∷ whole)
 begins_behind x front whole h = (h.0, ap (λ l. x ∷ l) h.1)

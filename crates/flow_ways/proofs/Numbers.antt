@@ -18,10 +18,3 @@ put_cases xs forgotten place number lt p = elim (eqb_tells p place) [
       inr (e.1, omega (arith, here)))
   | inr e ↦ inl (ap (λ n. n - forgotten) (get_or-set_other xs place p (forgotten + number) 0 e.1))
 ]
-
--- none is above a number
-pub below_put : (xs : List ℕ) (place value most : ℕ) → place < length xs → value ≤ most → ((p : ℕ) → get_or xs p 0 ≤ most) → (p : ℕ) → get_or (slice_set xs place value) p 0 ≤ most
-below_put xs place value most lt le below p = elim (eqb_tells p place) [
-  | inl e ↦ (let here : get_or (slice_set xs place value) p 0 ≡ value = ap (λ j. get_or (slice_set xs place value) j 0) e.1 ∙ get_or-set_same xs place value 0 lt in omega (arith, here, le))
-  | inr e ↦ (let here : get_or (slice_set xs place value) p 0 ≡ get_or xs p 0 = get_or-set_other xs place p value 0 e.1 in omega (arith, here, below p))
-]

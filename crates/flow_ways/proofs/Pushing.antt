@@ -9,13 +9,6 @@ use Rattle.std.proofs.lemmas.List.Elements.{Contains-append_left, Contains-push,
 abbrev list_in : List (Vec ℕ) → ℕ → List ℕ
 list_in all k = option_map_or (λ (v : Vec ℕ). v.items) (slice_get all k) []
 
--- one more list without entries
-pub none_more : (all : List (Vec ℕ)) (v : Vec ℕ) → v.items ≡ [] → ((k : ℕ) → list_in all k ≡ []) → (k : ℕ) → list_in (all ++ (v ∷ [])) k ≡ []
-none_more [] v e none zero = e
-none_more [] v e none (suc k) = refl
-none_more (w ∷ all) v e none zero = none 0
-none_more (w ∷ all) v e none (suc k) = none_more all v e (λ j. none (suc j)) k
-
 -- no entries
 pub none_in : (xs : List ℕ) (x : ℕ) → xs ≡ [] → Contains xs x → ⊥
 none_in xs x e c = omega (arith, ap (λ ys. length ys) e, c.1)

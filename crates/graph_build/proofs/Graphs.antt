@@ -10,10 +10,6 @@ use Rattle.graph_names.specs.Names.{Names, names_of}
 use Rattle.graph_coding.specs.Coding.{Coding}
 use Rattle.graph_build.specs.Units.{names_used, blocks_in, function_part, coding_with, coding_of, is_again, block_count, function_coding, graph_in, graph_of, graphs_from}
 
--- names are used again where the fresh ones, as they are counted, are more than the function weighs
-pub again_by : (p : ProgramTree) (f : TypedFunctionTree) (n : Names) (c : Coding) (used : ℕ) → n ≡ names_of p f false → c ≡ coding_with p f n 0 → used ≡ names_used c f → nat_lt f.weight used ≡ is_again p f
-again_by p f n c used fresh same count = ap (nat_lt f.weight) (count ∙ ap (λ (k : Coding). names_used k f) (same ∙ ap (λ (k : Names). coding_with p f k 0) fresh))
-
 -- the blocks that are counted before they have their labels are as many as the function has
 pub blocks_counted_by : (p : ProgramTree) (f : TypedFunctionTree) (is_main : Bool) (n : Names) (c : Coding) (blocks : List Block) (count : ℕ) → n ≡ names_of p f (is_again p f)
     → c ≡ coding_with p f n 0 → blocks ≡ blocks_in c (function_part c f is_main) → count ≡ length blocks → count ≡ block_count p f is_main

@@ -33,7 +33,7 @@ use Rattle.graph_counts.specs.Sizes.{made_counts, goal_counts}
 use Rattle.c_law_counts.specs.Weighing.{weighed, weighed_place, weighed_all}
 use Rattle.graph_counts.proofs.Temporaries.{behind, place_behind, passed_is_behind, moved_behind}
 use Rattle.graph_counts.proofs.Written.{NamesFew, Few, all_few}
-use Rattle.graph_counts.proofs.Pieces.{room, one_if, one_most, leaf_most, noted_most, valued_most, valued_least, used_most, move_most, stored_most, called_most, renewed_most, memory_most, loaded_most, left_scalar_most, left_memory_most, object_most}
+use Rattle.graph_counts.proofs.Pieces.{room, one_if, one_most, leaf_most, noted_most, valued_most, used_most, move_most, stored_most, called_most, renewed_most, memory_most, loaded_most, left_scalar_most, left_memory_most, object_most}
 use Rattle.graph_counts.proofs.Held.{operation_stays, location_stays, address_stays}
 use Rattle.graph_counts.proofs.Within.{Within, WithinPlace, WithinAll, plain, loose, writes_few, finished_pair, element_placed, within_constant, within_load, within_decay, within_address, within_convert, within_discard, within_signed, within_not, within_both, within_conditional, within_comma}
 

@@ -80,11 +80,6 @@ valued_most (To want m) a = omega arith
 valued_most (Unused m) a = omega arith
 valued_most (Either one other inner) a = omega arith
 
-pub valued_least : (g : Goal) (a : Operand) → goal_counts (valued g a) ≤ goal_counts g
-valued_least (To want m) a = omega arith
-valued_least (Unused m) a = omega arith
-valued_least (Either one other inner) a = omega arith
-
 pub used_most : (g : Goal) → goal_counts (used g) + room (used g) ≤ goal_counts g + room g
 used_most (To want m) = omega arith
 used_most (Unused m) = omega arith

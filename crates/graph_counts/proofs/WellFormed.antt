@@ -26,9 +26,6 @@ and_both false b h = cc
 at_most : (a b : ℕ) → nat_le a b ≡ true → a ≤ b
 at_most a b h = grind (arith, nat_tests)
 
-is_less : (a b : ℕ) → nat_lt a b ≡ true → a < b
-is_less a b h = grind (arith, nat_tests)
-
 are_equal : (a b : ℕ) → (a == b) ≡ true → a ≡ b
 are_equal a b h = grind (arith, nat_tests)
 

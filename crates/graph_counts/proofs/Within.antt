@@ -35,7 +35,7 @@ use Rattle.graph_counts.specs.Sizes.{counted, made_counts, goal_counts}
 use Rattle.c_law_counts.specs.Weighing.{weighed, weighed_place, weighed_all, conversion}
 use Rattle.graph_counts.proofs.Temporaries.{behind, place_behind, passed_is_behind, pair_behind, moved_behind, pick_least}
 use Rattle.graph_counts.proofs.Written.{NamesFew, Few, written_few, all_few}
-use Rattle.graph_counts.proofs.Pieces.{room, one_if, one_most, before_most, closed_counts, leaf_most, noted_most, valued_most, valued_least, used_most, move_most, stored_most, called_most, forked_most, operated_most, finished_most, renewed_most, memory_most, loaded_most, left_scalar_most, left_memory_most, object_most}
+use Rattle.graph_counts.proofs.Pieces.{room, one_if, one_most, before_most, closed_counts, leaf_most, noted_most, valued_most, used_most, move_most, stored_most, called_most, forked_most, operated_most, finished_most, renewed_most, memory_most, loaded_most, left_scalar_most, left_memory_most, object_most}
 use Rattle.graph_counts.proofs.Held.{operation_stays, location_stays, address_stays}
 
 pub own_least : (u : Use) (k : ℕ) → k ≤ behind_own u k

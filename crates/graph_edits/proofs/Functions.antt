@@ -35,33 +35,3 @@ module _ (IsMade : Graph → Graph → Type 0) where
   pub functions_done : {A : Type 0} (view : A → Graph) (gs : List Graph) (left : List A) (hs : List Graph) → length left < 1 → Left IsMade gs hs (map view left) → EachFunction IsMade gs hs
   functions_done view gs [] hs lt (leaves go) = (let Q : List Graph → Type 0 = λ zs. EachFunction IsMade gs zs in subst Q (append_nil hs) (go [] tt))
   functions_done view gs (y ∷ left) hs lt old = absurd (omega arith)
-
--- what stays the same keeps all
-pub keeps_itself : (g : Graph) → KeepsAllButBlocks g g
-keeps_itself g = record { function = record { entry = refl; parameters = refl; scalars = refl; objects = refl; first_moved = refl }; names = refl; blocks = refl }
-
-keeps_twice : (f g h : Graph) → KeepsAllButBlocks f g → KeepsAllButBlocks g h → KeepsAllButBlocks f h
-keeps_twice f g h a b = record {
-  function = record {
-    entry = b.function.entry ∙ a.function.entry;
-    parameters = b.function.parameters ∙ a.function.parameters;
-    scalars = b.function.scalars ∙ a.function.scalars;
-    objects = b.function.objects ∙ a.function.objects;
-    first_moved = b.function.first_moved ∙ a.function.first_moved;
-  };
-  names = b.names ∙ a.names;
-  blocks = b.blocks ∙ a.blocks;
-}
-
--- functions that stay keep all
-pub each_itself : (gs : List Graph) → EachFunction KeepsAllButBlocks gs gs
-each_itself [] = tt
-each_itself (g ∷ gs) = (keeps_itself g, each_itself gs)
-
--- one function that was made another one
-pub each_with : {A : Type 0} (view : A → Graph) (gs : List Graph) (xs : List A) (i : ℕ) (d x : A) → KeepsAllButBlocks (view (get_or xs i d)) (view x) → EachFunction KeepsAllButBlocks gs (map view xs)
-    → EachFunction KeepsAllButBlocks gs (map view (slice_set xs i x))
-each_with view gs [] i d x made old = old
-each_with view [] (y ∷ xs) i d x made old = absurd old
-each_with view (g ∷ gs) (y ∷ xs) zero d x made old = (keeps_twice g (view y) (view x) old.0 made, old.1)
-each_with view (g ∷ gs) (y ∷ xs) (suc i) d x made old = (old.0, each_with view gs xs i d x made old.1)

@@ -16,9 +16,6 @@ use Rattle.graph_marking.proofs.Instances.{got_before, got_next}
 use Rattle.graph_marking.proofs.Targets.{AllFit, WayFits, edge_among, fit_front, fit_back, starts_fit, flows_fit}
 use Rattle.graph_marking.proofs.Ascending.{AllAscend, places_within, numbered_within}
 
-some_same : {A : Type 0} {a b : A} → Some a ≡ Some b → a ≡ b
-some_same e = cc
-
 -- an end does not lead to the first block
 abbrev pub Avoids : End → Type 0
 Avoids e = Among 0 (targets_of e) → ⊥

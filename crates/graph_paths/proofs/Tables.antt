@@ -15,12 +15,6 @@ wide_set width rows row new e wide k lt =
       | inr other ↦ ap (λ r. length r) (get_or-set_other rows row k new [] other) ∙ wide k inside
     ]
 
-pub wide_with_bit : (width : ℕ) (rows : List (List Bool)) (row bit : ℕ) (b : Bool) → row < length rows → AreWide width rows → AreWide width (with_bit rows row bit b)
-wide_with_bit width rows row bit b lt wide = wide_set width rows row (slice_set (row_at rows row) bit b) (length-set (row_at rows row) bit b ∙ wide row lt) wide
-
-pub with_bit_rows : (rows : List (List Bool)) (row bit : ℕ) (b : Bool) → length (with_bit rows row bit b) ≡ length rows
-with_bit_rows rows row bit b = length-set rows row (slice_set (row_at rows row) bit b)
-
 joined_length : (f : Bool → Bool → Bool) (xs ys : List Bool) → length xs ≡ length ys → length (joined f xs ys) ≡ length ys
 joined_length f [] [] e = refl
 joined_length f [] (y ∷ ys) e = omega (arith, e)

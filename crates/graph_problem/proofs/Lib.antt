@@ -6,4 +6,3 @@ pub mod Rounding
 pub mod Directing
 pub mod Solved
 pub mod PathLaws
-pub mod Neighbours

@@ -13,11 +13,6 @@ at_set (x ∷ xs) zero (suc j) z w e = inr (λ q. omega (arith, q), e)
 at_set (x ∷ xs) (suc b) zero z w e = inr (λ q. omega (arith, q), e)
 at_set (x ∷ xs) (suc b) (suc j) z w e = elim (at_set xs b j z w e) [ inl h ↦ inl (ap suc h.0, h.1) | inr h ↦ inr ((λ q. h.0 (omega (arith, q))), h.1) ]
 
-pub set_there : {X : Type 0} (xs : List X) (b : ℕ) (z : X) → b < length xs → slice_get (set xs b z) b ≡ Some z
-set_there [] b z lt = absurd (omega arith)
-set_there (x ∷ xs) zero z lt = refl
-set_there (x ∷ xs) (suc b) z lt = set_there xs b z (omega arith)
-
 -- what stands at a place of a list behind which one more was put
 pub at_push : {X : Type 0} (xs : List X) (y : X) (j : ℕ) (w : X) → slice_get (xs ++ y ∷ []) j ≡ Some w → ((j ≡ length xs) × (w ≡ y)) ⊎ (slice_get xs j ≡ Some w)
 at_push [] y zero w e = inl (refl, cc)

@@ -119,13 +119,6 @@ both_all w s below = equal _ _ (λ q. in_both s (numbers_below w) q ∙ elim (be
 moved : (made lost u : Numbers) (q : ℕ) → contains (made_of made lost u) q ≡ (contains made q || (contains u q && not (contains lost q)))
 moved made lost u q = in_union made (difference u lost) q ∙ ap (λ b. contains made q || b) (contains-difference nat_cmp_total u lost q)
 
-some_parted : (g a b k : Bool) → (g || ((a || b) && k)) ≡ ((g || (a && k)) || (g || (b && k)))
-some_parted true a b k = refl
-some_parted false true b true = refl
-some_parted false true true false = refl
-some_parted false true false false = refl
-some_parted false false b k = refl
-
 all_parted : (g a b k : Bool) → (g || ((a && b) && k)) ≡ ((g || (a && k)) && (g || (b && k)))
 all_parted true a b k = refl
 all_parted false true b true = refl
@@ -135,13 +128,6 @@ all_parted false true b false = and_false b
     and_false true = refl
     and_false false = refl
 all_parted false false b k = refl
-
--- what a block makes of a union, and of an intersection
-pub made_of_union : (made lost s t : Numbers) → made_of made lost (union s t) ≡ union (made_of made lost s) (made_of made lost t)
-made_of_union made lost s t = equal _ _ (λ q.
-    moved made lost (union s t) q ∙ ap (λ b. contains made q || (b && not (contains lost q))) (in_union s t q)
-    ∙ some_parted (contains made q) (contains s q) (contains t q) (not (contains lost q))
-    ∙ sym (in_union (made_of made lost s) (made_of made lost t) q ∙ ap (λ b. b || contains (made_of made lost t) q) (moved made lost s q) ∙ ap (λ b. (contains made q || (contains s q && not (contains lost q))) || b) (moved made lost t q)))
 
 pub made_of_both : (made lost s t : Numbers) → made_of made lost (intersection s t) ≡ intersection (made_of made lost s) (made_of made lost t)
 made_of_both made lost s t = equal _ _ (λ q.

@@ -63,11 +63,6 @@ bare_names x (Step d g t u l) h = h
 bare_names x (StepPointer d g of l) h = h
 bare_names x (Call c all) h = h
 
-in_front : {A : Type 0} (xs ys : List A) (a : A) → Among a xs → Among a (xs ++ ys)
-in_front [] ys a h = elim h [ ]
-in_front (x ∷ xs) ys a front = front
-in_front (x ∷ xs) ys a (behind h) = behind (in_front xs ys a h)
-
 in_back : {A : Type 0} (xs ys : List A) (a : A) → Among a ys → Among a (xs ++ ys)
 in_back [] ys a h = h
 in_back (x ∷ xs) ys a h = behind (in_back xs ys a h)

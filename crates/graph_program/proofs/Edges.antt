@@ -22,9 +22,6 @@ use Rattle.graph_marking.proofs.Statements.{Holds}
 use Rattle.graph_marking.proofs.Targets.{AllFit, WayFits, EdgesFit, fit_front, fit_back, edges_both, edge_fits, edge_among, starts_fit, flows_fit}
 use Rattle.graph_marking.proofs.Flows.{StandsAmong, place_stands, stand}
 
-some_same : {A : Type 0} {a b : A} → Some a ≡ Some b → a ≡ b
-some_same e = cc
-
 -- a block that keeps a place keeps it
 kept_same : (all : List Instruction) (place : Option ℕ) → KeepsPlace all place place
 kept_same [] q = refl

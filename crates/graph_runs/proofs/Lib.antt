@@ -36,7 +36,6 @@ pub mod StaticObjects
 pub mod StaticValues
 pub mod StaticAddresses
 pub mod StaticStorage
-pub mod EntryObjects
 pub mod Arrays
 pub mod ArrayElements
 pub mod ArrayKept

@@ -106,7 +106,3 @@ module _ (p : ProgramTree) (u : UnitForm) (h : MainStands p u) where
       holding = record { statics = statics_first; under = λ n o v d is alive owner. never_variable p h.fit n o v d is owner; scoped = parameters_none (first_memory p) (depth_in main_activity.setting); frames = tt };
     });
   }
-
--- A unit does what its program does, where the blocks of each function stand and static storage is the program's.
-pub unit_does : (p : ProgramTree) (u : UnitForm) → ((f : ℕ) (tree : TypedFunctionTree) → slice_get p.functions f ≡ Some tree → FunctionStands p u f tree) → MainStands p u → DoesProgram p u
-unit_does p u stand main = program_does p u (λ f tree is. function_is p u f tree (stand f tree is)) (main_is_there p u main)

@@ -91,9 +91,6 @@ declared_in p (Static n) phase o c = (c.0, c.1, c.2, c.3)
 declared_in p (Literal n) phase o c = (c.0, c.1, c.2, c.3)
 declared_in p (Variable n d) phase o c = (c.0, c.1, c.2, c.3)
 
-variable_is : {a b d e : ℕ} → Variable a d ≡ Variable b e → a ≡ b
-variable_is h = cc
-
 depth_is : {a b d e : ℕ} → Variable a d ≡ Variable b e → d ≡ e
 depth_is h = cc
 

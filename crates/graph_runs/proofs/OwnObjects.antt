@@ -59,15 +59,6 @@ dropped_is xs zero i = let e : 0 + i ≡ i = omega arith in ap (slice_get xs) e
 dropped_is [] (suc n) i = refl
 dropped_is (x ∷ xs) (suc n) i = let e : suc n + i ≡ suc (n + i) = omega arith in ap (slice_get (x ∷ xs)) e ∙ dropped_is xs n i
 
--- what has an object has no name
-pub object_no_scalar : (n : Names) (v j : ℕ) → object_of n v ≡ Some j → scalar_of n v ≡ None
-object_no_scalar n v j h = by (home_of n v) h
-  where
-    by : (o : Option Home) → object_in o ≡ Some j → scalar_in o ≡ None
-    by (Some (home.Scalar k)) h = cc
-    by (Some (home.Object k)) h = refl
-    by None h = cc
-
 module _ (p : ProgramTree) (f : TypedFunctionTree) (again : Bool) where
   pub object_home : (v j : ℕ) → object_of (names_of p f again) v ≡ Some j → (f.first_variable ≤ v) × (slice_get (homes_of p.automatics f.first_variable f.variables) (v - f.first_variable) ≡ Some (home.Object j))
   object_home v j h = by (nat_le f.first_variable v) refl h

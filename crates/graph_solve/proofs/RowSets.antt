@@ -14,16 +14,6 @@ use Rattle.graph_problem.specs.SetLaws.{equal}
 use Rattle.graph_solve.specs.Rows.{AreSameElsewhere, set_of, set_at, table}
 use Rattle.graph_solve.proofs.Bitsets.{in_row, there_same}
 
-pub same_elsewhere : (row : ℕ) (rows : List (List Bool)) → AreSameElsewhere row rows rows
-same_elsewhere row rows = record { count = refl; width = refl; others = λ other ne. refl }
-
-pub then_same : (row : ℕ) (a b c : List (List Bool)) → AreSameElsewhere row a b → AreSameElsewhere row b c → AreSameElsewhere row a c
-then_same row a b c one two = record {
-  count = two.count ∙ one.count;
-  width = two.width ∙ one.width;
-  others = λ other ne. two.others other ne ∙ one.others other ne;
-}
-
 -- a row that is written
 pub row_elsewhere : (rows : List (List Bool)) (row : ℕ) (r : List Bool) → row < length rows → length r ≡ length (row_at rows row) → AreSameElsewhere row rows (set rows row r)
 row_elsewhere rows row r here len = record {

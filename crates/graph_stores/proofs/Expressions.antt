@@ -220,12 +220,6 @@ operated_of x calls o t a b promoted kind kind_a right typed_a typed_b s sound =
 none_typed : (x : Setting) (calls : Calls) → TypedAll x calls [] none
 none_typed x calls s sound = record { sound = sound; later = later_refl s.memory; are = tt }
 
-are_later : (memory after : SourceMemory) → Later memory after → (types : List ValueType) (vs : List source-value.Value) → AreOf memory types vs → AreOf after types vs
-are_later memory after later [] [] are = tt
-are_later memory after later [] (v ∷ vs) are = absurd are
-are_later memory after later (t ∷ types) [] are = absurd are
-are_later memory after later (t ∷ types) (v ∷ vs) are = (of_later memory after later t v are.0, are_later memory after later types vs are.1)
-
 first_typed : (x : Setting) (calls : Calls) (t : ValueType) (types : List ValueType) (e : RvalueTree) (rest : ArgumentTrees) → is_of (kind_of x.program x.tree e) t ≡ true → Typed x calls e → TypedAll x calls types rest → TypedAll x calls (t ∷ types) (first e rest)
 first_typed x calls t types e rest fits typed_e typed_rest s sound = by (evaluate calls (depth_in x) e s) (typed_e s sound)
   where

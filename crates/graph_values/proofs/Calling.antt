@@ -84,10 +84,6 @@ abbrev pub CallsOk : Setting → Calls → ℕ → List ValueType → Type 0
 CallsOk x calls f types = (target : Option ℕ) (all : List Operand) (vs : List source-value.Value) (ops : List Instruction) (end : End) (s : State) (l : Local) (w : World) → Sound x.program x.begun s → Fits x None s l w → AreOf s.memory types vs
     → SameValues x.program s.memory w.memory vs (map (value x.unit.statics l.names) all) → BackR x target f all ops end l w (calls f vs s)
 
--- what waits changes nothing of what is kept
-pub fits_waiting : (x : Setting) (s : State) (l : Local) (w : World) (target other : Option ℕ) → Fits x None s (waiting l target) w → Fits x None s (record l { wants = other }) w
-fits_waiting x s l w target other f = fits_local x None None s (waiting l target) (record l { wants = other }) w f f.own
-
 module _ (x : Setting) (low : ScalarsFirst x) (f : ℕ) (t own : ℕ) (le : t ≤ own) (size : size_in x ≤ own) (all : List Operand) where
   abbrev i_in : Option ℕ → Instruction
   i_in k = unit.Call k (unit-called.Function f) all

@@ -57,9 +57,6 @@ found_next_last all count last one ordered same some at later k z here =
     (let lt : k < length all = slice_get_within all k z here in
     no_later_on (order_of z.cause z.via) (order_of last.cause last.via) (order_of one.cause one.via) (ordered k (count - 1) z last (omega (arith, lt, same, some)) here at) later)
 
-pub found_next_none : (all : List declared-found.Found) (count : ℕ) (one : declared-found.Found) → count ≡ length all → count ≡ 0 → (k : ℕ) (z : declared-found.Found) → slice_get all k ≡ Some z → IsNoLater (order_of z.cause z.via) (order_of one.cause one.via)
-found_next_none all count one same none k z here = (let lt : k < length all = slice_get_within all k z here in absurd (omega (arith, lt, same, none)))
-
 module _ (s : declared-search.Search) where
   pub via_none : (vias : List declared-via.Via) (w : declared-write.Write) → HasNoStart s w.place → IsViaOf s vias w
   via_none vias w none start by = absurd (none start by)

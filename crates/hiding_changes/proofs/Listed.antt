@@ -56,32 +56,6 @@ found_all c variable kind found all each every = record {
   all = λ number d is of same. All-contains (λ (n : ℕ). (d : Change) → IsListed c n d → d.var.0 ≡ variable → d.kind ≡ kind → Contains found d) (entries_of c.by_variable variable) number every (in_list c number d variable all is of) d is of same;
 }
 
--- one change of a log is one of its number
-pub one_listed : (c : declared-changes.Changes) (n : ℕ) (d e : Change) → IsListed c n d → IsListed c n e → d ≡ e
-one_listed c n d e one other = same_Some d e (sym one.is ∙ other.is)
-
--- the change at an index of a log
-pub listed_at : (c : declared-changes.Changes) (n : ℕ) (d : Change) → 1 ≤ n → n - 1 < length c.all.now → d ≡ get_or c.all.now (n - 1) d → IsListed c n d
-listed_at c n d some lt is = record { some = some; is = slice_get-get_or c.all.now (n - 1) d lt ∙ ap Some (sym is) }
-
--- one more change is listed
-pub listed_more : (all : List Change) (old new : ℕ → List ℕ) (k : ℕ) (d : Change) → k < length all → d ≡ get_or all k d → ((v n : ℕ) → Contains (old v) n → Contains (new v) n) → Contains (new d.var.0) (k + 1)
-    → ((j : ℕ) (e : Change) → j < k → slice_get all j ≡ Some e → Contains (old e.var.0) (j + 1)) → (j : ℕ) (e : Change) → j < k + 1 → slice_get all j ≡ Some e → Contains (new e.var.0) (j + 1)
-listed_more all old new k d lt is kept here before j e small at = elim (eqb_tells j k) [
-  | inl q ↦ (let one : d ≡ e = same_Some d e (sym (slice_get-get_or all k d lt ∙ ap Some (sym is)) ∙ sym (ap (λ n. slice_get all n) q.1) ∙ at) in
-      subst (λ n. Contains (new e.var.0) (n + 1)) (sym q.1) (subst (λ (z : Change). Contains (new z.var.0) (k + 1)) one here))
-  | inr q ↦ (let other = q.1 in kept e.var.0 (j + 1) (before j e (omega (arith, small, other)) at))
-]
-
--- one more change has its number
-pub number_more : (all : List Change) (k : ℕ) (d : Change) → k < length all → d ≡ get_or all k d → d.number ≡ k + 1
-    → ((j : ℕ) (e : Change) → j < k → slice_get all j ≡ Some e → e.number ≡ j + 1) → (j : ℕ) (e : Change) → j < k + 1 → slice_get all j ≡ Some e → e.number ≡ j + 1
-number_more all k d lt is number before j e small at = elim (eqb_tells j k) [
-  | inl q ↦ (let one : d ≡ e = same_Some d e (sym (slice_get-get_or all k d lt ∙ ap Some (sym is)) ∙ sym (ap (λ n. slice_get all n) q.1) ∙ at) in
-      sym (ap (λ (z : Change). z.number) one) ∙ number ∙ ap (λ n. n + 1) (sym q.1))
-  | inr q ↦ (let other = q.1 in before j e (omega (arith, small, other)) at)
-]
-
 -- one more number of a list was looked at
 pub found_next : (c : declared-changes.Changes) (variable : ℕ) (kind : Kind) (old new : List Change) (all : List ℕ) (k d : ℕ) → k < length all → ((e : Change) → Contains old e → Contains new e)
     → ((e : Change) → IsListed c (get_or all k d) e → e.var.0 ≡ variable → e.kind ≡ kind → Contains new e)
@@ -120,20 +94,6 @@ pub found_done : (c : declared-changes.Changes) (variable : ℕ) (kind : Kind) (
     → All (λ (n : ℕ). (e : Change) → IsListed c n e → e.var.0 ≡ variable → e.kind ≡ kind → Contains found e) (take k all) → AreFound c variable kind found
 found_done c variable kind found all k listed le same each before =
     found_all c variable kind found listed each (subst (λ (l : List ℕ). All (λ (n : ℕ). (e : Change) → IsListed c n e → e.var.0 ≡ variable → e.kind ≡ kind → Contains found e) l) (take_whole all k le ∙ same) before)
-
--- whether a change is one that shares a register, by what was read of it
-pub sharing_some : (c : declared-changes.Changes) (variable number : ℕ) (o : Option Change) (d : Change) (b : Bool) → o ≡ Some d → IsListed c number d × (d.var.0 ≡ variable) × (d.kind ≡ Reused) → ((e : Change) → IsListed c number e → e.var.0 ≡ variable → e.kind ≡ Reused → o ≡ Some e) → (b ≡ true) ↔ (letters d.pass ≡ homes_name)
-    → (b ≡ true) ↔ IsSharing c variable number
-sharing_some c variable number o d b same is all named = (
-  λ e. record { change = d; is = is.0; of = is.1; reused = is.2; named = named.0 e },
-  λ s. named.1 (ap (λ (z : Change). letters z.pass) (same_Some d s.change (sym same ∙ all s.change s.is s.of s.reused)) ∙ s.named),
-)
-
-pub sharing_none : (c : declared-changes.Changes) (variable number : ℕ) (o : Option Change) (b : Bool) → o ≡ None → b ≡ false → ((e : Change) → IsListed c number e → e.var.0 ≡ variable → e.kind ≡ Reused → o ≡ Some e) → (b ≡ true) ↔ IsSharing c variable number
-sharing_none c variable number o b none off all = (λ e. absurd (true≢false (sym e ∙ off)), λ s. absurd (none-some s.change (sym none ∙ all s.change s.is s.of s.reused)))
-
-pub not_before_own : (o : Option ℕ) (n : ℕ) → o ≡ Some n → IsNotBefore n o
-not_before_own o n is = record { last = n; is = is; le = omega arith }
 
 pub not_before_on : (n : ℕ) (o p : Option ℕ) → ((m : ℕ) → o ≡ Some m → IsNotBefore m p) → IsNotBefore n o → IsNotBefore n p
 not_before_on n o p more is = (let one = more is.last is.is in let below = is.le in let above = one.le in record { last = one.last; is = one.is; le = omega (arith, below, above) })

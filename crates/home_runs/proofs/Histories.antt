@@ -90,21 +90,6 @@ target_no_note x (Zero object words) e = tt
 target_no_note x (CopyWords object bytes words) e = tt
 target_no_note x (Call y f all) e = tt
 
--- a note, or none
-by_note : (i : Instruction) → ((y : ℕ) × (v : NoteValue) × (i ≡ Note y v)) ⊎ IsNoNote i
-by_note (Note y v) = inl (y, v, refl)
-by_note (Marker p) = inr tt
-by_note (Move y a) = inr tt
-by_note (Operate y o a b) = inr tt
-by_note (Truncate y t a) = inr tt
-by_note (Same y a b) = inr tt
-by_note (Address y object) = inr tt
-by_note (Load y f l) = inr tt
-by_note (Store f l a) = inr tt
-by_note (Zero object words) = inr tt
-by_note (CopyWords object bytes words) = inr tt
-by_note (Call y f all) = inr tt
-
 -- ---- The last note
 
 module _ (home : ℕ → Home) (statics : List StaticObject) (names : ℕ → Value) where

@@ -10,4 +10,3 @@ pub mod Steps
 pub mod Whole
 pub mod Slots
 pub mod Stops
-pub mod Joined

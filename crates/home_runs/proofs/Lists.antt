@@ -15,11 +15,6 @@ pub all_behind : {A : Type 0} (P : A → Type 0) (before : List A) (x : A) (rest
 all_behind P [] x rest all = all.0
 all_behind P (y ∷ before) x rest all = all_behind P before x rest all.1
 
-pub all_among : {A : Type 0} (P : A → Type 0) (xs : List A) (x : A) → AllByRecursion P xs → Among x xs → P x
-all_among P [] x all among = elim among [ ]
-all_among P (y ∷ xs) x all front = all.0
-all_among P (y ∷ xs) x all (behind later) = all_among P xs x all.1 later
-
 -- A member of two lists is one of either.
 pub among_either : {A : Type 0} (x : A) (xs ys : List A) → Among x (xs ++ ys) → Among x xs ⊎ Among x ys
 among_either x [] ys among = inr among

@@ -40,13 +40,6 @@ same_turned (Register r) (Slot n) = refl
 same_turned (Slot m) (Register q) = refl
 same_turned (Slot m) (Slot n) = swapped m n
 
--- Homes that are one with a third are one.
-pub same_home : (a b : Home) → is_same_home a b ≡ true → a ≡ b
-same_home (Register r) (Register q) e = elim (eqb_tells r q) [ inl h ↦ ap Register h.1 | inr h ↦ absurd (true≢false (sym e ∙ h.0)) ]
-same_home (Register r) (Slot n) e = absurd (true≢false (sym e))
-same_home (Slot m) (Register q) e = absurd (true≢false (sym e))
-same_home (Slot m) (Slot n) e = elim (eqb_tells m n) [ inl h ↦ ap Slot h.1 | inr h ↦ absurd (true≢false (sym e ∙ h.0)) ]
-
 -- ---- The homes of a unit's names
 
 homes_there : (graphs : List Graph) (all : List (List Home)) (f : ℕ) (g : Graph) → AreHomesOf graphs all → slice_get graphs f ≡ Some g

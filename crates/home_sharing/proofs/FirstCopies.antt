@@ -16,10 +16,6 @@ pub or_else_twice : {A : Type 0} (a b c : Option A) → or_else (or_else a b) c 
 or_else_twice None b c = refl
 or_else_twice (Some x) b c = refl
 
-pub or_else_none : {A : Type 0} (a : Option A) → or_else a None ≡ a
-or_else_none None = refl
-or_else_none (Some x) = refl
-
 some_or_else : {A : Type 0} (a b : Option A) → is_some (or_else a b) ≡ (is_some a || is_some b)
 some_or_else None b = refl
 some_or_else (Some x) b = refl
@@ -146,14 +142,6 @@ so_far_none moved scalars whole c unseen none = record {
   all = λ p x. refl;
 }
 
--- behind the last one
-pub so_far_whole : (moved : ℕ → ℕ → Bool) (scalars : ℕ) (rest whole : ℕ → ℕ → Option ℕ) (c : Copies) → ((p x : ℕ) → rest p x ≡ None) → AreSoFar moved scalars rest whole c → (x y : ℕ) → (has c.own x y ≡ true) ↔ IsOwn moved scalars whole x y
-so_far_whole moved scalars rest whole c none so x y =
-    let same : (p z : ℕ) → so.first p z ≡ whole p z = λ p z. sym (ap (or_else (so.first p z)) (none p z) ∙ or_else_none (so.first p z)) ∙ so.all p z in (
-      (λ t. let own = (so.are.own x y).0 t in record { place = own.place; copied = sym (same own.place x) ∙ own.copied; moved_away = own.moved_away; temporary = own.temporary }),
-      (λ own. (so.are.own x y).1 (record { place = own.place; copied = same own.place x ∙ own.copied; moved_away = own.moved_away; temporary = own.temporary })),
-    )
-
 -- ---- Instruction by instruction, and block by block
 
 rest_is : {A : Type 0} (y : A) (left : List A) → take (length (y ∷ left) - 1) (drop 1 (y ∷ left)) ≡ left
@@ -169,14 +157,3 @@ among_next {A = A} view (j ∷ left) i d le e place p x =
 pub among_none : {A : Type 0} (view : A → Instruction) (left : List A) → length left < 1 → (place : Option ℕ) (p x : ℕ) → first_among p x place (map view left) ≡ None
 among_none view [] lt place p x = refl
 among_none view (j ∷ left) lt place p x = absurd (omega arith)
-
-pub copy_next : {A : Type 0} (view : A → Block) (left : List A) (b d : A) → 1 ≤ length left → b ≡ get_or left 0 d → (p x : ℕ)
-    → first_copy p x (map view left) ≡ or_else (first_among p x (view b).place (view b).instructions) (first_copy p x (map view (take (length left - 1) (drop 1 left))))
-copy_next view [] b d le e p x = absurd (omega arith)
-copy_next {A = A} view (j ∷ left) b d le e p x =
-    let P : A → List A → Type 0 = λ k more. first_copy p x (view j ∷ map view left) ≡ or_else (first_among p x (view k).place (view k).instructions) (first_copy p x (map view more)) in
-    subst (λ more. P b more) (sym (rest_is j left)) (subst (λ k. P k left) (sym e) refl)
-
-pub copy_none : {A : Type 0} (view : A → Block) (left : List A) → length left < 1 → (p x : ℕ) → first_copy p x (map view left) ≡ None
-copy_none view [] lt p x = refl
-copy_none view (j ∷ left) lt p x = absurd (omega arith)

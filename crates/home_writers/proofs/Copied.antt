@@ -31,13 +31,6 @@ or_if : {A : Type 0} (t : Bool) (a : A) (b c : Option A) → or_else (if t then 
 or_if true a b c = refl
 or_if false a b c = refl
 
--- one more name without copies
-pub none_more : (all : List (Vec declared-copied.Copied)) (v : Vec declared-copied.Copied) → v.items ≡ [] → ((x : ℕ) → copies_to all x ≡ []) → (x : ℕ) → copies_to (all ++ (v ∷ [])) x ≡ []
-none_more [] v e none zero = e
-none_more [] v e none (suc x) = refl
-none_more (w ∷ all) v e none zero = none 0
-none_more (w ∷ all) v e none (suc x) = none_more all v e (λ j. none (suc j)) x
-
 -- the first of copies, one by one
 first_next : (t : Bool) (from : ℕ) (rest more : Option ℕ) (last : Option ℕ) → more ≡ or_else rest last → (if t then Some from else more) ≡ or_else (if t then Some from else rest) last
 first_next true from rest more last e = refl
@@ -73,13 +66,6 @@ copy_last p x [] b = or_none (first_among p x b.place b.instructions)
 copy_last p x (c ∷ blocks) b =
     ap (λ o. or_else (first_among p x c.place c.instructions) o) (copy_last p x blocks b) ∙ sym (or_or (first_among p x c.place c.instructions) (first_copy p x blocks) (first_among p x b.place b.instructions))
 
-pub copied_none : (c : declared-copies.Copies) (place : Option ℕ) → AreCopied c c place []
-copied_none c place = record { graph = refl; count = refl; first = λ p x lt. sym (or_none (first_of (copies_to c.by_target.items x) p)) }
-
--- what follows copies nothing
-pub copied_same : (c : declared-copies.Copies) (place : Option ℕ) (i : Instruction) → ((p x : ℕ) (at : Option ℕ) → first_among p x at (i ∷ []) ≡ None) → AreCopied c c place (i ∷ [])
-copied_same c place i none = record { graph = refl; count = refl; first = λ p x lt. sym (ap (λ o. or_else (first_of (copies_to c.by_target.items x) p) o) (none p x place) ∙ or_none (first_of (copies_to c.by_target.items x) p)) }
-
 -- one instruction behind others
 pub copied_more : (old mid new : declared-copies.Copies) (place : Option ℕ) (all : List Instruction) (i : Instruction) → AreCopied old mid place all → AreCopied mid new (place_behind all place) (i ∷ []) → AreCopied old new place (all ++ (i ∷ []))
 copied_more old mid new place all i before one = record {
@@ -90,23 +76,9 @@ copied_more old mid new place all i before one = record {
       ∙ ap (λ o. or_else (first_of (copies_to old.by_target.items x) p) o) (sym (among_last p x place all i));
 }
 
--- no place, or no scalar
-pub copied_nowhere : (c : declared-copies.Copies) (y m : ℕ) → AreCopied c c None (Move y (Name m) ∷ [])
-copied_nowhere c y m = record { graph = refl; count = refl; first = λ p x lt. sym (or_none (first_of (copies_to c.by_target.items x) p)) }
-
 no_test : (b : Bool) (t : Bool) → t ≡ false → (b && t) ≡ false
 no_test true t e = e
 no_test false t e = refl
-
-pub copied_outside : (c : declared-copies.Copies) (q y m : ℕ) → length c.by_target.items ≤ y → AreCopied c c (Some q) (Move y (Name m) ∷ [])
-copied_outside c q y m le = record {
-  graph = refl;
-  count = refl;
-  first = λ p x lt. sym (ap (λ t. or_else (first_of (copies_to c.by_target.items x) p) (if t then Some m else None)) (no_test (q == p) (y == x) (other x lt)) ∙ or_none (first_of (copies_to c.by_target.items x) p));
-}
-  where
-    other : (x : ℕ) → x < length c.by_target.items → (y == x) ≡ false
-    other x lt = elim (eqb_tells y x) [ inl e ↦ (let same = e.1 in absurd (omega (arith, le, lt, same))) | inr e ↦ e.0 ]
 
 -- a copy to a scalar
 module _ (old new : declared-copies.Copies) (q y m : ℕ) (v w : Vec declared-copied.Copied) (lt : y < length old.by_target.items) (is : slice_get old.by_target.items y ≡ Some v) (put : new.by_target.items ≡ slice_set old.by_target.items y w)
@@ -141,10 +113,6 @@ module _ (old new : declared-copies.Copies) (q y m : ℕ) (v w : Vec declared-co
     ];
   }
 
--- what an instruction copies, where it is a copy or none
-pub copied_at : (old new : declared-copies.Copies) (place : Option ℕ) (i : Instruction) (y m : ℕ) → i ≡ Move y (Name m) → AreCopied old new place (Move y (Name m) ∷ []) → AreCopied old new place (i ∷ [])
-copied_at old new place i y m e copied = subst (λ (j : Instruction). AreCopied old new place (j ∷ [])) (sym e) copied
-
 -- behind the instructions that were passed
 pub copied_taken : (old mid new : declared-copies.Copies) (place before : Option ℕ) (passed all : List Instruction) (i : Instruction) → all ≡ passed ++ (i ∷ []) → before ≡ place_behind passed place → AreCopied old mid place passed → AreCopied mid new before (i ∷ []) → AreCopied old new place all
 copied_taken old mid new place before passed all i e at so_far one =
@@ -156,12 +124,6 @@ pub copied_put : (old new : declared-copies.Copies) (place : Option Place) (q : 
 copied_put old new place q y m v w e lt is put more graph =
     subst (λ o. AreCopied old new (placed o) (Move y (Name m) ∷ [])) (sym e)
     (copied_one old new q.0 y m v w lt (slice_get-get_or old.by_target.items y v lt ∙ ap Some (sym is)) put more graph (ap length put ∙ length-set old.by_target.items y w))
-
-pub copied_nowhere_at : (c : declared-copies.Copies) (place : Option Place) (y m : ℕ) → place ≡ None → AreCopied c c (placed place) (Move y (Name m) ∷ [])
-copied_nowhere_at c place y m e = subst (λ o. AreCopied c c (placed o) (Move y (Name m) ∷ [])) (sym e) (copied_nowhere c y m)
-
-pub copied_outside_at : (c : declared-copies.Copies) (place : Option Place) (q : Place) (y m : ℕ) → place ≡ Some q → length c.by_target.items ≤ y → AreCopied c c (placed place) (Move y (Name m) ∷ [])
-copied_outside_at c place q y m e le = subst (λ o. AreCopied c c (placed o) (Move y (Name m) ∷ [])) (sym e) (copied_outside c q.0 y m le)
 
 -- one block more
 taken_block : (xs : List declared-block.Block) (k : ℕ) (b : declared-block.Block) → k < length xs → b ≡ get_or xs k b → take (k + 1) (map block_view xs) ≡ take k (map block_view xs) ++ (block_view b ∷ [])
@@ -176,11 +138,3 @@ copies_next c new g k b lt is before more p x inside =
     let here : x < length c.by_target.items = subst (λ n. x < n) more.count inside in
     more.first p x here ∙ ap (λ o. or_else o (first_among p x (placed b.place) (map instruction_view b.instructions.items))) (before p x here)
     ∙ sym (copy_last p x (take k (map block_view g.blocks.items)) (block_view b)) ∙ sym (ap (λ l. first_copy p x l) (taken_block g.blocks.items k b lt is))
-
--- the copies of all blocks
-pub copies_all : (c : declared-copies.Copies) (g : declared-graph.Graph) (k : ℕ) → length g.blocks.items ≤ k → c.graph.now ≡ g → length c.by_target.items ≡ length g.scalars.items
-    → ((p x : ℕ) → x < length c.by_target.items → first_of (copies_to c.by_target.items x) p ≡ first_copy p x (take k (map block_view g.blocks.items))) → AreCopies c
-copies_all c g k le graph count first = record {
-  first = λ p x lt. first p x lt ∙ ap (λ l. first_copy p x l) (take_whole (map block_view g.blocks.items) k (omega (arith, le, length-map g.blocks.items block_view))) ∙ ap (λ (h : declared-graph.Graph). first_copy p x (graph_view h).blocks) (sym graph);
-  count = count ∙ sym (length-map g.scalars.items scalar_view) ∙ ap (λ (h : declared-graph.Graph). length (graph_view h).scalars) (sym graph);
-}

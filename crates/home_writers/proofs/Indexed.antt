@@ -33,28 +33,6 @@ get_cases [] one z (suc k) e = absurd (none-some z e)
 get_cases (x ∷ all) one z zero e = inl e
 get_cases (x ∷ all) one z (suc k) e = elim (get_cases all one z k e) [ inl f ↦ inl f | inr f ↦ inr (ap suc f.0, f.1) ]
 
-put_same : (all : List (Vec declared-write.Write)) (k : ℕ) (v : Vec declared-write.Write) → k < length all → writes_in (slice_set all k v) k ≡ v.items
-put_same [] k v lt = absurd (omega (arith, lt))
-put_same (w ∷ all) zero v lt = refl
-put_same (w ∷ all) (suc k) v lt = put_same all k v (omega (arith, lt))
-
-put_other : (all : List (Vec declared-write.Write)) (i : ℕ) (v : Vec declared-write.Write) (k : ℕ) → k ≢ i → writes_in (slice_set all i v) k ≡ writes_in all k
-put_other [] i v k other = refl
-put_other (w ∷ all) zero v zero other = absurd (other refl)
-put_other (w ∷ all) zero v (suc k) other = refl
-put_other (w ∷ all) (suc i) v zero other = refl
-put_other (w ∷ all) (suc i) v (suc k) other = put_other all i v k (λ e. other (ap suc e))
-
-writes_at : (all : List (Vec declared-write.Write)) (k : ℕ) (v : Vec declared-write.Write) → slice_get all k ≡ Some v → writes_in all k ≡ v.items
-writes_at all k v e = ap (λ (o : Option (Vec declared-write.Write)). option_map_or (λ (z : Vec declared-write.Write). z.items) o []) e
-
--- one more list without entries
-pub none_more : (all : List (Vec declared-write.Write)) (v : Vec declared-write.Write) → v.items ≡ [] → ((k : ℕ) → writes_in all k ≡ []) → (k : ℕ) → writes_in (all ++ (v ∷ [])) k ≡ []
-none_more [] v e none zero = e
-none_more [] v e none (suc k) = refl
-none_more (w ∷ all) v e none zero = none 0
-none_more (w ∷ all) v e none (suc k) = none_more all v e (λ j. none (suc j)) k
-
 module _ (old : List (Vec declared-write.Write)) (number : ℕ) (v w : Vec declared-write.Write) (lt : number < length old) (is : slice_get old number ≡ Some v) where
   pub pushed_here : (entry : declared-write.Write) → w.items ≡ v.items ++ (entry ∷ []) → writes_in (slice_set old number w) number ≡ writes_in old number ++ (entry ∷ [])
   pushed_here entry more = put_same old number w lt ∙ more ∙ ap (λ xs. xs ++ (entry ∷ [])) (sym (writes_at old number v is))
@@ -147,20 +125,6 @@ indexed_more old new one number was same next all homes home others name rest = 
       (lists_more old.all.items (λ y. y) one number one.name (λ m. writes_in old.by_name.items m) (λ m. writes_in new.by_name.items m) same refl name rest was.by_name n);
 }
 
--- nothing is written
-pub indexed_none : (v : declared-writers.Writers) → v.all.items ≡ [] → ((n : ℕ) → writes_in v.by_home.items n ≡ []) → ((n : ℕ) → writes_in v.by_name.items n ≡ []) → IsIndexed v
-indexed_none v all home name = record {
-  ordered = λ j k z y le first last. absurd (none-some z (sym (ap (λ (l : List declared-written.Written). slice_get l j) all) ∙ first));
-  by_home = λ n. none_by (home_key v) n (writes_in v.by_home.items n) (home n);
-  by_name = λ n. none_by (λ y. y) n (writes_in v.by_name.items n) (name n);
-}
-  where
-    none_by : (key : ℕ → ℕ) (n : ℕ) (found : List declared-write.Write) → found ≡ [] → AreWritesBy v.all.items key n found
-    none_by key n found none = record {
-      each = subst (λ (l : List declared-write.Write). All (IsWriteBy v.all.items key n) l) (sym none) (All-nil (IsWriteBy v.all.items key n));
-      complete = λ k z at of. absurd (none-some z (sym (ap (λ (l : List declared-written.Written). slice_get l k) all) ∙ at));
-    }
-
 -- the lists in another order
 pub indexed_moved : (old new : declared-writers.Writers) → IsIndexed old → new.all.items ≡ old.all.items → new.homes.now ≡ old.homes.now → ((n : ℕ) → IsPermutation (writes_in old.by_home.items n) (writes_in new.by_home.items n))
     → ((n : ℕ) → IsPermutation (writes_in old.by_name.items n) (writes_in new.by_name.items n)) → IsIndexed new
@@ -179,6 +143,3 @@ pub next_last : (v : declared-writers.Writers) (count : ℕ) (last : declared-wr
 next_last v count last w is same some at later k z here =
     (let lt : k < length v.all.items = slice_get_within v.all.items k z here in
     no_later_on (rank_of z.writer) (rank_of last.writer) (rank_of w) (is.ordered k (count - 1) z last (omega (arith, lt, same, some)) here at) later)
-
-pub next_none : (v : declared-writers.Writers) (count : ℕ) (w : declared-writer.Writer) → count ≡ length v.all.items → count ≡ 0 → (k : ℕ) (z : declared-written.Written) → slice_get v.all.items k ≡ Some z → IsNoLater (rank_of z.writer) (rank_of w)
-next_none v count w same none k z here = (let lt : k < length v.all.items = slice_get_within v.all.items k z here in absurd (omega (arith, lt, same, none)))

@@ -21,9 +21,6 @@ use Rattle.home_writers.specs.declared.writers.Writers as declared-writers
 use Rattle.home_writers.specs.declared.writers.Written as declared-written
 use Rattle.home_writers.specs.Writers.{AreBindings, AreBlocks, AreInstructions, AreMore, AreSound, AreWriters, IsIndexed, IsKnown, Writes, instruction, parameter, placed}
 
-pub more_same : (v : declared-writers.Writers) → AreMore v v
-more_same v = record { function = refl; graph = refl; homes = refl; kept = λ z c. c }
-
 pub more_on : (u v w : declared-writers.Writers) → AreMore u v → AreMore v w → AreMore u w
 more_on u v w one two = record { function = two.function ∙ one.function; graph = two.graph ∙ one.graph; homes = two.homes ∙ one.homes; kept = λ z c. two.kept z (one.kept z c) }
 
@@ -138,26 +135,12 @@ writes_there v n b k i p x is at place target =
     record { block = block_view b; before = take k all; is = slice_get-map block_view v.graph.now.blocks.items n ∙ ap (λ o. option_map block_view o) is; instructions = whole; ends = refl; place = place } in
     subst (λ j. Writes v p x (writer.Instruction v.function n j)) long (instruction stands target)
 
--- a write that is appended is one
-pub sound_more : (v : declared-writers.Writers) (new : List declared-written.Written) (one : declared-written.Written) → new ≡ v.all.items ++ (one ∷ []) → AreSound v → Writes v one.place one.name one.writer
-    → All (λ (z : declared-written.Written). Writes v z.place z.name z.writer) new
-sound_more v new one e sound writes = subst (λ all. All (λ (z : declared-written.Written). Writes v z.place z.name z.writer) all) (sym e) (All-push (λ (z : declared-written.Written). Writes v z.place z.name z.writer) v.all.items one sound writes)
-
-pub placed_same : (place : Option Place) (q : Place) (p : ℕ) → place ≡ Some q → placed place ≡ Some p → q.0 ≡ p
-placed_same place q p e at = same_Some q.0 p (sym (ap placed e) ∙ at)
-
-pub placed_none : (place : Option Place) (p : ℕ) → place ≡ None → placed place ≡ Some p → ⊥
-placed_none place p e at = none-some p (sym (ap placed e) ∙ at)
-
 -- the binding of a parameter writes its name at the entry
 pub binding_writes : (v : declared-writers.Writers) (k x p : ℕ) (b : declared-binding.Binding) → slice_get (graph_view v.graph.now).parameters k ≡ Some (binding_view b) → binding_view b ≡ ToScalar x → v.graph.now.entry.0 ≡ p → Writes v p x (writer.Binding v.function k)
 binding_writes v k x p b at of place = parameter (sym place) (at ∙ ap Some of)
 
 same_scalar : (x y : ℕ) → ToScalar x ≡ ToScalar y → x ≡ y
 same_scalar x y e = cc
-
-no_scalar : (o x : ℕ) → ToObject o ≡ ToScalar x → ⊥
-no_scalar o x e = cc
 
 pub binding_there : (old new : declared-writers.Writers) (b : Binding) (k n : ℕ) → AreMore old new → b ≡ ToScalar n → IsKnown new (graph_view old.graph.now).entry n (writer.Binding old.function k) → (x : ℕ) → b ≡ ToScalar x
     → IsKnown new (graph_view new.graph.now).entry x (writer.Binding new.function k)
@@ -166,36 +149,10 @@ binding_there old new b k n more is there x same =
     (subst (λ (g : declared-graph.Graph). IsKnown new (graph_view g).entry x (writer.Binding old.function k)) (sym more.graph)
     (subst (λ y. IsKnown new (graph_view old.graph.now).entry y (writer.Binding old.function k)) (same_scalar n x (sym is ∙ same)) there))
 
-pub object_nowhere : (v : declared-writers.Writers) (b : Binding) (k o : ℕ) → b ≡ ToObject o → (x : ℕ) → b ≡ ToScalar x → IsKnown v (graph_view v.graph.now).entry x (writer.Binding v.function k)
-object_nowhere v b k o is x same = absurd (no_scalar o x (sym is ∙ same))
-
 -- the binding of a number
 pub binding_at : (g : declared-graph.Graph) (k n : ℕ) (b d : declared-binding.Binding) → n ≡ k → k < length g.parameters.items → b ≡ get_or g.parameters.items k d → slice_get (graph_view g).parameters n ≡ Some (binding_view b)
 binding_at g k n b d same lt is =
     ap (λ i. slice_get (graph_view g).parameters i) same ∙ slice_get-map binding_view g.parameters.items k ∙ ap (λ o. option_map binding_view o) (slice_get-get_or g.parameters.items k d lt ∙ ap Some (sym is))
-
--- one binding more, as it was read
-pub bindings_next : (first old new : declared-writers.Writers) (k : ℕ) (b d : declared-binding.Binding) → AreMore first old → k < length first.graph.now.parameters.items → b ≡ get_or first.graph.now.parameters.items k d → AreBindings old k → AreMore old new
-    → ((x : ℕ) → binding_view b ≡ ToScalar x → IsKnown new (graph_view new.graph.now).entry x (writer.Binding new.function k)) → AreBindings new (k + 1)
-bindings_next first old new k b d before lt is known more there =
-    let graph : new.graph.now ≡ first.graph.now = more.graph ∙ before.graph in
-    let at : slice_get (graph_view new.graph.now).parameters k ≡ Some (binding_view b) = ap (λ (g : declared-graph.Graph). slice_get (graph_view g).parameters k) graph ∙ binding_at first.graph.now k k b d refl lt is in
-    bindings_more new k (bindings_on old new k more known) (λ x e. there x (same_Some (binding_view b) (ToScalar x) (sym at ∙ e)))
-
--- the block of a number
-pub block_at : (g : declared-graph.Graph) (h : declared-graph.Graph) (k n : ℕ) (b d : declared-block.Block) → g ≡ h → n ≡ k → k < length h.blocks.items → b ≡ get_or h.blocks.items k d → slice_get g.blocks.items n ≡ Some b
-block_at g h k n b d graph same lt is = ap (λ (z : declared-graph.Graph). slice_get z.blocks.items n) graph ∙ ap (λ i. slice_get h.blocks.items i) same ∙ slice_get-get_or h.blocks.items k d lt ∙ ap Some (sym is)
-
--- one block more, as it was read
-pub blocks_next : (first old new : declared-writers.Writers) (k : ℕ) (b d : declared-block.Block) → AreMore first old → k < length first.graph.now.blocks.items → b ≡ get_or first.graph.now.blocks.items k d → AreBlocks old k → AreMore old new
-    → AreInstructions new k (map instruction_view b.instructions.items) (placed b.place) (length b.instructions.items) → AreBlocks new (k + 1)
-blocks_next first old new k b d before lt is known more there = blocks_more new k b (block_at new.graph.now first.graph.now k k b d (more.graph ∙ before.graph) refl lt is) (blocks_on old new k more known) there
-
--- an instruction writes its target where it stands, by what was read
-pub instruction_writes : (v : declared-writers.Writers) (n : ℕ) (b : declared-block.Block) (k j : ℕ) (i d : declared-instr.Instr) (place : Option Place) (p x : ℕ) → slice_get v.graph.now.blocks.items n ≡ Some b → k < length b.instructions.items → i ≡ get_or b.instructions.items k d → j ≡ k
-    → placed place ≡ place_behind (take k (map instruction_view b.instructions.items)) (placed b.place) → placed place ≡ Some p → target_of (instruction_view i) ≡ Some x → Writes v p x (writer.Instruction v.function n j)
-instruction_writes v n b k j i d place p x at lt is same in_force here target =
-    subst (λ m. Writes v p x (writer.Instruction v.function n m)) (sym same) (writes_there v n b k (instruction_view i) p x at (at_index instruction_view b.instructions.items k i d lt is) (sym in_force ∙ here) target)
 
 -- one instruction more, as it was read
 pub instructions_next : (old new : declared-writers.Writers) (n : ℕ) (all : List declared-instr.Instr) (before : Option ℕ) (k : ℕ) (i d : declared-instr.Instr) (place : Option Place) → k < length all → i ≡ get_or all k d → placed place ≡ place_behind (take k (map instruction_view all)) before

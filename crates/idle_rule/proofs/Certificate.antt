@@ -27,10 +27,6 @@ module _ (turns : Turns) (blocks : List Block) where
   above_more greatest count x n here more [] e le above = λ l lt to. (let h = above l lt to in omega (arith, h, le))
   above_more greatest count x n here more (i ∷ rest) e le above = ((λ g r. (let h = above.0 g r in omega (arith, h, le))), (λ w. above_more greatest count x n here more rest e le (above.1 w)))
 
--- what was not passed
-pub none_passed : (is : Instruction → Bool) (p : Passed) (h : History) → some_passed is (p ∷ h) ≡ false → (is p.instruction ≡ false) × (some_passed is h ≡ false)
-none_passed is p h e = or_parts (is p.instruction) (some_passed is h) e
-
 module _ (g : Graph) (turns : Turns) (names : ℕ) (led : ℕ → Bool) (are : AreLed g.blocks led) (told : (x n : ℕ) → Bool) (greatest : (x n : ℕ) → ℕ) (all : AreCertified g turns names led told greatest) where
   abbrev Tells : (x n : ℕ) → Bool → List Instruction → End → Type 0
   Tells x n here rest e = TellsAsked turns (told x) (length g.blocks) x n here rest e

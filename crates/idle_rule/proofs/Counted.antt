@@ -13,16 +13,6 @@ use Rattle.idle_rule.specs.Counting.{is_some, is_many, one_if, AreFree}
 abbrev pub IsAt : (bits : ℕ → ℕ → Bool) → (first places p x count : ℕ) → Type 0
 IsAt bits first places p x count = (bits (p - first) x ≡ is_some count) × (bits (places + (p - first)) x ≡ is_many count)
 
--- where the bits are the same it is the same
-pub at_same : (bits new : ℕ → ℕ → Bool) (first places p x count more : ℕ) → new (p - first) x ≡ bits (p - first) x → new (places + (p - first)) x ≡ bits (places + (p - first)) x → more ≡ count → IsAt bits first places p x count → IsAt new first places p x more
-at_same bits new first places p x count more one two e at = (one ∙ at.0 ∙ ap is_some (sym e), two ∙ at.1 ∙ ap is_many (sym e))
-
-pub no_more : (a : Bool) (count : ℕ) → a ≡ false → one_if a + count ≡ count
-no_more a count e = (let z : 0 + count ≡ count = omega arith in ap (λ b. one_if b + count) e ∙ z)
-
-pub one_more : (a : Bool) (count : ℕ) → a ≡ true → one_if a + count ≡ suc count
-one_more a count e = (let z : 1 + count ≡ suc count = omega arith in ap (λ b. one_if b + count) e ∙ z)
-
 -- A bit is put: the first of a name in a place, or if that is set the second.
 module _ (bits new : ℕ → ℕ → Bool) (first places place name row : ℕ) (from : first ≤ place) (within : place - first < places) (put : ℕ)
     (there : new put name ≡ true) (rows : (other bit : ℕ) → other ≢ put → new other bit ≡ bits other bit) (rest : (bit : ℕ) → bit ≢ name → new put bit ≡ bits put bit) where
@@ -97,24 +87,9 @@ module _ (bits new : ℕ → ℕ → Bool) (first places place name row : ℕ) (
       few true = refl
       few false = refl
 
--- once by the bits is once
-pub once_from : (bits : ℕ → ℕ → Bool) (first places p x c : ℕ) → IsAt bits first places p x c → (bits (p - first) x && not (bits (places + (p - first)) x)) ≡ true → c ≡ 1
-once_from bits first places p x c at e = of c (ap (λ z. z && not (bits (places + (p - first)) x)) (sym at.0) ∙ e) at.1
-  where
-    of : (k : ℕ) → (is_some k && not (bits (places + (p - first)) x)) ≡ true → bits (places + (p - first)) x ≡ is_many k → k ≡ 1
-    of zero e q = absurd (true≢false (sym e))
-    of (suc zero) e q = refl
-    of (suc (suc k)) e q = absurd (true≢false (sym e ∙ ap not q))
-
-pub once_to : (bits : ℕ → ℕ → Bool) (first places p x c : ℕ) → IsAt bits first places p x c → c ≡ 1 → (bits (p - first) x && not (bits (places + (p - first)) x)) ≡ true
-once_to bits first places p x c at e = ap (λ z. z && not (bits (places + (p - first)) x)) (at.0 ∙ ap is_some e) ∙ ap not (at.1 ∙ ap is_many e)
-
 -- What is still to be told of instructions, behind what is told.
 pub data AreFreeAhead (g : Graph) (start : Option ℕ) (all : List Instruction) (now : Option ℕ) (ahead : List Instruction) (told : List Bool) : Type 0 where
   goes_on : ((later : List Bool) → AreFree g now ahead later → AreFree g start all (told ++ later)) → AreFreeAhead g start all now ahead told
-
-pub free_first : (g : Graph) (start : Option ℕ) (all : List Instruction) → AreFreeAhead g start all start all []
-free_first g start all = goes_on (λ later are. are)
 
 pub free_next : (g : Graph) (start : Option ℕ) (all : List Instruction) (now next : Option ℕ) (i : Instruction) (ahead : List Instruction) (told longer : List Bool) (v : Bool) → longer ≡ told ++ v ∷ [] → ((v ≡ true) ↔ IsFree g now i) → next ≡ place_behind (i ∷ []) now
     → AreFreeAhead g start all now (i ∷ ahead) told → AreFreeAhead g start all next ahead longer
@@ -143,36 +118,6 @@ behind_one (Store el l a) more place = refl
 behind_one (Zero object words) more place = refl
 behind_one (CopyWords object bytes words) more place = refl
 behind_one (Call x f all) more place = refl
-
--- a marker begins a place
-pub behind_marker : (k : Instruction) (place : Option ℕ) (p : ℕ) → marker_of k ≡ Some p → place_behind (k ∷ []) place ≡ Some p
-behind_marker (Marker q) place p e = e
-behind_marker (Note x v) place p e = absurd (none-some p e)
-behind_marker (Move x a) place p e = absurd (none-some p e)
-behind_marker (Operate x o a b) place p e = absurd (none-some p e)
-behind_marker (Truncate x t a) place p e = absurd (none-some p e)
-behind_marker (SameOf x a b) place p e = absurd (none-some p e)
-behind_marker (Address x object) place p e = absurd (none-some p e)
-behind_marker (Load x el l) place p e = absurd (none-some p e)
-behind_marker (Store el l a) place p e = absurd (none-some p e)
-behind_marker (Zero object words) place p e = absurd (none-some p e)
-behind_marker (CopyWords object bytes words) place p e = absurd (none-some p e)
-behind_marker (Call x f all) place p e = absurd (none-some p e)
-
--- and else it stays in force
-pub behind_other : (k : Instruction) (place : Option ℕ) → marker_of k ≡ None → place_behind (k ∷ []) place ≡ place
-behind_other (Marker q) place e = absurd (none-some q (sym e))
-behind_other (Note x v) place e = refl
-behind_other (Move x a) place e = refl
-behind_other (Operate x o a b) place e = refl
-behind_other (Truncate x t a) place e = refl
-behind_other (SameOf x a b) place e = refl
-behind_other (Address x object) place e = refl
-behind_other (Load x el l) place e = refl
-behind_other (Store el l a) place e = refl
-behind_other (Zero object words) place e = refl
-behind_other (CopyWords object bytes words) place e = refl
-behind_other (Call x f all) place e = refl
 
 -- what is told of an instruction
 pub free_at : (g : Graph) (place : Option ℕ) (before : List Instruction) (i : Instruction) (rest : List Instruction) (told : List Bool) → AreFree g place (before ++ i ∷ rest) told

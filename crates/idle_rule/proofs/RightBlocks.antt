@@ -66,10 +66,6 @@ right_block view turns counts all names n led old walked last b reached free ask
     had : (x : ℕ) → bits_of walked (length all) x ≡ true → bits_of old n x ≡ true
     had x come = sym (others n x (λ q. omega (arith, q, lt))) ∙ sym (quiet n x) ∙ there x ∙ or_left (bits_of walked (length all) x) (bits_of walked n x) come
 
--- the rows of blocks stay
-pub still_same : (blocks n : ℕ) (old walked last : Marks) → AreSameBut blocks old walked → ((row bit : ℕ) → bits_of last row bit ≡ bits_of walked row bit) → AreSameBelow blocks old last
-still_same blocks n old walked last others quiet m bit lt = quiet m bit ∙ others m bit (λ q. omega (arith, q, lt))
-
 pub below_on : (blocks : ℕ) (one two three : Marks) → AreSameBelow blocks one two → AreSameBelow blocks two three → AreSameBelow blocks one three
 below_on blocks one two three a b m bit lt = b m bit lt ∙ a m bit lt
 

@@ -93,35 +93,6 @@ asked_more turns all blocks names n b old walked new small at others rows there 
     by_either (inl come) = record { block = b; is = at; asked = came x named come }
     by_either (inr had) = are n x small named (sym (others n x (λ p. omega (arith, p, small))) ∙ had)
 
--- what is asked for among names and what was before
-pub any_more : (x y : ℕ) (rest : List ℕ) (old : Bool) → (list_any (λ z. z == x) rest || ((y == x) || old)) ≡ (((y == x) || list_any (λ z. z == x) rest) || old)
-any_more x y rest old = swap (list_any (λ z. z == x) rest) (y == x) old
-  where
-    swap : (a b c : Bool) → (a || (b || c)) ≡ ((b || a) || c)
-    swap true true c = refl
-    swap true false c = refl
-    swap false true c = refl
-    swap false false c = refl
-
--- one name more is asked for
-pub ask_step : {A : Type 0} (view : A → ℕ) (xs : List A) (k : ℕ) (d : A) (x y : ℕ) (old new whole : Bool) → k < length xs → view (get_or xs k d) ≡ y → (x ≡ y → new ≡ true) → (x ≢ y → new ≡ old) → (list_any (λ z. z == x) (map view (drop k xs)) || old) ≡ whole
-    → (list_any (λ z. z == x) (map view (drop (k + 1) xs)) || new) ≡ whole
-ask_step view xs k d x y old new whole lt is here other so_far =
-    let rest : List ℕ = map view (drop (k + 1) xs) in
-    let now : new ≡ ((y == x) || old) = elim (cases_eq x y) [
-      | inl q ↦ here q ∙ sym (ap (λ z. z || old) (eq-eqb y x (sym q)))
-      | inr q ↦ other q ∙ sym (ap (λ z. z || old) (ne_eqb y x (λ r. q (sym r))))
-    ] in
-    ap (λ z. list_any (λ w. w == x) rest || z) now ∙ any_more x y rest old ∙ ap (λ z. (((z == x) || list_any (λ w. w == x) rest) || old)) (sym is)
-    ∙ sym (ap (λ z. z || old) (at_drop_more (λ l. list_any (λ w. w == x) (map view l)) xs k d lt)) ∙ so_far
-
--- a name that is written is forgotten
-pub forget_step : (x y : ℕ) (old new : Bool) → (x ≡ y → new ≡ false) → (x ≢ y → new ≡ old) → new ≡ (not (y == x) && old)
-forget_step x y old new here other = elim (cases_eq x y) [
-  | inl q ↦ here q ∙ sym (ap (λ z. not z && old) (eq-eqb y x (sym q)))
-  | inr q ↦ other q ∙ sym (ap (λ z. not z && old) (ne_eqb y x (λ r. q (sym r))))
-]
-
 -- what is told of one of the blocks behind an end was told before
 pub one_kept : (blocks : ℕ) (e : End) (old new : Marks) (x : ℕ) → AreSameBelow blocks old new → IsToldOfOne blocks e new x → IsToldOfOne blocks e old x
 one_kept blocks e old new x same one = record { l = one.l; among = one.among; within = one.within; told = sym (same one.l x one.within) ∙ one.told }

@@ -49,12 +49,6 @@ no_change = record { pass_length = 0; kind = Removed; place = 0; variable = 0 }
 no_variable : Variable
 no_variable = record { name_length = 0; function = None; position = 0; element = U8; storage = Static 0; count = 0 }
 
-removed_is : (k : Kind) → kind_number k ≡ 0 → k ≡ Removed
-removed_is Removed e = refl
-removed_is Moved e = absurd cc
-removed_is Reused e = absurd cc
-removed_is Replaced e = absurd cc
-
 module _ (f : Form) where
   abbrev pub RowsKept : Type 0
   RowsKept = (i : ℕ) → i < length f.rows → AllTrue (row_tests (sections_of f) i)

@@ -50,22 +50,7 @@ numbered_at P n (y ∷ ys) (suc i) x all e = let same : suc n + i ≡ n + suc i 
 pub numbered_from_zero : {A : Type 0} (P : ℕ → A → Type 0) (xs : List A) (i : ℕ) (x : A) → EachNumbered P 0 xs → slice_get xs i ≡ Some x → P i x
 numbered_from_zero P xs i x all e = let same : 0 + i ≡ i = omega arith in subst (λ m. P m x) same (numbered_at P 0 xs i x all e)
 
--- A fact of each number below the length.
-pub each_number : {A : Type 0} (P : ℕ → Type 0) (xs : List A) → EachNumbered (λ i x. P i) 0 xs → (i : ℕ) → i < length xs → P i
-each_number P xs all i lt =
-    elim (slice_get_cases xs i).1 [
-      | inl there ↦ numbered_from_zero (λ i x. P i) xs i there.0 all there.2
-      | inr past ↦ absurd (omega (arith, past.0, lt))
-    ]
-
 -- Each record has another key than each later one.
 abbrev pub DiffersFromLater : {A B : Type 0} → (A → B) → List A → Type 0
 DiffersFromLater key [] = Unit {0}
 DiffersFromLater key (x ∷ xs) = AllByRecursion (λ y. key x ≢ key y) xs × DiffersFromLater key xs
-
-pub different_distinct : {A B : Type 0} (key : A → B) (xs : List A) → DiffersFromLater key xs → AreDistinct key xs
-different_distinct key [] differ i j x y ei ej same = absurd cc
-different_distinct key (z ∷ zs) differ zero zero x y ei ej same = refl
-different_distinct key (z ∷ zs) differ zero (suc j) x y ei ej same = absurd (each_at (λ w. key z ≢ key w) zs j y differ.0 ej (ap key (same_Some z x ei) ∙ same))
-different_distinct key (z ∷ zs) differ (suc i) zero x y ei ej same = absurd (each_at (λ w. key z ≢ key w) zs i x differ.0 ei (ap key (same_Some z y ej) ∙ sym same))
-different_distinct key (z ∷ zs) differ (suc i) (suc j) x y ei ej same = ap suc (different_distinct key zs differ.1 i j x y ei ej same)

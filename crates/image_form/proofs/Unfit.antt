@@ -76,18 +76,6 @@ unfit_long [] bytes e = omega arith
 unfit_long (t ∷ ts) [] e = absurd (none-some 0 (sym e))
 unfit_long (t ∷ ts) (b ∷ bytes) e = let later = unfit_long ts bytes (met t ts b bytes e).1 in omega (arith, later)
 
--- A byte that does not fit is no further than the end.
-pub unfit_there : (ts : List (ℕ → Bool)) (bytes : List ℕ) (k : ℕ) → first_unfit ts bytes ≡ Some k → k ≤ length bytes
-unfit_there [] bytes k e = absurd (none-some k e)
-unfit_there (t ∷ ts) [] k e = let none = same_Some 0 k e in omega (arith, none)
-unfit_there (t ∷ ts) (b ∷ bytes) k e = elim (cases_Bool (t b)) [
-  | inl v ↦
-      let m = map_some (first_unfit ts bytes) k (sym (fits t ts b bytes v) ∙ e) in
-      let later = unfit_there ts bytes m.0 m.1 in
-      omega (arith, later, m.2)
-  | inr v ↦ let none = same_Some 0 k (sym (unfit t ts b bytes v) ∙ e) in omega (arith, none)
-]
-
 -- A byte that does not fit is the first misfit.
 pub misfit_some : (ts : List (ℕ → Bool)) (bytes : List ℕ) (k : ℕ) → first_unfit ts bytes ≡ Some k → first_misfit ts bytes ≡ Some k
 misfit_some [] bytes k e = absurd (none-some k e)
@@ -165,10 +153,6 @@ module _ (kind : NameKind) (count i : ℕ) (bytes : List ℕ) (d : ℕ) (in_name
       let tests = byte_tests-drop kind count i in_name in
       let empty = drop_all i bytes past in
       ap (option_map (λ k. i + k)) (λ j. first_unfit (tests j) (empty j)) ∙ ap Some none
-
--- From the end of a name on nothing is left to test.
-pub from_end : (kind : NameKind) (count : ℕ) (bytes : List ℕ) → option_map (λ k. count + k) (first_unfit (drop count (byte_tests kind count)) (drop count bytes)) ≡ None
-from_end kind count bytes = let none = drop_all count (byte_tests kind count) (omega (arith, length-byte_tests kind count)) in rw none refl
 
 -- One row more.
 pub table_more : (kind : NameKind) (rows : List (List ℕ)) (i : ℕ) → i < length rows → table_tests kind (take (i + 1) rows) ≡ table_tests kind (take i rows) ++ byte_tests kind (slice_index (get_or rows i []) 0)

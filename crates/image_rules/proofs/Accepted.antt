@@ -27,9 +27,6 @@ is_less a b h = grind (arith, nat_tests)
 not_less : (a b : ℕ) → nat_lt a b ≡ false → b ≤ a
 not_less a b h = grind (arith, nat_tests)
 
-pub are_equal : (a b : ℕ) → (a == b) ≡ true → a ≡ b
-are_equal a b h = grind (arith, nat_tests)
-
 -- ---- Numbers in order
 
 pub ascend_at : (ns : List ℕ) → ascends ns ≡ true → (i a b : ℕ) → slice_get ns i ≡ Some a → slice_get ns (suc i) ≡ Some b → a < b

@@ -29,11 +29,6 @@ pub among_right : {A : Type 0} (xs ys : List A) (x : A) → Among x ys → Among
 among_right [] ys x among = among
 among_right (y ∷ xs) ys x among = behind (among_right xs ys x among)
 
-pub among_all : {A : Type 0} (P : A → Type 0) (xs : List A) (x : A) → AllByRecursion P xs → Among x xs → P x
-among_all P [] x each among = elim among [ ]
-among_all P (y ∷ xs) x each front = each.0
-among_all P (y ∷ xs) x each (behind among) = among_all P xs x each.1 among
-
 both_kinds : {A : Type 0} (P : A → Type 0) (xs ys : List A) → AllByRecursion P xs → AllByRecursion P ys → AllByRecursion P (xs ++ ys)
 both_kinds P [] ys one two = two
 both_kinds P (x ∷ xs) ys one two = (one.0, both_kinds P xs ys one.1 two)

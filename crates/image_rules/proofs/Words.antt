@@ -27,7 +27,7 @@ use Rattle.image_rules.specs.Lying.{IsWordOf}
 use Rattle.image_rules.specs.Tables.{entry_number, entry_place}
 use Rattle.image_rules.specs.Units.{HasOwnPlaces, IsPlaceIn}
 use Rattle.image_rules.proofs.Accepted.{facts_of}
-use Rattle.image_rules.proofs.Functions.{HasEntry, has_entry}
+use Rattle.image_rules.proofs.Functions.{has_entry}
 use Rattle.image_rules.proofs.Given.{Given}
 use Rattle.image_rules.proofs.Lists.{across, all_at, map_at, there}
 use Rattle.image_rules.proofs.ProgramPlaces.{IsEntryOf, entry_only, in_range, numbered_at}

@@ -9,13 +9,6 @@ use Rattle.image_form.specs.declared.recipes.Node.TheVariants as node
 use Rattle.image_tables.specs.Nodes.{AreNewOf, Begin, IsNodeOf, IsPartOf, Naming, operand_node}
 use Rattle.image_tables.proofs.Growing.{begin_fewer, begin_twice, node_kept}
 
--- the element that is put behind a list is the last
-pub get_last : {A : Type 0} (all : List A) (a : A) (k : ℕ) → length all ≤ k → k < length (all ++ (a ∷ [])) → slice_get (all ++ (a ∷ [])) k ≡ Some a
-get_last [] a zero behind within = refl
-get_last [] a (suc k) behind within = absurd (omega (arith, within))
-get_last (b ∷ all) a zero behind within = absurd (omega (arith, behind))
-get_last (b ∷ all) a (suc k) behind within = get_last all a k (omega (arith, behind)) (omega (arith, within))
-
 pub below_or : (a b : ℕ) → (a < b) ⊎ (b ≤ a)
 below_or zero zero = inr (omega arith)
 below_or zero (suc b) = inl (omega arith)

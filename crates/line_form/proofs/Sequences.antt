@@ -22,9 +22,6 @@ piece_more f v xs i d text more whole lt pushed so_far =
     let left = pieces_of f v (drop i xs) ∙ piece_left (λ x. f (v x)) xs i d lt ∙ ap (λ l. f (v (get_or xs i d)) ++ l) (sym (pieces_of f v (drop (i + 1) xs))) in
     ap (λ t. t ++ flat_map f (map v (drop (i + 1) xs))) pushed ∙ append_assoc text (f (v (get_or xs i d))) (flat_map f (map v (drop (i + 1) xs))) ∙ ap (λ l. text ++ l) (sym left) ∙ so_far
 
-pub pieces_done : {A B : Type 0} (f : B → List ℕ) (v : A → B) (xs : List A) (i : ℕ) (text whole : List ℕ) → length xs ≤ i → text ++ flat_map f (map v (drop i xs)) ≡ whole → text ≡ whole
-pieces_done f v xs i text whole past so_far = sym (append-nil text) ∙ ap (λ l. text ++ flat_map f (map v l)) (sym (drop_all i xs past)) ∙ so_far
-
 -- three pieces more
 pub three_more : (a b c d v x y z : List ℕ) → a ≡ v → b ≡ a ++ x → c ≡ b ++ y → d ≡ c ++ z → d ≡ v ++ (x ++ (y ++ z))
 three_more a b c d v x y z e f g h = h ∙ ap (λ t. t ++ z) (g ∙ ap (λ t. t ++ y) (f ∙ ap (λ t. t ++ x) e)) ∙ append_assoc (v ++ x) y z ∙ append_assoc v x (y ++ z)

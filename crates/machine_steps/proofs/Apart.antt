@@ -70,47 +70,6 @@ word_stored a v memory fits =
 
 -- ---- What a load gets elsewhere
 
--- A load of bytes none of which was written gets what it got before.
-pub loaded_apart : (op : LoadOperation) (n a v b : ℕ) (memory : ℕ → ℕ) → (b + load_size op ≤ a) ⊎ (a + n ≤ b) → loaded_at op (with_bytes n a v memory) b ≡ loaded_at op memory b
-loaded_apart op n a v b memory apart = by op (λ k within. byte_outside n a v memory (b + k) (⊎_elim (λ (low : b + load_size op ≤ a). inl (omega arith)) (λ (high : a + n ≤ b). inr (omega arith)) apart))
-  where
-    m : ℕ → ℕ
-    m = with_bytes n a v memory
-
-    first : m (b + 0) ≡ memory (b + 0) → m b ≡ memory b
-    first h = let e : b ≡ b + 0 = omega arith in ap m e ∙ h ∙ ap memory (sym e)
-
-    half : m b ≡ memory b → m (b + 1) ≡ memory (b + 1) → half_at m b ≡ half_at memory b
-    half h0 h1 = ap (λ x. x + m (b + 1) * 256) h0 ∙ ap (λ y. memory b + y * 256) h1
-
-    by : (o : LoadOperation) → ((k : ℕ) → k < load_size o → m (b + k) ≡ memory (b + k)) → loaded_at o m b ≡ loaded_at o memory b
-    by Lb h = ap signed_byte (first (h 0 (omega arith)))
-    by Lh h = ap signed_half (half (first (h 0 (omega arith))) (h 1 (omega arith)))
-    by Lw h =
-        ap (λ x. x + m (b + 1) * 256 + m (b + 2) * 65536 + m (b + 3) * 16777216) (first (h 0 (omega arith)))
-        ∙ ap (λ x. memory b + x * 256 + m (b + 2) * 65536 + m (b + 3) * 16777216) (h 1 (omega arith))
-        ∙ ap (λ x. memory b + memory (b + 1) * 256 + x * 65536 + m (b + 3) * 16777216) (h 2 (omega arith))
-        ∙ ap (λ x. memory b + memory (b + 1) * 256 + memory (b + 2) * 65536 + x * 16777216) (h 3 (omega arith))
-    by Lbu h = first (h 0 (omega arith))
-    by Lhu h = half (first (h 0 (omega arith))) (h 1 (omega arith))
-
-by_order : (n a b : ℕ) → (a < b → a + n ≤ b) → (b < a → b + n ≤ a) → b ≢ a → (b + n ≤ a) ⊎ (a + n ≤ b)
-by_order n a b above below ne = ⊎_elim
-    (λ (low : b < a). inl (below low))
-    (λ (high : a ≤ b). ⊎_elim (λ (more : a < b). inr (above more)) (λ (less : b ≤ a). absurd (ne (omega arith))) (cases_lt a b))
-    (cases_lt b a)
-
--- Two addresses that are multiples of 2, or of 4, are the same or at least so far apart.
-pub halves_apart : (a b : ℕ) → a % 2 ≡ 0 → b % 2 ≡ 0 → b ≢ a → (b + 2 ≤ a) ⊎ (a + 2 ≤ b)
-halves_apart a b ea eb ne = by_order 2 a b (λ h. omega arith) (λ h. omega arith) ne
-
-pub words_apart : (a b : ℕ) → a % 4 ≡ 0 → b % 4 ≡ 0 → b ≢ a → (b + 4 ≤ a) ⊎ (a + 4 ≤ b)
-words_apart a b ea eb ne = by_order 4 a b (λ h. omega arith) (λ h. omega arith) ne
-
--- Two bytes are the same or apart.
-pub bytes_apart : (a b : ℕ) → b ≢ a → (b + 1 ≤ a) ⊎ (a + 1 ≤ b)
-bytes_apart a b ne = by_order 1 a b (λ h. omega arith) (λ h. omega arith) ne
-
 -- ---- Ranges
 
 byte_of_small : (v k : ℕ) → byte_of v k < 256

@@ -72,11 +72,6 @@ load_size_few Lw = (omega arith, omega arith)
 load_size_few Lbu = (omega arith, omega arith)
 load_size_few Lhu = (omega arith, omega arith)
 
-store_size_few : (op : StoreOperation) → (1 ≤ store_size op) × (store_size op ≤ 4)
-store_size_few Sb = (omega arith, omega arith)
-store_size_few Sh = (omega arith, omega arith)
-store_size_few Sw = (omega arith, omega arith)
-
 -- A load at an address of static memory or of the stack gets what memory has there.
 pub loads : (s : State) (op : LoadOperation) (a : ℕ) → length s.code ≤ 262144 → IsDataAt (load_size op) a → loaded s op a ≡ Some (loaded_at op (memory_of s.bytes s.stack) a)
 unfolding loaded location_of

@@ -20,13 +20,6 @@ use Rattle.machine_steps.proofs.Standing.{index_low, next_address, goes_to, goes
 pub distance_leads : (i j : ℕ) → i < 262144 → j ≤ 262144 → word (address_of i + distance i j) ≡ address_of j
 distance_leads i j hi hj = omega arith
 
--- Between any two words of code a jump can go, and a branch if they are less than 1,024 words apart.
-pub jump_distance_fits : (i j : ℕ) → i < 262144 → j < 262144 → IsJumpDistance (distance i j)
-jump_distance_fits i j hi hj = (omega arith, ⊎_elim (λ (back : j < i). inr (omega arith, omega arith)) (λ (on : i ≤ j). inl (omega arith)) (cases_lt j i))
-
-pub branch_distance_fits : (i j : ℕ) → i < 262144 → j < 262144 → j < i + 1024 → i ≤ j + 1024 → IsBranchDistance (distance i j)
-branch_distance_fits i j hi hj near far = (omega arith, ⊎_elim (λ (back : j < i). inr (omega arith, omega arith)) (λ (on : i ≤ j). inl (omega arith)) (cases_lt j i))
-
 -- ---- Where they go
 
 -- A jump to a word of the code goes there.

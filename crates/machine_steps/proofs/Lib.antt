@@ -9,4 +9,3 @@ pub mod Straight
 pub mod Jumping
 pub mod Calling
 pub mod Placing
-pub mod Reading

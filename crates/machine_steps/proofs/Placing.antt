@@ -25,14 +25,6 @@ code_rest p index b (i ∷ front) rest h =
     let r : CodeAt p (index + 1 + length front) (behind false front) rest = code_rest p (index + 1) false front rest h.1 in
     subst (λ c. CodeAt p (index + length (i ∷ front)) c rest) (behind_none front) (subst (λ j. CodeAt p j (behind false front) rest) e r)
 
--- Two parts, one behind the other.
-pub code_both : (p : Program) (index : ℕ) (b : Bool) (front rest : List Instruction) → CodeAt p index b front → CodeAt p (index + length front) (behind b front) rest → CodeAt p index b (front ++ rest)
-code_both p index b [] rest f r = let e : index + 0 ≡ index = omega arith in subst (λ j. CodeAt p j b rest) e r
-code_both p index b (i ∷ front) rest f r =
-    let e : index + length (i ∷ front) ≡ index + 1 + length front = omega arith in
-    let r2 : CodeAt p (index + 1 + length front) (behind false front) rest = subst (λ c. CodeAt p (index + 1 + length front) c rest) (sym (behind_none front)) (subst (λ j. CodeAt p j false rest) e r) in
-    (f.0, code_both p (index + 1) false front rest f.1 r2)
-
 -- What is done by code in two parts, and that it can be done.
 pub done_by_both : (front rest : List Instruction) (h : Holding) → done_by_all (front ++ rest) h ≡ done_by_all rest (done_by_all front h)
 done_by_both [] rest h = refl

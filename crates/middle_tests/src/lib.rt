@@ -1,4 +1,4 @@
-//! Tests of the middle: graphs, facts at their blocks, runs of units, lists of passes and the paths of places. It has no code of its own.
+//! Tests of the middle: graphs, facts at their blocks, lists of passes and the paths of places. It has no code of its own.
 #![tactic(auto)]
 
 #[cfg(test)]
@@ -9,5 +9,3 @@ mod pass_tests;
 mod place_tests;
 #[cfg(test)]
 mod solve_tests;
-#[cfg(test)]
-mod unit_tests;

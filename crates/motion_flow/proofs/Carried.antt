@@ -54,19 +54,3 @@ settled_at flow words number b at there back = by flow.forward refl
     by : (f : Bool) → flow.forward ≡ f → (m n : ℕ) → FlowsBy (map block_view flow.blocks.now) (λ k. slice_index_or flow.reached.now k false) f m n → IsEdgeOf f number m n → n < length words → IsSettled flow.passages.now words m n
     by true is m n edge e lt = subst (λ k. IsSettled flow.passages.now words k n) (sym e) (there is n (target n (subst (λ k. HasEdge (map block_view flow.blocks.now) (λ j. slice_index_or flow.reached.now j false) k n) e edge)) lt)
     by false is m n edge e lt = subst (λ k. IsSettled flow.passages.now words m k) (sym e) (back is m (target m (subst (λ k. HasEdge (map block_view flow.blocks.now) (λ j. slice_index_or flow.reached.now j false) k m) e edge)) (subst (λ k. k < length words) e lt))
-
--- a block that no path reaches has no edges
-pub settled_unreached : (flow : Flow) (words : List ℕ) (number : ℕ) → slice_index_or flow.reached.now number false ≡ false → AreSettledAt flow words number
-settled_unreached flow words number none = by flow.forward
-  where
-    by : (f : Bool) → (m n : ℕ) → FlowsBy (map block_view flow.blocks.now) (λ k. slice_index_or flow.reached.now k false) f m n → IsEdgeOf f number m n → n < length words → IsSettled flow.passages.now words m n
-    by true m n edge e lt = absurd (true≢false (sym edge.comes ∙ ap (λ k. slice_index_or flow.reached.now k false) e ∙ none))
-    by false m n edge e lt = absurd (true≢false (sym edge.comes ∙ ap (λ k. slice_index_or flow.reached.now k false) e ∙ none))
-
--- nor has one that is none
-pub settled_nowhere : (flow : Flow) (words : List ℕ) (number : ℕ) → ((b : Block) → slice_get (map block_view flow.blocks.now) number ≡ Some b → ⊥) → AreSettledAt flow words number
-settled_nowhere flow words number none = by flow.forward
-  where
-    by : (f : Bool) → (m n : ℕ) → FlowsBy (map block_view flow.blocks.now) (λ k. slice_index_or flow.reached.now k false) f m n → IsEdgeOf f number m n → n < length words → IsSettled flow.passages.now words m n
-    by true m n edge e lt = absurd (none edge.block (subst (λ k. slice_get (map block_view flow.blocks.now) k ≡ Some edge.block) e edge.is))
-    by false m n edge e lt = absurd (none edge.block (subst (λ k. slice_get (map block_view flow.blocks.now) k ≡ Some edge.block) e edge.is))

@@ -1,4 +1,3 @@
-pub mod Bringing
 pub mod Carried
 pub mod Leading
 pub mod Whole

@@ -135,6 +135,3 @@ module _ (g : Graph) where
   pub blocks_done : (k : ℕ) (old new : List Case) → length g.blocks ≤ k → Adds (Below (IsReadingAssignment g) block_of k) old new → Adds (IsReadingAssignment g) old new
   blocks_done k old new whole adds =
       adds_last (IsReadingAssignment g) block_of k old new (λ c q. (let within = slice_get_within g.blocks c.block q.stood.block q.stood.is in omega (arith, whole, within))) adds
-
-pub blocks_first : (g : Graph) (old : List Case) → Adds (Below (IsReadingAssignment g) block_of 0) old old
-blocks_first g old = adds_first (IsReadingAssignment g) block_of old

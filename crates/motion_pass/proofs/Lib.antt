@@ -3,7 +3,6 @@ mod Treated
 mod Acting
 mod Moved
 mod Functions
-mod Reading
 mod Along
 mod Within
 mod Leading

@@ -10,46 +10,6 @@ use Rattle.motion_points.specs.Words.{has}
 use Rattle.motion_points.specs.Columns.{is_among, is_marked, is_operand}
 use Rattle.motion_points.proofs.Telling.{one_number}
 
-none_more : (b c : Bool) → b ≡ (b || (c && false))
-none_more true c = refl
-none_more false true = refl
-none_more false false = refl
-
--- no name is marked by what reads none
-pub put_none : (spoiled : List ℕ) (number x n : ℕ) → is_marked spoiled x n ≡ (is_marked spoiled x n || ((n % 64 == number % 64) && is_among x []))
-put_none spoiled number x n = none_more (is_marked spoiled x n) (n % 64 == number % 64)
-
-and_one : (q : Bool) → (q && (true || false)) ≡ q
-and_one true = refl
-and_one false = refl
-
--- one name is marked
-pub put_one : (spoiled : List ℕ) (y after number : ℕ) → y < length spoiled → ((n : ℕ) → has after n ≡ (has (slice_index_or spoiled y 0) n || (n % 64 == number % 64)))
-    → (x n : ℕ) → is_marked (slice_set spoiled y after) x n ≡ (is_marked spoiled x n || ((n % 64 == number % 64) && is_among x (y ∷ [])))
-put_one spoiled y after number lt is x n = elim (cases_eq x y) [
-  | inl e ↦ subst (λ z. is_marked (slice_set spoiled y after) z n ≡ (is_marked spoiled z n || ((n % 64 == number % 64) && is_among z (y ∷ [])))) (sym e)
-      (ap (λ w. has w n) (get_or-set_same spoiled y after 0 lt) ∙ is n ∙ ap (λ b. is_marked spoiled y n || b) (sym (ap (λ b. (n % 64 == number % 64) && (b || false)) (eq-eqb y y refl) ∙ and_one (n % 64 == number % 64))))
-  | inr ne ↦ ap (λ w. has w n) (get_or-set_other spoiled y x after 0 ne) ∙ none_more (is_marked spoiled x n) (n % 64 == number % 64) ∙ ap (λ b. is_marked spoiled x n || ((n % 64 == number % 64) && (b || false))) (sym (ne_eqb x y ne))
-]
-
-or_assoc : (a b c : Bool) → ((a || b) || c) ≡ (a || (b || c))
-or_assoc true b c = refl
-or_assoc false b c = refl
-
-among_both : (x : ℕ) (left right : List ℕ) → is_among x (left ++ right) ≡ (is_among x left || is_among x right)
-among_both x [] right = refl
-among_both x (y ∷ left) right = ap (λ b. (x == y) || b) (among_both x left right) ∙ sym (or_assoc (x == y) (is_among x left) (is_among x right))
-
-both_more : (a q l r : Bool) → ((a || (q && l)) || (q && r)) ≡ (a || (q && (l || r)))
-both_more true q l r = refl
-both_more false true l r = refl
-both_more false false l r = refl
-
--- the names of two lists are marked
-pub put_both : (a b c q : Bool) (x : ℕ) (left right : List ℕ) → b ≡ (a || (q && is_among x left)) → c ≡ (b || (q && is_among x right)) → c ≡ (a || (q && is_among x (left ++ right)))
-put_both a b c q x left right first second =
-    second ∙ ap (λ d. d || (q && is_among x right)) first ∙ both_more a q (is_among x left) (is_among x right) ∙ ap (λ d. a || (q && d)) (sym (among_both x left right))
-
 module _ (all : List Computation) (index : ℕ) where
   -- before the first
   pub column_first : (names x n : ℕ) → is_marked (replicate names 0) x n ≡ (nat_lt (n % 64) 0 && is_operand all n x)

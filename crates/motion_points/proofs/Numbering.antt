@@ -73,9 +73,6 @@ number_found all find are what e is (Some k) found =
     let d = are.only (key_of e) k (sym found) in
     (e, is, d.1 ∙ ap Some (one_key d.0 e d.2))
 
-pub no_number : (all : List Computation) (what : Option Computation) → what ≡ None → IsNumberOf all what None
-no_number all what none = λ d k at there. none-some d (sym none ∙ at)
-
 snoc_below : {A : Type 0} (xs : List A) (y d : A) (k : ℕ) → k < length xs → get_or (xs ++ y ∷ []) k d ≡ get_or xs k d
 snoc_below [] y d k lt = absurd (omega (arith, lt))
 snoc_below (x ∷ xs) y d zero lt = refl

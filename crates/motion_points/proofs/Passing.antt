@@ -48,9 +48,6 @@ pub passed_one : (old mid new all : List Computation) (i : Instruction) (e : Com
     → ((list : List Computation) → AreOnce list mid → AreOnce (list ++ e ∷ []) new) → ArePassed old new all (computed_along rest)
 passed_one old mid new all i e rest is are more = passed_on old mid new all (e ∷ []) (computed_along rest) (subst (λ o. ArePassed old mid all (with_some o (computed_along rest))) is are) more
 
-pub passed_none : (old mid all : List Computation) (i : Instruction) (rest : List Instruction) → computed_by i ≡ None → ArePassed old mid all (computed_along (i ∷ rest)) → ArePassed old mid all (computed_along rest)
-passed_none old mid all i rest is are = subst (λ o. ArePassed old mid all (with_some o (computed_along rest))) is are
-
 -- a block comes first, of which what is told is added
 pub passed_block : (told : ℕ → Bool) (old mid new all : List Computation) (n : ℕ) (b : Block) (rest : List Block) → ArePassed old mid all (computed_in told n (b ∷ rest))
     → ((list : List Computation) → AreOnce list mid → AreOnce (list ++ (if told n then computed_along b.instructions else [])) new) → ArePassed old new all (computed_in told (n + 1) rest)

@@ -19,32 +19,6 @@ use Rattle.motion_points.specs.Numbers.{Key, IsNumberOf, AreNumbersOf}
 use Rattle.motion_points.specs.Columns.{is_among, is_marked, is_operand, is_number, is_spoiled}
 use Rattle.motion_rule.proofs.Keys.{does_it, it_does, same_is, one_key}
 
-or_false : (b : Bool) → (b || false) ≡ b
-or_false true = refl
-or_false false = refl
-
-or_true : (b : Bool) → (b || true) ≡ true
-or_true true = refl
-or_true false = refl
-
-and_true : (b : Bool) → (b && true) ≡ b
-and_true true = refl
-and_true false = refl
-
-and_false : (b : Bool) → (b && false) ≡ false
-and_false true = refl
-and_false false = refl
-
-told_step : (f l d w done written : Bool) → ◌≡◌ {A = Told} (record { first = f || (done && not w); last = (l || done) && not written; done = d || done; written = w || written }) (told_written written (told_done done (record { first = f; last = l; done = d; written = w })))
-told_step f l d w true true = λ i. record { first = f || not w; last = and_false (l || true) i; done = or_true d i; written = or_true w i }
-told_step f l d w true false = λ i. record { first = f || not w; last = (and_true (l || true) ∙ or_true l) i; done = or_true d i; written = or_false w i }
-told_step f l d w false true = λ i. record { first = or_false f i; last = and_false (l || false) i; done = or_false d i; written = or_true w i }
-told_step f l d w false false = λ i. record { first = or_false f i; last = (and_true (l || false) ∙ or_false l) i; done = or_false d i; written = or_false w i }
-
-pub told_words : (f l d w done written : Bool) {a b c e : Bool} → a ≡ (f || (done && not w)) → b ≡ ((l || done) && not written) → c ≡ (d || done) → e ≡ (w || written)
-    → ◌≡◌ {A = Told} (record { first = a; last = b; done = c; written = e }) (told_written written (told_done done (record { first = f; last = l; done = d; written = w })))
-told_words f l d w done written p q r s = (λ i. record { first = p i; last = q i; done = r i; written = s i }) ∙ told_step f l d w done written
-
 -- numbers of one column that are equal but for multiples of 64 are equal
 pub one_number : (n m index : ℕ) → n / 64 ≡ index → m / 64 ≡ index → n % 64 ≡ m % 64 → n ≡ m
 one_number n m index p q r = sym (div-add-mod' n 64) ∙ ap (λ k. k * 64 + n % 64) (p ∙ sym q) ∙ ap (λ k. m / 64 * 64 + k) r ∙ div-add-mod' m 64

@@ -1,4 +1,3 @@
 pub mod Keys
 pub mod Unsafe
-pub mod Unhad
 pub mod Wanted

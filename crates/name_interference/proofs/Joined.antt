@@ -214,17 +214,3 @@ first_told g first is = (told.each, λ x lt. conclude x (get_or first x None) (t
 pub blocks_done : {A : Type 0} (view : A → Block) (left : List A) (first made : List (Option ℕ)) → length left < 1 → with_blocks (map view left) first ≡ made → first ≡ made
 blocks_done view [] first made lt e = e
 blocks_done view (b ∷ left) first made lt e = absurd (omega (arith, lt))
-
--- two names that are joined, and what joins nothing
-pub join_put : (first : List (Option ℕ)) (x y later v : ℕ) → (x ≡ y → ⊥) → later ≡ max x y → v ≡ earliest (get_or first later None) (min x y) → set first later (Some v) ≡ with_join first x y
-join_put first x y later v ne e is =
-    ap (λ w. set first later (Some w)) is ∙ ap (λ m. set first m (Some (earliest (get_or first m None) (min x y)))) e
-    ∙ sym (cond-false (x == y) first (set first (max x y) (Some (earliest (get_or first (max x y) None) (min x y)))) (ne_eqb x y ne))
-
-pub join_same : (first : List (Option ℕ)) (x y : ℕ) → x ≡ y → first ≡ with_join first x y
-join_same first x y e = sym (cond-true (x == y) first (set first (max x y) (Some (earliest (get_or first (max x y) None) (min x y)))) (eq-eqb x y e))
-
-pub join_past : (first : List (Option ℕ)) (x y : ℕ) → (x ≡ y → ⊥) → length first ≤ max x y → first ≡ with_join first x y
-join_past first x y ne past =
-    sym (set_past first (max x y) (Some (earliest (get_or first (max x y) None) (min x y))) past)
-    ∙ sym (cond-false (x == y) first (set first (max x y) (Some (earliest (get_or first (max x y) None) (min x y)))) (ne_eqb x y ne))

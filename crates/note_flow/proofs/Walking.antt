@@ -15,12 +15,6 @@ use Rattle.note_flow.specs.declared.found.Found as declared-found
 use Rattle.note_flow.specs.declared.survey.Survey as declared-survey
 use Rattle.note_flow.specs.Survey.{comes_to, AreFirst, AreEqualAll, BeginsWith, IsChainSound, IsFound, IsReachedSound, IsSound, IsStep, IsWithinNext}
 
--- at first no block is flagged
-pub none_first : (n l : ℕ) → get_or (replicate n false) l false ≡ true → ⊥
-none_first zero l e = true≢false (sym e)
-none_first (suc n) zero e = true≢false (sym e)
-none_first (suc n) (suc l) e = none_first n l e
-
 take_all_of : {A : Type 0} (xs ys : List A) → take (length xs) (xs ++ ys) ≡ xs
 take_all_of [] [] = refl
 take_all_of [] (y ∷ ys) = refl
@@ -33,15 +27,6 @@ take_back xs ys n e = subst (λ k. take k (xs ++ ys) ≡ xs) (sym e) (take_all_o
 -- one chain more
 pub first_more : (chains : List (Vec ℕ)) (old new : List Bool) (c : Vec ℕ) → Among c chains → AreFirst chains old → ((l : ℕ) → get_or new l false ≡ true → (get_or old l false ≡ true) ⊎ BeginsWith c.items l) → AreFirst chains new
 first_more chains old new c among before one l e = elim (one l e) [ inl f ↦ before l f | inr f ↦ (c, f.0, among, f.1) ]
-
--- a flag is put
-pub flag_cases : (xs : List Bool) (i l : ℕ) → get_or (slice_set xs i true) l false ≡ true → (l ≡ i) ⊎ (get_or xs l false ≡ true)
-flag_cases xs i l e = elim (eqb_tells l i) [ inl f ↦ inl f.1 | inr f ↦ inr (sym (get_or-set_other xs i l true false f.1) ∙ e) ]
-
--- a list that is not empty begins with its first one
-pub begins_with : (chain : List ℕ) (l d : ℕ) → 0 < length chain → l ≡ get_or chain 0 d → BeginsWith chain l
-begins_with [] l d lt e = absurd (omega (arith, lt))
-begins_with (n ∷ more) l d lt e = (more, ap (λ k. k ∷ more) (sym e))
 
 pub among_two : {l a b : ℕ} → Among l (a ∷ b ∷ []) → (l ≡ a) ⊎ (l ≡ b)
 among_two front = inl refl

@@ -34,15 +34,6 @@ lost_kept m name x old new put read y r said unread = subst (λ (all : List decl
   | inr e ↦ put_other old x noted.Lost y r e.1 said
 ])
 
--- the scalar of a note, and what it says
-abbrev note_name : ℕ → Instruction → ℕ
-note_name d (Note x v) = x
-note_name d _ = d
-
-abbrev note_says : NoteValue → Instruction → NoteValue
-note_says d (Note x v) = v
-note_says d _ = d
-
 module _ (m : declared-homes.Homes) where
   -- a note
   pub kept_note : (x : ℕ) (v : NoteValue) (n : declared-noted.Noted) (s t : declared-state.State) (i : Instruction) → i ≡ Note x v → t.noted.items ≡ slice_set s.noted.items x n → t.written.items ≡ s.written.items
@@ -96,16 +87,4 @@ joined_put old from now k a b joined lt is lt2 is2 one before x r said too = eli
       subst (λ z. recipe_in (slice_set now k joined) z ≡ Some r) (sym e.1)
       (put_same now k joined lt ∙ one r (sym (at_said now k a (slice_get-get_or now k a lt ∙ ap Some (sym is))) ∙ here) (sym (at_said from k b (slice_get-get_or from k b lt2 ∙ ap Some (sym is2))) ∙ there)))
   | inr e ↦ put_other now k joined x r e.1 (before x r said too)
-]
-
--- one home more was joined, whose names differ
-pub joined_none : (old from now : List (Option ℕ)) (k : ℕ) (a b : Option ℕ) → k < length now → a ≡ get_or now k a → k < length from → b ≡ get_or from k b → (a ≡ b → ⊥)
-    → ((x y : ℕ) → slice_get old x ≡ Some (Some y) → slice_get from x ≡ Some (Some y) → slice_get now x ≡ Some (Some y)) → (x y : ℕ) → slice_get old x ≡ Some (Some y) → slice_get from x ≡ Some (Some y) → slice_get (slice_set now k None) x ≡ Some (Some y)
-joined_none old from now k a b lt is lt2 is2 differ before x y said too = elim (eqb_tells x k) [
-  | inl e ↦ (let here : slice_get now k ≡ Some (Some y) = subst (λ z. slice_get now z ≡ Some (Some y)) e.1 (before x y said too) in
-      let there : slice_get from k ≡ Some (Some y) = subst (λ z. slice_get from z ≡ Some (Some y)) e.1 too in
-      let one : a ≡ Some y = same_Some a (Some y) (sym (slice_get-get_or now k a lt ∙ ap Some (sym is)) ∙ here) in
-      let two : b ≡ Some y = same_Some b (Some y) (sym (slice_get-get_or from k b lt2 ∙ ap Some (sym is2)) ∙ there) in
-      absurd (differ (one ∙ sym two)))
-  | inr e ↦ get_put_other now k None x e.1 ∙ before x y said too
 ]

@@ -17,10 +17,6 @@ use Rattle.note_state.specs.Notes.{recipe_in, recipe_of, told_in, IsBound, IsHel
 use Rattle.numbered_homes.proofs.Lists.{each_all, each_more, get_any, take_one_more}
 use Rattle.note_state.proofs.Steps.{put_cases, said_at, at_said, bound_more, held_behind}
 
--- what is noted where one was lost was noted before, of another scalar
-pub lost_cases : (old : List declared-noted.Noted) (x : ℕ) (y : ℕ) (r : Recipe) → recipe_in (slice_set old x noted.Lost) y ≡ Some r → (y ≢ x) × (recipe_in old y ≡ Some r)
-lost_cases old x y r said = elim (put_cases old x noted.Lost y r said) [ inl f ↦ absurd (none-some r f.1) | inr f ↦ f ]
-
 -- one scalar more was looked at
 pub lose_more : (m : declared-homes.Homes) (name : ℕ) (readers : List ℕ) (i d : ℕ) (old new : List declared-noted.Noted) → i < length readers → ((y : ℕ) (r : Recipe) → recipe_in new y ≡ Some r → recipe_in old y ≡ Some r)
     → ((r : Recipe) → recipe_in new (get_or readers i d) ≡ Some r → IsUnread m r name) → ((y : ℕ) (r : Recipe) → recipe_in old y ≡ Some r → Among y (take i readers) → IsUnread m r name)
@@ -45,17 +41,6 @@ written_by m z k s t u number noted put written less unread kept told size = rec
   kept = λ x r said. kept x r (subst (λ (xs : List declared-noted.Noted). recipe_in xs x ≡ Some r) (sym noted) said);
   told = λ x c said. subst (λ (xs : List declared-noted.Noted). told_in xs x ≡ Some c) noted (told x c said);
   size = size ∙ ap (λ (xs : List declared-noted.Noted). length xs) noted;
-}
-
-pub written_not : (m : declared-homes.Homes) (z : ℕ) (s : declared-state.State) → number_in m z ≡ None → IsWritten m z s s
-written_not m z s number = record {
-  less = λ x r said. said;
-  unread = λ x r said k other. absurd (none-some k (sym number ∙ other));
-  none = λ none. refl;
-  put = λ k other. absurd (none-some k (sym number ∙ other));
-  kept = λ x r said unread. said;
-  told = λ x c said. said;
-  size = refl;
 }
 
 -- one parameter more is bound
@@ -101,14 +86,4 @@ noted_more less more k a b lt is lt2 is2 one before x r small said = elim (eqb_t
       let there = at_said more k b (slice_get-get_or more k b lt2 ∙ ap Some (sym is2)) in
       subst (λ z. recipe_in more z ≡ Some r) (sym e.1) (there ∙ one k r (sym here ∙ subst (λ z. recipe_in less z ≡ Some r) e.1 said)))
   | inr e ↦ before x r (omega (arith, small, e.1)) said
-]
-
--- one home more was compared
-pub written_more : (less more : List (Option ℕ)) (k : ℕ) (a b : Option ℕ) → k < length less → a ≡ get_or less k a → k < length more → b ≡ get_or more k b → ((y : ℕ) → a ≡ Some y → b ≡ Some y)
-    → ((x y : ℕ) → x < k → slice_get less x ≡ Some (Some y) → slice_get more x ≡ Some (Some y)) → (x y : ℕ) → x < k + 1 → slice_get less x ≡ Some (Some y) → slice_get more x ≡ Some (Some y)
-written_more less more k a b lt is lt2 is2 one before x y small there = elim (eqb_tells x k) [
-  | inl e ↦ (let here : slice_get less k ≡ Some a = slice_get-get_or less k a lt ∙ ap Some (sym is) in
-      let same : a ≡ Some y = same_Some a (Some y) (sym here ∙ subst (λ z. slice_get less z ≡ Some (Some y)) e.1 there) in
-      ap (λ z. slice_get more z) e.1 ∙ slice_get-get_or more k b lt2 ∙ ap Some (sym is2) ∙ ap Some (one y same))
-  | inr e ↦ before x y (omega (arith, small, e.1)) there
 ]

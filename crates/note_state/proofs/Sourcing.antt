@@ -56,10 +56,6 @@ told_cases all x n y c e =
 pub told_lost : (old new : List declared-noted.Noted) (x : ℕ) → new ≡ slice_set old x noted.Lost → (y : ℕ) (c : Option ℕ) → told_in new y ≡ Some c → told_in old y ≡ Some c
 told_lost old new x put y c e = elim (told_cases old x noted.Lost y c (subst (λ (all : List declared-noted.Noted). told_in all y ≡ Some c) put e)) [ inl f ↦ absurd (none-some c f.1) | inr f ↦ f.1 ]
 
--- one of two changes is told
-pub told_one : (a b joined c : Option ℕ) → (joined ≡ a) ⊎ (joined ≡ b) → Some joined ≡ Some c → (Some a ≡ Some c) ⊎ (Some b ≡ Some c)
-told_one a b joined c one e = elim one [ inl f ↦ inl (ap Some (sym f) ∙ e) | inr f ↦ inr (ap Some (sym f) ∙ e) ]
-
 -- one scalar more was joined
 pub joined_told : (old from now : List declared-noted.Noted) (k : ℕ) (a b joined : declared-noted.Noted) → k < length now → a ≡ get_or now k a → k < length from → b ≡ get_or from k b → ((c : Option ℕ) → told_of joined ≡ Some c → (told_of a ≡ Some c) ⊎ (told_of b ≡ Some c))
     → ((x : ℕ) (c : Option ℕ) → told_in now x ≡ Some c → (told_in old x ≡ Some c) ⊎ (told_in from x ≡ Some c)) → (x : ℕ) (c : Option ℕ) → told_in (slice_set now k joined) x ≡ Some c → (told_in old x ≡ Some c) ⊎ (told_in from x ≡ Some c)
@@ -70,14 +66,6 @@ joined_told old from now k a b joined lt is lt2 is2 one before x c e = elim (tol
   ]
   | inr f ↦ before x c f.1
 ]
-
--- a change that is no greater is told
-pub told_within : (a b : Option ℕ) → ((d : ℕ) → IsAtMost b d → IsAtMost a d) → IsToldWithin (Some a) (Some b)
-told_within a b most c e = (b, refl, λ d le. subst (λ (o : Option ℕ). IsAtMost o d) (same_Some a c e) (most d le))
-
--- where nothing is told nothing is asked
-pub told_nothing : (more : Option (Option ℕ)) → IsToldWithin None more
-told_nothing more c e = absurd (none-some c e)
 
 -- one scalar more was compared
 pub told_more : (less more : List declared-noted.Noted) (k : ℕ) (a b : declared-noted.Noted) → k < length less → a ≡ get_or less k a → k < length more → b ≡ get_or more k b → IsToldWithin (told_of a) (told_of b)

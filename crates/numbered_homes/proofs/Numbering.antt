@@ -33,18 +33,6 @@ last_append : {A : Type 0} (xs : List A) (y : A) → length xs < length (xs ++ (
 last_append [] y = omega arith
 last_append (x ∷ xs) y = (let e : length xs < length (xs ++ (y ∷ [])) = last_append xs y in omega (arith, e))
 
--- at first no home has a number
-pub none_given : (n i k : ℕ) → slice_get (replicate n None) i ≡ Some (Some k) → ⊥
-none_given zero i k e = none-some (Some k) e
-none_given (suc n) zero k e = none-some k (same_Some None (Some k) e)
-none_given (suc n) (suc i) k e = none_given n i k e
-
-pub orderly_first : (m : declared-homes.Homes) (n : ℕ) → m.numbers.items ≡ replicate n None → AreOrderly m
-orderly_first m n is = record {
-  within = λ i k e. absurd (none_given n i k (subst (λ (xs : List (Option ℕ)). slice_get xs i ≡ Some (Some k)) is e));
-  apart = λ i j k e d. absurd (none_given n i k (subst (λ (xs : List (Option ℕ)). slice_get xs i ≡ Some (Some k)) is e));
-}
-
 pub more_same : (m : declared-homes.Homes) → IsMore m m
 more_same m = record { homes = refl; count = refl; numbers = λ i k e. e; readers = λ k x there. there; orderly = λ o. o }
 

@@ -17,12 +17,6 @@ each_of_both P xs ys left right y among = elim (among_parts xs ys among) [ inl f
 pub each_of_one : (P : ℕ → Type 0) (x : ℕ) → P x → (y : ℕ) → Among y (x ∷ []) → P y
 each_of_one P x here y among = subst P (sym (among_one among)) here
 
-pub each_of_none : (P : ℕ → Type 0) (y : ℕ) → Among y [] → P y
-each_of_none P y there = elim there [ ]
-
-pub among_both : (y : ℕ) (xs ys : List ℕ) → Among y (xs ++ ys) → Among y xs ⊎ Among y ys
-among_both y xs ys among = among_parts xs ys among
-
 -- what tells something of a name tells it of each name that its operand reads
 pub each_of_name : (P : ℕ → Type 0) (x : ℕ) (b : Bool) → (b ≡ true) ↔ P x → (o : Operand) → Name x ≡ o → (b ≡ true) ↔ ((y : ℕ) → Among y (names_of o) → P y)
 each_of_name P x b tells o is = subst (λ (q : Operand). (b ≡ true) ↔ ((y : ℕ) → Among y (names_of q) → P y)) is ((λ e. each_of_one P x (tells.0 e)), (λ all. tells.1 (all x front)))

@@ -134,9 +134,6 @@ same_variable g x v w one two = same_Some v w (sym one ∙ two)
 pub never_of : (log : List Logged) (g : Graph) (p x v : ℕ) → IsVariable g x v → ((number : ℕ) → IsRemoval log p v number → ⊥) → WasNeverRemoved log g p x
 never_of log g p x v is none variable number other removal = none number (subst (λ w. IsRemoval log p w number) (same_variable g x variable v other is) removal)
 
-pub never_none : (log : List Logged) (g : Graph) (p x : ℕ) → option_map (λ (s : Scalar). s.variable) (slice_get g.scalars x) ≡ None → WasNeverRemoved log g p x
-never_none log g p x none variable number is removal = none-some variable (sym none ∙ is)
-
 -- What is told of a note that is lost is so.
 module _ (idle : IdleGraph) (told : ℕ → Bool) (note : NotePoint) (tells : (y : ℕ) → (told y ≡ true) ↔ ComesStale (graph_of idle) y note.spot.block (noted (graph_of idle) note) (end_at (graph_of idle) note.spot.block)) where
   pub lost_told : (log : List Logged) (x : ℕ) (v : NoteValue) → IsToldLost told x v → IsLost log (graph_of idle) note.spot.block (noted (graph_of idle) note) (end_at (graph_of idle) note.spot.block) x v

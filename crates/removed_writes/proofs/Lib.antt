@@ -1,4 +1,3 @@
 mod Instructions
 mod OfBlocks
 pub mod OfUnits
-mod Points

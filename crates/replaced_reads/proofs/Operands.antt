@@ -11,19 +11,6 @@ use Rattle.graph_edits.proofs.Adding.{adds_first, adds_last, adds_next, adds_non
 use Rattle.replaced_reads.specs.Points.{IsReplacedAt, variable_in}
 use Rattle.replaced_reads.specs.Reads.{IsOther}
 
-none_there : {A : Type 0} (o : Option A) (a : A) → o ≡ None → o ≡ Some a → ⊥
-none_there o a e f = let both : None ≡ Some a = sym e ∙ f in absurd (cc)
-
--- what is read by two operands that are there, by none that is not
-pub none_before : (was is : List ℕ) (k : ℕ) → None ≡ slice_get was k → (x : ℕ) → IsOther was is k x → ⊥
-none_before was is k gone x other = none_there (slice_get was k) x (sym gone) other.before
-
-pub none_after : (was is : List ℕ) (k : ℕ) → None ≡ slice_get is k → (x : ℕ) → IsOther was is k x → ⊥
-none_after was is k gone x other = none_there (slice_get is k) other.y (sym gone) other.after
-
-pub same_name : (was is : List ℕ) (k a b : ℕ) → Some a ≡ slice_get was k → Some b ≡ slice_get is k → a ≡ b → (x : ℕ) → IsOther was is k x → ⊥
-same_name was is k a b before after same x other = other.differs (same_Some other.y b (sym other.after ∙ sym after) ∙ sym same ∙ same_Some a x (before ∙ other.before))
-
 abbrev pub operand_of : Case → ℕ
 operand_of c = c.operand
 

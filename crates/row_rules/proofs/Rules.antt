@@ -200,17 +200,6 @@ module _ (p : ProgramTree) (formed : IsWellFormed p) (table : List PlaceRow) (ar
         ascend = rows_ascend;
       }
 
--- Where homes show all variables, there are no nodes,
-pub no_nodes : (t : Telling) (nodes : List Node) (all : List PlaceVerdict) → AreShown all → AreNodesOf t nodes all → nodes ≡ []
-no_nodes t [] all shown needed = refl
-no_nodes t (n ∷ nodes) all shown needed = absurd (none (needed 0 (omega arith)))
-  where
-    no_recipe : (r : declared-recipe.Recipe) (change : ℕ) → told.Home ≡ told.Recovered r change → ⊥
-    no_recipe r change e = cc
-
-    none : IsNodeToldBy t (n ∷ nodes) all 0 → ⊥
-    none one = no_recipe one.recipe one.change (sym (shown one.row one.among) ∙ one.verdict)
-
 -- and nodes that are none keep their rules.
 pub node_rules : (m : Form) → m.nodes ≡ [] → NodeRules m
 node_rules m none = record {

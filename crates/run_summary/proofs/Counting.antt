@@ -20,15 +20,6 @@ use Rattle.run_summary.specs.declared.lines.PairCounts.{PairCounts}
 use Rattle.run_summary.specs.declared.summary.Counts.{Counts}
 use Rattle.run_summary.specs.Summary.{IsStop, counted, counted_all, counted_here, counted_stop}
 
--- what is left of the variables, with the next one counted
-pub counted_more : (locals : List Local) (i : ℕ) (d : Local) (c : PairCounts) → i < length locals
-    → counted_all (map visible_of (drop i locals)) c ≡ counted_all (map visible_of (drop (i + 1) locals)) (counted (sight_of (get_or locals i d).shown) c)
-counted_more [] i d c within = absurd (omega arith)
-counted_more (x ∷ locals) zero d c within = refl
-counted_more (x ∷ locals) (suc i) d c within =
-    let k : suc (i + 1) ≡ suc i + 1 = omega arith in
-    counted_more locals i d c (omega arith) ∙ ap (λ j. counted_all (map visible_of (drop j (x ∷ locals))) (counted (sight_of (get_or locals i d).shown) c)) k
-
 -- how often a run arrives at a stop
 abbrev pub arrivals : List MachineEvent → ℕ
 arrivals [] = 0
@@ -116,17 +107,6 @@ pub over_there : (m : Form) (p : Position) (h : Halt) → halt_at m p ≡ Some h
 over_there m Fresh h e other = absurd (subst HasNone e tt)
 over_there m (Standing s) h e other = absurd (no_stop_there s (place_at m s.pc) h e other)
 over_there m (Over ending) h e other = record { ending = ending; over = refl; halt_is = ap or_limit (sym e) }
-
--- what a stop counts, and what an ending does not
-pub stop_counted : (m : Form) (p : Position) (c : Counts) → Stands p → counted_stop m p c ≡ counted_here (locals_at m p) c
-stop_counted m Fresh c stands = absurd stands
-stop_counted m (Standing s) c stands = refl
-stop_counted m (Over e) c stands = absurd stands
-
-pub end_counted : (m : Form) (p : Position) (c : Counts) → (Stands p → ⊥) → counted_stop m p c ≡ c
-end_counted m Fresh c other = refl
-end_counted m (Standing s) c other = absurd (other tt)
-end_counted m (Over e) c other = refl
 
 abbrev Is : Bool → Type 0
 Is true = Unit {0}

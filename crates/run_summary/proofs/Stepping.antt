@@ -11,28 +11,7 @@ use Rattle.stop_engine.specs.Transcript.{AnyStop, Ending, Fresh, Reach, ran}
 use Rattle.stop_engine.specs.declared.halt.Halt.{Halt}
 use Rattle.run_summary.specs.declared.summary.Counts.{Counts}
 use Rattle.run_summary.specs.Summary.{IsOneStep, IsStepped, IsStop, IsSummed, and_more, counted_here, counted_reach, nothing, over, step}
-use Rattle.run_summary.proofs.Counting.{Stands, arrivals, arrivals_run, end_counted, fewer_left, over_there, stands_there, stop_counted}
-
--- a step that came to a stop, and one that came to the end
-pub to_stop : (old new : RunState) (before middle behind : Counts) (at : Halt) → HasRun AnyStop old new → halt_at new.form new.position ≡ Some at → IsStop at
-    → middle ≡ record before { out = and_more before.out (length new.output) } → behind ≡ counted_here (locals_at new.form new.position) middle → IsOneStep old new before behind at
-to_stop old new before middle behind at went halts stop out here =
-    let stands = stands_there new.form new.position at halts stop in
-    record {
-      went = went;
-      counts = here ∙ ap (counted_here (locals_at new.form new.position)) out ∙ sym (stop_counted new.form new.position (record before { out = and_more before.out (length new.output) }) stands);
-      halts = halts;
-    }
-
-pub to_end : (old new : RunState) (before behind : Counts) (at : Halt) → HasRun AnyStop old new → halt_at new.form new.position ≡ Some at → (IsStop at → ⊥)
-    → behind ≡ record before { out = and_more before.out (length new.output) } → IsOneStep old new before behind at
-to_end old new before behind at went halts other out =
-    let is = over_there new.form new.position at halts other in
-    record {
-      went = went;
-      counts = out ∙ sym (end_counted new.form new.position (record before { out = and_more before.out (length new.output) }) (λ stands. subst Stands is.over stands));
-      halts = halts;
-    }
+use Rattle.run_summary.proofs.Counting.{Stands, arrivals, arrivals_run, fewer_left, over_there, stands_there}
 
 -- A run was stepped so far: it shows this image, its stops are fewer than the instructions that are left, and what comes next is the rest of its steps.
 pub record IsUnderWay (m : Form) (input : List ℕ) (limit : ℕ) (run : RunState) (counts : Counts) (steps : ℕ) : Type 0 where

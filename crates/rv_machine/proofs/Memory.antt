@@ -19,15 +19,6 @@ byte_other xs i j v apart =
     ∙ get_or-set_other _ (i + 1) j _ 0 (λ e. ⊎_elim (λ (h : j < i). omega arith) (λ (h : i + 4 ≤ j). omega arith) apart)
     ∙ get_or-set_other xs i j _ 0 (λ e. ⊎_elim (λ (h : j < i). omega arith) (λ (h : i + 4 ≤ j). omega arith) apart)
 
-pub word_in_other : (xs : List ℕ) (i j v : ℕ) → (j + 4 ≤ i) ⊎ (i + 4 ≤ j) → word_in (with_word xs i v) j ≡ word_in xs j
-unfolding word_in
-word_in_other xs i j v apart =
-    let b0 = byte_other xs i j v (⊎_elim (λ (h : j + 4 ≤ i). inl (omega arith)) (λ (h : i + 4 ≤ j). inr (omega arith)) apart) in
-    let b1 = byte_other xs i (j + 1) v (⊎_elim (λ (h : j + 4 ≤ i). inl (omega arith)) (λ (h : i + 4 ≤ j). inr (omega arith)) apart) in
-    let b2 = byte_other xs i (j + 2) v (⊎_elim (λ (h : j + 4 ≤ i). inl (omega arith)) (λ (h : i + 4 ≤ j). inr (omega arith)) apart) in
-    let b3 = byte_other xs i (j + 3) v (⊎_elim (λ (h : j + 4 ≤ i). inl (omega arith)) (λ (h : i + 4 ≤ j). inr (omega arith)) apart) in
-    rw (b0, b1, b2, b3) refl
-
 -- the four bytes of a word that was written
 pub written_bytes : (xs : List ℕ) (i v : ℕ) → i + 3 < length xs →
     (slice_index (with_word xs i v) i ≡ v % 256) × (slice_index (with_word xs i v) (i + 1) ≡ v / 256 % 256)
@@ -42,10 +33,3 @@ written_bytes xs i v lt =
       get_or-set_other _ (i + 3) (i + 2) _ 0 (λ e. omega arith) ∙ get_or-set_same _ (i + 2) _ 0 (omega arith),
       get_or-set_same _ (i + 3) _ 0 (omega arith),
     )
-
-pub word_in_with_word : (xs : List ℕ) (i v : ℕ) → i + 3 < length xs → v < 4294967296 → word_in (with_word xs i v) i ≡ v
-unfolding word_in
-word_in_with_word xs i v lt fits =
-    let b = written_bytes xs i v lt in
-    let sum : v % 256 + v / 256 % 256 * 256 + v / 65536 % 256 * 65536 + v / 16777216 % 256 * 16777216 ≡ v = omega arith in
-    rw (b.0, b.1, b.2, b.3) sum

@@ -7,10 +7,6 @@ use Rattle.rv_code.specs.Decoding.{decoded}
 use Rattle.rv_code.specs.InForm.{IsInForm}
 use Rattle.rv_code.proofs.RoundTrip.{answer_in_form}
 
--- The instructions of words of 32 bits are ones that a word can spell.
-pub rows_in_form : (ws : List ℕ) → ((k : ℕ) → k < length ws → get_or ws k 0 < 4294967296) → All (λ row. IfSome row IsInForm) (map decoded ws)
-rows_in_form ws h = All-map (λ row. IfSome row IsInForm) decoded ws (All-from_get_or (λ w. IfSome (decoded w) IsInForm) ws 0 (λ k lt. answer_in_form (get_or ws k 0) (decoded (get_or ws k 0)) (h k lt) refl))
-
 -- So is each one of them.
 pub row_in_form : (rows : List (Option Instruction)) (k : ℕ) (row : Option Instruction) → All (λ row. IfSome row IsInForm) rows → k < length rows → row ≡ get_or rows k row → IfSome row IsInForm
 row_in_form rows k row h lt e = subst (λ o. IfSome o IsInForm) (sym e) (h k row lt)

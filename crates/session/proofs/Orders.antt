@@ -8,7 +8,7 @@ use Rattle.line_form.specs.Lines.{line}
 use Rattle.script_form.specs.declared.command.Command.{Command}
 use Rattle.script_form.specs.Script.{Order, order_of, orders}
 use Rattle.stop_engine.specs.EngineState.{EngineState, Answers, lines_of}
-use Rattle.session.proofs.Parts.{IsUnderWay, under_way_next, under_way_part}
+use Rattle.session.proofs.Parts.{IsUnderWay, under_way_part}
 
 -- what is left of the commands
 pub order_left : (commands : List Command) (i : ℕ) (command : Command) → i < length commands → command ≡ get_or commands i command → orders (drop i commands) ≡ order_of command ∷ orders (drop (i + 1) commands)
@@ -18,17 +18,9 @@ order_left (x ∷ commands) (suc i) command lt e =
     let k : suc (i + 1) ≡ suc i + 1 = omega arith in
     order_left commands i command (omega arith) e ∙ ap (λ j. order_of command ∷ orders (drop j (x ∷ commands))) k
 
-pub orders_none : (commands : List Command) (i : ℕ) → length commands ≤ i → orders (drop i commands) ≡ []
-orders_none commands i le = ap orders (drop_all i commands le)
-
 -- the lines of an order come before those of the rest
 lines_split : (old new : EngineState) (order : Order) (more : List Order) (lines : List (List ℕ)) → Answers old new order lines → flat_map line (lines_of old (order ∷ more)) ≡ flat_map line lines ++ flat_map line (lines_of new more)
 lines_split old new order more lines answers = ap (flat_map line) (answers more) ∙ flat_map-append line lines (lines_of new more)
-
--- the lines of an order were taken
-pub order_taken : (whole : List ℕ) (old new : EngineState) (order : Order) (more : List Order) (lines : List (List ℕ)) (entry now after : List ℕ) → Answers old new order lines → after ≡ now ++ flat_map line lines → IsUnderWay whole (flat_map line (lines_of old (order ∷ more))) entry now → IsUnderWay whole (flat_map line (lines_of new more)) entry after
-order_taken whole old new order more lines entry now after answers taken h =
-    under_way_next whole (flat_map line lines) (flat_map line (lines_of new more)) entry now after taken (subst (λ l. IsUnderWay whole l entry now) (lines_split old new order more lines answers) h)
 
 -- a part of them was
 pub order_part : (whole : List ℕ) (old new : EngineState) (order : Order) (more : List Order) (lines : List (List ℕ)) (entry now after : List ℕ) → Answers old new order lines → TakesPart (flat_map line lines) now after → IsUnderWay whole (flat_map line (lines_of old (order ∷ more))) entry now → TakesPart whole entry after

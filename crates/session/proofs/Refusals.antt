@@ -11,11 +11,6 @@ use Rattle.c_source.proofs.Sources.{long_has_no_program, unbroken}
 use Rattle.session.specs.Limits.{Holds}
 use Rattle.session.specs.Front.{IsNotCompiled, IsRefusedSource}
 
--- where nothing is promised, what was refused is
-pub refused_anyway : (promised : Type 0) (text : List ℕ) (code : Code) (line : ℕ) → IsRefusedSource promised text code line → IsRefusedSource ⊥ text code line
-refused_anyway promised text code line r =
-    ⊎_elim (λ e. inl e) (λ (n : IsNotCompiled promised text code line). inr (record { understood = n.understood; cause = λ never. never; code_is = n.code_is; line_is = n.line_is })) r
-
 -- a source of a program is refused only where it is not compiled
 pub refused_uncompiled : (text : List ℕ) (promised : Type 0) (code : Code) (line : ℕ) → HasProgram text → IsRefusedSource promised text code line → IsNotCompiled promised text code line
 refused_uncompiled text promised code line s r = ⊎_elim (λ e. absurd (unbroken text code line s e)) (λ (n : IsNotCompiled promised text code line). n) r

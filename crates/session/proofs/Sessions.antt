@@ -36,44 +36,6 @@ held_is limit (Some text) got h short =
     let all : length text ≤ limit + 1 = omega (arith, length-take (limit + 1) text) in
     ap Some (sym (h ∙ take_all (limit + 1) text all))
 
--- what was loaded is there
-pub held_there : (limit : ℕ) (held : Option (List ℕ)) (got : List ℕ) → Loads held limit got → IsThere held
-held_there limit None got h = h
-held_there limit (Some text) got h = tt
-
--- one that was loaded beyond its limit is longer there
-pub held_beyond : (limit : ℕ) (held : Option (List ℕ)) (got : List ℕ) → Loads held limit got → limit < length got → IsBeyond limit held
-held_beyond limit None got h long = absurd h
-held_beyond limit (Some text) got h long =
-    let len : length got ≡ length (take (limit + 1) text) = ap length h in
-    omega (arith, length-take (limit + 1) text)
-
-pub held_within : (limit : ℕ) (held : Option (List ℕ)) (got : List ℕ) → held ≡ Some got → length got ≤ limit → IsWithin limit held
-held_within limit held got e short = subst (λ h. IsWithin limit h) (sym e) short
-
--- all texts are within their limits
-pub debug_within : (held : Held) (given : DebugGiven) (script input : List ℕ) → IsThere (held given.source) → held given.script ≡ Some script → held given.input ≡ Some input → length script ≤ 1048576 → length input ≤ input_limit → AreWithin held (debug given)
-debug_within held given script input first s i short small = record {
-  first = first;
-  script = held_within 1048576 (held given.script) script s short;
-  input = held_within input_limit (held given.input) input i small;
-}
-
-pub compile_within : (held : Held) (given : CompileGiven) → IsThere (held given.source) → AreWithin held (compile given)
-compile_within held given first = record { first = first; script = tt; input = tt }
-
-pub attach_within : (held : Held) (given : AttachGiven) (image script input : List ℕ) → held given.image ≡ Some image → held given.script ≡ Some script → held given.input ≡ Some input
-    → length image ≤ image_limit → length script ≤ 1048576 → length input ≤ input_limit → AreWithin held (attach given)
-attach_within held given image script input m s i few short small = record {
-  first = held_within image_limit (held given.image) image m few;
-  script = held_within 1048576 (held given.script) script s short;
-  input = held_within input_limit (held given.input) input i small;
-}
-
--- which text was too long
-pub said_too_long : (A : Type 0) (status : Status) (name : String Global) (old new : ℕ) (Long : List ℕ → Type 0) → status ≡ TooLong name → LoadEnds {A = A} (Err status) old new Long → Long (string_bytes name)
-said_too_long A status name old new Long e ends = (subst (λ s. LoadEnds {A = A} (Err s) old new Long) e ends).1
-
 pub holds : (P : List ℕ → Type 0) (held : Option (List ℕ)) (got : List ℕ) → held ≡ Some got → P got → Holds held P
 holds P held got e p = subst (λ h. Holds h P) (sym e) p
 
@@ -164,29 +126,6 @@ debugged held held' given source script input made commands loads is_script is_i
     printed_is = refl;
   };
   truthful = is.image.truthful;
-}
-
--- the image that was loaded
-pub image_text : (image : Image) (bytes : List ℕ) → ImageEnds (Ok image) bytes → IsImageText bytes
-image_text image bytes is = (form image, is.0, is.1)
-
--- why an image was refused
-pub image_refused : (status : Status) (code : Code) (offset : ℕ) (bytes : List ℕ) (held : Held) (given : AttachGiven) → status ≡ ImageRefused code offset → ImageEnds (Err status) bytes → held given.image ≡ Some bytes → ImageIsRefused held (attach given) code offset
-image_refused status code offset bytes held given e ends is = holds (AreNoImage code offset) (held given.image) bytes is (subst (λ s. ImageEnds (Err s) bytes) e ends)
-
--- why a script was, behind an image
-pub attached_script_refused : (status : Status) (code : Code) (line : ℕ) (image : Image) (bytes script : List ℕ) (held : Held) (given : AttachGiven) → status ≡ ScriptRefused code line → ImageEnds (Ok image) bytes → ScriptEnds (Err status) script
-    → held given.image ≡ Some bytes → held given.script ≡ Some script → ScriptIsRefused held (attach given) code line
-attached_script_refused status code line image bytes script held given e is ends is_image is_script = record {
-  before = holds IsImageText (held given.image) bytes is_image (image_text image bytes is);
-  cause = holds (λ t. IsRefused t code line) (held given.script) script is_script (subst (λ s. ScriptEnds (Err s) script) e ends);
-}
-
-pub attached_accepted : (image : Image) (commands : Vec Command Global) (bytes script : List ℕ) (held : Held) (given : AttachGiven) → ImageEnds (Ok image) bytes → ScriptEnds (Ok commands) script
-    → held given.image ≡ Some bytes → held given.script ≡ Some script → AreAccepted held (attach given)
-attached_accepted image commands bytes script held given is asks is_image is_script = record {
-  before = holds IsImageText (held given.image) bytes is_image (image_text image bytes is);
-  script = holds IsScriptText (held given.script) script is_script (orders commands.items, asks);
 }
 
 -- the session played the image that the shelf held

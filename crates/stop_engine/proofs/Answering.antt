@@ -92,15 +92,6 @@ stands_at m (standing.Halted Depth) s place e is = absurd cc
 stands_at m (standing.Halted (Fault address)) s place e is = absurd cc
 stands_at m (standing.Halted Limited) s place e is = absurd cc
 
-pub stands_nowhere : (w : standing_type.Standing) (s : State) → place_of w ≡ None → IsAtNoStop (position_of w s)
-stands_nowhere standing.Fresh s e = tt
-stands_nowhere standing.UnderWay s e = tt
-stands_nowhere (standing.Halted (At k d)) s e = absurd cc
-stands_nowhere (standing.Halted (Exited status)) s e = tt
-stands_nowhere (standing.Halted Depth) s e = tt
-stands_nowhere (standing.Halted (Fault address)) s e = tt
-stands_nowhere (standing.Halted Limited) s e = tt
-
 -- ---- What is said at a stop
 
 pub at_stop-said : (r : RunState) (stop : Stop) (say : State → ℕ → List (List ℕ)) (lines : List (List ℕ)) → IsStopOf r stop → lines ≡ say stop.machine.now stop.place → lines ≡ at_stop r.form r.position say
@@ -115,11 +106,6 @@ lines-of_run old new aim halt out lines all line h at taken outs last pushed =
     let same : position_line new.form new.limit new.position ≡ position_line old.form old.limit new.position = rw (h.image, h.limit) refl in
     ap (map (λ (v : Vec ℕ Global). v.items)) pushed ∙ (map-append (λ (v : Vec ℕ Global). v.items) lines (line ∷ [])
     ∙ (ap (λ l. l ++ line.items ∷ []) (outs ∙ ap out_lines taken) ∙ (ap (λ x. out_lines new.output ++ x ∷ []) (last ∙ (says.line ∙ same)) ∙ ap (run_lines old.form old.limit) (sym h.reach))))
-
-pub at_stop-none : (m : Form) (p : Position) (say : State → ℕ → List (List ℕ)) → IsAtNoStop p → no_stop_line ∷ [] ≡ at_stop m p say
-at_stop-none m Fresh say none = refl
-at_stop-none m (Standing s) say none = absurd none
-at_stop-none m (Over e) say none = refl
 
 -- ---- Sessions with the same marks
 
@@ -184,39 +170,6 @@ lines-same m limit s t (o ∷ orders) same =
     ∙ ap (λ l. said m limit t o ++ (if is_quit o then [] else l)) (lines-same m limit (after m s o) (after m t o) orders answer.next)
 
 -- ---- The answers of an engine
-
--- behind a `quit` nothing is answered
-pub answers-closed : (e : EngineState) (o : Order) → e.has_quit ≡ true → Answers e e o []
-answers-closed e o quit more = rw quit refl
-
-pub answers-quit : (e f : EngineState) → e.has_quit ≡ false → f.has_quit ≡ true → Answers e f Quit []
-answers-quit e f unquit quit more = rw (unquit, quit) refl
-
-pub answers-print : (e : EngineState) (name : List ℕ) (lines : List (List ℕ)) → e.has_quit ≡ false → lines ≡ said e.run.form e.run.limit (session_of e) (Print name) → Answers e e (Print name) lines
-answers-print e name lines unquit is more = rw (unquit, is) refl
-
-pub answers-locals : (e : EngineState) (lines : List (List ℕ)) → e.has_quit ≡ false → lines ≡ said e.run.form e.run.limit (session_of e) Locals → Answers e e Locals lines
-answers-locals e lines unquit is more = rw (unquit, is) refl
-
-pub answers-where : (e : EngineState) (lines : List (List ℕ)) → e.has_quit ≡ false → lines ≡ said e.run.form e.run.limit (session_of e) Where → Answers e e Where lines
-answers-where e lines unquit is more = rw (unquit, is) refl
-
--- the rest is said from where a run leads
-behind-run : (e : EngineState) (run : RunState) (aim : Aim) (more : List Order) → e.has_quit ≡ false → HasRun aim e.run run
-    → lines_from e.run.form e.run.limit (record { marks = e.marks; position = (ran e.run.form aim e.run.position e.run.events).position; events = (ran e.run.form aim e.run.position e.run.events).rest }) more ≡ lines_of (with_run e run) more
-behind-run e run aim more unquit h = rw (unquit, h.image, h.limit, h.reach) refl
-
-pub answers-step : (e : EngineState) (run : RunState) (lines : List (List ℕ)) → e.has_quit ≡ false → HasRun AnyStop e.run run
-    → lines ≡ run_lines e.run.form e.run.limit (ran e.run.form AnyStop e.run.position e.run.events) → Answers e (with_run e run) Step lines
-answers-step e run lines unquit h is more =
-    ap (λ b. if b then [] else lines_from e.run.form e.run.limit (session_of e) (Step ∷ more)) unquit
-    ∙ (ap (λ l. l ++ lines_from e.run.form e.run.limit (after e.run.form (session_of e) Step) more) (sym is) ∙ ap (λ l. lines ++ l) (behind-run e run AnyStop more unquit h))
-
-pub answers-continue : (e : EngineState) (run : RunState) (lines : List (List ℕ)) → e.has_quit ≡ false → HasRun (OneOf e.marks) e.run run
-    → lines ≡ run_lines e.run.form e.run.limit (ran e.run.form (OneOf e.marks) e.run.position e.run.events) → Answers e (with_run e run) Continue lines
-answers-continue e run lines unquit h is more =
-    ap (λ b. if b then [] else lines_from e.run.form e.run.limit (session_of e) (Continue ∷ more)) unquit
-    ∙ (ap (λ l. l ++ lines_from e.run.form e.run.limit (after e.run.form (session_of e) Continue) more) (sym is) ∙ ap (λ l. lines ++ l) (behind-run e run (OneOf e.marks) more unquit h))
 
 pub answers-break : (e f : EngineState) (mark : Mark) (lines : List (List ℕ)) → e.has_quit ≡ false → HasMarked mark e f
     → lines ≡ marked_line mark (break_places e.run.form mark) ∷ [] → Answers e f (Break mark) lines

@@ -62,20 +62,3 @@ among-append (x ∷ xs) ys p = by_test (x == p) refl (among-append xs ys p)
     by_test : (b : Bool) → (x == p) ≡ b → is_among (xs ++ ys) p ≡ (is_among xs p || is_among ys p) → is_among (x ∷ xs ++ ys) p ≡ (is_among (x ∷ xs) p || is_among ys p)
     by_test true t rest = rw t refl
     by_test false t rest = rw t rest
-
-or_else_or : (a b c : Bool) → ((a || b) || c) ≡ (a || (b || c))
-or_else_or true b c = refl
-or_else_or false b c = refl
-
-among-first : (x : ℕ) (xs : List ℕ) (p : ℕ) → is_among (x ∷ xs) p ≡ (x == p || is_among xs p)
-among-first x xs p = by_test (x == p) refl
-  where
-    by_test : (b : Bool) → (x == p) ≡ b → is_among (x ∷ xs) p ≡ (x == p || is_among xs p)
-    by_test true t = rw t refl
-    by_test false t = rw t refl
-
--- a place that is marked more comes before the rest
-pub marked-more : (old new rest : List ℕ) (place : ℕ) → ((p : ℕ) → is_among new p ≡ (is_among old p || place == p)) → (p : ℕ) → is_among (new ++ rest) p ≡ is_among (old ++ place ∷ rest) p
-marked-more old new rest place marked p =
-    among-append new rest p ∙ (ap (λ b. b || is_among rest p) (marked p) ∙ (or_else_or (is_among old p) (place == p) (is_among rest p)
-    ∙ (ap (λ b. is_among old p || b) (sym (among-first place rest p)) ∙ sym (among-append old (place ∷ rest) p))))

@@ -71,11 +71,6 @@ passes-stop m aim events output s rest none p = record {
   passed = all_and_one (IsPassed m aim) p.front (Arrival s) p.passed none;
 }
 
--- where no stop begins, nothing arrives
-pub passes-nowhere : (m : Form) (aim : Aim) (stops : List ℕ) (events : List MachineEvent) (output : List ℕ) (s : State) (rest : List MachineEvent) → is_stop stops s.pc ≡ false
-    → PassesBy m aim events output (arrival stops s ++ rest) → PassesBy m aim events output rest
-passes-nowhere m aim stops events output s rest none p = rw none at p
-
 pub passes-there : (m : Form) (aim : Aim) (stops : List ℕ) (events : List MachineEvent) (output : List ℕ) (s : State) (rest : List MachineEvent) → is_stop stops s.pc ≡ true
     → PassesBy m aim events output (arrival stops s ++ rest) → PassesBy m aim events output (Arrival s ∷ rest)
 passes-there m aim stops events output s rest some p = rw some at p

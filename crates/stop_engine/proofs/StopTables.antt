@@ -216,10 +216,6 @@ struck-more m table i w d e image within entries =
     let front : drop i m.functions ≡ f ∷ drop (i + 1) m.functions = rw add-one (drop-cons m.functions i d within) in
     rw front (struck-step m table w f (drop (i + 1) m.functions) p (numbered-place m.places f.entry e number.0 number.1) word.aligned word.starts (rw entries (word-within m p.address word)))
 
--- a table from which all entries are struck
-pub struck-all : (m : Form) (i a old : ℕ) → length m.functions ≤ i → (if is_entry_of m (drop i m.functions) a then 0 else old) ≡ old
-struck-all m i a old past = rw (drop_all i m.functions past) refl
-
 -- a table of zeros has none
 zeros-index : (n w : ℕ) → slice_index (replicate n 0) w ≡ 0
 zeros-index zero w = refl

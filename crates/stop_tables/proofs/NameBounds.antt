@@ -10,10 +10,6 @@ use Rattle.image_form.specs.Names.{function_name, pass_name, variable_name}
 use Rattle.image_form.specs.Rules.{IsImage}
 use Rattle.image_form.specs.Spelling.{size}
 
--- the sum of a front is no more than the whole sum
-pub sum-front : {A : Type 0} (f : A → ℕ) (xs : List A) (k : ℕ) → sum (map f (take k xs)) ≤ sum (map f xs)
-sum-front f xs k = rw (← take-map f k xs) (sum_by-take-le (λ n. n) (map f xs) k)
-
 -- nor is that of a front and the element behind it
 pub sum-front_more : {A : Type 0} (f : A → ℕ) (xs : List A) (k : ℕ) (d : A) → k < length xs → sum (map f (take k xs)) + f (slice_index_or xs k d) ≤ sum (map f xs)
 sum-front_more f xs k d within =

@@ -81,20 +81,11 @@ local-skip address f frame deep n (v ∷ vs) whole e = by_test (is_of f v) refl 
         subst (λ k. local_target address f frame deep n (v ∷ vs) ≡ local_target address f frame deep k (drop k whole)) (sym here) (ap (local_target address f frame deep n) e)
     by_test false t rest = rw t rest
 
--- the object is the variable at which one stands
-pub local-found : (address f frame deep i offset : ℕ) (d : Variable) (vs : List Variable) → i < length vs → Some offset ≡ local_offset (slice_index_or vs i d) f frame address
-    → Some (Local i deep offset) ≡ local_target address f frame deep i (drop i vs)
-local-found address f frame deep i offset d vs lt is = rw (drop_more vs i d lt, ← is) refl
-
 -- it is none up to the next variable of the function
 pub local-next : (address f frame deep i j : ℕ) (d : Variable) (vs : List Variable) → i < length vs → None ≡ local_offset (slice_index_or vs i d) f frame address
     → j ≡ next_of f (i + 1) (drop (i + 1) vs) → local_target address f frame deep i (drop i vs) ≡ local_target address f frame deep j (drop j vs)
 local-next address f frame deep i j d vs lt is next =
     rw (drop_more vs i d lt, ← is, next) (local-skip address f frame deep (i + 1) (drop (i + 1) vs) vs refl)
-
--- behind the last variable there is none
-pub local-end : (address f frame deep i : ℕ) (vs : List Variable) → length vs ≤ i → local_target address f frame deep i (drop i vs) ≡ None
-local-end address f frame deep i vs past = rw (drop_all i vs past) refl
 
 -- ---- Linking
 
@@ -103,68 +94,6 @@ pub record AreLinked (vs : List Variable) (left : ℕ) (firsts nexts : List ℕ)
   pub rows : length nexts ≡ length vs
   pub first : (f : ℕ) → f < length firsts → slice_index firsts f ≡ next_of f left (drop left vs)
   pub next : (i f : ℕ) (d : Variable) → left ≤ i → i < length vs → (slice_index_or vs i d).function ≡ Some f → slice_index nexts i ≡ next_of f (i + 1) (drop (i + 1) vs)
-
-next-here : (f i : ℕ) (d : Variable) (vs : List Variable) → i < length vs → (slice_index_or vs i d).function ≡ Some f → next_of f i (drop i vs) ≡ i
-next-here f i d vs lt own =
-    let of : is_of f (get_or vs i d) ≡ true = ap (λ o. option_map_or (λ g. g == f) o false) own ∙ eq-eqb f f refl in
-    rw (drop_more vs i d lt, of) refl
-
-next-elsewhere : (f i : ℕ) (d : Variable) (vs : List Variable) → i < length vs → is_of f (slice_index_or vs i d) ≡ false → next_of f i (drop i vs) ≡ next_of f (i + 1) (drop (i + 1) vs)
-next-elsewhere f i d vs lt other = rw (drop_more vs i d lt, other) refl
-
--- at the end nothing is linked
-pub linked-none : (vs : List Variable) (left : ℕ) (first next : List ℕ) → left ≡ length vs → length next ≡ length vs → ((f : ℕ) → f < length first → slice_index first f ≡ length vs)
-    → AreLinked vs left first next
-linked-none vs left first next end rows none = record {
-  rows = rows;
-  first = λ f lt. rw (drop_all left vs (omega (arith, end))) (none f lt ∙ sym end);
-  next = λ i f d le lt own. absurd (omega (arith, end, le, lt));
-}
-
--- a variable of no function is passed by
-pub linked-static : (vs : List Variable) (left : ℕ) (d : Variable) (first next : List ℕ) → AreLinked vs (left + 1) first next → left < length vs → (slice_index_or vs left d).function ≡ None
-    → AreLinked vs left first next
-linked-static vs left d first next so_far lt none = record {
-  rows = so_far.rows;
-  first = λ f within. so_far.first f within ∙ sym (next-elsewhere f left d vs lt (ap (λ o. option_map_or (λ g. g == f) o false) none));
-  next = λ i f e le within own. by_index i f e le within own (cases_Bool (i == left));
-}
-  where
-    by_index : (i f : ℕ) (e : Variable) → left ≤ i → i < length vs → (slice_index_or vs i e).function ≡ Some f → ((i == left) ≡ true) ⊎ ((i == left) ≡ false) → slice_index next i ≡ next_of f (i + 1) (drop (i + 1) vs)
-    by_index i f e le within own (inl same) =
-        let at : i ≡ left = eqb-true i left same in
-        let owner : (slice_index_or vs left d).function ≡ Some f = ap (λ (v : Variable). v.function) (get_or_default vs left d e lt) ∙ (ap (λ k. (slice_index_or vs k e).function) (sym at) ∙ own) in
-        absurd (cc)
-    by_index i f e le within own (inr other) = let apart : i ≢ left = eqb-false i left other in so_far.next i f e (omega (arith, le, apart)) within own
-
--- one variable of a function more
-pub linked-more : (vs : List Variable) (left g : ℕ) (d : Variable) (first next : List ℕ) → AreLinked vs (left + 1) first next → left < length vs → (slice_index_or vs left d).function ≡ Some g → g < length first
-    → AreLinked vs left (slice_set first g left) (slice_set next left (slice_index first g))
-linked-more vs left g d first next so_far lt own known = record {
-  rows = length-set next left (slice_index first g) ∙ so_far.rows;
-  first = λ f within. by_function f (omega (arith, within, length-set first g left)) (cases_Bool (f == g));
-  next = λ i f e le within owner. by_index i f e le within owner (cases_Bool (i == left));
-}
-  where
-    by_function : (f : ℕ) → f < length first → ((f == g) ≡ true) ⊎ ((f == g) ≡ false) → slice_index (slice_set first g left) f ≡ next_of f left (drop left vs)
-    by_function f within (inl same) =
-        let at : f ≡ g = eqb-true f g same in
-        rw at (get_or-set_same first g left 0 known ∙ sym (next-here g left d vs lt own))
-    by_function f within (inr other) =
-        let apart : f ≢ g = eqb-false f g other in
-        let not_of : is_of f (slice_index_or vs left d) ≡ false = ap (λ o. option_map_or (λ h. h == f) o false) own ∙ ne_eqb g f (λ e. apart (sym e)) in
-        get_or-set_other first g f left 0 apart ∙ (so_far.first f within ∙ sym (next-elsewhere f left d vs lt not_of))
-
-    by_index : (i f : ℕ) (e : Variable) → left ≤ i → i < length vs → (slice_index_or vs i e).function ≡ Some f → ((i == left) ≡ true) ⊎ ((i == left) ≡ false)
-        → slice_index (slice_set next left (slice_index first g)) i ≡ next_of f (i + 1) (drop (i + 1) vs)
-    by_index i f e le within owner (inl same) =
-        let at : i ≡ left = eqb-true i left same in
-        let its : (slice_index_or vs left d).function ≡ Some f = ap (λ (v : Variable). v.function) (get_or_default vs left d e lt) ∙ (ap (λ k. (slice_index_or vs k e).function) (sym at) ∙ owner) in
-        let one : g ≡ f = same_Some g f (sym own ∙ its) in
-        rw (at, ← one) (get_or-set_same next left (slice_index first g) 0 (omega (arith, lt, so_far.rows)) ∙ so_far.first g known)
-    by_index i f e le within owner (inr other) =
-        let apart : i ≢ left = eqb-false i left other in
-        get_or-set_other next left i (slice_index first g) 0 apart ∙ so_far.next i f e (omega (arith, le, apart)) within owner
 
 -- the functions of variables are there
 pub owners-there : (m : Form) (n : ℕ) → IsImage m → n ≡ length m.functions → All (λ (v : Variable). IfSome v.function (λ f. f < n)) m.variables

@@ -66,9 +66,6 @@ owned_of number next count (g ∷ more) i f ok is = by (in_two g.variables i (So
 
 -- ---- Objects
 
-least : (m n : ℕ) → m ≤ n → nat_le m n ≡ true
-least m n le = grind (arith, nat_tests, le)
-
 -- a variable that has an object is among those in memory
 kept_there : (n : Names) (base count x k : ℕ) → base ≤ x → x < base + count → object_of n x ≡ Some k → (i : ℕ) × (slice_get (kept_among n (numbers_from base count)) i ≡ Some x)
 kept_there n base zero x k low high named = absurd (omega (arith, low, high))

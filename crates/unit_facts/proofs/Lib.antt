@@ -7,7 +7,6 @@ pub mod Starts
 pub mod TimedStatements
 pub mod TimedFunctions
 pub mod TimedUnits
-pub mod Timed
 pub mod Rules
 pub mod Pieces
 pub mod Expressions

@@ -55,31 +55,3 @@ well_marked u g follows keeps = record {
 
 pub are_well_marked : (u : UnitForm) → IsValid u → FollowFlow u → KeepPlaces u → AreWellMarked u
 are_well_marked u valid follow keep = record { valid = valid; graphs = λ f g is. well_marked u g (follow f g is) (keep f g is) }
-
--- Neither rests on the log.
-follow_relogged : (u : UnitForm) (log : List Logged) → FollowFlow u → FollowFlow (record u { log = log })
-follow_relogged u log follow = λ k g is. (let f = follow k g is in record { begins = f.begins; first = f.first; flows = f.flows; cycles = f.cycles })
-
-keep_relogged : (u : UnitForm) (log : List Logged) → KeepPlaces u → KeepPlaces (record u { log = log })
-keep_relogged u log keep = λ k g is.
-    (let f = keep k g is in
-    record {
-      entry_calls = f.entry_calls;
-      leaves = f.leaves;
-      zeroes = f.zeroes;
-      copies = f.copies;
-      zeroes_first = f.zeroes_first;
-      copies_first = f.copies_first;
-      written_where = f.written_where;
-      noted_where = f.noted_where;
-      noted = f.noted;
-      right = f.right;
-      behind_write = f.behind_write;
-      calls = f.calls;
-      local = f.local;
-      local_at_end = f.local_at_end;
-    })
-
--- A valid unit that is, but for its log, one whose markers follow the flow, and whose places keep this, is well marked.
-pub relogged_well_marked : (u v : UnitForm) → v ≡ record u { log = v.log } → IsValid v → FollowFlow u → KeepPlaces u → AreWellMarked v
-relogged_well_marked u v same valid follow keep = are_well_marked v valid (subst FollowFlow (sym same) (follow_relogged u v.log follow)) (subst KeepPlaces (sym same) (keep_relogged u v.log keep))

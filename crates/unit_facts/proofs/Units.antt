@@ -42,22 +42,3 @@ keep_notes p u well is has only valid k g at =
       local = local p u facts has k f x.is main v;
       local_at_end = local_at_end p u facts has k f x.is main v;
     })
-
--- what a list contains is among it, and the other way round
-contains_among : {A : Type 0} (xs : List A) (a : A) → Contains xs a → Among a xs
-contains_among [] a (k, inside, is) = absurd (omega (arith, inside))
-contains_among (x ∷ xs) a (zero, inside, is) = subst (λ z. Among z (x ∷ xs)) is front
-contains_among (x ∷ xs) a (suc k, inside, is) = behind (contains_among xs a (k, omega (arith, inside), is))
-
-one_behind : {A : Type 0} (x : A) (xs : List A) (a : A) → Contains xs a → Contains (x ∷ xs) a
-one_behind x xs a (k, inside, is) = (suc k, omega (arith, inside), is)
-
-among_contains : {A : Type 0} (xs : List A) (a : A) → Among a xs → Contains xs a
-among_contains [] a there = elim there [ ]
-among_contains (x ∷ xs) a front = (0, omega arith, refl)
-among_contains (x ∷ xs) a (behind there) = one_behind x xs a (among_contains xs a there)
-
--- The same of a valid unit that has the code of the forms, and whose assignments are the program's.
-pub built_notes : (p : ProgramTree) (u : UnitForm) → IsWellFormed p → IsUnitOf p u → ((a : Assignment) → Contains u.assignments a ↔ Contains (assignments_of_program p) a) → IsValid u → KeepNotes u
-built_notes p u well is same valid =
-    keep_notes p u well is (λ a h. contains_among u.assignments a ((same a).1 (among_contains (assignments_of_program p) a h))) (λ a h. contains_among (assignments_of_program p) a ((same a).0 (among_contains u.assignments a h))) valid

@@ -7,9 +7,6 @@ use Rattle.graph_core.specs.Paths.{History, Among, Way, stays, passes, goes, Pat
 use Rattle.graph_marking.proofs.Instances.{NoMarkers}
 use Rattle.graph_marking.proofs.Paths.{BeginsPlace}
 
-some_same : {A : Type 0} {a b : A} → Some a ≡ Some b → a ≡ b
-some_same e = cc
-
 -- A state is kept along ways.
 pub record IsKept (g : Graph) (G : (p : ℕ) → List Instruction → End → Type 0) (Inv : History → List Instruction → End → Type 0) : Type 0 where
   pub begins : (b : Block) → slice_get g.blocks 0 ≡ Some b → Inv [] b.instructions b.end
