@@ -5,3 +5,6 @@ pub mod SameNumbers
 pub mod Starts
 pub mod EachAssigned
 pub mod Counted
+pub mod Classes
+pub mod InFunctions
+pub mod CPlaceTableFitting

@@ -9,7 +9,7 @@ ghost use Rattle.c_flow.specs.Flow.{edge, flow_of, flow_of_all, flow_of_declarat
 
 use crate::beginning::{start, start_of_all, start_of_declarators};
 use crate::edge::{Edge, Ways};
-use c_facts::{has_default, reaches_end};
+use c_places::{has_default, reaches_end};
 use c_tree::{
     Declared, Program, Rvalue, TypedFunction, TypedStart, TypedStatement, TypedStatements,
     TypedStep,

@@ -4,12 +4,12 @@ use Rattle.c_tree.specs.declared.typed_expression.Direction.TheVariants.{Up}
 use Rattle.c_tree.specs.declared.typed_expression.Callee.{Callee}
 use Rattle.c_tree.specs.declared.typed_expression.Callee.TheVariants.{Function, Getchar, Putchar, Exit}
 use Rattle.c_tree.specs.TypedExpressions.{RvalueTree, LvalueTree, ArgumentTrees, Constant, Null, Load, Decay, AddressOf, Convert, Discard, Signed, Not, Arithmetic, Compare, ComparePointers, Move, MoveFrom, Difference, And, Or, Conditional, Comma, Assign, Update, UpdatePointer, Step, StepPointer, Call, Named, Target, Element, ElementFrom, none, first}
-use Rattle.c_memory.specs.declared.value.Value.{Value}
-use Rattle.c_memory.specs.declared.value.Value.TheVariants as value
-use Rattle.c_states.specs.declared.event.Ending.TheVariants as ending
-use Rattle.c_memory.specs.Operations.{arithmetic, signed, convert, comparison, pointer_comparison, pointer_difference, moved_by, operator_of}
-use Rattle.c_states.specs.States.{State, Evaluated, Gives, Leaves, Ends, given, with, afterwards, mapped, usable, both, on_both, tested, on_test, Listed, Lists, listed, fronted, on_list}
-use Rattle.c_states.specs.Steps.{load, store, named, decayed, next_byte, put, leave, truth, located, updated, store_if, replace_if, one}
+use Rattle.c_meaning_values.specs.declared.value.Value.{Value}
+use Rattle.c_meaning_values.specs.declared.value.Value.TheVariants as value
+use Rattle.c_meaning_steps.specs.declared.event.Ending.TheVariants as ending
+use Rattle.c_meaning_values.specs.Operations.{arithmetic, signed, convert, comparison, pointer_comparison, pointer_difference, moved_by, operator_of}
+use Rattle.c_meaning_steps.specs.States.{State, Evaluated, Gives, Leaves, Ends, given, with, afterwards, mapped, usable, both, on_both, tested, on_test, Listed, Lists, listed, fronted, on_list}
+use Rattle.c_meaning_steps.specs.Steps.{load, store, named, decayed, next_byte, put, leave, truth, located, updated, store_if, replace_if, one}
 
 -- what a called function comes to, given its number and the values of its arguments (6.5.2.2)
 abbrev pub Calls : Type 0

@@ -1,3 +1,8 @@
+pub mod Activations
+pub mod Lifetimes
+pub mod Calls
+pub mod StaticStorage
+pub mod CActivationsViews
 pub mod Operands
 pub mod Expressions
 pub mod Statements

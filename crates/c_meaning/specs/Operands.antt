@@ -2,10 +2,10 @@
 use Rattle.std.specs.Prelude.{pos}
 use Rattle.c_tree.specs.declared.typed_expression.Direction.TheVariants.{Up}
 use Rattle.c_tree.specs.TypedExpressions.{RvalueTree, Load, Decay, Convert, Signed, Not, Arithmetic, Compare, ComparePointers, Move, MoveFrom, Difference, Update, UpdatePointer, Step, StepPointer}
-use Rattle.c_memory.specs.declared.value.Value.{Value}
-use Rattle.c_memory.specs.Operations.{arithmetic, signed, convert, comparison, pointer_comparison, pointer_difference, moved_by, operator_of}
-use Rattle.c_states.specs.States.{Evaluated, Leaves, given, with, afterwards, mapped, Both, on_both, tested, on_test}
-use Rattle.c_states.specs.Steps.{load, store, decayed, truth, updated, store_if, replace_if, one}
+use Rattle.c_meaning_values.specs.declared.value.Value.{Value}
+use Rattle.c_meaning_values.specs.Operations.{arithmetic, signed, convert, comparison, pointer_comparison, pointer_difference, moved_by, operator_of}
+use Rattle.c_meaning_steps.specs.States.{Evaluated, Leaves, given, with, afterwards, mapped, Both, on_both, tested, on_test}
+use Rattle.c_meaning_steps.specs.Steps.{load, store, decayed, truth, updated, store_if, replace_if, one}
 
 -- An object was found: it is loaded, an array is used, or its address is taken.
 abbrev pub on_object : RvalueTree → Evaluated → Evaluated

@@ -1,18 +1,18 @@
 -- Calls, and the run of a program (ISO/IEC 9899:2011, 5.1.2.2, 6.5.2.2, 6.9.1).
 use Rattle.std.specs.Prelude.{ℕ, zero, suc, ◌+◌, ◌==◌, Option, Some, None, List, [], ◌∷◌, ◌++◌, length, slice_get}
 use Rattle.c_tree.specs.Programs.{TypedFunctionTree, ProgramTree}
-use Rattle.c_memory.specs.declared.value.Value.{Value}
-use Rattle.c_memory.specs.declared.value.Value.TheVariants.{Number}
-use Rattle.c_states.specs.declared.event.Frame.{Frame}
-use Rattle.c_states.specs.declared.event.Ending.{Ending}
-use Rattle.c_states.specs.declared.event.Ending.TheVariants.{Undefined, Exit, Depth, Turns}
+use Rattle.c_meaning_values.specs.declared.value.Value.{Value}
+use Rattle.c_meaning_values.specs.declared.value.Value.TheVariants.{Number}
+use Rattle.c_meaning_steps.specs.declared.event.Frame.{Frame}
+use Rattle.c_meaning_steps.specs.declared.event.Ending.{Ending}
+use Rattle.c_meaning_steps.specs.declared.event.Ending.TheVariants.{Undefined, Exit, Depth, Turns}
 use Rattle.c_places.specs.Places.{Place, places_of_program, parameters_of}
-use Rattle.c_states.specs.States.{Event, Exited, TooDeep, State, Evaluated, Gives, Leaves, Ends}
+use Rattle.c_meaning_steps.specs.States.{Event, Exited, TooDeep, State, Evaluated, Gives, Leaves, Ends}
 use Rattle.c_meaning.specs.Expressions.{Calls}
-use Rattle.c_activations.specs.Activations.{Activation}
+use Rattle.c_meaning.specs.Activations.{Activation}
 use Rattle.c_meaning.specs.Statements.{execute_all}
-use Rattle.c_activations.specs.Calls.{bind, enter_turn, on_entry, handed_back, at_close, forgotten}
-use Rattle.c_activations.specs.StaticStorage.{first_memory}
+use Rattle.c_meaning.specs.Calls.{bind, enter_turn, on_entry, handed_back, at_close, forgotten}
+use Rattle.c_meaning.specs.StaticStorage.{first_memory}
 
 -- an activation: its entry, its parameters, its body, and its closing brace where control reaches it
 abbrev pub activate : (ℕ → Calls) → Activation → Option TypedFunctionTree → List Value → State → Evaluated

@@ -4,16 +4,16 @@ use Rattle.debug_records.specs.declared.source.Spot.{Spot}
 use Rattle.c_tree.specs.TypedExpressions.{RvalueTree}
 use Rattle.c_tree.specs.TypedStatements as tree
 use Rattle.c_tree.specs.TypedStatements.{InitialTree, Zero, Scalar, Elements, Literal, DeclaredTree, TypedStartTree, Nothing, Declares, StepTree, TypedStatementTree, Block, Declaration, Empty, Run, If, IfElse, While, DoWhile, For, Switch, Break, Continue, Return, TypedStatementTrees, none, first, case, default}
-use Rattle.c_memory.specs.declared.value.Value.{Value}
-use Rattle.c_memory.specs.declared.value.Value.TheVariants.{Number}
-use Rattle.c_memory.specs.declared.value.Phase.TheVariants.{Initialising, Live}
-use Rattle.c_states.specs.declared.event.Ending.TheVariants.{Undefined, Turns}
-use Rattle.c_memory.specs.Memory.{set_value, begun}
+use Rattle.c_meaning_values.specs.declared.value.Value.{Value}
+use Rattle.c_meaning_values.specs.declared.value.Value.TheVariants.{Number}
+use Rattle.c_meaning_values.specs.declared.value.Phase.TheVariants.{Initialising, Live}
+use Rattle.c_meaning_steps.specs.declared.event.Ending.TheVariants.{Undefined, Turns}
+use Rattle.c_meaning_values.specs.Memory.{set_value, begun}
 use Rattle.c_places.specs.Places.{number_at}
-use Rattle.c_states.specs.States.{State, Evaluated, Outcome, Next, Broken, Continued, Returned, Ended, on_value, on_effect, Tested, Holds, tested, choose}
+use Rattle.c_meaning_steps.specs.States.{State, Evaluated, Outcome, Next, Broken, Continued, Returned, Ended, on_value, on_effect, Tested, Holds, tested, choose}
 use Rattle.c_meaning.specs.Expressions.{Calls, evaluate}
-use Rattle.c_activations.specs.Lifetimes.{closed, element_type, made, literal_values, set_values}
-use Rattle.c_activations.specs.Activations.{Activation, depth_of, at}
+use Rattle.c_meaning.specs.Lifetimes.{closed, element_type, made, literal_values, set_values}
+use Rattle.c_meaning.specs.Activations.{Activation, depth_of, at}
 
 -- the next statement, where control goes on
 abbrev pub then_do : Outcome → (State → Outcome) → Outcome

@@ -1,20 +1,20 @@
 -- What expressions and statements come to in an activation of the code.
 use Rattle.std.specs.Prelude.{Option, Some, None, List, ◌++◌, ℕ}
-use Rattle.c_activations.specs.declared.activation.Activation as declared-activation
-use Rattle.c_memory.specs.declared.value.Value.{Value}
-use Rattle.c_states.specs.declared.event.Ending.{Ending}
+use Rattle.c_meaning.specs.declared.activation.Activation as declared-activation
+use Rattle.c_meaning_values.specs.declared.value.Value.{Value}
+use Rattle.c_meaning_steps.specs.declared.event.Ending.{Ending}
 use Rattle.c_tree.specs.TypedExpressions.{RvalueTree, LvalueTree, ArgumentTrees}
 use Rattle.c_tree.specs.TypedStatements.{TypedStatementTree, While, DoWhile, For, TypedStatementTrees, DeclaredTree, StepTree, TypedStartTree}
 use Rattle.c_meaning.specs.Expressions.{evaluate, designate, evaluate_all}
 use Rattle.c_meaning.specs.declared.loops.Round as declared-round
 use Rattle.c_meaning.specs.declared.loops.Round.TheVariants as round
 use Rattle.debug_records.specs.declared.source.Spot.{Spot}
-use Rattle.c_states.specs.States.{State, Evaluated, Outcome, Tested, Listed, Lists, NoList}
-use Rattle.c_activations.specs.Activations.{Activation, depth_of}
+use Rattle.c_meaning_steps.specs.States.{State, Evaluated, Outcome, Tested, Listed, Lists, NoList}
+use Rattle.c_meaning.specs.Activations.{Activation, depth_of}
 use Rattle.c_meaning.specs.Statements.{execute, execute_all, value_at, test_at, check, run, step, begin_loop, declare_all, declare, initialise_elements, while_round, do_round, for_round}
 use Rattle.c_meaning.specs.Runs.{calls_at}
-use Rattle.c_states.specs.Views.{outcome_view}
-use Rattle.c_activations.specs.Views.{activation_view}
+use Rattle.c_meaning_steps.specs.Views.{outcome_view}
+use Rattle.c_meaning.specs.CActivationsViews.{activation_view}
 
 -- values of arguments behind earlier ones
 abbrev pub listed_view : Option Ending → List Value → State → Listed

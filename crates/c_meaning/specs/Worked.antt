@@ -15,12 +15,12 @@ use Rattle.c_tree.specs.TypedStatements.{TypedStatementTree, TypedStatementTrees
 use Rattle.c_tree.specs.TypedStatements as statement
 use Rattle.c_tree.specs.Programs.{AutomaticTree, ProgramTree}
 use Rattle.word_base.specs.Owners.{Variable}
-use Rattle.c_memory.specs.declared.value.Value.TheVariants.{Number}
-use Rattle.c_memory.specs.declared.value.Phase.TheVariants.{Live}
-use Rattle.c_states.specs.declared.event.Ending.{Ending}
-use Rattle.c_states.specs.declared.event.Ending.TheVariants.{Undefined, Exit, Turns}
-use Rattle.c_memory.specs.Memory.{Memory}
-use Rattle.c_states.specs.States.{Shown, Event, Put, Exited, TooDeep, Stop}
+use Rattle.c_meaning_values.specs.declared.value.Value.TheVariants.{Number}
+use Rattle.c_meaning_values.specs.declared.value.Phase.TheVariants.{Live}
+use Rattle.c_meaning_steps.specs.declared.event.Ending.{Ending}
+use Rattle.c_meaning_steps.specs.declared.event.Ending.TheVariants.{Undefined, Exit, Turns}
+use Rattle.c_meaning_values.specs.Memory.{Memory}
+use Rattle.c_meaning_steps.specs.States.{Shown, Event, Put, Exited, TooDeep, Stop}
 use Rattle.c_meaning.specs.Runs.{SourceRun, source_run}
 
 -- a spot on line 1; lines change nothing of a run

@@ -1,12 +1,12 @@
 //! How a loop goes on behind its parts (ISO/IEC 9899:2011, 6.8.5, 6.8.6).
 
 ghost use Rattle.std.specs.Prelude.{◌≡◌};
-ghost use Rattle.c_states.specs.States as states;
-ghost use Rattle.c_states.specs.Views.{outcome_view};
+ghost use Rattle.c_meaning_steps.specs.States as states;
+ghost use Rattle.c_meaning_steps.specs.Views.{outcome_view};
 ghost use Rattle.c_meaning.specs.Statements.{after_body, then_do};
 ghost use Rattle.c_meaning.specs.Views.{round_view};
 
-use c_states::Outcome;
+use c_meaning_steps::Outcome;
 
 /// How a round of a loop ends.
 #[derive(Clone, Copy)]

@@ -2,15 +2,15 @@
 
 ghost use Rattle.std.specs.Prelude.{◌≡◌};
 ghost use Rattle.c_tree.specs.TypedExpressions.{rvalue_view};
-ghost use Rattle.c_states.specs.Views.{both_view, evaluated_view, state_view};
+ghost use Rattle.c_meaning_steps.specs.Views.{both_view, evaluated_view, state_view};
 ghost use Rattle.c_meaning.specs.Operands.{on_object, on_operand, on_operands, on_right_side};
 
-use c_memory::Value;
-use c_states::{
+use c_meaning_steps::{
     Evaluated, Operands, State, arithmetic_from, assigned, comparison_from, convert_from,
     decay_from, difference_from, discard, load_from, moved_behind, moved_from, not_of,
     pointer_comparison_from, sign_from, step, step_pointer, tested, update, update_pointer,
 };
+use c_meaning_values::Value;
 use c_tree::Rvalue;
 
 /// What an expression gives whose object was found.

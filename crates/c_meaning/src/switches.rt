@@ -2,14 +2,14 @@
 
 ghost use Rattle.std.specs.Prelude.{◌≡◌, ◌≤◌, ℕ};
 ghost use Rattle.c_tree.specs.TypedStatements.{statements_view};
-ghost use Rattle.c_states.specs.States as states;
-ghost use Rattle.c_states.specs.Views.{outcome_view};
-ghost use Rattle.c_activations.specs.Activations.{Activation};
+ghost use Rattle.c_meaning_steps.specs.States as states;
+ghost use Rattle.c_meaning_steps.specs.Views.{outcome_view};
+ghost use Rattle.c_meaning.specs.Activations.{Activation};
 ghost use Rattle.c_meaning.specs.Expressions.{Calls};
 ghost use Rattle.c_meaning.specs.Statements.{after_switch, by_label, execute_all, execute_case, execute_default, has_case};
 ghost use Rattle.c_meaning.specs.Weights.{weight_of_statements};
 
-use c_states::Outcome;
+use c_meaning_steps::Outcome;
 use c_tree::TypedStatements;
 
 /// Whether a switch's block has a label for a number.

@@ -3,7 +3,7 @@ use Rattle.std.proofs.Common.{◌≡◌, ℕ, zero, suc, ◌<◌, ◌≤◌, Lis
 use Rattle.c_token.specs.Lexemes.{Lexeme}
 use Rattle.c_tree.specs.Trees.{ItemTree}
 use Rattle.c_parse_tokens.specs.declared.fault.Stuck.{Stuck}
-use Rattle.c_grammar.specs.Reading.{item, items_from}
+use Rattle.c_parse.specs.Reading.{item, items_from}
 
 pub items_go_on : (n j k depth : ℕ) (done : List ItemTree) (i : ItemTree) (ts rest : List Lexeme) (total : Result (List ItemTree) Stuck)
     → 0 < length ts → k < j → j ≤ n → item depth ts ≡ Ok (i, rest) → total ≡ items_from n depth done ts

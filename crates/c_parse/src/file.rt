@@ -8,11 +8,10 @@ ghost use Rattle.c_tree.specs.Declarations.{parameter_view};
 ghost use Rattle.c_tree.specs.Statements.{block_view};
 ghost use Rattle.c_tree.specs.Trees.{function_view, item_view};
 ghost use Rattle.c_parse_tokens.specs.Outcome.{Gives};
-ghost use Rattle.c_grammar.specs.Reading.{parameter_name, parameter, parameters, are_named, body, function, result_stars, objects, external, header, item, items};
+ghost use Rattle.c_parse.specs.Reading.{parameter_name, parameter, parameters, are_named, body, function, result_stars, objects, external, header, item, items};
 
-use c_parse_declarations::{begun_declaration, brackets, identifier, named_declarator};
 use c_parse_expressions::{node, push};
-use c_parse_statements::block;
+use c_parse_statements::{begun_declaration, block, brackets, identifier, named_declarator};
 use c_parse_tokens::{
     Mark, ParseErr, Place, SpecifierList, behind, extent_before, given, is_at, last_before,
     specifiers, spot_at, stars, stuck, want,
@@ -22,7 +21,7 @@ use c_tree::{Block, Brackets, Extent, Function, Header, Identifier, Item, Parame
 use std::alloc::Global;
 
 /// The name of a parameter, if one stands at the front.
-#[tactic(auto, unfolding(c_grammar::specs::Reading::parameter_name))]
+#[tactic(auto, unfolding(crate::specs::Reading::parameter_name))]
 fn parameter_name(
     alloc: Global,
     tokens: &[Token],
@@ -46,7 +45,7 @@ fn parameter_name(
 }
 
 /// A parameter.
-#[tactic(auto, unfolding(c_grammar::specs::Reading::parameter))]
+#[tactic(auto, unfolding(crate::specs::Reading::parameter))]
 fn parameter(
     alloc: Global,
     depth: u32,
@@ -73,7 +72,7 @@ fn parameter(
 }
 
 /// The parameters of a function, up to the closing parenthesis. `(void)` and `()` have none.
-#[tactic(auto, unfolding(c_grammar::specs::Reading::parameters))]
+#[tactic(auto, unfolding(crate::specs::Reading::parameters))]
 fn parameters(
     alloc: Global,
     depth: u32,
@@ -114,7 +113,7 @@ fn are_named(parameters: &[Parameter]) -> bool
 }
 
 /// The body of a function whose parameters all have names, or the semicolon of one that is only declared.
-#[tactic(auto, unfolding(c_grammar::specs::Reading::body))]
+#[tactic(auto, unfolding(crate::specs::Reading::body))]
 fn body<'t>(
     alloc: Global,
     depth: u32,
@@ -135,7 +134,7 @@ fn body<'t>(
 }
 
 /// A function, whose name has been read, from behind its opening parenthesis on.
-#[tactic(auto, unfolding(c_grammar::specs::Reading::function))]
+#[tactic(auto, unfolding(crate::specs::Reading::function))]
 fn function<'t>(
     alloc: Global,
     depth: u32,
@@ -166,7 +165,7 @@ fn function<'t>(
 }
 
 /// How many `*` stand before a declarator's name: none behind `void`.
-#[tactic(auto, unfolding(c_grammar::specs::Reading::result_stars))]
+#[tactic(auto, unfolding(crate::specs::Reading::result_stars))]
 fn result_stars(found: SpecifierList, tokens: &[Token]) -> (usize, &[Token])
     ensures reads { (result.0, lexemes result.1.now) ≡ result_stars found (lexemes tokens.now) }
     ensures not_longer { length result.1.now ≤ length tokens.now }
@@ -178,7 +177,7 @@ fn result_stars(found: SpecifierList, tokens: &[Token]) -> (usize, &[Token])
 }
 
 /// A declaration of objects, whose first declarator begins at the start, behind its name. Of `void` there are none.
-#[tactic(auto, unfolding(c_grammar::specs::Reading::objects))]
+#[tactic(auto, unfolding(crate::specs::Reading::objects))]
 fn objects<'t>(
     alloc: Global,
     depth: u32,
@@ -210,7 +209,7 @@ fn objects<'t>(
 }
 
 /// A function, or a declaration of objects.
-#[tactic(auto, unfolding(c_grammar::specs::Reading::external))]
+#[tactic(auto, unfolding(crate::specs::Reading::external))]
 fn external(alloc: Global, depth: u32, tokens: &[Token]) -> Result<(Item, &[Token]), ParseErr>
     requires { 0 < depth }
     ensures reads { Gives (λ x. (item_view x.0, lexemes x.1.now)) result (external depth (lexemes tokens.now)) }
@@ -241,7 +240,7 @@ fn header(included: c_token::Header) -> Header
 }
 
 /// What stands at the front of a file.
-#[tactic(auto, unfolding(c_grammar::specs::Reading::item))]
+#[tactic(auto, unfolding(crate::specs::Reading::item))]
 fn item(alloc: Global, depth: u32, tokens: &[Token]) -> Result<(Item, &[Token]), ParseErr>
     requires { 0 < depth }
     ensures reads { Gives (λ x. (item_view x.0, lexemes x.1.now)) result (item depth (lexemes tokens.now)) }
@@ -263,7 +262,7 @@ fn item(alloc: Global, depth: u32, tokens: &[Token]) -> Result<(Item, &[Token]),
 }
 
 /// The items of a file, up to the end of the tokens.
-#[tactic(auto, unfolding(c_grammar::specs::Reading::items))]
+#[tactic(auto, unfolding(crate::specs::Reading::items))]
 pub fn items(alloc: Global, depth: u32, tokens: &[Token]) -> Result<Vec<Item>, ParseErr>
     requires { 0 < depth }
     ensures { Gives (λ x. map item_view x.items) result (items depth (lexemes tokens.now)) }

@@ -1,4 +1,4 @@
-//! Trees of lists of tokens: the grammar of C (ISO/IEC 9899:2011, 6.9), as far as the language takes it.
+//! The grammar as a relation of tokens and trees, and the parser that meets it.
 #![tactic(auto)]
 
 mod file;

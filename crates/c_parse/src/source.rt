@@ -1,11 +1,11 @@
 //! The tree of a list of tokens.
 
 ghost use Rattle.std.specs.Prelude.{◌≡◌, map, IfOk, IfErr};
-ghost use Rattle.c_grammar.specs.Files.{IsTreeOf, HasNoTree};
+ghost use Rattle.c_parse.specs.Files.{IsTreeOf, HasNoTree};
 ghost use Rattle.c_token.specs.Lexemes.{lexemes};
 ghost use Rattle.c_tree.specs.Trees.{tree_view};
 ghost use Rattle.debug_records.specs.Refusals.{Answers};
-ghost use Rattle.c_grammar.specs.Reading.{last_line, tree_of, RefusedFor};
+ghost use Rattle.c_parse.specs.Reading.{last_line, tree_of, RefusedFor};
 
 use crate::file::items;
 use c_parse_tokens::{ParseErr, Stuck, spot_at};
@@ -18,7 +18,7 @@ use std::alloc::Global;
 const NESTING: u32 = 64;
 
 /// The line of the last token, from 1; 0 where there is none.
-#[tactic(auto, using(c_parse_tokens::proofs::Tokens::length_lexemes, c_parse_tokens::proofs::Tokens::lexemes_drop), unfolding(c_grammar::specs::Reading::last_line))]
+#[tactic(auto, using(c_parse_tokens::proofs::Tokens::length_lexemes, c_parse_tokens::proofs::Tokens::lexemes_drop), unfolding(crate::specs::Reading::last_line))]
 fn last_line(tokens: &[Token]) -> u32
     ensures { result ≡ last_line (lexemes tokens.now) }
 {
@@ -44,7 +44,7 @@ fn refused(tokens: &[Token], error: ParseErr) -> SourceErr
 }
 
 /// The tree that the tokens of a source make.
-#[tactic(auto, unfolding(c_grammar::specs::Reading::tree_of))]
+#[tactic(auto, unfolding(crate::specs::Reading::tree_of))]
 fn tree(alloc: Global, tokens: &[Token]) -> Result<Tree, SourceErr>
     ensures { Answers tree_view result (tree_of (lexemes tokens.now)) }
 {
@@ -58,7 +58,7 @@ fn tree(alloc: Global, tokens: &[Token]) -> Result<Tree, SourceErr>
 ///
 /// Refused before the first token that no construct takes behind those before it, by E11 for a keyword and by E10 for another token;
 /// by L02 where a construct takes it that is nested over 64 deep. At the end of the tokens E10 has the line of the last one.
-#[tactic(auto, using(c_grammar::proofs::Trees::answer_spelled, c_grammar::proofs::Trees::answer_refused))]
+#[tactic(auto, using(crate::proofs::Trees::answer_spelled, crate::proofs::Trees::answer_refused))]
 pub fn parse(alloc: Global, tokens: &[Token]) -> Result<Tree, SourceErr>
     ensures exact { Answers tree_view result (tree_of (lexemes tokens.now)) }
     ensures spelled { IfOk result (λ t. IsTreeOf (lexemes tokens.now) (tree_view t)) }

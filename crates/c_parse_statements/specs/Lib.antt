@@ -1,1 +1,4 @@
+pub mod Declarations
+pub mod Clauses
+pub mod Headers
 pub mod Statements

@@ -13,8 +13,8 @@ use Rattle.c_parse_tokens.specs.Outcome.{Parser, ◌>>=◌}
 use Rattle.c_parse_tokens.specs.Front.{stuck, refusal, inside, one_less, is_at, behind, want, spot_at, extent_before}
 use Rattle.c_parse_tokens.specs.Specifiers.{begins_type}
 use Rattle.c_parse_expressions.specs.Expressions.{Nesting, nesting}
-use Rattle.c_parse_declarations.specs.Declarations.{declaration}
-use Rattle.c_parse_clauses.specs.Clauses.{begins_statement, condition, for_header, begins_header, expression_statement, return_statement, labels}
+use Rattle.c_parse_statements.specs.Declarations.{declaration}
+use Rattle.c_parse_statements.specs.Clauses.{begins_statement, condition, for_header, begins_header, expression_statement, return_statement, labels}
 
 -- what reads a statement, or a declaration where one may stand
 abbrev pub StatementLevel : Type 0

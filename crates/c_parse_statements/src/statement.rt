@@ -9,11 +9,10 @@ ghost use Rattle.c_parse_tokens.specs.Front.{inside};
 ghost use Rattle.c_parse_expressions.specs.Expressions.{nesting};
 ghost use Rattle.c_parse_statements.specs.Statements.{nested_statement, statement_in, unlabeled, block, branch, if_statement, while_statement, do_statement, for_statement, switch_statement, statements};
 
-use c_parse_clauses::{
-    begins_header, begins_statement, break_statement, condition, continue_statement, empty,
-    expression_statement, for_header, held, labels, return_statement,
+use crate::{
+    begins_header, begins_statement, break_statement, condition, continue_statement, declaration,
+    empty, expression_statement, for_header, held, labels, return_statement,
 };
-use c_parse_declarations::declaration;
 use c_parse_expressions::{node, push};
 use c_parse_tokens::{
     Mark, ParseErr, begins_type, behind, extent_before, given, is_at, one_less, refusal, spot_at,

@@ -1,1 +1,3 @@
+pub mod Memory
+pub mod Flow
 pub mod Places

@@ -5,7 +5,7 @@ use Rattle.debug_records.specs.declared.source.Spot.{Spot}
 use Rattle.c_tree.specs.TypedExpressions.{RvalueTree}
 use Rattle.c_tree.specs.TypedStatements.{DeclaredTree, TypedStartTree, Nothing, Value, Declares, StepTree, TypedStatementTree, Block, Declaration, Empty, Run, If, IfElse, While, DoWhile, For, Switch, Break, Continue, Return, TypedStatementTrees, none, first, case, default}
 use Rattle.c_tree.specs.Programs.{AutomaticTree, TypedFunctionTree, ProgramTree}
-use Rattle.c_facts.specs.Flow.{reaches_end}
+use Rattle.c_places.specs.Flow.{reaches_end}
 use Rattle.c_places.specs.declared.place.Place as declared-place
 
 -- A place: where it stands, in which function, whether it is the function's entry, which is no stop, and the automatic variables in scope there, by position.

@@ -7,7 +7,7 @@ ghost use Rattle.c_tree.specs.TypedStatements.{declared_view, start_view, statem
 ghost use Rattle.c_places.specs.Places.{brought, brought_by_body, brought_by_start, close_of, entry_of, parameters_of, place_view, places_of, places_of_all, places_of_declarators, places_of_function, places_of_head, places_of_program, places_of_start, places_of_step, stop};
 
 use crate::place::Place;
-use c_facts::reaches_end;
+use crate::reaches_end;
 use c_tree::{
     Declared, Program, Rvalue, TypedFunction, TypedStart, TypedStatement, TypedStatements,
     TypedStep,

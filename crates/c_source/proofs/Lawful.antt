@@ -3,12 +3,12 @@ use Rattle.std.proofs.Common.{◌≡◌, ℕ, List, true}
 use Rattle.std.specs.Prelude.{Ok}
 use Rattle.c_tree.specs.Programs.{ProgramTree}
 use Rattle.c_flow.specs.Tables.{Fits32}
-use Rattle.c_laws.specs.Laws.{IsWellFormed}
-use Rattle.c_laws.specs.Names.{HasNames}
-use Rattle.c_laws.specs.Spots.{HasSpots}
-use Rattle.c_laws.specs.Statics.{are_bytes}
-use Rattle.c_readings.proofs.AcceptedTexts.{accepted_tree}
-use Rattle.c_texts.proofs.Texts.{text_well_formed, text_has_names, text_has_spots}
+use Rattle.c_type_laws.specs.Laws.{IsWellFormed}
+use Rattle.c_type_laws.specs.Names.{HasNames}
+use Rattle.c_type_laws.specs.Spots.{HasSpots}
+use Rattle.c_type_laws.specs.Statics.{are_bytes}
+use Rattle.c_source.proofs.AcceptedTexts.{accepted_tree}
+use Rattle.c_source.proofs.Texts.{text_well_formed, text_has_names, text_has_spots}
 use Rattle.c_source.specs.Sources.{program_of_source}
 
 -- A text of bytes is of a program that keeps the laws and fits in numbers of 32 bits.

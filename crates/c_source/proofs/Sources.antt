@@ -14,7 +14,7 @@ use Rattle.c_token.specs.Texts.{tokens_from, tokens_of}
 use Rattle.c_tree.specs.Trees.{ItemTree}
 use Rattle.c_tree.specs.Programs.{ProgramTree}
 use Rattle.c_type.specs.Programs.{checked}
-use Rattle.c_grammar.specs.Reading.{tree_of}
+use Rattle.c_parse.specs.Reading.{tree_of}
 use Rattle.c_source.specs.Sources.{HasProgram, program_of_source}
 
 -- the first fault of the tokens is that of the source

@@ -4,7 +4,7 @@ use Rattle.debug_records.specs.declared.code.Code.{Code}
 use Rattle.c_token.specs.Reading.{◌>>=◌}
 use Rattle.c_token.specs.Texts.{tokens_of}
 use Rattle.c_tree.specs.Programs.{ProgramTree}
-use Rattle.c_grammar.specs.Reading.{tree_of}
+use Rattle.c_parse.specs.Reading.{tree_of}
 use Rattle.c_type.specs.Programs.{checked}
 
 -- the program of a source, by its tokens, the grammar and the rules of names and types; or the code and the line of its first fault

@@ -1,4 +1,4 @@
-//! From the text of a source to its typed program.
+//! The program of a text, and that it keeps the laws of accepted programs.
 #![tactic(auto)]
 
 mod source;

@@ -2,9 +2,9 @@
 
 ghost use Rattle.std.specs.Prelude.{IfOk};
 ghost use Rattle.c_flow.specs.Tables.{Fits32};
-ghost use Rattle.c_laws.specs.Laws.{IsWellFormed};
-ghost use Rattle.c_laws.specs.Names.{HasNames};
-ghost use Rattle.c_laws.specs.Spots.{HasSpots};
+ghost use Rattle.c_type_laws.specs.Laws.{IsWellFormed};
+ghost use Rattle.c_type_laws.specs.Names.{HasNames};
+ghost use Rattle.c_type_laws.specs.Spots.{HasSpots};
 ghost use Rattle.c_source.specs.Sources.{program_of_source};
 ghost use Rattle.c_tree.specs.Programs.{program_view};
 ghost use Rattle.debug_records.specs.Refusals.{Answers};

@@ -5,7 +5,7 @@ use Rattle.std.specs.Prelude.{map}
 use Rattle.std.proofs.lemmas.List.{take-map, drop-map}
 use Rattle.c_tree.specs.declared.program.AutomaticVariable.{AutomaticVariable}
 use Rattle.c_tree.specs.Programs.{AutomaticTree, TypedFunctionTree, automatic_view}
-use Rattle.c_facts.specs.Flow.{reaches_end}
+use Rattle.c_places.specs.Flow.{reaches_end}
 use Rattle.c_type_bounds.specs.Visible.{at_close, at_function, at_statements, behind_statements, parameter_names}
 
 -- some of the variables, as trees

@@ -5,7 +5,7 @@ use Rattle.debug_records.specs.declared.source.Spot.{Spot}
 use Rattle.c_tree.specs.Programs.{AutomaticTree, ProgramTree, TypedFunctionTree}
 use Rattle.c_tree.specs.TypedExpressions.{RvalueTree}
 use Rattle.c_tree.specs.TypedStatements.{DeclaredTree, TypedStartTree, Nothing, Value, Declares, StepTree, TypedStatementTree, Block, Declaration, Empty, Run, If, IfElse, While, DoWhile, For, Switch, Break, Continue, Return, TypedStatementTrees, none, first, case, default}
-use Rattle.c_facts.specs.Flow.{reaches_end}
+use Rattle.c_places.specs.Flow.{reaches_end}
 use Rattle.c_places.specs.Places.{Place, stop, visible, brought, brought_by_body, brought_by_start, parameters_of, places_of, places_of_all, places_of_declarators, places_of_start, places_of_head, places_of_step, entry_of, close_of, places_of_function, places_of_functions}
 use Rattle.c_type_bounds.specs.Visible.{at_close, at_declared, at_function, at_functions, at_head, at_start, at_statement, at_statements, at_step, behind_all, behind_one, behind_scope, behind_start, behind_statement, behind_statements, visible_at, visible_pairs}
 use Rattle.c_type_bounds.proofs.DistinctNames.{as_many}

@@ -6,7 +6,7 @@ use Rattle.debug_records.specs.Refusals.{Refuses}
 use Rattle.debug_records.specs.declared.code.TheConstants.Code.{FUNCTION_WEIGHT, PROGRAM_WEIGHT, FUNCTION_OBJECTS, STATIC_OBJECTS, FUNCTION_COUNT, VISIBLE_PAIRS}
 use Rattle.c_tree.specs.Programs.{AutomaticTree, StaticTree, LiteralTree, TypedFunctionTree, ProgramTree}
 use Rattle.c_type_rules.specs.Integers.{object_size, room}
-use Rattle.c_facts.specs.Memory.{kept_by_all}
+use Rattle.c_places.specs.Memory.{kept_by_all}
 use Rattle.c_type_bounds.specs.Visible.{visible_pairs}
 
 -- variables of which one is in memory

@@ -6,7 +6,7 @@ use Rattle.std.specs.Str.{bytes_eq}
 use Rattle.c_tree.specs.Programs.{AutomaticTree, ProgramTree, TypedFunctionTree}
 use Rattle.c_tree.specs.TypedExpressions.{RvalueTree}
 use Rattle.c_tree.specs.TypedStatements.{DeclaredTree, TypedStartTree, Nothing, Value, Declares, StepTree, TypedStatementTree, Block, Declaration, Empty, Run, If, IfElse, While, DoWhile, For, Switch, Break, Continue, Return, TypedStatementTrees, none, first, case, default}
-use Rattle.c_facts.specs.Flow.{reaches_end}
+use Rattle.c_places.specs.Flow.{reaches_end}
 use Rattle.c_places.specs.Places.{Place, name_of, parameters_of, places_of_program, visible}
 
 -- how many variables are visible at places, in all

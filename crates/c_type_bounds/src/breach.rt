@@ -8,7 +8,7 @@ ghost use Rattle.c_type_bounds.specs.Counts.{capped};
 use crate::count::plus;
 use crate::room::{literal_room, memory_room, static_room};
 use crate::visible::visible_pairs;
-use c_facts::kept_in_memory;
+use c_places::kept_in_memory;
 use c_tree::{AutomaticVariable, Program, TypedFunction};
 use debug_records::{Code, SourceErr};
 use std::alloc::{AllocError, Global};

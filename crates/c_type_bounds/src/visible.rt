@@ -12,7 +12,7 @@ ghost use Rattle.c_type_bounds.specs.Counts.{capped};
 ghost use Rattle.c_type_bounds.specs.Visible.{at_declared, at_function, at_head, at_start, at_statement, at_statements, at_step, behind_all, behind_one, behind_scope, behind_start, behind_statement, behind_statements, names_view, visible_pairs, with_visible};
 
 use crate::count::plus;
-use c_facts::reaches_end;
+use c_places::reaches_end;
 use c_tree::{
     AutomaticVariable, Declared, Program, Rvalue, TypedFunction, TypedStart, TypedStatement,
     TypedStatements, TypedStep,

@@ -4,10 +4,10 @@
 #[cfg(test)]
 mod tests;
 
+use cdbg_passes::{CopyPropagation, DeadRemoval, LazyMotion};
 use line_form::{Status, fault_text};
 use outside::{FileShelf, Shelf, Sink, StdoutSink};
-use pass_runs::UnitPass;
-use program_passes::{CopyPropagation, DeadRemoval, LazyMotion};
+use pass_law::UnitPass;
 use session::session;
 use std::alloc::{AllocError, Global};
 use std::process::ExitCode;

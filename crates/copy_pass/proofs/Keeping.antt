@@ -1,8 +1,8 @@
 -- What copy propagation keeps of functions.
 use Rattle.std.proofs.Common.{List, [], ◌∷◌, ap}
 use Rattle.graph_core.specs.Graphs.{Graph}
-use Rattle.graph_edits.specs.Kept.{EachFunction, KeepsAllButBlocks}
-use Rattle.copy_rule.specs.Copying.{IsPropagated}
+use Rattle.pass_law.specs.Kept.{EachFunction, KeepsAllButBlocks}
+use Rattle.copy_pass_rule.specs.Copying.{IsPropagated}
 
 propagated_keeps : (g h : Graph) → IsPropagated g h → KeepsAllButBlocks g h
 propagated_keeps g h p = record {

@@ -1,1 +1,4 @@
+mod Instructions
+mod OfBlocks
+mod Operands
 pub mod Keeping

@@ -2,7 +2,7 @@
 
 use crate::regions::Regions;
 use crate::sources::{Copied, Sources};
-use copy_rule::CopyAt;
+use copy_pass_rule::CopyAt;
 use graph_core::{Block, Instr, Operand, Scalar};
 use std::alloc::AllocError;
 

@@ -3,7 +3,7 @@
 use crate::blocks::Walk;
 use crate::regions::{Regions, number_of};
 use crate::sources::Sources;
-use copy_rule::CopyAt;
+use copy_pass_rule::CopyAt;
 use graph_core::{Block, Scalar};
 use graph_paths::reached_in_order;
 use std::alloc::{AllocError, Global};

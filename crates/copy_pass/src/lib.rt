@@ -1,10 +1,14 @@
-//! Copy propagation: what is read of a scalar that another one was copied to is read of that other one.
+//! Copy propagation: the search, its changes, the unit.
 #![tactic(auto)]
 
 mod blocks;
 mod graphs;
+mod names;
 mod propagation;
 mod regions;
+mod replaced_reads_blocks;
+mod replaced_reads_graphs;
 mod sources;
 
 pub use propagation::propagate_copies;
+pub use replaced_reads_graphs::replaced_reads;

@@ -5,17 +5,17 @@ ghost use Rattle.debug_records.specs.Change.{pass_name};
 ghost use Rattle.debug_records.specs.declared.change.Kind.TheVariants.{Replaced};
 ghost use Rattle.graph_core.specs.Graphs.{graph_view, unit_view};
 ghost use Rattle.graph_core.specs.Validity.{IsValid};
-ghost use Rattle.copy_rule.specs.Copying.{IsPropagated};
-ghost use Rattle.graph_edits.specs.Changes.{AddsChangesOf};
-ghost use Rattle.graph_edits.specs.Kept.{AddsChanges, EachFunction, KeepsAllButBlocks, ShareTheSame};
-ghost use Rattle.replaced_reads.specs.Reads.{IsReplacedRead};
+ghost use Rattle.copy_pass_rule.specs.Copying.{IsPropagated};
+ghost use Rattle.pass_law.specs.Changes.{AddsChangesOf};
+ghost use Rattle.pass_law.specs.Kept.{AddsChanges, EachFunction, KeepsAllButBlocks, ShareTheSame};
+ghost use Rattle.copy_pass.specs.Reads.{IsReplacedRead};
 
 use crate::graphs::copies_of;
-use copy_rule::propagated;
+use crate::replaced_reads;
+use copy_pass_rule::propagated;
 use debug_records::{Kind, PassName};
 use graph_core::{Graph, Unit};
-use graph_edits::log_cases;
-use replaced_reads::replaced_reads;
+use pass_law::log_cases;
 use std::alloc::{AllocError, Global};
 
 /// The name of the pass.

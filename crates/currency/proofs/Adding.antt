@@ -6,9 +6,9 @@ use Rattle.std.specs.Global.{Vec}
 use Rattle.std.proofs.lemmas.Bool.Decides.{eqb_tells}
 use Rattle.debug_records.specs.declared.change.Var as declared-var
 use Rattle.graph_core.specs.Paths.{Among, front}
-use Rattle.numbered_homes.proofs.Lists.{among_left, among_one, among_parts, among_right, get_put_other, get_put_same}
-use Rattle.hiding_changes.specs.declared.causes.Cause as declared-cause
-use Rattle.home_writers.specs.declared.writers.Writer as declared-writer
+use Rattle.currency_notes.proofs.Lists.{among_left, among_one, among_parts, among_right, get_put_other, get_put_same}
+use Rattle.currency_hiding.specs.declared.causes.Cause as declared-cause
+use Rattle.currency_writers.specs.declared.writers.Writer as declared-writer
 use Rattle.currency.specs.declared.telling.Told as declared-told
 use Rattle.currency.specs.declared.telling.Told.TheVariants as told
 use Rattle.currency.specs.declared.telling.ToldVariable as declared-variable
@@ -16,7 +16,7 @@ use Rattle.currency.specs.declared.told.ToldPlaces as declared-places
 use Rattle.currency.specs.declared.verdict.Verdict as declared-verdict
 use Rattle.currency.specs.declared.verdict.Verdict.TheVariants as verdict
 use Rattle.currency.specs.Telling.{told_at, IsCauseOf, IsToldOne, IsVerdictOf}
-use Rattle.hiding_changes.specs.declared.causes.Cause.TheVariants as cause
+use Rattle.currency_hiding.specs.declared.causes.Cause.TheVariants as cause
 
 pub cause_removed : (z : declared-cause.Cause) (n start : ℕ) → z ≡ cause.Removed n start → IsCauseOf z (verdict.Noncurrent n (record { 0 = start }) None)
 cause_removed z n start e = subst (λ (y : declared-cause.Cause). IsCauseOf y (verdict.Noncurrent n (record { 0 = start }) None)) (sym e) refl

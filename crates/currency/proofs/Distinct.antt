@@ -8,9 +8,9 @@ use Rattle.std.proofs.lemmas.Option.{none-some, same_Some}
 use Rattle.graph_homes.specs.declared.home.Home.{Home}
 use Rattle.graph_homes.specs.declared.home.Home.TheVariants.{Register, Slot}
 use Rattle.graph_core.specs.Graphs.{Graph}
-use Rattle.homed_unit.specs.Homed.{HomedForm, HaveHomes, AreHomesOf, IsHomeAmong, IsHomeRegister, homes_in}
-use Rattle.numbered_homes.specs.Homes.{home_in, number_at}
-use Rattle.note_flow.specs.Shown.{AreDistinct}
+use Rattle.graph_homes.specs.Homed.{HomedForm, HaveHomes, AreHomesOf, IsHomeAmong, IsHomeRegister, homes_in}
+use Rattle.currency_notes.specs.Homes.{home_in, number_at}
+use Rattle.currency_shown.specs.Shown.{AreDistinct}
 
 all_at : {A : Type 0} (P : A → Type 0) (xs : List A) (k : ℕ) (a : A) → AllByRecursion P xs → slice_get xs k ≡ Some a → P a
 all_at P [] k a all e = absurd (none-some a e)

@@ -15,11 +15,11 @@ use Rattle.graph_core.specs.declared.graph.Graph as declared-graph
 use Rattle.graph_core.specs.Graphs.{Logged, Scalar, Recipe, graph_view, recipe_view, scalar_view}
 use Rattle.graph_core.specs.Paths.{Among, front, behind}
 use Rattle.graph_core.specs.WellMarked.{IsVariable}
-use Rattle.numbered_homes.specs.Homes.{home_in}
-use Rattle.numbered_homes.proofs.Lists.{get_among, each_all, each_more}
-use Rattle.note_flow.specs.declared.found.Unshown as declared-unshown
-use Rattle.note_flow.specs.Found.{entries_of, IsPlaceOf}
-use Rattle.note_flow.specs.Shown.{AreDifferent, AreDistinct, AreHidden, AreLeast, AreOther, AreOwn, ArePlaced, AreRecipes, AreTheirs, IsHiddenAt, IsLeastAt, IsOther}
+use Rattle.currency_notes.specs.Homes.{home_in}
+use Rattle.currency_notes.proofs.Lists.{get_among, each_all, each_more}
+use Rattle.currency_shown.specs.declared.found.Unshown as declared-unshown
+use Rattle.currency_shown.specs.Found.{entries_of, IsPlaceOf}
+use Rattle.currency_shown.specs.Shown.{AreDifferent, AreDistinct, AreHidden, AreLeast, AreOther, AreOwn, ArePlaced, AreRecipes, AreTheirs, IsHiddenAt, IsLeastAt, IsOther}
 use Rattle.currency.specs.declared.telling.Told as declared-told
 use Rattle.currency.specs.declared.telling.Told.TheVariants as told
 use Rattle.currency.specs.declared.telling.ToldVariable as declared-variable

@@ -8,17 +8,17 @@ use Rattle.debug_records.specs.declared.change.Change.{Change}
 use Rattle.graph_homes.specs.declared.home.Home.{Home}
 use Rattle.graph_core.specs.declared.graph.Graph as declared-graph
 use Rattle.graph_core.specs.Graphs.{Scalar, graph_view, logged, scalar_view}
-use Rattle.numbered_homes.specs.Homes.{home_in}
+use Rattle.currency_notes.specs.Homes.{home_in}
 use Rattle.debug_records.specs.declared.change.Var as declared-var
 use Rattle.graph_core.specs.declared.graph.Scalar as declared-scalar
-use Rattle.hiding_changes.specs.declared.causes.Cause as declared-cause
-use Rattle.hiding_changes.specs.declared.function.Function as declared-function
-use Rattle.hiding_changes.specs.declared.teller.Teller as declared-teller
-use Rattle.home_writers.specs.declared.writers.Writers as declared-writers
-use Rattle.hiding_changes.specs.Changes.{log_of}
-use Rattle.hiding_changes.specs.First.{Tells}
-use Rattle.hiding_changes.specs.Found.{TellsBy, TellsFor, IsFunction, IsSameFunction, IsSameTeller, IsTeller}
-use Rattle.hiding_changes.proofs.Same.{tells_same}
+use Rattle.currency_hiding.specs.declared.causes.Cause as declared-cause
+use Rattle.currency_hiding.specs.declared.function.Function as declared-function
+use Rattle.currency_hiding.specs.declared.teller.Teller as declared-teller
+use Rattle.currency_writers.specs.declared.writers.Writers as declared-writers
+use Rattle.currency_hiding.specs.Changes.{log_of}
+use Rattle.currency_hiding.specs.First.{Tells}
+use Rattle.currency_hiding.specs.Found.{TellsBy, TellsFor, IsFunction, IsSameFunction, IsSameTeller, IsTeller}
+use Rattle.currency_hiding.proofs.Same.{tells_same}
 use Rattle.currency.specs.declared.telling.Told as declared-told
 use Rattle.currency.specs.declared.telling.Told.TheVariants as told
 use Rattle.currency.specs.declared.telling.ToldVariable as declared-variable

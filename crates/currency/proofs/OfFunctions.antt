@@ -16,12 +16,12 @@ use Rattle.std.proofs.lemmas.List.{length-map}
 use Rattle.std.proofs.lemmas.Option.{slice_get-get_or, slice_get-map}
 use Rattle.graph_core.specs.declared.graph.Graph as declared-graph
 use Rattle.graph_core.specs.Graphs.{graph_view}
-use Rattle.numbered_homes.specs.Homes.{home_in}
-use Rattle.homed_unit.specs.declared.homed.FunctionHomes as declared-homes
-use Rattle.homed_unit.specs.declared.homed.HomedUnit as declared-homed
-use Rattle.homed_unit.specs.Homed.{HomedForm, homed_view, homes_in}
-use Rattle.note_flow.specs.Found.{IsPlaceOf}
-use Rattle.note_flow.specs.Shown.{ArePlaced}
+use Rattle.currency_notes.specs.Homes.{home_in}
+use Rattle.graph_homes.specs.declared.homed.FunctionHomes as declared-homes
+use Rattle.graph_homes.specs.declared.homed.HomedUnit as declared-homed
+use Rattle.graph_homes.specs.Homed.{HomedForm, homed_view, homes_in}
+use Rattle.currency_shown.specs.Found.{IsPlaceOf}
+use Rattle.currency_shown.specs.Shown.{ArePlaced}
 use Rattle.currency.specs.declared.telling.Told as declared-told
 use Rattle.currency.specs.declared.telling.Told.TheVariants as told
 use Rattle.currency.specs.declared.telling.ToldVariable as declared-variable

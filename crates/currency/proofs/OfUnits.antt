@@ -9,11 +9,11 @@ use Rattle.graph_core.specs.declared.graph.Graph as declared-graph
 use Rattle.graph_core.specs.Graphs.{Graph, Logged, graph_view}
 use Rattle.graph_core.specs.Paths.{Among}
 use Rattle.graph_core.specs.WellMarked.{IsVariable}
-use Rattle.numbered_homes.specs.Homes.{home_in}
-use Rattle.homed_unit.specs.declared.homed.FunctionHomes as declared-homes
-use Rattle.homed_unit.specs.declared.homed.HomedUnit as declared-homed
-use Rattle.homed_unit.specs.Homed.{HomedForm, home_of, homed_view, homes_in}
-use Rattle.hiding_changes.specs.First.{Tells}
+use Rattle.currency_notes.specs.Homes.{home_in}
+use Rattle.graph_homes.specs.declared.homed.FunctionHomes as declared-homes
+use Rattle.graph_homes.specs.declared.homed.HomedUnit as declared-homed
+use Rattle.graph_homes.specs.Homed.{HomedForm, home_of, homed_view, homes_in}
+use Rattle.currency_hiding.specs.First.{Tells}
 use Rattle.currency.specs.declared.telling.Told as declared-told
 use Rattle.currency.specs.declared.telling.Told.TheVariants as told
 use Rattle.currency.specs.declared.telling.ToldVariable as declared-variable

@@ -13,12 +13,12 @@ use Rattle.graph_core.specs.declared.recipe.Recipe as declared-recipe
 use Rattle.graph_core.specs.Graphs.{Graph, Logged, Of, Name, Recipe, Is, NoteValue, recipe_view}
 use Rattle.graph_core.specs.Paths.{Among}
 use Rattle.graph_core.specs.WellMarked.{IsVariable}
-use Rattle.homed_unit.specs.Homed.{HomedForm, home_of, homes_in}
-use Rattle.numbered_homes.specs.Homes.{home_in}
-use Rattle.numbered_homes.proofs.Lists.{among_at, among_parts, among_one, drop_end, drop_more, get_among, get_any, take_whole}
+use Rattle.graph_homes.specs.Homed.{HomedForm, home_of, homes_in}
+use Rattle.currency_notes.specs.Homes.{home_in}
+use Rattle.currency_notes.proofs.Lists.{among_at, among_parts, among_one, drop_end, drop_more, get_among, get_any, take_whole}
 use Rattle.std.proofs.lemmas.List.{take_more}
 use Rattle.currency.specs.Visible.{Sight, next, sight, sights_at, sights_from}
-use Rattle.note_flow.specs.Shown.{AreDistinct, IsHiddenAt, IsLeastAt, IsOther, IsVisible}
+use Rattle.currency_shown.specs.Shown.{AreDistinct, IsHiddenAt, IsLeastAt, IsOther, IsVisible}
 use Rattle.currency.specs.declared.telling.Told as declared-told
 use Rattle.currency.specs.declared.telling.Told.TheVariants as told
 use Rattle.currency.specs.declared.telling.ToldVariable as declared-variable

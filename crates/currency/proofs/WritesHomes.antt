@@ -12,12 +12,12 @@ use Rattle.graph_core.specs.declared.instruction.Instr as declared-instr
 use Rattle.graph_core.specs.Graphs.{Scalar, ToScalar, binding_view, block_view, graph_view, instruction_view, scalar_view}
 use Rattle.graph_core.specs.Uses.{target_of}
 use Rattle.graph_core.specs.WellMarked.{IsVariable}
-use Rattle.homed_unit.specs.declared.homed.FunctionHomes as declared-homes
-use Rattle.homed_unit.specs.declared.homed.HomedUnit as declared-homed
-use Rattle.homed_unit.specs.Homed.{HomedForm, home_of, homed_view}
-use Rattle.numbered_homes.specs.Homes.{home_in}
-use Rattle.home_writers.specs.declared.writers.Writer as declared-writer
-use Rattle.home_writers.specs.declared.writers.Writer.TheVariants as writer
+use Rattle.graph_homes.specs.declared.homed.FunctionHomes as declared-homes
+use Rattle.graph_homes.specs.declared.homed.HomedUnit as declared-homed
+use Rattle.graph_homes.specs.Homed.{HomedForm, home_of, homed_view}
+use Rattle.currency_notes.specs.Homes.{home_in}
+use Rattle.currency_writers.specs.declared.writers.Writer as declared-writer
+use Rattle.currency_writers.specs.declared.writers.Writer.TheVariants as writer
 use Rattle.currency.specs.declared.verdict.PlaceVerdict as declared-row
 use Rattle.currency.specs.Written.{AreWritten, Writes, WritesHome, binding, function_of, instruction}
 use Rattle.currency.proofs.OfFunctions.{names_at}

@@ -7,13 +7,13 @@ use Rattle.graph_core.specs.declared.graph.Scalar as declared-scalar
 use Rattle.graph_core.specs.Graphs.{Graph, Logged}
 use Rattle.graph_core.specs.Paths.{Among}
 use Rattle.graph_core.specs.WellMarked.{IsVariable}
-use Rattle.homed_unit.specs.Homed.{HomedForm, home_of}
-use Rattle.home_writers.specs.declared.writers.Writers as declared-writers
-use Rattle.hiding_changes.specs.declared.causes.Cause as declared-cause
-use Rattle.hiding_changes.specs.declared.teller.Teller as declared-teller
-use Rattle.hiding_changes.specs.Evidence.{Hides}
-use Rattle.hiding_changes.specs.First.{IsFirst, Tells}
-use Rattle.hiding_changes.specs.Found.{TellsBy}
+use Rattle.graph_homes.specs.Homed.{HomedForm, home_of}
+use Rattle.currency_writers.specs.declared.writers.Writers as declared-writers
+use Rattle.currency_hiding.specs.declared.causes.Cause as declared-cause
+use Rattle.currency_hiding.specs.declared.teller.Teller as declared-teller
+use Rattle.currency_hiding.specs.Evidence.{Hides}
+use Rattle.currency_hiding.specs.First.{IsFirst, Tells}
+use Rattle.currency_hiding.specs.Found.{TellsBy}
 use Rattle.currency.specs.declared.telling.Told as declared-told
 use Rattle.currency.specs.declared.telling.Told.TheVariants as told
 use Rattle.currency.specs.declared.telling.ToldVariable as declared-variable

@@ -6,9 +6,9 @@ use Rattle.graph_core.specs.declared.recipe.Recipe as declared-recipe
 use Rattle.graph_core.specs.Graphs.{Instruction, Marker, End, Graph, Recipe, Of, Name, recipe_view}
 use Rattle.graph_core.specs.Paths.{Among, History, Path}
 use Rattle.graph_core.specs.WellMarked.{IsVariable}
-use Rattle.homed_unit.specs.Homed.{HomedForm, HaveHomes, home_of, homes_in}
-use Rattle.note_flow.specs.Found.{IsPlaceOf}
-use Rattle.note_flow.specs.Shown.{ArePlaced, IsHiddenAt, IsLeastAt, IsVisible}
+use Rattle.graph_homes.specs.Homed.{HomedForm, HaveHomes, home_of, homes_in}
+use Rattle.currency_shown.specs.Found.{IsPlaceOf}
+use Rattle.currency_shown.specs.Shown.{ArePlaced, IsHiddenAt, IsLeastAt, IsVisible}
 use Rattle.currency.specs.declared.telling.ToldVariable as declared-variable
 use Rattle.currency.specs.declared.told.ToldPlaces as declared-places
 use Rattle.currency.specs.declared.verdict.Verdict as declared-verdict

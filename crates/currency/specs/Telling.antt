@@ -10,13 +10,13 @@ use Rattle.graph_core.specs.declared.graph.Scalar as declared-scalar
 use Rattle.graph_core.specs.Graphs.{Graph, Logged, Of, Name, recipe_view}
 use Rattle.graph_core.specs.Paths.{Among}
 use Rattle.graph_core.specs.WellMarked.{IsVariable}
-use Rattle.numbered_homes.specs.Homes.{home_in}
-use Rattle.note_flow.specs.declared.found.LastNote as declared-last
-use Rattle.note_flow.specs.declared.found.Unshown as declared-unshown
-use Rattle.note_flow.specs.Found.{entries_of, IsPlaceOf}
-use Rattle.note_flow.specs.Shown.{AreDistinct, ArePlaced, IsHiddenAt, IsLeastAt, IsOther, IsVisible}
-use Rattle.hiding_changes.specs.declared.causes.Cause as declared-cause
-use Rattle.hiding_changes.specs.declared.causes.Cause.TheVariants as cause
+use Rattle.currency_notes.specs.Homes.{home_in}
+use Rattle.currency_shown.specs.declared.found.LastNote as declared-last
+use Rattle.currency_shown.specs.declared.found.Unshown as declared-unshown
+use Rattle.currency_shown.specs.Found.{entries_of, IsPlaceOf}
+use Rattle.currency_shown.specs.Shown.{AreDistinct, ArePlaced, IsHiddenAt, IsLeastAt, IsOther, IsVisible}
+use Rattle.currency_hiding.specs.declared.causes.Cause as declared-cause
+use Rattle.currency_hiding.specs.declared.causes.Cause.TheVariants as cause
 use Rattle.currency.specs.declared.telling.Told as declared-told
 use Rattle.currency.specs.declared.telling.Told.TheVariants as told
 use Rattle.currency.specs.declared.telling.ToldVariable as declared-variable

@@ -5,9 +5,9 @@ use Rattle.graph_core.specs.Graphs.{Instruction, Block, Graph, ToScalar}
 use Rattle.graph_core.specs.Uses.{target_of}
 use Rattle.graph_core.specs.Paths.{Among}
 use Rattle.graph_core.specs.WellMarked.{IsVariable}
-use Rattle.homed_unit.specs.Homed.{HomedForm, home_of}
-use Rattle.home_writers.specs.declared.writers.Writer as declared-writer
-use Rattle.home_writers.specs.declared.writers.Writer.TheVariants as writer
+use Rattle.graph_homes.specs.Homed.{HomedForm, home_of}
+use Rattle.currency_writers.specs.declared.writers.Writer as declared-writer
+use Rattle.currency_writers.specs.declared.writers.Writer.TheVariants as writer
 use Rattle.currency.specs.declared.verdict.Verdict as declared-verdict
 use Rattle.currency.specs.declared.verdict.Verdict.TheVariants as verdict
 use Rattle.currency.specs.declared.verdict.PlaceVerdict as declared-row

@@ -8,6 +8,6 @@ mod told;
 mod verdict;
 mod written;
 
-pub use home_writers::Writer;
+pub use currency_writers::Writer;
 pub use rows::verdicts;
 pub use verdict::{PlaceVerdict, Verdict};

@@ -1,8 +1,8 @@
 //! The verdicts on all variables at all places.
 
 ghost use Rattle.std.specs.Prelude.{◌≡◌, ◌++◌, ℕ, IfOk, IfSome, MatchOption, get_or, map, true};
-ghost use Rattle.homed_unit.specs.Homed.{homed_view};
-ghost use Rattle.removed_changes.specs.Telling.{AreToldOf as AreRemovalsTold};
+ghost use Rattle.graph_homes.specs.Homed.{homed_view};
+ghost use Rattle.dead_pass_writes.specs.RemovedChangesTelling.{AreToldOf as AreRemovalsTold};
 ghost use Rattle.currency.specs.Telling.{AreRowsTold, AreSlotted, AreTold, IsNoneTold, IsToldOf, IsVerdictOn, told_at};
 ghost use Rattle.currency.specs.Named.{AreNamed};
 ghost use Rattle.currency.specs.Sound.{AreApart, AreHidden, AreHome, AreLeast, AreOnly, AreRecovered, AreSo};
@@ -15,11 +15,11 @@ use crate::telling::ToldVariable;
 use crate::told::{Surroundings, ToldPlaces};
 use crate::verdict::{PlaceVerdict, Verdict};
 use crate::written::are_written;
+use currency_hiding::Teller;
+use dead_pass_writes::RemovedChanges;
 use debug_records::{Place, Var};
-use hiding_changes::Teller;
-use homed_unit::HomedUnit;
+use graph_homes::HomedUnit;
 use places::{FlowTable, PlaceTable};
-use removed_changes::RemovedChanges;
 use std::alloc::{AllocError, Global};
 
 /// Puts for each variable of which something is told at a place the number of what is told, from 1 on. Tells whether each has a slot.

@@ -4,9 +4,9 @@ ghost use Rattle.std.specs.Prelude.{IfOk};
 ghost use Rattle.currency.specs.Telling.{IsCauseOf, IsVerdictOf};
 
 use crate::verdict::Verdict;
+use currency_hiding::Cause;
 use debug_records::{Place, Var};
 use graph_core::Recipe;
-use hiding_changes::Cause;
 use std::alloc::{AllocError, Global};
 
 /// The verdict that tells what hides a scalar.

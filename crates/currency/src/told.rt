@@ -2,21 +2,21 @@
 
 ghost use Rattle.std.specs.Prelude.{◌≡◌, ◌<◌, ◌≤◌, ℕ, IfOk, IfSome, List, OnOk, [], length, true};
 ghost use Rattle.graph_core.specs.Graphs.{Logged, graph_view};
-ghost use Rattle.removed_changes.specs.Telling.{AreToldOf as AreRemovalsTold};
-ghost use Rattle.numbered_homes.specs.Homes.{home_in};
-ghost use Rattle.hiding_changes.specs.Changes.{log_of};
-ghost use Rattle.hiding_changes.specs.Found.{TellsBy, TellsFor, IsFunction, IsReady, IsSameFunction, IsSameTeller, IsTeller};
+ghost use Rattle.dead_pass_writes.specs.RemovedChangesTelling.{AreToldOf as AreRemovalsTold};
+ghost use Rattle.currency_notes.specs.Homes.{home_in};
+ghost use Rattle.currency_hiding.specs.Changes.{log_of};
+ghost use Rattle.currency_hiding.specs.Found.{TellsBy, TellsFor, IsFunction, IsReady, IsSameFunction, IsSameTeller, IsTeller};
 ghost use Rattle.currency.specs.Evident.{AreNew, IsHiding, IsHidingIn, IsHidingOn, IsHidingScalar};
 ghost use Rattle.currency.specs.Telling.{AreToldOf, AreToldAll, IsFunctionTold, IsRecipeOf, IsToldOne, told_at};
 
 use crate::telling::{Told, ToldVariable};
+use currency_hiding::{Function, Teller};
+use currency_shown::{Unshown, not_shown};
+use dead_pass_writes::RemovedChanges;
 use debug_records::{Change, Place, Var};
 use graph_core::{Graph, Scalar};
 use graph_homes::Home;
-use hiding_changes::{Function, Teller};
-use note_flow::{Unshown, not_shown};
 use places::PlaceTable;
-use removed_changes::RemovedChanges;
 use std::alloc::{AllocError, Global};
 
 /// Whether one of these is shown by no recipe.

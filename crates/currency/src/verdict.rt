@@ -1,8 +1,8 @@
 //! Verdicts of variables at places.
 
+use currency_writers::Writer;
 use debug_records::{Place, Var};
 use graph_core::Recipe;
-use home_writers::Writer;
 
 /// What can be told of a variable at a place (Hennessy 1982: current, recovered, noncurrent; Adl-Tabatabai and Gross 1996: nonresident).
 #[derive(Drop)]

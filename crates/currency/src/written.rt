@@ -4,16 +4,15 @@ ghost use Rattle.std.specs.Prelude.{◌≡◌, IfSome, Some, length, map, option
 ghost use Rattle.graph_homes.specs.Homes.{is_same_home};
 ghost use Rattle.graph_core.specs.Graphs.{graph_view};
 ghost use Rattle.graph_core.specs.declared.graph.Scalar as declared-scalar;
-ghost use Rattle.homed_unit.specs.Homed.{homed_view};
-ghost use Rattle.numbered_homes.specs.Homes.{home_in};
+ghost use Rattle.graph_homes.specs.Homed.{homed_view};
+ghost use Rattle.currency_notes.specs.Homes.{home_in};
 ghost use Rattle.currency.specs.Written.{AreWritten, IsWritten, Writes, WritesHome, function_of};
 
 use crate::verdict::{PlaceVerdict, Verdict};
+use currency_writers::Writer;
 use debug_records::Var;
 use graph_core::{Binding, Graph, Scalar};
-use graph_homes::Home;
-use home_writers::Writer;
-use homed_unit::HomedUnit;
+use graph_homes::{Home, HomedUnit};
 
 /// The function in which this stands.
 fn function_of(writer: Writer) -> u32

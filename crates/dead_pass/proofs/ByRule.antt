@@ -4,12 +4,12 @@ use Rattle.std.specs.Prelude.{slice_get}
 use Rattle.std.proofs.lemmas.Option.{same_Some, none-some}
 use Rattle.graph_core.specs.Graphs.{Instruction, Marker, Note, Move, Operate, Truncate, Same, Address, Load, Store, Zero, CopyWords, Call, End, Block, Graph}
 use Rattle.graph_core.specs.Uses.{target_of}
-use Rattle.graph_edits.specs.Kept.{EachFunction, KeepsAllButBlocks}
-use Rattle.path_marks.specs.Reached.{IsReached, AreLed}
-use Rattle.path_marks.proofs.Points.{point_reached, reached_told}
-use Rattle.idle_rule.specs.Idle.{IsIdle, idle, Goes}
-use Rattle.idle_rule.specs.Certified.{AreIdle}
-use Rattle.idle_rule.specs.Removing.{without, StaysAs, same, noted, AreReduced, ends, gone, stays, IsReducedBlock, IsReduced}
+use Rattle.pass_law.specs.Kept.{EachFunction, KeepsAllButBlocks}
+use Rattle.graph_paths.specs.Reached.{IsReached, AreLed}
+use Rattle.graph_paths.proofs.Points.{point_reached, reached_told}
+use Rattle.dead_pass_rule.specs.Idle.{IsIdle, idle, Goes}
+use Rattle.dead_pass_rule.specs.Certified.{AreIdle}
+use Rattle.dead_pass_rule.specs.Removing.{without, StaysAs, same, noted, AreReduced, ends, gone, stays, IsReducedBlock, IsReduced}
 use Rattle.dead_pass.specs.Left.{IsLeftAs, stays as left_stays, goes as left_goes, untargeted, noted as left_noted, AreLeft, none as left_none, kept as left_kept, gone as left_gone, IsLeftBlock, AreLeftBlocks, IsLeftGraph}
 use Rattle.dead_pass.specs.LeftBy.{IsKeptAs, same as kept_same, noted as kept_noted, AreLeftBy, none, gone as went, kept, IsLeftBlockBy, unreached, reduced, AreLeftBlocksBy}
 

@@ -4,7 +4,7 @@ use Rattle.std.proofs.lemmas.List.{length-map}
 use Rattle.std.specs.List.{AllByRecursion}
 use Rattle.std.proofs.Math.Seq.{take-length}
 use Rattle.graph_core.specs.Graphs.{NoteValue, Instruction, Note, Block}
-use Rattle.idle_rule.specs.Removing.{without}
+use Rattle.dead_pass_rule.specs.Removing.{without}
 use Rattle.dead_pass.specs.LeftBy.{IsKeptAs, noted, IsPushed, went, stayed, AreLeftBy, none, gone, kept, IsLeftBlockBy, AreLeftBlocksBy, IsNoteOf, notes}
 
 pub append_nil : {A : Type 0} (xs : List A) → xs ++ [] ≡ xs

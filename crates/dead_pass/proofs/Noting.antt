@@ -4,24 +4,24 @@ use Rattle.std.specs.Prelude.{slice_get}
 use Rattle.std.proofs.lemmas.List.{length-map}
 use Rattle.graph_core.specs.Graphs.{NoteValue, Instruction, Note, Block, Logged}
 use Rattle.graph_core.specs.Validity.{place_behind, HasPlace}
-use Rattle.idle_rule.specs.Asking.{is_going}
-use Rattle.idle_rule.specs.Walks.{turn_of}
-use Rattle.idle_rule.specs.Removing.{without}
-use Rattle.path_marks.proofs.Points.{point_reached}
-use Rattle.path_marks.specs.Table.{bits_of}
-use Rattle.place_ways.specs.Spots.{end_at}
-use Rattle.place_ways.proofs.Points.{left_there, end_there}
-use Rattle.place_writes.specs.declared.writes.Spot.{Spot}
-use Rattle.removal_notes.specs.declared.idle_graph.IdleGraph.{IdleGraph}
-use Rattle.removal_notes.specs.declared.notes.Notes.{Notes}
-use Rattle.removal_notes.specs.declared.recipes.NotePoint.{NotePoint}
-use Rattle.removal_notes.specs.Idle.{graph_of}
-use Rattle.removal_notes.specs.Said.{IsSaid, SaysAs, noted, AreSaid, ends, gone, stays}
-use Rattle.removal_notes.specs.Sources.{HasRoom, IsKnown, IsSaidAt}
-use Rattle.removal_notes.specs.Stale.{AreKnown, HasComeBehind, HasOtherWays, HasSameWays}
-use Rattle.removed_changes.specs.Telling.{AreToldOf}
-use Rattle.removal_notes.proofs.Knowing.{known_at}
-use Rattle.stale_names.specs.Rows.{AreStale, AreAll, stale_behind}
+use Rattle.dead_pass_rule.specs.Asking.{is_going}
+use Rattle.dead_pass_rule.specs.Walks.{turn_of}
+use Rattle.dead_pass_rule.specs.Removing.{without}
+use Rattle.graph_paths.proofs.Points.{point_reached}
+use Rattle.graph_paths.specs.PathMarksTable.{bits_of}
+use Rattle.dead_pass_notes.specs.Spots.{end_at}
+use Rattle.dead_pass_notes.proofs.PlaceWaysPoints.{left_there, end_there}
+use Rattle.dead_pass_writes.specs.declared.writes.Spot.{Spot}
+use Rattle.dead_pass_notes.specs.declared.idle_graph.IdleGraph.{IdleGraph}
+use Rattle.dead_pass_notes.specs.declared.notes.Notes.{Notes}
+use Rattle.dead_pass_notes.specs.declared.recipes.NotePoint.{NotePoint}
+use Rattle.dead_pass_notes.specs.Idle.{graph_of}
+use Rattle.dead_pass_notes.specs.Said.{IsSaid, SaysAs, noted, AreSaid, ends, gone, stays}
+use Rattle.dead_pass_notes.specs.Sources.{HasRoom, IsKnown, IsSaidAt}
+use Rattle.dead_pass_notes.specs.RemovalNotesStale.{AreKnown, HasComeBehind, HasOtherWays, HasSameWays}
+use Rattle.dead_pass_writes.specs.RemovedChangesTelling.{AreToldOf}
+use Rattle.dead_pass_notes.proofs.Knowing.{known_at}
+use Rattle.dead_pass_notes.specs.Rows.{AreStale, AreAll, stale_behind}
 use Rattle.dead_pass.specs.LeftBy.{IsPushed, went, stayed}
 use Rattle.dead_pass.specs.Noted.{IsReady, IsVisited, IsHere, IsSaidBehind}
 use Rattle.dead_pass.proofs.Leaving.{append_nil, rest_is}

@@ -8,8 +8,8 @@ use Rattle.debug_records.specs.declared.change.Place.{Place}
 use Rattle.graph_core.specs.Graphs.{NoteValue, Instruction, Marker, Note, Move, Operate, Truncate, Same, Address, Load, Store, Zero, CopyWords, Call, Graph, UnitForm}
 use Rattle.graph_core.specs.Uses.{marker_of, target_of}
 use Rattle.graph_core.specs.Validity.{place_behind, HasPlace, IsBlock, IsGraph, IsInstruction}
-use Rattle.removal_notes.specs.Sources.{AreNamed}
-use Rattle.removed_writes.specs.Points.{placed}
+use Rattle.dead_pass_notes.specs.Sources.{AreNamed}
+use Rattle.dead_pass_notes.specs.Points.{placed}
 use Rattle.dead_pass.specs.Noted.{ArePlaced}
 
 -- a place in force stays, or another begins

@@ -11,17 +11,17 @@ use Rattle.graph_core.specs.declared.instruction.Instr.TheVariants as instr
 use Rattle.graph_core.specs.Graphs.{Instruction, Note, End, Block, Graph, Logged, instruction_view}
 use Rattle.graph_core.specs.Paths.{History}
 use Rattle.graph_core.specs.Validity.{HasPlace}
-use Rattle.idle_rule.specs.Asking.{is_going}
-use Rattle.idle_rule.specs.Walks.{turn_of}
-use Rattle.idle_rule.specs.Idle.{IsIdle, idle as is_idle, Goes}
-use Rattle.path_marks.specs.Reached.{IsReached}
-use Rattle.path_marks.proofs.Points.{point_reached, reached_told}
-use Rattle.path_marks.specs.Table.{bits_of}
-use Rattle.removal_notes.specs.declared.idle_graph.IdleGraph.{IdleGraph}
-use Rattle.removal_notes.specs.declared.notes.Notes.{Notes}
-use Rattle.removal_notes.specs.Idle.{IsBorneOut, graph_of}
-use Rattle.removal_notes.specs.Said.{SaysAs, noted, unreached, other, AreSaid, ends, stays, SaysWhatItShall}
-use Rattle.stale_names.specs.Stale.{IsStale, went, before as stale_before}
+use Rattle.dead_pass_rule.specs.Asking.{is_going}
+use Rattle.dead_pass_rule.specs.Walks.{turn_of}
+use Rattle.dead_pass_rule.specs.Idle.{IsIdle, idle as is_idle, Goes}
+use Rattle.graph_paths.specs.Reached.{IsReached}
+use Rattle.graph_paths.proofs.Points.{point_reached, reached_told}
+use Rattle.graph_paths.specs.PathMarksTable.{bits_of}
+use Rattle.dead_pass_notes.specs.declared.idle_graph.IdleGraph.{IdleGraph}
+use Rattle.dead_pass_notes.specs.declared.notes.Notes.{Notes}
+use Rattle.dead_pass_notes.specs.Idle.{IsBorneOut, graph_of}
+use Rattle.dead_pass_notes.specs.Said.{SaysAs, noted, unreached, other, AreSaid, ends, stays, SaysWhatItShall}
+use Rattle.dead_pass_notes.specs.Stale.{IsStale, went, before as stale_before}
 use Rattle.dead_pass.specs.Noted.{ArePlaced, IsReady}
 use Rattle.dead_pass.proofs.Leaving.{rest_is}
 use Rattle.dead_pass.proofs.Placed.{note_placed}

@@ -3,7 +3,7 @@ use Rattle.std.specs.Prelude.{◌≡◌, ℕ, true, Option, Some, None, List, []
 use Rattle.graph_core.specs.declared.instruction.Callee.{Callee}
 use Rattle.graph_core.specs.Graphs.{Operand, NoteValue, Instruction, Note, Call, Block, Graph}
 use Rattle.graph_core.specs.Uses.{is_computation}
-use Rattle.graph_edits.specs.Kept.{KeepsAllButBlocks}
+use Rattle.pass_law.specs.Kept.{KeepsAllButBlocks}
 
 -- What is left of an instruction: itself; nothing of a computation, which only writes a name; of a call the call without its target; of a note a note of the same scalar.
 pub data IsLeftAs : Instruction → Option Instruction → Type 0 where

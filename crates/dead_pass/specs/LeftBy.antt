@@ -1,7 +1,7 @@
 -- What is left where it is told of each write whether it goes.
 use Rattle.std.specs.Prelude.{◌≡◌, ℕ, ◌+◌, Bool, true, false, List, [], ◌∷◌, ◌++◌, length, ⊤}
 use Rattle.graph_core.specs.Graphs.{NoteValue, Instruction, Note, Block}
-use Rattle.idle_rule.specs.Removing.{without}
+use Rattle.dead_pass_rule.specs.Removing.{without}
 
 -- it is a note of this scalar
 pub data IsNoteOf (x : ℕ) : Instruction → Type 0 where

@@ -2,15 +2,15 @@
 use Rattle.std.specs.Prelude.{◌≡◌, ℕ, suc, true, Some, List, [], ◌∷◌, ◌++◌, length, slice_get}
 use Rattle.graph_core.specs.Graphs.{NoteValue, Instruction, Note, Block, Graph, Logged}
 use Rattle.graph_core.specs.Validity.{HasPlace, place_behind}
-use Rattle.path_marks.specs.Table.{bits_of}
-use Rattle.removal_notes.specs.declared.idle_graph.IdleGraph.{IdleGraph}
-use Rattle.removal_notes.specs.declared.notes.Notes.{Notes}
-use Rattle.removal_notes.specs.declared.recipes.NotePoint.{NotePoint}
-use Rattle.removal_notes.specs.Idle.{IsBorneOut, graph_of}
-use Rattle.removal_notes.specs.Said.{SaysAs}
-use Rattle.removal_notes.specs.Sources.{AreNamed, HasRoom}
-use Rattle.removal_notes.specs.Stale.{AreKnown, HasComeBehind}
-use Rattle.removed_changes.specs.Telling.{AreToldOf}
+use Rattle.graph_paths.specs.PathMarksTable.{bits_of}
+use Rattle.dead_pass_notes.specs.declared.idle_graph.IdleGraph.{IdleGraph}
+use Rattle.dead_pass_notes.specs.declared.notes.Notes.{Notes}
+use Rattle.dead_pass_notes.specs.declared.recipes.NotePoint.{NotePoint}
+use Rattle.dead_pass_notes.specs.Idle.{IsBorneOut, graph_of}
+use Rattle.dead_pass_notes.specs.Said.{SaysAs}
+use Rattle.dead_pass_notes.specs.Sources.{AreNamed, HasRoom}
+use Rattle.dead_pass_notes.specs.RemovalNotesStale.{AreKnown, HasComeBehind}
+use Rattle.dead_pass_writes.specs.RemovedChangesTelling.{AreToldOf}
 
 -- Each instruction of a graph has a place.
 abbrev pub ArePlaced : Graph → Type 0

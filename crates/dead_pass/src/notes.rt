@@ -1,26 +1,25 @@
 //! What is left of a graph.
 
 ghost use Rattle.std.specs.Prelude.{◌≡◌, ◌<◌, ◌^◌, ◌++◌, IfOk, IfSome, List, None, OnOk, Some, false, ℕ, length, map, slice_get};
-ghost use Rattle.removal_notes.specs.Idle.{IsBorneOut, graph_of};
-ghost use Rattle.removal_notes.specs.Said.{AreSaid, SaysAs, SaysWhatItShall};
-ghost use Rattle.removal_notes.specs.Sources.{HasRoom};
-ghost use Rattle.removal_notes.specs.Stale.{HasOtherWays};
-ghost use Rattle.removed_changes.specs.Telling.{AreToldOf};
-ghost use Rattle.removed_writes.specs.Points.{placed};
+ghost use Rattle.dead_pass_notes.specs.Idle.{IsBorneOut, graph_of};
+ghost use Rattle.dead_pass_notes.specs.Said.{AreSaid, SaysAs, SaysWhatItShall};
+ghost use Rattle.dead_pass_notes.specs.Sources.{HasRoom};
+ghost use Rattle.dead_pass_notes.specs.RemovalNotesStale.{HasOtherWays};
+ghost use Rattle.dead_pass_writes.specs.RemovedChangesTelling.{AreToldOf};
+ghost use Rattle.dead_pass_notes.specs.Points.{placed};
 ghost use Rattle.dead_pass.specs.LeftBy.{AreLeftBlocksBy, AreLeftBy, IsKeptAs, IsLeftBlockBy, IsNoteOf, IsPushed};
 ghost use Rattle.dead_pass.specs.Noted.{IsHere, IsReady, IsSaidBehind, IsVisited};
 ghost use Rattle.graph_core.specs.Graphs.{Block as BlockForm, Call as CallOf, Instruction as InstructionForm, Logged, Note as NoteOf, UnitForm, block_view, graph_view, instruction_view, note_view, operand_view};
 ghost use Rattle.graph_core.specs.Validity.{IsGraph};
-ghost use Rattle.idle_rule.specs.Asking.{is_going};
-ghost use Rattle.idle_rule.specs.Removing.{IsReduced, without};
-ghost use Rattle.idle_rule.specs.Walks.{turn_of};
-ghost use Rattle.path_marks.specs.Table.{bits_of};
+ghost use Rattle.dead_pass_rule.specs.Asking.{is_going};
+ghost use Rattle.dead_pass_rule.specs.Removing.{IsReduced, without};
+ghost use Rattle.dead_pass_rule.specs.Walks.{turn_of};
+ghost use Rattle.graph_paths.specs.PathMarksTable.{bits_of};
 
+use dead_pass_notes::{IdleGraph, NotePoint, Notes};
+use dead_pass_writes::{RemovedChanges, Spot};
 use debug_records::Place;
 use graph_core::{Block, Callee, Graph, Instr, Name, NoteValue, Operand};
-use place_writes::Spot;
-use removal_notes::{IdleGraph, NotePoint, Notes};
-use removed_changes::RemovedChanges;
 use smallvec::SmallVec;
 use std::alloc::{AllocError, Global};
 

@@ -4,25 +4,24 @@ ghost use Rattle.std.specs.Prelude.{◌≡◌, ◌<◌, ◌^◌, IfOk, IfSome, L
 ghost use Rattle.std.specs.List.{AllByRecursion};
 ghost use Rattle.debug_records.specs.Change.{pass_name};
 ghost use Rattle.debug_records.specs.declared.change.Kind.TheVariants.{Removed};
-ghost use Rattle.removal_notes.specs.Idle.{IsBorneOut, graph_of};
-ghost use Rattle.removal_notes.specs.Said.{SaysWhatItShall};
-ghost use Rattle.removed_changes.specs.Telling.{AreToldOf};
+ghost use Rattle.dead_pass_notes.specs.Idle.{IsBorneOut, graph_of};
+ghost use Rattle.dead_pass_notes.specs.Said.{SaysWhatItShall};
+ghost use Rattle.dead_pass_writes.specs.RemovedChangesTelling.{AreToldOf};
 ghost use Rattle.dead_pass.specs.Left.{IsLeftGraph};
 ghost use Rattle.dead_pass.specs.Notes.{SayWhatTheyShall};
 ghost use Rattle.graph_core.specs.Graphs.{Logged, UnitForm, graph_view, unit_view};
 ghost use Rattle.graph_core.specs.Validity.{IsGraph, IsValid};
-ghost use Rattle.idle_rule.specs.Removing.{IsReduced};
-ghost use Rattle.graph_edits.specs.Changes.{AddsChangesOf, AreCasesOf};
-ghost use Rattle.graph_edits.specs.Kept.{AddsChanges, EachFunction, KeepsAllButBlocks, ShareTheSame};
-ghost use Rattle.removed_writes.specs.Writes.{IsRemovedWrite};
+ghost use Rattle.dead_pass_rule.specs.Removing.{IsReduced};
+ghost use Rattle.pass_law.specs.Changes.{AddsChangesOf, AreCasesOf};
+ghost use Rattle.pass_law.specs.Kept.{AddsChanges, EachFunction, KeepsAllButBlocks, ShareTheSame};
+ghost use Rattle.dead_pass_notes.specs.Writes.{IsRemovedWrite};
 
 use crate::notes::graph_left;
+use dead_pass_notes::{IdleGraph, removed_writes};
+use dead_pass_writes::RemovedChanges;
 use debug_records::{Kind, PassName};
 use graph_core::{Graph, Unit};
-use graph_edits::{Case, log_cases};
-use removal_notes::IdleGraph;
-use removed_changes::RemovedChanges;
-use removed_writes::removed_writes;
+use pass_law::{Case, log_cases};
 use std::alloc::{AllocError, Global};
 
 /// The name of the pass.

@@ -6,8 +6,8 @@ use Rattle.c_tree.specs.declared.program.TypedFunction.{TypedFunction}
 use Rattle.c_tree.specs.Programs.{TypedFunctionTree, ProgramTree, function_view}
 use Rattle.graph_core.specs.declared.graph.Graph as declared-graph
 use Rattle.graph_core.specs.Graphs.{Block, Graph, graph_view}
-use Rattle.graph_names.specs.Names.{Names, names_of}
-use Rattle.graph_coding.specs.Coding.{Coding}
+use Rattle.graph_build_names.specs.Names.{Names, names_of}
+use Rattle.graph_build_statements.specs.Coding.{Coding}
 use Rattle.graph_build.specs.Units.{names_used, blocks_in, function_part, coding_with, coding_of, is_again, block_count, function_coding, graph_in, graph_of, graphs_from}
 
 -- the blocks that are counted before they have their labels are as many as the function has

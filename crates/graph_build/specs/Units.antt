@@ -16,14 +16,14 @@ use Rattle.graph_core.specs.declared.graph.MemoryObject.{MemoryObject}
 use Rattle.graph_core.specs.declared.unit.Relocation.{Relocation}
 use Rattle.graph_core.specs.Graphs as unit
 use Rattle.graph_core.specs.Graphs.{Binding, ToScalar, ToObject, Scalar, Graph, StaticObject, UnitForm}
-use Rattle.graph_names.specs.Names.{Names, names_of, scalar_of, object_of}
-use Rattle.graph_drafts.specs.Rules.{element_of}
-use Rattle.graph_drafts.specs.Drafts.{Made, ending, note}
-use Rattle.graph_steps.specs.Steps.{or_zero}
-use Rattle.graph_coding.specs.Coding.{Coding, Part, going, placed_at}
-use Rattle.graph_coding.specs.Reached.{statements_reached}
-use Rattle.graph_declarators.specs.Declaring.{object_type_of}
-use Rattle.graph_forms.specs.Forms.{add_all}
+use Rattle.graph_build_names.specs.Names.{Names, names_of, scalar_of, object_of}
+use Rattle.graph_build_steps.specs.Rules.{element_of}
+use Rattle.graph_build_steps.specs.Drafts.{Made, ending, note}
+use Rattle.graph_build_steps.specs.Steps.{or_zero}
+use Rattle.graph_build_statements.specs.Coding.{Coding, Part, going, placed_at}
+use Rattle.graph_build_statements.specs.Reached.{statements_reached}
+use Rattle.graph_build_statements.specs.Declaring.{object_type_of}
+use Rattle.graph_build_statements.specs.Forms.{add_all}
 
 -- the number of an automatic variable among all variables
 abbrev pub variable_of : ProgramTree → (variable : ℕ) → ℕ

@@ -3,22 +3,21 @@
 ghost use Rattle.std.specs.Prelude.{◌≡◌, ◌++◌, IfOk, false, length, map, reverse};
 ghost use Rattle.c_tree.specs.Programs.{function_view, program_view};
 ghost use Rattle.graph_core.specs.Graphs.{block_view, graph_view};
-ghost use Rattle.graph_names.specs.Names as naming;
-ghost use Rattle.graph_names.specs.Names.{names_view};
-ghost use Rattle.graph_coding.specs.Coding.{coding_view, part_view};
+ghost use Rattle.graph_build_names.specs.Names as naming;
+ghost use Rattle.graph_build_names.specs.Names.{names_view};
+ghost use Rattle.graph_build_statements.specs.Coding.{coding_view, part_view};
 ghost use Rattle.graph_build.specs.Units.{add_close, block_count, blocks_in, coding_with, function_part, graph_in, graph_of, is_again, names_used};
 
 use crate::variables::{bindings_of, graph_objects, graph_scalars, note_all, scalars_of};
 use c_flow::{start_of_all, ways_of_body};
 use c_tree::TypedFunction;
 use debug_records::Place;
-use graph_coding::{
-    Form, Part, Source, going, narrow, place_number, placed_at, statements_reached,
+use graph_build_names::{Names, names_of};
+use graph_build_statements::{
+    Form, Part, Source, add_all, going, narrow, place_number, placed_at, statements_reached,
 };
+use graph_build_steps::ending;
 use graph_core::{Block, End, Graph, Operand};
-use graph_drafts::ending;
-use graph_forms::add_all;
-use graph_names::{Names, names_of};
 use std::alloc::{AllocError, Global};
 
 /// The closing brace, where flow reaches it: `main` returns 0.

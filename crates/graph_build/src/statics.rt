@@ -9,9 +9,9 @@ ghost use Rattle.graph_build.specs.Units.{literal_of, object_count, object_eleme
 use c_tree::{
     Object, ObjectType, Program, Relocation as SourceRelocation, StaticVariable, StringLiteral,
 };
-use graph_coding::narrow;
+use graph_build_statements::narrow;
+use graph_build_steps::element_of;
 use graph_core::{Bytes, Element, Relocation, StaticObject};
-use graph_drafts::element_of;
 use std::alloc::{AllocError, Global};
 
 /// What the elements of an object are.

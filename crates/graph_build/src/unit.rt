@@ -10,7 +10,7 @@ ghost use Rattle.c_flow.specs.Assigns.{assignments_of_program};
 ghost use Rattle.c_flow.specs.Flow.{steps_of_program};
 ghost use Rattle.c_flow.specs.Tables.{Fits32};
 ghost use Rattle.graph_core.specs.Graphs.{graph_view, unit_view};
-ghost use Rattle.graph_coding.specs.Numbering.{AreNumbered};
+ghost use Rattle.graph_build_statements.specs.Numbering.{AreNumbered};
 ghost use Rattle.graph_build.specs.Units.{IsUnitOf, graphs_from};
 
 use crate::function::graph_of;
@@ -19,7 +19,7 @@ use c_flow::{flow_table, positions_of};
 use c_places::places_of_program;
 use c_tree::Program;
 use debug_records::ChangeLog;
-use graph_coding::Source;
+use graph_build_statements::Source;
 use graph_core::{Graph, Unit};
 use std::alloc::{AllocError, Global};
 

@@ -4,19 +4,18 @@ ghost use Rattle.std.specs.Prelude.{◌≡◌, IfOk, map};
 ghost use Rattle.c_tree.specs.Programs.{function_view, program_view};
 ghost use Rattle.c_places.specs.Places as places;
 ghost use Rattle.graph_core.specs.Graphs.{binding_view, scalar_view};
-ghost use Rattle.graph_names.specs.Names.{names_view};
-ghost use Rattle.graph_drafts.specs.Drafts.{made_of};
+ghost use Rattle.graph_build_names.specs.Names.{names_view};
+ghost use Rattle.graph_build_steps.specs.Drafts.{made_of};
 ghost use Rattle.graph_build.specs.Units.{are_of_one_type, binding_of, declared_at, kept_among, memory_object, note_parameters, scalar_record, scalars_among, type_index, variable_of, variables_in};
 
 use crate::statics::{object_count, object_element};
 use c_tree::{AutomaticVariable, Program, TypedFunction};
 use c_type_rules::same_object;
 use debug_records::{Place, Var};
-use graph_coding::{Source, narrow, place_number};
+use graph_build_names::{Names, object_of, scalar_of};
+use graph_build_statements::{Source, narrow, object_type_of, place_number};
+use graph_build_steps::{Draft, note};
 use graph_core::{Binding, MemoryObject, Name, Scalar};
-use graph_declarators::object_type_of;
-use graph_drafts::{Draft, note};
-use graph_names::{Names, object_of, scalar_of};
 use std::alloc::{AllocError, Global};
 
 /// So many numbers from a first one on.

@@ -1,2 +1,7 @@
 pub mod Homes
 pub mod Reused
+pub mod Homed
+pub mod Seen
+pub mod Frames
+pub mod Statics
+pub mod Owned

@@ -1,1 +1,4 @@
 pub mod Tables
+pub mod PathMarksTables
+pub mod Leading
+pub mod Points

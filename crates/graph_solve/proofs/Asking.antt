@@ -6,7 +6,7 @@ use Rattle.std.proofs.lemmas.List.FromFn.{length-map-range_with_len}
 use Rattle.std.proofs.lemmas.Option.{slice_get-get_or, same_Some}
 use Rattle.bit_rows.specs.Grid.{is_set, row_at}
 use Rattle.bit_rows.proofs.Bits.{at_index}
-use Rattle.graph_problem.specs.Numbers.{Numbers}
+use Rattle.graph_solve_problem.specs.Numbers.{Numbers}
 use Rattle.graph_solve.specs.Rows.{set_at, sets_at}
 use Rattle.graph_solve.proofs.Bitsets.{in_row, at_sets}
 

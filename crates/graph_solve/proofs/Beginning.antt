@@ -10,21 +10,21 @@ use Rattle.std.proofs.lemmas.List.FromFn.{length-map-range_with_len}
 use Rattle.std.proofs.lemmas.Option.{slice_get_within, slice_get-get_or, get_or_from_slice_get, same_Some}
 use Rattle.bit_rows.specs.Grid.{row_at, met_bit}
 use Rattle.bit_rows.proofs.Bits.{at_index, same_made}
-use Rattle.graph_problem.specs.declared.flow_graph.Edge.{Edge}
-use Rattle.graph_problem.specs.declared.flow_graph.FlowGraph.{FlowGraph}
+use Rattle.graph_solve_problem.specs.declared.flow_graph.Edge.{Edge}
+use Rattle.graph_solve_problem.specs.declared.flow_graph.FlowGraph.{FlowGraph}
 use Rattle.graph_solve.specs.First.{is_first, first_bit}
-use Rattle.graph_problem.specs.Numbers.{Numbers, numbers_below}
-use Rattle.graph_problem.specs.Problem.{DataFlow}
-use Rattle.graph_problem.specs.Paths.{Begins}
-use Rattle.graph_problem.specs.SetLaws.{equal, below_empty, in_below, not_below}
+use Rattle.graph_solve_problem.specs.Numbers.{Numbers, numbers_below}
+use Rattle.graph_solve_problem.specs.Problem.{DataFlow}
+use Rattle.graph_solve_problem.specs.Paths.{Begins}
+use Rattle.graph_solve_problem.specs.SetLaws.{equal, below_empty, in_below, not_below}
 use Rattle.std.specs.FinSet.{contains-empty}
 use Rattle.std.proofs.Common.{nat_cmp}
-use Rattle.graph_problem.specs.Solution.{AreWithin, control_flow}
-use Rattle.graph_problem.specs.Rounds.{AreFalling, AreFirst}
+use Rattle.graph_solve_problem.specs.Solution.{AreWithin, control_flow}
+use Rattle.graph_solve_problem.specs.Rounds.{AreFalling, AreFirst}
 use Rattle.graph_solve.specs.Rows.{set_of, set_at, sets_at, table}
 use Rattle.graph_solve.specs.Work.{IsState, edges_of, falls_to_come, sum_to, targets_from, weighed}
 use Rattle.graph_solve.proofs.Bitsets.{in_row, at_sets, table_rows}
-use Rattle.graph_problem.proofs.Falling.{first_falling}
+use Rattle.graph_solve_problem.proofs.Falling.{first_falling}
 use Rattle.graph_solve.proofs.Weighing.{weighed_push}
 
 -- the queue with one more block, last or first

@@ -12,9 +12,9 @@ use Rattle.std.proofs.lemmas.List.FromFn.{length-map-range_with_len}
 use Rattle.std.proofs.lemmas.Option.{slice_get-get_or}
 use Rattle.bit_rows.specs.Grid.{joined, met_bit, met, passed}
 use Rattle.bit_rows.proofs.Bits.{at_index, same_made, made_set}
-use Rattle.graph_problem.specs.Numbers.{Numbers, IsBelow}
-use Rattle.graph_problem.specs.Problem.{DataFlow}
-use Rattle.graph_problem.specs.SetLaws.{equal}
+use Rattle.graph_solve_problem.specs.Numbers.{Numbers, IsBelow}
+use Rattle.graph_solve_problem.specs.Problem.{DataFlow}
+use Rattle.graph_solve_problem.specs.SetLaws.{equal}
 use Rattle.graph_solve.specs.Rows.{numbers_from, set_of, set_at, sets_at, table}
 
 apart : (n q : ℕ) → (q ≡ n → ⊥) → eq_by_cmp nat_cmp q n ≡ false

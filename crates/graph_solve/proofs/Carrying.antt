@@ -7,15 +7,15 @@ use Rattle.std.proofs.lemmas.List.{length_push}
 use Rattle.std.proofs.lemmas.Option.{slice_get_within, same_Some}
 use Rattle.graph_core.specs.Graphs.{Block, Graph}
 use Rattle.graph_core.specs.Uses.{targets_of}
-use Rattle.graph_problem.specs.declared.flow_graph.Edge.{Edge}
-use Rattle.graph_problem.specs.declared.flow_graph.FlowGraph.{FlowGraph}
-use Rattle.graph_problem.specs.Numbers.{Numbers}
-use Rattle.graph_problem.specs.Problem.{DataFlow}
-use Rattle.graph_problem.specs.Paths.{ControlFlow, Begins, Leads, Path, first, anywhere, next, along, Comes, Leaves}
-use Rattle.graph_problem.specs.Meets.{SomeMeet, one, both, IsMeetOf}
-use Rattle.graph_problem.specs.Solution.{AreMet, AreMetBehind, AreMetBySides, IsSolution, AreWithin, control_flow}
+use Rattle.graph_solve_problem.specs.declared.flow_graph.Edge.{Edge}
+use Rattle.graph_solve_problem.specs.declared.flow_graph.FlowGraph.{FlowGraph}
+use Rattle.graph_solve_problem.specs.Numbers.{Numbers}
+use Rattle.graph_solve_problem.specs.Problem.{DataFlow}
+use Rattle.graph_solve_problem.specs.Paths.{ControlFlow, Begins, Leads, Path, first, anywhere, next, along, Comes, Leaves}
+use Rattle.graph_solve_problem.specs.Meets.{SomeMeet, one, both, IsMeetOf}
+use Rattle.graph_solve_problem.specs.Solution.{AreMet, AreMetBehind, AreMetBySides, IsSolution, AreWithin, control_flow}
 use Rattle.graph_solve.specs.GraphFlow.{AreFlow, AreTargetsWithin, edge_from, graph_flow, is_return}
-use Rattle.graph_problem.proofs.Lists.{All-at, there, push_before, push_last, from_map, into_map}
+use Rattle.graph_solve_problem.proofs.Lists.{All-at, there, push_before, push_last, from_map, into_map}
 
 some_mapped : (meet : Numbers → Numbers → Numbers) (P Q : Numbers → Type 0) → ((v : Numbers) → P v → Q v) → {x : Numbers} → SomeMeet meet P x → SomeMeet meet Q x
 some_mapped meet P Q to (one {x} p) = one (to x p)

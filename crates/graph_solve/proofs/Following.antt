@@ -2,14 +2,14 @@
 use Rattle.std.proofs.Common.{◌≡◌, ℕ, ◌+◌, ◌<◌, Bool, true, false, List, [], ◌∷◌, ◌++◌, length, get_or, sym, ap, ◌∙◌, subst}
 use Rattle.std.proofs.Math.ListN.{set}
 use Rattle.bit_rows.specs.Grid.{row_at, met}
-use Rattle.graph_problem.specs.declared.flow_graph.FlowGraph.{FlowGraph}
+use Rattle.graph_solve_problem.specs.declared.flow_graph.FlowGraph.{FlowGraph}
 use Rattle.graph_solve.specs.declared.task.Task.{Task}
 use Rattle.graph_solve.specs.declared.work.Work.{Work}
-use Rattle.graph_problem.specs.Problem.{DataFlow}
-use Rattle.graph_problem.specs.Solution.{HasEdge, control_flow}
+use Rattle.graph_solve_problem.specs.Problem.{DataFlow}
+use Rattle.graph_solve_problem.specs.Solution.{HasEdge, control_flow}
 use Rattle.graph_solve.specs.Rows.{set_at}
 use Rattle.graph_solve.specs.Work.{IsTask, IsState, IsWork, IsMadeAt, edges_of}
-use Rattle.graph_problem.proofs.Relaxing.{read}
+use Rattle.graph_solve_problem.proofs.Relaxing.{read}
 use Rattle.graph_solve.proofs.Tasks.{directed_as, within_as}
 use Rattle.graph_solve.proofs.Working.{rested, row_in, made_row_in, counted_in, waits_in, count_fits, still_made, fell_waiting, fell_anew}
 

@@ -5,7 +5,7 @@ use Rattle.std.specs.FinSet.{contains, insert, contains-insert}
 use Rattle.std.proofs.lemmas.Bool.{cases_eq, cases_lt, eq-eqb, ne_eqb}
 use Rattle.std.proofs.lemmas.List.{get_or_past, length-take-le, get_or-take}
 use Rattle.std.proofs.lemmas.List.FromFn.{map-range_with_len_more}
-use Rattle.graph_problem.specs.SetLaws.{equal}
+use Rattle.graph_solve_problem.specs.SetLaws.{equal}
 use Rattle.graph_solve.specs.Rows.{set_of, set_at, sets_at}
 use Rattle.graph_solve.proofs.Bitsets.{in_row}
 

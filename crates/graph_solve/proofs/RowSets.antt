@@ -10,7 +10,7 @@ use Rattle.std.proofs.lemmas.List.{same_lists, get_or_past, get_or_default, get_
 use Rattle.std.proofs.lemmas.List.FromFn.{length-map-range_with_len}
 use Rattle.bit_rows.specs.Grid.{is_set, passed, row_at, with_bit}
 use Rattle.bit_rows.proofs.Bits.{at_index}
-use Rattle.graph_problem.specs.SetLaws.{equal}
+use Rattle.graph_solve_problem.specs.SetLaws.{equal}
 use Rattle.graph_solve.specs.Rows.{AreSameElsewhere, set_of, set_at, table}
 use Rattle.graph_solve.proofs.Bitsets.{in_row, there_same}
 

@@ -3,10 +3,10 @@ use Rattle.std.proofs.Common.{◌≡◌, ℕ, ◌+◌, ◌<◌, ◌==◌, inl, i
 use Rattle.std.proofs.Math.ListN.{set}
 use Rattle.std.proofs.lemmas.Bool.{cases_eq, eq-eqb, ne_eqb, cond-true, cond-false}
 use Rattle.std.proofs.lemmas.List.{length-set, get_or-set_same, get_or-set_other, take_more, map-append}
-use Rattle.graph_problem.specs.declared.flow_graph.Edge.{Edge}
+use Rattle.graph_solve_problem.specs.declared.flow_graph.Edge.{Edge}
 use Rattle.std.proofs.lemmas.List.Elements.{All-map}
-use Rattle.graph_problem.specs.Solution.{AreWithin}
-use Rattle.graph_problem.specs.Rounds.{directed}
+use Rattle.graph_solve_problem.specs.Solution.{AreWithin}
+use Rattle.graph_solve_problem.specs.Rounds.{directed}
 use Rattle.graph_solve.specs.Work.{AreTargets, targets_from}
 
 targets_push : (block : ℕ) (edges : List Edge) (edge : Edge) → targets_from block (edges ++ edge ∷ []) ≡ cond (edge.from == block) (targets_from block edges ++ edge.to ∷ []) (targets_from block edges)

@@ -8,16 +8,16 @@ use Rattle.std.proofs.lemmas.List.Elements.{All-contains, All-tail, All-head}
 use Rattle.std.proofs.lemmas.List.FromFn.{length-map-range_with_len}
 use Rattle.bit_rows.specs.Grid.{row_at, passed, joined}
 use Rattle.bit_rows.proofs.Bits.{at_index}
-use Rattle.graph_problem.specs.declared.flow_graph.Edge.{Edge}
-use Rattle.graph_problem.specs.Problem.{DataFlow}
-use Rattle.graph_problem.specs.Paths.{ControlFlow}
-use Rattle.graph_problem.specs.Solution.{AreWithin, HasEdge}
-use Rattle.graph_problem.specs.Rounds.{AreFalling}
+use Rattle.graph_solve_problem.specs.declared.flow_graph.Edge.{Edge}
+use Rattle.graph_solve_problem.specs.Problem.{DataFlow}
+use Rattle.graph_solve_problem.specs.Paths.{ControlFlow}
+use Rattle.graph_solve_problem.specs.Solution.{AreWithin, HasEdge}
+use Rattle.graph_solve_problem.specs.Rounds.{AreFalling}
 use Rattle.graph_solve.specs.Rows.{set_at, table}
 use Rattle.graph_solve.specs.Work.{AreTargets, IsState, targets_from}
 use Rattle.graph_solve.proofs.Bitsets.{set_passed, length_joined, there_same, elsewhere, sets_before}
 use Rattle.std.proofs.lemmas.Option.{get_or_from_slice_get}
-use Rattle.graph_problem.proofs.Lists.{there}
+use Rattle.graph_solve_problem.proofs.Lists.{there}
 use Rattle.graph_solve.proofs.Working.{contains_cases}
 
 further : {X : Type 0} (x : X) (xs : List X) (y : X) → Contains xs y → Contains (x ∷ xs) y

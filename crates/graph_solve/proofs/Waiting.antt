@@ -7,17 +7,17 @@ use Rattle.std.proofs.lemmas.List.Elements.{All-contains, Contains-get_or}
 use Rattle.std.proofs.lemmas.List.FromFn.{length-map-range_with_len}
 use Rattle.std.proofs.lemmas.Option.{slice_get-get_or, same_Some}
 use Rattle.bit_rows.proofs.Bits.{at_index}
-use Rattle.graph_problem.specs.declared.flow_graph.Edge.{Edge}
-use Rattle.graph_problem.specs.Numbers.{Numbers}
-use Rattle.graph_problem.specs.Problem.{DataFlow}
-use Rattle.graph_problem.specs.Paths.{ControlFlow}
-use Rattle.graph_problem.specs.Solution.{AreMet, AreWithin, IsSolution}
-use Rattle.graph_problem.specs.Rounds.{AreDirected, AreMade, AreAllSettled}
+use Rattle.graph_solve_problem.specs.declared.flow_graph.Edge.{Edge}
+use Rattle.graph_solve_problem.specs.Numbers.{Numbers}
+use Rattle.graph_solve_problem.specs.Problem.{DataFlow}
+use Rattle.graph_solve_problem.specs.Paths.{ControlFlow}
+use Rattle.graph_solve_problem.specs.Solution.{AreMet, AreWithin, IsSolution}
+use Rattle.graph_solve_problem.specs.Rounds.{AreDirected, AreMade, AreAllSettled}
 use Rattle.graph_solve.specs.Rows.{set_at, sets_at}
 use Rattle.graph_solve.specs.Work.{IsState}
 use Rattle.graph_solve.proofs.Bitsets.{at_sets}
-use Rattle.graph_problem.proofs.Falling.{met}
-use Rattle.graph_problem.proofs.Solved.{solved_forward, solved_backward}
+use Rattle.graph_solve_problem.proofs.Falling.{met}
+use Rattle.graph_solve_problem.proofs.Solved.{solved_forward, solved_backward}
 
 module _ (flow : DataFlow) (control : ControlFlow) (edges : List Edge) (blocks : ℕ) (directed : AreDirected control flow.forward edges) (within : AreWithin blocks edges)
     (values : List (List Bool)) (queue : List ℕ) (waiting : List Bool) (counts : List ℕ) (block : ℕ) (state : IsState flow control edges blocks values queue waiting counts block []) (done : queue ≡ []) where

@@ -8,16 +8,16 @@ use Rattle.std.proofs.lemmas.List.FromFn.{length-map-range_with_len}
 use Rattle.std.proofs.lemmas.List.{length-set, get_or_default, get_or-set_same, get_or-set_other, set-get_or}
 use Rattle.std.proofs.lemmas.List.Elements.{All-contains, All-push, Contains-push, Contains-append_left}
 use Rattle.bit_rows.specs.Grid.{row_at, met, met_bit}
-use Rattle.graph_problem.specs.declared.flow_graph.Edge.{Edge}
-use Rattle.graph_problem.specs.Numbers.{Numbers}
-use Rattle.graph_problem.specs.Problem.{DataFlow}
-use Rattle.graph_problem.specs.Paths.{ControlFlow}
-use Rattle.graph_problem.specs.Solution.{AreWithin, HasEdge}
-use Rattle.graph_problem.specs.Rounds.{AreDirected, HasFallen}
+use Rattle.graph_solve_problem.specs.declared.flow_graph.Edge.{Edge}
+use Rattle.graph_solve_problem.specs.Numbers.{Numbers}
+use Rattle.graph_solve_problem.specs.Problem.{DataFlow}
+use Rattle.graph_solve_problem.specs.Paths.{ControlFlow}
+use Rattle.graph_solve_problem.specs.Solution.{AreWithin, HasEdge}
+use Rattle.graph_solve_problem.specs.Rounds.{AreDirected, HasFallen}
 use Rattle.graph_solve.specs.Rows.{set_of, set_at, sets_at}
 use Rattle.graph_solve.specs.Work.{IsState}
 use Rattle.graph_solve.proofs.Bitsets.{row_value, same_row, set_met, length_joined, made_stays, at_sets, there_same, elsewhere, sets_set}
-use Rattle.graph_problem.proofs.Falling.{below_meet, still_falling, falls_within}
+use Rattle.graph_solve_problem.proofs.Falling.{below_meet, still_falling, falls_within}
 
 -- it is the first of a list, or one of the others
 pub contains_cases : {X : Type 0} (x : X) (xs : List X) (y : X) → Contains (x ∷ xs) y → (y ≡ x) ⊎ Contains xs y

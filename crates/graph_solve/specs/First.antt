@@ -1,7 +1,7 @@
 -- The first bits of values.
 use Rattle.std.specs.Prelude.{ℕ, ◌==◌, ◌&&◌, if◌then◌else◌, nat_lt, Bool, true, false, not, List, length, slice_index_or}
 use Rattle.std.specs.FinSet.{contains}
-use Rattle.graph_problem.specs.Numbers.{Numbers}
+use Rattle.graph_solve_problem.specs.Numbers.{Numbers}
 
 -- whether paths begin at a block: at the entry, or at the ends
 abbrev pub is_first : (ends : List Bool) (forward : Bool) (block : ℕ) → Bool

@@ -3,9 +3,9 @@ use Rattle.std.specs.Prelude.{◌≡◌, ℕ, ◌<◌, ◌&&◌, Bool, true, fal
 use Rattle.std.specs.List.{All, Contains, sum_by}
 use Rattle.graph_core.specs.Graphs.{Block, End, Jump, Branch, Return, Graph}
 use Rattle.graph_core.specs.Uses.{targets_of}
-use Rattle.graph_problem.specs.declared.flow_graph.Edge.{Edge}
-use Rattle.graph_problem.specs.Paths.{ControlFlow}
-use Rattle.graph_problem.specs.Solution.{HasEdge}
+use Rattle.graph_solve_problem.specs.declared.flow_graph.Edge.{Edge}
+use Rattle.graph_solve_problem.specs.Paths.{ControlFlow}
+use Rattle.graph_solve_problem.specs.Solution.{HasEdge}
 
 -- whether the function ends there
 abbrev pub is_return : End → Bool

@@ -3,7 +3,7 @@ use Rattle.std.specs.Prelude.{◌≡◌, ℕ, suc, ◌+◌, Bool, true, false, L
 use Rattle.std.specs.FinSet.{empty, insert}
 use Rattle.std.specs.List.{range_with_len}
 use Rattle.bit_rows.specs.Grid.{row_at}
-use Rattle.graph_problem.specs.Numbers.{Numbers}
+use Rattle.graph_solve_problem.specs.Numbers.{Numbers}
 
 -- the numbers whose bits are set in a row that begins with this number
 abbrev pub numbers_from : ℕ → List Bool → Numbers

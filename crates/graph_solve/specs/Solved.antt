@@ -1,7 +1,7 @@
 -- What rows of bits say of a problem's solution.
 use Rattle.std.specs.Prelude.{if◌then◌else◌, List}
 use Rattle.graph_solve.specs.declared.solved_rows.SolvedRows.{SolvedRows}
-use Rattle.graph_problem.specs.Numbers.{Numbers}
+use Rattle.graph_solve_problem.specs.Numbers.{Numbers}
 use Rattle.graph_solve.specs.Rows.{sets_at}
 
 -- the facts at the starts of blocks

@@ -4,16 +4,16 @@ use Rattle.std.specs.List.{All, Contains}
 use Rattle.std.specs.declared.vec.Vec.{Vec}
 use Rattle.std.specs.declared.alloc.Global.{Global}
 use Rattle.bit_rows.specs.Grid.{row_at}
-use Rattle.graph_problem.specs.declared.flow_graph.Edge.{Edge}
-use Rattle.graph_problem.specs.declared.flow_graph.FlowGraph.{FlowGraph}
+use Rattle.graph_solve_problem.specs.declared.flow_graph.Edge.{Edge}
+use Rattle.graph_solve_problem.specs.declared.flow_graph.FlowGraph.{FlowGraph}
 use Rattle.graph_solve.specs.declared.solving.Tables.{Tables}
 use Rattle.graph_solve.specs.declared.task.Task.{Task}
 use Rattle.graph_solve.specs.declared.work.Work.{Work}
 use Rattle.graph_solve.specs.First.{first_bit}
-use Rattle.graph_problem.specs.Problem.{DataFlow}
-use Rattle.graph_problem.specs.Paths.{ControlFlow}
-use Rattle.graph_problem.specs.Solution.{AreWithin, HasEdge, control_flow}
-use Rattle.graph_problem.specs.Rounds.{AreFalling, directed}
+use Rattle.graph_solve_problem.specs.Problem.{DataFlow}
+use Rattle.graph_solve_problem.specs.Paths.{ControlFlow}
+use Rattle.graph_solve_problem.specs.Solution.{AreWithin, HasEdge, control_flow}
+use Rattle.graph_solve_problem.specs.Rounds.{AreFalling, directed}
 use Rattle.graph_solve.specs.Rows.{set_at, sets_at, table}
 
 -- where edges lead from a block, in the order of the edges

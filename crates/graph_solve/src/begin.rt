@@ -9,7 +9,7 @@ ghost use Rattle.graph_solve.specs.Work.{IsTask, IsWork, edges_from, sum_to, to_
 use crate::task::Task;
 use crate::work::Work;
 use bit_rows::Rows;
-use graph_problem::{FlowGraph, Problem};
+use graph_solve_problem::{FlowGraph, Problem};
 use std::alloc::{AllocError, Global};
 use std::collections::VecDeque;
 

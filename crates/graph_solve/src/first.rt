@@ -3,10 +3,10 @@
 ghost use Rattle.std.specs.Prelude.{◌≡◌, ◌<◌};
 ghost use Rattle.std.specs.FinSet.{contains};
 ghost use Rattle.graph_solve.specs.First.{first_bit};
-ghost use Rattle.graph_problem.specs.Solution.{control_flow};
+ghost use Rattle.graph_solve_problem.specs.Solution.{control_flow};
 
 use crate::tables::Bits;
-use graph_problem::{Facts, FlowGraph, Problem, begins};
+use graph_solve_problem::{Facts, FlowGraph, Problem, begins};
 
 /// For each block the facts that it keeps.
 #[derive(Drop)]

@@ -4,14 +4,14 @@ ghost use Rattle.std.specs.Prelude.{◌≡◌, ◌+◌, ◌*◌, ◌<◌, ◌≤
 ghost use Rattle.graph_core.specs.Graphs.{block_view, end_view, graph_view};
 ghost use Rattle.graph_core.specs.Uses.{targets_of};
 ghost use Rattle.graph_solve.specs.GraphFlow.{AreFlow, AreTargetsWithin, edge_count, edge_from, graph_flow, is_return, lead_within, leads_within};
-ghost use Rattle.graph_problem.specs.Solution.{IsSolution};
+ghost use Rattle.graph_solve_problem.specs.Solution.{IsSolution};
 ghost use Rattle.graph_solve.specs.Solved.{ends_of, starts_of};
 ghost use Rattle.graph_solve.specs.Work.{AreTables};
 
 use crate::solved_rows::SolvedRows;
 use crate::solving::{Tables, solve_tables, tables_of};
 use graph_core::{Block, End, Graph};
-use graph_problem::{Edge, FlowGraph, Problem, Solution, Steps, solve_flow_plain};
+use graph_solve_problem::{Edge, FlowGraph, Problem, Solution, Steps, solve_flow_plain};
 use std::alloc::{AllocError, Global};
 use std::marker::Brand;
 use std::sync::ledger::{Blank, Ledger};

@@ -5,7 +5,7 @@ ghost use Rattle.bit_rows.specs.Grid.{row_at};
 ghost use Rattle.graph_solve.specs.Rows.{set_at, sets_at};
 
 use bit_rows::Rows;
-use graph_problem::Facts;
+use graph_solve_problem::Facts;
 use std::alloc::{AllocError, Global};
 
 /// The numbers whose bits are set in a row.

@@ -5,7 +5,7 @@ ghost use Rattle.bit_rows.specs.Grid.{row_at};
 
 use crate::sets::sets_of;
 use bit_rows::Rows;
-use graph_problem::Solution;
+use graph_solve_problem::Solution;
 use std::alloc::{AllocError, Global};
 
 /// Rows of bits that solve a problem: for each block what comes to it along paths, and then for each what it makes of it.
@@ -23,7 +23,7 @@ pub struct SolvedRows {
 impl SolvedRows {
     ghost use Rattle.std.specs.FinSet.{contains};
     ghost use Rattle.std.specs.Prelude.{IfOk, Some, slice_get, slice_set};
-    ghost use Rattle.graph_problem.specs.Numbers.{Numbers};
+    ghost use Rattle.graph_solve_problem.specs.Numbers.{Numbers};
     ghost use Rattle.graph_solve.specs.Rows.{AreSameElsewhere, set_at};
     ghost use Rattle.graph_solve.specs.Solved.{ends_of, starts_of};
 

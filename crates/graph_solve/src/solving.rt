@@ -3,7 +3,7 @@
 ghost use Rattle.std.specs.Prelude.{◌≡◌, ◌+◌, ◌*◌, ◌<◌, ◌≤◌, ◌^◌, IfOk, OnOk, length};
 ghost use Rattle.graph_solve.specs.First.{first_bit};
 ghost use Rattle.graph_solve.specs.Rows.{table};
-ghost use Rattle.graph_problem.specs.Solution.{AreWithin, IsSolution, control_flow};
+ghost use Rattle.graph_solve_problem.specs.Solution.{AreWithin, IsSolution, control_flow};
 ghost use Rattle.graph_solve.specs.Solved.{ends_of, starts_of};
 ghost use Rattle.graph_solve.specs.Work.{AreTables};
 
@@ -14,7 +14,7 @@ use crate::tables::table_of;
 use crate::task::task_of;
 use crate::work::settle;
 use bit_rows::Rows;
-use graph_problem::{FlowGraph, Problem, Steps};
+use graph_solve_problem::{FlowGraph, Problem, Steps};
 use std::alloc::{AllocError, Global};
 use std::sync::ledger::Ledger;
 

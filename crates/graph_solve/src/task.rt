@@ -1,13 +1,13 @@
 //! What the solver knows of a problem and a graph before it begins.
 
 ghost use Rattle.std.specs.Prelude.{◌≡◌, ◌+◌, ◌<◌, ◌^◌, [], length, IfOk, map};
-ghost use Rattle.graph_problem.specs.Rounds.{directed};
+ghost use Rattle.graph_solve_problem.specs.Rounds.{directed};
 ghost use Rattle.graph_solve.specs.Rows.{table};
-ghost use Rattle.graph_problem.specs.Solution.{AreWithin};
+ghost use Rattle.graph_solve_problem.specs.Solution.{AreWithin};
 ghost use Rattle.graph_solve.specs.Work.{AreTargets, IsTask};
 
 use bit_rows::Rows;
-use graph_problem::{FlowGraph, Problem, directed_edge};
+use graph_solve_problem::{FlowGraph, Problem, directed_edge};
 use std::alloc::{AllocError, Global};
 
 /// The problem in rows of bits, and the graph in the direction of its paths.

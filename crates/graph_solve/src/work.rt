@@ -2,12 +2,12 @@
 
 ghost use Rattle.std.specs.Prelude.{◌≡◌, ◌<◌, ◌≤◌, ◌+◌, ◌*◌, ◌^◌, ℕ, [], ◌∷◌, List, OnOk, IfOk, length, map, slice_index_or};
 ghost use Rattle.std.specs.List.{Contains};
-ghost use Rattle.graph_problem.specs.Solution.{HasEdge};
+ghost use Rattle.graph_solve_problem.specs.Solution.{HasEdge};
 ghost use Rattle.graph_solve.specs.Work.{IsTask, IsWork, IsMadeAt, edges_of, edges_from, to_come};
 
 use crate::task::Task;
 use bit_rows::Rows;
-use graph_problem::{FlowGraph, Problem, Steps};
+use graph_solve_problem::{FlowGraph, Problem, Steps};
 use std::alloc::AllocError;
 use std::collections::VecDeque;
 use std::sync::ledger::Ledger;

@@ -3,7 +3,7 @@ use Rattle.std.proofs.Common.{◌≡◌, ℕ, ◌+◌, ◌≤◌, List, [], ◌�
 use Rattle.std.specs.List.{AllByRecursion}
 use Rattle.graph_homes.specs.declared.home.Home.{Home}
 use Rattle.graph_homes.specs.declared.home.Home.TheVariants.{Register, Slot}
-use Rattle.homed_unit.specs.Homed.{IsHomeAmong}
+use Rattle.graph_homes.specs.Homed.{IsHomeAmong}
 
 pub among_more : (m n : ℕ) → m ≤ n → (home : Home) → IsHomeAmong m home → IsHomeAmong n home
 among_more m n le (Register r) is = is

@@ -11,7 +11,7 @@ use Rattle.graph_core.specs.Graphs.{Graph}
 use Rattle.graph_homes.specs.declared.home.Home.{Home}
 use Rattle.graph_homes.specs.declared.home.Home.TheVariants.{Register, Slot}
 use Rattle.graph_homes.specs.Homes.{is_same_home}
-use Rattle.name_interference.specs.Clashes.{Interfere}
+use Rattle.home_assign.specs.Clashes.{Interfere}
 use Rattle.home_assign.specs.Rule.{AreApart, AreHomes, IsFree, IsHome, joined, first, slot, slots_in}
 
 same_turned : (a b : ℕ) → (a == b) ≡ (b == a)

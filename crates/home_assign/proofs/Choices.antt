@@ -9,12 +9,12 @@ use Rattle.std.proofs.lemmas.Option.{same_Some, slice_get_within}
 use Rattle.graph_core.specs.Graphs.{Graph}
 use Rattle.graph_homes.specs.declared.home.Home.{Home}
 use Rattle.graph_homes.specs.declared.home.Home.TheVariants.{Register, Slot}
-use Rattle.homed_unit.specs.Frames.{home_registers}
-use Rattle.homed_unit.specs.Homed.{IsHomeAmong}
-use Rattle.name_interference.specs.declared.registers.Interference.{Interference}
-use Rattle.name_interference.specs.Joins.{IsFirst, IsFirstJoined}
-use Rattle.name_interference.specs.Registers.{AreClashesOf, HaveSameClashes, HaveSameRegisters, IsFreeFor, clashes, has}
-use Rattle.name_interference.proofs.Tables.{past_clear}
+use Rattle.graph_homes.specs.Frames.{home_registers}
+use Rattle.graph_homes.specs.Homed.{IsHomeAmong}
+use Rattle.home_assign.specs.declared.registers.Interference.{Interference}
+use Rattle.home_assign.specs.Joins.{IsFirst, IsFirstJoined}
+use Rattle.home_assign.specs.Registers.{AreClashesOf, HaveSameClashes, HaveSameRegisters, IsFreeFor, clashes, has}
+use Rattle.home_assign.proofs.Tables.{past_clear}
 use Rattle.home_assign.specs.Choosing.{HasRegister, HaveHomeRegisters, IsChosen, wished, first, none, IsWished}
 use Rattle.home_assign.specs.Rule.{IsFree, IsHome, IsSharable, joined, slot, slot_in, slots_in}
 use Rattle.home_assign.specs.Rule as rule

@@ -4,8 +4,8 @@ use Rattle.std.specs.Prelude.{slice_get}
 use Rattle.std.specs.List.{AllByRecursion, range_with_len}
 use Rattle.std.proofs.lemmas.Option.{same_Some, slice_get-get_or, slice_get_within}
 use Rattle.bit_rows.proofs.Bits.{at_index}
-use Rattle.homed_unit.specs.Frames.{home_registers}
-use Rattle.homed_unit.specs.Homed.{IsHomeRegister}
+use Rattle.graph_homes.specs.Frames.{home_registers}
+use Rattle.graph_homes.specs.Homed.{IsHomeRegister}
 
 behind_first : List ℕ
 behind_first = map (λ k. 18 + k) (range_with_len 0 14)

@@ -9,7 +9,7 @@ use Rattle.graph_homes.specs.declared.home.Home.{Home}
 use Rattle.graph_homes.specs.Reused.{IsReused}
 use Rattle.graph_core.specs.Graphs.{Graph, Logged, Scalar}
 use Rattle.graph_core.specs.Paths.{Among, front, behind}
-use Rattle.home_sharing.specs.Sharing.{AreShared, none, shared, own, change_of, home_in}
+use Rattle.home_assign.specs.Sharing.{AreShared, none, shared, own, change_of, home_in}
 use Rattle.home_assign.specs.Changes.{IsBefore, Sharing}
 use Rattle.home_assign.specs.Units.{AreChangesOfEach, no_more, of_first}
 

@@ -15,8 +15,8 @@ use Rattle.graph_solve.proofs.Valid.{valid_targets}
 use Rattle.debug_records.specs.declared.change.PassName.{PassName}
 use Rattle.debug_records.specs.declared.mode.Mode.{Mode}
 use Rattle.debug_records.specs.declared.mode.Mode.TheVariants.{Slots, Registers}
-use Rattle.homed_unit.specs.Homed.{AreHomesOf, HomedForm, IsHomeAmong, IsHomeRegister, home_of, homes_in}
-use Rattle.home_sharing.specs.Sharing.{AreLogged, home_in}
+use Rattle.graph_homes.specs.Homed.{AreHomesOf, HomedForm, IsHomeAmong, IsHomeRegister, home_of, homes_in}
+use Rattle.home_assign.specs.Sharing.{AreLogged, home_in}
 use Rattle.home_assign.specs.Homes.{AreHomesFor}
 use Rattle.home_assign.specs.Rule.{AreApart, AreHomes, HaveHomesApart, HaveRegisters, HaveSlots, IsHome}
 use Rattle.home_assign.specs.Changes.{HaveChanges, IsSharing, Sharing, homes_pass}

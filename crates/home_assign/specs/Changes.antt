@@ -6,8 +6,8 @@ use Rattle.graph_homes.specs.declared.home.Home.{Home}
 use Rattle.graph_homes.specs.Reused.{IsReused}
 use Rattle.graph_core.specs.Graphs.{Graph, Logged, Scalar, UnitForm}
 use Rattle.graph_core.specs.Paths.{Among}
-use Rattle.homed_unit.specs.Homed.{HomedForm, home_of}
-use Rattle.home_sharing.specs.Sharing.{change_of}
+use Rattle.graph_homes.specs.Homed.{HomedForm, home_of}
+use Rattle.home_assign.specs.Sharing.{change_of}
 
 -- a scalar, by the number of its function and its own there
 pub record Sharing : Type 0 where

@@ -3,10 +3,10 @@ use Rattle.std.specs.Prelude.{◌≡◌, ◌↔◌, ℕ, ◌<◌, true, Option, 
 use Rattle.graph_homes.specs.declared.home.Home.{Home}
 use Rattle.graph_homes.specs.declared.home.Home.TheVariants.{Register}
 use Rattle.graph_core.specs.Graphs.{Graph}
-use Rattle.homed_unit.specs.Frames.{home_registers}
-use Rattle.name_interference.specs.declared.registers.Interference.{Interference}
-use Rattle.name_interference.specs.Joins.{IsFirst}
-use Rattle.name_interference.specs.Registers.{AreClashesOf, has}
+use Rattle.graph_homes.specs.Frames.{home_registers}
+use Rattle.home_assign.specs.declared.registers.Interference.{Interference}
+use Rattle.home_assign.specs.Joins.{IsFirst}
+use Rattle.home_assign.specs.Registers.{AreClashesOf, has}
 use Rattle.home_assign.specs.Rule.{IsHome}
 
 -- a name has the register of this number

@@ -2,8 +2,8 @@
 use Rattle.std.specs.Prelude.{◌≡◌, ℕ, List, length, map}
 use Rattle.std.specs.List.{AllByRecursion}
 use Rattle.graph_homes.specs.declared.home.Home.{Home}
-use Rattle.homed_unit.specs.Homed.{IsHomeAmong}
-use Rattle.homed_unit.specs.declared.homed.FunctionHomes as declared-homes
+use Rattle.graph_homes.specs.Homed.{IsHomeAmong}
+use Rattle.graph_homes.specs.declared.homed.FunctionHomes as declared-homes
 
 -- There is a home for each of so many names.
 pub record AreHomesFor (names : ℕ) (homes : List Home) : Type 0 where

@@ -1,5 +1,17 @@
+pub mod Pairs
+pub mod Moves
+pub mod Copies
+pub mod Holders
+pub mod Sharing
+pub mod Table
+pub mod Clashes
+pub mod Joins
+pub mod Joining
+pub mod Registers
 pub mod Homes
 pub mod Rule
 pub mod Changes
 pub mod Choosing
 pub mod Units
+pub mod Alike
+pub mod Running

@@ -6,10 +6,10 @@ use Rattle.graph_homes.specs.declared.home.Home.{Home}
 use Rattle.graph_homes.specs.declared.home.Home.TheVariants.{Register, Slot}
 use Rattle.graph_homes.specs.Homes.{is_same_home}
 use Rattle.graph_core.specs.Graphs.{Graph}
-use Rattle.homed_unit.specs.Frames.{home_registers}
-use Rattle.homed_unit.specs.Homed.{HomedForm, home_of, homes_in}
-use Rattle.name_interference.specs.Clashes.{Interfere}
-use Rattle.name_interference.specs.Joins.{IsFirstJoined}
+use Rattle.graph_homes.specs.Frames.{home_registers}
+use Rattle.graph_homes.specs.Homed.{HomedForm, home_of, homes_in}
+use Rattle.home_assign.specs.Clashes.{Interfere}
+use Rattle.home_assign.specs.Joins.{IsFirstJoined}
 
 -- a slot counts as one, a register as none
 abbrev pub slot_in : Home → ℕ

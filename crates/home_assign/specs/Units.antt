@@ -4,10 +4,10 @@ use Rattle.debug_records.specs.declared.change.PassName.{PassName}
 use Rattle.debug_records.specs.declared.mode.Mode.{Mode}
 use Rattle.graph_homes.specs.declared.home.Home.{Home}
 use Rattle.graph_core.specs.Graphs.{Graph, Logged}
-use Rattle.home_sharing.specs.Sharing.{AreShared, home_in}
+use Rattle.home_assign.specs.Sharing.{AreShared, home_in}
 use Rattle.home_assign.specs.Homes.{AreHomesFor}
 use Rattle.home_assign.specs.Rule.{AreHomes}
-use Rattle.name_interference.specs.Clashes.{MayHaveHomes}
+use Rattle.home_assign.specs.Clashes.{MayHaveHomes}
 
 -- A graph's names can have homes, and its scalars are among them.
 pub record IsHomeable (g : Graph) : Type 0 where

@@ -5,19 +5,18 @@ ghost use Rattle.std.specs.List.{AllByRecursion};
 ghost use Rattle.debug_records.specs.Change.{changes};
 ghost use Rattle.graph_core.specs.Graphs.{graph_view, logged, unit_view};
 ghost use Rattle.graph_core.specs.Validity.{IsValid};
-ghost use Rattle.homed_unit.specs.Homed.{HaveHomes, homed_view};
+ghost use Rattle.graph_homes.specs.Homed.{HaveHomes, homed_view};
 ghost use Rattle.home_assign.specs.Changes.{HaveChanges, homes_pass};
 ghost use Rattle.home_assign.specs.Homes.{AreHomesFor, homes_listed};
 ghost use Rattle.home_assign.specs.Rule.{AreHomes, HaveHomesApart, HaveRegisters, HaveSlots};
 ghost use Rattle.home_assign.specs.Units.{AreHomesOfEach, AreLoggedOfEach, IsHomeable};
-ghost use Rattle.name_interference.specs.Clashes.{MayHaveHomes};
+ghost use Rattle.home_assign.specs.Clashes.{MayHaveHomes};
 
 use crate::choosing::registers;
+use crate::{log_shared, moved_by};
 use debug_records::{ChangeLog, Mode, PassName};
 use graph_core::{Graph, Unit};
-use graph_homes::Home;
-use home_sharing::{log_shared, moved_by};
-use homed_unit::{FunctionHomes, HomedUnit};
+use graph_homes::{FunctionHomes, Home, HomedUnit};
 use std::alloc::{AllocError, Global};
 
 /// A slot for each name.

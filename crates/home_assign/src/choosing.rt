@@ -3,18 +3,18 @@
 ghost use Rattle.std.specs.Prelude.{◌≡◌, ◌+◌, ◌<◌, ◌≤◌, ◌++◌, ◌∷◌, ℕ, [], IfOk, IfSome, OnOk, length, slice_get};
 ghost use Rattle.std.specs.List.{AllByRecursion};
 ghost use Rattle.graph_core.specs.Graphs.{graph_view};
-ghost use Rattle.homed_unit.specs.Frames.{home_registers};
-ghost use Rattle.homed_unit.specs.Homed.{IsHomeAmong, IsHomeRegister};
+ghost use Rattle.graph_homes.specs.Frames.{home_registers};
+ghost use Rattle.graph_homes.specs.Homed.{IsHomeAmong, IsHomeRegister};
 ghost use Rattle.home_assign.specs.Choosing.{HasRegister, HaveHomeRegisters, HaveNext, IsChosen, IsWished};
 ghost use Rattle.home_assign.specs.Homes.{AreHomesFor};
 ghost use Rattle.home_assign.specs.Rule.{AreHomes, slots_in};
-ghost use Rattle.name_interference.specs.Clashes.{MayHaveHomes};
-ghost use Rattle.name_interference.specs.Registers.{HaveSameClashes, HaveSameRegisters, IsFreeFor};
+ghost use Rattle.home_assign.specs.Clashes.{MayHaveHomes};
+ghost use Rattle.home_assign.specs.Registers.{HaveSameClashes, HaveSameRegisters, IsFreeFor};
 
+use crate::{Interference, first_joined, interference_of};
 use debug_records::Mode;
 use graph_core::Graph;
 use graph_homes::Home;
-use name_interference::{Interference, first_joined, interference_of};
 use std::alloc::{AllocError, Global};
 
 /// The registers that may be homes, in the order in which they are taken: s1 to s11 and t3 to t6.

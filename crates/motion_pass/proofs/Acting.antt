@@ -10,23 +10,23 @@ use Rattle.graph_core.specs.Graphs.{Instruction, Operate, Truncate, Same, Move, 
 use Rattle.graph_core.specs.Uses.{target_of, targets_of}
 use Rattle.graph_core.specs.Paths.{Among}
 use Rattle.graph_core.specs.Computations.{Computation, computed_by}
-use Rattle.motion_rule.specs.Computing.{does, key_of}
-use Rattle.motion_rule.specs.Ways.{Point, within, along, does_at, Leads, passes, IsCome, IsPast, IsInserted, IsRead}
-use Rattle.motion_rule.proofs.Keys.{it_does}
-use Rattle.motion_points.specs.Computing.{computation_view, doing}
-use Rattle.motion_points.specs.Numbers.{key_cmp}
-use Rattle.motion_points.specs.declared.computation.Computation as declared-computation
-use Rattle.motion_facts.specs.Facts.{AreReached}
-use Rattle.motion_facts.specs.Inner.{point_at}
-use Rattle.motion_facts.proofs.Inner.{drop_at}
-use Rattle.motion_facts.proofs.Standing.{Stands, come_at, past_before}
-use Rattle.motion_placement.specs.declared.placement.Action.{Action}
-use Rattle.motion_placement.specs.declared.placement.Action.TheVariants.{Keep, Read, Compute}
-use Rattle.motion_placement.specs.declared.placement.Placement.{Placement}
-use Rattle.motion_placement.specs.Placed.{AreDone, HasTemporary, IsActed, IsPlaced, all_of, reached_by}
-use Rattle.motion_placement.proofs.Acted.{come_there, reached_there, told_so}
-use Rattle.motion_placement.proofs.Entered.{come_edge, edge_come}
-use Rattle.motion_moves.specs.Moving.{IsDoneAt, IsReadAt, AreDoneAt, Becomes, stays, reads}
+use Rattle.motion_pass_points.specs.Computing.{does, key_of}
+use Rattle.motion_pass_points.specs.Ways.{Point, within, along, does_at, Leads, passes, IsCome, IsPast, IsInserted, IsRead}
+use Rattle.motion_pass_points.proofs.Keys.{it_does}
+use Rattle.motion_pass_points.specs.MotionPointsComputing.{computation_view, doing}
+use Rattle.motion_pass_points.specs.Numbers.{key_cmp}
+use Rattle.motion_pass_points.specs.declared.computation.Computation as declared-computation
+use Rattle.motion_pass_problems.specs.Facts.{AreReached}
+use Rattle.motion_pass_problems.specs.Inner.{point_at}
+use Rattle.motion_pass_problems.proofs.Inner.{drop_at}
+use Rattle.motion_pass_problems.proofs.Standing.{Stands, come_at, past_before}
+use Rattle.motion_pass_placement.specs.declared.placement.Action.{Action}
+use Rattle.motion_pass_placement.specs.declared.placement.Action.TheVariants.{Keep, Read, Compute}
+use Rattle.motion_pass_placement.specs.declared.placement.Placement.{Placement}
+use Rattle.motion_pass_placement.specs.Placed.{AreDone, HasTemporary, IsActed, IsPlaced, all_of, reached_by}
+use Rattle.motion_pass_placement.proofs.Acted.{come_there, reached_there, told_so}
+use Rattle.motion_pass_placement.proofs.Entered.{come_edge, edge_come}
+use Rattle.motion_pass_placement.specs.Moving.{IsDoneAt, IsReadAt, AreDoneAt, Becomes, stays, reads}
 use Rattle.motion_pass.specs.Placing.{treated_by}
 use Rattle.motion_pass.proofs.Doing.{NamedOn, all_pairs, done_at, named_on, none_done_at, pairs_one, temporary_at}
 

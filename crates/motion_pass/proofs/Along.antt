@@ -7,14 +7,14 @@ use Rattle.graph_core.specs.Graphs.{Instruction, Block, Graph, Scalar}
 use Rattle.graph_core.specs.Uses.{target_of}
 use Rattle.graph_core.specs.Validity.{place_behind}
 use Rattle.graph_core.specs.Computations.{Computation}
-use Rattle.graph_edits.specs.declared.cases.Case.{Case}
-use Rattle.graph_edits.specs.Changes.{Adds, Below, Numbered}
-use Rattle.graph_edits.proofs.Adding.{adds_first, adds_last, adds_next, adds_same}
-use Rattle.motion_rule.specs.Ways.{within}
-use Rattle.motion_facts.specs.Inner.{point_at}
-use Rattle.motion_facts.proofs.Inner.{drop_at}
-use Rattle.motion_moves.specs.Moves.{IsReadingAssignment}
-use Rattle.motion_moves.specs.Moving.{IsReadAt}
+use Rattle.pass_law.specs.declared.cases.Case.{Case}
+use Rattle.pass_law.specs.Changes.{Adds, Below, Numbered}
+use Rattle.pass_law.proofs.Adding.{adds_first, adds_last, adds_next, adds_same}
+use Rattle.motion_pass_points.specs.Ways.{within}
+use Rattle.motion_pass_problems.specs.Inner.{point_at}
+use Rattle.motion_pass_problems.proofs.Inner.{drop_at}
+use Rattle.motion_pass_placement.specs.Moves.{IsReadingAssignment}
+use Rattle.motion_pass_placement.specs.Moving.{IsReadAt}
 use Rattle.motion_pass.specs.Cases.{IsReadingAt, IsReadingIn}
 
 abbrev pub index_of : Case → ℕ

@@ -6,13 +6,13 @@ use Rattle.std.proofs.lemmas.Option.{none-some, same_Some}
 use Rattle.graph_core.specs.declared.name.Name as declared-name
 use Rattle.graph_core.specs.Graphs.{Instruction, Block}
 use Rattle.graph_core.specs.Computations.{Computation}
-use Rattle.motion_rule.specs.Ways.{Point, IsCome, IsInserted}
-use Rattle.motion_points.specs.Computing.{doing}
-use Rattle.motion_facts.proofs.Inner.{at_inside}
-use Rattle.motion_placement.specs.declared.placement.Placement.{Placement}
-use Rattle.motion_placement.specs.Placed.{AreNumbered, nothing_yet, and_none, and_one, AreDone, none_done, one_done, one_passed, all_of}
-use Rattle.motion_moves.specs.Moving as moving
-use Rattle.motion_moves.specs.Moving.{IsDoneAt, AreDoneAt}
+use Rattle.motion_pass_points.specs.Ways.{Point, IsCome, IsInserted}
+use Rattle.motion_pass_points.specs.MotionPointsComputing.{doing}
+use Rattle.motion_pass_problems.proofs.Inner.{at_inside}
+use Rattle.motion_pass_placement.specs.declared.placement.Placement.{Placement}
+use Rattle.motion_pass_placement.specs.Placed.{AreNumbered, nothing_yet, and_none, and_one, AreDone, none_done, one_done, one_passed, all_of}
+use Rattle.motion_pass_placement.specs.Moving as moving
+use Rattle.motion_pass_placement.specs.Moving.{IsDoneAt, AreDoneAt}
 use Rattle.motion_pass.specs.Placing.{with_temporaries}
 
 abbrev Names : Type 0

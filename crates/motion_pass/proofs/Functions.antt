@@ -7,15 +7,15 @@ use Rattle.std.proofs.lemmas.Option.{none-some, same_Some}
 use Rattle.graph_core.specs.Graphs.{Block, Graph, UnitForm}
 use Rattle.graph_core.specs.Paths.{Among, front, behind}
 use Rattle.graph_core.specs.Validity.{IsBlock, IsGraph, IsKept, IsValid, place_at_end, total}
-use Rattle.graph_edits.specs.declared.cases.Case.{Case}
-use Rattle.graph_edits.specs.Changes.{Below, IsCaseOf}
-use Rattle.graph_edits.specs.Kept.{EachFunction, KeepsFunction}
-use Rattle.graph_edits.proofs.Adding.{all_same}
-use Rattle.graph_edits.proofs.OfFunctions.{AreCasesBelow}
-use Rattle.motion_facts.proofs.Inner.{drop_at}
-use Rattle.motion_points.proofs.Numbering.{snoc_old}
-use Rattle.motion_placement.proofs.Rows.{got_below}
-use Rattle.motion_moves.specs.Moves.{BecomesIn, moves, passes_a_bound, is_entered_again, BecomeIn, no_function, one_function}
+use Rattle.pass_law.specs.declared.cases.Case.{Case}
+use Rattle.pass_law.specs.Changes.{Below, IsCaseOf}
+use Rattle.pass_law.specs.Kept.{EachFunction, KeepsFunction}
+use Rattle.pass_law.proofs.Adding.{all_same}
+use Rattle.pass_law.proofs.OfFunctions.{AreCasesBelow}
+use Rattle.motion_pass_problems.proofs.Inner.{drop_at}
+use Rattle.motion_pass_points.proofs.Numbering.{snoc_old}
+use Rattle.motion_pass_placement.proofs.Rows.{got_below}
+use Rattle.motion_pass_placement.specs.Moves.{BecomesIn, moves, passes_a_bound, is_entered_again, BecomeIn, no_function, one_function}
 use Rattle.motion_pass.specs.declared.bounds.Amount.{Amount}
 use Rattle.motion_pass.specs.Amounts.{AreBounded, IsAmount}
 

@@ -6,8 +6,8 @@ use Rattle.graph_core.specs.Graphs.{Operand, Instruction, End, Jump, Branch, Ret
 use Rattle.graph_core.specs.Paths.{Among, front, behind}
 use Rattle.graph_core.specs.Uses.{targets_of}
 use Rattle.graph_core.specs.Computations.{Computation}
-use Rattle.motion_rule.specs.Ways.{along}
-use Rattle.motion_moves.specs.Moving.{AreDone, IsLed, directly, by_own, IsEnd, returns, jumps, branches}
+use Rattle.motion_pass_points.specs.Ways.{along}
+use Rattle.motion_pass_placement.specs.Moving.{AreDone, IsLed, directly, by_own, IsEnd, returns, jumps, branches}
 
 pub no_items : {A : Type 0} (xs : List A) → length xs ≡ 0 → xs ≡ []
 no_items [] none = refl

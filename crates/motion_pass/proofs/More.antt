@@ -4,16 +4,16 @@ use Rattle.std.specs.Prelude.{slice_get}
 use Rattle.std.proofs.lemmas.Option.{none-some, same_Some}
 use Rattle.graph_core.specs.Graphs.{Instruction, End, Block, Graph}
 use Rattle.graph_core.specs.Computations.{Computation, computed_by}
-use Rattle.graph_edits.specs.declared.cases.Case.{Case}
-use Rattle.graph_edits.specs.Changes.{Adds}
-use Rattle.graph_edits.proofs.Adding.{adds_none, adds_same}
-use Rattle.motion_rule.specs.Ways.{within}
-use Rattle.motion_rule.proofs.Keys.{it_does}
-use Rattle.motion_facts.proofs.Standing.{come_at}
-use Rattle.motion_placement.specs.Placed.{IsReadSomewhere}
-use Rattle.motion_placement.proofs.Members.{IsIn, in_along, in_blocks, in_once}
-use Rattle.motion_moves.specs.Moves.{IsMovedAssignment, IsReadingAssignment}
-use Rattle.motion_moves.specs.Moving.{AreRead, none_is, read_somewhere, read_nowhere, AreTreated, IsMoved, IsReadAt}
+use Rattle.pass_law.specs.declared.cases.Case.{Case}
+use Rattle.pass_law.specs.Changes.{Adds}
+use Rattle.pass_law.proofs.Adding.{adds_none, adds_same}
+use Rattle.motion_pass_points.specs.Ways.{within}
+use Rattle.motion_pass_points.proofs.Keys.{it_does}
+use Rattle.motion_pass_problems.proofs.Standing.{come_at}
+use Rattle.motion_pass_placement.specs.Placed.{IsReadSomewhere}
+use Rattle.motion_pass_placement.proofs.Members.{IsIn, in_along, in_blocks, in_once}
+use Rattle.motion_pass_placement.specs.Moves.{IsMovedAssignment, IsReadingAssignment}
+use Rattle.motion_pass_placement.specs.Moving.{AreRead, none_is, read_somewhere, read_nowhere, AreTreated, IsMoved, IsReadAt}
 use Rattle.motion_pass.proofs.Along.{behind_others}
 
 read_count : {blocks : List Block} {computations read : List Computation} → AreRead blocks computations read → (k : ℕ) (e : Computation) → slice_get computations k ≡ Some e → IsReadSomewhere blocks e → 0 < length read

@@ -8,9 +8,9 @@ use Rattle.graph_core.specs.Graphs.{Instruction, Marker, End, Block}
 use Rattle.graph_core.specs.Uses.{marker_of}
 use Rattle.graph_core.specs.Validity.{place_behind}
 use Rattle.graph_core.specs.Computations.{Computation}
-use Rattle.motion_rule.specs.Ways.{within}
-use Rattle.motion_facts.proofs.Inner.{drop_at}
-use Rattle.motion_moves.specs.Moving.{AreDone, Becomes, AreMoved, no_more, one_more, IsLed, directly, by_own, IsEnd, returns, jumps, branches, IsMovedBlock, AreMovedBlocks, no_block, one_block}
+use Rattle.motion_pass_points.specs.Ways.{within}
+use Rattle.motion_pass_problems.proofs.Inner.{drop_at}
+use Rattle.motion_pass_placement.specs.Moving.{AreDone, Becomes, AreMoved, no_more, one_more, IsLed, directly, by_own, IsEnd, returns, jumps, branches, IsMovedBlock, AreMovedBlocks, no_block, one_block}
 use Rattle.motion_pass.specs.Placing.{placed}
 
 -- the place behind one more instruction

@@ -5,9 +5,9 @@ use Rattle.std.proofs.lemmas.Option.{none-some}
 use Rattle.graph_core.specs.declared.name.Name as declared-name
 use Rattle.graph_core.specs.Graphs.{Block, Graph}
 use Rattle.graph_core.specs.Computations.{Computation}
-use Rattle.motion_placement.specs.declared.placement.Placement.{Placement}
-use Rattle.motion_placement.specs.Placed.{IsPlaced, IsReadSomewhere, all_of, reached_by}
-use Rattle.motion_moves.specs.Moving.{AreRead, none_is, read_somewhere, read_nowhere, AreTreated}
+use Rattle.motion_pass_placement.specs.declared.placement.Placement.{Placement}
+use Rattle.motion_pass_placement.specs.Placed.{IsPlaced, IsReadSomewhere, all_of, reached_by}
+use Rattle.motion_pass_placement.specs.Moving.{AreRead, none_is, read_somewhere, read_nowhere, AreTreated}
 use Rattle.motion_pass.specs.Placing.{treated_by, with_temporaries}
 
 -- those with temporaries are those that are read

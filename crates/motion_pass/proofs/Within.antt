@@ -3,7 +3,7 @@ use Rattle.std.proofs.Common.{◌≡◌, ℕ, ◌+◌, ◌-◌, ◌^◌, ◌<◌
 use Rattle.graph_core.specs.Bounds.{most_names, most_instructions_of_function, most_instructions, most_blocks}
 use Rattle.graph_core.specs.Graphs.{Graph}
 use Rattle.graph_core.specs.Validity.{instructions_of, total}
-use Rattle.motion_moves.specs.Moves.{IsWithin}
+use Rattle.motion_pass_placement.specs.Moves.{IsWithin}
 use Rattle.motion_pass.specs.declared.bounds.Amount.{Amount}
 use Rattle.motion_pass.specs.Amounts.{IsAmount}
 use Rattle.motion_pass.proofs.Functions.{total_parts}

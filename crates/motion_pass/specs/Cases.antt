@@ -4,9 +4,9 @@ use Rattle.graph_core.specs.Graphs.{Instruction, Block, Scalar}
 use Rattle.graph_core.specs.Uses.{target_of}
 use Rattle.graph_core.specs.Validity.{place_behind}
 use Rattle.graph_core.specs.Computations.{Computation}
-use Rattle.graph_edits.specs.declared.cases.Case.{Case}
-use Rattle.motion_facts.specs.Inner.{point_at}
-use Rattle.motion_moves.specs.Moving.{IsReadAt}
+use Rattle.pass_law.specs.declared.cases.Case.{Case}
+use Rattle.motion_pass_problems.specs.Inner.{point_at}
+use Rattle.motion_pass_placement.specs.Moving.{IsReadAt}
 
 -- the variable of a name, if it is a scalar
 abbrev pub variable_in : List Scalar → (x : ℕ) → Option ℕ

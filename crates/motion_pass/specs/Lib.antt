@@ -1,3 +1,4 @@
+pub mod Grown
 pub mod Placing
 pub mod Amounts
 pub mod Cases

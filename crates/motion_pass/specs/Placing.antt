@@ -7,10 +7,10 @@ use Rattle.graph_core.specs.Graphs.{Instruction, End, Block, Graph, block_view, 
 use Rattle.graph_core.specs.Paths.{Among}
 use Rattle.graph_core.specs.Uses.{targets_of}
 use Rattle.graph_core.specs.Computations.{Computation}
-use Rattle.motion_rule.specs.Ways.{Point}
-use Rattle.motion_placement.specs.declared.placement.Placement.{Placement}
-use Rattle.motion_placement.specs.Placed.{IsPlaced, all_of}
-use Rattle.motion_moves.specs.Moving.{AreDone, Becomes, IsLed, IsEnd, IsMovedBlock, AreMovedBlocks}
+use Rattle.motion_pass_points.specs.Ways.{Point}
+use Rattle.motion_pass_placement.specs.declared.placement.Placement.{Placement}
+use Rattle.motion_pass_placement.specs.Placed.{IsPlaced, all_of}
+use Rattle.motion_pass_placement.specs.Moving.{AreDone, Becomes, IsLed, IsEnd, IsMovedBlock, AreMovedBlocks}
 use Rattle.motion_pass.specs.declared.moving.Moving.{Moving}
 
 -- a place by its number

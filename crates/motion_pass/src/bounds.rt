@@ -4,7 +4,7 @@ ghost use Rattle.std.specs.Prelude.{◌≡◌, ◌-◌, ◌^◌, ◌++◌, ◌�
 ghost use Rattle.graph_core.specs.Graphs as spec;
 ghost use Rattle.graph_core.specs.Graphs.{block_view, graph_view, instruction_view};
 ghost use Rattle.graph_core.specs.Validity.{counts, instructions_of, total};
-ghost use Rattle.motion_moves.specs.Moves.{IsWithin};
+ghost use Rattle.motion_pass_placement.specs.Moves.{IsWithin};
 
 use graph_core::{
     Block, Graph, Instr, MAX_BLOCKS, MAX_FUNCTION_INSTRUCTIONS, MAX_INSTRUCTIONS, MAX_NAMES,

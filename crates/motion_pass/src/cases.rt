@@ -7,18 +7,18 @@ ghost use Rattle.graph_core.specs.Bounds.{most_blocks};
 ghost use Rattle.graph_core.specs.Computations.{Computation};
 ghost use Rattle.graph_core.specs.Graphs as spec;
 ghost use Rattle.graph_core.specs.Graphs.{block_view, graph_view, scalar_view};
-ghost use Rattle.graph_edits.specs.Changes.{Adds};
-ghost use Rattle.motion_facts.specs.Inner.{point_at};
-ghost use Rattle.motion_placement.specs.Placed.{IsPlaced};
-ghost use Rattle.motion_moves.specs.Moves.{IsReadingAssignment};
-ghost use Rattle.motion_moves.specs.Moving.{IsReadAt};
+ghost use Rattle.pass_law.specs.Changes.{Adds};
+ghost use Rattle.motion_pass_problems.specs.Inner.{point_at};
+ghost use Rattle.motion_pass_placement.specs.Placed.{IsPlaced};
+ghost use Rattle.motion_pass_placement.specs.Moves.{IsReadingAssignment};
+ghost use Rattle.motion_pass_placement.specs.Moving.{IsReadAt};
 ghost use Rattle.motion_pass.specs.Cases.{IsReadingAt, IsReadingIn, variable_in};
 ghost use Rattle.motion_pass.specs.Placing.{placed};
 
 use debug_records::{Place, Var};
 use graph_core::{Block, Graph, Name, Scalar};
-use graph_edits::Case;
-use motion_placement::{Action, Placement};
+use motion_pass_placement::{Action, Placement};
+use pass_law::Case;
 use std::alloc::AllocError;
 
 /// A point of a graph: the place in force there, if there is one, its block, how many instructions stand before it, and whether a temporary is read there.

@@ -1,4 +1,4 @@
-//! Lazy code motion (Knoop, Rüthing and Steffen 1992): what is computed again on some way is computed once before, and kept in a temporary.
+//! Lazy code motion: the moved unit, which is valid.
 #![tactic(auto)]
 
 mod bounds;

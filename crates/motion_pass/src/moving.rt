@@ -6,14 +6,14 @@ ghost use Rattle.graph_core.specs.Graphs.{block_view, end_view, graph_view, inst
 ghost use Rattle.graph_core.specs.Bounds.{most_blocks};
 ghost use Rattle.graph_core.specs.Uses.{target_of};
 ghost use Rattle.graph_core.specs.Validity.{place_at_end};
-ghost use Rattle.motion_facts.specs.Inner.{point_at};
-ghost use Rattle.motion_placement.specs.Placed.{IsPlaced};
-ghost use Rattle.motion_moves.specs.Moving.{AreMoved, IsMoved};
+ghost use Rattle.motion_pass_problems.specs.Inner.{point_at};
+ghost use Rattle.motion_pass_placement.specs.Placed.{IsPlaced};
+ghost use Rattle.motion_pass_placement.specs.Moving.{AreMoved, IsMoved};
 ghost use Rattle.motion_pass.specs.Placing.{LeadInside, placed};
 
 use debug_records::Place;
 use graph_core::{Block, End, Graph, Instr, Label, Name, Operand};
-use motion_placement::{Action, Placement};
+use motion_pass_placement::{Action, Placement};
 use std::alloc::{AllocError, Global};
 
 /// A graph whose computations are moved as they are placed.

@@ -7,10 +7,10 @@ ghost use Rattle.graph_core.specs.Graphs as spec;
 ghost use Rattle.graph_core.specs.Graphs.{graph_view, unit_view};
 ghost use Rattle.graph_core.specs.Validity.{IsValid};
 ghost use Rattle.debug_records.specs.declared.change.Kind.TheVariants.{Moved};
-ghost use Rattle.graph_edits.specs.Changes.{Adds, AddsChangesOf, AreCasesOf};
-ghost use Rattle.graph_edits.specs.Kept.{AddsChanges, EachFunction, KeepsFunction, ShareTheSame};
-ghost use Rattle.motion_placement.specs.Placed.{IsEnteredAgain, IsPlaced};
-ghost use Rattle.motion_moves.specs.Moves.{AreAllMoved, BecomesIn, IsMovedAssignment};
+ghost use Rattle.pass_law.specs.Changes.{Adds, AddsChangesOf, AreCasesOf};
+ghost use Rattle.pass_law.specs.Kept.{AddsChanges, EachFunction, KeepsFunction, ShareTheSame};
+ghost use Rattle.motion_pass_placement.specs.Placed.{IsEnteredAgain, IsPlaced};
+ghost use Rattle.motion_pass_placement.specs.Moves.{AreAllMoved, BecomesIn, IsMovedAssignment};
 ghost use Rattle.motion_pass.specs.Amounts.{AreBounded, IsAmount};
 ghost use Rattle.motion_pass.specs.Placing.{LeadInside};
 
@@ -19,8 +19,8 @@ use crate::cases::add_moved;
 use crate::moving::moved_graph;
 use debug_records::{Kind, PassName};
 use graph_core::{Graph, Unit};
-use graph_edits::{Case, log_cases};
-use motion_placement::{Motion, Placement, place};
+use motion_pass_placement::{Motion, Placement, place};
+use pass_law::{Case, log_cases};
 use std::alloc::{AllocError, Global};
 
 /// The name of the pass.

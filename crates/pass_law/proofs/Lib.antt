@@ -14,3 +14,12 @@ pub mod WorkedMotion
 pub mod WorkedCopy
 pub mod WorkedOthers
 pub mod WorkedRefusals
+mod Logging
+pub mod Adding
+pub mod Functions
+pub mod InOrder
+pub mod Log
+pub mod OfFunctions
+pub mod Found
+pub mod Leading
+pub mod Shape

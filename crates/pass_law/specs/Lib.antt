@@ -4,3 +4,9 @@ pub mod Relations
 pub mod Trails
 pub mod Worked
 pub mod WorkedChanges
+pub mod Cases
+pub mod Changes
+pub mod Kept
+pub mod HandedIn
+pub mod PassRunsKept
+pub mod Leading

@@ -4,26 +4,26 @@ use Rattle.std.specs.Prelude.{slice_index}
 use Rattle.std.specs.List.{AllByRecursion}
 use Rattle.graph_core.specs.Paths.{Among}
 use Rattle.graph_core.specs.Validity.{IsValid}
-use Rattle.homed_unit.specs.Homed.{HomedForm, HaveHomes}
-use Rattle.emitted.specs.declared.emitted.PlacedStop.{PlacedStop}
-use Rattle.emitted.specs.Emitted.{EmittedForm}
-use Rattle.emit_storage.proofs.Filling.{have_all}
-use Rattle.emit_runs.specs.Laid.{IsCode, IsInWords}
-use Rattle.emit_runs.proofs.Whole.{agrees_throughout, comes_by_all}
-use Rattle.emit_assembly.specs.Laid.{IsEmittedOf}
-use Rattle.emit_bound.proofs.Rooms.{apart_has_room}
-use Rattle.emit_bound.proofs.Whole.{follows_in_time}
-use Rattle.emit_placed.specs.Told.{TellBinders, TellWriters, Tells}
-use Rattle.emit_placed.specs.Writing.{WritesNothingElse}
-use Rattle.emit_placed.proofs.BinderTables.{tells_binders}
-use Rattle.emit_placed.proofs.Binders.{code_binds}
-use Rattle.emit_placed.proofs.Markers.{emitted_stops}
-use Rattle.emit_placed.proofs.NothingElse.{nothing_else}
-use Rattle.emit_placed.proofs.Told.{emitted_tells}
-use Rattle.emit_placed.proofs.UnitOwners.{emitted_owners}
-use Rattle.emit_placed.proofs.WriterTables.{tells_writers}
-use Rattle.emit_placed.proofs.Writers.{code_writes}
-use Rattle.emit_placed.proofs.UnitCode.{arrangement_is, code_is, code_parts}
+use Rattle.graph_homes.specs.Homed.{HomedForm, HaveHomes}
+use Rattle.rv_emit_tables.specs.declared.emitted.PlacedStop.{PlacedStop}
+use Rattle.rv_emit_tables.specs.Emitted.{EmittedForm}
+use Rattle.rv_emit_storage.proofs.Filling.{have_all}
+use Rattle.rv_emit_runs.specs.Laid.{IsCode, IsInWords}
+use Rattle.rv_emit_runs.proofs.Whole.{agrees_throughout, comes_by_all}
+use Rattle.rv_emit_layout.specs.Laid.{IsEmittedOf}
+use Rattle.rv_emit_runs.proofs.Rooms.{apart_has_room}
+use Rattle.rv_emit_runs.proofs.EmitBoundWhole.{follows_in_time}
+use Rattle.rv_emit_runs.specs.Told.{TellBinders, TellWriters, Tells}
+use Rattle.rv_emit_runs.specs.Writing.{WritesNothingElse}
+use Rattle.rv_emit_runs.proofs.BinderTables.{tells_binders}
+use Rattle.rv_emit_runs.proofs.Binders.{code_binds}
+use Rattle.rv_emit_runs.proofs.EmitPlacedMarkers.{emitted_stops}
+use Rattle.rv_emit_runs.proofs.NothingElse.{nothing_else}
+use Rattle.rv_emit_runs.proofs.Told.{emitted_tells}
+use Rattle.rv_emit_runs.proofs.UnitOwners.{emitted_owners}
+use Rattle.rv_emit_runs.proofs.WriterTables.{tells_writers}
+use Rattle.rv_emit_runs.proofs.Writers.{code_writes}
+use Rattle.rv_emit_runs.proofs.UnitCode.{arrangement_is, code_is, code_parts}
 use Rattle.rv_emit.specs.Emits.{Emits}
 
 -- Stops at one address are of one place.

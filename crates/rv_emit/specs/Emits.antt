@@ -1,18 +1,18 @@
 -- What is promised of the code of a unit with homes.
 use Rattle.std.specs.Prelude.{◌≡◌, ℕ, ◌<◌, Some, length, slice_get}
 use Rattle.graph_core.specs.Paths.{Among}
-use Rattle.homed_unit.specs.Homed.{HomedForm}
-use Rattle.homed_unit.specs.Statics.{static_at}
-use Rattle.emitted.specs.declared.emitted.PlacedStop.{PlacedStop}
-use Rattle.emitted.specs.Emitted.{EmittedForm}
-use Rattle.emit_runs.specs.Laid.{IsCode}
-use Rattle.emit_runs.specs.Running.{AgreesThroughout, ComesByAll}
-use Rattle.emit_bound.specs.InTime.{FollowsInTime}
-use Rattle.emit_bound.specs.Timed.{AreTimed}
-use Rattle.emit_placed.specs.Markers.{AreStopsOf}
-use Rattle.emit_placed.specs.Owners.{HasOwnWords}
-use Rattle.emit_placed.specs.Told.{TellBinders, TellWriters, Tells}
-use Rattle.emit_placed.specs.Writing.{HaveBinders, HaveWriters, WritesNothingElse}
+use Rattle.graph_homes.specs.Homed.{HomedForm}
+use Rattle.graph_homes.specs.Statics.{static_at}
+use Rattle.rv_emit_tables.specs.declared.emitted.PlacedStop.{PlacedStop}
+use Rattle.rv_emit_tables.specs.Emitted.{EmittedForm}
+use Rattle.rv_emit_runs.specs.Laid.{IsCode}
+use Rattle.rv_emit_runs.specs.Running.{AgreesThroughout, ComesByAll}
+use Rattle.rv_emit_runs.specs.InTime.{FollowsInTime}
+use Rattle.rv_emit_runs.specs.Timed.{AreTimed}
+use Rattle.rv_emit_runs.specs.EmitPlacedMarkers.{AreStopsOf}
+use Rattle.rv_emit_runs.specs.Owners.{HasOwnWords}
+use Rattle.rv_emit_runs.specs.Told.{TellBinders, TellWriters, Tells}
+use Rattle.rv_emit_runs.specs.Writing.{HaveBinders, HaveWriters, WritesNothingElse}
 
 -- The machine over the code does what the unit over homes does.
 pub record Emits (h : HomedForm) (e : EmittedForm) : Type 0 where

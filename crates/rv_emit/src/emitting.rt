@@ -2,16 +2,16 @@
 
 ghost use Rattle.std.specs.Prelude.{◌≡◌, ◌≤◌, IfOk, length};
 ghost use Rattle.graph_core.specs.Validity.{IsValid};
-ghost use Rattle.homed_unit.specs.Homed.{HaveHomes, homed_view};
-ghost use Rattle.emitted.specs.Emitted.{emitted_view};
-ghost use Rattle.emit_assembly.specs.Laid.{IsEmittedOf};
-ghost use Rattle.emit_assembly.specs.Placed.{AreFirstAddresses};
+ghost use Rattle.graph_homes.specs.Homed.{HaveHomes, homed_view};
+ghost use Rattle.rv_emit_tables.specs.Emitted.{emitted_view};
+ghost use Rattle.rv_emit_layout.specs.Laid.{IsEmittedOf};
+ghost use Rattle.rv_emit_layout.specs.Placed.{AreFirstAddresses};
 ghost use Rattle.rv_emit.specs.Emits.{Emits};
 
 use crate::constants::graphs_have_words;
-use emit_assembly::assemble;
-use emitted::Emitted;
-use homed_unit::HomedUnit;
+use graph_homes::HomedUnit;
+use rv_emit_layout::assemble;
+use rv_emit_tables::Emitted;
 use std::alloc::{AllocError, Global};
 
 /// The code of a unit whose names have homes: the machine over it does what the unit over its homes does.

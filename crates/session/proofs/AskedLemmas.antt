@@ -8,7 +8,7 @@ use Rattle.command_line.specs.Grammar.{IsJob, IsNoJob}
 use Rattle.command_line.specs.Job.{JobGiven, job_given}
 use Rattle.command_line.specs.declared.job.Job.{Job}
 use Rattle.command_line.proofs.GrammarLemmas.{one_job}
-use Rattle.pass_runs.specs.HandedIn.{AreHandedIn}
+use Rattle.pass_law.specs.HandedIn.{AreHandedIn}
 use Rattle.session.specs.Served.{AreNotServed, AreServed, needed}
 use Rattle.session.specs.Ending.{Ends, World}
 use Rattle.session.specs.Stages.{AskEnds, CheckEnds}

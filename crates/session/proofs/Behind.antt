@@ -13,10 +13,10 @@ use Rattle.c_tree.specs.Programs.{ProgramTree}
 use Rattle.debug_records.specs.declared.change.PassName.{PassName}
 use Rattle.debug_records.specs.declared.mode.Mode.{Mode}
 use Rattle.graph_core.specs.Graphs.{UnitForm}
-use Rattle.homed_unit.specs.Homed.{HomedForm}
+use Rattle.graph_homes.specs.Homed.{HomedForm}
 use Rattle.image_form.specs.Form.{form}
-use Rattle.passes_truth.specs.Kept.{IsKeptOf}
-use Rattle.program_image.specs.Behind.{ComesHomed}
+use Rattle.image_build.specs.Kept.{IsKeptOf}
+use Rattle.image_build.specs.Behind.{ComesHomed}
 use Rattle.session.specs.declared.preparing.Made.{Made}
 use Rattle.session.specs.Behind.{AreLinesBehind, ComeOfProgram, ComesOfProgram, ComesOfSource, HoldsComing, ListsBehind}
 use Rattle.session.specs.Limits.{Held}

@@ -4,9 +4,9 @@ use Rattle.std.specs.Prelude.{IfOk, IfSome, Ok, Option, Result, Some}
 use Rattle.command_line.specs.Words.{Text}
 use Rattle.c_source.specs.Sources.{HasProgram, program_of_source}
 use Rattle.debug_records.specs.declared.mode.Mode.TheVariants.{Slots}
-use Rattle.image_truth.specs.Truthful.{RunsTrue}
-use Rattle.program_image.specs.Shown.{ShowsAll}
-use Rattle.program_image.specs.Tables.{HasTablesOf}
+use Rattle.image_build.specs.Truthful.{RunsTrue}
+use Rattle.image_build.specs.ProgramImageShown.{ShowsAll}
+use Rattle.image_build.specs.Tables.{HasTablesOf}
 use Rattle.session.specs.Prepared.{IsMade}
 use Rattle.session.specs.Truth.{IsTruthfulTo}
 use Rattle.session.specs.declared.preparing.Made.{Made}
@@ -14,12 +14,12 @@ use Rattle.debug_records.specs.Change.{letters}
 use Rattle.debug_records.specs.declared.change.PassName.{PassName}
 use Rattle.debug_records.specs.declared.mode.Mode.{Mode}
 use Rattle.c_tree.specs.Programs.{ProgramTree}
-use Rattle.homed_unit.specs.Homed.{HomedForm}
+use Rattle.graph_homes.specs.Homed.{HomedForm}
 use Rattle.image_form.specs.Form.{Form, form}
 use Rattle.image_form.specs.Rules.{IsImage}
 use Rattle.image_form.specs.Spelling.{spelling}
-use Rattle.program_image.specs.Compiled.{IsCompiledImage}
-use Rattle.program_image.specs.Made.{IsHomed, IsMadeOf}
+use Rattle.image_build.specs.Compiled.{IsCompiledImage}
+use Rattle.image_build.specs.Made.{IsHomed, IsMadeOf}
 
 -- passes of no names are none
 pub none_named : (names : List PassName) → map letters names ≡ [] → names ≡ []

@@ -11,7 +11,7 @@ use Rattle.outside.specs.Held.{Loads}
 use Rattle.c_source.specs.Sources.{HasProgram, program_of_source}
 use Rattle.c_source.proofs.Sources.{program_is_short}
 use Rattle.command_line.specs.Job.{PassesGiven, SweepGiven, passes, sweep}
-use Rattle.run_summary.specs.declared.summary.Summary.{Summary}
+use Rattle.session_lines.specs.declared.summary.Summary.{Summary}
 use Rattle.session.specs.Causes.{AreAccepted, SourceIsRefused}
 use Rattle.session.specs.Limits.{AreWithin, Held, IsThere}
 use Rattle.session.specs.Listed.{AreLinesFor, AreLinesOf}
@@ -22,9 +22,9 @@ use Rattle.debug_records.specs.declared.change.PassName.{PassName}
 use Rattle.c_tree.specs.Programs.{ProgramTree}
 use Rattle.graph_core.specs.Graphs.{UnitForm}
 use Rattle.graph_core.specs.Validity.{IsValid}
-use Rattle.program_image.specs.Tables.{HasShapeOf}
-use Rattle.program_unit.specs.Built.{IsBuilt}
-use Rattle.change_lines.specs.Lines.{lines_of}
+use Rattle.image_build.specs.Tables.{HasShapeOf}
+use Rattle.graph_build_laws.specs.Built.{IsBuilt}
+use Rattle.session_lines.specs.ChangeLinesLines.{lines_of}
 use Rattle.command_line.specs.Words.{Text}
 use Rattle.session.specs.Stages.{ListFails, SweepEnds}
 use Rattle.session.specs.Summing.{summary_lines}

@@ -8,14 +8,14 @@ use Rattle.debug_records.specs.declared.change.PassName.{PassName}
 use Rattle.debug_records.specs.declared.mode.Mode.{Mode}
 use Rattle.c_source.specs.Sources.{program_of_source}
 use Rattle.c_tree.specs.Programs.{ProgramTree}
-use Rattle.change_lines.specs.Lines.{lines_of}
+use Rattle.session_lines.specs.ChangeLinesLines.{lines_of}
 use Rattle.graph_core.specs.Graphs.{UnitForm}
-use Rattle.homed_unit.specs.Homed.{HomedForm}
+use Rattle.graph_homes.specs.Homed.{HomedForm}
 use Rattle.image_form.specs.Form.{Form}
 use Rattle.image_form.specs.Rules.{IsImage}
 use Rattle.image_form.specs.Spelling.{spelling}
-use Rattle.program_image.specs.Behind.{ComesHomed, ComesOf}
-use Rattle.program_image.specs.Made.{IsHomed, IsMadeOf}
+use Rattle.image_build.specs.Behind.{ComesHomed, ComesOf}
+use Rattle.image_build.specs.Made.{IsHomed, IsMadeOf}
 use Rattle.session.specs.Limits.{Held}
 use Rattle.session.specs.Served.{IfGiven, Saving, saving_of}
 

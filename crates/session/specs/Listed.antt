@@ -5,8 +5,8 @@ use Rattle.c_source.specs.Sources.{HasProgram, program_of_source}
 use Rattle.c_tree.specs.Programs.{ProgramTree}
 use Rattle.graph_core.specs.Graphs.{UnitForm}
 use Rattle.graph_core.specs.Validity.{IsValid}
-use Rattle.program_image.specs.Tables.{HasShapeOf}
-use Rattle.change_lines.specs.Lines.{lines_of}
+use Rattle.image_build.specs.Tables.{HasShapeOf}
+use Rattle.session_lines.specs.ChangeLinesLines.{lines_of}
 
 -- The lines are those of the changes that are logged of a unit of the program, in order and numbered from 1: of a valid unit with the program's functions, flow and assignments, and of one without
 -- changes where no pass is named. That the passes made just these changes of the unit that is built of the program is said of each pass, and not here.

@@ -12,8 +12,8 @@ use Rattle.c_source.specs.Sources.{HasProgram}
 use Rattle.command_line.specs.Job.{AttachGiven, DebugGiven, JobGiven, PassesGiven, SweepGiven, attach, compile, debug, passes, sweep}
 use Rattle.debug_records.specs.declared.mode.Mode.TheVariants.{Registers}
 use Rattle.line_form.specs.Lines.{line}
-use Rattle.run_summary.specs.Summary.{IsSummed}
-use Rattle.run_summary.specs.declared.summary.Summary.{Summary}
+use Rattle.session_lines.specs.Summary.{IsSummed}
+use Rattle.session_lines.specs.declared.summary.Summary.{Summary}
 use Rattle.work_gen.specs.Generated.{text as generated}
 use Rattle.session.specs.Served.{IfGiven, Saving, default_names, saving_of}
 use Rattle.session.specs.Listed.{AreLinesFor}

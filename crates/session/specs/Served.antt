@@ -5,7 +5,7 @@ use Rattle.command_line.specs.Grammar.{IsJob}
 use Rattle.command_line.specs.Job.{JobGiven, attach, compile, debug, passes, sweep}
 use Rattle.debug_records.specs.declared.change.PassName.{PassName}
 use Rattle.debug_records.specs.declared.mode.Mode.{Mode}
-use Rattle.pass_runs.specs.HandedIn.{AreHandedIn}
+use Rattle.pass_law.specs.HandedIn.{AreHandedIn}
 
 -- the names of the passes that a `sweep` runs
 abbrev pub default_names : List Text

@@ -4,8 +4,8 @@ use Rattle.std.specs.Global.{Global}
 use Rattle.outside.specs.Counts.{RoseOrStands}
 use Rattle.image_form.specs.Form.{Form, form}
 use Rattle.debug_records.specs.declared.mode.Mode.TheVariants.{Registers}
-use Rattle.run_summary.specs.Summary.{IsSummed}
-use Rattle.run_summary.specs.declared.summary.Summary.{Summary}
+use Rattle.session_lines.specs.Summary.{IsSummed}
+use Rattle.session_lines.specs.declared.summary.Summary.{Summary}
 use Rattle.work_gen.specs.Generated.{text as generated}
 use Rattle.image_form.specs.Rules.{IsImage}
 use Rattle.image_form.specs.Spelling.{spelling}
@@ -18,7 +18,7 @@ use Rattle.script_form.specs.declared.command.Command.{Command}
 use Rattle.command_line.specs.Words.{Text}
 use Rattle.debug_records.specs.declared.mode.Mode.{Mode}
 use Rattle.debug_records.specs.declared.change.PassName.{PassName}
-use Rattle.pass_runs.specs.HandedIn.{AreHandedIn}
+use Rattle.pass_law.specs.HandedIn.{AreHandedIn}
 use Rattle.session.specs.Causes.{AreNoImage}
 use Rattle.c_source.specs.Sources.{HasProgram, program_of_source}
 use Rattle.session.specs.Front.{IsPlain, IsRefusedSource}

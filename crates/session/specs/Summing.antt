@@ -1,8 +1,8 @@
 -- The lines of a summary.
 use Rattle.std.specs.Prelude.{ℕ, List, [], ◌∷◌}
 use Rattle.line_form.specs.Lines.{depth_line, exit_line, fault_line, limit_line}
-use Rattle.run_summary.specs.Lines.{out_count_line, pairs_line, seed_line, stops_line}
-use Rattle.run_summary.specs.declared.summary.Summary.{Summary}
+use Rattle.session_lines.specs.Lines.{out_count_line, pairs_line, seed_line, stops_line}
+use Rattle.session_lines.specs.declared.summary.Summary.{Summary}
 use Rattle.stop_engine.specs.declared.halt.Halt.{Halt}
 use Rattle.stop_engine.specs.declared.halt.Halt.TheVariants as halt
 

@@ -6,10 +6,10 @@ use Rattle.debug_records.specs.declared.mode.Mode.TheVariants.{Slots}
 use Rattle.c_tree.specs.Programs.{ProgramTree}
 use Rattle.c_source.specs.Sources.{program_of_source}
 use Rattle.image_form.specs.Form.{Form}
-use Rattle.image_truth.specs.Truthful.{RunsTrue}
-use Rattle.program_image.specs.Compiled.{IsCompiledImage}
-use Rattle.program_image.specs.Shown.{ShowsAll}
-use Rattle.program_image.specs.Tables.{HasTablesOf}
+use Rattle.image_build.specs.Truthful.{RunsTrue}
+use Rattle.image_build.specs.Compiled.{IsCompiledImage}
+use Rattle.image_build.specs.ProgramImageShown.{ShowsAll}
+use Rattle.image_build.specs.Tables.{HasTablesOf}
 
 -- The image runs true to the program of its source: on each input output, ending and stops are the program's, and at each stop the text of each variable that is shown is that of its value.
 abbrev pub RunsAsItsSource : (source : List ℕ) → Form → Type 0

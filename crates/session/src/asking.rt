@@ -3,14 +3,14 @@
 ghost use Rattle.std.specs.Prelude.{◌≡◌, ◌↔◌, IfOk, IsTrue, map, string_bytes};
 ghost use Rattle.debug_records.specs.Change.{letters};
 ghost use Rattle.command_line.specs.Job.{job_given};
-ghost use Rattle.pass_runs.specs.HandedIn.{AreHandedIn};
+ghost use Rattle.pass_law.specs.HandedIn.{AreHandedIn};
 ghost use Rattle.session.specs.Served.{default_names, needed};
 ghost use Rattle.session.specs.Stages.{AskEnds, CheckEnds};
 
 use command_line::{Job, job_of};
 use debug_records::PassName;
 use line_form::Status;
-use pass_runs::{UnitPass, are_handed_in, name_of};
+use pass_law::{UnitPass, are_handed_in, name_of};
 use std::alloc::{AllocError, Global};
 
 /// The names of the passes that a `sweep` runs.

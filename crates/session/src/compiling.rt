@@ -15,7 +15,7 @@ use crate::preparing::Made;
 use command_line::Compile;
 use line_form::Status;
 use outside::Shelf;
-use pass_runs::UnitPass;
+use pass_law::UnitPass;
 use std::alloc::Global;
 
 /// The image of the source of a job, and its bytes.

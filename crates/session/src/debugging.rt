@@ -16,7 +16,7 @@ use crate::preparing::{Made, read_script};
 use command_line::Debug;
 use line_form::Status;
 use outside::{Shelf, Sink};
-use pass_runs::UnitPass;
+use pass_law::UnitPass;
 use std::alloc::Global;
 
 /// The image of the source of a job, and its bytes.

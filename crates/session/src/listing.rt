@@ -12,7 +12,7 @@ use crate::preparing::list;
 use command_line::Passes;
 use line_form::Status;
 use outside::{Shelf, Sink};
-use pass_runs::UnitPass;
+use pass_law::UnitPass;
 use std::alloc::Global;
 
 /// Loads a source, and puts out a line for each change that the passes make in it.

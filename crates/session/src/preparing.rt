@@ -3,32 +3,32 @@
 ghost use Rattle.std.specs.Prelude.{◌≡◌, [], IfNone, IfOk, IfSome, Ok, map};
 ghost use Rattle.debug_records.specs.declared.mode.Mode.TheVariants.{Slots};
 ghost use Rattle.c_flow.specs.Tables.{Fits32};
-ghost use Rattle.c_laws.specs.Laws.{IsWellFormed};
-ghost use Rattle.c_laws.specs.Names.{HasNames};
-ghost use Rattle.c_laws.specs.Spots.{HasSpots};
+ghost use Rattle.c_type_laws.specs.Laws.{IsWellFormed};
+ghost use Rattle.c_type_laws.specs.Names.{HasNames};
+ghost use Rattle.c_type_laws.specs.Spots.{HasSpots};
 ghost use Rattle.c_source.specs.Sources.{program_of_source};
 ghost use Rattle.c_tree.specs.Programs.{program_view};
 ghost use Rattle.debug_records.specs.Change.{letters};
 ghost use Rattle.image_form.specs.Form.{form};
 ghost use Rattle.image_form.specs.Rules.{IsImage};
 ghost use Rattle.image_form.specs.Spelling.{spelling};
-ghost use Rattle.image_truth.specs.Truthful.{RunsTrue};
-ghost use Rattle.program_image.specs.Compiled.{IsCompiledImage};
-ghost use Rattle.program_image.specs.Shown.{ShowsAll};
-ghost use Rattle.program_image.specs.Tables.{HasTablesOf};
+ghost use Rattle.image_build.specs.Truthful.{RunsTrue};
+ghost use Rattle.image_build.specs.Compiled.{IsCompiledImage};
+ghost use Rattle.image_build.specs.ProgramImageShown.{ShowsAll};
+ghost use Rattle.image_build.specs.Tables.{HasTablesOf};
 ghost use Rattle.session.specs.Behind.{AreLinesBehind, ComeOfProgram, ComesOfProgram, ComesOfSource};
 ghost use Rattle.session.specs.Front.{IsPlain};
 ghost use Rattle.session.specs.Listed.{AreLinesOf};
 ghost use Rattle.session.specs.Stages.{FrontEnds, ImageEnds, ListEnds, MakeEnds, ScriptEnds};
 
 use c_tree::Program;
-use change_lines::change_lines;
 use debug_records::{Code, Mode, PassName, SourceErr};
+use image_build::{image_of_program, unit_of};
 use image_form::{Image, ImageErr};
 use line_form::Status;
-use pass_runs::UnitPass;
-use program_image::{image_of_program, unit_of};
+use pass_law::UnitPass;
 use script_form::{Command, ScriptErr};
+use session_lines::change_lines;
 use std::alloc::{AllocError, Global};
 
 /// The image of a source, and its bytes.

@@ -22,7 +22,7 @@ use crate::sweeping::sweep;
 use command_line::Job;
 use line_form::Status;
 use outside::{Shelf, Sink};
-use pass_runs::UnitPass;
+use pass_law::UnitPass;
 use std::alloc::Global;
 
 // Carries out a job that the program serves.

@@ -13,14 +13,14 @@ use Rattle.stop_engine.specs.declared.activations.Frame.{Frame}
 use Rattle.stop_engine.specs.declared.run.Stop.{Stop}
 use Rattle.stop_engine.specs.Activations.{activation_at, activation_lines, activation_of, activations}
 use Rattle.stop_engine.specs.EngineState.{RunState}
-use Rattle.stop_view.specs.Callers.{calling_place}
+use Rattle.stop_engine_view.specs.Callers.{calling_place}
 use Rattle.stop_engine.specs.Frames.{frame_line_at, frame_lines}
-use Rattle.stop_view.specs.Reading.{frame_of, frames, frames_from, greatest_depth}
+use Rattle.stop_engine_view.specs.Reading.{frame_of, frames, frames_from, greatest_depth}
 use Rattle.stop_engine.specs.Shown.{where_lines}
 use Rattle.stop_engine.specs.Stopping.{IsAtNoStop, IsStopOf}
 use Rattle.stop_engine.specs.Transcript.{Position, Standing, at_stop}
 use Rattle.stop_engine.proofs.Answering.{at_stop-said}
-use Rattle.stop_view.proofs.Callers.{calling_number, frames_few, frames_next}
+use Rattle.stop_engine_view.proofs.Callers.{calling_number, frames_few, frames_next}
 
 -- the record of a number among them
 record_of : {A : Type 0} (xs : List A) (n : ℕ) → 1 ≤ n → n ≤ length xs → (x : A) × (numbered xs n ≡ Some x)

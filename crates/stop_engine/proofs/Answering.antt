@@ -21,11 +21,11 @@ use Rattle.stop_engine.specs.declared.run.Stop.{Stop}
 use Rattle.stop_engine.specs.Breaks.{break_places}
 use Rattle.stop_engine.specs.EngineState.{Answers, EngineState, HasMarked, HasRun, LeavesOff, Wanting, Unsaid, RunState, Wants, lines_of, session_of, with_run}
 use Rattle.stop_engine.specs.Halting.{IsHaltOf, halt_at, halt_line, halt_of}
-use Rattle.stop_view.specs.Reading.{depth, place_at}
+use Rattle.stop_engine_view.specs.Reading.{depth, place_at}
 use Rattle.stop_engine.specs.Stopping.{IsAtNoStop, IsStopOf}
 use Rattle.stop_engine.specs.Transcript.{Aim, AnyStop, OneOf, Ending, Exits, NestsTooDeep, Faults, Limit, Position, Fresh, Standing, Over, Reach, Session, after, aims_at, at_stop, ending_line, is_aim, is_among, is_quit, lines_from, marked_line, position_line, ran, reached, run_lines, run_of, said, with_output}
 use Rattle.stop_engine.proofs.MarkLaws.{among-append}
-use Rattle.stop_view.proofs.PlacesByAddress.{place_from-found}
+use Rattle.stop_engine_view.proofs.PlacesByAddress.{place_from-found}
 
 -- a place that begins at an address has a number of the image
 pub place_at-number : (m : Form) (a k : ℕ) → place_at m a ≡ Some k → IsPlaceNumber m k

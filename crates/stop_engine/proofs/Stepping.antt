@@ -9,8 +9,8 @@ use Rattle.rv_machine.specs.Run.{MachineEvent, Byte, Arrival, Exit, TooDeep, Fau
 use Rattle.rv_machine.specs.declared.event.Event.{Event}
 use Rattle.rv_machine.specs.declared.event.Event.TheVariants as event
 use Rattle.stop_engine.specs.EngineState.{Wants, run_state}
-use Rattle.stop_view.specs.Reading.{place_at}
-use Rattle.stop_view.specs.Run.{stop_addresses}
+use Rattle.stop_engine_view.specs.Reading.{place_at}
+use Rattle.stop_engine_view.specs.Run.{stop_addresses}
 use Rattle.stop_engine.specs.declared.course.TheConstants.{ROOM}
 use Rattle.stop_engine.specs.declared.halt.Standing.{Standing}
 use Rattle.stop_engine.specs.declared.halt.Standing.TheVariants.{Fresh, UnderWay, Halted}

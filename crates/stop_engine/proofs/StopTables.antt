@@ -15,10 +15,10 @@ use Rattle.image_form.specs.RulesOfFunctions.{IsFunction, IsPlaceNumber, code_st
 use Rattle.image_form.specs.RulesOfPlaces.{word_address}
 use Rattle.image_form.proofs.TableLaws.{each_at}
 use Rattle.rv_machine.specs.Run.{is_stop}
-use Rattle.stop_view.specs.Reading.{place_at, place_from}
-use Rattle.stop_view.specs.Run.{is_entry, stop_addresses, stops_from}
+use Rattle.stop_engine_view.specs.Reading.{place_at, place_from}
+use Rattle.stop_engine_view.specs.Run.{is_entry, stop_addresses, stops_from}
 use Rattle.stop_engine.specs.StopTable.{TellsStops, entry_at, is_entry_address}
-use Rattle.stop_view.proofs.PlacesByAddress.{Found, IsWordOf, distinct-tail, place-is_word, place-at_word, place_from-found, place_from-tail, word-within}
+use Rattle.stop_engine_view.proofs.PlacesByAddress.{Found, IsWordOf, distinct-tail, place-is_word, place-at_word, place_from-found, place_from-tail, word-within}
 
 -- whether the place that a look-up gave is a stop
 abbrev stops_there : List Function → Option ℕ → Bool

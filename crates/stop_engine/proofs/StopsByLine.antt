@@ -10,7 +10,7 @@ use Rattle.image_form.specs.Lists.{EachToNext}
 use Rattle.image_form.specs.RulesOfChanges.{IsPairBefore}
 use Rattle.image_form.specs.declared.tables.FlowPair.{FlowPair}
 use Rattle.image_form.specs.declared.tables.Place.{Place}
-use Rattle.stop_view.proofs.RowsByPlace.{kept_behind, none_kept}
+use Rattle.stop_engine_view.proofs.RowsByPlace.{kept_behind, none_kept}
 use Rattle.stop_engine.specs.Breaks.{followers, is_stop_on, least, stops_on}
 
 -- ---- What does not fall from one to the next is in order

@@ -10,7 +10,7 @@ use Rattle.stop_engine.specs.Transcript.{at_stop}
 use Rattle.stop_engine.specs.Visible.{visible_at, visible_line, visible_of, visible_of_row}
 use Rattle.stop_engine.specs.declared.locals.Local.{Local}
 use Rattle.stop_engine.specs.declared.run.Stop.{Stop}
-use Rattle.stop_view.specs.Rows.{rows_at}
+use Rattle.stop_engine_view.specs.Rows.{rows_at}
 use Rattle.stop_engine.proofs.Answering.{at_stop-said}
 
 -- the lines of the variables that are visible at a place

@@ -7,7 +7,7 @@ use Rattle.image_form.specs.declared.tables.Place.{Place}
 use Rattle.line_form.specs.Lines.{frame_line}
 use Rattle.rv_machine.specs.State.{State}
 use Rattle.stop_engine.specs.declared.activations.Frame.{Frame}
-use Rattle.stop_view.specs.Reading.{frames}
+use Rattle.stop_engine_view.specs.Reading.{frames}
 
 -- An activation: the name of its function, and the line and the place at which it stands.
 pub record Activation : Type 0 where

@@ -3,7 +3,7 @@ use Rattle.std.specs.Prelude.{List, []}
 use Rattle.std.specs.Option.{option_map_or}
 use Rattle.image_form.specs.Form.{Form}
 use Rattle.stop_engine.specs.Activations.{Activation, activations}
-use Rattle.stop_view.specs.Reading.{place_at}
+use Rattle.stop_engine_view.specs.Reading.{place_at}
 use Rattle.stop_engine.specs.Transcript.{Position, Fresh, Standing, Over}
 use Rattle.stop_engine.specs.Visible.{Visible, visible_at}
 

@@ -9,7 +9,7 @@ use Rattle.image_form.specs.declared.tables.Function.{Function}
 use Rattle.image_form.specs.declared.tables.Place.{Place}
 use Rattle.rv_machine.specs.Run.{is_stop}
 use Rattle.script_form.specs.Script.{Mark, OnLine, InFunction}
-use Rattle.stop_view.specs.Run.{stop_addresses}
+use Rattle.stop_engine_view.specs.Run.{stop_addresses}
 
 -- whether a place is a stop on a line of the source
 abbrev pub is_stop_on : Form → (line : ℕ) → Place → Bool

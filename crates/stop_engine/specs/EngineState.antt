@@ -10,7 +10,7 @@ use Rattle.stop_engine.specs.Breaks.{break_places}
 use Rattle.stop_engine.specs.Passing.{PassesBy}
 use Rattle.stop_engine.specs.Standing.{position_of, unanswered}
 use Rattle.script_form.specs.Script.{Mark, Order}
-use Rattle.stop_view.specs.Run.{image_run, stop_addresses}
+use Rattle.stop_engine_view.specs.Run.{image_run, stop_addresses}
 use Rattle.stop_engine.specs.Transcript.{Aim, Position, Fresh, Session, is_among, lines_from, ran}
 
 -- An image and the run of it that is under way.

@@ -10,7 +10,7 @@ use Rattle.rv_machine.specs.State.{State}
 use Rattle.rv_machine.specs.Run.{MachineEvent, Byte, Arrival, Exit, TooDeep, Faulted}
 use Rattle.stop_engine.specs.declared.halt.Halt.{Halt}
 use Rattle.stop_engine.specs.declared.halt.Halt.TheVariants as halt
-use Rattle.stop_view.specs.Reading.{place_at, depth}
+use Rattle.stop_engine_view.specs.Reading.{place_at, depth}
 use Rattle.stop_engine.specs.Transcript.{Ending, Exits, NestsTooDeep, Faults, Limit, Position, Fresh, Standing, Over}
 
 -- the halt that an ending is

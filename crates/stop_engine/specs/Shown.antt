@@ -6,9 +6,9 @@ use Rattle.image_form.specs.declared.verdicts.VisibleRow.{VisibleRow}
 use Rattle.line_form.specs.Lines.{no_locals_line}
 use Rattle.rv_machine.specs.State.{State}
 use Rattle.stop_engine.specs.Frames.{frame_lines}
-use Rattle.stop_texts.specs.Rows.{row_sight}
-use Rattle.stop_texts.specs.Sight.{sight_line}
-use Rattle.stop_view.specs.Reading.{frames}
+use Rattle.stop_engine_texts.specs.Rows.{row_sight}
+use Rattle.stop_engine_texts.specs.Sight.{sight_line}
+use Rattle.stop_engine_view.specs.Reading.{frames}
 
 -- the line of a row, under its variable's name
 abbrev pub row_line : Form → State → VisibleRow → List ℕ

@@ -6,8 +6,8 @@ use Rattle.image_form.specs.Form.{Form, numbered}
 use Rattle.image_form.specs.declared.tables.Function.{Function}
 use Rattle.image_form.specs.declared.tables.Place.{Place}
 use Rattle.rv_machine.specs.Run.{is_stop}
-use Rattle.stop_view.specs.Run.{stop_addresses}
-use Rattle.stop_view.specs.Reading.{place_at}
+use Rattle.stop_engine_view.specs.Run.{stop_addresses}
+use Rattle.stop_engine_view.specs.Reading.{place_at}
 
 -- what a table with an entry for each code word has at an address, and 0 where no word begins there
 abbrev pub entry_at : List ℕ → ℕ → ℕ

@@ -5,7 +5,7 @@ use Rattle.image_form.specs.Rules.{IsImage}
 use Rattle.image_form.specs.RulesOfFunctions.{IsPlaceNumber}
 use Rattle.stop_engine.specs.declared.run.Stop.{Stop}
 use Rattle.stop_engine.specs.EngineState.{RunState}
-use Rattle.stop_view.specs.Reading.{place_at}
+use Rattle.stop_engine_view.specs.Reading.{place_at}
 use Rattle.stop_engine.specs.Transcript.{Position, Fresh, Standing, Over}
 
 -- The run stands at this stop, of its image, with the machine in its state.

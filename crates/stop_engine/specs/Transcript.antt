@@ -11,10 +11,10 @@ use Rattle.line_form.specs.Lines.{line, out_lines, stop_line, exit_line, depth_l
 use Rattle.script_form.specs.Script.{Order, Break, Step, Continue, Print, Locals, Where, Quit, Mark, OnLine, InFunction}
 use Rattle.stop_engine.specs.Breaks.{break_places}
 use Rattle.stop_engine.specs.Shown.{locals_lines, where_lines}
-use Rattle.stop_texts.specs.Shown.{name_sight}
-use Rattle.stop_texts.specs.Sight.{Sight, NoStop, sight_line}
-use Rattle.stop_view.specs.Reading.{place_at, depth}
-use Rattle.stop_view.specs.Run.{image_run}
+use Rattle.stop_engine_texts.specs.Shown.{name_sight}
+use Rattle.stop_engine_texts.specs.Sight.{Sight, NoStop, sight_line}
+use Rattle.stop_engine_view.specs.Reading.{place_at, depth}
+use Rattle.stop_engine_view.specs.Run.{image_run}
 
 -- why a run is over: it exited with a status, its calls nested too deep, it faulted at an address, or its instructions are used up
 pub data Ending : Type 0 where

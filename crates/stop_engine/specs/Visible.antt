@@ -5,9 +5,9 @@ use Rattle.image_form.specs.Names.{variable_name}
 use Rattle.image_form.specs.declared.verdicts.VisibleRow.{VisibleRow}
 use Rattle.rv_machine.specs.State.{State}
 use Rattle.stop_engine.specs.declared.locals.Local.{Local}
-use Rattle.stop_texts.specs.Rows.{row_sight}
-use Rattle.stop_texts.specs.Sight.{Sight, sight_line, sight_of}
-use Rattle.stop_view.specs.Rows.{rows_at}
+use Rattle.stop_engine_texts.specs.Rows.{row_sight}
+use Rattle.stop_engine_texts.specs.Sight.{Sight, sight_line, sight_of}
+use Rattle.stop_engine_view.specs.Rows.{rows_at}
 
 -- A visible variable as a session sees it: its name, and what is seen of it.
 pub record Visible : Type 0 where

@@ -5,13 +5,13 @@ ghost use Rattle.image_form.specs.Form.{form};
 ghost use Rattle.image_form.specs.Rules.{IsImage};
 ghost use Rattle.image_form.specs.RulesOfFunctions.{IsPlaceNumber};
 ghost use Rattle.stop_engine.specs.Activations.{activation_at, activation_lines, activation_of, activations};
-ghost use Rattle.stop_tables.specs.Tables.{AreTablesOf};
+ghost use Rattle.stop_engine_tables.specs.Tables.{AreTablesOf};
 
 use image_form::Image;
 use line_form::frame_line;
 use rv_machine::Machine;
 use std::alloc::{AllocError, Global};
-use stop_tables::{Tables, frame_places};
+use stop_engine_tables::{Tables, frame_places};
 
 /// An activation that is live at a stop.
 #[derive(Drop)]

@@ -5,14 +5,14 @@ ghost use Rattle.rv_machine.specs.Run.{MachineEvent, arrival, run};
 ghost use Rattle.stop_engine.specs.Halting.{from_halt, from_here, halt_at, halted_at};
 ghost use Rattle.stop_engine.specs.Marking.{aim_of};
 ghost use Rattle.stop_engine.specs.Passing.{IsAimed, PassesBy};
-ghost use Rattle.stop_view.specs.Run.{stop_addresses};
+ghost use Rattle.stop_engine_view.specs.Run.{stop_addresses};
 
 use crate::halt::Halt;
 use crate::stop_table::StopTable;
 use crate::stops::Stops;
 use rv_machine::{Event, Machine};
 use std::alloc::AllocError;
-use stop_tables::depth;
+use stop_engine_tables::depth;
 
 /// How many bytes of output a run takes room for at a time.
 pub const ROOM: usize = 65_536;

@@ -15,8 +15,8 @@ ghost use Rattle.stop_engine.specs.Shown.{locals_lines, where_lines};
 ghost use Rattle.stop_engine.specs.Stopping.{IsAtNoStop};
 ghost use Rattle.stop_engine.specs.Transcript.{at_stop, marked_line, ran, run_lines, sight};
 ghost use Rattle.stop_engine.specs.Visible.{visible_of};
-ghost use Rattle.stop_tables.specs.Tables.{AreTablesOf};
-ghost use Rattle.stop_texts.specs.Sight.{sight_line, sight_of};
+ghost use Rattle.stop_engine_tables.specs.Tables.{AreTablesOf};
+ghost use Rattle.stop_engine_texts.specs.Sight.{sight_line, sight_of};
 
 use crate::activations::{Frame, activation_lines, activations};
 use crate::breaks::{break_places, marked_line};
@@ -31,8 +31,8 @@ use line_form::{no_stop_line, out_lines};
 use script_form::{Command, Target};
 use std::alloc::{AllocError, Global};
 use std::marker::Model;
-use stop_tables::{Tables, tables_of};
-use stop_texts::{Shown, name_shown, shown_line};
+use stop_engine_tables::{Tables, tables_of};
+use stop_engine_texts::{Shown, name_shown, shown_line};
 
 /// A run of an image from halt to halt, what is seen where it stands, and the answers to the commands of a script.
 #[derive(Drop)]
@@ -48,7 +48,7 @@ impl<'a> Model for Engine<'a> {
     ghost use Rattle.std.specs.Prelude.{◌≡◌, ◌+◌, length};
     ghost use Rattle.stop_engine.specs.EngineState.{EngineState};
     ghost use Rattle.stop_engine.specs.FunctionNames.{AreFunctionNamesOf};
-    ghost use Rattle.stop_tables.specs.Tables.{AreTablesOf};
+    ghost use Rattle.stop_engine_tables.specs.Tables.{AreTablesOf};
 
     ghost Value = { EngineState };
 

@@ -4,12 +4,12 @@ ghost use Rattle.std.specs.Prelude.{◌≡◌, IfOk};
 ghost use Rattle.image_form.specs.Form.{form};
 ghost use Rattle.image_form.specs.Rules.{IsImage};
 ghost use Rattle.stop_engine.specs.FunctionNames.{AreFunctionNamesOf};
-ghost use Rattle.stop_tables.specs.Tables.{AreTablesOf};
+ghost use Rattle.stop_engine_tables.specs.Tables.{AreTablesOf};
 
 use image_form::Image;
 use std::alloc::{AllocError, Global};
 use std::collections::BTreeMap;
-use stop_tables::Tables;
+use stop_engine_tables::Tables;
 
 /// The functions of an image by their names.
 #[derive(Drop)]

@@ -17,5 +17,5 @@ pub use activations::Frame;
 pub use engine::Engine;
 pub use halt::Halt;
 pub use locals::Local;
-pub use stop_texts::Shown;
+pub use stop_engine_texts::Shown;
 pub use stops::{Marks, Stops};

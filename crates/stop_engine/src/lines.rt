@@ -4,13 +4,13 @@ ghost use Rattle.std.specs.Prelude.{◌≡◌, IfOk};
 ghost use Rattle.image_form.specs.Form.{form};
 ghost use Rattle.image_form.specs.Rules.{IsImage};
 ghost use Rattle.stop_engine.specs.Halting.{IsHaltOf, halt_line};
-ghost use Rattle.stop_tables.specs.Tables.{AreTablesOf};
+ghost use Rattle.stop_engine_tables.specs.Tables.{AreTablesOf};
 
 use crate::halt::Halt;
 use image_form::Image;
 use line_form::{depth_line, exit_line, fault_line, limit_line, stop_line};
 use std::alloc::{AllocError, Global};
-use stop_tables::Tables;
+use stop_engine_tables::Tables;
 
 /// The line that says where a run halted. `AllocError` where memory for the text was refused.
 pub fn halt_line(

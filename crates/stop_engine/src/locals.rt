@@ -5,15 +5,15 @@ ghost use Rattle.image_form.specs.Form.{form};
 ghost use Rattle.image_form.specs.Rules.{IsImage};
 ghost use Rattle.stop_engine.specs.Shown.{or_no_locals};
 ghost use Rattle.stop_engine.specs.Visible.{visible_at, visible_line, visible_of, visible_of_row};
-ghost use Rattle.stop_tables.specs.Tables.{AreTablesOf};
-ghost use Rattle.stop_texts.specs.Rows.{IsRow};
+ghost use Rattle.stop_engine_tables.specs.Tables.{AreTablesOf};
+ghost use Rattle.stop_engine_texts.specs.Rows.{IsRow};
 
 use image_form::{Image, VisibleRow};
 use line_form::no_locals_line;
 use rv_machine::Machine;
 use std::alloc::{AllocError, Global};
-use stop_tables::Tables;
-use stop_texts::{Shown, row_shown, rows_at, shown_line};
+use stop_engine_tables::Tables;
+use stop_engine_texts::{Shown, row_shown, rows_at, shown_line};
 
 /// A variable that is visible at a stop.
 #[derive(Drop)]

@@ -6,13 +6,13 @@ ghost use Rattle.image_form.specs.Rules.{IsImage};
 ghost use Rattle.image_form.specs.RulesOfPlaces.{word_address};
 ghost use Rattle.rv_machine.specs.Run.{is_stop};
 ghost use Rattle.stop_engine.specs.StopTable.{entry_at, is_entry_address};
-ghost use Rattle.stop_view.specs.Reading.{place_at};
-ghost use Rattle.stop_view.specs.Run.{stop_addresses};
+ghost use Rattle.stop_engine_view.specs.Reading.{place_at};
+ghost use Rattle.stop_engine_view.specs.Run.{stop_addresses};
 
 use image_form::Image;
 use std::alloc::{AllocError, Global};
 use std::marker::Model;
-use stop_tables::CODE_START;
+use stop_engine_tables::CODE_START;
 
 /// An image with a table of its stop places, which finds the place of an address by one look-up.
 #[derive(Drop)]

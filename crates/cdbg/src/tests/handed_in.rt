@@ -1,16 +1,16 @@
 //! Sessions to which passes of the test's own are handed in.
 
 ghost use Rattle.std.specs.Prelude.{◌≡◌};
-ghost use Rattle.pass_runs.specs.Kept.{KeepsShape};
+ghost use Rattle.pass_law.specs.PassRunsKept.{KeepsShape};
 
 use super::sessions::{image_of, shelf};
 use super::split;
+use cdbg_passes::CopyPropagation;
 use debug_records::PassName;
 use graph_core::Unit;
 use line_form::Status;
 use outside::{MemShelf, MemSink};
-use pass_runs::{UnitPass, name_of};
-use program_passes::CopyPropagation;
+use pass_law::{UnitPass, name_of};
 use session::session;
 use std::alloc::{AllocError, Global};
 use std::process::Abort;

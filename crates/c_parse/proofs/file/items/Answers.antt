@@ -3,7 +3,7 @@ use Rattle.std.specs.Prelude.{map}
 use Rattle.std.proofs.lemmas.List.{map_push}
 use Rattle.c_token.specs.Lexemes.{lexemes}
 use Rattle.c_tree.specs.Trees.{item_view}
-use Rattle.c_grammar.specs.Reading.{items}
+use Rattle.c_parse.specs.Reading.{items}
 use Rattle.c_parse_tokens.proofs.Tokens.{length_lexemes}
 use Rattle.c_parse.proofs.Loops.{items_go_on}
 use Rattle.c_parse.proofs.file.items.Goals as goal

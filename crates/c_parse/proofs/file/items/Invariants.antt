@@ -2,7 +2,7 @@ use Rattle.std.proofs.Common.{◌≡◌, ◌≤◌, ℕ, length}
 use Rattle.std.specs.Prelude.{map}
 use Rattle.c_token.specs.Lexemes.{lexemes}
 use Rattle.c_tree.specs.Trees.{item_view}
-use Rattle.c_grammar.specs.Reading.{items, items_from}
+use Rattle.c_parse.specs.Reading.{items, items_from}
 use Rattle.c_parse.proofs.file.items.Given as goal
 
 abbrev pub invariant-loop-rest : goal.invariant-loop-rest

@@ -3,7 +3,7 @@ use Rattle.std.specs.Prelude.{map}
 use Rattle.std.proofs.lemmas.List.{map_push}
 use Rattle.c_token.specs.Lexemes.{lexemes}
 use Rattle.c_tree.specs.Declarations.{parameter_view}
-use Rattle.c_grammar.specs.Reading.{parameter, parameters}
+use Rattle.c_parse.specs.Reading.{parameter, parameters}
 use Rattle.c_parse_tokens.proofs.Separated.{separated_goes_on}
 use Rattle.c_parse.proofs.file.parameters.Goals as goal
 

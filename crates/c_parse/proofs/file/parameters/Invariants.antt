@@ -3,7 +3,7 @@ use Rattle.std.specs.Prelude.{map}
 use Rattle.c_token.specs.Lexemes.{lexemes}
 use Rattle.c_tree.specs.Declarations.{parameter_view}
 use Rattle.c_parse_tokens.specs.Front.{separated}
-use Rattle.c_grammar.specs.Reading.{parameter, parameters}
+use Rattle.c_parse.specs.Reading.{parameter, parameters}
 use Rattle.c_parse.proofs.file.parameters.Given as goal
 
 abbrev pub invariant-loop-after : goal.invariant-loop-after

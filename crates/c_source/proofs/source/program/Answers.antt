@@ -1,7 +1,7 @@
 use Rattle.std.proofs.Common.{◌≡◌, arith, rules}
 use Rattle.std.specs.Prelude.{Ok}
 use Rattle.c_tree.specs.Programs.{program_view}
-use Rattle.c_readings.proofs.Bytes.{bytes_from}
+use Rattle.c_source.proofs.Bytes.{bytes_from}
 use Rattle.c_source.specs.Sources.{program_of_source}
 use Rattle.c_source.proofs.Lawful.{program_lawful, program_named, program_within}
 use Rattle.c_source.proofs.Sources.{program_found}

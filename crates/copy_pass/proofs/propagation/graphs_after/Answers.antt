@@ -2,8 +2,8 @@ use Rattle.std.proofs.Common.{ap, map, subst, ◌∙◌}
 use Rattle.std.specs.Prelude.{IfSome}
 use Rattle.std.proofs.lemmas.List.{map-append}
 use Rattle.graph_core.specs.Graphs.{graph_view}
-use Rattle.graph_edits.proofs.Functions.{functions_step, functions_done}
-use Rattle.copy_rule.specs.Copying.{IsPropagated}
+use Rattle.pass_law.proofs.Functions.{functions_step, functions_done}
+use Rattle.copy_pass_rule.specs.Copying.{IsPropagated}
 use Rattle.copy_pass.proofs.propagation.graphs_after.Goals as goal
 
 pub loop-left-preserved : goal.loop-left-preserved

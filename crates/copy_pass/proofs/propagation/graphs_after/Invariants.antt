@@ -1,7 +1,7 @@
 use Rattle.std.proofs.Common.{length, map}
 use Rattle.graph_core.specs.Graphs.{graph_view}
-use Rattle.copy_rule.specs.Copying.{IsPropagated}
-use Rattle.graph_edits.proofs.Functions.{Left}
+use Rattle.copy_pass_rule.specs.Copying.{IsPropagated}
+use Rattle.pass_law.proofs.Functions.{Left}
 use Rattle.copy_pass.proofs.propagation.graphs_after.Given as goal
 
 abbrev pub invariant-loop-left : goal.invariant-loop-left

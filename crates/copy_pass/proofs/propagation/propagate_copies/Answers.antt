@@ -2,12 +2,12 @@ use Rattle.std.proofs.Common.{map, refl, rules, subst, sym}
 use Rattle.std.specs.Prelude.{IfSome}
 use Rattle.debug_records.specs.declared.change.Kind.TheVariants.{Replaced}
 use Rattle.graph_core.specs.Graphs.{graph_view}
-use Rattle.graph_edits.specs.Changes.{AreCasesOf}
-use Rattle.graph_edits.specs.Kept.{EachFunction}
-use Rattle.graph_edits.proofs.Log.{changes_added, changes_of_cases}
-use Rattle.copy_rule.specs.Copying.{IsPropagated}
-use Rattle.copy_valid.proofs.Valid.{propagated_valid}
-use Rattle.replaced_reads.specs.Reads.{IsReplacedRead}
+use Rattle.pass_law.specs.Changes.{AreCasesOf}
+use Rattle.pass_law.specs.Kept.{EachFunction}
+use Rattle.pass_law.proofs.Log.{changes_added, changes_of_cases}
+use Rattle.copy_pass_rule.specs.Copying.{IsPropagated}
+use Rattle.copy_pass_rule.proofs.Valid.{propagated_valid}
+use Rattle.copy_pass.specs.Reads.{IsReplacedRead}
 use Rattle.copy_pass.proofs.Keeping.{each_keeps}
 use Rattle.copy_pass.proofs.propagation.propagate_copies.Goals as goal
 

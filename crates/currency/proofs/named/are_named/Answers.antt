@@ -1,6 +1,6 @@
 use Rattle.std.proofs.Common.{arith, map}
 use Rattle.graph_core.specs.Graphs.{logged}
-use Rattle.numbered_homes.proofs.Lists.{each_all, each_more}
+use Rattle.currency_notes.proofs.Lists.{each_all, each_more}
 use Rattle.currency.specs.declared.verdict.PlaceVerdict as declared-row
 use Rattle.currency.specs.Named.{IsNamed}
 use Rattle.currency.proofs.Logged.{named_first}

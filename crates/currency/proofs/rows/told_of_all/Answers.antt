@@ -2,10 +2,10 @@ use Rattle.std.proofs.Common.{◌≡◌, ◌∙◌, List, ap, arith, length, map
 use Rattle.std.specs.Prelude.{IfSome}
 use Rattle.debug_records.specs.declared.change.Change.{Change}
 use Rattle.graph_core.specs.Graphs.{graph_view, logged}
-use Rattle.numbered_homes.specs.Homes.{home_in}
-use Rattle.homed_unit.specs.Homed.{homed_view}
-use Rattle.hiding_changes.specs.declared.teller.Teller as declared-teller
-use Rattle.hiding_changes.specs.Found.{IsTeller}
+use Rattle.currency_notes.specs.Homes.{home_in}
+use Rattle.graph_homes.specs.Homed.{homed_view}
+use Rattle.currency_hiding.specs.declared.teller.Teller as declared-teller
+use Rattle.currency_hiding.specs.Found.{IsTeller}
 use Rattle.currency.proofs.OfFunctions.{told_all, told_first, told_next_any}
 use Rattle.currency.proofs.OfUnits.{evident_first, evident_next, new_by}
 use Rattle.currency.proofs.rows.told_of_all.Goals as goal

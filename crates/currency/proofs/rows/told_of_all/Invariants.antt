@@ -1,7 +1,7 @@
 use Rattle.std.proofs.Common.{◌≡◌}
-use Rattle.homed_unit.specs.Homed.{homed_view}
-use Rattle.hiding_changes.specs.Changes.{log_of}
-use Rattle.hiding_changes.specs.Found.{IsTeller}
+use Rattle.graph_homes.specs.Homed.{homed_view}
+use Rattle.currency_hiding.specs.Changes.{log_of}
+use Rattle.currency_hiding.specs.Found.{IsTeller}
 use Rattle.currency.specs.Evident.{AreToldEvident}
 use Rattle.currency.specs.Sound.{AreFunctionsTold}
 use Rattle.currency.proofs.rows.told_of_all.Given as goal

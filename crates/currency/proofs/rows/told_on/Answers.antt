@@ -1,6 +1,6 @@
 use Rattle.std.proofs.Common.{◌-◌, ◌<◌, Some, ap, arith, length, sym, ◌∙◌}
 use Rattle.std.proofs.lemmas.Option.{slice_get-get_or}
-use Rattle.numbered_homes.proofs.Lists.{get_among}
+use Rattle.currency_notes.proofs.Lists.{get_among}
 use Rattle.currency.proofs.OnRows.{other_by_slot}
 use Rattle.currency.proofs.rows.told_on.Goals as goal
 

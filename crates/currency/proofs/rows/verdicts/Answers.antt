@@ -2,9 +2,9 @@ use Rattle.std.proofs.Common.{List, map, subst}
 use Rattle.std.specs.Prelude.{IfSome}
 use Rattle.debug_records.specs.declared.change.Change.{Change}
 use Rattle.graph_core.specs.Graphs.{logged}
-use Rattle.homed_unit.specs.Homed.{homed_view}
-use Rattle.removed_changes.specs.declared.removed.RemovedChanges.{RemovedChanges}
-use Rattle.removed_changes.specs.Telling.{AreToldOf}
+use Rattle.graph_homes.specs.Homed.{homed_view}
+use Rattle.dead_pass_writes.specs.declared.removed.RemovedChanges.{RemovedChanges}
+use Rattle.dead_pass_writes.specs.RemovedChangesTelling.{AreToldOf}
 use Rattle.currency.specs.Telling.{AreRowsTold}
 use Rattle.currency.specs.Sound.{AreSo}
 use Rattle.currency.specs.Evident.{AreToldEvident}

@@ -1,6 +1,6 @@
 use Rattle.std.proofs.Common.{arith}
-use Rattle.homed_unit.specs.Homed.{homed_view}
-use Rattle.numbered_homes.proofs.Lists.{each_all, each_more}
+use Rattle.graph_homes.specs.Homed.{homed_view}
+use Rattle.currency_notes.proofs.Lists.{each_all, each_more}
 use Rattle.currency.specs.declared.verdict.PlaceVerdict as declared-row
 use Rattle.currency.specs.Written.{IsWritten}
 use Rattle.currency.proofs.WritesHomes.{written_first}

@@ -1,5 +1,5 @@
 use Rattle.std.proofs.Common.{take}
-use Rattle.homed_unit.specs.Homed.{homed_view}
+use Rattle.graph_homes.specs.Homed.{homed_view}
 use Rattle.currency.specs.Written.{AreWritten}
 use Rattle.currency.proofs.written.are_written.Given as goal
 

@@ -2,9 +2,9 @@ use Rattle.std.proofs.Common.{◌≡◌, ◌+◌, List, ap, length, map, subst, 
 use Rattle.std.proofs.lemmas.List.{map-append}
 use Rattle.graph_core.specs.declared.block.Block as declared-block
 use Rattle.graph_core.specs.Graphs.{block_view}
-use Rattle.path_marks.specs.Table.{bits_of}
-use Rattle.idle_rule.specs.Asking.{is_going}
-use Rattle.idle_rule.specs.Walks.{turn_of}
+use Rattle.graph_paths.specs.PathMarksTable.{bits_of}
+use Rattle.dead_pass_rule.specs.Asking.{is_going}
+use Rattle.dead_pass_rule.specs.Walks.{turn_of}
 use Rattle.dead_pass.proofs.Leaving.{AreAhead, blocks_done, blocks_first, blocks_step, rest_count}
 use Rattle.dead_pass.proofs.Saying.{AreUnderWay, blocks_begin, blocks_on}
 use Rattle.dead_pass.proofs.notes.blocks_left.Goals as goal

@@ -1,9 +1,9 @@
 use Rattle.std.proofs.Common.{◌≡◌, ◌+◌, List, length, map}
 use Rattle.graph_core.specs.Graphs.{Logged, block_view}
-use Rattle.path_marks.specs.Table.{bits_of}
-use Rattle.idle_rule.specs.Asking.{is_going}
-use Rattle.idle_rule.specs.Walks.{turn_of}
-use Rattle.removal_notes.specs.Idle.{graph_of}
+use Rattle.graph_paths.specs.PathMarksTable.{bits_of}
+use Rattle.dead_pass_rule.specs.Asking.{is_going}
+use Rattle.dead_pass_rule.specs.Walks.{turn_of}
+use Rattle.dead_pass_notes.specs.Idle.{graph_of}
 use Rattle.dead_pass.specs.Noted.{IsReady}
 use Rattle.dead_pass.proofs.Leaving.{AreAhead}
 use Rattle.dead_pass.proofs.Saying.{AreUnderWay}

@@ -1,15 +1,15 @@
 use Rattle.std.proofs.Common.{◌≡◌, List, ap, map, rules, subst, sym, ◌∙◌}
 use Rattle.graph_core.specs.declared.graph.MemoryObject.{MemoryObject}
 use Rattle.graph_core.specs.Graphs.{Binding, Block, Graph, Scalar, binding_view, block_view, graph_view, scalar_view}
-use Rattle.path_marks.specs.Table.{bits_of}
-use Rattle.idle_rule.specs.Asking.{is_going}
-use Rattle.idle_rule.specs.Removing.{IsReduced}
-use Rattle.idle_rule.specs.Walks.{turn_of}
-use Rattle.removal_notes.specs.Idle.{graph_of}
-use Rattle.removal_notes.specs.Said.{SaysWhatItShall}
-use Rattle.removal_notes.specs.Sources.{HasRoom}
-use Rattle.removal_notes.specs.Stale.{AreKnown}
-use Rattle.removed_changes.specs.Telling.{AreToldOf}
+use Rattle.graph_paths.specs.PathMarksTable.{bits_of}
+use Rattle.dead_pass_rule.specs.Asking.{is_going}
+use Rattle.dead_pass_rule.specs.Removing.{IsReduced}
+use Rattle.dead_pass_rule.specs.Walks.{turn_of}
+use Rattle.dead_pass_notes.specs.Idle.{graph_of}
+use Rattle.dead_pass_notes.specs.Said.{SaysWhatItShall}
+use Rattle.dead_pass_notes.specs.Sources.{HasRoom}
+use Rattle.dead_pass_notes.specs.RemovalNotesStale.{AreKnown}
+use Rattle.dead_pass_writes.specs.RemovedChangesTelling.{AreToldOf}
 use Rattle.dead_pass.specs.LeftBy.{AreLeftBlocksBy}
 use Rattle.dead_pass.proofs.ByRule.{graph_reduced, graph_stays}
 use Rattle.dead_pass.proofs.Placed.{graph_named, graph_placed}

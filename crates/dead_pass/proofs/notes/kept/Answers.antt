@@ -1,8 +1,8 @@
 use Rattle.std.proofs.Common.{subst, sym}
 use Rattle.graph_core.specs.declared.instruction.Instr.{Instr}
 use Rattle.graph_core.specs.Graphs.{Instruction, instruction_view, note_view}
-use Rattle.removal_notes.specs.Idle.{graph_of}
-use Rattle.removal_notes.specs.Said.{SaysAs}
+use Rattle.dead_pass_notes.specs.Idle.{graph_of}
+use Rattle.dead_pass_notes.specs.Said.{SaysAs}
 use Rattle.dead_pass.specs.LeftBy.{IsKeptAs, same}
 use Rattle.dead_pass.specs.Noted.{IsHere}
 use Rattle.dead_pass.proofs.Leaving.{kept_note}

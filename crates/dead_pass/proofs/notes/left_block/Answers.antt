@@ -1,10 +1,10 @@
 use Rattle.std.proofs.Common.{◌∙◌, [], ap, map, refl, subst, sym}
 use Rattle.graph_core.specs.Graphs.{Block, block_view, instruction_view}
-use Rattle.path_marks.specs.Table.{bits_of}
-use Rattle.idle_rule.specs.Asking.{is_going}
-use Rattle.idle_rule.specs.Walks.{turn_of}
-use Rattle.removal_notes.specs.Idle.{graph_of}
-use Rattle.removal_notes.specs.Said.{AreSaid}
+use Rattle.graph_paths.specs.PathMarksTable.{bits_of}
+use Rattle.dead_pass_rule.specs.Asking.{is_going}
+use Rattle.dead_pass_rule.specs.Walks.{turn_of}
+use Rattle.dead_pass_notes.specs.Idle.{graph_of}
+use Rattle.dead_pass_notes.specs.Said.{AreSaid}
 use Rattle.dead_pass.specs.LeftBy.{AreLeftBy, IsLeftBlockBy, reduced, unreached}
 use Rattle.dead_pass.proofs.Saying.{unreached_said}
 use Rattle.dead_pass.proofs.notes.left_block.Goals as goal

@@ -2,10 +2,10 @@ use Rattle.std.proofs.Common.{map, refl, ap, ◌∙◌, length, subst, sym, List
 use Rattle.std.proofs.lemmas.Option.{slice_get_within}
 use Rattle.graph_core.specs.declared.instruction.Instr.{Instr}
 use Rattle.graph_core.specs.Graphs.{instruction_view}
-use Rattle.idle_rule.specs.Asking.{is_going}
-use Rattle.idle_rule.specs.Walks.{turn_of}
-use Rattle.removal_notes.specs.Idle.{graph_of}
-use Rattle.removed_writes.specs.Points.{placed}
+use Rattle.dead_pass_rule.specs.Asking.{is_going}
+use Rattle.dead_pass_rule.specs.Walks.{turn_of}
+use Rattle.dead_pass_notes.specs.Idle.{graph_of}
+use Rattle.dead_pass_notes.specs.Points.{placed}
 use Rattle.dead_pass.proofs.Leaving.{IsAhead, ahead_done, ahead_first, ahead_step}
 use Rattle.dead_pass.proofs.Noting.{IsUnderWay, come_ways, ready_step, ready_ways, walk_done, walk_first, walk_on}
 use Rattle.dead_pass.proofs.Placed.{place_on}

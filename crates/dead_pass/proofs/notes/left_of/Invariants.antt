@@ -1,8 +1,8 @@
 use Rattle.std.proofs.Common.{◌≡◌, List, length, map}
 use Rattle.graph_core.specs.Graphs.{Block, Logged, instruction_view}
-use Rattle.idle_rule.specs.Asking.{is_going}
-use Rattle.idle_rule.specs.Walks.{turn_of}
-use Rattle.removed_writes.specs.Points.{placed}
+use Rattle.dead_pass_rule.specs.Asking.{is_going}
+use Rattle.dead_pass_rule.specs.Walks.{turn_of}
+use Rattle.dead_pass_notes.specs.Points.{placed}
 use Rattle.dead_pass.specs.Noted.{IsReady, IsVisited}
 use Rattle.dead_pass.proofs.Leaving.{IsAhead}
 use Rattle.dead_pass.proofs.Noting.{IsUnderWay}

@@ -3,11 +3,11 @@ use Rattle.std.proofs.lemmas.List.{map-append}
 use Rattle.graph_core.specs.declared.graph.Graph as declared-graph
 use Rattle.graph_core.specs.Graphs.{Logged, UnitForm, graph_view}
 use Rattle.graph_core.specs.Validity.{IsGraph}
-use Rattle.graph_edits.proofs.Functions.{Left, left_first, functions_step, functions_done}
-use Rattle.idle_rule.specs.Removing.{IsReduced}
-use Rattle.removal_notes.specs.Idle.{IsBorneOut, graph_of}
-use Rattle.removal_notes.specs.Said.{SaysWhatItShall}
-use Rattle.removed_changes.specs.Telling.{AreToldOf}
+use Rattle.pass_law.proofs.Functions.{Left, left_first, functions_step, functions_done}
+use Rattle.dead_pass_rule.specs.Removing.{IsReduced}
+use Rattle.dead_pass_notes.specs.Idle.{IsBorneOut, graph_of}
+use Rattle.dead_pass_notes.specs.Said.{SaysWhatItShall}
+use Rattle.dead_pass_writes.specs.RemovedChangesTelling.{AreToldOf}
 use Rattle.dead_pass.proofs.Leaving.{all_behind, all_unmapped, first_of_all}
 use Rattle.dead_pass.proofs.pass.graphs_left.Goals as goal
 

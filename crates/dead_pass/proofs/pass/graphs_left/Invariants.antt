@@ -2,11 +2,11 @@ use Rattle.std.proofs.Common.{List, length, map}
 use Rattle.std.specs.List.{AllByRecursion}
 use Rattle.graph_core.specs.Graphs.{Logged, UnitForm, graph_view}
 use Rattle.graph_core.specs.Validity.{IsGraph}
-use Rattle.idle_rule.specs.Removing.{IsReduced}
-use Rattle.graph_edits.proofs.Functions.{Left}
-use Rattle.removal_notes.specs.Idle.{IsBorneOut, graph_of}
-use Rattle.removal_notes.specs.Said.{SaysWhatItShall}
-use Rattle.removed_changes.specs.Telling.{AreToldOf}
+use Rattle.dead_pass_rule.specs.Removing.{IsReduced}
+use Rattle.pass_law.proofs.Functions.{Left}
+use Rattle.dead_pass_notes.specs.Idle.{IsBorneOut, graph_of}
+use Rattle.dead_pass_notes.specs.Said.{SaysWhatItShall}
+use Rattle.dead_pass_writes.specs.RemovedChangesTelling.{AreToldOf}
 use Rattle.dead_pass.proofs.pass.graphs_left.Given as goal
 
 abbrev pub invariant-loop-ahead : goal.invariant-loop-ahead

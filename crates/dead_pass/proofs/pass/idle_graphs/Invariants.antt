@@ -1,7 +1,7 @@
 use Rattle.std.proofs.Common.{◌≡◌, map, take}
 use Rattle.std.specs.List.{AllByRecursion}
 use Rattle.graph_core.specs.Graphs.{graph_view}
-use Rattle.removal_notes.specs.Idle.{IsBorneOut, graph_of}
+use Rattle.dead_pass_notes.specs.Idle.{IsBorneOut, graph_of}
 use Rattle.dead_pass.proofs.pass.idle_graphs.Given as goal
 
 abbrev pub invariant-loop-graph : goal.invariant-loop-graph

@@ -4,17 +4,17 @@ use Rattle.debug_records.specs.declared.change.Kind.TheVariants.{Removed}
 use Rattle.debug_records.specs.declared.change.Change.{Change}
 use Rattle.graph_core.specs.Graphs.{graph_view, logged, unit_view}
 use Rattle.graph_core.specs.Validity.{IsGraph}
-use Rattle.graph_edits.specs.Kept.{EachFunction}
-use Rattle.graph_edits.specs.Changes.{AreCasesOf}
-use Rattle.graph_edits.proofs.Log.{changes_added, changes_of_cases}
-use Rattle.idle_rule.specs.Removing.{IsReduced}
-use Rattle.removal_notes.specs.declared.idle_graph.IdleGraph.{IdleGraph}
-use Rattle.removal_notes.specs.Idle.{graph_of}
-use Rattle.removal_notes.specs.Said.{SaysWhatItShall}
-use Rattle.removed_changes.specs.Telling.{AreToldOf}
-use Rattle.removed_writes.specs.Writes.{IsRemovedWrite}
-use Rattle.removed_writes.proofs.OfUnits.{cases_before, each_count}
-use Rattle.dead_valid.proofs.Valid.{removed_valid}
+use Rattle.pass_law.specs.Kept.{EachFunction}
+use Rattle.pass_law.specs.Changes.{AreCasesOf}
+use Rattle.pass_law.proofs.Log.{changes_added, changes_of_cases}
+use Rattle.dead_pass_rule.specs.Removing.{IsReduced}
+use Rattle.dead_pass_notes.specs.declared.idle_graph.IdleGraph.{IdleGraph}
+use Rattle.dead_pass_notes.specs.Idle.{graph_of}
+use Rattle.dead_pass_notes.specs.Said.{SaysWhatItShall}
+use Rattle.dead_pass_writes.specs.RemovedChangesTelling.{AreToldOf}
+use Rattle.dead_pass_notes.specs.Writes.{IsRemovedWrite}
+use Rattle.dead_pass_notes.proofs.OfUnits.{cases_before, each_count}
+use Rattle.dead_pass_notes.proofs.Valid.{removed_valid}
 use Rattle.dead_pass.proofs.ByRule.{each_keeps, each_left}
 use Rattle.dead_pass.proofs.Saying.{some_of}
 use Rattle.dead_pass.proofs.pass.remove_dead.Goals as goal

@@ -4,12 +4,12 @@ use Rattle.std.specs.declared.vec.Vec.{Vec}
 use Rattle.std.specs.declared.alloc.Global.{Global}
 use Rattle.std.proofs.lemmas.List.{length-map}
 use Rattle.std.proofs.lemmas.Option.{slice_get-map, slice_get_read}
-use Rattle.graph_edits.proofs.OfFunctions.{AreCasesBelow, cases_first, cases_last, cases_next, function_step}
-use Rattle.idle_rule.specs.Asking.{is_going}
-use Rattle.idle_rule.specs.Certified.{AreIdle}
-use Rattle.idle_rule.specs.Walks.{turn_of}
-use Rattle.removal_notes.specs.Idle.{IsBorneOut, graph_of}
-use Rattle.removed_writes.specs.Writes.{IsRemovedWrite}
+use Rattle.pass_law.proofs.OfFunctions.{AreCasesBelow, cases_first, cases_last, cases_next, function_step}
+use Rattle.dead_pass_rule.specs.Asking.{is_going}
+use Rattle.dead_pass_rule.specs.Certified.{AreIdle}
+use Rattle.dead_pass_rule.specs.Walks.{turn_of}
+use Rattle.dead_pass_notes.specs.Idle.{IsBorneOut, graph_of}
+use Rattle.dead_pass_notes.specs.Writes.{IsRemovedWrite}
 use Rattle.dead_pass.proofs.Leaving.{one_of_all}
 use Rattle.dead_pass.proofs.pass.removed_cases.Goals as goal
 

@@ -1,7 +1,7 @@
 use Rattle.std.proofs.Common.{map}
-use Rattle.removal_notes.specs.Idle.{graph_of}
-use Rattle.graph_edits.proofs.OfFunctions.{AreCasesBelow}
-use Rattle.removed_writes.specs.Writes.{IsRemovedWrite}
+use Rattle.dead_pass_notes.specs.Idle.{graph_of}
+use Rattle.pass_law.proofs.OfFunctions.{AreCasesBelow}
+use Rattle.dead_pass_notes.specs.Writes.{IsRemovedWrite}
 use Rattle.dead_pass.proofs.pass.removed_cases.Given as goal
 
 abbrev pub invariant-loop-number : goal.invariant-loop-number

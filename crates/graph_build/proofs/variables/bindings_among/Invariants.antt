@@ -1,6 +1,6 @@
 use Rattle.std.proofs.Common.{◌≡◌, ◌++◌, map, drop}
 use Rattle.graph_core.specs.Graphs.{binding_view}
-use Rattle.graph_names.specs.Names.{names_view}
+use Rattle.graph_build_names.specs.Names.{names_view}
 use Rattle.graph_build.specs.Units.{binding_of}
 use Rattle.graph_build.proofs.variables.bindings_among.Given as goal
 

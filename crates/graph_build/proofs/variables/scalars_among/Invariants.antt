@@ -1,5 +1,5 @@
 use Rattle.std.proofs.Common.{◌≡◌, ◌++◌, drop}
-use Rattle.graph_names.specs.Names.{names_view}
+use Rattle.graph_build_names.specs.Names.{names_view}
 use Rattle.graph_build.specs.Units.{scalars_among}
 use Rattle.graph_build.proofs.variables.scalars_among.Given as goal
 

@@ -1,6 +1,6 @@
 use Rattle.std.proofs.Common.{◌≡◌, ◌+◌, true, length, replicate, ap, ◌∙◌, subst, arith}
 use Rattle.std.proofs.lemmas.List.{length-map}
-use Rattle.graph_problem.specs.Rounds.{directed}
+use Rattle.graph_solve_problem.specs.Rounds.{directed}
 use Rattle.graph_solve.specs.Work.{edges_from, edges_of, falls_to_come, sum_to, weighed}
 use Rattle.graph_solve.proofs.Beginning.{IsQueue, first_state, all_to_come, edges_weigh}
 use Rattle.graph_solve.proofs.Tasks.{within_as}

@@ -10,7 +10,7 @@ use Rattle.graph_solve.specs.GraphFlow.{edge_from}
 use Rattle.graph_core.specs.Graphs.{block_view, graph_view}
 use Rattle.graph_solve.specs.GraphFlow.{AreFlow, is_return}
 use Rattle.graph_solve.proofs.Carrying.{flow_more}
-use Rattle.graph_problem.proofs.Relaxing.{read}
+use Rattle.graph_solve_problem.proofs.Relaxing.{read}
 use Rattle.graph_solve.proofs.graph.flow_graph.Goals as goal
 
 pub loop-from-preserved : goal.loop-from-preserved

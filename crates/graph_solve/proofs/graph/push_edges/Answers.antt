@@ -2,7 +2,7 @@ use Rattle.std.proofs.Common.{◌≡◌, ◌++◌, sym, ap, ◌∙◌, map, take
 use Rattle.std.proofs.lemmas.List.{take_all}
 use Rattle.graph_core.specs.declared.name.Label.{Label}
 use Rattle.graph_solve.specs.GraphFlow.{edge_from}
-use Rattle.graph_problem.proofs.Lists.{map_through}
+use Rattle.graph_solve_problem.proofs.Lists.{map_through}
 use Rattle.graph_solve.proofs.graph.push_edges.Goals as goal
 
 pub returns : goal.returns

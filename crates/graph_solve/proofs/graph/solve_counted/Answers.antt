@@ -1,7 +1,7 @@
 use Rattle.std.proofs.Common.{sym, subst, length}
 use Rattle.graph_core.specs.Graphs.{graph_view}
 use Rattle.graph_solve.specs.GraphFlow.{graph_flow}
-use Rattle.graph_problem.specs.Solution.{IsSolution}
+use Rattle.graph_solve_problem.specs.Solution.{IsSolution}
 use Rattle.graph_solve.specs.Solved.{starts_of}
 use Rattle.graph_solve.proofs.graph.solve_counted.Goals as goal
 

@@ -2,7 +2,7 @@ use Rattle.std.proofs.Common.{sym, subst, length}
 use Rattle.std.proofs.lemmas.List.{length-map}
 use Rattle.graph_core.specs.Graphs.{block_view, graph_view}
 use Rattle.graph_solve.specs.GraphFlow.{AreFlow, graph_flow}
-use Rattle.graph_problem.specs.Solution.{AreWithin, IsSolution, control_flow}
+use Rattle.graph_solve_problem.specs.Solution.{AreWithin, IsSolution, control_flow}
 use Rattle.graph_solve.proofs.Carrying.{flow_within, graph_solution}
 use Rattle.graph_solve.proofs.graph.solve_plain.Goals as goal
 

@@ -1,5 +1,5 @@
 use Rattle.std.proofs.Common.{◌≡◌, cond, length, sym, ◌∙◌, subst, arith}
-use Rattle.graph_problem.specs.Solution.{IsSolution, control_flow}
+use Rattle.graph_solve_problem.specs.Solution.{IsSolution, control_flow}
 use Rattle.graph_solve.specs.Rows.{sets_at}
 use Rattle.graph_solve.specs.Work.{edges_of}
 use Rattle.graph_solve.proofs.Tasks.{directed_as, within_as}

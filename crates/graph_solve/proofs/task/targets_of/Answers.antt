@@ -1,7 +1,7 @@
 use Rattle.std.proofs.Common.{◌≡◌, ◌+◌, ◌<◌, ◌++◌, [], ◌∷◌, length, map, take, get_or, sym, ap, ◌∙◌, subst, arith}
 use Rattle.std.proofs.Math.ListN.{set}
-use Rattle.graph_problem.specs.declared.flow_graph.Edge.{Edge}
-use Rattle.graph_problem.specs.Rounds.{directed}
+use Rattle.graph_solve_problem.specs.declared.flow_graph.Edge.{Edge}
+use Rattle.graph_solve_problem.specs.Rounds.{directed}
 use Rattle.graph_solve.specs.Work.{AreTargets}
 use Rattle.graph_solve.proofs.Targets.{targets_more, directed_more, directed_ends}
 use Rattle.graph_solve.proofs.task.targets_of.Goals as goal

@@ -1,5 +1,5 @@
 use Rattle.std.proofs.Common.{length, map, take}
-use Rattle.graph_problem.specs.Rounds.{directed}
+use Rattle.graph_solve_problem.specs.Rounds.{directed}
 use Rattle.graph_solve.specs.Work.{AreTargets}
 use Rattle.graph_solve.proofs.task.targets_of.Given as goal
 

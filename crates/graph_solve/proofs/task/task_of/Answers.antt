@@ -1,7 +1,7 @@
 use Rattle.std.proofs.Common.{length, map, sym, ap, ◌∙◌, subst, arith}
-use Rattle.graph_problem.specs.Rounds.{directed}
+use Rattle.graph_solve_problem.specs.Rounds.{directed}
 use Rattle.graph_solve.specs.Rows.{table}
-use Rattle.graph_problem.specs.Solution.{AreWithin}
+use Rattle.graph_solve_problem.specs.Solution.{AreWithin}
 use Rattle.graph_solve.specs.Work.{AreTargets, edges_of}
 use Rattle.graph_solve.proofs.Targets.{directed_within}
 use Rattle.graph_solve.proofs.task.task_of.Goals as goal

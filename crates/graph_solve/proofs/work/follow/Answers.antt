@@ -1,9 +1,9 @@
 use Rattle.std.proofs.Common.{◌≡◌, length, get_or, zero-add, ◌+◌, ◌++◌, [], ◌∷◌, true, false, true≢false, sym, ap, ◌∙◌, subst, arith}
 use Rattle.std.proofs.lemmas.List.{get_or_read}
 use Rattle.std.proofs.Math.ListN.{set}
-use Rattle.graph_problem.specs.Solution.{control_flow}
+use Rattle.graph_solve_problem.specs.Solution.{control_flow}
 use Rattle.graph_solve.specs.Work.{IsState, edges_of, weighed}
-use Rattle.graph_problem.proofs.Relaxing.{read}
+use Rattle.graph_solve_problem.proofs.Relaxing.{read}
 use Rattle.graph_solve.proofs.Weighing.{fewer_to_come, weighed_push}
 use Rattle.graph_solve.proofs.Following.{count_in, wait_in, state_rested, count_below, made_still, state_waiting, state_anew}
 use Rattle.graph_solve.proofs.work.follow.Goals as goal

@@ -1,7 +1,7 @@
 use Rattle.std.proofs.Common.{◌≡◌, ℕ, Vec, Global, map, get_or, ◌+◌, [], ◌∷◌, false, length, sym, ap, ◌∙◌, subst, arith}
 use Rattle.std.specs.Prelude.{slice_set}
 use Rattle.bit_rows.specs.Grid.{row_at, passed}
-use Rattle.graph_problem.specs.Solution.{control_flow}
+use Rattle.graph_solve_problem.specs.Solution.{control_flow}
 use Rattle.graph_solve.specs.Rows.{set_at, table}
 use Rattle.graph_solve.specs.Work.{IsState, edges_of}
 use Rattle.graph_solve.proofs.Bitsets.{table_rows}

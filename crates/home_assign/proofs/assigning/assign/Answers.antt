@@ -4,7 +4,7 @@ use Rattle.std.specs.List.{AllByRecursion}
 use Rattle.debug_records.specs.Change.{changes}
 use Rattle.graph_core.specs.Graphs.{graph_view, logged, unit_view}
 use Rattle.graph_core.specs.Validity.{IsValid}
-use Rattle.homed_unit.specs.Homed.{HomedForm, homed_view}
+use Rattle.graph_homes.specs.Homed.{HomedForm, homed_view}
 use Rattle.home_assign.specs.Changes.{HaveChanges, homes_pass}
 use Rattle.home_assign.specs.Homes.{homes_listed}
 use Rattle.home_assign.specs.Units.{AreHomesOfEach, AreLoggedOfEach, IsHomeable}

@@ -2,9 +2,9 @@ use Rattle.std.proofs.Common.{map, sym, ap, ◌∙◌, subst}
 use Rattle.std.proofs.lemmas.List.{map-append}
 use Rattle.debug_records.specs.Change.{changes}
 use Rattle.graph_core.specs.Graphs.{graph_view, logged}
-use Rattle.homed_unit.specs.declared.homed.FunctionHomes as declared-homes
-use Rattle.home_sharing.specs.Moves.{AreMoves}
-use Rattle.home_sharing.specs.Sharing.{AreLogged, home_in}
+use Rattle.graph_homes.specs.declared.homed.FunctionHomes as declared-homes
+use Rattle.home_assign.specs.Moves.{AreMoves}
+use Rattle.home_assign.specs.Sharing.{AreLogged, home_in}
 use Rattle.home_assign.specs.Changes.{homes_pass}
 use Rattle.home_assign.specs.Homes.{AreHomesFor, homes_listed}
 use Rattle.home_assign.specs.Units.{IsHomeable}

@@ -2,7 +2,7 @@ use Rattle.std.proofs.Common.{◌≡◌, ℕ, ◌<◌, Some, length}
 use Rattle.std.specs.Prelude.{slice_get}
 use Rattle.std.specs.List.{AllByRecursion}
 use Rattle.graph_homes.specs.declared.home.Home.TheVariants.{Slot}
-use Rattle.homed_unit.specs.Homed.{IsHomeAmong}
+use Rattle.graph_homes.specs.Homed.{IsHomeAmong}
 use Rattle.home_assign.proofs.assigning.slots.Given as goal
 
 abbrev pub invariant-loop-name : goal.invariant-loop-name

@@ -1,6 +1,6 @@
 use Rattle.std.proofs.Common.{◌∙◌, sym, subst, true≢false, inl, inr, arith}
 use Rattle.std.proofs.lemmas.Bool.{cases_lt}
-use Rattle.name_interference.specs.Registers.{IsFreeFor}
+use Rattle.home_assign.specs.Registers.{IsFreeFor}
 use Rattle.home_assign.proofs.Choices.{free_same, registers_then, same_then}
 use Rattle.home_assign.proofs.choosing.first_free.Goals as goal
 

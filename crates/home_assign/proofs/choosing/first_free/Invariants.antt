@@ -1,5 +1,5 @@
 use Rattle.std.proofs.Common.{ℕ, ◌<◌}
-use Rattle.name_interference.specs.Registers.{HaveSameClashes, HaveSameRegisters, IsFreeFor}
+use Rattle.home_assign.specs.Registers.{HaveSameClashes, HaveSameRegisters, IsFreeFor}
 use Rattle.home_assign.proofs.choosing.first_free.Given as goal
 
 abbrev pub invariant-loop-register : goal.invariant-loop-register

@@ -1,6 +1,6 @@
 use Rattle.std.proofs.Common.{◌≡◌, ℕ, ◌<◌, Some}
 use Rattle.std.specs.Prelude.{slice_get}
-use Rattle.homed_unit.specs.Frames.{home_registers}
+use Rattle.graph_homes.specs.Frames.{home_registers}
 use Rattle.home_assign.proofs.choosing.number_of.Given as goal
 
 abbrev pub invariant-loop-number : goal.invariant-loop-number

@@ -3,8 +3,8 @@ use Rattle.std.specs.Prelude.{slice_get}
 use Rattle.std.specs.List.{AllByRecursion}
 use Rattle.std.proofs.lemmas.Option.{slice_get_within}
 use Rattle.graph_core.specs.Graphs.{graph_view}
-use Rattle.homed_unit.specs.Homed.{IsHomeAmong}
-use Rattle.name_interference.specs.Joins.{IsFirst}
+use Rattle.graph_homes.specs.Homed.{IsHomeAmong}
+use Rattle.home_assign.specs.Joins.{IsFirst}
 use Rattle.home_assign.specs.Choosing.{HaveHomeRegisters}
 use Rattle.home_assign.specs.Rule.{IsHome, slots_in}
 use Rattle.home_assign.proofs.Choices.{registers_none, rule_put, still_clashes}

@@ -3,8 +3,8 @@ use Rattle.std.specs.Prelude.{slice_get}
 use Rattle.std.specs.List.{AllByRecursion}
 use Rattle.graph_core.specs.Graphs.{graph_view}
 use Rattle.graph_homes.specs.declared.home.Home.{Home}
-use Rattle.homed_unit.specs.Homed.{IsHomeAmong}
-use Rattle.name_interference.specs.Registers.{AreClashesOf}
+use Rattle.graph_homes.specs.Homed.{IsHomeAmong}
+use Rattle.home_assign.specs.Registers.{AreClashesOf}
 use Rattle.home_assign.specs.Choosing.{HaveHomeRegisters}
 use Rattle.home_assign.specs.Rule.{IsHome, slots_in}
 use Rattle.home_assign.proofs.choosing.registers.Given as goal

@@ -5,7 +5,7 @@ use Rattle.std.proofs.lemmas.Option.{slice_get-map, slice_get_read}
 use Rattle.graph_core.specs.declared.graph.Scalar as declared-scalar
 use Rattle.graph_core.specs.declared.name.Name as declared-name
 use Rattle.graph_core.specs.Graphs.{block_view, graph_view, instruction_view, scalar_view}
-use Rattle.graph_edits.specs.Changes.{Adds}
+use Rattle.pass_law.specs.Changes.{Adds}
 use Rattle.motion_pass.specs.Cases.{IsReadingAt}
 use Rattle.motion_pass.specs.Placing.{placed}
 use Rattle.motion_pass.proofs.Along.{point_step, points_done}

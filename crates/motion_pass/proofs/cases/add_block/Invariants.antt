@@ -1,7 +1,7 @@
 use Rattle.std.proofs.Common.{◌≡◌, map, take}
 use Rattle.graph_core.specs.Graphs.{block_view, graph_view, instruction_view}
 use Rattle.graph_core.specs.Validity.{place_behind}
-use Rattle.graph_edits.specs.Changes.{Adds, Below}
+use Rattle.pass_law.specs.Changes.{Adds, Below}
 use Rattle.motion_pass.specs.Cases.{IsReadingIn}
 use Rattle.motion_pass.specs.Placing.{placed}
 use Rattle.motion_pass.proofs.Along.{index_of}

@@ -1,6 +1,6 @@
 use Rattle.graph_core.specs.Graphs.{graph_view}
-use Rattle.graph_edits.specs.Changes.{Adds, Below}
-use Rattle.motion_moves.specs.Moves.{IsReadingAssignment}
+use Rattle.pass_law.specs.Changes.{Adds, Below}
+use Rattle.motion_pass_placement.specs.Moves.{IsReadingAssignment}
 use Rattle.motion_pass.proofs.Along.{block_of}
 use Rattle.motion_pass.proofs.cases.add_moved.Given as goal
 

@@ -1,5 +1,5 @@
 use Rattle.std.proofs.Common.{true≢false, refl, sym}
-use Rattle.motion_facts.proofs.Inner.{at_inside}
+use Rattle.motion_pass_problems.proofs.Inner.{at_inside}
 use Rattle.motion_pass.proofs.Acting.{never_read, read_is, compute_is}
 use Rattle.motion_pass.proofs.cases.reads_at.Goals as goal
 

@@ -1,6 +1,6 @@
 use Rattle.std.proofs.Common.{ap, map, refl, ◌∙◌}
 use Rattle.graph_core.specs.Graphs.{binding_view, graph_view, scalar_view}
-use Rattle.motion_placement.specs.Placed.{all_of}
+use Rattle.motion_pass_placement.specs.Placed.{all_of}
 use Rattle.motion_pass.specs.Placing.{treated_by}
 use Rattle.motion_pass.proofs.Acting.{names_on}
 use Rattle.motion_pass.proofs.Doing.{count_named}

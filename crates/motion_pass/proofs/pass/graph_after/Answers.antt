@@ -1,9 +1,9 @@
 use Rattle.std.proofs.Common.{sym, subst, ◌∙◌, ap}
 use Rattle.std.specs.Prelude.{IfSome, Some}
 use Rattle.graph_core.specs.Graphs.{graph_view}
-use Rattle.motion_placement.specs.declared.placement.Motion.{Motion}
-use Rattle.motion_placement.specs.Placed.{IsAnswered}
-use Rattle.motion_moves.specs.Moves.{BecomesIn, is_entered_again}
+use Rattle.motion_pass_placement.specs.declared.placement.Motion.{Motion}
+use Rattle.motion_pass_placement.specs.Placed.{IsAnswered}
+use Rattle.motion_pass_placement.specs.Moves.{BecomesIn, is_entered_again}
 use Rattle.motion_pass.proofs.pass.graph_after.Goals as goal
 
 pub returns-in_ok-same-in-EnteredAgain-clause-becomes : goal.returns-in_ok-same-in-EnteredAgain-clause-becomes

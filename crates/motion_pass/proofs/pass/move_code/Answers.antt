@@ -2,10 +2,10 @@ use Rattle.std.proofs.Common.{List, ap, map, refl, rules, subst, sym}
 use Rattle.debug_records.specs.declared.change.Kind.TheVariants.{Moved}
 use Rattle.graph_core.specs.declared.graph.Graph as declared-graph
 use Rattle.graph_core.specs.Graphs.{UnitForm, graph_view, unit_view}
-use Rattle.graph_edits.specs.Changes.{AreCasesOf}
-use Rattle.graph_edits.proofs.Log.{changes_added, changes_of_cases}
-use Rattle.motion_moves.specs.Moves.{AreAllMoved, IsMovedAssignment}
-use Rattle.motion_valid.proofs.Valid.{moved_valid}
+use Rattle.pass_law.specs.Changes.{AreCasesOf}
+use Rattle.pass_law.proofs.Log.{changes_added, changes_of_cases}
+use Rattle.motion_pass_placement.specs.Moves.{AreAllMoved, IsMovedAssignment}
+use Rattle.motion_pass.proofs.Valid.{moved_valid}
 use Rattle.motion_pass.specs.Amounts.{AreBounded}
 use Rattle.motion_pass.proofs.Functions.{bounded, each_keeps}
 use Rattle.motion_pass.proofs.pass.move_code.Goals as goal

@@ -4,10 +4,10 @@ use Rattle.std.proofs.lemmas.List.{length-append, length-map, map-append}
 use Rattle.std.proofs.lemmas.Option.{slice_get-map, slice_get_read}
 use Rattle.graph_core.specs.declared.graph.Graph as declared-graph
 use Rattle.graph_core.specs.Graphs.{Graph, graph_view}
-use Rattle.graph_edits.specs.Changes.{Adds}
-use Rattle.graph_edits.proofs.OfFunctions.{AreCasesBelow, cases_first, cases_last, cases_next, function_step}
-use Rattle.motion_points.proofs.Numbering.{snoc_new}
-use Rattle.motion_moves.specs.Moves.{BecomesIn, IsMovedAssignment}
+use Rattle.pass_law.specs.Changes.{Adds}
+use Rattle.pass_law.proofs.OfFunctions.{AreCasesBelow, cases_first, cases_last, cases_next, function_step}
+use Rattle.motion_pass_points.proofs.Numbering.{snoc_new}
+use Rattle.motion_pass_placement.specs.Moves.{BecomesIn, IsMovedAssignment}
 use Rattle.motion_pass.specs.Amounts.{IsAmount}
 use Rattle.motion_pass.proofs.Functions.{IsAhead, ahead_none, ahead_one, ahead_all, amount_at, amount_behind, cases_longer, one_of_total}
 use Rattle.motion_pass.proofs.pass.move_graphs.Goals as goal

@@ -1,7 +1,7 @@
 use Rattle.std.proofs.Common.{◌≡◌, ◌++◌, drop, length, map}
 use Rattle.graph_core.specs.Graphs.{graph_view}
-use Rattle.graph_edits.proofs.OfFunctions.{AreCasesBelow}
-use Rattle.motion_moves.specs.Moves.{IsMovedAssignment}
+use Rattle.pass_law.proofs.OfFunctions.{AreCasesBelow}
+use Rattle.motion_pass_placement.specs.Moves.{IsMovedAssignment}
 use Rattle.motion_pass.specs.Amounts.{IsAmount}
 use Rattle.motion_pass.proofs.Functions.{IsAhead}
 use Rattle.motion_pass.proofs.pass.move_graphs.Given as goal

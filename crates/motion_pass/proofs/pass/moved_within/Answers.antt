@@ -1,7 +1,7 @@
 use Rattle.std.proofs.Common.{◌++◌, ◌∷◌, sym, subst}
 use Rattle.std.specs.Prelude.{IfSome}
 use Rattle.graph_core.specs.Graphs.{graph_view}
-use Rattle.motion_moves.specs.Moves.{BecomesIn, moves, passes_a_bound, IsWithin}
+use Rattle.motion_pass_placement.specs.Moves.{BecomesIn, moves, passes_a_bound, IsWithin}
 use Rattle.motion_pass.specs.declared.bounds.Amount.{Amount}
 use Rattle.motion_pass.specs.Amounts.{IsAmount}
 use Rattle.motion_pass.proofs.More.{left_cases, moved_cases}

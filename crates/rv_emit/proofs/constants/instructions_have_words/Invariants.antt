@@ -1,7 +1,7 @@
 use Rattle.std.proofs.Common.{length, map}
 use Rattle.std.specs.List.{AllByRecursion}
 use Rattle.graph_core.specs.Graphs.{instruction_view}
-use Rattle.emit_runs.specs.Laid.{HasWords}
+use Rattle.rv_emit_runs.specs.Laid.{HasWords}
 use Rattle.rv_emit.proofs.constants.instructions_have_words.Given as goal
 
 abbrev pub invariant-loop-left : goal.invariant-loop-left

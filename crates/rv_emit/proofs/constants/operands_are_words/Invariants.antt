@@ -1,6 +1,6 @@
 use Rattle.std.proofs.Common.{length, map}
 use Rattle.graph_core.specs.Graphs.{operand_view}
-use Rattle.emit_calls.specs.Passing.{AreWords}
+use Rattle.rv_emit_runs.specs.Passing.{AreWords}
 use Rattle.rv_emit.proofs.constants.operands_are_words.Given as goal
 
 abbrev pub invariant-loop-left : goal.invariant-loop-left

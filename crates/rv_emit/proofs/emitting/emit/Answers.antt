@@ -1,9 +1,9 @@
 use Rattle.std.proofs.Common.{map, subst}
 use Rattle.std.specs.List.{AllByRecursion}
 use Rattle.graph_core.specs.Graphs.{graph_view}
-use Rattle.homed_unit.specs.Homed.{homed_view}
-use Rattle.emitted.specs.Emitted.{emitted_view}
-use Rattle.emit_runs.specs.Laid.{IsInWords}
+use Rattle.graph_homes.specs.Homed.{homed_view}
+use Rattle.rv_emit_tables.specs.Emitted.{emitted_view}
+use Rattle.rv_emit_runs.specs.Laid.{IsInWords}
 use Rattle.rv_emit.proofs.Promised.{emits_all}
 use Rattle.rv_emit.proofs.emitting.emit.Goals as goal
 

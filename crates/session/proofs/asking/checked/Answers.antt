@@ -1,4 +1,4 @@
-use Rattle.pass_runs.proofs.Found.{not_both}
+use Rattle.pass_law.proofs.Found.{not_both}
 use Rattle.session.proofs.asking.checked.Goals as goal
 
 pub returns-in-Ok-false : goal.returns-in-Ok-false

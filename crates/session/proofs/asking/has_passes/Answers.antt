@@ -3,7 +3,7 @@ use Rattle.debug_records.specs.Change.{letters}
 use Rattle.debug_records.specs.declared.change.PassName.{PassName}
 use Rattle.command_line.specs.Job.{job_given}
 use Rattle.command_line.specs.declared.job.Job.{Job}
-use Rattle.pass_runs.specs.HandedIn.{AreHandedIn}
+use Rattle.pass_law.specs.HandedIn.{AreHandedIn}
 use Rattle.session.specs.Served.{needed}
 use Rattle.session.proofs.asking.has_passes.Goals as goal
 

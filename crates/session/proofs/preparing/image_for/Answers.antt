@@ -2,14 +2,14 @@ use Rattle.std.proofs.Common.{map, subst}
 use Rattle.debug_records.specs.Change.{letters}
 use Rattle.std.specs.Prelude.{IfSome}
 use Rattle.c_tree.specs.Programs.{program_view}
-use Rattle.homed_unit.specs.Homed.{homed_view}
+use Rattle.graph_homes.specs.Homed.{homed_view}
 use Rattle.image_form.specs.Form.{form}
 use Rattle.image_form.specs.Rules.{IsImage}
-use Rattle.program_image.specs.Behind.{ComesHomed}
-use Rattle.program_image.specs.Made.{IsHomed, IsMadeOf}
-use Rattle.program_image.specs.Shown.{ShowsAll}
-use Rattle.program_image.specs.Tables.{HasTablesOf}
-use Rattle.passes_truth.proofs.Truth.{runs_true}
+use Rattle.image_build.specs.Behind.{ComesHomed}
+use Rattle.image_build.specs.Made.{IsHomed, IsMadeOf}
+use Rattle.image_build.specs.ProgramImageShown.{ShowsAll}
+use Rattle.image_build.specs.Tables.{HasTablesOf}
+use Rattle.image_build.proofs.Truth.{runs_true}
 use Rattle.session.proofs.Behind.{kept_behind}
 use Rattle.session.proofs.Compiled.{none_named}
 use Rattle.session.proofs.preparing.image_for.Goals as goal

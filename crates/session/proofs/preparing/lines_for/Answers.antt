@@ -3,11 +3,11 @@ use Rattle.std.specs.Prelude.{IfSome}
 use Rattle.c_tree.specs.Programs.{program_view}
 use Rattle.graph_core.specs.Graphs.{logged, unit_view}
 use Rattle.graph_core.specs.Validity.{IsValid}
-use Rattle.change_lines.specs.Lines.{lines_of}
+use Rattle.session_lines.specs.ChangeLinesLines.{lines_of}
 use Rattle.debug_records.specs.Change.{letters}
-use Rattle.program_image.specs.Behind.{ComesOf}
-use Rattle.program_image.specs.Tables.{HasShapeOf}
-use Rattle.program_unit.specs.Built.{IsBuilt}
+use Rattle.image_build.specs.Behind.{ComesOf}
+use Rattle.image_build.specs.Tables.{HasShapeOf}
+use Rattle.graph_build_laws.specs.Built.{IsBuilt}
 use Rattle.session.proofs.Lines.{lines_are}
 use Rattle.session.proofs.preparing.lines_for.Goals as goal
 

@@ -6,7 +6,7 @@ use Rattle.image_form.specs.declared.tables.Place as row
 use Rattle.stop_engine.specs.Breaks.{stops_on}
 use Rattle.stop_engine.proofs.StopsByLine.{stops-behind, stops-end}
 use Rattle.stop_engine.proofs.breaks.stops_on.Goals as goal
-use Rattle.stop_view.proofs.PlacesByAddress.{places-fit}
+use Rattle.stop_engine_view.proofs.PlacesByAddress.{places-fit}
 
 no_place : row.Place
 no_place = record { position = 0; line = 0; function = 0; address = 0 }

@@ -1,5 +1,5 @@
 use Rattle.stop_engine.specs.Marking.{aim_of}
-use Rattle.stop_view.specs.Run.{stop_addresses}
+use Rattle.stop_engine_view.specs.Run.{stop_addresses}
 use Rattle.stop_engine.proofs.Stepping.{passes-arrived}
 use Rattle.stop_engine.proofs.course.arrived.Goals as goal
 

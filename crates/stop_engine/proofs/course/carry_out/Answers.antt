@@ -1,6 +1,6 @@
 use Rattle.rv_machine.specs.Run.{run}
 use Rattle.stop_engine.specs.Marking.{aim_of}
-use Rattle.stop_view.specs.Run.{stop_addresses}
+use Rattle.stop_engine_view.specs.Run.{stop_addresses}
 use Rattle.stop_engine.proofs.Stepping.{passes-out}
 use Rattle.stop_engine.proofs.course.carry_out.Goals as goal
 

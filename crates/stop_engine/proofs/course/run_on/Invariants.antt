@@ -3,7 +3,7 @@ use Rattle.rv_machine.specs.Run.{MachineEvent, run}
 use Rattle.stop_engine.specs.declared.course.TheConstants.{ROOM}
 use Rattle.stop_engine.specs.Marking.{aim_of}
 use Rattle.stop_engine.specs.Passing.{PassesBy}
-use Rattle.stop_view.specs.Run.{stop_addresses}
+use Rattle.stop_engine_view.specs.Run.{stop_addresses}
 use Rattle.stop_engine.proofs.course.run_on.Given as goal
 
 abbrev pub invariant-loop-left : goal.invariant-loop-left

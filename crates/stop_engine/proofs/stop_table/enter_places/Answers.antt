@@ -1,7 +1,7 @@
 use Rattle.std.proofs.Common.{◌≡◌, ◌<◌, ◌≤◌, length, ◌∙◌, sym, refl, arith}
 use Rattle.image_form.specs.Form.{form}
 use Rattle.image_form.specs.RulesOfPlaces.{word_address}
-use Rattle.stop_view.proofs.PlacesByAddress.{entered-all, entered-more, place-at_word, places-fit, word-within}
+use Rattle.stop_engine_view.proofs.PlacesByAddress.{entered-all, entered-more, place-at_word, places-fit, word-within}
 use Rattle.stop_engine.proofs.stop_table.enter_places.Goals as goal
 
 pub loop-i-init : goal.loop-i-init

@@ -1,7 +1,7 @@
 use Rattle.std.proofs.Common.{◌≡◌, ℕ, ◌+◌, drop, slice_index, unwrap_or}
 use Rattle.image_form.specs.Form.{form}
 use Rattle.image_form.specs.RulesOfPlaces.{word_address}
-use Rattle.stop_view.specs.Reading.{place_at, place_from}
+use Rattle.stop_engine_view.specs.Reading.{place_at, place_from}
 use Rattle.stop_engine.proofs.stop_table.enter_places.Given as goal
 
 abbrev pub invariant-loop-i : goal.invariant-loop-i

@@ -1,6 +1,6 @@
 use Rattle.std.proofs.Common.{◌≡◌, ◌<◌, length, ◌∙◌}
 use Rattle.image_form.specs.Form.{form}
-use Rattle.stop_view.proofs.PlacesByAddress.{IsWordOf, word-within}
+use Rattle.stop_engine_view.proofs.PlacesByAddress.{IsWordOf, word-within}
 use Rattle.stop_engine.proofs.StopTables.{entry-at_word, struck-more}
 use Rattle.stop_engine.proofs.stop_table.strike_entries.Goals as goal
 

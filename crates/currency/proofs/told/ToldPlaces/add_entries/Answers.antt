@@ -1,5 +1,5 @@
 use Rattle.std.proofs.Common.{◌≡◌, arith, true}
-use Rattle.hiding_changes.specs.Found.{TellsFor}
+use Rattle.currency_hiding.specs.Found.{TellsFor}
 use Rattle.currency.specs.Evident.{IsHidingOn}
 use Rattle.currency.proofs.Entries.{entries_done, entries_first, entry_next}
 use Rattle.currency.proofs.Hiding.{new_none, new_one}

@@ -1,5 +1,5 @@
 use Rattle.std.proofs.Common.{◌≡◌, true}
-use Rattle.hiding_changes.specs.Found.{TellsFor}
+use Rattle.currency_hiding.specs.Found.{TellsFor}
 use Rattle.currency.specs.Evident.{AreNew, IsHidingOn}
 use Rattle.currency.proofs.Entries.{AreToldSoFar}
 use Rattle.currency.proofs.told.ToldPlaces.add_entries.Given as goal

@@ -3,12 +3,12 @@ use Rattle.std.specs.Prelude.{IfSome}
 use Rattle.std.specs.Global.{Vec}
 use Rattle.graph_core.specs.declared.graph.Scalar as declared-scalar
 use Rattle.graph_core.specs.Graphs.{Logged, graph_view}
-use Rattle.removed_changes.specs.Telling.{AreToldOf}
-use Rattle.numbered_homes.specs.Homes.{home_in}
-use Rattle.note_flow.specs.declared.found.Unshown as declared-unshown
-use Rattle.note_flow.specs.Shown.{AreDifferent, AreDistinct, AreHidden, AreLeast, AreOther, AreOwn, ArePlaced, AreRecipes, AreTheirs}
+use Rattle.dead_pass_writes.specs.RemovedChangesTelling.{AreToldOf}
+use Rattle.currency_notes.specs.Homes.{home_in}
+use Rattle.currency_shown.specs.declared.found.Unshown as declared-unshown
+use Rattle.currency_shown.specs.Shown.{AreDifferent, AreDistinct, AreHidden, AreLeast, AreOther, AreOwn, ArePlaced, AreRecipes, AreTheirs}
 use Rattle.currency.specs.Telling.{AreToldAll}
-use Rattle.hiding_changes.specs.declared.function.Function as declared-function
+use Rattle.currency_hiding.specs.declared.function.Function as declared-function
 use Rattle.currency.specs.Evident.{AreNew, IsHidingScalar}
 use Rattle.currency.proofs.Entries.{function_told}
 use Rattle.currency.proofs.Hiding.{hiding_in}

@@ -1,4 +1,4 @@
-use Rattle.hiding_changes.specs.Found.{IsSameFunction, IsSameTeller}
+use Rattle.currency_hiding.specs.Found.{IsSameFunction, IsSameTeller}
 use Rattle.currency.specs.Evident.{AreNew, IsHidingScalar}
 use Rattle.currency.proofs.Entries.{AreScalarsTold}
 use Rattle.currency.proofs.told.ToldPlaces.add_scalars.Given as goal

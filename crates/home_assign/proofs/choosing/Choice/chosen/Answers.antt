@@ -1,4 +1,4 @@
-use Rattle.name_interference.specs.Registers.{IsFreeFor}
+use Rattle.home_assign.specs.Registers.{IsFreeFor}
 use Rattle.home_assign.specs.Choosing.{IsWished, wished}
 use Rattle.home_assign.proofs.Choices.{chosen_after, free_back_same, free_same}
 use Rattle.home_assign.proofs.choosing.Choice.chosen.Goals as goal

@@ -1,6 +1,6 @@
 use Rattle.std.proofs.Common.{◌≡◌, ◌∙◌, sym, subst, true≢false}
 use Rattle.std.proofs.lemmas.Option.{same_Some}
-use Rattle.name_interference.specs.Registers.{IsFreeFor}
+use Rattle.home_assign.specs.Registers.{IsFreeFor}
 use Rattle.home_assign.specs.Choosing.{HasRegister}
 use Rattle.home_assign.proofs.Choices.{register_once}
 use Rattle.home_assign.proofs.choosing.Choice.joined.Goals as goal

@@ -1,6 +1,6 @@
 use Rattle.std.proofs.Common.{ℕ, Option, length, map, refl, ◌+◌, subst}
 use Rattle.graph_core.specs.Graphs.{block_view, end_view, instruction_view}
-use Rattle.motion_moves.specs.Moving.{IsEnd}
+use Rattle.motion_pass_placement.specs.Moving.{IsEnd}
 use Rattle.motion_pass.specs.Placing.{blocks_of, first_of, treated_in}
 use Rattle.motion_pass.proofs.moving.Moving.block.Goals as goal
 

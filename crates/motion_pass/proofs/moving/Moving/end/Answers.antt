@@ -1,8 +1,8 @@
 use Rattle.std.proofs.Common.{[], ◌++◌, length, map, sym, ap, ◌∙◌, append_assoc}
 use Rattle.std.proofs.lemmas.List.{append-nil, map-append}
 use Rattle.graph_core.specs.Graphs.{block_view, end_view, instruction_view}
-use Rattle.motion_rule.specs.Ways.{along}
-use Rattle.motion_moves.specs.Moving.{AreDone}
+use Rattle.motion_pass_points.specs.Ways.{along}
+use Rattle.motion_pass_placement.specs.Moving.{AreDone}
 use Rattle.motion_pass.specs.Placing.{blocks_of, first_of, graph_of, placed, treated_in}
 use Rattle.motion_pass.proofs.Acting.{edge_done}
 use Rattle.motion_pass.proofs.Leading.{else_among, end_branches, end_jumps, end_returns, jump_among, then_among}

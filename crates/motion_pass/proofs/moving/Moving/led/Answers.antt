@@ -2,8 +2,8 @@ use Rattle.std.proofs.Common.{◌≡◌, ◌+◌, List, [], ◌∷◌, length, v
 use Rattle.std.proofs.lemmas.Bool.{eqb-true, eqb-false}
 use Rattle.std.proofs.lemmas.List.{append-nil, length-map, map-append}
 use Rattle.graph_core.specs.Graphs.{Block, Jump, block_view, instruction_view}
-use Rattle.motion_moves.specs.Moving.{AreDone}
-use Rattle.motion_rule.specs.Ways.{along}
+use Rattle.motion_pass_placement.specs.Moving.{AreDone}
+use Rattle.motion_pass_points.specs.Ways.{along}
 use Rattle.motion_pass.specs.Placing.{blocks_of, first_of, graph_of, placed, treated_in}
 use Rattle.motion_pass.proofs.Acting.{edge_done}
 use Rattle.motion_pass.proofs.Leading.{led_by, led_on, no_items}

@@ -2,7 +2,7 @@ use Rattle.std.proofs.Common.{[], ◌∷◌, ◌++◌, map, ap, ◌∙◌, appen
 use Rattle.std.proofs.lemmas.List.{map-append}
 use Rattle.std.proofs.lemmas.Option.{slice_get_within}
 use Rattle.graph_core.specs.Graphs.{Move, Name, instruction_view}
-use Rattle.motion_points.specs.Computing.{computation_view, doing}
+use Rattle.motion_pass_points.specs.MotionPointsComputing.{computation_view, doing}
 use Rattle.motion_pass.specs.Placing.{graph_of}
 use Rattle.motion_pass.proofs.Acting.{keep_becomes, keep_done, read_becomes, read_done, read_target, compute_becomes, compute_done, compute_target}
 use Rattle.motion_pass.proofs.moving.Moving.push_instruction.Goals as goal

@@ -3,7 +3,7 @@ use Rattle.image_form.specs.Form.{Form, form}
 use Rattle.stop_engine.specs.EngineState.{RunState}
 use Rattle.stop_engine.specs.FunctionNames.{AreFunctionNamesOf}
 use Rattle.stop_engine.specs.MarkTable.{MarkTable}
-use Rattle.stop_tables.specs.Tables.{AreTablesOf}
+use Rattle.stop_engine_tables.specs.Tables.{AreTablesOf}
 use Rattle.stop_engine.proofs.engine.Engine.new.Goals as goal
 
 pub invariant_of-result-2 : goal.invariant_of-result-2

@@ -1,7 +1,7 @@
 use Rattle.std.proofs.Common.{refl, ◌∙◌}
 use Rattle.rv_machine.specs.Run.{run}
 use Rattle.stop_engine.specs.Marking.{aim_of}
-use Rattle.stop_view.specs.Run.{stop_addresses}
+use Rattle.stop_engine_view.specs.Run.{stop_addresses}
 use Rattle.stop_engine.proofs.Stepping.{on_err-always, passes-unanswered, ran-to_halt, wants-before_moving, wants-on_its_way}
 use Rattle.stop_engine.proofs.run.Run.run_to.Goals as goal
 

@@ -2,8 +2,8 @@ use Rattle.std.proofs.Common.{subst, sym}
 use Rattle.graph_core.specs.Graphs.{unit_view}
 use Rattle.pass_law.specs.Keeps.{Keeps}
 use Rattle.pass_law.proofs.Keeping.{keeps_itself}
-use Rattle.pass_runs.specs.Kept.{KeepsShape}
-use Rattle.pass_runs.proofs.Shape.{shape_itself}
+use Rattle.pass_law.specs.PassRunsKept.{KeepsShape}
+use Rattle.pass_law.proofs.Shape.{shape_itself}
 use Rattle.cdbg.proofs.tests.handed_in.SameUnitPass.apply.Goals as goal
 
 pub returns-clause-kept : goal.returns-clause-kept

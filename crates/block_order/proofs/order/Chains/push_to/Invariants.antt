@@ -1,5 +1,0 @@
-use Rattle.block_order.specs.Orders.{placing_view, Grows}
-use Rattle.block_order.proofs.order.Chains.push_to.Given as goal
-
-abbrev pub invariant-loop : goal.invariant-loop
-invariant-loop l = Grows (placing_view l.fn.placing) (placing_view l.placing)

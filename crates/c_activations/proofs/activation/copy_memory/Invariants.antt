@@ -1,6 +1,0 @@
-use Rattle.std.proofs.Common.{◌≡◌, map, take}
-use Rattle.c_memory.specs.Views.{object_view}
-use Rattle.c_activations.proofs.activation.copy_memory.Given as goal
-
-abbrev pub invariant-loop-object : goal.invariant-loop-object
-invariant-loop-object l = map object_view l.copies.items ≡ map object_view (take l.object-index l.memory)

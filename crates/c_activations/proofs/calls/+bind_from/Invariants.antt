@@ -1,4 +1,0 @@
-use Rattle.c_activations.proofs.calls.+bind_from.Given as goal
-
-abbrev pub decreases-bind_from : goal.decreases-bind_from
-decreases-bind_from l = l.count

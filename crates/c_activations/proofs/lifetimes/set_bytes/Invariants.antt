@@ -1,8 +1,0 @@
-use Rattle.std.proofs.Common.{◌≡◌, map, drop}
-use Rattle.c_memory.specs.Views.{object_view}
-use Rattle.c_activations.specs.Lifetimes.{element_value, set_values}
-use Rattle.c_activations.proofs.lifetimes.set_bytes.Given as goal
-
-abbrev pub invariant-loop-index : goal.invariant-loop-index
-invariant-loop-index l =
-    set_values (map object_view l.memory.items) l.object l.index (map (element_value l.of) (drop l.index l.bytes)) ≡ set_values (map object_view l.fn.memory.items) l.object 0 (map (element_value l.of) l.bytes)

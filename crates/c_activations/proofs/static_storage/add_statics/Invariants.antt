@@ -1,9 +1,0 @@
-use Rattle.std.proofs.Common.{◌≡◌, ◌++◌, map, take}
-use Rattle.c_tree.specs.Programs.{program_view, static_view}
-use Rattle.c_memory.specs.Views.{object_view}
-use Rattle.c_activations.specs.StaticStorage.{static_objects}
-use Rattle.c_activations.proofs.static_storage.add_statics.Given as goal
-
-abbrev pub invariant-loop-number : goal.invariant-loop-number
-invariant-loop-number l =
-    map object_view l.memory.items ≡ map object_view l.fn.memory.items ++ static_objects (program_view l.program) 0 (take l.number (map static_view l.program.statics.items))

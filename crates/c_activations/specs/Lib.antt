@@ -1,5 +1,0 @@
-pub mod Activations
-pub mod Lifetimes
-pub mod Calls
-pub mod StaticStorage
-pub mod Views

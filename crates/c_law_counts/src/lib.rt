@@ -1,2 +1,0 @@
-//! How many nodes typed trees have, and what they weigh at least.
-#![tactic(auto)]

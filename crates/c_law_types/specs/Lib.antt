@@ -1,4 +1,0 @@
-pub mod Kind
-pub mod Kinds
-pub mod Expressions
-pub mod Statements

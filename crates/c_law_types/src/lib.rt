@@ -1,2 +1,0 @@
-//! When expressions and statements of a program are well typed.
-#![tactic(auto)]

@@ -1,9 +1,0 @@
-pub mod Orders
-pub mod Declarations
-pub mod Objects
-pub mod Parameters
-pub mod Plain
-pub mod Statics
-pub mod Laws
-pub mod Names
-pub mod Spots

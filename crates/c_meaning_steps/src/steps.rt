@@ -1,0 +1,141 @@
+//! The steps of expressions: what is done once their operands have their values (ISO/IEC 9899:2011, 6.5).
+
+ghost use Rattle.std.specs.Prelude.{◌≡◌, IfOk, map};
+ghost use Rattle.c_meaning_values.specs.declared.value.Value.TheVariants.{Number};
+ghost use Rattle.c_meaning_steps.specs.Views.{evaluated_view, state_view};
+ghost use Rattle.c_meaning_values.specs.Views.{object_view, owner_view};
+ghost use Rattle.c_meaning_steps.specs.States as states;
+ghost use Rattle.c_meaning_steps.specs.States.{given, usable};
+ghost use Rattle.c_meaning_steps.specs.Steps.{decayed, leave, load, named, next_byte, put, replaced, store};
+
+use crate::event::{Ending, Event};
+use crate::state::{Evaluated, State};
+use c_meaning_values::{Object, Owner, Value, address_of, is_usable, read, write};
+use c_tree::{Given, IntegerType};
+use c_type_rules::wrapped;
+use std::alloc::AllocError;
+
+/// A value, or undefined where there is none.
+pub fn given(value: Option<Value>) -> Evaluated
+    ensures { (s : states.State) → evaluated_view result s ≡ given value s }
+{
+    match value {
+        None => Evaluated::Ends(Ending::Undefined),
+        Some(value) => Evaluated::Gives(value),
+    }
+}
+
+/// A value that is worked with.
+pub fn usable(value: Value, state: &State) -> Evaluated
+    ensures { evaluated_view result (state_view state.now) ≡ usable value (state_view state.now) }
+{
+    if is_usable(&state.memory, value) {
+        Evaluated::Gives(value)
+    } else {
+        Evaluated::Ends(Ending::Undefined)
+    }
+}
+
+/// What an object holds where a pointer points.
+pub fn load(pointer: Value, state: &State) -> Evaluated
+    ensures { evaluated_view result (state_view state.now) ≡ load pointer (state_view state.now) }
+{
+    match read(&state.memory, pointer) {
+        None => Evaluated::Ends(Ending::Undefined),
+        Some(value) => usable(value, state),
+    }
+}
+
+/// A value is written where a pointer points.
+pub fn store(pointer: Value, value: Value, state: &mut State) -> Evaluated
+    ensures { evaluated_view result (state_view state.new) ≡ store pointer value (state_view state.old) }
+{
+    if write(&mut state.memory, pointer, value) {
+        Evaluated::Gives(value)
+    } else {
+        Evaluated::Ends(Ending::Undefined)
+    }
+}
+
+/// A pointer to the beginning of an object that a name designates.
+pub fn named(depth: usize, object: c_tree::Object, memory: &[Object]) -> Option<Value>
+    ensures { result ≡ named depth object (map object_view memory.now) }
+{
+    let owner = match object {
+        c_tree::Object::Static(number) => Owner::Static(number as usize),
+        c_tree::Object::Literal(number) => Owner::Literal(number as usize),
+        c_tree::Object::Automatic(variable) => Owner::Variable {
+            variable: variable as usize,
+            depth,
+        },
+    };
+    address_of(owner, memory)
+}
+
+/// An array that is used.
+pub fn decayed(pointer: Value, state: &State) -> Evaluated
+    ensures { evaluated_view result (state_view state.now) ≡ decayed pointer (state_view state.now) }
+{
+    match read(&state.memory, pointer) {
+        None => Evaluated::Ends(Ending::Undefined),
+        Some(_) => Evaluated::Gives(pointer),
+    }
+}
+
+/// A new value is written in place of an old one.
+pub fn replaced(
+    which: Given,
+    pointer: Value,
+    old: Value,
+    new: Value,
+    state: &mut State,
+) -> Evaluated
+    ensures { evaluated_view result (state_view state.new) ≡ replaced which pointer old new (state_view state.old) }
+{
+    let stored = store(pointer, new, state);
+    match which {
+        Given::New => stored,
+        Given::Old => match stored {
+            Evaluated::Gives(_) => Evaluated::Gives(old),
+            Evaluated::Leaves => Evaluated::Ends(Ending::Undefined),
+            Evaluated::Ends(ending) => Evaluated::Ends(ending),
+        },
+    }
+}
+
+/// `getchar`.
+pub fn next_byte(state: &mut State) -> Evaluated
+    ensures { evaluated_view result (state_view state.new) ≡ next_byte (state_view state.old).input (state_view state.old) }
+{
+    match state.input.split_first() {
+        None => Evaluated::Gives(Value::Number(-1)),
+        Some((byte, rest)) => {
+            state.input = rest;
+            Evaluated::Gives(Value::Number(i64::from(*byte)))
+        }
+    }
+}
+
+/// `putchar`.
+pub fn put(value: Value, state: &mut State) -> Result<Evaluated, AllocError>
+    ensures { IfOk result (λ v. evaluated_view v (state_view state.new) ≡ put value (state_view state.old)) }
+{
+    match value {
+        Value::Number(number) => {
+            let byte = wrapped(IntegerType::Char, i128::from(number));
+            state.events.push(Event::Put(byte as u8))?;
+            Ok(Evaluated::Gives(Value::Number(byte)))
+        }
+        _ => Ok(Evaluated::Ends(Ending::Undefined)),
+    }
+}
+
+/// `exit`.
+pub fn leave(value: Value) -> Evaluated
+    ensures { (s : states.State) → evaluated_view result s ≡ leave value s }
+{
+    match value {
+        Value::Number(status) => Evaluated::Ends(Ending::Exit(status)),
+        _ => Evaluated::Ends(Ending::Undefined),
+    }
+}

@@ -1,3 +1,0 @@
-pub mod Classes
-pub mod InFunctions
-pub mod Fitting

@@ -1,4 +1,0 @@
-pub mod Tokens
-pub mod Standing
-pub mod Trees
-pub mod Accepted

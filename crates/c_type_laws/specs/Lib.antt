@@ -1,0 +1,15 @@
+pub mod Kind
+pub mod Kinds
+pub mod Expressions
+pub mod Statements
+pub mod Nodes
+pub mod Weighing
+pub mod Orders
+pub mod Declarations
+pub mod Objects
+pub mod Parameters
+pub mod Plain
+pub mod Statics
+pub mod Laws
+pub mod Names
+pub mod Spots

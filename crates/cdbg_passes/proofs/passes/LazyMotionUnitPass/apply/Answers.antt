@@ -1,0 +1,23 @@
+use Rattle.std.specs.Prelude.{codes}
+use Rattle.debug_records.specs.Change.{pass_name}
+use Rattle.debug_records.specs.declared.change.Kind.TheVariants.{Moved}
+use Rattle.pass_law.specs.Changes.{AddsChangesOf}
+use Rattle.motion_pass_placement.specs.Moves.{AreAllMoved, IsMovedAssignment}
+use Rattle.graph_core.specs.Graphs.{unit_view}
+use Rattle.pass_law.proofs.Shape.{kept_by}
+use Rattle.cdbg_passes.specs.Steps.{MakesValid, MovesCode}
+use Rattle.cdbg_passes.proofs.Made.{made_keeps, made_valid, of_three}
+use Rattle.cdbg_passes.proofs.Lawful.{motion_kept}
+use Rattle.cdbg_passes.proofs.passes.LazyMotionUnitPass.apply.Goals as goal
+
+pub returns-clause-kept : goal.returns-clause-kept
+returns-clause-kept c = kept_by (unit_view c.args.unit.now) c.move_code.result c.move_code.ensures.shared c.move_code.ensures.functions
+
+pub returns-clause-step : goal.returns-clause-step
+returns-clause-step c =
+    let u = unit_view c.args.unit.now in
+    of_three c.move_code.result (λ v. MakesValid u (unit_view v)) (λ v. AddsChangesOf (pass_name (codes "motion")) Moved IsMovedAssignment u (unit_view v)) (λ v. AreAllMoved u.graphs (unit_view v).graphs) (λ v. MovesCode u (unit_view v))
+    (λ v made changes functions. record { made = made; changes = changes; functions = functions }) (made_valid u c.move_code.result c.move_code.ensures.valid c.move_code.ensures.shared) c.move_code.ensures.changes c.move_code.ensures.moved
+
+pub returns-clause-keeps : goal.returns-clause-keeps
+returns-clause-keeps c = made_keeps MovesCode motion_kept (unit_view c.args.unit.now) c.move_code.result (returns-clause-step c)

@@ -1,7 +1,0 @@
-//! The lines of the changes of a log.
-#![tactic(auto)]
-
-mod lines;
-mod names;
-
-pub use lines::change_lines;

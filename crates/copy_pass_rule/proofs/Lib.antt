@@ -1,0 +1,12 @@
+pub mod Missing
+pub mod Points
+pub mod ByRule
+pub mod Bringing
+pub mod Walked
+pub mod Known
+pub mod Lists
+pub mod Shapes
+pub mod Naming
+pub mod Keeping
+pub mod Copies
+pub mod Valid

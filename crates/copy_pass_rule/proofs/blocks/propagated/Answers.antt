@@ -1,0 +1,28 @@
+use Rattle.std.proofs.Common.{List, ap, map, subst, sym, ◌∙◌}
+use Rattle.std.specs.Prelude.{IfSome}
+use Rattle.graph_core.specs.declared.graph.MemoryObject.{MemoryObject}
+use Rattle.graph_core.specs.Graphs.{Binding, Block, Graph, Scalar, binding_view, block_view, graph_view, scalar_view}
+use Rattle.copy_pass_rule.specs.Copying.{IsPropagated}
+use Rattle.copy_pass_rule.specs.Flow.{AreFound, AreReadBlocks, lines_of}
+use Rattle.graph_paths.specs.PathMarksTable.{bits_of}
+use Rattle.copy_pass_rule.proofs.ByRule as rule
+use Rattle.copy_pass_rule.proofs.blocks.propagated.Goals as goal
+
+pub returns : goal.returns
+returns c =
+    let g = c.args.graph.now in
+    let copies = c.in-Some.copies.all.now in
+    let bits = bits_of c.in-Some-2.marks in
+    let after : List Block = map block_view c.in-Some-3.blocks.items in
+    let found = subst (λ o. IfSome o (λ marks. AreFound (lines_of (map block_view g.blocks.items)) copies (bits_of marks))) c.in-Some-2.is
+    (subst (λ xs. IfSome c.in_ok-marks.field-0 (λ marks. AreFound (lines_of (map block_view xs)) copies (bits_of marks))) c.deref.ensures.value c.in_ok-marks.ensures.found) in
+    let all = subst (λ o. IfSome o (λ made. AreReadBlocks (map scalar_view g.scalars.items) copies bits 0 (map block_view g.blocks.items) (map block_view made.items))) c.in-Some-3.is
+    (subst (λ xs. IfSome c.in_ok-blocks.field-0 (λ made. AreReadBlocks (map scalar_view g.scalars.items) copies bits 0 (map block_view xs) (map block_view made.items))) c.deref-3.ensures.value
+    (subst (λ ss. IfSome c.in_ok-blocks.field-0 (λ made. AreReadBlocks (map scalar_view ss) copies bits 0 (map block_view c.deref-3.result.now) (map block_view made.items))) c.deref-2.ensures.value c.in_ok-blocks.ensures)) in
+    let made : List Binding → List Scalar → List MemoryObject → Graph =
+    λ (bindings : List Binding) (scalars : List Scalar) (objects : List MemoryObject).
+    record { entry = g.entry.0; parameters = bindings; scalars = scalars; objects = objects; name_count = g.name_count; first_moved = g.first_moved; blocks = after } in
+    let one = ap (λ x. made (map binding_view x) (map scalar_view c.in_ok-from_slice-2.field-0.items) c.in_ok-from_slice-3.field-0.items) (c.in_ok-from_slice.ensures.items ∙ c.deref-4.ensures.value) in
+    let two = ap (λ x. made (map binding_view g.parameters.items) (map scalar_view x) c.in_ok-from_slice-3.field-0.items) (c.in_ok-from_slice-2.ensures.items ∙ c.deref-5.ensures.value) in
+    let three = ap (λ x. made (map binding_view g.parameters.items) (map scalar_view g.scalars.items) x) (c.in_ok-from_slice-3.ensures.items ∙ c.deref-6.ensures.value) in
+    subst (λ (h : Graph). IsPropagated (graph_view g) h) (sym (one ∙ two ∙ three)) (rule.propagated (graph_view g) copies bits after found all)

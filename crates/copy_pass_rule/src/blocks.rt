@@ -1,0 +1,225 @@
+//! Blocks as they are read.
+
+ghost use Rattle.std.specs.Prelude.{◌≡◌, ◌↔◌, ℕ, ◌+◌, ◌^◌, ◌<◌, IfOk, IfSome, MatchOption, OnOk, length, map, true};
+ghost use Rattle.graph_core.specs.Graphs.{Move, Name as NameOf, block_view, graph_view, instruction_view, scalar_view};
+ghost use Rattle.copy_pass_rule.specs.Copying.{AreOfOneType, IsPropagated};
+ghost use Rattle.copy_pass_rule.specs.Flow.{AreRead, AreReadBlocks, IsKnown, IsReadBlock, missing_in};
+ghost use Rattle.copy_pass_rule.specs.Known.{IsNoCopy, type_in};
+ghost use Rattle.copy_pass_rule.specs.Rows.{AreRows, AreSameBut};
+ghost use Rattle.graph_paths.specs.PathMarksTable.{bits_of};
+
+use crate::copies::{Copies, CopyAt};
+use crate::flow::{begin, find_missing, step};
+use crate::reading::Reader;
+use graph_core::{Block, Graph, Instr, Operand, Scalar};
+use graph_paths::Marks;
+use std::alloc::{AllocError, Global};
+
+/// The type of a scalar.
+fn type_of(scalars: &[Scalar], name: u32) -> Option<u32>
+    ensures { result ≡ type_in (map scalar_view scalars.now) name }
+{
+    match scalars.get(name as usize) {
+        Some(scalar) => Some(scalar.of),
+        None => None,
+    }
+}
+
+/// Whether two names are scalars of one type, and not the same.
+fn are_of_one_type(scalars: &[Scalar], target: u32, source: u32) -> bool
+    ensures { (result ≡ true) ↔ AreOfOneType (map scalar_view scalars.now) target source }
+{
+    match (type_of(scalars, target), type_of(scalars, source)) {
+        (Some(one), Some(other)) => source != target && other == one,
+        _ => false,
+    }
+}
+
+/// The scalars of a copy: an instruction moves one scalar to another of the same type.
+fn copy_of(scalars: &[Scalar], instruction: &Instr) -> Option<(u32, u32)>
+    ensures { MatchOption result (IsNoCopy (map scalar_view scalars.now) (instruction_view instruction.now)) (λ pair. (instruction_view instruction.now ≡ Move pair.0 (NameOf pair.1)) × AreOfOneType (map scalar_view scalars.now) pair.0 pair.1) }
+{
+    match instruction {
+        Instr::Move {
+            target,
+            from: Operand::Name(source),
+        } => {
+            if are_of_one_type(scalars, target.0, source.0) {
+                Some((target.0, source.0))
+            } else {
+                None
+            }
+        }
+        _ => None,
+    }
+}
+
+/// Whether the copies that stand at a point are those that its instruction makes.
+fn is_known(
+    scalars: &[Scalar],
+    copies: &Copies<'_>,
+    block: u32,
+    left: usize,
+    instruction: &Instr,
+) -> bool
+    ensures { result ≡ true → IsKnown (map scalar_view scalars.now) copies.now.all.now block left (instruction_view instruction.now) }
+{
+    match (copies.at(block, left), copy_of(scalars, instruction)) {
+        (None, None) => true,
+        (Some(k), Some((target, source))) => {
+            let copy = copies.all[k];
+            copy.target == target && copy.source == source
+        }
+        _ => false,
+    }
+}
+
+/// The instructions of a block as they are read, where their copies are known. The walk's row is at the start of the block, and comes to its end.
+fn read_instructions(
+    alloc: Global,
+    scalars: &[Scalar],
+    copies: &Copies<'_>,
+    blocks: u32,
+    marks: &mut Marks,
+    number: u32,
+    instructions: &[Instr],
+) -> Result<Option<Vec<Instr>>, AllocError>
+    requires rows { AreRows copies.now.all.now blocks copies.now.scalars marks.old }
+    requires few { blocks + 2 + copies.now.scalars < 2 ^ 32 }
+    requires narrow { length copies.now.all.now + 1 < 2 ^ 32 }
+    ensures rows { OnOk result (AreRows copies.now.all.now blocks copies.now.scalars marks.new) }
+    ensures others { OnOk result (AreSameBut blocks marks.old marks.new) }
+    ensures read { IfOk result (λ o. IfSome o (λ made. AreRead (map scalar_view scalars.now) copies.now.all.now number (map instruction_view instructions.now) (missing_in (bits_of marks.old) blocks) (map instruction_view made.items) (missing_in (bits_of marks.new) blocks))) }
+{
+    let mut read = Vec::new(alloc);
+    let mut ahead = instructions;
+    while let [instruction, rest @ ..] = ahead {
+        let reader = Reader {
+            copies: &*copies,
+            row: blocks,
+            marks: &*marks,
+        };
+        let made = reader.read_instruction(alloc, instruction)?;
+        if !is_known(scalars, copies, number, rest.len(), &made) {
+            return Ok(None);
+        }
+        let target = instruction.target();
+        step(copies, blocks, marks, number, rest.len(), target);
+        read.push(made)?;
+        ahead = rest;
+    }
+    Ok(Some(read))
+}
+
+/// A block as it is read, where its copies are known.
+fn read_block(
+    alloc: Global,
+    scalars: &[Scalar],
+    copies: &Copies<'_>,
+    blocks: u32,
+    marks: &mut Marks,
+    number: u32,
+    block: &Block,
+) -> Result<Option<Block>, AllocError>
+    requires rows { AreRows copies.now.all.now blocks copies.now.scalars marks.old }
+    requires few { blocks + 2 + copies.now.scalars < 2 ^ 32 }
+    requires narrow { length copies.now.all.now + 1 < 2 ^ 32 }
+    requires block { number < blocks }
+    ensures rows { OnOk result (AreRows copies.now.all.now blocks copies.now.scalars marks.new) }
+    ensures others { OnOk result (AreSameBut blocks marks.old marks.new) }
+    ensures read { IfOk result (λ o. IfSome o (λ made. IsReadBlock (map scalar_view scalars.now) copies.now.all.now (bits_of marks.old) number (block_view block.now) (block_view made))) }
+{
+    if !marks.get(number, 0) {
+        let same = block.duplicate(alloc)?;
+        return Ok(Some(same));
+    }
+    begin(copies, blocks, marks, number);
+    let instructions = &block.instructions;
+    let Some(instructions) = read_instructions(
+        alloc,
+        scalars,
+        copies,
+        blocks,
+        marks,
+        number,
+        instructions,
+    )?
+    else {
+        return Ok(None);
+    };
+    let reader = Reader {
+        copies: &*copies,
+        row: blocks,
+        marks: &*marks,
+    };
+    Ok(Some(Block {
+        place: block.place,
+        instructions,
+        end: reader.read_end(block.end),
+    }))
+}
+
+/// Blocks as they are read, where their copies are known.
+fn read_blocks(
+    alloc: Global,
+    scalars: &[Scalar],
+    copies: &Copies<'_>,
+    marks: &mut Marks,
+    blocks: &[Block],
+) -> Result<Option<Vec<Block>>, AllocError>
+    requires rows { AreRows copies.now.all.now (length blocks.now) copies.now.scalars marks.old }
+    requires few { length blocks.now + 2 + copies.now.scalars < 2 ^ 32 }
+    requires narrow { length copies.now.all.now + 1 < 2 ^ 32 }
+    ensures { IfOk result (λ o. IfSome o (λ made. AreReadBlocks (map scalar_view scalars.now) copies.now.all.now (bits_of marks.old) 0 (map block_view blocks.now) (map block_view made.items))) }
+{
+    let count = blocks.len() as u32;
+    let mut number = 0u32;
+    let mut read = Vec::new(alloc);
+    let mut ahead = blocks;
+    while let [block, rest @ ..] = ahead {
+        let Some(made) = read_block(alloc, scalars, copies, count, marks, number, block)? else {
+            return Ok(None);
+        };
+        read.push(made)?;
+        number += 1;
+        ahead = rest;
+    }
+    Ok(Some(read))
+}
+
+/// The graph that reads its names as these copies have it, where they are the copies that it then makes: what copy propagation makes of a graph.
+///
+/// None where they are others, or more than can be numbered.
+pub fn propagated(
+    alloc: Global,
+    graph: &Graph,
+    copies: &[CopyAt],
+) -> Result<Option<Graph>, AllocError>
+    ensures { IfOk result (λ o. IfSome o (λ made. IsPropagated (graph_view graph.now) (graph_view made))) }
+{
+    let rows = graph.blocks.len().saturating_add(graph.scalars.len());
+    if graph.blocks.is_empty() || rows > 0x7fff_ffff || copies.len() > 0x7fff_ffff {
+        return Ok(None);
+    }
+    let count = graph.blocks.len() as u32;
+    let scalars = graph.scalars.len() as u32;
+    let Some(copies) = Copies::new(alloc, copies, graph.blocks.len(), scalars)? else {
+        return Ok(None);
+    };
+    let Some(mut marks) = find_missing(alloc, &copies, count, &graph.blocks)? else {
+        return Ok(None);
+    };
+    let Some(blocks) = read_blocks(alloc, &graph.scalars, &copies, &mut marks, &graph.blocks)?
+    else {
+        return Ok(None);
+    };
+    Ok(Some(Graph {
+        entry: graph.entry,
+        parameters: Vec::from_slice(alloc, &graph.parameters)?,
+        scalars: Vec::from_slice(alloc, &graph.scalars)?,
+        objects: Vec::from_slice(alloc, &graph.objects)?,
+        name_count: graph.name_count,
+        first_moved: graph.first_moved,
+        blocks,
+    }))
+}

@@ -1,0 +1,136 @@
+//! Copies by their numbers.
+
+ghost use Rattle.std.specs.Prelude.{◌≡◌, ℕ, Some, IfOk, IfSome, MatchOption, slice_get, true, false};
+ghost use Rattle.copy_pass_rule.specs.declared.copies.CopyAt as declared-copy;
+ghost use Rattle.copy_pass_rule.specs.Flow.{stands_at};
+ghost use Rattle.copy_pass_rule.specs.Numbered.{AreNumbered, AreOfScalars, IsOnlyOne, number_at};
+
+use std::alloc::{AllocError, Global};
+
+/// A copy of one scalar to another: its block, how many instructions stand behind it there, and the two scalars.
+#[derive(Clone, Copy, PartialEq, Eq)]
+pub struct CopyAt {
+    pub block: u32,
+    pub left: usize,
+    pub target: u32,
+    pub source: u32,
+}
+
+/// The number, from 1 on, of the copy that stands in a block with so many instructions behind it; 0 where there is none.
+fn number_of(numbers: &[Vec<u32>], block: u32, left: usize) -> u32
+    ensures { result ≡ number_at numbers.now block left }
+{
+    match numbers.get(block as usize) {
+        Some(row) => match row.get(left) {
+            Some(number) => *number,
+            None => 0,
+        },
+        None => 0,
+    }
+}
+
+/// Whether these are the numbers of the copies.
+fn are_numbered(all: &[CopyAt], numbers: &[Vec<u32>]) -> bool
+    ensures { result ≡ true → AreNumbered all.now numbers.now }
+{
+    for (k, copy) in all.iter().enumerate() {
+        if number_of(numbers, copy.block, copy.left) as usize != k + 1 {
+            return false;
+        }
+    }
+    true
+}
+
+/// Whether the copies are of scalars below this number.
+fn are_of_scalars(all: &[CopyAt], scalars: u32) -> bool
+    ensures { result ≡ true → AreOfScalars all.now scalars }
+{
+    for copy in all {
+        if copy.target >= scalars || copy.source >= scalars {
+            return false;
+        }
+    }
+    true
+}
+
+/// Puts the number of a copy where it stands.
+fn put_number(
+    numbers: &mut [Vec<u32>],
+    alloc: Global,
+    copy: CopyAt,
+    number: u32,
+) -> Result<(), AllocError> {
+    if let Some(row) = numbers.get_mut(copy.block as usize) {
+        if row.is_empty() {
+            *row = vec![in alloc; 0u32; copy.left.saturating_add(1)]?;
+        }
+        if let Some(entry) = row.get_mut(copy.left) {
+            *entry = number;
+        }
+    }
+    Ok(())
+}
+
+/// The numbers of copies in so many blocks, where those of a block come in its order.
+fn numbers_of(alloc: Global, all: &[CopyAt], blocks: usize) -> Result<Vec<Vec<u32>>, AllocError> {
+    let mut numbers = Vec::new(alloc);
+    for _ in 0..blocks {
+        numbers.push(Vec::new(alloc))?;
+    }
+    let mut number = 0u32;
+    for copy in all {
+        number = number.saturating_add(1);
+        put_number(&mut numbers, alloc, *copy, number)?;
+    }
+    Ok(numbers)
+}
+
+/// Copies by their numbers.
+#[derive(Drop)]
+pub struct Copies<'a> {
+    pub all: &'a [CopyAt],
+    numbers: Vec<Vec<u32>>,
+    pub scalars: u32,
+    ghost numbered: { AreNumbered all.now numbers.items },
+    ghost of_scalars: { AreOfScalars all.now scalars },
+}
+
+impl<'a> Copies<'a> {
+    /// The copies by their numbers, where no two stand at one point and they are of scalars below this number.
+    pub fn new(
+        alloc: Global,
+        all: &'a [CopyAt],
+        blocks: usize,
+        scalars: u32,
+    ) -> Result<Option<Copies<'a>>, AllocError>
+        ensures all { IfOk result (λ o. IfSome o (λ copies. copies.all.now ≡ all.now)) }
+        ensures scalars { IfOk result (λ o. IfSome o (λ copies. copies.scalars ≡ scalars)) }
+    {
+        let numbers = numbers_of(alloc, all, blocks)?;
+        if are_numbered(all, &numbers) && are_of_scalars(all, scalars) {
+            Ok(Some(Copies {
+                all,
+                numbers,
+                scalars,
+            }))
+        } else {
+            Ok(None)
+        }
+    }
+
+    /// The number of the copy that stands in a block with so many instructions behind it.
+    pub fn at(&self, block: u32, left: usize) -> Option<usize>
+        ensures { MatchOption result ((k : ℕ) (c : declared-copy.CopyAt) → slice_get self.now.all.now k ≡ Some c → stands_at c block left ≡ false) (λ k. IsOnlyOne self.now.all.now block left k) }
+    {
+        let number = number_of(&self.numbers, block, left) as usize;
+        if number == 0 || number > self.all.len() {
+            return None;
+        }
+        let copy = self.all[number - 1];
+        if copy.block == block && copy.left == left {
+            Some(number - 1)
+        } else {
+            None
+        }
+    }
+}

@@ -1,6 +1,0 @@
-pub mod Copying
-pub mod Flow
-pub mod Numbered
-pub mod Rows
-pub mod Reader
-pub mod Known

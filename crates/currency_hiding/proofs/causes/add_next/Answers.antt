@@ -1,0 +1,5 @@
+use Rattle.currency_hiding.proofs.First.{via_last}
+use Rattle.currency_hiding.proofs.causes.add_next.Goals as goal
+
+pub returns-then-is_again-clause-there : goal.returns-then-is_again-clause-there
+returns-then-is_again-clause-there c = via_last c.args.search.now c.args.vias.now.items c.args.last c.args.write (c.is_again.ensures.same c.if-is_again.true) (c.is_again.ensures.some c.if-is_again.true) c.requires.last

@@ -1,0 +1,6 @@
+pub mod Homes
+pub mod Numbers
+pub mod Numbered
+pub mod Notes
+pub mod Full
+pub mod Sources

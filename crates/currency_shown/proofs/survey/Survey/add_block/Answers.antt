@@ -1,0 +1,45 @@
+use Rattle.std.proofs.Common.{◌≡◌, ◌+◌, ◌<◌, ◌≤◌, List, [], ◌∷◌, Option, ℕ, arith, ap, drop, get_or, length, map, option_map, refl, sym, subst, ◌∙◌}
+use Rattle.debug_records.specs.declared.change.Place as declared-place
+use Rattle.graph_core.specs.declared.instruction.Instr as declared-instr
+use Rattle.graph_core.specs.Graphs.{block_view, graph_view, instruction_view}
+use Rattle.graph_core.specs.Validity.{place_behind}
+use Rattle.currency_notes.specs.Sources.{IsToldBy}
+use Rattle.currency_notes.proofs.Lists.{drop_more}
+use Rattle.currency_notes.proofs.Sourcing.{place_behind_first, place_next, place_there}
+use Rattle.currency_shown.proofs.Adding.{extended_on, found_on}
+use Rattle.currency_shown.proofs.Walking.{sound_before, sound_end}
+use Rattle.currency_shown.proofs.survey.Survey.add_block.Goals as goal
+
+pub loop-instruction-preserved : goal.loop-instruction-preserved
+loop-instruction-preserved c =
+    let v = c.args.self.now in
+    let g = graph_view v.function.now.graph.now in
+    let i = c.loop-instruction.instruction-index in
+    let inv = c.loop-instruction.invariant in
+    let items = c.args.block.now.instructions.items in
+    let same = c.deref-instruction-items.ensures.value in
+    let s = c.loop-instruction.state in
+    let item = c.instruction-item.result in
+    let begun : Option ℕ = option_map (λ (p : declared-place.Place). p.0) c.args.block.now.place in
+    let lt : i < length items = subst (λ (is : List declared-instr.Instr). i < length is) same c.loop-instruction-test.true in
+    let le : i + 1 ≤ length items = omega (arith, lt) in
+    let this : item ≡ get_or items i item = subst (λ (is : List declared-instr.Instr). item ≡ get_or is i item) same c.instruction-item.is in
+    let place : option_map (λ (p : declared-place.Place). p.0) c.place_behind-place.result ≡ place_behind_first instruction_view items begun (i + 1) =
+    c.place_behind-place.ensures ∙ ap (λ o. place_behind (instruction_view item ∷ []) o) inv.place ∙ ap (λ a. place_behind (instruction_view a ∷ []) (place_behind_first instruction_view items begun i)) this ∙ sym (place_next instruction_view items begun i item lt) in
+    let looked = c.in_ok-look_at.ensures.extended c.if-not-branch.false in
+    record {
+      extended = extended_on v.table.now v.number c.args.found.now c.loop-instruction.found c.look_at.new.found inv.extended looked;
+      place = place;
+      sound = λ later last n more is rest.
+          (let there = place_there instruction_view items begun g n (i + 1) (block_view c.args.block.now) is refl refl le in
+          inv.sound later last n (extended_on v.table.now v.number c.loop-instruction.found c.look_at.new.found later looked more) is
+          (sound_before v later n (instruction_view item) (map instruction_view (drop (i + 1) items)) (map instruction_view (drop i items)) s c.step.new.self last
+          (ap (λ l. map instruction_view l) (drop_more items i item lt this))
+          (λ p q. found_on v c.look_at.new.found later s p more (c.in_ok-look_at.ensures.found c.if-not-branch.false p q))
+          (record { so = c.step.ensures.so; kept = c.step.ensures.kept; told = λ log told. subst (λ (o : Option ℕ). IsToldBy log g (instruction_view item) o s c.step.new.self) (place ∙ sym there) (c.step.ensures.told log told) }) rest));
+    }
+
+pub returns-clause-sound : goal.returns-clause-sound
+returns-clause-sound c = λ e later n more is.
+    (let items = c.args.block.now.instructions.items in
+    c.loop-instruction.invariant.sound later c.loop-instruction.state n more is (sound_end c.args.self.now items c.loop-instruction.instruction-index n later c.loop-instruction.state (omega arith)))

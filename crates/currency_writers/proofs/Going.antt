@@ -1,0 +1,95 @@
+-- From place to place, and what assigns variables.
+use Rattle.std.proofs.Common.{◌≡◌, inl, inr, ℕ, zero, suc, ◌<◌, ◌≤◌, Bool, true, false, List, [], ◌∷◌, length, get_or, take, refl, sym, ap, subst, ◌∙◌, arith, true≢false, eqb-true, eq-eqb}
+use Rattle.std.specs.Prelude.{All, Contains, ◌==◌, ◌&&◌, ◌||◌}
+use Rattle.std.specs.List.{list_any}
+use Rattle.places.specs.declared.flow.FlowStep.{FlowStep}
+use Rattle.places.specs.declared.flow.Assignment.{Assignment}
+use Rattle.places.specs.Flow.{can_go, assigns}
+use Rattle.currency_writers.specs.declared.lists.Lists as declared-lists
+use Rattle.currency_writers.specs.declared.flow.Flow as declared-flow
+use Rattle.currency_writers.specs.Lists.{entries_of}
+use Rattle.currency_writers.specs.Ways.{at_once, on}
+use Rattle.currency_writers.specs.Flow.{ComesOn, IsAhead}
+
+pub take_whole : {X : Type 0} (xs : List X) (k : ℕ) → length xs ≤ k → take k xs ≡ xs
+take_whole [] zero le = refl
+take_whole [] (suc k) le = refl
+take_whole (y ∷ ys) zero le = absurd (omega (arith, le))
+take_whole (y ∷ ys) (suc k) le = ap (λ zs. y ∷ zs) (take_whole ys k (omega (arith, le)))
+
+and_left : (a b : Bool) → (a && b) ≡ true → a ≡ true
+and_left true b e = refl
+and_left false b e = absurd (true≢false (sym e))
+
+and_right : (a b : Bool) → (a && b) ≡ true → b ≡ true
+and_right true b e = e
+and_right false b e = absurd (true≢false (sym e))
+
+both : (a b : Bool) → a ≡ true → b ≡ true → (a && b) ≡ true
+both true b e f = f
+both false b e f = absurd (true≢false (sym e))
+
+or_right : (a b : Bool) → b ≡ true → (a || b) ≡ true
+or_right true b e = refl
+or_right false b e = e
+
+-- one of a list is so
+any_at : {X : Type 0} (is : X → Bool) (xs : List X) (k : ℕ) (d : X) → k < length xs → is (get_or xs k d) ≡ true → list_any is xs ≡ true
+any_at is [] k d lt e = absurd (omega (arith, lt))
+any_at is (x ∷ xs) zero d lt e = ap (λ b. b || list_any is xs) e
+any_at is (x ∷ xs) (suc k) d lt e = or_right (is x) (list_any is xs) (any_at is xs k d (omega (arith, lt)) e)
+
+any_found : {X : Type 0} (is : X → Bool) (xs : List X) → list_any is xs ≡ true → (x : X) × (k : ℕ) × (k < length xs) × (get_or xs k x ≡ x) × (is x ≡ true)
+any_found is [] e = absurd (true≢false (sym e))
+any_found {X} is (x ∷ xs) e = at_test (is x) refl (λ q. any_found is xs q)
+  where
+    at_test : (b : Bool) → is x ≡ b → (list_any is xs ≡ true → (y : X) × (k : ℕ) × (k < length xs) × (get_or xs k y ≡ y) × (is y ≡ true)) → (y : X) × (k : ℕ) × (k < length (x ∷ xs)) × (get_or (x ∷ xs) k y ≡ y) × (is y ≡ true)
+    at_test true q rest = (x, 0, omega arith, refl, q)
+    at_test false q rest = (let f = rest (sym (ap (λ b. b || list_any is xs) q) ∙ e) in (let lt = f.2 in (f.0, suc f.1, omega (arith, lt), f.3, f.4)))
+
+-- a step is one
+pub step_at : (steps : List FlowStep) (k : ℕ) (d : FlowStep) (p q : ℕ) → k < length steps → p ≡ (get_or steps k d).from.0 → q ≡ (get_or steps k d).to.0 → can_go steps p q ≡ true
+step_at steps k d p q lt e f =
+    any_at (λ (s : FlowStep). s.from.0 == p && s.to.0 == q) steps k d lt (both ((get_or steps k d).from.0 == p) ((get_or steps k d).to.0 == q) (eq-eqb _ p (sym e)) (eq-eqb _ q (sym f)))
+
+-- an assignment is one
+pub assigns_at : (all : List Assignment) (k : ℕ) (d : Assignment) (p x : ℕ) → k < length all → p ≡ (get_or all k d).place.0 → x ≡ (get_or all k d).var.0 → assigns all p x ≡ true
+assigns_at all k d p x lt e f =
+    any_at (λ (a : Assignment). a.place.0 == p && a.var.0 == x) all k d lt (both ((get_or all k d).place.0 == p) ((get_or all k d).var.0 == x) (eq-eqb _ p (sym e)) (eq-eqb _ x (sym f)))
+
+-- what assigns is an assignment
+pub assigns_found : (all : List Assignment) (p x : ℕ) → assigns all p x ≡ true → (a : Assignment) × (k : ℕ) × (k < length all) × (get_or all k a ≡ a) × (a.place.0 ≡ p) × (a.var.0 ≡ x)
+assigns_found all p x e =
+    let f = any_found (λ (a : Assignment). a.place.0 == p && a.var.0 == x) all e in
+    (f.0, f.1, f.2, f.3, eqb-true f.0.place.0 p (and_left (f.0.place.0 == p) (f.0.var.0 == x) f.4), eqb-true f.0.var.0 x (and_right (f.0.place.0 == p) (f.0.var.0 == x) f.4))
+
+-- one step more
+pub come_next : (f : declared-flow.Flow) (from q p : ℕ) → IsAhead f from q → can_go f.table.now.steps.items q p ≡ true → ComesOn f from p
+come_next f from q p ahead goes = elim ahead [
+  | inl e ↦ at_once (subst (λ n. can_go f.table.now.steps.items n p ≡ true) e goes)
+  | inr c ↦ on c.0 c.1 goes
+]
+
+-- each place that assigns a variable is in its list
+pub assigning_all : (all : List Assignment) (assigning : declared-lists.Lists) (k : ℕ) → length all ≤ k → All (λ (a : Assignment). Contains (entries_of assigning a.var.0) a.place.0) (take k all) → (x p : ℕ) → assigns all p x ≡ true → Contains (entries_of assigning x) p
+assigning_all all assigning k le each x p e =
+    let f = assigns_found all p x e in
+    let whole : take k all ≡ all = take_whole all k le in
+    let there : Contains (entries_of assigning (get_or all f.1 f.0).var.0) (get_or all f.1 f.0).place.0 = subst (λ (l : List Assignment). All (λ (a : Assignment). Contains (entries_of assigning a.var.0) a.place.0) l) whole each f.1 f.0 f.2 in
+    let one : Contains (entries_of assigning f.0.var.0) f.0.place.0 = subst (λ (a : Assignment). Contains (entries_of assigning a.var.0) a.place.0) f.3 there in
+    subst (λ n. Contains (entries_of assigning n) p) f.5 (subst (λ n. Contains (entries_of assigning f.0.var.0) n) f.4 one)
+
+-- what can be gone is a step
+pub step_found : (all : List FlowStep) (p q : ℕ) → can_go all p q ≡ true → (s : FlowStep) × (k : ℕ) × (k < length all) × (get_or all k s ≡ s) × (s.from.0 ≡ p) × (s.to.0 ≡ q)
+step_found all p q e =
+    let f = any_found (λ (s : FlowStep). s.from.0 == p && s.to.0 == q) all e in
+    (f.0, f.1, f.2, f.3, eqb-true f.0.from.0 p (and_left (f.0.from.0 == p) (f.0.to.0 == q) f.4), eqb-true f.0.to.0 q (and_right (f.0.from.0 == p) (f.0.to.0 == q) f.4))
+
+-- each place to which a step leads is in the list of where it comes from
+pub following_all : (all : List FlowStep) (after : declared-lists.Lists) (k : ℕ) → length all ≤ k → All (λ (s : FlowStep). Contains (entries_of after s.from.0) s.to.0) (take k all) → (p q : ℕ) → can_go all p q ≡ true → Contains (entries_of after p) q
+following_all all after k le each p q e =
+    let f = step_found all p q e in
+    let whole : take k all ≡ all = take_whole all k le in
+    let there : Contains (entries_of after (get_or all f.1 f.0).from.0) (get_or all f.1 f.0).to.0 = subst (λ (l : List FlowStep). All (λ (s : FlowStep). Contains (entries_of after s.from.0) s.to.0) l) whole each f.1 f.0 f.2 in
+    let one : Contains (entries_of after f.0.from.0) f.0.to.0 = subst (λ (s : FlowStep). Contains (entries_of after s.from.0) s.to.0) f.3 there in
+    subst (λ n. Contains (entries_of after n) q) f.4 (subst (λ n. Contains (entries_of after f.0.from.0) n) f.5 one)

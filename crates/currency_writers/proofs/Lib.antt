@@ -1,0 +1,11 @@
+mod Pushing
+mod Numbers
+mod Going
+mod Marking
+mod Telling
+mod Closing
+pub mod Routes
+mod Copied
+pub mod Order
+pub mod Indexed
+mod Written

@@ -1,0 +1,28 @@
+use Rattle.std.proofs.Common.{◌≡◌, ◌∙◌, ◌<◌, ap, arith, length, refl, subst, sym}
+use Rattle.std.specs.Prelude.{slice_get}
+use Rattle.std.proofs.lemmas.Option.{same_Some}
+use Rattle.graph_core.specs.declared.graph.Graph as declared-graph
+use Rattle.graph_core.specs.Graphs.{ToScalar, binding_view, graph_view}
+use Rattle.currency_writers.specs.declared.writers.Writer.TheVariants as writer
+use Rattle.currency_writers.specs.Writers.{IsKnown}
+use Rattle.currency_writers.proofs.Written.{binding_at, bindings_more, bindings_on, more_on}
+use Rattle.currency_writers.proofs.writers.Writers.add_bindings.Goals as goal
+
+pub loop-k-preserved : goal.loop-k-preserved
+loop-k-preserved c =
+    (let old = c.args.self.now in
+    let mid = c.loop-k.self in
+    let new = c.add_binding.new.self in
+    let k = c.loop-k.k in
+    let b = c.index.result.now in
+    let known = c.loop-k.invariant in
+    let said = c.in_ok-add_binding.ensures in
+    let lt : k < length old.graph.now.parameters.items = omega arith in
+    let same : k ≡ c.loop-k.parameter = omega arith in
+    record {
+      more = more_on old mid new known.more said.more;
+      sound = said.sound;
+      indexed = said.indexed c.if-not-branch.false;
+      all = bindings_more new k (bindings_on mid new k said.more known.all)
+          (λ x at. subst (λ j. IsKnown new (graph_view new.graph.now).entry x (writer.Binding new.function j)) (sym same) (said.there c.if-not-branch.false x (same_Some (binding_view b) (ToScalar x) (sym (binding_at old.graph.now k k b b refl lt c.index.ensures) ∙ ap (λ (g : declared-graph.Graph). slice_get (graph_view g).parameters k) (sym (said.more.graph ∙ known.more.graph)) ∙ at))));
+    })

@@ -1,0 +1,15 @@
+//! What writes homes, and where execution may come from with nothing assigned on the way.
+#![tactic(auto)]
+
+mod copies;
+mod flow;
+mod lists;
+mod marks;
+mod search;
+mod writers;
+
+pub use copies::Copies;
+pub use lists::Lists;
+pub use marks::Marks;
+pub use search::Search;
+pub use writers::{Write, Writer, Writers};

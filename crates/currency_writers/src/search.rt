@@ -1,0 +1,109 @@
+//! Where execution may come from to a place with nothing on its way that assigns a variable.
+
+ghost use Rattle.std.specs.Prelude.{◌≡◌, ◌↔◌, IfOk, IfSome, MatchOption, OnOk, true};
+ghost use Rattle.currency_writers.specs.Flow.{AreTold, IsClosed, IsFlow, IsToldFrom, assigned};
+ghost use Rattle.currency_writers.specs.Starts.{HasNoStart, IsLeastStartBy, IsTurned};
+
+use crate::flow::{Flow, after_of, assigning_of};
+use crate::marks::Marks;
+use debug_records::Var;
+use places::FlowTable;
+use std::alloc::{AllocError, Global};
+
+/// The flow of a program, for questions on one variable after the other.
+#[derive(Drop)]
+pub struct Search<'a> {
+    flow: Flow<'a>,
+    /// For each place the least one that assigns the variable and from which execution may come there, by at least one step, with nothing between that assigns it.
+    starts: Marks,
+}
+
+impl<'a> Search<'a> {
+    /// The flow of a program with places below a number. None where an assignment is of no variable or a step leads from no place, which is never so.
+    pub fn new(
+        alloc: Global,
+        table: &'a FlowTable,
+        places: usize,
+    ) -> Result<Option<Search<'a>>, AllocError>
+        ensures flow { IfOk result (λ o. IfSome o (λ made. IsFlow made.flow)) }
+        ensures table { IfOk result (λ o. IfSome o (λ made. made.flow.table.now ≡ table.now)) }
+    {
+        let Some(after) = after_of(alloc, &table.steps, places)? else {
+            return Ok(None);
+        };
+        let Some(assigning) = assigning_of(alloc, &table.assignments)? else {
+            return Ok(None);
+        };
+        let flow = Flow {
+            table,
+            after,
+            assigning,
+            var: Var(0),
+            assigns: Marks::new(alloc, places)?,
+        };
+        let starts = Marks::new(alloc, places)?;
+        Ok(Some(Search { flow, starts }))
+    }
+
+    /// The questions are on this variable from here on. Tells whether the places that assign it are such of the program, in order.
+    pub fn turn_to(&mut self, alloc: Global, var: Var) -> Result<bool, AllocError>
+        requires { IsFlow self.old.flow }
+        ensures flow { OnOk result (IsFlow self.new.flow) }
+        ensures table { OnOk result (self.new.flow.table.now ≡ self.old.flow.table.now) }
+        ensures var { IfOk result (λ b. b ≡ true → self.new.flow.var.0 ≡ var.0) }
+        ensures turned { IfOk result (λ b. b ≡ true → IsTurned self.new) }
+    {
+        self.starts.forget();
+        if !self.flow.turn_to(var) {
+            return Ok(false);
+        }
+        Ok(self.flow.find_starts(alloc, &mut self.starts)?)
+    }
+
+    /// The variable in question.
+    pub fn var(&self) -> Var
+        ensures { result.0 ≡ self.now.flow.var.0 }
+    {
+        self.flow.var
+    }
+
+    /// Whether a place assigns the variable.
+    pub fn assigns(&self, place: u32) -> bool
+        requires { IsTurned self.now }
+        ensures { result ≡ assigned self.now.flow place }
+    {
+        self.flow.assigns.has(place)
+    }
+
+    /// The least place that assigns the variable and from which a way leads by this one, if there is one. From one that assigns the variable it is that itself.
+    pub fn start_of(&self, place: u32) -> Option<u32>
+        requires { IsTurned self.now }
+        ensures { MatchOption result (HasNoStart self.now place) (λ start. IsLeastStartBy self.now start place) }
+    {
+        if self.assigns(place) {
+            return Some(place);
+        }
+        match self.starts.at(place) {
+            0 => None,
+            start => Some(start),
+        }
+    }
+
+    /// Tells by this number each place of which nothing is told yet, and to which execution may come from a place, by one step at least, with nothing between that
+    /// assigns the variable. Tells whether all are told of then.
+    pub fn tell_from(
+        &self,
+        alloc: Global,
+        place: u32,
+        number: u32,
+        told: &mut Marks,
+    ) -> Result<bool, AllocError>
+        requires turned { IsTurned self.now }
+        requires closed { IsClosed self.now.flow told.old }
+        ensures told { OnOk result (IsToldFrom self.now.flow place number told.old told.new) }
+        ensures closed { IfOk result (λ b. b ≡ true → IsClosed self.now.flow told.new) }
+        ensures all { IfOk result (λ b. b ≡ true → AreTold self.now.flow place told.new) }
+    {
+        self.flow.flood(alloc, place, number, told)
+    }
+}

@@ -1,0 +1,444 @@
+//! What writes the homes of names, by these homes.
+
+ghost use Rattle.std.specs.Prelude.{◌≡◌, ◌≢◌, ◌↔◌, ℕ, ◌<◌, [], ◌∷◌, ◌++◌, IfOk, IfSome, OnOk, Some, length, map, slice_get, true};
+ghost use Rattle.std.specs.List.Sorted.{IsPermutation};
+ghost use Rattle.graph_homes.specs.Homes.{is_same_home};
+ghost use Rattle.graph_core.specs.Graphs.{ToScalar, binding_view, graph_view, instruction_view};
+ghost use Rattle.graph_core.specs.Uses.{target_of};
+ghost use Rattle.currency_notes.specs.Homes.{home_in};
+ghost use Rattle.currency_writers.specs.declared.writers.Written as declared-written;
+ghost use Rattle.currency_writers.specs.declared.writers.Writer.TheVariants.{Binding as BindingOf};
+ghost use Rattle.currency_writers.specs.Order.{IsNoLater, rank_of};
+ghost use Rattle.currency_writers.specs.Writers.{AreBindings, AreBlocks, AreInstructions, AreMore, AreSound, AreWriters, AreWritesBy, HaveOneHome, IsIndexed, IsKnown, Writes, home_key, placed, writes_in};
+
+use currency_notes::{home_count, home_number};
+use debug_records::Place;
+use graph_core::{Binding, Block, Graph, Instr};
+use graph_homes::Home;
+use std::alloc::{AllocError, Global};
+
+/// What writes the home of a name.
+#[derive(Clone, Copy, PartialEq, Eq)]
+pub enum Writer {
+    /// An instruction, by its function, its block there and how many instructions stand before it in the block.
+    Instruction {
+        function: u32,
+        block: u32,
+        index: u32,
+    },
+    /// The binding of a parameter as its function is called.
+    Binding {
+        function: u32,
+        parameter: u32,
+    },
+}
+
+impl Writer {
+    /// Whether this comes no later than another: the bindings of parameters come first, and then instructions by block and index.
+    pub fn is_no_later(self, other: Writer) -> bool
+        ensures { result ≡ true → IsNoLater (rank_of self) (rank_of other) }
+    {
+        match self {
+            Writer::Binding { parameter, .. } => is_binding_no_later(parameter, other),
+            Writer::Instruction { block, index, .. } => {
+                is_instruction_no_later(block, index, other)
+            }
+        }
+    }
+}
+
+/// Whether the binding of a parameter comes no later than what writes a name.
+fn is_binding_no_later(parameter: u32, other: Writer) -> bool
+    ensures { result ≡ true → IsNoLater (0 ∷ parameter ∷ []) (rank_of other) }
+{
+    match other {
+        Writer::Binding {
+            parameter: behind,
+            ..
+        } => parameter <= behind,
+        Writer::Instruction { .. } => true,
+    }
+}
+
+/// Whether an instruction comes no later than what writes a name.
+fn is_instruction_no_later(block: u32, index: u32, other: Writer) -> bool
+    ensures { result ≡ true → IsNoLater (1 ∷ block ∷ index ∷ []) (rank_of other) }
+{
+    match other {
+        Writer::Binding { .. } => false,
+        Writer::Instruction {
+            block: next,
+            index: behind,
+            ..
+        } => is_index_no_later(block, index, next, behind),
+    }
+}
+
+/// Whether an index in a block comes no later than another in a block.
+fn is_index_no_later(block: u32, index: u32, next: u32, behind: u32) -> bool
+    ensures { result ≡ true → IsNoLater (block ∷ index ∷ []) (next ∷ behind ∷ []) }
+{
+    if block != next {
+        return block < next;
+    }
+    index <= behind
+}
+
+/// A name is written in a place.
+#[derive(Clone, Copy)]
+pub struct Written {
+    pub place: u32,
+    pub name: u32,
+    pub writer: Writer,
+}
+
+/// The place where a name is written, and the number of what writes it. In order they come by places, and in one place the bindings of parameters first,
+/// and then instructions by block and index.
+#[derive(Clone, Copy, PartialEq, Eq, PartialOrd, Ord)]
+pub struct Write {
+    pub place: u32,
+    pub number: u32,
+}
+
+/// What writes the names of a function.
+#[derive(Drop)]
+pub struct Writers<'a> {
+    /// The function, by its number.
+    pub function: u32,
+    pub graph: &'a Graph,
+    pub homes: &'a [Home],
+    /// The bindings of parameters, and then instructions by block and index.
+    pub all: Vec<Written>,
+    /// For each number of a home what writes it, in order.
+    by_home: Vec<Vec<Write>>,
+    /// For each name the same.
+    by_name: Vec<Vec<Write>>,
+}
+
+/// So many lists without entries.
+fn no_writes(alloc: Global, count: usize) -> Result<Vec<Vec<Write>>, AllocError>
+    ensures { IfOk result (λ made. (n : ℕ) → writes_in made.items n ≡ []) }
+{
+    let mut lists = Vec::new(alloc);
+    for _ in 0..count {
+        lists.push(Vec::new(alloc))?;
+    }
+    Ok(lists)
+}
+
+/// Appends to the list of this number. Tells whether there is one.
+fn push_write(lists: &mut Vec<Vec<Write>>, number: u32, write: Write) -> Result<bool, AllocError>
+    ensures pushed { IfOk result (λ b. b ≡ true → writes_in lists.new.items number ≡ writes_in lists.old.items number ++ (write ∷ [])) }
+    ensures others { OnOk result ((n : ℕ) → n ≢ number → writes_in lists.new.items n ≡ writes_in lists.old.items n) }
+{
+    if number as usize >= lists.len() {
+        return Ok(false);
+    }
+    lists[number as usize].push(write)?;
+    Ok(true)
+}
+
+/// The list of this number; no entries where there is none.
+fn writes(lists: &[Vec<Write>], number: u32) -> &[Write]
+    ensures { result.now ≡ writes_in lists.now number }
+{
+    match lists.get(number as usize) {
+        Some(found) => found.as_slice(),
+        None => &[],
+    }
+}
+
+/// Sorts the list of this number.
+fn sort_one(lists: &mut Vec<Vec<Write>>, number: usize)
+    requires { number < length lists.old.items }
+    ensures count { length lists.new.items ≡ length lists.old.items }
+    ensures moved { (n : ℕ) → IsPermutation (writes_in lists.old.items n) (writes_in lists.new.items n) }
+{
+    lists[number].sort_unstable();
+}
+
+/// Sorts each list.
+fn sort_all(lists: &mut Vec<Vec<Write>>)
+    ensures { (n : ℕ) → IsPermutation (writes_in lists.old.items n) (writes_in lists.new.items n) }
+{
+    for number in 0..lists.len() {
+        sort_one(lists, number);
+    }
+}
+
+/// The home of a name. One that has none counts as kept in the first slot.
+fn home_of(homes: &[Home], name: u32) -> Home
+    ensures { result ≡ home_in homes.now name }
+{
+    match homes.get(name as usize) {
+        Some(home) => *home,
+        None => Home::Slot(0),
+    }
+}
+
+impl<'a> Writers<'a> {
+    /// Whether what writes a name comes no earlier than what is known to.
+    fn is_next(&self, writer: Writer) -> bool
+        requires { IsIndexed self.now }
+        ensures { result ≡ true → (k : ℕ) (z : declared-written.Written) → slice_get self.now.all.items k ≡ Some z → IsNoLater (rank_of z.writer) (rank_of writer) }
+    {
+        let count = self.all.len();
+        if count == 0 {
+            return true;
+        }
+        let last = self.all[count - 1];
+        last.writer.is_no_later(writer)
+    }
+
+    /// The write of a name in a place, of this number. Tells whether it has a home.
+    fn push(&mut self, number: u32, written: Written) -> Result<bool, AllocError>
+        requires sound { AreSound self.old }
+        requires writes { Writes self.old written.place written.name written.writer }
+        requires indexed { IsIndexed self.old }
+        requires next { (k : ℕ) (z : declared-written.Written) → slice_get self.old.all.items k ≡ Some z → IsNoLater (rank_of z.writer) (rank_of written.writer) }
+        requires number { number ≡ length self.old.all.items }
+        ensures more { OnOk result (AreMore self.old self.new) }
+        ensures sound { OnOk result (AreSound self.new) }
+        ensures indexed { IfOk result (λ b. b ≡ true → IsIndexed self.new) }
+        ensures there { OnOk result (IsKnown self.new written.place written.name written.writer) }
+    {
+        self.all.push(written)?;
+        let write = Write {
+            place: written.place,
+            number,
+        };
+        let home = home_number(self.homes, written.name);
+        if !push_write(&mut self.by_home, home, write)? {
+            return Ok(false);
+        }
+        Ok(push_write(&mut self.by_name, written.name, write)?)
+    }
+
+    /// A name is written in a place. Tells whether it has a home, and the write comes no earlier than those that are known.
+    fn add(&mut self, place: Option<Place>, name: u32, writer: Writer) -> Result<bool, AllocError>
+        requires sound { AreSound self.old }
+        requires writes { (p : ℕ) → placed place ≡ Some p → Writes self.old p name writer }
+        requires indexed { IsIndexed self.old }
+        ensures more { OnOk result (AreMore self.old self.new) }
+        ensures sound { OnOk result (AreSound self.new) }
+        ensures indexed { IfOk result (λ b. b ≡ true → IsIndexed self.new) }
+        ensures there { IfOk result (λ b. b ≡ true → (p : ℕ) → placed place ≡ Some p → IsKnown self.new p name writer) }
+    {
+        let Some(place) = place else {
+            return Ok(true);
+        };
+        if self.all.len() > 0xffff_ffff {
+            return Ok(false);
+        }
+        if !self.is_next(writer) {
+            return Ok(false);
+        }
+        let number = self.all.len() as u32;
+        let written = Written {
+            place: place.0,
+            name,
+            writer,
+        };
+        Ok(self.push(number, written)?)
+    }
+
+    /// The binding of a parameter. Tells whether it has a home, if it is a scalar.
+    fn add_binding(&mut self, parameter: u32, binding: &Binding) -> Result<bool, AllocError>
+        requires sound { AreSound self.old }
+        requires indexed { IsIndexed self.old }
+        requires binding { slice_get (graph_view self.old.graph.now).parameters parameter ≡ Some (binding_view binding.now) }
+        ensures more { OnOk result (AreMore self.old self.new) }
+        ensures sound { OnOk result (AreSound self.new) }
+        ensures indexed { IfOk result (λ b. b ≡ true → IsIndexed self.new) }
+        ensures there { IfOk result (λ b. b ≡ true → (x : ℕ) → binding_view binding.now ≡ ToScalar x → IsKnown self.new (graph_view self.new.graph.now).entry x (BindingOf self.new.function parameter)) }
+    {
+        match binding {
+            Binding::Scalar(name) => {
+                let writer = Writer::Binding {
+                    function: self.function,
+                    parameter,
+                };
+                Ok(self.add(Some(self.graph.entry), name.0, writer)?)
+            }
+            Binding::Object(_) => Ok(true),
+        }
+    }
+
+    /// The bindings of the parameters. Tells whether each has a home.
+    fn add_bindings(&mut self) -> Result<bool, AllocError>
+        requires sound { AreSound self.old }
+        requires indexed { IsIndexed self.old }
+        ensures more { OnOk result (AreMore self.old self.new) }
+        ensures sound { OnOk result (AreSound self.new) }
+        ensures indexed { IfOk result (λ b. b ≡ true → IsIndexed self.new) }
+        ensures all { IfOk result (λ b. b ≡ true → AreBindings self.new (length self.new.graph.now.parameters.items)) }
+    {
+        let bindings = &self.graph.parameters;
+        let mut parameter = 0u32;
+        for k in 0..bindings.len() {
+            if parameter as usize != k {
+                return Ok(false);
+            }
+            if !self.add_binding(parameter, &bindings[k])? {
+                return Ok(false);
+            }
+            parameter = parameter.saturating_add(1);
+        }
+        Ok(true)
+    }
+
+    /// What an instruction writes in a place. Tells whether that has a home.
+    fn add_instruction(
+        &mut self,
+        place: Option<Place>,
+        instruction: &Instr,
+        writer: Writer,
+    ) -> Result<bool, AllocError>
+        requires sound { AreSound self.old }
+        requires writes { (p x : ℕ) → placed place ≡ Some p → target_of (instruction_view instruction.now) ≡ Some x → Writes self.old p x writer }
+        requires indexed { IsIndexed self.old }
+        ensures more { OnOk result (AreMore self.old self.new) }
+        ensures sound { OnOk result (AreSound self.new) }
+        ensures indexed { IfOk result (λ b. b ≡ true → IsIndexed self.new) }
+        ensures there { IfOk result (λ b. b ≡ true → (p x : ℕ) → placed place ≡ Some p → target_of (instruction_view instruction.now) ≡ Some x → IsKnown self.new p x writer) }
+    {
+        match instruction.target() {
+            Some(target) => Ok(self.add(place, target.0, writer)?),
+            None => Ok(true),
+        }
+    }
+
+    /// The instructions of a block. Tells whether each name that they write has a home.
+    fn add_block(&mut self, number: u32, block: &Block) -> Result<bool, AllocError>
+        requires sound { AreSound self.old }
+        requires indexed { IsIndexed self.old }
+        requires block { slice_get self.old.graph.now.blocks.items number ≡ Some block.now }
+        ensures more { OnOk result (AreMore self.old self.new) }
+        ensures sound { OnOk result (AreSound self.new) }
+        ensures indexed { IfOk result (λ b. b ≡ true → IsIndexed self.new) }
+        ensures all { IfOk result (λ b. b ≡ true → AreInstructions self.new number (map instruction_view block.now.instructions.items) (placed block.now.place) (length block.now.instructions.items)) }
+    {
+        let mut place = block.place;
+        let mut index = 0u32;
+        for k in 0..block.instructions.len() {
+            if index as usize != k {
+                return Ok(false);
+            }
+            let instruction = &block.instructions[k];
+            let writer = Writer::Instruction {
+                function: self.function,
+                block: number,
+                index,
+            };
+            if !self.add_instruction(place, instruction, writer)? {
+                return Ok(false);
+            }
+            place = instruction.marker().or(place);
+            index = index.saturating_add(1);
+        }
+        Ok(true)
+    }
+
+    /// The blocks of the function. Tells whether each name that they write has a home.
+    fn add_blocks(&mut self) -> Result<bool, AllocError>
+        requires sound { AreSound self.old }
+        requires indexed { IsIndexed self.old }
+        ensures more { OnOk result (AreMore self.old self.new) }
+        ensures sound { OnOk result (AreSound self.new) }
+        ensures indexed { IfOk result (λ b. b ≡ true → IsIndexed self.new) }
+        ensures all { IfOk result (λ b. b ≡ true → AreBlocks self.new (length self.new.graph.now.blocks.items)) }
+    {
+        let blocks = &self.graph.blocks;
+        let mut number = 0u32;
+        for n in 0..blocks.len() {
+            if number as usize != n {
+                return Ok(false);
+            }
+            if !self.add_block(number, &blocks[n])? {
+                return Ok(false);
+            }
+            number = number.saturating_add(1);
+        }
+        Ok(true)
+    }
+
+    /// What writes the homes of a function's names. None where one has no home.
+    pub fn new(
+        alloc: Global,
+        function: u32,
+        graph: &'a Graph,
+        homes: &'a [Home],
+    ) -> Result<Option<Writers<'a>>, AllocError>
+        ensures writers { IfOk result (λ o. IfSome o (λ made. AreWriters made)) }
+        ensures function { IfOk result (λ o. IfSome o (λ made. made.function ≡ function)) }
+        ensures graph { IfOk result (λ o. IfSome o (λ made. made.graph.now ≡ graph.now)) }
+        ensures homes { IfOk result (λ o. IfSome o (λ made. made.homes.now ≡ homes.now)) }
+    {
+        let mut writers = Writers {
+            function,
+            graph,
+            homes,
+            all: Vec::new(alloc),
+            by_home: no_writes(alloc, home_count(homes))?,
+            by_name: no_writes(alloc, homes.len())?,
+        };
+        if !writers.add_bindings()? || !writers.add_blocks()? {
+            return Ok(None);
+        }
+        sort_all(&mut writers.by_home);
+        sort_all(&mut writers.by_name);
+        Ok(Some(writers))
+    }
+
+    /// What writes the homes of the number of a name's home, in order.
+    pub fn of_home(&self, name: u32) -> &[Write]
+        requires { AreWriters self.now }
+        ensures { AreWritesBy self.now.all.items (home_key self.now) (home_key self.now name) result.now }
+    {
+        writes(&self.by_home, home_number(self.homes, name))
+    }
+
+    /// What writes a name, in order.
+    pub fn of_name(&self, name: u32) -> &[Write]
+        requires { AreWriters self.now }
+        ensures { AreWritesBy self.now.all.items (λ y. y) name result.now }
+    {
+        writes(&self.by_name, name)
+    }
+
+    /// What writes a name in a place, by its number; none where that is another place.
+    pub fn at(&self, number: u32, place: u32) -> Option<Written>
+        requires { AreSound self.now }
+        ensures writes { IfSome result (λ z. Writes self.now place z.name z.writer) }
+        ensures some { IfSome result (λ z. (slice_get self.now.all.items number ≡ Some z) × (z.place ≡ place)) }
+        ensures all { (z : declared-written.Written) → slice_get self.now.all.items number ≡ Some z → z.place ≡ place → result ≡ Some z }
+    {
+        if number as usize >= self.all.len() {
+            return None;
+        }
+        let written = self.all[number as usize];
+        if written.place == place {
+            Some(written)
+        } else {
+            None
+        }
+    }
+
+    /// Whether two names have one home.
+    pub fn have_one_home(&self, x: u32, y: u32) -> bool
+        ensures { (result ≡ true) ↔ HaveOneHome self.now x y }
+    {
+        is_same(home_of(self.homes, x), home_of(self.homes, y))
+    }
+}
+
+/// Whether two homes are one.
+fn is_same(one: Home, other: Home) -> bool
+    ensures { result ≡ is_same_home one other }
+{
+    match (one, other) {
+        (Home::Register(r), Home::Register(q)) => r == q,
+        (Home::Slot(r), Home::Slot(q)) => r == q,
+        _ => false,
+    }
+}

@@ -1,0 +1,10 @@
+use Rattle.std.proofs.Common.{sym, ◌∙◌}
+use Rattle.graph_core.specs.Graphs.{block_view, graph_view}
+use Rattle.dead_pass_notes.proofs.Coming.{left_is, there}
+use Rattle.dead_pass_notes.proofs.spots.instructions_left.Goals as goal
+
+pub returns-in-Some : goal.returns-in-Some
+returns-in-Some c =
+    left_is (graph_view c.args.graph.now) c.args.block c.args.left c.in-Some.found.now c.deref-in-Some.result.now c.len.result c.saturating_sub-from.result
+    (there block_view c.deref.result.now c.args.graph.now.blocks.items c.args.block c.in-Some.found.now c.deref.ensures.value c.in-Some.ensures.lookup.3.0 c.in-Some.ensures.lookup.1)
+    c.deref-in-Some.ensures.value (c.len.ensures ∙ sym c.deref-in-Some.ensures.len) c.saturating_sub-from.ensures

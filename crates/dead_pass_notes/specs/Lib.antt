@@ -1,0 +1,13 @@
+pub mod Stale
+pub mod Rows
+pub mod Points
+pub mod Writes
+pub mod Between
+pub mod Scans
+pub mod Spots
+pub mod Idle
+pub mod Lost
+pub mod Said
+pub mod Sources
+pub mod RemovalNotesStale
+pub mod Thinned

@@ -1,0 +1,37 @@
+//! What goes of a graph.
+
+ghost use Rattle.std.specs.Prelude.{◌≡◌, IfOk, true};
+ghost use Rattle.graph_core.specs.Graphs.{graph_view};
+ghost use Rattle.pass_law.specs.Changes.{Adds};
+ghost use Rattle.dead_pass_rule.specs.Asking.{is_going};
+ghost use Rattle.dead_pass_rule.specs.Certified.{AreIdle};
+ghost use Rattle.dead_pass_rule.specs.Walks.{turn_of};
+ghost use Rattle.dead_pass_notes.specs.Writes.{IsRemovedWrite};
+
+use crate::blocks::add_block;
+use graph_core::Graph;
+use pass_law::Case;
+use std::alloc::AllocError;
+
+/// Appends the cases of a function: the assignments of scalars that go, as their turns say. They come block by block.
+///
+/// False where a block or an instruction has a number of 2^32 or more. `AllocError` where memory was refused.
+pub fn removed_writes(
+    graph: &Graph,
+    turns: &[Vec<u32>],
+    cases: &mut Vec<Case>,
+) -> Result<bool, AllocError>
+    requires { AreIdle (graph_view graph.now) (is_going (turn_of turns.now)) }
+    ensures { IfOk result (λ whole. whole ≡ true → Adds (IsRemovedWrite (graph_view graph.now)) cases.old.items cases.new.items) }
+{
+    if graph.blocks.len() > 0xffff_ffff {
+        return Ok(false);
+    }
+    for number in 0..graph.blocks.len() as u32 {
+        let block = &graph.blocks[number as usize];
+        if !add_block(&graph.scalars, turns, number, block, cases)? {
+            return Ok(false);
+        }
+    }
+    Ok(true)
+}

@@ -1,0 +1,76 @@
+//! Walks over the blocks of a graph.
+
+ghost use Rattle.std.specs.Prelude.{◌≡◌, ◌≢◌, ℕ, ◌+◌, ◌<◌, ◌^◌, if◌then◌else◌, map, option_map};
+ghost use Rattle.graph_core.specs.declared.name.Name as declared-name;
+ghost use Rattle.graph_core.specs.Graphs.{instruction_view};
+ghost use Rattle.dead_pass_rule.specs.Asking.{is_going};
+ghost use Rattle.dead_pass_rule.specs.Walks.{AreSameBut, IsTable, is_written, turn_of};
+ghost use Rattle.graph_paths.specs.PathMarksTable.{bits_of};
+ghost use Rattle.dead_pass_notes.specs.Rows.{stale_behind};
+
+use dead_pass_rule::turn_at;
+use graph_core::{Instr, Name};
+use graph_paths::Marks;
+
+/// Tells at the walk's point whether a name is stale.
+fn put_name(blocks: u32, names: u32, marks: &mut Marks, name: u32, value: bool)
+    requires table { IsTable blocks names marks.old }
+    ensures table { IsTable blocks names marks.new }
+    ensures others { AreSameBut blocks marks.old marks.new }
+    ensures there { name < names → bits_of marks.new blocks name ≡ value }
+    ensures rest { (x : ℕ) → x ≢ name → bits_of marks.new blocks x ≡ bits_of marks.old blocks x }
+{
+    if name < names {
+        marks.put(blocks, name, value);
+    }
+}
+
+/// Goes over an instruction that writes a name, or none: it is stale behind it, if the write goes.
+pub fn step(blocks: u32, names: u32, marks: &mut Marks, target: Option<Name>, goes: bool)
+    requires table { IsTable blocks names marks.old }
+    ensures table { IsTable blocks names marks.new }
+    ensures others { AreSameBut blocks marks.old marks.new }
+    ensures walk { (x : ℕ) → x < names → bits_of marks.new blocks x ≡ (if is_written x (option_map (λ (n : declared-name.Name). n.0) target) then goes else bits_of marks.old blocks x) }
+{
+    if let Some(name) = target {
+        put_name(blocks, names, marks, name.0, goes);
+    }
+}
+
+/// A walk begins at the start of a block.
+pub fn begin(blocks: u32, names: u32, marks: &mut Marks, number: u32)
+    requires table { IsTable blocks names marks.old }
+    requires few { blocks + 2 < 2 ^ 32 }
+    requires block { number < blocks }
+    ensures table { IsTable blocks names marks.new }
+    ensures others { AreSameBut blocks marks.old marks.new }
+    ensures walk { (x : ℕ) → bits_of marks.new blocks x ≡ bits_of marks.old number x }
+{
+    marks.keep(blocks + 1, blocks);
+    let _is_new = marks.unite(number, blocks);
+}
+
+/// Walks over the instructions of a block.
+pub fn walk(
+    turns: &[Vec<u32>],
+    blocks: u32,
+    names: u32,
+    marks: &mut Marks,
+    number: u32,
+    instructions: &[Instr],
+)
+    requires table { IsTable blocks names marks.old }
+    requires few { blocks + 2 < 2 ^ 32 }
+    requires block { number < blocks }
+    ensures table { IsTable blocks names marks.new }
+    ensures others { AreSameBut blocks marks.old marks.new }
+    ensures walk { (x : ℕ) → x < names → bits_of marks.new blocks x ≡ stale_behind (is_going (turn_of turns.now) number) x (bits_of marks.old number x) (map instruction_view instructions.now) 0 }
+{
+    begin(blocks, names, marks, number);
+    for index in 0..instructions.len() {
+        let instruction = &instructions[index];
+        let left = instructions.len() - 1 - index;
+        let goes = turn_at(turns, number, left) != 0;
+        step(blocks, names, marks, instruction.target(), goes);
+    }
+}

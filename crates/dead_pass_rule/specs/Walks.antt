@@ -1,0 +1,66 @@
+-- Rows by which it is found which names are asked for: one for each of so many blocks, that tells of its start, one for the point to which a walk back has come, and one without bits.
+use Rattle.std.specs.Prelude.{◌≡◌, ◌≢◌, ℕ, ◌+◌, ◌<◌, ◌==◌, ◌&&◌, Bool, true, false, not, Option, Some, None, List, [], ◌∷◌, length, slice_get, slice_index_or, ⊤}
+use Rattle.std.specs.Option.{option_map_or}
+use Rattle.std.specs.declared.vec.Vec.{Vec}
+use Rattle.std.specs.declared.alloc.Global.{Global}
+use Rattle.graph_core.specs.Graphs.{Instruction, End, Block}
+use Rattle.graph_core.specs.Uses.{target_of, targets_of}
+use Rattle.graph_core.specs.Paths.{Among}
+use Rattle.graph_paths.specs.declared.marks.Marks.{Marks}
+use Rattle.graph_paths.specs.PathMarksTable.{bits_of}
+use Rattle.dead_pass_rule.specs.Asking.{Turns, IsAsked, TellsAsked}
+
+abbrev pub turn_in : Option (Vec ℕ Global) → (left : ℕ) → ℕ
+turn_in None left = 0
+turn_in (Some row) left = slice_index_or row.items left 0
+
+-- the turn of the write that stands in a block with so many instructions behind it
+abbrev pub turn_of : List (Vec ℕ Global) → Turns
+turn_of turns block left = turn_in (slice_get turns block) left
+
+pub record IsTable (blocks names : ℕ) (marks : Marks) : Type 0 where
+  pub count : marks.count ≡ blocks + 2
+  pub width : marks.width ≡ names
+  pub zero_row : (bit : ℕ) → bits_of marks (blocks + 1) bit ≡ false
+
+-- all rows are the same but one
+abbrev pub AreSameBut : (row : ℕ) → Marks → Marks → Type 0
+AreSameBut row old new = (other bit : ℕ) → other ≢ row → bits_of new other bit ≡ bits_of old other bit
+
+-- the rows of blocks are the same
+abbrev pub AreSameBelow : (blocks : ℕ) → Marks → Marks → Type 0
+AreSameBelow blocks old new = (n bit : ℕ) → n < blocks → bits_of new n bit ≡ bits_of old n bit
+
+-- a name is written, if one is
+abbrev pub is_written : (x : ℕ) → Option ℕ → Bool
+is_written x target = option_map_or (λ y. y == x) target false
+
+-- a name of which it is told at the start of a block is asked for from there
+pub record IsAskedAt (turns : Turns) (all : List Block) (x n : ℕ) : Type 0 where
+  pub block : Block
+  pub is : slice_get all n ≡ Some block
+  pub asked : IsAsked turns all x n block.instructions block.end
+
+-- what is told of blocks is so
+abbrev pub AreAsked : Turns → List Block → (blocks names : ℕ) → Marks → Type 0
+AreAsked turns all blocks names marks = (n x : ℕ) → n < blocks → x < names → bits_of marks n x ≡ true → IsAskedAt turns all x n
+
+-- It is told of one of the blocks to which an end leads.
+pub record IsToldOfOne (blocks : ℕ) (e : End) (marks : Marks) (x : ℕ) : Type 0 where
+  pub l : ℕ
+  pub among : Among l (targets_of e)
+  pub within : l < blocks
+  pub told : bits_of marks l x ≡ true
+
+-- Of each write it is so what is told of its name behind it; it is told by how many instructions stand behind it.
+abbrev pub EachBehind : (So : (x : ℕ) → Bool → List Instruction → Type 0) → (told : List Bool) → List Instruction → Type 0
+EachBehind So told [] = ⊤
+EachBehind So told (i ∷ rest) = ((x : ℕ) → target_of i ≡ Some x → So x (slice_index_or told (length rest) false) rest) × EachBehind So told rest
+
+-- a name is asked for where that is told
+abbrev pub IsAskedWhere : Turns → List Block → (names n : ℕ) → End → (x : ℕ) → Bool → List Instruction → Type 0
+IsAskedWhere turns all names n e x told rest = x < names → told ≡ true → IsAsked turns all x n rest e
+
+-- and it is told where it is asked for
+abbrev pub IsToldWhere : Turns → Marks → (blocks names n : ℕ) → End → (x : ℕ) → Bool → List Instruction → Type 0
+IsToldWhere turns marks blocks names n e x told rest = x < names → TellsAsked turns (λ l. bits_of marks l x) blocks x n told rest e

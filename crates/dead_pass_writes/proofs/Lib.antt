@@ -1,0 +1,4 @@
+pub mod Counted
+pub mod Keys
+pub mod Steps
+mod FirstAndLast

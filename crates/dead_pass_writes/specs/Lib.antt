@@ -1,0 +1,4 @@
+pub mod Once
+pub mod Telling
+pub mod Removals
+pub mod RemovedChangesTelling

@@ -1,9 +1,0 @@
-use Rattle.std.proofs.Common.{◌≡◌, ◌++◌, length, map}
-use Rattle.emit_assembly.specs.Laid.{laid_view, stops_of_all}
-use Rattle.emit_assembly.proofs.telling.stops_of.Given as goal
-
-abbrev pub invariant-loop-left : goal.invariant-loop-left
-invariant-loop-left l = l.stops.items ++ stops_of_all l.firsts l.function (map laid_view l.left) ≡ stops_of_all l.firsts 0 (map laid_view l.all)
-
-abbrev pub decreases-loop-left : goal.decreases-loop-left
-decreases-loop-left l = length l.left

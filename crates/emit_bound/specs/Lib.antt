@@ -1,3 +1,0 @@
-pub mod InTime
-pub mod Room
-pub mod Timed

@@ -1,6 +1,0 @@
-pub mod Calls
-pub mod Code
-pub mod Filling
-pub mod Memory
-pub mod Stops
-pub mod Words

@@ -1,7 +1,0 @@
-use Rattle.emit_sequence.specs.Sequences.{sequence_view}
-use Rattle.emit_layout.specs.Layouts.{layout_view}
-use Rattle.emit_layout.proofs.Layouts.{layout_is}
-use Rattle.emit_layout.proofs.layout.layout_of.Goals as goal
-
-pub returns-clause-layout : goal.returns-clause-layout
-returns-clause-layout c = λ few. layout_is (sequence_view c.args.sequence.now) (layout_view c.in_ok-layout.layout) c.in_ok-layout.ensures few

@@ -1,2 +1,0 @@
-//! What the words do that fetch operands and write results.
-#![tactic(auto)]

@@ -1,2 +1,0 @@
-pub mod InParts
-pub mod Powers

@@ -1,6 +1,0 @@
-use Rattle.std.proofs.Common.{arith}
-use Rattle.emit_storage.proofs.Padding.{all_bytes}
-use Rattle.emit_storage.proofs.statics.push_arrays.Goals as goal
-
-pub returns-clause-bytes : goal.returns-clause-bytes
-returns-clause-bytes c = all_bytes c.loop-left.made.items (λ i d lt. omega (arith, c.type_inv.made i d lt))

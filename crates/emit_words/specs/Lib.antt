@@ -1,5 +1,0 @@
-pub mod Constants
-pub mod Fetching
-pub mod Growing
-pub mod Operands
-pub mod Shown

@@ -1,7 +1,0 @@
-mod Pushing
-mod Numbers
-mod Going
-mod Marking
-mod Telling
-mod Closing
-pub mod Routes

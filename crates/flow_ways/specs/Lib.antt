@@ -1,5 +1,0 @@
-pub mod Lists
-pub mod Marks
-pub mod Ways
-pub mod Flow
-pub mod Starts

@@ -1,0 +1,9 @@
+pub mod Sizes
+pub mod Keeping
+pub mod Worked
+pub mod Passing
+pub mod Points
+pub mod Surely
+pub mod Following
+pub mod GraphMarkingWorked
+pub mod Built

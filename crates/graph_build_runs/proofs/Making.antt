@@ -1,0 +1,229 @@
+-- A declarator makes a new object: what is kept with it.
+use Rattle.std.proofs.Common.{◌≡◌, ◌≢◌, ℕ, zero, suc, ◌+◌, ◌≤◌, ◌⊎◌, inl, inr, List, [], ◌∷◌, ◌++◌, length, replicate, Some, None, true, false, slice_get, slice_set, refl, sym, ap, ◌∙◌, subst, arith, pos}
+use Rattle.std.specs.Prelude.{◌==◌, if◌then◌else◌}
+use Rattle.std.specs.List.{AllByRecursion}
+use Rattle.std.proofs.lemmas.Bool.Decides.{nat_tests}
+use Rattle.std.specs.Option.{option_map_or}
+use Rattle.std.proofs.lemmas.Option.{slice_get_within}
+use Rattle.std.proofs.lemmas.List.{length-replicate}
+use Rattle.word_base.specs.Owners.{Owner, Static, Literal, Variable}
+use Rattle.word_base.specs.Types.{holds}
+use Rattle.c_tree.specs.declared.types.IntegerType.{IntegerType}
+use Rattle.c_tree.specs.declared.types.IntegerType.TheVariants.{Char, SignedChar, UnsignedChar, Short, UnsignedShort, Int, UnsignedInt, Long, UnsignedLong}
+use Rattle.c_tree.specs.declared.object_type.ObjectType.TheVariants as of-object
+use Rattle.c_tree.specs.declared.object_type.ValueType.{ValueType}
+use Rattle.c_tree.specs.declared.object_type.ValueType.TheVariants.{Integer, Pointer}
+use Rattle.c_tree.specs.Programs.{AutomaticTree, ProgramTree}
+use Rattle.c_type_rules.specs.Integers.{integer}
+use Rattle.c_type_rules.specs.Types.{loaded, pointed_to}
+use Rattle.c_meaning_values.specs.declared.value.Value as source-value
+use Rattle.c_meaning_values.specs.declared.value.Value.TheVariants.{Null}
+use Rattle.c_meaning_values.specs.declared.value.Phase.{Phase}
+use Rattle.c_meaning_values.specs.declared.value.Phase.TheVariants.{Initialising, Live, Ended}
+use Rattle.c_meaning_values.specs.Types.{element_of, count_of, zero_of, zero_by_stars}
+use Rattle.c_meaning_values.specs.Memory.{Object as SourceObject, Memory as SourceMemory, new_object, in_phase}
+use Rattle.c_meaning_steps.specs.States.{State}
+use Rattle.c_meaning.specs.Lifetimes.{made}
+use Rattle.graph_build_runs.specs.Typed.{IsOf}
+use Rattle.graph_build_runs.specs.Correspondence.{IsInMemory}
+use Rattle.graph_build_runs.specs.Stops.{IsDeclared}
+use Rattle.graph_build_runs.proofs.Leads.{depth_in, Local, World}
+use Rattle.graph_build_runs.proofs.Later.{some_same, get_set, Onward, onward, Later, later_refl, later_changed, others_refl}
+use Rattle.graph_build_runs.proofs.Kept.{Sound, Placed, Fits}
+use Rattle.graph_build_runs.proofs.Noting.{scalar_later, outer_later, placed_later}
+use Rattle.graph_build_runs.proofs.Typing.{of_later}
+use Rattle.graph_build_runs.proofs.Activities.{Activity, here_in}
+use Rattle.graph_build_runs.proofs.Living.{statics_later, lives_later, frames_later, Under, Grown}
+use Rattle.graph_build_runs.proofs.Stops.{Ready}
+
+-- a list with one more
+pub got_last : {A : Type 0} (xs : List A) (x z : A) (i : ℕ) → slice_get (xs ++ x ∷ []) i ≡ Some z → (slice_get xs i ≡ Some z) ⊎ ((i ≡ length xs) × (z ≡ x))
+got_last [] x z zero h = inr (refl, sym (some_same h))
+got_last [] x z (suc i) h = cc
+got_last (y ∷ xs) x z zero h = inl h
+got_last (y ∷ xs) x z (suc i) h = elim (got_last xs x z i h) [
+  | inl found ↦ inl found
+  | inr both ↦ inr (ap (λ n. suc n) both.0, both.1)
+]
+
+pub front_stays : {A : Type 0} (xs ys : List A) (z : A) (i : ℕ) → slice_get xs i ≡ Some z → slice_get (xs ++ ys) i ≡ Some z
+front_stays [] ys z i h = cc
+front_stays (x ∷ xs) ys z zero h = h
+front_stays (x ∷ xs) ys z (suc i) h = front_stays xs ys z i h
+
+pub last_is : {A : Type 0} (xs : List A) (x : A) → slice_get (xs ++ x ∷ []) (length xs) ≡ Some x
+last_is [] x = refl
+last_is (y ∷ xs) x = last_is xs x
+
+pub later_more : (memory : SourceMemory) (o : SourceObject) → Later memory (memory ++ o ∷ [])
+later_more memory o n z is = record { object = z; is = front_stays memory (o ∷ []) z n is; owner = refl; element = refl; phase = onward z.phase z.phase refl; count = refl }
+
+-- zero is of each type
+zero_holds : (t : IntegerType) → holds (integer t) (pos 0) ≡ true
+zero_holds Char = refl
+zero_holds SignedChar = refl
+zero_holds UnsignedChar = refl
+zero_holds Short = refl
+zero_holds UnsignedShort = refl
+zero_holds Int = refl
+zero_holds UnsignedInt = refl
+zero_holds Long = refl
+zero_holds UnsignedLong = refl
+
+pub zero_typed : (memory : SourceMemory) (base : IntegerType) (stars : ℕ) → IsOf memory (loaded (record { base = base; stars = stars })) (zero_by_stars stars)
+zero_typed memory base zero = zero_holds base
+zero_typed memory base (suc stars) = subst (λ b. IsOf memory (if b then Integer base else Pointer (of-object.Scalar (pointed_to (record { base = base; stars = suc stars })))) Null) (sym (no_zero stars)) tt
+  where
+    no_zero : (n : ℕ) → suc n == 0 ≡ false
+    no_zero n = grind (arith, nat_tests)
+
+pub all_alike : (P : source-value.Value → Type 0) (count : ℕ) (v : source-value.Value) → P v → AllByRecursion P (replicate count v)
+all_alike P zero v h = tt
+all_alike P (suc count) v h = (h, all_alike P count v h)
+
+pub typed_later : (memory after : SourceMemory) → Later memory after → (t : ValueType) (vs : List source-value.Value) → AllByRecursion (IsOf memory t) vs → AllByRecursion (IsOf after t) vs
+typed_later memory after later t [] all = tt
+typed_later memory after later t (v ∷ vs) all = (of_later memory after later t v all.0, typed_later memory after later t vs all.1)
+
+-- an object in another phase is of its variable's type
+declared_in : (p : ProgramTree) (owner : Owner) (phase : Phase) (o : SourceObject) → IsDeclared p owner o → IsDeclared p owner (in_phase phase o)
+declared_in p (Static n) phase o c = (c.0, c.1, c.2, c.3)
+declared_in p (Literal n) phase o c = (c.0, c.1, c.2, c.3)
+declared_in p (Variable n d) phase o c = (c.0, c.1, c.2, c.3)
+
+depth_is : {a b d e : ℕ} → Variable a d ≡ Variable b e → d ≡ e
+depth_is h = cc
+
+pub live_open : (phase : Phase) → phase ≢ Ended → Onward phase Live
+live_open phase alive = record { live = λ e. refl; over = λ e. absurd (alive e); open_before = λ e. no e }
+  where
+    no : {A : Type 0} → Live ≡ Ended → A
+    no h = cc
+
+-- An object comes to live: what a program's run keeps is kept.
+pub sound_begun : (p : ProgramTree) (began : SourceMemory) (s : State) (n : ℕ) (o : SourceObject) → slice_get s.memory n ≡ Some o → o.phase ≢ Ended → Sound p began s → Sound p (slice_set s.memory n (in_phase Live o)) (record s { memory = slice_set s.memory n (in_phase Live o) })
+sound_begun p began s n o at alive sound = record {
+  typed = λ m z found. elim (get_set s.memory n m (in_phase Live o) z found) [
+    | inl both ↦
+        subst (λ q. AllByRecursion (IsOf (slice_set s.memory n (in_phase Live o)) (loaded q.element)) q.values) (sym both.1)
+        (typed_later s.memory (slice_set s.memory n (in_phase Live o)) (later_changed s.memory n o (in_phase Live o) at refl refl (live_open o.phase alive) refl) (loaded o.element) o.values (sound.typed n o at))
+    | inr both ↦
+        typed_later s.memory (slice_set s.memory n (in_phase Live o)) (later_changed s.memory n o (in_phase Live o) at refl refl (live_open o.phase alive) refl) (loaded z.element) z.values (sound.typed m z both.1)
+  ];
+  differ = λ i j q r fi fj qa ra same. (let x = old i q fi qa in let y = old j r fj ra in sound.differ i j x.0 y.0 x.1 y.1 x.2 y.2 (sym x.3 ∙ same ∙ y.3));
+  declared = λ m z found. elim (get_set s.memory n m (in_phase Live o) z found) [
+    | inl both ↦ subst (λ q. IsDeclared p q.owner q) (sym both.1) (declared_in p o.owner Live o (sound.declared n o at))
+    | inr both ↦ sound.declared m z both.1
+  ];
+  bytes = sound.bytes;
+  since = record { later = later_refl (slice_set s.memory n (in_phase Live o)); ends = λ m z found open_z. slice_get_within (slice_set s.memory n (in_phase Live o)) m z found };
+}
+  where
+    old : (i : ℕ) (q : SourceObject) → slice_get (slice_set s.memory n (in_phase Live o)) i ≡ Some q → q.phase ≢ Ended → (z : SourceObject) × (slice_get s.memory i ≡ Some z) × (z.phase ≢ Ended) × (q.owner ≡ z.owner)
+    old i q found open_q = elim (get_set s.memory n i (in_phase Live o) q found) [
+      | inl both ↦ (o, ap (slice_get s.memory) both.0 ∙ at, alive, ap (λ z. z.owner) both.1)
+      | inr both ↦ (q, both.1, open_q, refl)
+    ]
+
+-- What a program's run keeps is kept with a new object of a variable above those that live.
+pub sound_more : (k : Activity) (v : ℕ) (a : AutomaticTree) → slice_get k.setting.program.automatics v ≡ Some a → (o : SourceObject) → o.owner ≡ Variable v (depth_in k.setting) → o.element ≡ element_of a.of → length o.values ≡ count_of a.of → (s : State) (low : ℕ) → low ≤ v → Under s.memory (depth_in k.setting) low
+    → Sound k.setting.program s.memory s → AllByRecursion (IsOf (s.memory ++ o ∷ []) (loaded o.element)) o.values → Sound k.setting.program (s.memory ++ o ∷ []) (record s { memory = s.memory ++ o ∷ [] })
+sound_more k v a is o owner_is element count s low le under sound typed = record {
+  typed = λ n z found. elim (got_last s.memory o z n found) [
+    | inl here ↦ typed_later s.memory (s.memory ++ o ∷ []) (later_more s.memory o) (loaded z.element) z.values (sound.typed n z here)
+    | inr both ↦ subst (λ q. AllByRecursion (IsOf (s.memory ++ o ∷ []) (loaded q.element)) q.values) (sym both.1) typed
+  ];
+  differ = λ i j q r fi fj qa ra same. elim (got_last s.memory o q i fi) [
+    | inl here ↦ elim (got_last s.memory o r j fj) [
+      | inl there ↦ sound.differ i j q r here there qa ra same
+      | inr both ↦ older i q here qa (same ∙ ap (λ z. z.owner) both.1 ∙ owner_is)
+    ]
+    | inr front ↦ elim (got_last s.memory o r j fj) [
+      | inl there ↦ older j r there ra (sym same ∙ ap (λ z. z.owner) front.1 ∙ owner_is)
+      | inr both ↦ front.0 ∙ sym both.0
+    ]
+  ];
+  declared = λ n z found. elim (got_last s.memory o z n found) [
+    | inl here ↦ sound.declared n z here
+    | inr both ↦ subst (λ q. IsDeclared k.setting.program q.owner q) (sym both.1) (subst (λ w. IsDeclared k.setting.program w o) (sym owner_is) (a, is, element, count))
+  ];
+  bytes = sound.bytes;
+  since = record { later = later_refl (s.memory ++ o ∷ []); ends = λ n z found alive. slice_get_within (s.memory ++ o ∷ []) n z found };
+}
+  where
+    older : {A : Type 0} (i : ℕ) (q : SourceObject) → slice_get s.memory i ≡ Some q → q.phase ≢ Ended → q.owner ≡ Variable v (depth_in k.setting) → A
+    older i q found alive owner = let c = under i q v (depth_in k.setting) found alive owner in let less = c.1 refl in absurd (omega (arith, less, le))
+
+pub grown_more : (depth : ℕ) (memory : SourceMemory) (o : SourceObject) (low v : ℕ) → low ≤ v → o.owner ≡ Variable v depth → Grown depth low (v + 1) memory (memory ++ o ∷ [])
+grown_more depth memory o low v le owner = record {
+  later = later_more memory o;
+  fresh = λ n z found alive. elim (got_last memory o z n found) [
+    | inl here ↦ inl (slice_get_within memory n z here)
+    | inr both ↦ inr (v, ap (λ q. q.owner) both.1 ∙ owner, le, omega arith)
+  ];
+}
+
+module _ (k : Activity) (v : ℕ) (a : AutomaticTree) (is : slice_get k.setting.program.automatics v ≡ Some a) (phase : Phase) where
+  -- the new object, and the memory with it
+  abbrev pub new_in : SourceObject
+  new_in = new_object (Variable v (depth_in k.setting)) a.of phase
+
+  abbrev pub with_new : SourceMemory → SourceMemory
+  with_new memory = memory ++ new_in ∷ []
+
+  pub made_is : (s : State) → length k.frames ≡ length k.setting.waiting → made (here_in k) phase v s ≡ record s { memory = with_new s.memory }
+  made_is s e =
+      ap (λ r. record s { memory = s.memory ++ option_map_or (λ (q : AutomaticTree). new_object (Variable v (length k.frames + 1)) q.of phase ∷ []) r [] }) is
+      ∙ ap (λ n. record s { memory = s.memory ++ new_object (Variable v (n + 1)) a.of phase ∷ [] }) e
+
+  pub grown_made : (memory : SourceMemory) (low : ℕ) → low ≤ v → Grown (depth_in k.setting) low (v + 1) memory (with_new memory)
+  grown_made memory low le = grown_more (depth_in k.setting) memory new_in low v le refl
+
+  pub ready_made : (place : ℕ) (memory : SourceMemory) → Ready k place memory → Ready k place (with_new memory)
+  ready_made place memory h = record {
+    statics = statics_later k.setting.program memory (with_new memory) (later_more memory new_in) h.statics;
+    above = λ n o w d found alive owner. elim (got_last memory new_in o n found) [
+      | inl here ↦ h.above n o w d here alive owner
+      | inr both ↦ let e : d ≡ depth_in k.setting = depth_is (sym owner ∙ ap (λ q. q.owner) both.1) in omega (arith, e)
+    ];
+    frames = frames_later k.setting.program k.setting.unit memory (with_new memory) (later_more memory new_in) k.frames k.setting.waiting h.frames;
+    sees = λ q found j w vis. lives_later memory (with_new memory) (later_more memory new_in) w (depth_in k.setting) (h.sees q found j w vis);
+  }
+
+  -- What a program's run keeps is kept with the new object, whose variable is above those that live.
+  pub sound_made : (s : State) (low : ℕ) → low ≤ v → Under s.memory (depth_in k.setting) low → Sound k.setting.program s.memory s → Sound k.setting.program (with_new s.memory) (record s { memory = with_new s.memory })
+  sound_made s low le under sound =
+      sound_more k v a is new_in refl refl (length-replicate (count_of a.of) (zero_of (element_of a.of))) s low le under sound
+      (all_alike (IsOf (with_new s.memory) (loaded (element_of a.of))) (count_of a.of) (zero_of (element_of a.of)) (zero_typed (with_new s.memory) (element_of a.of).base (element_of a.of).stars))
+
+-- What the unit's run keeps is kept with an object that is being initialised.
+pub fits_made : (k : Activity) (v : ℕ) (a : AutomaticTree) (s : State) (l : Local) (u : World) → Fits k.setting None s l u
+    → (IsInMemory k.setting.program (Variable v (depth_in k.setting)) → Placed k.setting.program (s.memory ++ new_object (Variable v (depth_in k.setting)) a.of Initialising ∷ []) u.memory (new_object (Variable v (depth_in k.setting)) a.of Initialising))
+    → Fits k.setting None (record s { memory = s.memory ++ new_object (Variable v (depth_in k.setting)) a.of Initialising ∷ [] }) l u
+fits_made k v a s l u f inside = let new : SourceObject = new_object (Variable v (depth_in k.setting)) a.of Initialising in record {
+  own = record {
+    scalars = λ w j m q named found owner live. elim (got_last s.memory new q m found) [
+      | inl here ↦ scalar_later k.setting.program s.memory (s.memory ++ new ∷ []) u.memory u.memory (later_more s.memory new) (others_refl u.memory) None q j l.names l.shadows (f.own.scalars w j m q named here owner live)
+      | inr both ↦ no (sym (ap (λ z. z.phase) both.1) ∙ live)
+    ];
+    objects = f.own.objects;
+  };
+  outer = outer_later k.setting.program s.memory (s.memory ++ new ∷ []) u.memory u.memory (later_more s.memory new) (others_refl u.memory) k.setting.waiting
+      (λ depth n w j m q le found owner. elim (got_last s.memory new q m found) [
+        | inl here ↦ here
+        | inr both ↦ let e : depth ≡ depth_in k.setting = depth_is (sym owner ∙ ap (λ z. z.owner) both.1) in absurd (omega (arith, e, le))
+      ]) f.outer;
+  placed = λ n q found alive in_it. elim (got_last s.memory new q n found) [
+    | inl here ↦ placed_later k.setting.program s.memory (s.memory ++ new ∷ []) u.memory u.memory (later_more s.memory new) (others_refl u.memory) q (λ c. c.is) (f.placed n q here alive in_it)
+    | inr both ↦ subst (Placed k.setting.program (s.memory ++ new ∷ []) u.memory) (sym both.1) (inside (subst (λ z. IsInMemory k.setting.program z.owner) both.1 in_it))
+  ];
+  differ = f.differ;
+  above = f.above;
+  later = f.later;
+  statics = f.statics;
+  input = f.input;
+  events = f.events;
+}
+  where
+    no : {A : Type 0} → Initialising ≡ Live → A
+    no h = cc

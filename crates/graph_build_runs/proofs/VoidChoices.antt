@@ -1,0 +1,140 @@
+-- A choice between expressions that have no value.
+use Rattle.std.proofs.Common.{◌≡◌, ℕ, ◌+◌, ◌≤◌, List, [], Some, None, Bool, true, false, not, ◌||◌, slice_get, refl, sym, ap, subst, arith}
+use Rattle.std.specs.Prelude.{if◌then◌else◌}
+use Rattle.c_tree.specs.TypedExpressions.{RvalueTree, Conditional}
+use Rattle.c_type_laws.specs.Expressions.{kind_of}
+use Rattle.c_type_laws.specs.Kind.{Kind}
+use Rattle.c_meaning_values.specs.declared.value.Value as source-value
+use Rattle.c_meaning_steps.specs.States.{State, Evaluated, Gives, Leaves, Ends, Tested, Holds, Fails, NoTest, tested, on_test}
+use Rattle.c_meaning.specs.Expressions.{Calls, evaluate}
+use Rattle.c_type_rules.specs.ValueTypes.{type_of, is_void}
+use Rattle.graph_core.specs.Graphs.{Constant, Instruction, End, Jump, Block}
+use Rattle.graph_core.specs.Runs.{entered}
+use Rattle.graph_build_layout.specs.declared.laid.Use.TheVariants.{Anywhere, In, Nothing, Tested as UseTested}
+use Rattle.graph_build_names.specs.Names.{pick}
+use Rattle.graph_build_layout.specs.Laid.{Laid, behind_move, void_arms_laid, arms_laid}
+use Rattle.graph_build_layout.specs.Layout.{laid}
+use Rattle.graph_build_names.specs.Writes.{writes}
+use Rattle.graph_build_steps.specs.Drafts.{Made, Goal, Unused, Either, ending, zero as zero_operand, leaf, closed, label_of}
+use Rattle.graph_build_steps.specs.Steps.{arm_use, arm_value, arm_goal}
+use Rattle.graph_build_runs.proofs.Leads.{Setting, names_in, size_in, depth_in, Local, World, at, stays, goes, then_leads}
+use Rattle.graph_build_runs.proofs.Kept.{Sound, Fits, ScalarsFirst}
+use Rattle.graph_build_runs.proofs.Results.{UnusedR, Reached, to_label, EitherR, Result, ended_result, result_after}
+use Rattle.graph_build_runs.proofs.Sequences.{left_done}
+use Rattle.graph_build_runs.proofs.Typing.{HasKind, Keeps, Left, KeepsTest, keeps_tested, Typed}
+use Rattle.graph_build_runs.proofs.Standing.{Stands, Grows, block_of, closed_inner, closed_block}
+use Rattle.graph_build_runs.proofs.Operands.{Does, code_in, written_by, or_false}
+use Rattle.graph_build_runs.proofs.Arithmetic.{pick_between}
+use Rattle.graph_build_runs.proofs.Choices.{Tops}
+use Rattle.c_meaning_values.specs.Memory.{Memory}
+use Rattle.graph_build_runs.proofs.Results.{UnusedR}
+
+-- a choice between expressions that have no value
+module _ (x : Setting) (calls : Calls) (low : ScalarsFirst x) (c a b : RvalueTree) (void : is_void (type_of (names_in x).results a) ≡ true) (typed_c : Typed x calls c) (typed_a : Typed x calls a) (typed_b : Typed x calls b)
+    (none_a : (memory : Memory) (v : source-value.Value) → HasKind memory (kind_of x.program x.tree a) v → ⊥) (none_b : (memory : Memory) (v : source-value.Value) → HasKind memory (kind_of x.program x.tree b) v → ⊥)
+    (tops_c : Tops x UseTested c) (tops_a : Tops x Nothing a) (grows_c : Grows (names_in x) x.place x.top x.graph c) (grows_a : Grows (names_in x) x.place x.top x.graph a) (grows_b : Grows (names_in x) x.place x.top x.graph b)
+    (does_c : Does x calls c) (does_a : Does x calls a) (does_b : Does x calls b) where
+  abbrev from_a : ℕ → ℕ
+  from_a t = pick (names_in x) t (laid (names_in x) c UseTested t).top
+
+  abbrev from_b : ℕ → ℕ
+  from_b t = pick (names_in x) t (laid (names_in x) a Nothing (from_a t)).top
+
+  abbrev join_in : Goal → Made
+  join_in g = leaf g zero_operand
+
+  abbrev to_join : Goal → List Block → Made
+  to_join g inner = ending (Jump (label_of x.top (join_in g))) inner
+
+  abbrev other_in : ℕ → Goal → Made
+  other_in t g = code_in x b (from_b t) (Unused (to_join g (closed x.place (join_in g))))
+
+  abbrev one_in : ℕ → Goal → Made
+  one_in t g = code_in x a (from_a t) (Unused (to_join g (closed x.place (other_in t g))))
+
+  abbrev test_in : ℕ → Goal → Made
+  test_in t g = code_in x c t (Either (label_of x.top (one_in t g)) (label_of x.top (other_in t g)) (closed x.place (one_in t g)))
+
+  abbrev all_written : ℕ → Bool
+  all_written y = writes (names_in x) y c || writes (names_in x) y a || writes (names_in x) y b
+
+  module _ (t : ℕ) (g : Goal) (s : State) (l : Local) (w : World) (size : size_in x ≤ t) (st : Stands x.graph x.top (test_in t g).inner) (sound : Sound x.program x.begun s) (fits : Fits x None s l w) where
+    above_a : t ≤ from_a t
+    above_a = let top = tops_c t size in pick_between (names_in x) t (laid (names_in x) c UseTested t).top t (omega arith) top
+
+    above_b : t ≤ from_b t
+    above_b =
+        let le = above_a in
+        let top = tops_a (from_a t) (omega (arith, size, le)) in
+        pick_between (names_in x) t (laid (names_in x) a Nothing (from_a t)).top t (omega arith) (omega (arith, le, top))
+
+    one_stands : Stands x.graph x.top (closed x.place (one_in t g))
+    one_stands = grows_c t (Either (label_of x.top (one_in t g)) (label_of x.top (other_in t g)) (closed x.place (one_in t g))) st
+
+    other_stands : Stands x.graph x.top (closed x.place (other_in t g))
+    other_stands = grows_a (from_a t) (Unused (to_join g (closed x.place (other_in t g)))) (closed_inner x.graph x.top x.place (one_in t g) one_stands)
+
+    join_stands : Stands x.graph x.top (closed x.place (join_in g))
+    join_stands = grows_b (from_b t) (Unused (to_join g (closed x.place (join_in g)))) (closed_inner x.graph x.top x.place (other_in t g) other_stands)
+
+    -- behind an arm
+    arm_ends : (k : Kind) (before_memory : Memory) (from : ℕ) (f : ℕ → Bool) (inner : List Block) (ops : List Instruction) (end : End) (l1 : Local) (w1 : World) (r : Evaluated) → t ≤ from → ((memory : Memory) (v : source-value.Value) → HasKind memory k v → ⊥) → Keeps x.program x.begun before_memory k r
+        → UnusedR x (to_join g inner) from f ops end l1 w1 r → Result x g (Constant 0) t f ops end l1 w1 r
+    arm_ends k before_memory from f inner ops end l1 w1 (Gives v s1) le nothing keeps h = absurd (nothing s1.memory v keeps.is)
+    arm_ends k before_memory from f inner ops end l1 w1 (Leaves s1) le nothing keeps h =
+        let m = join_in g in
+        let stands = closed_block x.graph x.top x.place m join_stands in
+        let e = Jump (label_of x.top m) in
+        result_after x t t f (λ y. false) ops m.ops end m.end l1 h.local w1 h.world (then_leads h.leads (goes (ap (entered (at x [] e h.local h.world)) stands) stays))
+        (λ y lt nf. (lt, refl, h.kept y (omega (arith, lt, le)) refl nf)) h.later g (Constant 0) (Leaves s1) (left_done x g (Constant 0) zero_operand t (λ y. false) s1 h.local h.world h.fits)
+    arm_ends k before_memory from f inner ops end l1 w1 (Ends c1 s1) le nothing keeps h = ended_result x g (Constant 0) t f ops end l1 w1 c1 s1 h
+
+    -- behind the condition an arm runs
+    arm_decides : (e : RvalueTree) (from : ℕ) (inner : List Block) (m : Made) → Typed x calls e → ((memory : Memory) (v : source-value.Value) → HasKind memory (kind_of x.program x.tree e) v → ⊥) → t ≤ from → ((y : ℕ) → all_written y ≡ false → writes (names_in x) y e ≡ false)
+        → m ≡ code_in x e from (Unused (to_join g inner)) → slice_get x.graph.blocks (label_of x.top m) ≡ Some (block_of x.place m) → Stands x.graph x.top m.inner → Does x calls e → (s1 : State) → Left x.program x.begun s.memory s1
+        → Reached x None t (written_by x c) l w (to_label x (test_in t g).ops (test_in t g).end l w (label_of x.top m)) s1
+        → Result x g (Constant 0) t all_written (test_in t g).ops (test_in t g).end l w (evaluate calls (depth_in x) e s1)
+    arm_decides e from inner m typed_e nothing above spares is stands m_inner does_e s1 left h =
+        let goal = Unused (to_join g inner) in
+        let k = code_in x e from goal in
+        let stands_k = subst (λ z. slice_get x.graph.blocks (label_of x.top m) ≡ Some (block_of x.place z)) is stands in
+        result_after x t t all_written (written_by x e) (test_in t g).ops k.ops (test_in t g).end k.end l h.local w h.world (h.leads (block_of x.place k) stands_k)
+        (λ y lt nf. (lt, spares y nf, h.kept y lt refl (or_false (writes (names_in x) y c) (writes (names_in x) y a) (or_false (writes (names_in x) y c || writes (names_in x) y a) (writes (names_in x) y b) nf).0).0)) h.later g (Constant 0)
+        (evaluate calls (depth_in x) e s1)
+        (arm_ends (kind_of x.program x.tree e) s1.memory from (written_by x e) inner k.ops k.end h.local h.world (evaluate calls (depth_in x) e s1) above nothing (typed_e s1 left.sound)
+        (does_e from goal s1 h.local h.world (omega (arith, size, above)) (subst (λ z. Stands x.graph x.top z.inner) is m_inner) left.sound h.fits tt))
+
+    spares_a : (y : ℕ) → all_written y ≡ false → writes (names_in x) y a ≡ false
+    spares_a y nf = (or_false (writes (names_in x) y c) (writes (names_in x) y a) (or_false (writes (names_in x) y c || writes (names_in x) y a) (writes (names_in x) y b) nf).0).1
+
+    spares_b : (y : ℕ) → all_written y ≡ false → writes (names_in x) y b ≡ false
+    spares_b y nf = (or_false (writes (names_in x) y c || writes (names_in x) y a) (writes (names_in x) y b) nf).1
+
+    decides : (r : Tested) → KeepsTest x.program x.begun s.memory r → EitherR x (label_of x.top (one_in t g)) (label_of x.top (other_in t g)) t (written_by x c) (test_in t g).ops (test_in t g).end l w r
+        → Result x g (Constant 0) t all_written (test_in t g).ops (test_in t g).end l w (on_test r (evaluate calls (depth_in x) a) (evaluate calls (depth_in x) b))
+    decides (Holds s1) keeps h =
+        arm_decides a (from_a t) (closed x.place (other_in t g)) (one_in t g) typed_a none_a above_a spares_a refl (closed_block x.graph x.top x.place (one_in t g) one_stands) (closed_inner x.graph x.top x.place (one_in t g) one_stands) does_a s1 keeps h
+    decides (Fails s1) keeps h =
+        arm_decides b (from_b t) (closed x.place (join_in g)) (other_in t g) typed_b none_b above_b spares_b refl (closed_block x.graph x.top x.place (other_in t g) other_stands) (closed_inner x.graph x.top x.place (other_in t g) other_stands) does_b s1 keeps h
+    decides (NoTest e s1) keeps h = ended_result x g (Constant 0) t all_written (test_in t g).ops (test_in t g).end l w e s1 h
+
+  -- the code where a value is chosen, and where nothing is
+  abbrev choice_by : Bool → ℕ → Goal → Made
+  choice_by nothing t g =
+      let at = behind_move (not nothing) t in
+      let at_a = pick (names_in x) at (laid (names_in x) c UseTested at).top in let at_b = pick (names_in x) at (laid (names_in x) a (arm_use nothing t) at_a).top in
+      let m = leaf g (arm_value nothing t) in
+      let y = code_in x b at_b (arm_goal nothing t (ending (Jump (label_of x.top m)) (closed x.place m))) in
+      let z = code_in x a at_a (arm_goal nothing t (ending (Jump (label_of x.top m)) (closed x.place y))) in
+      code_in x c at (Either (label_of x.top z) (label_of x.top y) (closed x.place z))
+
+  abbrev laid_by : Bool → ℕ → Laid
+  laid_by nothing t =
+      if nothing then void_arms_laid (names_in x) t (laid (names_in x) c UseTested t) (laid (names_in x) a Nothing) (laid (names_in x) b Nothing)
+      else arms_laid (names_in x) Anywhere t (laid (names_in x) c UseTested (t + 1)) (laid (names_in x) a (In t)) (laid (names_in x) b (In t))
+
+  pub void_choice_does : Does x calls (Conditional c a b)
+  void_choice_does t g s l w size st sound fits aims =
+      subst (λ nothing. Stands x.graph x.top (choice_by nothing t g).inner → Result x g (laid_by nothing t).value t all_written (choice_by nothing t g).ops (choice_by nothing t g).end l w (evaluate calls (depth_in x) (Conditional c a b) s)) (sym void)
+      (λ st'. decides t g s l w size st' sound fits (tested (evaluate calls (depth_in x) c s)) (keeps_tested x.program x.begun s.memory (kind_of x.program x.tree c) (evaluate calls (depth_in x) c s) (typed_c s sound))
+      (does_c t (Either (label_of x.top (one_in t g)) (label_of x.top (other_in t g)) (closed x.place (one_in t g))) s l w size st' sound fits tt)) st

@@ -1,0 +1,2 @@
+//! That the code of expressions and statements does what these mean.
+#![tactic(auto)]

@@ -1,9 +1,0 @@
-use Rattle.std.proofs.Common.{◌≡◌, map, drop}
-use Rattle.c_tree.specs.TypedStatements.{declared_view}
-use Rattle.graph_coding.specs.Coding.{coding_view}
-use Rattle.graph_coding.specs.Reached.{declared_reached}
-use Rattle.graph_coding.proofs.names.declared_reached.Given as goal
-
-abbrev pub invariant-loop-declared : goal.invariant-loop-declared
-invariant-loop-declared l =
-    declared_reached (coding_view l.form) (map declared_view (drop l.declared-index l.all)) l.at ≡ declared_reached (coding_view l.form) (map declared_view l.all) l.free

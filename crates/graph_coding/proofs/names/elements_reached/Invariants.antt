@@ -1,9 +1,0 @@
-use Rattle.std.proofs.Common.{◌≡◌, max, map, drop}
-use Rattle.c_tree.specs.TypedExpressions.{rvalue_view}
-use Rattle.graph_coding.specs.Coding.{coding_view}
-use Rattle.graph_coding.specs.Reached.{elements_reached}
-use Rattle.graph_coding.proofs.names.elements_reached.Given as goal
-
-abbrev pub invariant-loop-e : goal.invariant-loop-e
-invariant-loop-e l =
-    max l.most (elements_reached (coding_view l.form) (map rvalue_view (drop l.e-index l.all)) l.at) ≡ elements_reached (coding_view l.form) (map rvalue_view l.all) l.free

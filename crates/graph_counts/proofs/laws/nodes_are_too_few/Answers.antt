@@ -1,5 +1,0 @@
-use Rattle.graph_counts.proofs.Converting.{is_converting}
-use Rattle.graph_counts.proofs.laws.nodes_are_too_few.Goals as goal
-
-pub returns : goal.returns
-returns c = is_converting

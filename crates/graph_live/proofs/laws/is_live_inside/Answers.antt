@@ -1,5 +1,0 @@
-use Rattle.graph_live.proofs.Living.{live_inside}
-use Rattle.graph_live.proofs.laws.is_live_inside.Goals as goal
-
-pub returns : goal.returns
-returns c = live_inside

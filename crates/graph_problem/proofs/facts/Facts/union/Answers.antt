@@ -1,8 +1,0 @@
-use Rattle.std.proofs.Common.{ap, nat_cmp, ◌∙◌}
-use Rattle.std.specs.FinSet.{union, from_list}
-use Rattle.graph_problem.proofs.Trees.{united, clones_equal}
-use Rattle.graph_problem.proofs.facts.Facts.union.Goals as goal
-
-pub returns : goal.returns
-returns c = let found = c.in_ok-numbers.ensures in
-    united c.self.inside.numbers c.other.inside.numbers c.in_ok-numbers.numbers (found.4 clones_equal) ∙ ap (λ s. union s (from_list {R = nat_cmp} c.other.inside.numbers.keys)) c.self.view_is ∙ ap (λ t. union c.args.self.now t) c.other.view_is

@@ -1,2 +1,0 @@
-//! That the blocks of statements do what they mean.
-#![tactic(auto)]

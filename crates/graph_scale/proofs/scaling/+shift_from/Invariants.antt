@@ -1,4 +1,0 @@
-use Rattle.graph_scale.proofs.scaling.+shift_from.Given as goal
-
-abbrev pub decreases-shift_from : goal.decreases-shift_from
-decreases-shift_from l = l.left

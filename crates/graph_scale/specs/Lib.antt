@@ -1,3 +1,0 @@
-pub mod Scales
-pub mod Conversions
-pub mod Operands

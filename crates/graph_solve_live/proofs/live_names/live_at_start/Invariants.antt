@@ -1,0 +1,14 @@
+use Rattle.std.proofs.Common.{◌≡◌, ◌≤◌, drop, length, map}
+use Rattle.graph_core.specs.Graphs.{end_view, instruction_view}
+use Rattle.graph_core.specs.Uses.{reads_of_end}
+use Rattle.graph_solve_live.specs.Live.{before_all, with_names}
+use Rattle.graph_solve_live.proofs.live_names.live_at_start.Given as goal
+
+abbrev pub invariant-loop-left : goal.invariant-loop-left
+invariant-loop-left l = record {
+  within : l.left ≤ length l.block.instructions.items;
+  live : l.live ≡ before_all l.width (map instruction_view (drop l.left l.block.instructions.items)) (with_names l.width (reads_of_end (end_view l.block.end)) l.behind);
+}
+
+abbrev pub decreases-loop-left : goal.decreases-loop-left
+decreases-loop-left l = l.left

@@ -1,2 +1,0 @@
-//! How units correspond to programs, and that the code of expressions does what they mean.
-#![tactic(auto)]

@@ -1,6 +1,0 @@
-use Rattle.std.proofs.Common.{[]}
-use Rattle.home_sharing.specs.Holders.{AreHolders}
-use Rattle.home_sharing.proofs.holders.no_holders.Given as goal
-
-abbrev pub invariant-loop-register : goal.invariant-loop-register
-invariant-loop-register l = AreHolders [] l._register l.holders.items

@@ -1,5 +1,0 @@
-pub mod Pairs
-pub mod Moves
-pub mod Copies
-pub mod Holders
-pub mod Sharing

@@ -1,4 +1,0 @@
-mod Copied
-pub mod Order
-pub mod Indexed
-mod Written

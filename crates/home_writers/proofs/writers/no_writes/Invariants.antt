@@ -1,6 +1,0 @@
-use Rattle.std.proofs.Common.{◌≡◌, ℕ, []}
-use Rattle.home_writers.specs.Writers.{writes_in}
-use Rattle.home_writers.proofs.writers.no_writes.Given as goal
-
-abbrev pub invariant-loop : goal.invariant-loop
-invariant-loop l = (n : ℕ) → writes_in l.lists.items n ≡ []

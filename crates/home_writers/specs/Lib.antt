@@ -1,3 +1,0 @@
-pub mod Order
-pub mod Writers
-pub mod Copies

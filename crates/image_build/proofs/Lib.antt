@@ -1,0 +1,51 @@
+mod Passing
+mod Slots
+mod Known
+mod Scopes
+pub mod Program
+mod OnRows
+pub mod Rows
+mod Lists
+mod Ordered
+mod Owned
+pub mod Rules
+pub mod ImageEvidenceRows
+mod Words
+pub mod Elements
+pub mod MadeAgain
+pub mod Owners
+pub mod Tables
+pub mod Units
+pub mod Plain
+pub mod Borne
+pub mod Behind
+pub mod Events
+pub mod Programs
+pub mod Joining
+pub mod Runs
+pub mod Frames
+pub mod Stopping
+pub mod Listed
+pub mod Told
+pub mod Visible
+pub mod Outermost
+pub mod PutStops
+pub mod ProgramPlaces
+pub mod ImageTruthTables
+pub mod Naming
+pub mod Markers
+pub mod Carried
+pub mod Timed
+pub mod StopAddresses
+pub mod Logs
+pub mod Reaching
+pub mod Shadowed
+pub mod Whole
+pub mod RecoveredRows
+pub mod Recipes
+pub mod Recovered
+pub mod Truth
+pub mod Noted
+pub mod PassesTruthWords
+pub mod Nodes
+pub mod Coming

@@ -1,0 +1,26 @@
+use Rattle.std.proofs.Common.{refl}
+use Rattle.graph_homes.specs.Homed.{homed_view}
+use Rattle.image_build.proofs.Rows.{shown_evident, shown_named, shown_recovered, shown_written}
+use Rattle.image_build.proofs.Borne.{borne_out_by}
+use Rattle.image_build.proofs.telling.verdicts_on.Goals as goal
+
+pub returns-then-is_plain-clause-borne_out : goal.returns-then-is_plain-clause-borne_out
+returns-then-is_plain-clause-borne_out c =
+    let h = homed_view c.args.homed.now in
+    let rows = c.in_ok-shown.shown.items in
+    let told = c.in_ok-shown.ensures in
+    record {
+      flow = c.args.homed.now.unit.flow;
+      steps = refl;
+      assignments = refl;
+      home = c.requires c.if-is_plain.true rows told.visible;
+      recovered = shown_recovered rows told.shown h;
+      named = shown_named rows told.shown h.unit.log;
+      written = shown_written rows told.shown h;
+      evident = shown_evident rows told.shown h.unit.log c.args.homed.now.unit.flow h;
+    }
+
+pub returns-clause-borne_out : goal.returns-clause-borne_out
+returns-clause-borne_out c =
+    let told = c.verdicts.ensures in
+    borne_out_by (homed_view c.args.homed.now) c.args.homed.now.unit.flow refl refl c.verdicts.result told.home told.recovered told.named told.written told.evident

@@ -1,0 +1,25 @@
+-- What comes of a program behind passes.
+use Rattle.std.specs.Prelude.{◌≡◌, ℕ, List}
+use Rattle.c_tree.specs.Programs.{ProgramTree}
+use Rattle.debug_records.specs.declared.change.PassName.{PassName}
+use Rattle.graph_core.specs.Graphs.{UnitForm}
+use Rattle.home_assign.specs.Changes.{HaveChanges}
+use Rattle.graph_homes.specs.Homed.{HomedForm}
+use Rattle.pass_law.specs.Keeps.{Keeps}
+use Rattle.pass_law.specs.Leading.{Lead}
+use Rattle.graph_build_laws.specs.Built.{IsBuilt}
+
+module _ {P : Type 0} (named : P → PassName) (steps : P → UnitForm → UnitForm → Type 0) (passes : List P) (names : List (List ℕ)) (p : ProgramTree) where
+  -- A UNIT COMES OF A PROGRAM behind passes: the names lead to it from one that is built of the program, each by a step of the first pass of that name; and it keeps what that one does.
+  pub record ComesOf (u : UnitForm) : Type 0 where
+    pub first : UnitForm
+    pub built : IsBuilt p first
+    pub led : Lead named steps passes names first u
+    pub keeps : Keeps first u
+
+  -- A UNIT WITH HOMES COMES OF A PROGRAM behind passes: but for its log it is a unit that does, and its log is that one's and behind it the changes of registers that are shared.
+  pub record ComesHomed (h : HomedForm) : Type 0 where
+    pub unit : UnitForm
+    pub comes : ComesOf unit
+    pub same : h.unit ≡ record unit { log = h.unit.log }
+    pub changes : HaveChanges unit h

@@ -1,0 +1,12 @@
+pub mod Shown
+pub mod Evidence
+pub mod Tables
+pub mod Made
+pub mod Compiled
+pub mod ProgramImageShown
+pub mod Behind
+pub mod Sources
+pub mod Truthful
+pub mod Meeting
+pub mod Kept
+pub mod Recovered

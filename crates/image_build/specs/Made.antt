@@ -1,0 +1,80 @@
+-- What an image is made of.
+use Rattle.std.specs.Prelude.{◌≡◌, ◌++◌, List, length, map}
+use Rattle.debug_records.specs.declared.mode.Mode.{Mode}
+use Rattle.debug_records.specs.declared.mode.Mode.TheVariants.{Registers, Slots}
+use Rattle.places.specs.declared.flow.FlowTable.{FlowTable}
+use Rattle.places.specs.declared.table.PlaceRow.{PlaceRow}
+use Rattle.c_tree.specs.Programs.{ProgramTree}
+use Rattle.c_flow.specs.Rows.{row_view, rows_of_program}
+use Rattle.graph_core.specs.Validity.{IsValid}
+use Rattle.graph_homes.specs.Homed.{HaveHomes, HomedForm}
+use Rattle.home_assign.specs.Rule.{HaveHomesApart, HaveRegisters, HaveSlots}
+use Rattle.rv_emit_tables.specs.Emitted.{EmittedForm}
+use Rattle.rv_emit_runs.specs.Told.{AreCountable}
+use Rattle.rv_emit.specs.Emits.{Emits}
+use Rattle.currency.specs.declared.verdict.PlaceVerdict.{PlaceVerdict}
+use Rattle.currency.specs.Evident.{AreEvident}
+use Rattle.currency.specs.Named.{AreNamed}
+use Rattle.currency.specs.Sound.{AreHome, AreRecovered}
+use Rattle.currency.specs.Written.{AreWritten}
+use Rattle.image_form.specs.Form.{Form}
+use Rattle.image_form.specs.Numbers.{row_numbers}
+use Rattle.image_form.specs.declared.verdicts.VisibleRow.{VisibleRow}
+use Rattle.image_build_tables.specs.Spans.{code_span, span}
+use Rattle.image_build_tables.specs.Storages.{storages_of}
+use Rattle.image_build_tables.specs.Variables.{declared_names, pass_names, storage}
+use Rattle.image_build_tables.specs.Places.{address, addresses_of}
+use Rattle.image_build_tables.specs.Rows.{AreNodesOf, AreRowsOf, telling_of}
+use Rattle.image_build_tables.specs.Tables.{change_record}
+use Rattle.image_build.specs.Evidence.{AreEvidentIn}
+
+-- Verdicts are borne out by a unit with homes: where one says that a home shows a variable, or gives a recipe for it, that is so on all paths; the change that one names is in the log, and what
+-- one says to write a home does so, and hides the variable.
+pub record AreBorneOut (h : HomedForm) (told : List PlaceVerdict) : Type 0 where
+  pub flow : FlowTable
+  pub steps : flow.steps.items ≡ h.unit.steps
+  pub assignments : flow.assignments.items ≡ h.unit.assignments
+  pub home : AreHome h told
+  pub recovered : AreRecovered h told
+  pub named : AreNamed h.unit.log told
+  pub written : AreWritten h told
+  pub evident : AreEvident h.unit.log flow h told
+
+-- The rows of an image say what verdicts say that are borne out, with the nodes of their recipes and with the addresses of what writes homes: they stand for the
+-- same numbers as rows that say so; and there are no other nodes.
+pub record HasRowsOf (h : HomedForm) (e : EmittedForm) (places : List PlaceRow) (m : Form) : Type 0 where
+  pub told : List PlaceVerdict
+  pub borne_out : AreBorneOut h told
+  pub rows : List VisibleRow
+  pub say : AreRowsOf (telling_of h places e) m.nodes told rows
+  pub needed : AreNodesOf (telling_of h places e) m.nodes told
+  pub same : map row_numbers m.rows ≡ map row_numbers rows
+
+-- A UNIT HAS HOMES OF A MODE: it is valid, each of its names has a home by the rule of the mode, and names that interfere have homes apart.
+pub record IsHomed (mode : Mode) (h : HomedForm) : Type 0 where
+  pub valid : IsValid h.unit
+  pub homes : HaveHomes h
+  pub mode_is : h.mode ≡ mode
+  pub slots : mode ≡ Slots → HaveSlots h
+  pub registers : mode ≡ Registers → HaveRegisters h
+  pub apart : HaveHomesApart h
+
+-- AN IMAGE IS MADE OF A UNIT WITH HOMES, of a program. Its words with their owners, and its initial bytes, are the code of the unit, which does what the unit does over its homes; each function lies where its code does, with its
+-- frame; each variable is kept where the code has it; each place has the address of its stop, and an entry that of its function; the changes are the unit's, and the names those of the program
+-- and of the passes of the changes; the rows say what is borne out by the unit; and what a row says to hide a variable is evident in the words of the code, where 32 bits count the instructions of functions.
+pub record IsMadeOf (p : ProgramTree) (h : HomedForm) (m : Form) : Type 0 where
+  pub emitted : EmittedForm
+  pub emits : Emits h emitted
+  pub mode : m.mode ≡ h.mode
+  pub code : m.code ≡ emitted.code
+  pub owners : m.owners ≡ emitted.owners
+  pub initial : m.initial ≡ emitted.initial
+  pub spans : map span m.functions ≡ map code_span emitted.functions
+  pub storages : map storage m.variables ≡ storages_of h emitted (length m.variables)
+  pub places : List PlaceRow
+  pub places_are : map row_view places ≡ rows_of_program p
+  pub addresses : map address m.places ≡ addresses_of emitted.functions emitted.stops places
+  pub changes : m.changes ≡ map change_record h.unit.log
+  pub names : m.names ≡ declared_names p ++ pass_names h.unit.log
+  pub rows : HasRowsOf h emitted places m
+  pub evident : AreCountable h → AreEvidentIn h emits.code.arrangement emitted rows.borne_out.flow rows.rows

@@ -1,0 +1,92 @@
+//! From a program to what is to be its image, step by step.
+
+ghost use Rattle.std.specs.Prelude.{◌≡◌, ◌<◌, ◌^◌, [], IfNone, IfOk, IfSome, length, map, true};
+ghost use Rattle.c_tree.specs.Programs.{program_view};
+ghost use Rattle.c_flow.specs.Tables.{Fits32};
+ghost use Rattle.c_type_laws.specs.Laws.{IsWellFormed};
+ghost use Rattle.c_type_laws.specs.Names.{HasNames};
+ghost use Rattle.c_type_laws.specs.Spots.{HasSpots};
+ghost use Rattle.debug_records.specs.Change.{letters};
+ghost use Rattle.graph_core.specs.Graphs.{unit_view};
+ghost use Rattle.graph_core.specs.Validity.{IsValid};
+ghost use Rattle.graph_homes.specs.Homed.{HaveHomes, homed_view};
+ghost use Rattle.image_form.specs.Form.{form};
+ghost use Rattle.image_form.specs.Rules.{IsImage};
+ghost use Rattle.image_build.specs.Behind.{ComesOf};
+ghost use Rattle.image_build.specs.Made.{IsMadeOf};
+ghost use Rattle.image_build.specs.ProgramImageShown.{IsPlainUnit, ShowsAll};
+ghost use Rattle.image_build.specs.Tables.{HasShapeOf, HasTablesOf};
+ghost use Rattle.graph_build_laws.specs.Built.{IsBuilt};
+
+use crate::telling::verdicts_on;
+use c_flow::place_table;
+use c_tree::Program;
+use debug_records::PassName;
+use graph_build_laws::program_unit;
+use graph_core::Unit;
+use graph_homes::HomedUnit;
+use image_build_tables::{Parts, image_of};
+use image_form::Image;
+use image_form_drafts::tables_fit;
+use pass_law::{UnitPass, run_passes};
+use rv_emit::emit;
+use std::alloc::{AllocError, Global};
+
+/// The unit of a program, behind the passes of these names, of which each in its turn made a step. None where a pass makes no unit.
+pub fn unit_of(
+    alloc: Global,
+    program: &Program,
+    passes: &[Box<dyn UnitPass>],
+    names: &[PassName],
+) -> Result<Option<Unit>, AllocError>
+    requires fits { Fits32 (program_view program.now) }
+    requires laws { IsWellFormed (program_view program.now) }
+    ensures valid { IfOk result (λ o. IfSome o (λ u. IsValid (unit_view u))) }
+    ensures shape { IfOk result (λ o. IfSome o (λ u. HasShapeOf (program_view program.now) (unit_view u))) }
+    ensures comes { IfOk result (λ o. IfSome o (λ u. ComesOf (λ p. named p) (λ p. steps p) passes.now (map letters names.now) (program_view program.now) (unit_view u))) }
+    ensures total { names.now ≡ [] → IfOk result (λ o. IfNone o ⊥) }
+    ensures built { names.now ≡ [] → IfOk result (λ o. IfSome o (λ u. IsBuilt (program_view program.now) (unit_view u))) }
+{
+    let unit = program_unit(alloc, program)?;
+    run_passes(alloc, passes, names, unit)
+}
+
+/// What is to be the image of a program with a homed unit. None where some variable has no verdict. Of a unit that is as it was built and whose names have slots of their own it is an image, and shows
+/// every variable.
+pub fn draft_of(
+    alloc: Global,
+    program: &Program,
+    homed: &HomedUnit,
+    is_plain: bool,
+) -> Result<Option<Image>, AllocError>
+    requires fits { Fits32 (program_view program.now) }
+    requires laws { IsWellFormed (program_view program.now) }
+    requires names { HasNames (program_view program.now) }
+    requires spots { HasSpots (program_view program.now) }
+    requires valid { IsValid (homed_view homed.now).unit }
+    requires homes { HaveHomes (homed_view homed.now) }
+    requires shape { HasShapeOf (program_view program.now) (homed_view homed.now).unit }
+    requires plain { is_plain ≡ true → IsPlainUnit (program_view program.now) (homed_view homed.now) }
+    ensures owners { IfOk result (λ o. IfSome o (λ m. length m.owners.items ≡ length m.code.items)) }
+    ensures tables { IfOk result (λ o. IfSome o (λ m. HasTablesOf (program_view program.now) (form m))) }
+    ensures made { IfOk result (λ o. IfSome o (λ m. length m.nodes.items < 2 ^ 32 → IsMadeOf (program_view program.now) (homed_view homed.now) (form m))) }
+    ensures image { is_plain ≡ true → IfOk result (λ o. IfSome o (λ m. IsImage (form m))) }
+    ensures shows { is_plain ≡ true → IfOk result (λ o. IfSome o (λ m. ShowsAll (form m))) }
+    ensures total { is_plain ≡ true → IfOk result (λ o. IfNone o ⊥) }
+{
+    let places = place_table(alloc, program)?;
+    let Some(verdicts) = verdicts_on(alloc, homed, &places, is_plain)? else {
+        return Ok(None);
+    };
+    let emitted = emit(alloc, homed)?;
+    let parts = Parts {
+        program,
+        places: &places,
+        flow: &homed.unit.flow,
+        homed,
+        verdicts: &verdicts,
+    };
+    let image = image_of(alloc, &parts, emitted)?;
+    tables_fit(&image);
+    Ok(Some(image))
+}

@@ -1,0 +1,8 @@
+mod Putting
+mod Growing
+mod Counting
+mod Lining
+mod Ahead
+pub mod Kept
+mod Belonging
+mod Needed

@@ -1,0 +1,42 @@
+-- The nodes of rows are those that their recipes need.
+use Rattle.std.proofs.Common.{◌≡◌, ◌<◌, ◌≤◌, ◌⊎◌, ◌^◌, inl, inr, ℕ, List, ◌∷◌, Option, Some, None, length, refl, subst, arith}
+use Rattle.graph_core.specs.declared.recipe.Recipe as declared-recipe
+use Rattle.graph_core.specs.Graphs.{recipe_view}
+use Rattle.graph_core.specs.Paths.{Among, front, behind}
+use Rattle.currency.specs.declared.verdict.Verdict as told-verdict
+use Rattle.currency.specs.declared.verdict.Verdict.TheVariants as told
+use Rattle.currency.specs.declared.verdict.PlaceVerdict.{PlaceVerdict}
+use Rattle.image_form.specs.declared.recipes.Node.{Node}
+use Rattle.image_build_tables.specs.Nodes.{Begin, Naming}
+use Rattle.image_build_tables.specs.Rows.{AreNewBy, AreNewIn, AreNodesOf, IsNodeToldBy, Telling, naming_at}
+use Rattle.image_build_tables.proofs.Ahead.{behind_first}
+use Rattle.image_build_tables.proofs.Belonging.{below_or}
+use Rattle.image_build_tables.proofs.Growing.{begin_fewer, node_kept}
+
+-- what is ahead of a list behind its first element is ahead of it
+pub among_behind : (ahead : List PlaceVerdict) (w : PlaceVerdict) (all : List PlaceVerdict) → w ∷ behind_first ahead ≡ ahead → ((x : PlaceVerdict) → Among x ahead → Among x all) → (x : PlaceVerdict) → Among x (behind_first ahead) → Among x all
+among_behind ahead w all whole known x is = known x (subst (Among x) whole (behind is))
+
+module _ (t : Telling) (nodes grown : List Node) (w : PlaceVerdict) (all : List PlaceVerdict) (among : Among w all) (k : ℕ) (after : length nodes ≤ k) (within : k < length grown) where
+  by_naming : (r : declared-recipe.Recipe) (change : ℕ) → w.verdict ≡ told.Recovered r change → (o : Option Naming) → naming_at t w.place.0 ≡ o → AreNewIn nodes grown o (recipe_view r) → IsNodeToldBy t grown all k
+  by_naming r change is None none new = absurd (omega (arith, new, after, within))
+  by_naming r change is (Some n) some new =
+      let found = new k after within in
+      record { row = w; recipe = r; change = change; part = found.0; naming = n; among = among; verdict = is; naming_is = some; of = found.1; node = found.2 }
+
+  by_verdict : (v : told-verdict.Verdict) → w.verdict ≡ v → AreNewBy t nodes grown w.place.0 v → IsNodeToldBy t grown all k
+  by_verdict told.Home is new = absurd (omega (arith, new, after, within))
+  by_verdict (told.Recovered r change) is new = by_naming r change is (naming_at t w.place.0) refl new
+  by_verdict (told.Noncurrent change start writer) is new = absurd (omega (arith, new, after, within))
+  by_verdict (told.Nonresident change start writer) is new = absurd (omega (arith, new, after, within))
+
+-- so it is when the nodes of a verdict come to them
+pub nodes_step : (t : Telling) (nodes grown : List Node) (ahead : List PlaceVerdict) (w : PlaceVerdict) (all : List PlaceVerdict) → w ∷ behind_first ahead ≡ ahead → Begin nodes grown → ((x : PlaceVerdict) → Among x ahead → Among x all)
+    → (length grown < 2 ^ 32 → AreNewBy t nodes grown w.place.0 w.verdict) → (length nodes < 2 ^ 32 → AreNodesOf t nodes all) → length grown < 2 ^ 32 → AreNodesOf t grown all
+nodes_step t nodes grown ahead w all whole begin known new told few k within = by (below_or k (length nodes))
+  where
+    by : (k < length nodes) ⊎ (length nodes ≤ k) → IsNodeToldBy t grown all k
+    by (inl before) =
+        let was = told (omega (arith, few, begin_fewer nodes grown begin)) k before in
+        record { row = was.row; recipe = was.recipe; change = was.change; part = was.part; naming = was.naming; among = was.among; verdict = was.verdict; naming_is = was.naming_is; of = was.of; node = node_kept nodes grown was.naming was.part k begin was.node }
+    by (inr after) = by_verdict t nodes grown w all (known w (subst (Among w) whole front)) k after within w.verdict refl (new few)

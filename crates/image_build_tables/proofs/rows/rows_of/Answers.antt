@@ -1,0 +1,27 @@
+use Rattle.std.proofs.Common.{◌∙◌, subst}
+use Rattle.graph_core.specs.Paths.{Among, front}
+use Rattle.image_build_tables.proofs.Ahead.{whole}
+use Rattle.image_build_tables.specs.Rows.{telling_view}
+use Rattle.image_build_tables.proofs.Needed.{among_behind, nodes_step}
+use Rattle.image_build_tables.proofs.Lining.{rows_end, rows_step, sights_step}
+use Rattle.image_build_tables.proofs.rows.rows_of.Goals as goal
+
+pub loop-left-preserved : goal.loop-left-preserved
+loop-left-preserved c =
+    let l = c.loop-left in
+    let w = c.told-item.result in
+    let v = c.in_ok-verdict.verdict in
+    let whole_left = whole l.left.now w c.in-len1-up.len_at_least c.told-item.is in
+    let pushed = c.push.new.self.items in
+    record {
+      ahead = among_behind l.left.now w c.args.verdicts.now whole_left l.invariant.ahead;
+      nodes = nodes_step (telling_view c.args.telling) l.nodes.nodes.items c.verdict_of.new.nodes.nodes.items l.left.now w c.args.verdicts.now whole_left c.in_ok-verdict.ensures.grown l.invariant.ahead
+          c.in_ok-verdict.ensures.fresh l.invariant.nodes;
+      bare = λ shown. c.in_ok-verdict.ensures.home (shown w (l.invariant.ahead w (subst (Among w) whole_left front))) ∙ l.invariant.bare shown;
+      sights = sights_step l.left.now w v l.rows.items pushed c.args.verdicts.now whole_left c.in_ok-push.ensures.items l.invariant.sights;
+      rows = rows_step (telling_view c.args.telling) l.nodes.nodes.items c.verdict_of.new.nodes.nodes.items l.left.now w v l.rows.items pushed c.args.verdicts.now whole_left c.in_ok-push.ensures.items
+          c.in_ok-verdict.ensures.grown c.in_ok-verdict.ensures.verdict l.invariant.rows;
+    }
+
+pub returns-clause-rows : goal.returns-clause-rows
+returns-clause-rows c = rows_end (telling_view c.args.telling) c.loop-left.nodes.nodes.items c.loop-left.rows.items c.loop-left.left.now c.args.verdicts.now c.in_default.len_below c.loop-left.invariant.rows

@@ -1,7 +1,0 @@
-use Rattle.std.proofs.Common.{◌≡◌, ◌++◌, drop, map}
-use Rattle.c_tree.specs.Programs.{function_view}
-use Rattle.image_declarations.specs.Variables.{owned_from}
-use Rattle.image_declarations.proofs.variables.owners_of.Given as goal
-
-abbrev pub invariant-loop-number : goal.invariant-loop-number
-invariant-loop-number l = l.owners.items ++ owned_from l.number (map function_view (drop l.number l.functions)) ≡ owned_from 0 (map function_view l.functions)

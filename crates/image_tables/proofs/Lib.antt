@@ -1,7 +1,0 @@
-mod Growing
-mod Counting
-mod Lining
-mod Ahead
-pub mod Kept
-mod Belonging
-mod Needed

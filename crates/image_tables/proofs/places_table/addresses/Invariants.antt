@@ -1,9 +1,0 @@
-use Rattle.std.proofs.Common.{◌≡◌, length}
-use Rattle.image_tables.specs.Places.{put_stops, stop_addresses}
-use Rattle.image_tables.proofs.places_table.addresses.Given as goal
-
-abbrev pub invariant-loop-left : goal.invariant-loop-left
-invariant-loop-left l = put_stops l.left l.addresses.items ≡ stop_addresses l.stops l.count
-
-abbrev pub decreases-loop-left : goal.decreases-loop-left
-decreases-loop-left l = length l.left

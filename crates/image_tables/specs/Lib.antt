@@ -1,4 +1,0 @@
-pub mod Tables
-pub mod Places
-pub mod Nodes
-pub mod Rows

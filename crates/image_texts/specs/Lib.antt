@@ -1,5 +1,0 @@
-pub mod Rows
-pub mod Standing
-pub mod Texts
-pub mod Units
-pub mod Variables

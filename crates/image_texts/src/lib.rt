@@ -1,2 +1,0 @@
-//! The text that a stop shows of a value is that of the value which the program's variable holds.
-#![tactic(auto)]

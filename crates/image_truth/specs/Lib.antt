@@ -1,2 +1,0 @@
-pub mod Truthful
-pub mod Meeting

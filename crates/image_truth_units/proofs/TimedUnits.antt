@@ -1,0 +1,62 @@
+-- The unit of a well-formed program keeps what bounds how long its places take.
+use Rattle.std.proofs.Common.{◌≡◌, ◌≢◌, ℕ, zero, suc, ◌+◌, Bool, Some, None, List, [], ◌∷◌, ◌++◌, slice_get, sym, subst, ◌==◌}
+use Rattle.std.specs.List.{AllByRecursion}
+use Rattle.c_tree.specs.Programs.{TypedFunctionTree, ProgramTree}
+use Rattle.c_type_laws.specs.Laws.{IsWellFormed}
+use Rattle.graph_core.specs.Graphs.{Graph, UnitForm}
+use Rattle.graph_core.specs.Validity.{AreAllDifferent, IsGraph, markers_of, markers_of_blocks}
+use Rattle.graph_build.specs.Units.{IsUnitOf, graph_of, graphs_from}
+use Rattle.graph_build_laws.proofs.Accepted.{facts_of}
+use Rattle.graph_build_laws.proofs.Whole.{valid}
+use Rattle.image_truth_units.specs.Timing.{KeepsTime, KeepTime}
+use Rattle.image_truth_units.proofs.TimedFunctions.{graph_keeps_time}
+
+none_is : {A : Type 0} {a : A} → None ≡ Some a → ⊥
+none_is e = cc
+
+some_same : {A : Type 0} {a b : A} → Some a ≡ Some b → a ≡ b
+some_same e = cc
+
+-- a graph is that of a function
+record OfFunction (p : ProgramTree) (g : Graph) : Type 0 where
+  function : TypedFunctionTree
+  is_main : Bool
+  same : graph_of p function is_main ≡ g
+
+of_function : (p : ProgramTree) (m : ℕ) (all : List TypedFunctionTree) (k : ℕ) (g : Graph) → slice_get (graphs_from p m all) k ≡ Some g → OfFunction p g
+of_function p m [] k g e = absurd (none_is e)
+of_function p m (f ∷ all) zero g e = record { function = f; is_main = m == p.main; same = some_same e }
+of_function p m (f ∷ all) (suc k) g e = of_function p (m + 1) all k g e
+
+-- what is so of all is so of one
+one_of_all : {A : Type 0} (P : A → Type 0) (all : List A) (k : ℕ) (a : A) → AllByRecursion P all → slice_get all k ≡ Some a → P a
+one_of_all P [] k a h e = absurd (none_is e)
+one_of_all P (x ∷ all) zero a h e = subst P (some_same e) h.0
+one_of_all P (x ∷ all) (suc k) a h e = one_of_all P all k a h.1 e
+
+all_before : (P : ℕ → Type 0) (xs ys : List ℕ) → AllByRecursion P (xs ++ ys) → AllByRecursion P xs
+all_before P [] ys h = tt
+all_before P (x ∷ xs) ys h = (h.0, all_before P xs ys h.1)
+
+-- numbers that are all different are so among fewer
+different_before : (xs ys : List ℕ) → AreAllDifferent (xs ++ ys) → AreAllDifferent xs
+different_before [] ys h = tt
+different_before (x ∷ xs) ys h = (all_before (λ q. x ≢ q) xs ys h.0, different_before xs ys h.1)
+
+different_behind : (xs ys : List ℕ) → AreAllDifferent (xs ++ ys) → AreAllDifferent ys
+different_behind [] ys h = h
+different_behind (x ∷ xs) ys h = different_behind xs ys h.1
+
+different_in : (all : List Graph) (k : ℕ) (g : Graph) → AreAllDifferent (markers_of all) → slice_get all k ≡ Some g → AreAllDifferent (markers_of_blocks g.blocks)
+different_in [] k g h e = absurd (none_is e)
+different_in (d ∷ all) zero g h e = subst (λ (x : Graph). AreAllDifferent (markers_of_blocks x.blocks)) (some_same e) (different_before (markers_of_blocks d.blocks) (markers_of all) h)
+different_in (d ∷ all) (suc k) g h e = different_in all k g (different_behind (markers_of_blocks d.blocks) (markers_of all) h) e
+
+-- Each graph of a well-formed program's unit keeps what bounds how long its places take.
+pub keep_time : (p : ProgramTree) (u : UnitForm) → IsWellFormed p → IsUnitOf p u → KeepTime u
+keep_time p u well is k g got =
+    let x = of_function p 0 p.functions k g (subst (λ (l : List Graph). slice_get l k ≡ Some g) is.graphs got) in
+    let whole = valid p u well is in
+    let own = subst (λ (d : Graph). IsGraph u d) (sym x.same) (one_of_all (IsGraph u) u.graphs k g whole.graphs got) in
+    let apart = subst (λ (d : Graph). AreAllDifferent (markers_of_blocks d.blocks)) (sym x.same) (different_in u.graphs k g whole.once got) in
+    subst (λ (d : Graph). KeepsTime d) x.same (graph_keeps_time p u (facts_of p well) x.function x.is_main own apart)

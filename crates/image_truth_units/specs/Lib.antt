@@ -1,0 +1,11 @@
+pub mod Rows
+pub mod Standing
+pub mod Texts
+pub mod Units
+pub mod Variables
+pub mod Keeping
+pub mod Tables
+pub mod Lying
+pub mod ImageRulesUnits
+pub mod Timing
+pub mod Notes

@@ -1,0 +1,2 @@
+//! What is proved of the unit and the tables of each accepted program.
+#![tactic(auto)]

@@ -1,4 +1,0 @@
-pub mod Owners
-pub mod Picked
-pub mod Whole
-pub mod PlacesOf

@@ -1,2 +1,0 @@
-//! The unit of a program has the program's variables.
-#![tactic(auto)]

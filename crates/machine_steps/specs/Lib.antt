@@ -1,4 +1,0 @@
-pub mod Holding
-pub mod Doing
-pub mod Programs
-pub mod Points

@@ -1,2 +1,0 @@
-//! What stretches of code do on the machine, as proofs about code need it.
-#![tactic(auto)]

@@ -1,5 +1,0 @@
-use Rattle.middle_tests.specs.Passing.{HasShape}
-use Rattle.middle_tests.proofs.solve_tests.clear_bits.Given as goal
-
-abbrev pub invariant-loop-bit : goal.invariant-loop-bit
-invariant-loop-bit l = HasShape 2 70 l.rows

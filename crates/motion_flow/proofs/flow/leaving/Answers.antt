@@ -1,6 +1,0 @@
-use Rattle.std.proofs.Common.{ap, ◌∙◌, ◌||◌}
-use Rattle.motion_points.specs.Words.{has}
-use Rattle.motion_flow.proofs.flow.leaving.Goals as goal
-
-pub returns : goal.returns
-returns c = λ k. c.either.ensures k ∙ ap (λ b. has c.args.passage.made k || b) (c.both-kept.ensures k)

@@ -1,9 +1,0 @@
-pub mod Lists
-pub mod Doings
-pub mod Histories
-pub mod Ways
-pub mod Standing
-pub mod Ahead
-pub mod Making
-pub mod Marked
-pub mod Moved

@@ -1,0 +1,2 @@
+pub mod MovedRuns
+pub mod Made

@@ -1,0 +1,2 @@
+//! That lazy code motion keeps what a unit does.
+#![tactic(auto)]

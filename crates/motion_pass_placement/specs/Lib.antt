@@ -1,0 +1,5 @@
+pub mod Fates
+pub mod Columns
+pub mod Placed
+pub mod Moving
+pub mod Moves

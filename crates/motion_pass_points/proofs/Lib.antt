@@ -1,0 +1,9 @@
+pub mod Keys
+pub mod Unsafe
+pub mod Wanted
+pub mod Bits
+pub mod MotionPointsKeys
+pub mod Numbering
+pub mod Passing
+pub mod Telling
+pub mod Marking

@@ -1,0 +1,6 @@
+pub mod Computing
+pub mod Ways
+pub mod Words
+pub mod MotionPointsComputing
+pub mod Numbers
+pub mod Columns

@@ -1,0 +1,13 @@
+use Rattle.std.proofs.Common.{◌≡◌, List, ℕ, length}
+use Rattle.motion_pass_problems.specs.Flowing.{AreBrought, Grows}
+use Rattle.motion_pass_problems.proofs.flow.Flow.round.Given as goal
+
+abbrev pub invariant-loop-ahead : goal.invariant-loop-ahead
+invariant-loop-ahead l = record {
+  brought : (begins : List ℕ) → AreBrought l.self begins l.fn.values → AreBrought l.self begins l.values;
+  grows : Grows l.fn.values l.values;
+  size : length l.values ≡ length l.fn.values;
+}
+
+abbrev pub decreases-loop-ahead : goal.decreases-loop-ahead
+decreases-loop-ahead l = length l.ahead

@@ -1,0 +1,26 @@
+use Rattle.std.proofs.Common.{◌≡◌, ◌<◌, ℕ, length, subst, ◌∙◌, arith}
+use Rattle.std.specs.Prelude.{slice_index_or}
+use Rattle.std.proofs.lemmas.List.{length-map}
+use Rattle.graph_core.specs.Graphs.{block_view}
+use Rattle.motion_pass_problems.specs.Flowing.{no_passage}
+use Rattle.motion_pass_problems.specs.Problems.{IsUsedPassage, local_of}
+use Rattle.motion_pass_problems.proofs.Pushed.{count_on, each_on}
+use Rattle.motion_pass_problems.proofs.problems.Problems.used_passages.Goals as goal
+
+pub loop-number-preserved : goal.loop-number-preserved
+loop-number-preserved c =
+    let out = c.loop-number.passages.items in
+    let number = c.loop-number.number in
+    record {
+      count = count_on out _ c.used_passage-passage.result number c.in_ok-push.ensures.items c.loop-number.invariant.count;
+      each = each_on (λ n passage. IsUsedPassage (local_of c.args.self.now.locals.now n) (slice_index_or c.args.past_starts.now n 0) (slice_index_or c.args.past_ends.now n 0) passage) out _ c.used_passage-passage.result no_passage number c.in_ok-push.ensures.items c.loop-number.invariant.count
+          (subst (λ x. IsUsedPassage x (slice_index_or c.args.past_starts.now number 0) (slice_index_or c.args.past_ends.now number 0) c.used_passage-passage.result) c.local_at-local.ensures (subst (λ w. IsUsedPassage c.local_at-local.result (slice_index_or c.args.past_starts.now number 0) w c.used_passage-passage.result) c.word_of-past_end.ensures (subst (λ w. IsUsedPassage c.local_at-local.result w c.word_of-past_end.result c.used_passage-passage.result) c.word_of-past_start.ensures c.used_passage-passage.ensures))) c.loop-number.invariant.each;
+    }
+
+pub returns : goal.returns
+returns c =
+    let count = length-map c.args.self.now.blocks.now block_view in
+    record {
+      size = omega (arith, c.loop-number.invariant.count, c.loop-number-test.false, c.loop-number.auto.number-end, count);
+      each = λ n lt. c.loop-number.invariant.each n (omega (arith, lt, c.loop-number-test.false, count));
+    }

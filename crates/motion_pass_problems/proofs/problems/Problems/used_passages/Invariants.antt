@@ -1,0 +1,10 @@
+use Rattle.std.proofs.Common.{◌≡◌, ◌<◌, ℕ, length}
+use Rattle.std.specs.Prelude.{slice_index_or}
+use Rattle.motion_pass_problems.specs.Problems.{IsUsedPassage, local_of, passage_of}
+use Rattle.motion_pass_problems.proofs.problems.Problems.used_passages.Given as goal
+
+abbrev pub invariant-loop-number : goal.invariant-loop-number
+invariant-loop-number l = record {
+  count : length l.passages.items ≡ l.number;
+  each : (n : ℕ) → n < l.number → IsUsedPassage (local_of l.self.locals.now n) (slice_index_or l.past_starts n 0) (slice_index_or l.past_ends n 0) (passage_of l.passages.items n);
+}

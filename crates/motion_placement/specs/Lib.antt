@@ -1,3 +1,0 @@
-pub mod Fates
-pub mod Columns
-pub mod Placed

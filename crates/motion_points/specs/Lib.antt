@@ -1,4 +1,0 @@
-pub mod Words
-pub mod Computing
-pub mod Numbers
-pub mod Columns

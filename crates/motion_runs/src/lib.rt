@@ -1,2 +1,0 @@
-//! That lazy code motion keeps what can be seen of the run of a unit. There is no code here, only lemmas.
-#![tactic(auto)]

@@ -1,5 +1,0 @@
-pub mod Table
-pub mod Clashes
-pub mod Joins
-pub mod Joining
-pub mod Registers

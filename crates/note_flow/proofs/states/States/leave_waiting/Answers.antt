@@ -1,4 +1,0 @@
-use Rattle.note_flow.proofs.states.States.leave_waiting.Goals as goal
-
-pub returns : goal.returns
-returns c = c.in_ok-leave.ensures

@@ -1,5 +1,0 @@
-use Rattle.note_flow.specs.Chains.{AreFull, AreLinked}
-use Rattle.note_flow.proofs.states.States.round.Given as goal
-
-abbrev pub invariant-loop-chain : goal.invariant-loop-chain
-invariant-loop-chain l = AreLinked l.function.graph.now.blocks.items l.chains → AreFull l.function l.fn.self → AreFull l.function l.self

@@ -1,5 +1,0 @@
-use Rattle.note_flow.proofs.Chaining.{nothing_pushed}
-use Rattle.note_flow.proofs.states.nothing.Goals as goal
-
-pub loop-preserved : goal.loop-preserved
-loop-preserved c = nothing_pushed c.loop.arrived.items c.push.new.self.items c.in_ok-push.ensures.items c.loop.invariant

@@ -1,7 +1,0 @@
-use Rattle.std.proofs.Common.{◌≡◌, ℕ, Some}
-use Rattle.std.specs.Prelude.{slice_get}
-use Rattle.note_state.specs.declared.state.State as declared-state
-use Rattle.note_flow.proofs.states.nothing.Given as goal
-
-abbrev pub invariant-loop : goal.invariant-loop
-invariant-loop l = (k : ℕ) (t : declared-state.State) → slice_get l.arrived.items k ≡ Some (Some t) → ⊥

@@ -1,6 +1,0 @@
-use Rattle.std.proofs.Common.{◌≡◌, ℕ, []}
-use Rattle.note_flow.specs.Found.{entries_of}
-use Rattle.note_flow.proofs.unshown.nothing.Given as goal
-
-abbrev pub invariant-loop : goal.invariant-loop
-invariant-loop l = (x : ℕ) → entries_of l.unshown.items x ≡ []

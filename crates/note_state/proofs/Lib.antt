@@ -1,5 +1,0 @@
-pub mod Steps
-pub mod Sourcing
-mod Losing
-mod Keeping
-pub mod Filling

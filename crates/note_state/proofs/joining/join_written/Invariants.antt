@@ -1,9 +1,0 @@
-use Rattle.std.proofs.Common.{◌≡◌, ℕ, Some, length}
-use Rattle.std.specs.Prelude.{slice_get}
-use Rattle.note_state.proofs.joining.join_written.Given as goal
-
-abbrev pub invariant-loop-k : goal.invariant-loop-k
-invariant-loop-k l = record {
-  size : length l.to ≡ length l.fn.to;
-  kept : (k y : ℕ) → slice_get l.fn.to k ≡ Some (Some y) → slice_get l.from k ≡ Some (Some y) → slice_get l.to k ≡ Some (Some y);
-}

@@ -1,9 +1,0 @@
-use Rattle.std.proofs.Common.{ap, sym}
-use Rattle.graph_core.specs.Graphs.{operand_view}
-use Rattle.numbered_homes.specs.Homes.{IsReadBy}
-use Rattle.numbered_homes.proofs.ReadNames.{each_of_name}
-use Rattle.numbered_homes.proofs.recipes.is_operand_reader.Goals as goal
-
-pub returns-in-Name : goal.returns-in-Name
-returns-in-Name c =
-    each_of_name (λ y. IsReadBy c.args.homes.now y c.args.scalar) c.in-Name.read.0 c.is_read_by.result c.is_read_by.ensures (operand_view c.args.operand) (ap operand_view (sym c.in-Name.is))

@@ -1,3 +1,0 @@
-pub mod Homes
-pub mod Numbers
-pub mod Numbered

@@ -1,0 +1,46 @@
+//! Cases of changes.
+
+ghost use Rattle.std.specs.Prelude.{◌≡◌, ◌<◌, ◌^◌, ◌++◌, IfOk, false, length, true};
+ghost use Rattle.debug_records.specs.Change.{changes};
+ghost use Rattle.std.specs.List.Sorted.{IsPermutation};
+ghost use Rattle.pass_law.specs.Cases.{logged};
+ghost use Rattle.pass_law.specs.Changes.{AreInOrder};
+
+use debug_records::{ChangeLog, Kind, PassName, Place, Var};
+use std::alloc::AllocError;
+
+/// A case in which a pass changes something. In order cases come by their places, and those of a place as they stand in the graph.
+#[derive(Clone, Copy, PartialEq, Eq, PartialOrd, Ord)]
+pub struct Case {
+    pub place: Place,
+    pub block: u32,
+    /// How many instructions stand before it in the block.
+    pub index: u32,
+    /// Which of the names that are read there it concerns, by number; 0 where it is no read.
+    pub operand: u32,
+    /// The variable that it concerns.
+    pub var: Var,
+}
+
+/// Puts the cases in order, and appends a change for each to the log. False, with nothing appended, where there are 2^31 of them or more.
+pub fn log_cases(
+    log: &mut ChangeLog,
+    pass: PassName,
+    kind: Kind,
+    cases: &mut [Case],
+) -> Result<bool, AllocError>
+    requires room { length (changes log.old) < 2 ^ 31 }
+    ensures logged { IfOk result (λ was. was ≡ true → changes log.new ≡ changes log.old ++ logged pass kind (length (changes log.old)) cases.new) }
+    ensures same { IfOk result (λ was. was ≡ true → IsPermutation cases.old cases.new) }
+    ensures in_order { IfOk result (λ was. was ≡ true → AreInOrder cases.new) }
+    ensures kept { IfOk result (λ was. was ≡ false → changes log.new ≡ changes log.old) }
+{
+    if cases.len() >= 0x8000_0000 {
+        return Ok(false);
+    }
+    cases.sort_unstable();
+    for case in &*cases {
+        log.push(pass, kind, case.place, case.var)?;
+    }
+    Ok(true)
+}

@@ -1,3 +1,0 @@
-pub mod HandedIn
-pub mod Kept
-pub mod Leading

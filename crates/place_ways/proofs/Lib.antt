@@ -1,5 +1,0 @@
-mod Coming
-mod Ending
-pub mod Points
-pub mod Scanning
-pub mod Searching

@@ -1,4 +1,0 @@
-use Rattle.removal_notes.proofs.recipes.+recipe_at.Given as goal
-
-abbrev pub decreases-recipe_at : goal.decreases-recipe_at
-decreases-recipe_at l = l.depth

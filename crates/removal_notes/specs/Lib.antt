@@ -1,5 +1,0 @@
-pub mod Idle
-pub mod Lost
-pub mod Said
-pub mod Sources
-pub mod Stale

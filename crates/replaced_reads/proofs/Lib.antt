@@ -1,3 +1,0 @@
-mod Instructions
-mod OfBlocks
-mod Operands

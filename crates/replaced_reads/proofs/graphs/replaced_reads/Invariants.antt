@@ -1,8 +1,0 @@
-use Rattle.std.proofs.Common.{map}
-use Rattle.graph_core.specs.Graphs.{graph_view}
-use Rattle.graph_edits.proofs.OfFunctions.{AreCasesBelow}
-use Rattle.replaced_reads.specs.Reads.{IsReplacedRead}
-use Rattle.replaced_reads.proofs.graphs.replaced_reads.Given as goal
-
-abbrev pub invariant-loop-number : goal.invariant-loop-number
-invariant-loop-number l = AreCasesBelow IsReplacedRead (map graph_view l.was) (map graph_view l.is) l.number l.cases.items

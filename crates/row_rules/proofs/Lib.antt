@@ -1,4 +1,0 @@
-mod Lists
-mod Ordered
-mod Owned
-pub mod Rules

@@ -1,0 +1,3 @@
+pub mod InParts
+pub mod Powers
+pub mod EmitInstructionsInParts

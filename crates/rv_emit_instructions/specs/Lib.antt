@@ -1,0 +1,7 @@
+pub mod Operations
+pub mod Calls
+pub mod Code
+pub mod Filling
+pub mod Memory
+pub mod Stops
+pub mod Words

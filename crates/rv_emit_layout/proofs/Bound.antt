@@ -1,0 +1,44 @@
+-- The code of a valid unit has few words.
+use Rattle.std.proofs.Common.{◌≤◌, ◌+◌, ◌*◌, List, [], ◌∷◌, length, arith}
+use Rattle.std.proofs.lemmas.List.{length-append}
+use Rattle.std.specs.List.{AllByRecursion}
+use Rattle.graph_core.specs.Graphs.{Instruction, Marker, Note, Move, Operate, Truncate, Same, Address, Load, Store, Zero, CopyWords, Call, Block, Graph, UnitForm}
+use Rattle.graph_core.specs.Validity.{IsGraph, IsValid, arguments_in, arguments_of, counts, instructions_of, markers_in, markers_of, markers_of_blocks, total}
+use Rattle.rv_emit_instructions.specs.Words.{most_words_of}
+use Rattle.rv_emit_sequence.specs.Words.{most_words_of_blocks}
+use Rattle.rv_emit_layout.specs.Words.{most_words_of_graphs}
+
+of_instructions : (is : List Instruction) → total most_words_of is ≤ 13 * total counts is + (3 * total arguments_in is + length (markers_in is))
+of_instructions [] = omega arith
+of_instructions (Marker p ∷ more) = omega (arith, of_instructions more)
+of_instructions (Note x v ∷ more) = omega (arith, of_instructions more)
+of_instructions (Move x a ∷ more) = omega (arith, of_instructions more)
+of_instructions (Operate x o a b ∷ more) = omega (arith, of_instructions more)
+of_instructions (Truncate x t a ∷ more) = omega (arith, of_instructions more)
+of_instructions (Same x a b ∷ more) = omega (arith, of_instructions more)
+of_instructions (Address x o ∷ more) = omega (arith, of_instructions more)
+of_instructions (Load x e l ∷ more) = omega (arith, of_instructions more)
+of_instructions (Store e l a ∷ more) = omega (arith, of_instructions more)
+of_instructions (Zero o w ∷ more) = omega (arith, of_instructions more)
+of_instructions (CopyWords o b w ∷ more) = omega (arith, of_instructions more)
+of_instructions (Call x f all ∷ more) = omega (arith, of_instructions more)
+
+of_blocks : (bs : List Block) → most_words_of_blocks bs
+    ≤ 13 * total (λ (b : Block). total counts b.instructions) bs + (3 * total (λ (b : Block). total arguments_in b.instructions) bs + (length (markers_of_blocks bs) + 9 * length bs))
+of_blocks [] = omega arith
+of_blocks (b ∷ more) = omega (arith, of_blocks more, of_instructions b.instructions, length-append (markers_in b.instructions) (markers_of_blocks more))
+
+of_graphs : (u : UnitForm) (gs : List Graph) → AllByRecursion (IsGraph u) gs → most_words_of_graphs gs
+    ≤ 13 * total instructions_of gs + (3 * total arguments_of gs + (length (markers_of gs) + (9 * total (λ (g : Graph). length g.blocks) gs + 70 * length gs)))
+of_graphs u [] all = omega arith
+of_graphs u (g ∷ more) all = let few : length g.parameters ≤ 8 = all.0.parameters in
+    omega (arith, few, of_graphs u more all.1, of_blocks g.blocks, length-append (markers_of_blocks g.blocks) (markers_of more))
+
+pub words_are_few : (u : UnitForm) → IsValid u → most_words_of_graphs u.graphs ≤ 262139
+words_are_few u v =
+    let functions : length u.graphs ≤ 256 = v.functions in
+    let instructions : total instructions_of u.graphs ≤ 8000 = v.instructions in
+    let blocks : total (λ (g : Graph). length g.blocks) u.graphs ≤ 12000 = v.blocks in
+    let markers : length (markers_of u.graphs) ≤ 4000 = v.markers in
+    let arguments : total arguments_of u.graphs ≤ 4000 = v.arguments in
+    omega (arith, functions, instructions, blocks, markers, arguments, of_graphs u u.graphs v.graphs)

@@ -1,0 +1,6 @@
+pub mod Layouts
+pub mod Spelling
+pub mod Tracing
+pub mod Laid
+pub mod Placed
+pub mod Words

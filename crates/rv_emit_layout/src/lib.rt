@@ -1,0 +1,14 @@
+//! The words of pieces at their addresses, function behind function.
+#![tactic(auto)]
+
+mod assembling;
+mod base;
+mod laying;
+mod layout;
+mod spelling;
+mod telling;
+mod tracing;
+
+pub use assembling::assemble;
+pub use layout::{Layout, OwnedWord, layout_of};
+pub use tracing::{address_of, bindings_of, push_stops, writers_of};

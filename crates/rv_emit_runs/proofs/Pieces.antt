@@ -1,0 +1,384 @@
+-- The pieces of a function stand in the code of the machine, one behind the other.
+use Rattle.std.proofs.Common.{◌≡◌, ℕ, zero, suc, ◌+◌, ◌%◌, ◌<◌, ◌≤◌, ◌⊎◌, inl, inr, ⊎_elim, Bool, true, false, Some, List, [], ◌∷◌, ◌++◌, length, map, slice_get, slice_index, get_or, drop, refl, sym, ap, ◌∙◌, subst, arith, append_assoc}
+use Rattle.std.proofs.lemmas.Bool.{cases_lt}
+use Rattle.std.proofs.lemmas.List.{get_or_past, length-append, length-map}
+use Rattle.std.proofs.lemmas.Option.{slice_get_within}
+use Rattle.rv_code.specs.declared.instruction.Instruction.{Instruction}
+use Rattle.rv_code.specs.declared.instruction.Instruction.TheVariants as instruction
+use Rattle.rv_code.specs.InForm.{IsBranchDistance, IsInForm, IsJumpDistance, IsRegister}
+use Rattle.rv_machine.specs.Run.{is_stop}
+use Rattle.word_base.specs.Arithmetic.{subtracted}
+use Rattle.rv_emit_words.specs.declared.piece.Piece.{Piece}
+use Rattle.rv_emit_words.specs.declared.piece.Piece.TheVariants.{Word, Jump, Branch, Call}
+use Rattle.rv_emit_words.specs.declared.piece.PlacedPiece.{PlacedPiece}
+use Rattle.rv_emit_steps.specs.Programs.{Program, address_of, IsAt}
+use Rattle.rv_emit_steps.specs.Programs.{distance as machine_distance}
+use Rattle.rv_emit_code.specs.Ends.{opposite}
+use Rattle.rv_emit_runs.specs.Pieces.{Targets, PieceAt}
+use Rattle.rv_emit_runs.specs.Placed.{PlacedAt, AreOf}
+use Rattle.rv_emit_sequence.specs.Sequences.{SequenceForm, counted}
+use Rattle.rv_emit_layout.specs.declared.layout.OwnedWord.{OwnedWord}
+use Rattle.rv_emit_layout.specs.Spelling.{spelled}
+use Rattle.rv_emit_layout.specs.Layouts.{LayoutForm, distance, label_at, lying, owned_words, piece_code, width, words_before, words_from, IsLayoutOf, IsNearEnough}
+use Rattle.rv_emit_layout.proofs.Layouts.{words_more}
+use Rattle.rv_emit_layout.proofs.Spelled.{spelled_is}
+use Rattle.rv_emit_runs.proofs.Lists.{all_at}
+use Rattle.rv_emit_runs.specs.EmitPlacedStanding.{AreSpelled, HasStops, IsSpelled, StandsIn, targets_of}
+
+-- ---- Lists
+
+word_in : (front : List OwnedWord) (w : OwnedWord) (behind : List OwnedWord) (n : ℕ) → length front ≡ n → slice_get (map (λ (w : OwnedWord). w.word) (front ++ w ∷ behind)) n ≡ Some w.word
+word_in [] w behind n e = subst (λ k. slice_get (map (λ (w : OwnedWord). w.word) (w ∷ behind)) k ≡ Some w.word) e refl
+word_in (x ∷ front) w behind n e = subst (λ k. slice_get (map (λ (w : OwnedWord). w.word) (x ∷ (front ++ w ∷ behind))) k ≡ Some w.word) e (word_in front w behind (length front) refl)
+
+owner_in : (front : List OwnedWord) (w : OwnedWord) (behind : List OwnedWord) (n : ℕ) → length front ≡ n → slice_index (map (λ (w : OwnedWord). w.owner) (front ++ w ∷ behind)) n ≡ w.owner
+owner_in [] w behind n e = subst (λ k. slice_index (map (λ (w : OwnedWord). w.owner) (w ∷ behind)) k ≡ w.owner) e refl
+owner_in (x ∷ front) w behind n e = subst (λ k. slice_index (map (λ (w : OwnedWord). w.owner) (x ∷ (front ++ w ∷ behind))) k ≡ w.owner) e (owner_in front w behind (length front) refl)
+
+-- A piece at an index, and those behind it.
+pub get_dropped : (pieces : List PlacedPiece) (n : ℕ) (x : PlacedPiece) (rest : List PlacedPiece) → drop n pieces ≡ x ∷ rest → slice_get pieces n ≡ Some x
+get_dropped [] zero x rest e = cc
+get_dropped [] (suc n) x rest e = cc
+get_dropped (p ∷ more) zero x rest e = cc
+get_dropped (p ∷ more) (suc n) x rest e = get_dropped more n x rest e
+
+pub drop_next : (pieces : List PlacedPiece) (n : ℕ) (x : PlacedPiece) (rest : List PlacedPiece) → drop n pieces ≡ x ∷ rest → drop (n + 1) pieces ≡ rest
+drop_next [] zero x rest e = cc
+drop_next [] (suc n) x rest e = cc
+drop_next (p ∷ more) zero x rest e = cc
+drop_next (p ∷ more) (suc n) x rest e = let next : suc n + 1 ≡ suc (n + 1) = omega arith in ap (λ k. drop k (p ∷ more)) next ∙ drop_next more n x rest e
+
+-- ---- Words before a piece
+
+tail_flag : (far : List Bool) (n : ℕ) → get_or (drop 1 far) n false ≡ get_or far (suc n) false
+tail_flag [] n = refl
+tail_flag (f ∷ far) n = refl
+
+pub none_before : (far : List Bool) (pieces : List PlacedPiece) → words_before far pieces 0 ≡ 0
+none_before far [] = refl
+none_before far (p ∷ more) = refl
+
+-- A piece more has its words more.
+pub words_step : (far : List Bool) (pieces : List PlacedPiece) (n : ℕ) (x : PlacedPiece) → slice_get pieces n ≡ Some x → words_before far pieces (n + 1) ≡ words_before far pieces n + width (get_or far n false) x.piece
+words_step far [] n x e = cc
+words_step far (p ∷ more) zero x e =
+    let same : p ≡ x = cc in
+    let none : words_before (drop 1 far) more 0 ≡ 0 = none_before (drop 1 far) more in
+    let here : width (get_or far 0 false) p.piece ≡ width (get_or far 0 false) x.piece = ap (λ (y : PlacedPiece). width (get_or far 0 false) y.piece) same in
+    omega (arith, none, here)
+words_step far (p ∷ more) (suc n) x e =
+    let later : words_before (drop 1 far) more (n + 1) ≡ words_before (drop 1 far) more n + width (get_or (drop 1 far) n false) x.piece = words_step (drop 1 far) more n x e in
+    let flag : width (get_or (drop 1 far) n false) x.piece ≡ width (get_or far (suc n) false) x.piece = ap (λ f. width f x.piece) (tail_flag far n) in
+    let next : suc n + 1 ≡ suc (n + 1) = omega arith in
+    let here : words_before far (p ∷ more) (suc n + 1) ≡ words_before far (p ∷ more) (suc (n + 1)) = ap (λ k. words_before far (p ∷ more) k) next in
+    omega (arith, later, flag, here)
+
+-- A label stands in the code or directly behind it.
+pub label_within : (s : SequenceForm) (l : LayoutForm) (first : ℕ) → IsLayoutOf s l → first + words_before l.far s.pieces (length s.pieces) ≤ 262144 → (b : ℕ) → first + label_at s.labels l.offsets b ≤ 262144
+label_within s l first layout all b = by_order (cases_lt (slice_index s.labels b) (length s.pieces + 1))
+  where
+    by_order : (slice_index s.labels b < length s.pieces + 1) ⊎ (length s.pieces + 1 ≤ slice_index s.labels b) → first + label_at s.labels l.offsets b ≤ 262144
+    by_order (inl low) =
+        let is : label_at s.labels l.offsets b ≡ words_before l.far s.pieces (slice_index s.labels b) = layout.offsets (slice_index s.labels b) (omega (arith, low)) in
+        let more : words_before l.far s.pieces (slice_index s.labels b) ≤ words_before l.far s.pieces (length s.pieces) = words_more l.far s.pieces (slice_index s.labels b) (length s.pieces) (omega (arith, low)) in
+        omega (arith, is, more, all)
+    by_order (inr past) =
+        let count : length l.offsets ≡ length s.pieces + 1 = layout.count in
+        let is : label_at s.labels l.offsets b ≡ 0 = get_or_past l.offsets (slice_index s.labels b) 0 (omega (arith, past, count)) in
+        omega (arith, is, all)
+
+-- ---- Distances
+
+distances : (first a b : ℕ) → first + a ≤ 262144 → first + b ≤ 262144 → distance a b ≡ machine_distance (first + a) (first + b)
+distances first a b la lb = by_order (cases_lt b a)
+  where
+    by_order : (b < a) ⊎ (a ≤ b) → distance a b ≡ machine_distance (first + a) (first + b)
+    by_order (inl lt) = omega (arith, lt, la, lb)
+    by_order (inr ge) = omega (arith, ge, la, lb)
+
+distances_again : (first a b : ℕ) → first + a + 1 ≤ 262144 → first + b ≤ 262144 → subtracted (distance a b) 4 ≡ machine_distance (first + a + 1) (first + b)
+distances_again first a b la lb = by_order (cases_lt b a)
+  where
+    by_order : (b < a) ⊎ (a ≤ b) → subtracted (distance a b) 4 ≡ machine_distance (first + a + 1) (first + b)
+    by_order (inl lt) = omega (arith, lt, la, lb)
+    by_order (inr ge) = omega (arith, ge, la, lb)
+
+call_distance : (first a b : ℕ) → first + a ≤ 262144 → b ≤ 262144 → distance ((first + a) % 4294967296) b ≡ machine_distance (first + a) b
+call_distance first a b la lb = by_order (cases_lt b (first + a))
+  where
+    by_order : (b < first + a) ⊎ (first + a ≤ b) → distance ((first + a) % 4294967296) b ≡ machine_distance (first + a) b
+    by_order (inl lt) = omega (arith, lt, la, lb)
+    by_order (inr ge) = omega (arith, ge, la, lb)
+
+-- A distance between two words of the code is one that a jump has.
+jump_fits : (a b : ℕ) → a < 262144 → b ≤ 262144 → (b < 262144) ⊎ (1 ≤ a) → IsJumpDistance (machine_distance a b)
+jump_fits a b la lb inside = by_order inside (cases_lt b a)
+  where
+    by_order : (b < 262144) ⊎ (1 ≤ a) → (b < a) ⊎ (a ≤ b) → IsJumpDistance (machine_distance a b)
+    by_order (inl low) (inl lt) = (omega (arith, lt, la, lb), inr (omega (arith, lt, la, lb), omega (arith, lt, la, lb)))
+    by_order (inl low) (inr ge) = (omega (arith, ge, la, lb), inl (omega (arith, ge, low)))
+    by_order (inr some) (inl lt) = (omega (arith, lt, la, lb), inr (omega (arith, lt, la, lb), omega (arith, lt, la, lb)))
+    by_order (inr some) (inr ge) = (omega (arith, ge, la, lb), inl (omega (arith, ge, some, lb)))
+
+-- ---- One piece
+
+-- A piece is a jump, a branch or a call.
+abbrev pub Goes : Piece → Type 0
+Goes (Word i) = ⊥
+Goes (Jump to) = Unit {0}
+Goes (Branch op l r to) = Unit {0}
+Goes (Call f) = Unit {0}
+
+-- What is known where a piece of a function stands: its index among the pieces, and the words before it, its own, and those behind.
+pub record Here (p : Program) (owners : List ℕ) (s : SequenceForm) (l : LayoutForm) (first : ℕ) (firsts : List ℕ) (n : ℕ) (x : PlacedPiece) : Type 0 where
+  pub layout : IsLayoutOf s l
+  pub stands : StandsIn p.words owners s l first firsts
+  pub stops : HasStops p.stops s l first
+  pub get : slice_get s.pieces n ≡ Some x
+  pub form : IsSpelled x.piece
+  pub front : List OwnedWord
+  pub back : List OwnedWord
+  pub words : p.words ≡ map (λ (w : OwnedWord). w.word) (front ++ (owned_words x.owner (piece_code (lying s l first firsts) (get_or l.far n false) (slice_index l.offsets n) x.piece) ++ back))
+  pub own : owners ≡ map (λ (w : OwnedWord). w.owner) (front ++ (owned_words x.owner (piece_code (lying s l first firsts) (get_or l.far n false) (slice_index l.offsets n) x.piece) ++ back))
+  pub begin : length front ≡ first + words_before l.far s.pieces n
+  pub inside : Goes x.piece → 1 ≤ first + words_before l.far s.pieces n
+
+module _ (p : Program) (owners : List ℕ) (s : SequenceForm) (l : LayoutForm) (first : ℕ) (firsts : List ℕ) (n : ℕ) (x : PlacedPiece) (here : Here p owners s l first firsts n x) where
+  abbrev at : ℕ
+  at = first + words_before l.far s.pieces n
+
+  offset : slice_index l.offsets n ≡ words_before l.far s.pieces n
+  offset = let low : n < length s.pieces = slice_get_within s.pieces n x here.get in here.layout.offsets n (omega (arith, low))
+
+  step : words_before l.far s.pieces (n + 1) ≡ words_before l.far s.pieces n + width (get_or l.far n false) x.piece
+  step = words_step l.far s.pieces n x here.get
+
+  within : first + words_before l.far s.pieces (n + 1) ≤ 262144
+  within =
+      let low : n < length s.pieces = slice_get_within s.pieces n x here.get in
+      let more : words_before l.far s.pieces (n + 1) ≤ words_before l.far s.pieces (length s.pieces) = words_more l.far s.pieces (n + 1) (length s.pieces) (omega (arith, low)) in
+      let all : first + words_before l.far s.pieces (length s.pieces) ≤ 262144 = here.stands.low in
+      omega (arith, more, all)
+
+  label_low : (b : ℕ) → first + label_at s.labels l.offsets b ≤ 262144
+  label_low b = label_within s l first here.layout here.stands.low b
+
+  -- An instruction whose word stands there.
+  word_there : (i : Instruction) (owner : ℕ) (b : Bool) (m : ℕ) (front back : List OwnedWord) → length front ≡ m → p.words ≡ map (λ (w : OwnedWord). w.word) (front ++ (record { word = spelled i; owner = owner }) ∷ back) → IsInForm i → is_stop p.stops (address_of m) ≡ b → IsAt p m b i
+  word_there i owner b m front back count words form stop = record {
+    in_form = form;
+    there = ap (λ (l : List ℕ). slice_get l m) words ∙ word_in front (record { word = spelled i; owner = owner }) back m count ∙ ap (λ k. Some k) (spelled_is i form);
+    stop = stop;
+  }
+
+  code_is : (q : Piece) → x.piece ≡ q → p.words ≡ map (λ (w : OwnedWord). w.word) (here.front ++ (owned_words x.owner (piece_code (lying s l first firsts) (get_or l.far n false) (slice_index l.offsets n) q) ++ here.back))
+  code_is q e = subst (λ (r : Piece). p.words ≡ map (λ (w : OwnedWord). w.word) (here.front ++ (owned_words x.owner (piece_code (lying s l first firsts) (get_or l.far n false) (slice_index l.offsets n) r) ++ here.back))) e here.words
+
+  spelled_as : (q : Piece) → x.piece ≡ q → IsSpelled q
+  spelled_as q e = subst (λ (r : Piece). IsSpelled r) e here.form
+
+  near_as : (q : Piece) → x.piece ≡ q → IsNearEnough s.labels l.offsets (get_or l.far n false) (slice_index l.offsets n) q
+  near_as q e = subst (λ (r : Piece). IsNearEnough s.labels l.offsets (get_or l.far n false) (slice_index l.offsets n) r) e (here.layout.near n x here.get)
+
+  width_as : (q : Piece) → x.piece ≡ q → words_before l.far s.pieces (n + 1) ≡ words_before l.far s.pieces n + width (get_or l.far n false) q
+  width_as q e = step ∙ ap (λ (r : Piece). words_before l.far s.pieces n + width (get_or l.far n false) r) e
+
+  stop_is : is_stop p.stops (address_of at) ≡ x.is_stop
+  stop_is = here.stops.one n x here.get
+
+  abbrev targets : Targets
+  targets = targets_of owners s l first firsts
+
+  -- A jump to a label, and a call.
+  jump_there : (to : ℕ) (b : Bool) → p.words ≡ map (λ (w : OwnedWord). w.word) (here.front ++ (record { word = spelled (instruction.Jal 0 (distance (slice_index l.offsets n) (label_at s.labels l.offsets to))); owner = x.owner }) ∷ here.back)
+      → at + 1 ≤ 262144 → 1 ≤ at → is_stop p.stops (address_of at) ≡ b → IsAt p at b (instruction.Jal 0 (machine_distance at (first + label_at s.labels l.offsets to)))
+  jump_there to b words low some stop =
+      let same : distance (slice_index l.offsets n) (label_at s.labels l.offsets to) ≡ machine_distance at (first + label_at s.labels l.offsets to) = ap (λ k. distance k (label_at s.labels l.offsets to)) offset ∙ distances first (words_before l.far s.pieces n) (label_at s.labels l.offsets to) (omega (arith, low)) (label_low to) in
+      word_there (instruction.Jal 0 (machine_distance at (first + label_at s.labels l.offsets to))) x.owner b at here.front here.back here.begin
+      (subst (λ d. p.words ≡ map (λ (w : OwnedWord). w.word) (here.front ++ (record { word = spelled (instruction.Jal 0 d); owner = x.owner }) ∷ here.back)) same words)
+      (omega arith, jump_fits at (first + label_at s.labels l.offsets to) (omega (arith, low)) (label_low to) (inr some)) stop
+
+  call_there : (f : ℕ) (b : Bool) → p.words ≡ map (λ (w : OwnedWord). w.word) (here.front ++ (record { word = spelled (instruction.Jal 1 (distance ((first + slice_index l.offsets n) % 4294967296) (slice_index firsts f))); owner = x.owner }) ∷ here.back)
+      → at + 1 ≤ 262144 → 1 ≤ at → is_stop p.stops (address_of at) ≡ b → IsAt p at b (instruction.Jal 1 (machine_distance at (slice_index firsts f)))
+  call_there f b words low some stop =
+      let same : distance ((first + slice_index l.offsets n) % 4294967296) (slice_index firsts f) ≡ machine_distance at (slice_index firsts f) = ap (λ k. distance ((first + k) % 4294967296) (slice_index firsts f)) offset ∙ call_distance first (words_before l.far s.pieces n) (slice_index firsts f) (omega (arith, low)) (here.stands.functions f) in
+      word_there (instruction.Jal 1 (machine_distance at (slice_index firsts f))) x.owner b at here.front here.back here.begin
+      (subst (λ d. p.words ≡ map (λ (w : OwnedWord). w.word) (here.front ++ (record { word = spelled (instruction.Jal 1 d); owner = x.owner }) ∷ here.back)) same words)
+      (omega arith, jump_fits at (slice_index firsts f) (omega (arith, low)) (here.stands.functions f) (inr some)) stop
+
+  -- A piece stands there, up to the next one.
+  piece_there : (q : Piece) → x.piece ≡ q → PieceAt p targets at x.is_stop q (first + words_before l.far s.pieces (n + 1))
+  piece_there (Word i) e =
+      let wide : words_before l.far s.pieces (n + 1) ≡ words_before l.far s.pieces n + 1 = width_as (Word i) e in
+      (word_there i x.owner x.is_stop at here.front here.back here.begin (code_is (Word i) e) (spelled_as (Word i) e) stop_is, omega (arith, wide))
+  piece_there (Jump to) e =
+      let wide : words_before l.far s.pieces (n + 1) ≡ words_before l.far s.pieces n + 1 = width_as (Jump to) e in
+      let fits = within in
+      (jump_there to.0 x.is_stop (code_is (Jump to) e) (omega (arith, wide, fits)) (here.inside (subst Goes (sym e) tt)) stop_is, omega (arith, wide))
+  piece_there (Call f) e =
+      let wide : words_before l.far s.pieces (n + 1) ≡ words_before l.far s.pieces n + 1 = width_as (Call f) e in
+      let fits = within in
+      (call_there f x.is_stop (code_is (Call f) e) (omega (arith, wide, fits)) (here.inside (subst Goes (sym e) tt)) stop_is, omega (arith, wide))
+  piece_there (Branch op a b to) e = by_flag (get_or l.far n false) refl
+    where
+      spelled_ok : IsRegister a × IsRegister b
+      spelled_ok = spelled_as (Branch op a b to) e
+
+      by_flag : (far : Bool) → get_or l.far n false ≡ far → PieceAt p targets at x.is_stop (Branch op a b to) (first + words_before l.far s.pieces (n + 1))
+      by_flag false flag =
+          let wide : words_before l.far s.pieces (n + 1) ≡ words_before l.far s.pieces n + 1 = width_as (Branch op a b to) e ∙ ap (λ f. words_before l.far s.pieces n + width f (Branch op a b to)) flag in
+          let fits = within in
+          let words = subst (λ f. p.words ≡ map (λ (w : OwnedWord). w.word) (here.front ++ (owned_words x.owner (piece_code (lying s l first firsts) f (slice_index l.offsets n) (Branch op a b to)) ++ here.back))) flag (code_is (Branch op a b to) e) in
+          let same : distance (slice_index l.offsets n) (label_at s.labels l.offsets to.0) ≡ machine_distance at (first + (label_at s.labels l.offsets to.0)) = ap (λ k. distance k (label_at s.labels l.offsets to.0)) offset ∙ distances first (words_before l.far s.pieces n) (label_at s.labels l.offsets to.0) (omega (arith, wide, fits)) (label_low to.0) in
+          let form : IsBranchDistance (machine_distance at (first + (label_at s.labels l.offsets to.0))) = subst IsBranchDistance same (near_as (Branch op a b to) e flag) in
+          inl (
+            word_there (instruction.Branch op a b (machine_distance at (first + (label_at s.labels l.offsets to.0)))) x.owner x.is_stop at here.front here.back here.begin
+                (subst (λ d. p.words ≡ map (λ (w : OwnedWord). w.word) (here.front ++ (record { word = spelled (instruction.Branch op a b d); owner = x.owner }) ∷ here.back)) same words)
+                (spelled_ok.0, spelled_ok.1, form) stop_is,
+            omega (arith, wide),
+          )
+      by_flag true flag =
+          let wide : words_before l.far s.pieces (n + 1) ≡ words_before l.far s.pieces n + 2 = width_as (Branch op a b to) e ∙ ap (λ f. words_before l.far s.pieces n + width f (Branch op a b to)) flag in
+          let fits = within in
+          let two : width (get_or l.far n false) x.piece ≡ 2 = ap (λ (r : Piece). width (get_or l.far n false) r) e ∙ ap (λ f. width f (Branch op a b to)) flag in
+          let words = subst (λ f. p.words ≡ map (λ (w : OwnedWord). w.word) (here.front ++ (owned_words x.owner (piece_code (lying s l first firsts) f (slice_index l.offsets n) (Branch op a b to)) ++ here.back))) flag (code_is (Branch op a b to) e) in
+          let one : OwnedWord = record { word = spelled (instruction.Branch (opposite op) a b 8); owner = x.owner } in
+          let same : subtracted (distance (slice_index l.offsets n) (label_at s.labels l.offsets to.0)) 4 ≡ machine_distance (at + 1) (first + (label_at s.labels l.offsets to.0)) = ap (λ k. subtracted (distance k (label_at s.labels l.offsets to.0)) 4) offset ∙ distances_again first (words_before l.far s.pieces n) (label_at s.labels l.offsets to.0) (omega (arith, wide, fits)) (label_low to.0) in
+          let count : length (here.front ++ one ∷ []) ≡ at + 1 = length-append here.front (one ∷ []) ∙ ap (λ k. k + 1) here.begin in
+          let later = subst (λ d. p.words ≡ map (λ (w : OwnedWord). w.word) (here.front ++ one ∷ (record { word = spelled (instruction.Jal 0 d); owner = x.owner }) ∷ here.back)) same words in
+          inr (
+            word_there (instruction.Branch (opposite op) a b 8) x.owner x.is_stop at here.front _ here.begin words (spelled_ok.0, spelled_ok.1, (refl, inl (omega arith))) stop_is,
+            word_there (instruction.Jal 0 (machine_distance (at + 1) (first + (label_at s.labels l.offsets to.0)))) x.owner false (at + 1) (here.front ++ one ∷ []) here.back count
+                (later ∙ ap (λ ws. map (λ (w : OwnedWord). w.word) ws) (sym (append_assoc here.front (one ∷ []) ((record { word = spelled (instruction.Jal 0 (machine_distance (at + 1) (first + (label_at s.labels l.offsets to.0)))); owner = x.owner }) ∷ here.back))))
+                (omega arith, jump_fits (at + 1) (first + (label_at s.labels l.offsets to.0)) (omega (arith, wide, fits)) (label_low to.0) (inr (omega arith))) (here.stops.two n x here.get two),
+            omega (arith, wide),
+          )
+
+  -- Its words belong to its place.
+  owners_there : (code : List Instruction) (front : List OwnedWord) (m : ℕ) → length front ≡ m → owners ≡ map (λ (w : OwnedWord). w.owner) (front ++ (owned_words x.owner code ++ here.back)) → (k : ℕ) → m ≤ k → k < m + length code → slice_index owners k ≡ x.owner
+  owners_there [] front m count is k low high = absurd (omega (arith, low, high))
+  owners_there (i ∷ code) front m count is k low high =
+      ⊎_elim
+      (λ (e : k < m + 1). let same : k ≡ m = omega (arith, low, e) in ap (λ n. slice_index owners n) same ∙ ap (λ (l : List ℕ). slice_index l m) is ∙ owner_in front (record { word = spelled i; owner = x.owner }) (owned_words x.owner code ++ here.back) m count)
+      (λ (later : m + 1 ≤ k).
+      owners_there code (front ++ (record { word = spelled i; owner = x.owner }) ∷ []) (m + 1) (length-append front ((record { word = spelled i; owner = x.owner }) ∷ []) ∙ ap (λ n. n + 1) count)
+      (is ∙ ap (λ ws. map (λ (w : OwnedWord). w.owner) ws) (sym (append_assoc front ((record { word = spelled i; owner = x.owner }) ∷ []) (owned_words x.owner code ++ here.back)))) k later (omega (arith, high)))
+      (cases_lt k (m + 1))
+
+  code_length : (q : Piece) → length (piece_code (lying s l first firsts) (get_or l.far n false) (slice_index l.offsets n) q) ≡ width (get_or l.far n false) q
+  code_length (Word i) = refl
+  code_length (Jump to) = refl
+  code_length (Call f) = refl
+  code_length (Branch op a b to) = by_flag (get_or l.far n false)
+    where
+      by_flag : (far : Bool) → length (piece_code (lying s l first firsts) far (slice_index l.offsets n) (Branch op a b to)) ≡ width far (Branch op a b to)
+      by_flag true = refl
+      by_flag false = refl
+
+  owner_there : AreOf targets.owner at (first + words_before l.far s.pieces (n + 1)) x.owner
+  owner_there k low high =
+      let wide : length (piece_code (lying s l first firsts) (get_or l.far n false) (slice_index l.offsets n) x.piece) ≡ width (get_or l.far n false) x.piece = code_length x.piece in
+      owners_there (piece_code (lying s l first firsts) (get_or l.far n false) (slice_index l.offsets n) x.piece) here.front at here.begin here.own k low (omega (arith, high, wide, step))
+
+-- ---- Pieces one behind the other
+
+-- What is known of the code of a function.
+pub record FunctionThere (p : Program) (owners : List ℕ) (s : SequenceForm) (l : LayoutForm) (first : ℕ) (firsts : List ℕ) : Type 0 where
+  pub layout : IsLayoutOf s l
+  pub few : length s.pieces ≤ 262144
+  pub stands : StandsIn p.words owners s l first firsts
+  pub stops : HasStops p.stops s l first
+  pub forms : AreSpelled s.pieces
+  pub inside : (k : ℕ) (x : PlacedPiece) → slice_get s.pieces k ≡ Some x → Goes x.piece → 1 ≤ first + words_before l.far s.pieces k
+
+-- The words from a piece on stand behind others.
+pub record WordsFrom (p : Program) (owners : List ℕ) (s : SequenceForm) (l : LayoutForm) (first : ℕ) (firsts : List ℕ) (back : List OwnedWord) (n : ℕ) (rest : List PlacedPiece) : Type 0 where
+  pub front : List OwnedWord
+  pub words : p.words ≡ map (λ (w : OwnedWord). w.word) (front ++ (words_from (lying s l first firsts) l.far n rest ++ back))
+  pub own : owners ≡ map (λ (w : OwnedWord). w.owner) (front ++ (words_from (lying s l first firsts) l.far n rest ++ back))
+  pub begin : length front ≡ first + words_before l.far s.pieces n
+
+module _ (p : Program) (owners : List ℕ) (s : SequenceForm) (l : LayoutForm) (first : ℕ) (firsts : List ℕ) (there : FunctionThere p owners s l first firsts) (back : List OwnedWord) where
+  -- A piece stands there, and the words behind it.
+  pub record PieceThere (n : ℕ) (x : PlacedPiece) (rest : List PlacedPiece) : Type 0 where
+    pub piece : PieceAt p (targets_of owners s l first firsts) (first + words_before l.far s.pieces n) x.is_stop x.piece (first + words_before l.far s.pieces (n + 1))
+    pub owner : AreOf (targets_of owners s l first firsts).owner (first + words_before l.far s.pieces n) (first + words_before l.far s.pieces (n + 1)) x.owner
+    pub behind : WordsFrom p owners s l first firsts back (n + 1) rest
+
+  one_there : (n : ℕ) (x : PlacedPiece) (rest : List PlacedPiece) → drop n s.pieces ≡ x ∷ rest → WordsFrom p owners s l first firsts back n (x ∷ rest) → PieceThere n x rest
+  one_there n x rest dropped from =
+      let get : slice_get s.pieces n ≡ Some x = get_dropped s.pieces n x rest dropped in
+      let low : n < length s.pieces = slice_get_within s.pieces n x get in
+      let few : length s.pieces ≤ 262144 = there.few in
+      let next : counted (n + 1) ≡ n + 1 = omega (arith, low, few) in
+      let code : List OwnedWord = owned_words x.owner (piece_code (lying s l first firsts) (get_or l.far n false) (slice_index l.offsets n) x.piece) in
+      let begin = from.begin in
+      let here : Here p owners s l first firsts n x = record {
+        layout = there.layout;
+        stands = there.stands;
+        stops = there.stops;
+        get = get;
+        form = all_at (λ (y : PlacedPiece). IsSpelled y.piece) s.pieces n x there.forms get;
+        front = from.front;
+        back = words_from (lying s l first firsts) l.far (counted (n + 1)) rest ++ back;
+        words = from.words ∙ ap (λ ws. map (λ (w : OwnedWord). w.word) (from.front ++ ws)) (append_assoc code (words_from (lying s l first firsts) l.far (counted (n + 1)) rest) back);
+        own = from.own ∙ ap (λ ws. map (λ (w : OwnedWord). w.owner) (from.front ++ ws)) (append_assoc code (words_from (lying s l first firsts) l.far (counted (n + 1)) rest) back);
+        begin = begin;
+        inside = there.inside n x get;
+      } in
+      let wide : words_before l.far s.pieces (n + 1) ≡ words_before l.far s.pieces n + width (get_or l.far n false) x.piece = words_step l.far s.pieces n x get in
+      let size : length code ≡ width (get_or l.far n false) x.piece = length-map (piece_code (lying s l first firsts) (get_or l.far n false) (slice_index l.offsets n) x.piece) (λ i. record { word = spelled i; owner = x.owner }) ∙ code_length p owners s l first firsts n x here x.piece in
+      let arranged : from.front ++ ((code ++ words_from (lying s l first firsts) l.far (counted (n + 1)) rest) ++ back) ≡ (from.front ++ code) ++ (words_from (lying s l first firsts) l.far (n + 1) rest ++ back) =
+      ap (λ ws. from.front ++ ws) (append_assoc code (words_from (lying s l first firsts) l.far (counted (n + 1)) rest) back)
+      ∙ sym (append_assoc from.front code (words_from (lying s l first firsts) l.far (counted (n + 1)) rest ++ back))
+      ∙ ap (λ k. (from.front ++ code) ++ (words_from (lying s l first firsts) l.far k rest ++ back)) next in
+      record {
+        piece = piece_there p owners s l first firsts n x here x.piece refl;
+        owner = owner_there p owners s l first firsts n x here;
+        behind = record {
+          front = from.front ++ code;
+          words = from.words ∙ ap (λ ws. map (λ (w : OwnedWord). w.word) ws) arranged;
+          own = from.own ∙ ap (λ ws. map (λ (w : OwnedWord). w.owner) ws) arranged;
+          begin = length-append from.front code ∙ (omega (arith, begin, size, wide));
+        };
+      }
+
+  -- Behind some pieces stand the words of the others.
+  words_behind : (some rest : List PlacedPiece) (n : ℕ) → drop n s.pieces ≡ some ++ rest → WordsFrom p owners s l first firsts back n (some ++ rest) → WordsFrom p owners s l first firsts back (n + length some) rest
+  words_behind [] rest n dropped from = let e : n ≡ n + 0 = omega arith in subst (λ k. WordsFrom p owners s l first firsts back k rest) e from
+  words_behind (x ∷ some) rest n dropped from =
+      let last : n + 1 + length some ≡ n + length (x ∷ some) = omega arith in
+      subst (λ k. WordsFrom p owners s l first firsts back k rest) last (words_behind some rest (n + 1) (drop_next s.pieces n x (some ++ rest) dropped) (one_there n x (some ++ rest) dropped from).behind)
+
+  -- Some pieces stand there, behind which there are others.
+  pieces_from : (some rest : List PlacedPiece) (n : ℕ) → drop n s.pieces ≡ some ++ rest → WordsFrom p owners s l first firsts back n (some ++ rest)
+      → PlacedAt p (targets_of owners s l first firsts) (first + words_before l.far s.pieces n) some (first + words_before l.far s.pieces (n + length some))
+  pieces_from [] rest n dropped from = let e : n + 0 ≡ n = omega arith in ap (λ k. first + words_before l.far s.pieces k) e
+  pieces_from (x ∷ some) rest n dropped from =
+      let here : PieceThere n x (some ++ rest) = one_there n x (some ++ rest) dropped from in
+      let last : n + 1 + length some ≡ n + length (x ∷ some) = omega arith in (
+        first + words_before l.far s.pieces (n + 1),
+        here.piece,
+        here.owner,
+        subst (λ k. PlacedAt p (targets_of owners s l first firsts) (first + words_before l.far s.pieces (n + 1)) some (first + words_before l.far s.pieces k)) last
+            (pieces_from some rest (n + 1) (drop_next s.pieces n x (some ++ rest) dropped) here.behind),
+      )
+
+drop_some : (before rest : List PlacedPiece) → drop (length before) (before ++ rest) ≡ rest
+drop_some [] rest = refl
+drop_some (x ∷ before) rest = drop_some before rest
+
+-- Pieces that stand in the sequence of a function stand in the code, each part where the layout has it.
+pub part_there : (p : Program) (owners : List ℕ) (s : SequenceForm) (l : LayoutForm) (first : ℕ) (firsts : List ℕ) → FunctionThere p owners s l first firsts → (before part behind : List PlacedPiece) → s.pieces ≡ before ++ (part ++ behind)
+    → PlacedAt p (targets_of owners s l first firsts) (first + words_before l.far s.pieces (length before)) part (first + words_before l.far s.pieces (length before + length part))
+part_there p owners s l first firsts there before part behind e =
+    let start : WordsFrom p owners s l first firsts there.stands.behind 0 (before ++ (part ++ behind)) = record {
+      front = there.stands.before;
+      words = subst (λ q. p.words ≡ map (λ (w : OwnedWord). w.word) (there.stands.before ++ (words_from (lying s l first firsts) l.far 0 q ++ there.stands.behind))) e there.stands.words;
+      own = subst (λ q. owners ≡ map (λ (w : OwnedWord). w.owner) (there.stands.before ++ (words_from (lying s l first firsts) l.far 0 q ++ there.stands.behind))) e there.stands.owners;
+      begin = there.stands.begin ∙ (omega (arith, none_before l.far s.pieces));
+    } in
+    let dropped : drop (length before) s.pieces ≡ part ++ behind = ap (λ q. drop (length before) q) e ∙ drop_some before (part ++ behind) in
+    let here : 0 + length before ≡ length before = omega arith in
+    pieces_from p owners s l first firsts there there.stands.behind part behind (length before) dropped
+    (subst (λ k. WordsFrom p owners s l first firsts there.stands.behind k (part ++ behind)) here (words_behind p owners s l first firsts there there.stands.behind before (part ++ behind) 0 e start))

@@ -1,0 +1,318 @@
+-- The code of a return restores what the caller is to find, and goes on behind its call, or ends the run with the result of main.
+use Rattle.std.proofs.Common.{◌≡◌, ◌≢◌, ℕ, ◌+◌, ◌≤◌, ◌⊎◌, inl, inr, sym, ap, ◌∙◌, subst, arith, refl, Option, Some, None, Bool, true, false, cond, not, List, [], ◌∷◌, length}
+use Rattle.std.specs.Prelude.{◌==◌, ◌||◌, nat_le, nat_lt, option_map}
+use Rattle.std.specs.Int.{cast_signed, w32}
+use Rattle.rv_code.specs.declared.instruction.Instruction.TheVariants.{Lui, Store, Immediate, Register as OnRegisters}
+use Rattle.rv_code.specs.declared.instruction.ImmediateOperation.TheVariants.{Addi}
+use Rattle.rv_code.specs.declared.instruction.StoreOperation.TheVariants.{Sw}
+use Rattle.rv_code.specs.declared.instruction.RegisterOperation.TheVariants.{Add}
+use Rattle.rv_machine.specs.State.{State}
+use Rattle.rv_machine.specs.Run.{MachineEvent, Exit}
+use Rattle.rv_machine.specs.Table.{operated_immediate}
+use Rattle.graph_core.specs.declared.value.Value.{Value}
+use Rattle.graph_core.specs.declared.value.Value.TheVariants.{Number, Pointer, Odd}
+use Rattle.graph_core.specs.Graphs.{UnitForm}
+use Rattle.graph_core.specs.Memory.{Memory, bytes_of, ended_from}
+use Rattle.graph_core.specs.Runs.{Activation, Configuration, Event, Exited, Stepped, Goes, Shows, Ends as EndsUnit, Wild, take_value, take_wanted, exited, returned, leave}
+use Rattle.graph_homes.specs.declared.home.Home.{Home}
+use Rattle.graph_homes.specs.declared.home.Home.TheVariants.{Register, Slot}
+use Rattle.graph_homes.specs.Homed.{IsHomeRegister, home_number}
+use Rattle.rv_emit_storage.specs.Storages.{StorageForm, slot_at}
+use Rattle.rv_emit_words.specs.Constants.{low_part, high_part}
+use Rattle.rv_emit_words.specs.declared.piece.Held.{Held}
+use Rattle.rv_emit_words.specs.Operands.{home_written}
+use Rattle.rv_emit_steps.specs.Holding.{Holding, word_at}
+use Rattle.rv_emit_steps.specs.Doing.{done_by_all}
+use Rattle.rv_emit_steps.specs.Programs.{Program, address_of, CodeAt, Stands}
+use Rattle.rv_emit_steps.specs.Points.{Ends, Reaches}
+use Rattle.rv_emit_steps.proofs.Calling.{ends_with_status}
+use Rattle.rv_emit_steps.proofs.Placing.{reaches_then, reaches_end}
+use Rattle.rv_emit_steps.proofs.Straight.{code_does}
+use Rattle.rv_emit_steps.specs.Meaning.{Means, HoldsObjects}
+use Rattle.rv_emit_steps.specs.Frames.{Setting, IsStorage, HoldsFrame, Performs}
+use Rattle.rv_emit_steps.proofs.Homes.{can_write, home_performed}
+use Rattle.rv_emit_steps.proofs.Objects.{means_later}
+use Rattle.rv_emit_code.specs.Ends.{words, going}
+use Rattle.rv_emit_runs.specs.Keeping.{IsTargetAmong, IsSaved}
+use Rattle.rv_emit_code.specs.Leaving.{words_of_moving, leaving_front, leaving_code, leaving}
+use Rattle.rv_emit_runs.specs.Pieces.{Targets, AreInCode, PiecesAt}
+use Rattle.rv_emit_runs.specs.Returns.{IsShownAs, exited as exited_so, Resumes, EndsMain, answer_code}
+use Rattle.rv_emit_runs.specs.Waiting.{FunctionCode, IsFunctionCode, setting_of, behind_frame, HoldsWaiting, HoldsAll}
+use Rattle.rv_emit_runs.proofs.Bringing.{home_made}
+use Rattle.rv_emit_runs.proofs.Ended.{IsEndedOr, ended_or, those_ended, objects_ended, length_ended, frame_those}
+use Rattle.rv_emit_runs.proofs.Ends.{going_goes, going_short}
+use Rattle.rv_emit_runs.proofs.Keeping.{grown_those, performed_leaves, all_kept}
+use Rattle.rv_emit_runs.proofs.Leaving.{IsLeftBy, Leaves, CanLeave, leaving_leaves, leaving_returns}
+use Rattle.rv_emit_runs.proofs.Loading.{frame_found}
+use Rattle.rv_emit_runs.proofs.Outer.{LeavesAbove, waiting_kept}
+use Rattle.rv_emit_runs.proofs.Placed.{behind_none, GoesTo, words_alone}
+use Rattle.rv_emit_runs.proofs.Restoring.{low_no_home, restored_a0, behind_other}
+use Rattle.rv_emit_runs.proofs.Same.{SameActivation}
+use Rattle.rv_emit_steps.proofs.Arrays.{those_same}
+use Rattle.rv_emit_runs.proofs.Stepping.{AllCome}
+
+-- ---- The function is left
+
+-- By its end, or where that is repeated.
+pub leave_goes : (p : Program) (t : Targets) (s : State) (i : ℕ) (b : Bool) (h : Holding) (saved : List ℕ) (size end next room j index : ℕ) → AreInCode t → CanLeave saved size h → Stands p s i h → PiecesAt p t i b (leaving saved size b end next room) j → j ≡ t.label next
+    → CodeAt p (t.label end) false (leaving_code saved size) → word_at h.memory (h.registers 2) ≡ address_of index → index ≤ 262144 → GoesTo p s b (1 + length (leaving_code saved size)) index (done_by_all (leaving_front saved size) h)
+leave_goes p t s i b h saved size end next room j index inside can stands there follows ending returns low =
+    by_test (next == end || (not (nat_le (length saved) 9) || not (nat_le (length saved + 3 + words_of_moving size) room))) there
+  where
+    by_test : (c : Bool) → PiecesAt p t i b (cond c (going b end next) (words (leaving_code saved size))) j → GoesTo p s b (1 + length (leaving_code saved size)) index (done_by_all (leaving_front saved size) h)
+    by_test true at =
+        let first : GoesTo p s b (length (going b end next)) (t.label end) h = going_goes p t s i h b end next j inside stands at follows in
+        let second = leaving_returns p first.reaches.state (t.label end) false h saved size index can first.reaches.stands ending returns low in
+        record {
+          count = first.count + length (leaving_code saved size);
+          few = let most = first.few in let short = going_short b end next in omega (arith, most, short);
+          reaches = reaches_then p first.count (length (leaving_code saved size)) (record { state = s; shown = b }) [] (t.label end) false h [] index false (done_by_all (leaving_front saved size) h) first.reaches second;
+        }
+    by_test false at = record {
+      count = length (leaving_code saved size);
+      few = omega arith;
+      reaches = leaving_returns p s i b h saved size index can stands (words_alone p t i b (leaving_code saved size) j at).0 returns low;
+    }
+
+-- A result is written by three words or less.
+answer_short : (g : StorageForm) (target : Option Home) → length (answer_code g target) ≤ 3
+answer_short g None = omega arith
+answer_short g (Some (Register r)) = omega arith
+answer_short g (Some (Slot k)) = by_test (nat_lt (slot_at g k) 2048)
+  where
+    by_test : (b : Bool) → length (cond b (Store Sw 10 2 (slot_at g k) ∷ []) (Lui 5 (high_part (slot_at g k)) ∷ OnRegisters Add 5 5 2 ∷ Store Sw 10 5 (low_part (slot_at g k)) ∷ [])) ≤ 3
+    by_test true = omega arith
+    by_test false = omega arith
+
+-- ---- The caller goes on
+
+-- The machine comes to where the caller goes on, and holds all activations, the caller the innermost one.
+pub record Returned (p : Program) (s : State) (i : ℕ) (b : Bool) (most : ℕ) (codes : ℕ → FunctionCode) (u : UnitForm) (addresses : ℕ → ℕ) (goes_on : Activation → ℕ → Type 0) (c d : Configuration) : Type 0 where
+  pub caller : Activation
+  pub waits : c.waiting ≡ caller ∷ d.waiting
+  pub to : ℕ
+  pub resumed : goes_on caller to
+  pub value : Value
+  pub here : d.here ≡ take_wanted caller.wants value caller
+  pub comes : AllCome p s i b most to false codes u addresses (Resumes p codes goes_on) [] d
+
+-- The run ends as the unit's does.
+pub record EndsRun (p : Program) (s : State) (b : Bool) (most : ℕ) (e : Event) : Type 0 where
+  pub count : ℕ
+  pub few : count ≤ most
+  pub event : MachineEvent
+  pub shown : IsShownAs e event
+  pub ends : Ends p.stops count (record { state = s; shown = b }) (event ∷ [])
+
+-- Code does the step of a return. Where the step is wild, nothing is said of the code.
+abbrev pub DoesReturn : Program → State → ℕ → Bool → (most : ℕ) → (codes : ℕ → FunctionCode) → UnitForm → (addresses : ℕ → ℕ) → (goes_on : Activation → ℕ → Type 0) → Configuration → Stepped → Type 0
+DoesReturn p s i b most codes u addresses goes_on c (Goes d) = Returned p s i b most codes u addresses goes_on c d
+DoesReturn p s i b most codes u addresses goes_on c (Shows e d) = ⊥
+DoesReturn p s i b most codes u addresses goes_on c (EndsUnit e) = EndsRun p s b most e
+DoesReturn p s i b most codes u addresses goes_on c Wild = Unit {0}
+
+module _ (p : Program) (codes : ℕ → FunctionCode) (u : UnitForm) (valid : (k : ℕ) → IsFunctionCode u (codes k)) (addresses : ℕ → ℕ) (goes_on : Activation → ℕ → Type 0) where
+  -- What a frame is left with that stands.
+  can_leave : (c : Configuration) (h : Holding) → HoldsAll codes u addresses (Resumes p codes goes_on) [] c h → CanLeave (codes c.here.function).saved (codes c.here.function).size h
+  can_leave c h all =
+      let fits = valid c.here.function in
+      let storage = fits.storage addresses [] in
+      record {
+        none = all.here.fetch.none;
+        aligned = all.here.aligned;
+        low = all.here.low;
+        high = all.here.high;
+        kept = let most = fits.kept in let room = storage.room in omega (arith, most, room);
+        registers = fits.registers;
+        depth = let deep = all.depth in omega (arith, deep);
+      }
+
+  -- The caller's frame, where the innermost activation was left, with the objects of that ended.
+  module _ (c : Configuration) (h t : Holding) (a : Activation) (waiting : List Activation) (all : HoldsAll codes u addresses (Resumes p codes goes_on) [] c h) (waits : c.waiting ≡ a ∷ waiting)
+      (left : IsLeftBy (codes c.here.function).saved (codes c.here.function).size h t) where
+    abbrev f : FunctionCode
+    f = codes c.here.function
+
+    abbrev later : Memory
+    later = ended_from c.here.first_object c.memory
+
+    both : HoldsWaiting codes u addresses (Resumes p codes goes_on) c.memory c.input (codes c.here.function) c.here.first_object h (a ∷ waiting)
+    both = subst (λ l. HoldsWaiting codes u addresses (Resumes p codes goes_on) c.memory c.input (codes c.here.function) c.here.first_object h l) waits all.waiting
+
+    found_none : t.registers 0 ≡ (behind_frame f h).registers 0
+    found_none = left.others 0 (λ e. cc) (λ e. cc) (λ e. cc) (λ e. cc)
+
+    found_gp : t.registers 3 ≡ (behind_frame f h).registers 3
+    found_gp = left.others 3 (λ e. cc) (λ e. cc) (λ e. cc) (λ e. cc)
+
+    found_home : (r : ℕ) → IsHomeRegister r → t.registers r ≡ (behind_frame f h).registers r
+    found_home r is =
+        left.others r (λ e. low_no_home 1 r (omega arith) is (sym e)) (λ e. low_no_home 2 r (omega arith) is (sym e)) (λ e. low_no_home 4 r (omega arith) is (sym e)) (no_t0 r is)
+        ∙ sym (behind_other f h r (λ e. low_no_home 2 r (omega arith) is (sym e)))
+      where
+        no_t0 : (q : ℕ) → IsHomeRegister q → q ≢ 5
+        no_t0 q (inl same) = λ e. omega (arith, same, e)
+        no_t0 q (inr (least, most)) = λ e. omega (arith, least, e)
+
+    caller_frame : HoldsFrame (setting_of u addresses [] (codes a.function)) (record { memory = c.memory; input = c.input; here = a; waiting = waiting }) t
+    caller_frame = frame_found (setting_of u addresses [] (codes a.function)) (record { memory = c.memory; input = c.input; here = a; waiting = waiting }) (behind_frame f h) t [] found_none left.sp found_gp found_home left.memory tt tt both.0.frame
+
+    ended_objects : HoldsObjects addresses later t.memory
+    ended_objects = objects_ended addresses c.here.first_object c.memory t.memory caller_frame.objects
+
+    ended_frame : HoldsFrame (setting_of u addresses [] (codes a.function)) (record { memory = later; input = c.input; here = a; waiting = waiting }) t
+    ended_frame = frame_those (setting_of u addresses [] (codes a.function)) (record { memory = c.memory; input = c.input; here = a; waiting = waiting }) t later (those_ended c.here.first_object c.memory) ended_objects caller_frame
+
+    leaves : LeavesAbove (codes a.function) addresses c.memory (behind_frame f h) t
+    leaves = record {
+      sp = left.sp;
+      none = found_none;
+      gp = found_gp;
+      homes = λ r is. inl (found_home r is);
+      kept = λ b low high. ap (λ (m : ℕ → ℕ). m b) left.memory;
+      above = λ b low none. ap (λ (m : ℕ → ℕ). m b) left.memory;
+      statics = λ b low none. ap (λ (m : ℕ → ℕ). m b) left.memory;
+    }
+
+    caller_all : HoldsAll codes u addresses (Resumes p codes goes_on) [] (record { memory = later; input = c.input; here = a; waiting = waiting }) t
+    caller_all =
+        let grown = grown_those addresses c.memory later (those_ended c.here.first_object c.memory) (let same = length_ended c.here.first_object c.memory in omega (arith, same)) in
+        record {
+          here = ended_frame;
+          waiting = waiting_kept codes u valid addresses addresses (Resumes p codes goes_on) c.memory later 0 grown ended_frame.laid waiting (codes a.function) a.first_object (behind_frame f h) t c.input c.input (valid a.function) leaves (omega arith) (let many = both.0.objects in omega (arith, many)) ended_objects both.1;
+          depth = let tp = left.depth in let deep = all.depth in let many = ap (λ (l : List Activation). length l) waits in omega (arith, tp, deep, many);
+          room = let sp = left.sp in let room = both.0.room in omega (arith, sp, room);
+          objects = let same = length_ended c.here.first_object c.memory in let most = both.0.objects in omega (arith, same, most);
+          input = left.input ∙ all.input;
+          below = λ n o is live.
+              let was : IsEndedOr c.here.first_object c.memory n o = ended_or c.here.first_object c.memory n o is in
+              subst (λ s. (addresses n + bytes_of o ≤ 5242880) ⊎ (s ≤ addresses n)) (sym left.sp)
+              (both.0.below n o (was.low live) (was.is ∙ ap (λ q. Some q) (was.live live)) live);
+        }
+
+  -- ---- The result is written
+
+  module _ (held : List Held) (c : Configuration) (h : Holding) (a : Activation) (v : Value) (all : HoldsAll codes u addresses (Resumes p codes goes_on) held c h) (here : c.here ≡ a) where
+    -- The words that write the result do, and go on to what stands behind them.
+    pub answered_comes : (s : State) (i : ℕ) (wanted : Option ℕ) (target : Option Home) → wanted ≡ option_map home_number target → IsTargetAmong (codes a.function).slots target → IsSaved (codes a.function).saved target → Stands p s i h
+        → CodeAt p i false (answer_code (codes a.function).storage target) → Means addresses c.memory v (h.registers 10)
+        → AllCome p s i false (length (answer_code (codes a.function).storage target)) (i + length (answer_code (codes a.function).storage target)) false codes u addresses (Resumes p codes goes_on) held (record c { here = take_wanted wanted v a })
+    answered_comes s i wanted None wants among saved stands code means =
+        let same : take_wanted wanted v a ≡ c.here = ap (λ o. take_wanted o v a) wants ∙ sym here in
+        let e : i ≡ i + 0 = omega arith in
+        subst (λ (q : Activation). AllCome p s i false 0 (i + 0) false codes u addresses (Resumes p codes goes_on) held (record c { here = q })) (sym same)
+        (record {
+          count = 0;
+          few = omega arith;
+          holding = h;
+          reaches = code_does p s i h false [] stands tt tt;
+          all = all;
+        })
+    answered_comes s i wanted (Some home) wants among saved stands code means =
+        let f : FunctionCode = codes c.here.function in
+        let same : take_wanted wanted v a ≡ take_value (home_number home) v c.here = ap (λ o. take_wanted o v a) wants ∙ ap (take_value (home_number home) v) (sym here) in
+        subst (λ (q : Activation). AllCome p s i false (length (home_written (codes a.function).storage home 10)) (i + length (home_written (codes a.function).storage home 10)) false codes u addresses (Resumes p codes goes_on) held (record c { here = q })) (sym same)
+        (subst (λ (q : Activation). AllCome p s i false (length (home_written (codes q.function).storage home 10)) (i + length (home_written (codes q.function).storage home 10)) false codes u addresses (Resumes p codes goes_on) held (record c { here = take_value (home_number home) v c.here })) here
+        (by_home (subst (λ (q : Activation). IsTargetAmong (codes q.function).slots (Some home)) (sym here) among) (subst (λ (q : Activation). IsSaved (codes q.function).saved (Some home)) (sym here) saved)
+        (subst (λ (q : Activation). CodeAt p i false (home_written (codes q.function).storage home 10)) (sym here) code)))
+      where
+        by_home : IsTargetAmong (codes c.here.function).slots (Some home) → IsSaved (codes c.here.function).saved (Some home) → CodeAt p i false (home_written (codes c.here.function).storage home 10)
+            → AllCome p s i false (length (home_written (codes c.here.function).storage home 10)) (i + length (home_written (codes c.here.function).storage home 10)) false codes u addresses (Resumes p codes goes_on) held (record c { here = take_value (home_number home) v c.here })
+        by_home within kept there =
+            let f : FunctionCode = codes c.here.function in
+            let w : Setting = setting_of u addresses held f in
+            let storage : IsStorage w = (valid c.here.function).storage addresses held in
+            let words_of_it = home_written f.storage home 10 in
+            let d : Configuration = record c { here = take_value (home_number home) v c.here } in
+            let done : Performs w c h (Some home) words_of_it d =
+            home_performed w c h home v (h.registers 10) words_of_it storage all.here within (home_made f.storage h home 10 (h.registers 10) (can_write w c h home storage all.here within) (λ e. cc) refl (stands.in_range.words 10)) means in
+            let same : SameActivation c d = record { function = refl; first = refl; waiting = refl; those = those_same c.memory; longer = omega arith } in
+            record {
+              count = length words_of_it;
+              few = omega arith;
+              holding = done_by_all words_of_it h;
+              reaches = subst (λ q. Reaches p (length words_of_it) (record { state = s; shown = false }) [] (i + length words_of_it) q (done_by_all words_of_it h)) (behind_none words_of_it) (code_does p s i h false words_of_it stands there done.can);
+              all = all_kept codes u valid addresses (Resumes p codes goes_on) held held c d h (done_by_all words_of_it h) (Some home) all (performed_leaves w c d h (Some home) words_of_it done) within kept same done.frame (done.input ∙ all.input);
+            }
+
+  -- ---- The return
+
+  module _ (t : Targets) (inside : AreInCode t) (s : State) (i : ℕ) (b : Bool) (c : Configuration) (h : Holding) (all : HoldsAll codes u addresses (Resumes p codes goes_on) [] c h) (stands : Stands p s i h) (end next j room : ℕ)
+      (there : PiecesAt p t i b (leaving (codes c.here.function).saved (codes c.here.function).size b end next room) j) (follows : j ≡ t.label next) (ending : CodeAt p (t.label end) false (leaving_code (codes c.here.function).saved (codes c.here.function).size))
+      (main : EndsMain p) (v : Value) (means : Means addresses c.memory v (h.registers 10)) where
+    leaves_front : Leaves (codes c.here.function).saved (codes c.here.function).size h
+    leaves_front = leaving_leaves (codes c.here.function).saved (codes c.here.function).size h (can_leave c h all)
+
+    abbrev g : Holding
+    g = done_by_all (leaving_front (codes c.here.function).saved (codes c.here.function).size) h
+
+    result_kept : g.registers 10 ≡ h.registers 10
+    result_kept = leaves_front.left.others 10 (λ e. cc) (λ e. cc) (λ e. cc) (λ e. cc) ∙ restored_a0 (codes c.here.function).saved _ h.memory h.registers (valid c.here.function).registers
+
+    -- To an activation that waits.
+    to_caller : (a : Activation) (waiting : List Activation) → c.waiting ≡ a ∷ waiting
+        → Returned p s i b (4 + length (leaving_code (codes c.here.function).saved (codes c.here.function).size)) codes u addresses goes_on c (record { memory = ended_from c.here.first_object c.memory; input = c.input; here = take_wanted a.wants v a; waiting = waiting })
+    to_caller a waiting waits =
+        let two = both c h g a waiting all waits leaves_front.left in
+        let wait = two.0 in
+        let gone : GoesTo p s b (1 + length (leaving_code (codes c.here.function).saved (codes c.here.function).size)) wait.index g =
+        leave_goes p t s i b h (codes c.here.function).saved (codes c.here.function).size end next room j wait.index inside (can_leave c h all) stands there follows ending wait.returns wait.low in
+        let later : Memory = ended_from c.here.first_object c.memory in
+        let c1 : Configuration = record { memory = later; input = c.input; here = a; waiting = waiting } in
+        let held = caller_all c h g a waiting all waits leaves_front.left in
+        let resumed = wait.code in
+        let value_means : Means addresses later v (g.registers 10) = subst (λ x. Means addresses later v x) (sym result_kept) (means_later addresses c.memory later (those_ended c.here.first_object c.memory) v (h.registers 10) means) in
+        let rest = answered_comes [] c1 g a v held refl gone.reaches.state wait.index a.wants resumed.target resumed.wants resumed.among resumed.saved gone.reaches.stands resumed.code value_means in
+        let short = answer_short (codes a.function).storage resumed.target in
+        record {
+          caller = a;
+          waits = waits;
+          to = wait.index + length (answer_code (codes a.function).storage resumed.target);
+          resumed = resumed.rest;
+          value = v;
+          here = refl;
+          comes = record {
+            count = gone.count + rest.count;
+            few = let m1 = gone.few in let m2 = rest.few in omega (arith, m1, m2, short);
+            holding = rest.holding;
+            reaches = reaches_then p gone.count rest.count (record { state = s; shown = b }) [] wait.index false g [] (wait.index + length (answer_code (codes a.function).storage resumed.target)) false rest.holding gone.reaches rest.reaches;
+            all = rest.all;
+          };
+        }
+
+    -- From main.
+    from_main : (n : ℕ) → v ≡ Number n → c.waiting ≡ [] → EndsRun p s b (4 + length (leaving_code (codes c.here.function).saved (codes c.here.function).size)) (Exited n)
+    unfolding operated_immediate
+    from_main n is none =
+        let top = subst (λ l. HoldsWaiting codes u addresses (Resumes p codes goes_on) c.memory c.input (codes c.here.function) c.here.first_object h l) none all.waiting in
+        let gone : GoesTo p s b (1 + length (leaving_code (codes c.here.function).saved (codes c.here.function).size)) 3 g =
+        leave_goes p t s i b h (codes c.here.function).saved (codes c.here.function).size end next room j 3 inside (can_leave c h all) stands there follows ending top.0 (omega arith) in
+        let one = code_does p gone.reaches.state 3 g false (Immediate Addi 17 0 10 ∷ []) gone.reaches.stands (main.0, tt) (tt, tt) in
+        let g1 : Holding = done_by_all (Immediate Addi 17 0 10 ∷ []) g in
+        let zero : g.registers 0 ≡ 0 = gone.reaches.stands.in_range.none in
+        let call : g1.registers 17 ≡ 10 = omega (arith, zero) in
+        let last = ends_with_status p one.state 4 g1 false one.stands main.1.0 call in
+        let word : h.registers 10 ≡ n = subst (λ x. Means addresses c.memory x (h.registers 10)) is means in
+        let status : g1.registers 10 ≡ n = result_kept ∙ word in
+        let two = reaches_end p 1 1 (record { state = gone.reaches.state; shown = false }) [] 4 false g1 (Exit (cast_signed w32 (g1.registers 10)) ∷ []) one last in
+        let three = reaches_end p gone.count (1 + 1) (record { state = s; shown = b }) [] 3 false g (Exit (cast_signed w32 (g1.registers 10)) ∷ []) gone.reaches two in
+        record {
+          count = gone.count + (1 + 1);
+          few = let most = gone.few in omega (arith, most);
+          event = Exit (cast_signed w32 n);
+          shown = exited_so;
+          ends = subst (λ x. Ends p.stops (gone.count + (1 + 1)) (record { state = s; shown = b }) (Exit (cast_signed w32 x) ∷ [])) status three;
+        }
+
+    -- Whichever it is.
+    pub return_done : DoesReturn p s i b (4 + length (leaving_code (codes c.here.function).saved (codes c.here.function).size)) codes u addresses goes_on c (leave c v)
+    return_done = by_waiting c.waiting refl
+      where
+        by_value : (x : Value) → v ≡ x → c.waiting ≡ [] → DoesReturn p s i b (4 + length (leaving_code (codes c.here.function).saved (codes c.here.function).size)) codes u addresses goes_on c (exited x)
+        by_value (Number n) is none = from_main n is none
+        by_value (Pointer object size offset) is none = tt
+        by_value Odd is none = tt
+
+        by_waiting : (waiting : List Activation) → c.waiting ≡ waiting → DoesReturn p s i b (4 + length (leaving_code (codes c.here.function).saved (codes c.here.function).size)) codes u addresses goes_on c (returned (ended_from c.here.first_object c.memory) c.input v waiting)
+        by_waiting [] none = by_value v refl none
+        by_waiting (a ∷ waiting) waits = to_caller a waiting waits

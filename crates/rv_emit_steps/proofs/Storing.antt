@@ -1,0 +1,146 @@
+-- Stores into the machine's lists of bytes, as writes to memory as a function.
+use Rattle.std.proofs.Common.{◌≡◌, ℕ, zero, suc, ◌+◌, ◌-◌, ◌*◌, ◌/◌, ◌%◌, ◌<◌, ◌≤◌, ◌⊎◌, ⊎_elim, inl, inr, sym, ap, ◌∙◌, arith, refl, List, length, true, false, Some}
+use Rattle.std.specs.Prelude.{slice_index, slice_set, nat_lt}
+use Rattle.std.proofs.lemmas.List.{get_or-set_same, get_or-set_other}
+use Rattle.std.proofs.Math.ListN.{length-set}
+use Rattle.std.proofs.lemmas.Bool.{le-ltb, lt-ltb, cases_lt}
+use Rattle.rv_code.specs.declared.instruction.StoreOperation.{StoreOperation}
+use Rattle.rv_code.specs.declared.instruction.StoreOperation.TheVariants.{Sb, Sh, Sw}
+use Rattle.rv_machine.specs.State.{State}
+use Rattle.rv_machine.specs.Memory.{with_half, with_word}
+use Rattle.rv_machine.specs.Table.{location_of, stored, stored_in, store_size}
+use Rattle.rv_machine.proofs.Laws.{length_stored_in}
+use Rattle.rv_machine.proofs.Memory.{written_bytes, byte_other}
+use Rattle.rv_machine.proofs.Narrow.{byte_in_with_byte, byte_in_other, byte_in_with_half_other}
+use Rattle.rv_emit_steps.specs.Holding.{memory_of, byte_of, with_bytes, IsDataAt}
+use Rattle.rv_emit_steps.proofs.Bytes.{in_bytes, in_stack, in_none}
+use Rattle.rv_emit_steps.proofs.Apart.{written_memory}
+
+-- A list of bytes behind a store of so many bytes of a value at an offset: these stand there, and the others as they were.
+record IsWritten (n : ℕ) (xs ys : List ℕ) (i v : ℕ) : Type 0 where
+  within : (k : ℕ) → k < n → slice_index ys (i + k) ≡ byte_of v k
+  outside : (j : ℕ) → (j < i) ⊎ (i + n ≤ j) → slice_index ys j ≡ slice_index xs j
+
+-- at the offset itself
+at_first : (ys : List ℕ) (i x : ℕ) → slice_index ys i ≡ x → slice_index ys (i + 0) ≡ x
+at_first ys i x h = let e : i + 0 ≡ i = omega arith in ap (slice_index ys) e ∙ h
+
+half_written : (xs : List ℕ) (i v : ℕ) → i + 1 < length xs → (slice_index (with_half xs i v) i ≡ v % 256) × (slice_index (with_half xs i v) (i + 1) ≡ v / 256 % 256)
+unfolding with_half
+half_written xs i v lt =
+    let l0 = length-set xs i (v % 256) in (
+      get_or-set_other (slice_set xs i (v % 256)) (i + 1) i (v / 256 % 256) 0 (λ e. omega arith) ∙ get_or-set_same xs i (v % 256) 0 (omega arith),
+      get_or-set_same (slice_set xs i (v % 256)) (i + 1) (v / 256 % 256) 0 (omega arith),
+    )
+
+store_written : (op : StoreOperation) (xs : List ℕ) (i v : ℕ) → i + store_size op ≤ length xs → IsWritten (store_size op) xs (stored_in op xs i v) i v
+unfolding stored_in
+store_written Sb xs i v lt = record { within = within; outside = λ j apart. byte_in_other xs i j v (λ e. ⊎_elim (λ (h : j < i). omega arith) (λ (h : i + 1 ≤ j). omega arith) apart) }
+  where
+    within : (k : ℕ) → k < 1 → slice_index (slice_set xs i (v % 256)) (i + k) ≡ byte_of v k
+    within zero lt1 = at_first (slice_set xs i (v % 256)) i (v % 256) (byte_in_with_byte xs i v (omega arith))
+    within (suc k) lt1 = absurd (omega arith)
+store_written Sh xs i v lt = record { within = within; outside = λ j apart. byte_in_with_half_other xs i j v apart }
+  where
+    within : (k : ℕ) → k < 2 → slice_index (with_half xs i v) (i + k) ≡ byte_of v k
+    within zero lt2 = at_first (with_half xs i v) i (v % 256) (half_written xs i v (omega arith)).0
+    within (suc zero) lt2 = (half_written xs i v (omega arith)).1
+    within (suc (suc k)) lt2 = absurd (omega arith)
+store_written Sw xs i v lt = record { within = within; outside = λ j apart. byte_other xs i j v apart }
+  where
+    within : (k : ℕ) → k < 4 → slice_index (with_word xs i v) (i + k) ≡ byte_of v k
+    within zero lt4 = at_first (with_word xs i v) i (v % 256) (written_bytes xs i v (omega arith)).0
+    within (suc zero) lt4 = (written_bytes xs i v (omega arith)).1
+    within (suc (suc zero)) lt4 = (written_bytes xs i v (omega arith)).2
+    within (suc (suc (suc zero))) lt4 = (written_bytes xs i v (omega arith)).3
+    within (suc (suc (suc (suc k)))) lt4 = absurd (omega arith)
+
+-- Memory after a store into static memory.
+memory_with_bytes : (n : ℕ) (xs ys stack : List ℕ) (a v : ℕ) → 4194304 ≤ a → a + n ≤ 5242880 → IsWritten n xs ys (a - 4194304) v → memory_of ys stack ≡ with_bytes n a v (memory_of xs stack)
+memory_with_bytes n xs ys stack a v low high h = written_memory n a v (memory_of xs stack) (memory_of ys stack) within outside
+  where
+    within : (b : ℕ) → a ≤ b → b < a + n → memory_of ys stack b ≡ byte_of v (b - a)
+    within b lb hb =
+        let e : b - 4194304 ≡ a - 4194304 + (b - a) = omega arith in
+        in_bytes ys stack b (omega arith) (omega arith) ∙ ap (slice_index ys) e ∙ h.within (b - a) (omega arith)
+
+    outside : (b : ℕ) → (b < a) ⊎ (a + n ≤ b) → memory_of ys stack b ≡ memory_of xs stack b
+    outside b apart = ⊎_elim
+        (λ (none : b < 4194304). in_none ys stack b none ∙ sym (in_none xs stack b none))
+        (λ (some : 4194304 ≤ b). ⊎_elim
+        (λ (near : b < 16777216). in_bytes ys stack b some near ∙ h.outside (b - 4194304) (⊎_elim (λ (l : b < a). inl (omega arith)) (λ (g : a + n ≤ b). inr (omega arith)) apart) ∙ sym (in_bytes xs stack b some near))
+        (λ (far : 16777216 ≤ b). in_stack ys stack b far ∙ sym (in_stack xs stack b far))
+        (cases_lt b 16777216))
+        (cases_lt b 4194304)
+
+-- Memory after a store into the stack.
+memory_with_stack : (n : ℕ) (xs ys bytes : List ℕ) (a v : ℕ) → 16777216 ≤ a → IsWritten n xs ys (a - 16777216) v → memory_of bytes ys ≡ with_bytes n a v (memory_of bytes xs)
+memory_with_stack n xs ys bytes a v low h = written_memory n a v (memory_of bytes xs) (memory_of bytes ys) within outside
+  where
+    within : (b : ℕ) → a ≤ b → b < a + n → memory_of bytes ys b ≡ byte_of v (b - a)
+    within b lb hb =
+        let e : b - 16777216 ≡ a - 16777216 + (b - a) = omega arith in
+        in_stack bytes ys b (omega arith) ∙ ap (slice_index ys) e ∙ h.within (b - a) (omega arith)
+
+    outside : (b : ℕ) → (b < a) ⊎ (a + n ≤ b) → memory_of bytes ys b ≡ memory_of bytes xs b
+    outside b apart = ⊎_elim
+        (λ (none : b < 4194304). in_none bytes ys b none ∙ sym (in_none bytes xs b none))
+        (λ (some : 4194304 ≤ b). ⊎_elim
+        (λ (near : b < 16777216). in_bytes bytes ys b some near ∙ sym (in_bytes bytes xs b some near))
+        (λ (far : 16777216 ≤ b). in_stack bytes ys b far ∙ h.outside (b - 16777216) (⊎_elim (λ (l : b < a). inl (omega arith)) (λ (g : a + n ≤ b). inr (omega arith)) apart) ∙ sym (in_stack bytes xs b far))
+        (cases_lt b 16777216))
+        (cases_lt b 4194304)
+
+-- A store that is carried out: the state behind it differs in memory alone, and by the bytes that were written.
+pub record Stored (s : State) (op : StoreOperation) (a v : ℕ) : Type 0 where
+  pub state : State
+  pub is : stored s op a v ≡ Some state
+  pub code : state.code ≡ s.code
+  pub registers : state.registers ≡ s.registers
+  pub input : state.input ≡ s.input
+  pub bytes : length state.bytes ≡ length s.bytes
+  pub stack : length state.stack ≡ length s.stack
+  pub memory : memory_of state.bytes state.stack ≡ with_bytes (store_size op) a v (memory_of s.bytes s.stack)
+
+store_size_few : (op : StoreOperation) → (1 ≤ store_size op) × (store_size op ≤ 4)
+store_size_few Sb = (omega arith, omega arith)
+store_size_few Sh = (omega arith, omega arith)
+store_size_few Sw = (omega arith, omega arith)
+
+-- A store at an address of static memory or of the stack is carried out.
+pub stores : (s : State) (op : StoreOperation) (a v : ℕ) → length s.code ≤ 262144 → length s.bytes ≡ 1048576 → length s.stack ≡ 16777216 → IsDataAt (store_size op) a → Stored s op a v
+unfolding stored location_of
+stores s op a v short bytes stack (aligned, inl (low, high)) =
+    let few = store_size_few op in
+    let a1 : nat_lt a 65536 ≡ false = le-ltb a 65536 (omega arith) in
+    let a2 : nat_lt a (65536 + 4 * length s.code) ≡ false = le-ltb a (65536 + 4 * length s.code) (omega arith) in
+    let a3 : nat_lt a 4194304 ≡ false = le-ltb a 4194304 (omega arith) in
+    let a4 : nat_lt a 5242880 ≡ true = lt-ltb a 5242880 (omega arith) in
+    record {
+      state = record s { bytes = stored_in op s.bytes (a - 4194304) v };
+      is = simp (aligned, a1, a2, a3, a4);
+      code = refl;
+      registers = refl;
+      input = refl;
+      bytes = length_stored_in op s.bytes (a - 4194304) v;
+      stack = refl;
+      memory = memory_with_bytes (store_size op) s.bytes (stored_in op s.bytes (a - 4194304) v) s.stack a v low high (store_written op s.bytes (a - 4194304) v (omega arith));
+    }
+stores s op a v short bytes stack (aligned, inr (low, high)) =
+    let few = store_size_few op in
+    let a1 : nat_lt a 65536 ≡ false = le-ltb a 65536 (omega arith) in
+    let a2 : nat_lt a (65536 + 4 * length s.code) ≡ false = le-ltb a (65536 + 4 * length s.code) (omega arith) in
+    let a3 : nat_lt a 4194304 ≡ false = le-ltb a 4194304 (omega arith) in
+    let a4 : nat_lt a 5242880 ≡ false = le-ltb a 5242880 (omega arith) in
+    let a5 : nat_lt a 16777216 ≡ false = le-ltb a 16777216 (omega arith) in
+    let a6 : nat_lt a 33554432 ≡ true = lt-ltb a 33554432 (omega arith) in
+    record {
+      state = record s { stack = stored_in op s.stack (a - 16777216) v };
+      is = simp (aligned, a1, a2, a3, a4, a5, a6);
+      code = refl;
+      registers = refl;
+      input = refl;
+      bytes = refl;
+      stack = length_stored_in op s.stack (a - 16777216) v;
+      memory = memory_with_stack (store_size op) s.stack (stored_in op s.stack (a - 16777216) v) s.bytes a v low (store_written op s.stack (a - 16777216) v (omega arith));
+    }

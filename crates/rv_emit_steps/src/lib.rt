@@ -1,0 +1,2 @@
+//! That the words of instructions do the unit's steps.
+#![tactic(auto)]

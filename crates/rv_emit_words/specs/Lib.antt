@@ -1,0 +1,6 @@
+pub mod Words
+pub mod Constants
+pub mod Fetching
+pub mod Growing
+pub mod Operands
+pub mod Shown

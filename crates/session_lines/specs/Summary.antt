@@ -1,0 +1,79 @@
+-- The run of an image that is stepped to its end, in counts.
+use Rattle.std.specs.Prelude.{◌≡◌, ℕ, ◌+◌, min, Some, List, [], ◌∷◌, length}
+use Rattle.image_form.specs.Form.{Form}
+use Rattle.session_lines.specs.declared.lines.PairCounts.{PairCounts}
+use Rattle.rv_machine.specs.Run.{MachineEvent}
+use Rattle.stop_engine.specs.AtStop.{locals_at}
+use Rattle.stop_engine.specs.EngineState.{HasRun, RunState}
+use Rattle.stop_engine.specs.Halting.{halt_at, halt_of}
+use Rattle.stop_engine.specs.Transcript.{AnyStop, Ending, Position, Fresh, Standing, Over, Reach, ran}
+use Rattle.stop_engine.specs.Visible.{Visible}
+use Rattle.stop_engine.specs.declared.halt.Halt.{Halt}
+use Rattle.stop_engine.specs.declared.halt.Halt.TheVariants as halt
+use Rattle.stop_engine_texts.specs.Sight.{Sight, NoStop, NoName, Value, Recovered, Noncurrent, Nonresident}
+use Rattle.stop_engine_view.specs.Run.{image_run}
+use Rattle.session_lines.specs.declared.summary.Counts.{Counts}
+use Rattle.session_lines.specs.declared.summary.Summary.{Summary}
+
+abbrev pub no_pairs : PairCounts
+no_pairs = record { pairs = 0; home = 0; recovered = 0; noncurrent = 0; nonresident = 0 }
+
+abbrev pub nothing : Counts
+nothing = record { stops = 0; pairs = no_pairs; out = 0 }
+
+-- so many more; what would pass the greatest number of 64 bits stays there
+abbrev pub and_more : ℕ → ℕ → ℕ
+and_more n k = min (n + k) 18446744073709551615
+
+-- a visible variable more, by what is seen of it
+abbrev pub counted : Sight → PairCounts → PairCounts
+counted NoStop c = c
+counted NoName c = c
+counted (Value text) c = record c { home = and_more c.home 1; pairs = and_more c.pairs 1 }
+counted (Recovered text change) c = record c { recovered = and_more c.recovered 1; pairs = and_more c.pairs 1 }
+counted (Noncurrent change path) c = record c { noncurrent = and_more c.noncurrent 1; pairs = and_more c.pairs 1 }
+counted (Nonresident change path) c = record c { nonresident = and_more c.nonresident 1; pairs = and_more c.pairs 1 }
+
+-- some visible variables more
+abbrev pub counted_all : List Visible → PairCounts → PairCounts
+counted_all [] c = c
+counted_all (v ∷ all) c = counted_all all (counted v.sight c)
+
+-- a stop more, with these visible variables
+abbrev pub counted_here : List Visible → Counts → Counts
+counted_here locals c = record c { stops = and_more c.stops 1; pairs = counted_all locals c.pairs }
+
+-- a stop more, if the run stands at one, with its visible variables
+abbrev pub counted_stop : Form → Position → Counts → Counts
+counted_stop m Fresh c = c
+counted_stop m (Standing s) c = counted_here (locals_at m (Standing s)) c
+counted_stop m (Over e) c = c
+
+-- a step more: its output, and the stop to which it came
+abbrev pub counted_reach : Form → Reach → Counts → Counts
+counted_reach m r c = counted_stop m r.position (record c { out = and_more c.out (length r.output) })
+
+-- a halt at a stop, and no ending
+abbrev pub IsStop : Halt → Type 0
+IsStop (halt.At place depth) = Unit {0}
+IsStop (halt.Exited status) = ⊥
+IsStop halt.Depth = ⊥
+IsStop (halt.Fault address) = ⊥
+IsStop halt.Limit = ⊥
+
+-- A run went on to the next stop or to its end, and is then the other; that was counted.
+pub record IsOneStep (old new : RunState) (before behind : Counts) (at : Halt) : Type 0 where
+  pub went : HasRun AnyStop old new
+  pub counts : behind ≡ counted_reach new.form (record { output = new.output; position = new.position; rest = new.events }) before
+  pub halts : halt_at new.form new.position ≡ Some at
+
+-- A run is stepped to its end: from where it stands to the next stop, and so on, until it is over. The counts go from the first to the second.
+pub data IsStepped (m : Form) : Position → List MachineEvent → (before behind : Counts) → Ending → Type 0 where
+  over : {e : Ending} {events : List MachineEvent} {c : Counts} → IsStepped m (Over e) events c c e
+  step : {p : Position} {events : List MachineEvent} {r : Reach} {c d : Counts} {e : Ending} → ran m AnyStop p events ≡ r → IsStepped m r.position r.rest (counted_reach m r c) d e → IsStepped m p events c d e
+
+-- The summary of the run of an image on an input, of at most so many instructions, is what stepping it to its end from its start comes to.
+pub record IsSummed (m : Form) (input : List ℕ) (limit : ℕ) (summary : Summary) : Type 0 where
+  pub ending : Ending
+  pub stepped : IsStepped m Fresh (image_run m input limit) nothing summary.counts ending
+  pub ending_is : summary.ending ≡ halt_of ending

@@ -1,3 +1,0 @@
-pub mod BlockRows
-pub mod Exact
-pub mod Points

@@ -1,2 +1,0 @@
-pub mod Stale
-pub mod Rows

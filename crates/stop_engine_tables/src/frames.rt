@@ -1,0 +1,104 @@
+//! The places of the activations that are live at a stop.
+
+ghost use Rattle.std.specs.Prelude.{◌≡◌, ◌≢◌, ◌<◌, ◌≤◌, ◌^◌, ℕ, All, IfOk, true};
+ghost use Rattle.image_form.specs.Form.{form};
+ghost use Rattle.image_form.specs.Rules.{IsImage};
+ghost use Rattle.image_form.specs.RulesOfFunctions.{IsPlaceNumber};
+ghost use Rattle.rv_machine.specs.State.{word};
+ghost use Rattle.stop_engine_view.specs.Callers.{calling_place, place_before, return_address};
+ghost use Rattle.stop_engine_view.specs.Reading.{frame_of, frames, greatest_depth, is_stack_address, owner_of};
+
+use crate::reading::{CODE_START, STACK_END, STACK_START, stack_pointer, word_in};
+use image_form::Image;
+use rv_machine::Machine;
+use std::alloc::{AllocError, Global};
+
+/// The number of the place that a code word belongs to, by the word's address, or 0 for none.
+pub fn owner_of(image: &Image, address: u32) -> u32
+    ensures { result ≡ owner_of (form image.now) address }
+{
+    if address % 4 != 0 {
+        return 0;
+    }
+    if address < CODE_START {
+        return 0;
+    }
+    let word = (address - CODE_START) / 4;
+    image.owners.get(word as usize).copied().unwrap_or(0)
+}
+
+/// The address that is stored where a frame starts, in the stack.
+#[tactic(auto, using(crate::proofs::Slots::word_in_rest), unfolding(rv_machine::specs::Reading::stack_rest))]
+fn return_address(machine: &Machine, frame: u32) -> u32
+    requires { is_stack_address frame ≡ true }
+    ensures { result ≡ return_address machine.now frame }
+{
+    word_in(machine.stack_from(frame), 0)
+}
+
+/// The place of the call that made the activation whose frame starts there, or 0 where there is none.
+pub fn calling_place(image: &Image, machine: &Machine, frame: u32) -> u32
+    requires { IsImage (form image.now) }
+    ensures place { result ≡ calling_place (form image.now) machine.now frame }
+    ensures number { result ≢ 0 → IsPlaceNumber (form image.now) result }
+{
+    if frame < STACK_START {
+        return 0;
+    }
+    if frame >= STACK_END {
+        return 0;
+    }
+    if frame % 4 != 0 {
+        return 0;
+    }
+    let address = return_address(machine, frame).wrapping_sub(4);
+    owner_of(image, address)
+}
+
+/// The bytes of the frame of a place's function.
+pub fn frame_of(image: &Image, place: u32) -> u32
+    requires image { IsImage (form image.now) }
+    requires place { IsPlaceNumber (form image.now) place }
+    ensures { result ≡ frame_of (form image.now) place }
+{
+    let function = image.places[place as usize - 1].function;
+    image.functions[function as usize].frame
+}
+
+/// How many activations may be live.
+#[tactic(auto, unfolding(stop_engine_view::specs::Reading::greatest_depth))]
+pub fn greatest_depth() -> u32
+    ensures { result ≡ greatest_depth }
+{
+    1024
+}
+
+/// The places of the activations that are live, from the innermost, which stands at this place, on. `AllocError` where memory for them
+/// was refused.
+pub fn frame_places(
+    alloc: Global,
+    image: &Image,
+    machine: &Machine,
+    place: u32,
+) -> Result<Vec<u32>, AllocError>
+    requires image { IsImage (form image.now) }
+    requires place { IsPlaceNumber (form image.now) place }
+    ensures places { IfOk result (λ places. places.items ≡ frames (form image.now) machine.now place) }
+    ensures numbers { IfOk result (λ places. All (IsPlaceNumber (form image.now)) places.items) }
+{
+    let mut places = Vec::new(alloc);
+    let mut left = greatest_depth();
+    let mut at = place;
+    let mut frame = stack_pointer(machine);
+    while left > 0 {
+        left -= 1;
+        places.push(at)?;
+        let caller = calling_place(image, machine, frame);
+        if caller == 0 {
+            return Ok(places);
+        }
+        frame = frame.wrapping_add(frame_of(image, at));
+        at = caller;
+    }
+    Ok(places)
+}

@@ -1,4 +1,0 @@
-pub mod Alike
-pub mod Calls
-pub mod Steps
-pub mod Homes

@@ -1,2 +1,0 @@
-//! Whose the live objects of a unit's run are, and where its activations are.
-#![tactic(auto)]
