@@ -15,6 +15,7 @@ use Rattle.c_parse.specs.Expressions.{IsPrimary, IsPostfix, IsUnary, IsCast, IsL
 use Rattle.c_parse.specs.Expressions as expression
 use Rattle.c_parse.specs.Statements.{IsNoElse, other, IsStatement}
 use Rattle.c_parse.specs.Statements as grammar
+use Rattle.c_parse.specs.Laws.{level_of, top_level, AssociateToTheLeft, ElseIsTheNearest}
 use Rattle.c_parse.proofs.Words.{no, some_same, never}
 
 -- ---- else
@@ -66,32 +67,10 @@ crossed (grammar.continue k e) h = no h
 crossed (grammar.return k e) h = no h
 crossed (grammar.return_value k e c) h = no h
 
--- No tokens spell `if (c) if (d) s else r` with the `else` at the outer `if` (ISO/IEC 9899:2011, 6.8.4.1p3).
-pub outer_else_refused : (spot inner : Spot) (c d : ExpressionTree) (s r : StatementTree) (ts rest : List Lexeme) → IsStatement (IfElse spot c (If inner d s) r) ts rest → ⊥
-outer_else_refused spot inner c d s r ts rest h = crossed h refl
+pub else_is_the_nearest : ElseIsTheNearest
+else_is_the_nearest spot inner c d s r ts rest h = crossed h refl
 
 -- ---- operators
-
--- the level at which an operator binds
-abbrev pub level_of : BinaryOperator → ℕ
-level_of binary.Multiply = 1
-level_of binary.Divide = 1
-level_of binary.Remainder = 1
-level_of binary.Add = 2
-level_of binary.Subtract = 2
-level_of binary.ShiftLeft = 3
-level_of binary.ShiftRight = 3
-level_of binary.Less = 4
-level_of binary.Greater = 4
-level_of binary.LessEqual = 4
-level_of binary.GreaterEqual = 4
-level_of binary.Equal = 5
-level_of binary.NotEqual = 5
-level_of binary.BitAnd = 6
-level_of binary.BitXor = 7
-level_of binary.BitOr = 8
-level_of binary.LogicalAnd = 9
-level_of binary.LogicalOr = 10
 
 its_level : (p : Punctuator) (x : ℕ × BinaryOperator) → binary_operator p ≡ Some x → level_of x.1 ≡ x.0
 unfolding binary_operator
@@ -114,11 +93,6 @@ its_level punctuator.Bar x e = subst (λ (y : ℕ × BinaryOperator). level_of y
 its_level punctuator.AndAnd x e = subst (λ (y : ℕ × BinaryOperator). level_of y.1 ≡ y.0) (some_same e) refl
 its_level punctuator.OrOr x e = subst (λ (y : ℕ × BinaryOperator). level_of y.1 ≡ y.0) (some_same e) refl
 its_level p x e = never e
-
--- the level of an expression's operator, if it is an operation
-abbrev top_level : ExpressionTree → ℕ
-top_level (Binary o left right) = level_of o
-top_level e = 0
 
 primary_top : {e : ExpressionTree} {ts rest : List Lexeme} → IsPrimary e ts rest → top_level e ≡ 0
 primary_top (expression.name k) = refl
@@ -157,9 +131,8 @@ abbrev Associates : ExpressionTree → Type 0
 Associates (Binary o left right) = (top_level left ≤ level_of o) × (top_level right < level_of o)
 Associates e = Unit {0}
 
--- Operators associate to the left: the right operand of an operator is an operation of a tighter level, the left one of no looser one.
-pub associates : {level : ℕ} {o : BinaryOperator} {left right : ExpressionTree} {ts rest : List Lexeme} → IsLevel level (Binary o left right) ts rest → (top_level left ≤ level_of o) × (top_level right < level_of o)
-associates h = by h
+pub associate_to_the_left : AssociateToTheLeft
+associate_to_the_left level o left right ts rest h = by h
   where
     not_operation : {e : ExpressionTree} {us more : List Lexeme} → IsCast e us more → Associates e
     not_operation (expression.unary (expression.postfix (expression.primary (expression.name k)))) = tt

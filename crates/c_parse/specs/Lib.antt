@@ -6,3 +6,4 @@ pub mod Declarations
 pub mod Statements
 pub mod Depths
 pub mod Files
+pub mod Laws

@@ -2,6 +2,8 @@
 #![tactic(auto)]
 
 mod file;
+mod laws;
 mod source;
 
+pub use laws::trees_are_bound;
 pub use source::parse;

@@ -1,4 +1,4 @@
--- What the definitions of order, of sound tokens and of formed trees refuse, by worked cases.
+-- The refused cases, one by one.
 use Rattle.std.proofs.Common.{◌≡◌, ℕ, true, false, [], ◌∷◌, None, Some}
 use Rattle.debug_records.specs.declared.source.Spot.{Spot}
 use Rattle.c_token.specs.Lexemes as word
@@ -9,6 +9,7 @@ use Rattle.c_source.specs.Formed.{IsFormed}
 use Rattle.c_source.specs.Files.{IsBodyFormed}
 use Rattle.c_source.specs.TextOrder.{AreInOrder}
 use Rattle.c_source.specs.Tokens.{IsSound}
+use Rattle.c_source.specs.Refused.{AreRefused}
 
 -- on the first line, at an offset
 abbrev first_line : ℕ → Spot
@@ -49,3 +50,16 @@ empty_refused h = let e : false ≡ true = h in absurd cc
 -- a name that begins with a digit
 pub digit_refused : ¬ IsSound (word.Name (49 ∷ []))
 digit_refused h = let e : false ≡ true = h in absurd cc
+
+pub are_refused : AreRefused
+are_refused = record {
+  earlier = earlier_refused;
+  twice = twice_refused;
+  line = line_refused;
+  large = large_refused;
+  byte = byte_refused;
+  declaration = declaration_refused;
+  nameless = nameless_refused;
+  empty = empty_refused;
+  digit = digit_refused;
+}

@@ -16,3 +16,4 @@ pub mod Standing
 pub mod Trees
 pub mod Accepted
 pub mod Sources
+pub mod Refused

@@ -7,3 +7,4 @@ pub mod TextSteps
 pub mod Readings
 pub mod Longest
 pub mod Bounds
+pub mod TextsWorked

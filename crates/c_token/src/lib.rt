@@ -16,6 +16,6 @@ mod text;
 mod token;
 mod word;
 
-pub use laws::{a_text_has_one_reading, each_token_is_the_longest};
+pub use laws::{a_text_has_one_reading, each_token_is_the_longest, texts_are_worked};
 pub use text::tokens;
 pub use token::{Constant, Header, Keyword, Kind, Punctuator, Token};

@@ -1,4 +1,4 @@
-//! What notes say behind the removal, and that the unit is valid.
+//! What notes say after the removal of assignments, and that the unit is valid.
 #![tactic(auto)]
 
 mod blocks;

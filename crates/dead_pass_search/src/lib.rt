@@ -1,4 +1,4 @@
-//! Which writes of a graph go, since nothing that stays reads what they write.
+//! Which writes of a graph go, since nothing that stays reads what they write: a search, which `dead_pass_rule` bears out.
 #![tactic(auto)]
 
 mod flow_rows;

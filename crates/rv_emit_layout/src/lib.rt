@@ -1,4 +1,4 @@
-//! The words of pieces at their addresses, function behind function.
+//! The words of pieces at their addresses, one function after the other.
 #![tactic(auto)]
 
 mod assembling;

@@ -1,4 +1,4 @@
-//! The code of a unit, with what the tables of an image say of it.
+//! What the tables of an image say of the code of a unit.
 #![tactic(auto)]
 
 mod emitted;
