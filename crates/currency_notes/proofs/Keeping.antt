@@ -34,6 +34,15 @@ lost_kept m name x old new put read y r said unread = subst (λ (all : List decl
   | inr e ↦ put_other old x noted.Lost y r e.1 said
 ])
 
+-- the scalar of a note, and what it says
+abbrev note_name : ℕ → Instruction → ℕ
+note_name d (Note x v) = x
+note_name d _ = d
+
+abbrev note_says : NoteValue → Instruction → NoteValue
+note_says d (Note x v) = v
+note_says d _ = d
+
 module _ (m : declared-homes.Homes) where
   -- a note
   pub kept_note : (x : ℕ) (v : NoteValue) (n : declared-noted.Noted) (s t : declared-state.State) (i : Instruction) → i ≡ Note x v → t.noted.items ≡ slice_set s.noted.items x n → t.written.items ≡ s.written.items

@@ -33,6 +33,21 @@ get_cases [] one z (suc k) e = absurd (none-some z e)
 get_cases (x ∷ all) one z zero e = inl e
 get_cases (x ∷ all) one z (suc k) e = elim (get_cases all one z k e) [ inl f ↦ inl f | inr f ↦ inr (ap suc f.0, f.1) ]
 
+put_same : (all : List (Vec declared-write.Write)) (k : ℕ) (v : Vec declared-write.Write) → k < length all → writes_in (slice_set all k v) k ≡ v.items
+put_same [] k v lt = absurd (omega (arith, lt))
+put_same (w ∷ all) zero v lt = refl
+put_same (w ∷ all) (suc k) v lt = put_same all k v (omega (arith, lt))
+
+put_other : (all : List (Vec declared-write.Write)) (i : ℕ) (v : Vec declared-write.Write) (k : ℕ) → k ≢ i → writes_in (slice_set all i v) k ≡ writes_in all k
+put_other [] i v k other = refl
+put_other (w ∷ all) zero v zero other = absurd (other refl)
+put_other (w ∷ all) zero v (suc k) other = refl
+put_other (w ∷ all) (suc i) v zero other = refl
+put_other (w ∷ all) (suc i) v (suc k) other = put_other all i v k (λ e. other (ap suc e))
+
+writes_at : (all : List (Vec declared-write.Write)) (k : ℕ) (v : Vec declared-write.Write) → slice_get all k ≡ Some v → writes_in all k ≡ v.items
+writes_at all k v e = ap (λ (o : Option (Vec declared-write.Write)). option_map_or (λ (z : Vec declared-write.Write). z.items) o []) e
+
 module _ (old : List (Vec declared-write.Write)) (number : ℕ) (v w : Vec declared-write.Write) (lt : number < length old) (is : slice_get old number ≡ Some v) where
   pub pushed_here : (entry : declared-write.Write) → w.items ≡ v.items ++ (entry ∷ []) → writes_in (slice_set old number w) number ≡ writes_in old number ++ (entry ∷ [])
   pushed_here entry more = put_same old number w lt ∙ more ∙ ap (λ xs. xs ++ (entry ∷ [])) (sym (writes_at old number v is))

@@ -10,6 +10,13 @@ use Rattle.currency_writers.specs.Marks.{number_at}
 use Rattle.currency_writers.specs.Flow.{AreStarts, assigned, ComesOn, IsAhead, IsBlocked, IsFlow, IsToldFrom}
 use Rattle.currency_writers.proofs.Going.{come_next}
 
+is_none : (n : ℕ) → (n ≢ 0 → ⊥) → n ≡ 0
+is_none n none = elim (eqb_tells n 0) [ inl e ↦ e.1 | inr e ↦ absurd (none e.1) ]
+
+by_bool : {C : Type 0} (b : Bool) → (b ≡ true → C) → (b ≡ false → C) → C
+by_bool true t f = t refl
+by_bool false t f = f refl
+
 module _ (f : declared-flow.Flow) (from number : ℕ) where
   pub told_same : (m : declared-marks.Marks) → IsToldFrom f from number m m
   told_same m p = inl refl

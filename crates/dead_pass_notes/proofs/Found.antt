@@ -130,6 +130,22 @@ pub found_same : (Given Other : Recipe → Type 0) (depth : ℕ) → ((r : Recip
 found_same Given Other depth same None none = λ r given le. none r ((same r).0 given) le
 found_same Given Other depth same (Some r) found = ((same r).1 found.0, found.1)
 
+max_left : (a b : ℕ) → a ≤ max a b
+max_left zero b = omega arith
+max_left (suc a) zero = omega arith
+max_left (suc a) (suc b) = (let le = max_left a b in omega (arith, le))
+
+max_right : (a b : ℕ) → b ≤ max a b
+max_right zero b = omega arith
+max_right (suc a) zero = omega arith
+max_right (suc a) (suc b) = (let le = max_right a b in omega (arith, le))
+
+max_most : (a b n : ℕ) → a ≤ n → b ≤ n → max a b ≤ n
+max_most zero b n one two = omega (arith, two)
+max_most (suc a) zero n one two = omega (arith, one)
+max_most (suc a) (suc b) zero one two = absurd (omega (arith, one))
+max_most (suc a) (suc b) (suc n) one two = (let le = max_most a b n (omega (arith, one)) (omega (arith, two)) in omega (arith, le))
+
 -- and of an operation
 module _ (Given Left Right : Recipe → Type 0) (o : Operation) (depth : ℕ) (same : (r : Recipe) → Given r ↔ ((q w : Recipe) × (r ≡ Operated o q w) × Left q × Right w)) where
   pub found_operated : (q w : Recipe) → IsFound depth Left (Some q) → IsFound depth Right (Some w) → IsFound (suc depth) Given (Some (Operated o q w))

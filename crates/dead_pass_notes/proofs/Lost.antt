@@ -10,6 +10,26 @@ use Rattle.graph_core.specs.Uses.{names_in}
 use Rattle.dead_pass_notes.proofs.Searching.{among_left, among_right, among_parts, among_one, among_none}
 use Rattle.dead_pass_notes.specs.Lost.{HasStale, IsToldLost}
 
+or_left : (a b : Bool) → a ≡ true → (a || b) ≡ true
+or_left a b e = ap (λ c. c || b) e
+
+or_right : (a b : Bool) → b ≡ true → (a || b) ≡ true
+or_right true b e = refl
+or_right false b e = e
+
+or_parts : (a b : Bool) → (a || b) ≡ true → (a ≡ true) ⊎ (b ≡ true)
+or_parts true b e = inl refl
+or_parts false b e = inr e
+
+same_is : {a b : Recipe} → ◌≡◌ {A = NoteValue} (Is a) (Is b) → a ≡ b
+same_is e = cc
+
+gone_is : {n : ℕ} {b : Recipe} → ◌≡◌ {A = NoteValue} (Gone n) (Is b) → ⊥
+gone_is e = cc
+
+same_name : {x y : ℕ} → ◌≡◌ {A = Recipe} (Of (Name x)) (Of (Name y)) → x ≡ y
+same_name e = cc
+
 module _ (told : ℕ → Bool) where
   pub stale_name : (y : ℕ) (b : Bool) → b ≡ told y → (b ≡ true) ↔ HasStale told (Of (Name y))
   stale_name y b e = (

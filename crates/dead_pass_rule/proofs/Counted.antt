@@ -13,6 +13,16 @@ use Rattle.dead_pass_rule.specs.Counting.{is_some, is_many, one_if, AreFree}
 abbrev pub IsAt : (bits : ℕ → ℕ → Bool) → (first places p x count : ℕ) → Type 0
 IsAt bits first places p x count = (bits (p - first) x ≡ is_some count) × (bits (places + (p - first)) x ≡ is_many count)
 
+-- where the bits are the same it is the same
+pub at_same : (bits new : ℕ → ℕ → Bool) (first places p x count more : ℕ) → new (p - first) x ≡ bits (p - first) x → new (places + (p - first)) x ≡ bits (places + (p - first)) x → more ≡ count → IsAt bits first places p x count → IsAt new first places p x more
+at_same bits new first places p x count more one two e at = (one ∙ at.0 ∙ ap is_some (sym e), two ∙ at.1 ∙ ap is_many (sym e))
+
+pub no_more : (a : Bool) (count : ℕ) → a ≡ false → one_if a + count ≡ count
+no_more a count e = (let z : 0 + count ≡ count = omega arith in ap (λ b. one_if b + count) e ∙ z)
+
+pub one_more : (a : Bool) (count : ℕ) → a ≡ true → one_if a + count ≡ suc count
+one_more a count e = (let z : 1 + count ≡ suc count = omega arith in ap (λ b. one_if b + count) e ∙ z)
+
 -- A bit is put: the first of a name in a place, or if that is set the second.
 module _ (bits new : ℕ → ℕ → Bool) (first places place name row : ℕ) (from : first ≤ place) (within : place - first < places) (put : ℕ)
     (there : new put name ≡ true) (rows : (other bit : ℕ) → other ≢ put → new other bit ≡ bits other bit) (rest : (bit : ℕ) → bit ≢ name → new put bit ≡ bits put bit) where

@@ -62,6 +62,22 @@ kept_holds t y z h = go (integer t).is_signed h
 abbrev pub Stays : declared-arithmetic.Arithmetic → IntegerType → Type 0
 Stays o t = (a b z : ℤ) → calculated o t a b ≡ Some z → holds (integer t) z ≡ true
 
+pub arithmetic_of : (x : Setting) (calls : Calls) (o : declared-arithmetic.Arithmetic) (t : IntegerType) (a b : RvalueTree) → Stays o t → kind_of x.program x.tree (Arithmetic o t a b) ≡ Of (Integer t) → Typed x calls a → Typed x calls b → Typed x calls (Arithmetic o t a b)
+arithmetic_of x calls o t a b stays kind typed_a typed_b s sound =
+    subst (λ k. Keeps x.program x.begun s.memory k (evaluate calls (depth_in x) (Arithmetic o t a b) s)) (sym kind)
+    (both_typed x calls a b (Of (Integer t)) (λ v w s1. given (arithmetic o t v w) s1) typed_a typed_b (λ v w s1 sound1 ka kb. gives v w s1 sound1) s sound)
+  where
+    by_number : (p q : ℤ) (s1 : State) → Sound x.program x.begun s1 → (r : Option ℤ) → calculated o t p q ≡ r → Keeps x.program x.begun s1.memory (Of (Integer t)) (given (option_map source.Number r) s1)
+    by_number p q s1 sound1 None e = tt
+    by_number p q s1 sound1 (Some z) e = record { sound = sound1; later = later_refl s1.memory; is = stays p q z e }
+
+    gives : (v w : Value) (s1 : State) → Sound x.program x.begun s1 → Keeps x.program x.begun s1.memory (Of (Integer t)) (given (arithmetic o t v w) s1)
+    gives (source.Number p) (source.Number q) s1 sound1 = by_number p q s1 sound1 (calculated o t p q) refl
+    gives (source.Number p) source.Null s1 sound1 = tt
+    gives (source.Number p) (source.Pointer n k) s1 sound1 = tt
+    gives source.Null w s1 sound1 = tt
+    gives (source.Pointer n k) w s1 sound1 = tt
+
 module _ (x : Setting) (calls : Calls) (low : ScalarsFirst x) (apart : ScalarsApart x) where
   low_of : (e : RvalueTree) → Low x e
   low_of e t le = let h = lays (names_in x) (size_in x) low e Anywhere t le in record { next = h.next; below = h.below }

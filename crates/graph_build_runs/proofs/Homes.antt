@@ -25,6 +25,22 @@ scalar_at (a ∷ list) scalars objects i k h = by (λ s o j e. scalar_at list s 
     by rest false e zero h = let same : scalars ≡ k = cc in record { variable = a; is = refl; outside = e; above = omega (arith, same) }
     by rest false e (suc i) h = let c = rest (scalars + 1) objects i h in record { variable = c.variable; is = c.is; outside = c.outside; above = omega (arith, c.above) }
 
+-- two homes of one scalar are one
+scalar_once : (list : List AutomaticTree) (scalars objects i j k : ℕ) → slice_get (homes_from scalars objects list) i ≡ Some (home.Scalar k) → slice_get (homes_from scalars objects list) j ≡ Some (home.Scalar k) → i ≡ j
+scalar_once [] scalars objects i j k h e = cc
+scalar_once (a ∷ list) scalars objects i j k h e = by (λ s o m n f g. scalar_once list s o m n k f g) a.in_memory i j h e
+  where
+    by : ((s o m n : ℕ) → slice_get (homes_from s o list) m ≡ Some (home.Scalar k) → slice_get (homes_from s o list) n ≡ Some (home.Scalar k) → m ≡ n) → (b : Bool) → (i j : ℕ)
+        → slice_get (if b then home.Object objects ∷ homes_from scalars (objects + 1) list else home.Scalar scalars ∷ homes_from (scalars + 1) objects list) i ≡ Some (home.Scalar k)
+        → slice_get (if b then home.Object objects ∷ homes_from scalars (objects + 1) list else home.Scalar scalars ∷ homes_from (scalars + 1) objects list) j ≡ Some (home.Scalar k) → i ≡ j
+    by rest true zero j h e = cc
+    by rest true (suc i) zero h e = cc
+    by rest true (suc i) (suc j) h e = ap (λ n. suc n) (rest scalars (objects + 1) i j h e)
+    by rest false zero zero h e = refl
+    by rest false zero (suc j) h e = let same : scalars ≡ k = cc in let c = scalar_at list (scalars + 1) objects j k e in absurd (omega (arith, same, c.above))
+    by rest false (suc i) zero h e = let same : scalars ≡ k = cc in let c = scalar_at list (scalars + 1) objects i k h in absurd (omega (arith, same, c.above))
+    by rest false (suc i) (suc j) h e = ap (λ n. suc n) (rest (scalars + 1) objects i j h e)
+
 -- a member of a part of a list
 taken_at : {A : Type 0} (list : List A) (count i : ℕ) (a : A) → slice_get (take count list) i ≡ Some a → slice_get list i ≡ Some a
 taken_at [] zero i a h = cc

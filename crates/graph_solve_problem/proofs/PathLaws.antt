@@ -16,6 +16,14 @@ or_true : (a b : Bool) → b ≡ true → (a || b) ≡ true
 or_true true b e = refl
 or_true false b e = e
 
+and_parts : (a b : Bool) → (a && b) ≡ a → a ≡ true → b ≡ true
+and_parts true b e h = e
+and_parts false b e h = absurd (true≢false (sym h))
+
+and_all : (a b : Bool) → a ≡ true → b ≡ true → (a && b) ≡ true
+and_all true b e h = h
+and_all false b e h = absurd (true≢false (sym e))
+
 module _ (P : Numbers → Type 0) (x : Numbers) (q : ℕ) where
   from_some : {y : Numbers} → SomeMeet union P y → contains y q ≡ true → (v : Numbers) × P v × (contains v q ≡ true)
   from_some (one {x = y} p) e = (y, p, e)

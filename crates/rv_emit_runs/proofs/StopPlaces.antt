@@ -80,6 +80,19 @@ its_place [] s there = elim there [ ]
 its_place (_ ∷ more) s front = front
 its_place (x ∷ more) s (behind there) = behind (its_place more s there)
 
+one_of_each : (stops : List PlacedStop) (s t : PlacedStop) → AreAllDifferent (map place_of stops) → Among s stops → Among t stops → s.place ≡ t.place → s ≡ t
+one_of_each [] s t once one two same = elim one [ ]
+one_of_each (_ ∷ more) s t once front two same = first t two refl
+  where
+    first : (u : PlacedStop) → Among u (s ∷ more) → u ≡ t → s ≡ t
+    first u front e = e
+    first u (behind later) e = absurd (all_among (λ q. s.place ≢ q) (map place_of more) u.place once.0 (its_place more u later) (same ∙ sym (ap place_of e)))
+one_of_each (x ∷ more) s t once (behind one) two same = later t (λ two. one_of_each more s t once.1 one two same) two refl
+  where
+    later : (u : PlacedStop) → (Among t more → s ≡ t) → Among u (x ∷ more) → u ≡ t → s ≡ t
+    later u rest front e = absurd (all_among (λ q. x.place ≢ q) (map place_of more) s.place once.0 (its_place more s one) (ap place_of e ∙ sym same))
+    later u rest (behind there) e = rest (subst (λ v. Among v more) e there)
+
 module _ (u : UnitForm) (stops : List PlacedStop) (are : AreStopsOf u stops) where
   -- Each place that a marker begins has a stop, but an entry.
   pub marker_stops : (f : ℕ) (g : Graph) (p : ℕ) → slice_get u.graphs f ≡ Some g → Among p (markers_of_blocks g.blocks) → p ≢ g.entry → (s : PlacedStop) × Among s stops × (s.place ≡ p)
