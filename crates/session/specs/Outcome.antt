@@ -86,7 +86,7 @@ pub record ListsChanges (held : Held) (given : PassesGiven) (printed : List ℕ)
   pub lines_are : AreLinesFor source given.passes lines
   pub printed_is : printed ≡ flat_map line lines
 
--- What the job `sweep` prints: the summary of the run of an image of the generated source, with the passes and the homes that are the default, on no input.
+-- What the job `sweep` prints: the summary of the run, on no input, of an image that is truthful to the generated source, with homes in registers. After which passes it stands is not said.
 pub record IsSwept (given : SweepGiven) (printed : List ℕ) : Type 0 where
   pub form : Form
   pub image : IsImageFor (generated given.seed given.size) default_names Registers form

@@ -9,7 +9,7 @@ use Rattle.c_source.specs.Sources.{HasProgram}
 use Rattle.session.specs.Truth.{IsTruthfulTo}
 use Rattle.session.specs.declared.preparing.Made.{Made}
 
--- The text is of a program, and this is an image of it behind the passes of these names.
+-- The text is of a program, and this is an image that is truthful to it. Of the passes of these names it says no more than that does: where there are none, with slots, each variable is shown.
 pub record IsImageFor (text : List ℕ) (names : List Text) (mode : Mode) (form : Form) : Type 0 where
   pub understood : HasProgram text
   pub image : IsImage form
