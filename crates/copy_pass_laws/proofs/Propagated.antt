@@ -12,7 +12,7 @@ use Rattle.pass_law.proofs.Keeping.{reached_itself}
 use Rattle.copy_pass_rule.specs.Copying.{IsPropagated}
 use Rattle.copy_pass_rule.specs.Alike.{AreAlike}
 use Rattle.copy_pass_rule.proofs.Lists.{each_related}
-use Rattle.copy_pass_rule.proofs.Copies.{propagated_alike}
+use Rattle.copy_pass_rule.proofs.Alike.{propagated_alike}
 use Rattle.copy_pass_laws.specs.Alike.{AreAlikeUnits}
 use Rattle.copy_pass_laws.proofs.Marked.{units_marked}
 use Rattle.copy_pass_laws.proofs.Program.{same_program}

@@ -8,5 +8,5 @@ pub mod Lists
 pub mod Shapes
 pub mod Naming
 pub mod Keeping
-pub mod Copies
+pub mod Alike
 pub mod Valid

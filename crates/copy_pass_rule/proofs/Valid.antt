@@ -7,7 +7,7 @@ use Rattle.pass_law.specs.Kept.{EachFunction, ShareTheSame}
 use Rattle.copy_pass_rule.specs.Copying.{IsPropagated}
 use Rattle.copy_pass_rule.specs.Alike.{AreAlike}
 use Rattle.copy_pass_rule.proofs.Lists.{each_related}
-use Rattle.copy_pass_rule.proofs.Copies.{propagated_alike}
+use Rattle.copy_pass_rule.proofs.Alike.{propagated_alike}
 use Rattle.copy_pass_rule.proofs.Keeping.{graphs_replaced}
 use Rattle.copy_pass_rule.proofs.Naming.{with_graphs}
 

@@ -22,6 +22,6 @@ pub mod Lists
 pub mod Shapes
 pub mod Naming
 pub mod Keeping
-pub mod Notes
+pub mod NamedNotes
 pub mod Removing
 pub mod Valid

@@ -13,7 +13,7 @@ use Rattle.dead_pass_notes.specs.Said.{SaysAs, noted, unreached, other, AreSaid,
 use Rattle.dead_pass_notes.specs.Thinned.{AreThinned, ends as thinned_ends, goes, forgets, says, stays as thinned_stays, IsThinnedBlock, IsThinned}
 use Rattle.dead_pass_notes.proofs.Lists.{all_at, numbered_pairs}
 use Rattle.dead_pass_notes.proofs.Naming.{MayBeSaid, still_said}
-use Rattle.dead_pass_notes.proofs.Notes.{said_names}
+use Rattle.dead_pass_notes.proofs.NamedNotes.{said_names}
 
 -- an instruction writes some name
 abbrev WritesSome : Instruction → Type 0

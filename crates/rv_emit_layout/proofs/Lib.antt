@@ -1,6 +1,6 @@
 pub mod Layouts
 pub mod Spelled
-pub mod Telling
+pub mod StopsTold
 pub mod Appended
 pub mod Bound
 pub mod Fitting

@@ -1,6 +1,6 @@
 use Rattle.rv_emit_sequence.specs.Sequences.{sequence_view}
 use Rattle.rv_emit_layout.specs.Layouts.{layout_view}
-use Rattle.rv_emit_layout.proofs.Telling.{none_told}
+use Rattle.rv_emit_layout.proofs.StopsTold.{none_told}
 use Rattle.rv_emit_layout.proofs.tracing.push_stop_at.Goals as goal
 
 pub returns-in-None : goal.returns-in-None

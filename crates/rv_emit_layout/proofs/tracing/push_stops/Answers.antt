@@ -1,7 +1,7 @@
 use Rattle.std.proofs.Common.{◌<◌, ◌∙◌, length, min, arith}
 use Rattle.rv_emit_sequence.specs.Sequences.{sequence_view}
 use Rattle.rv_emit_layout.specs.Layouts.{layout_view}
-use Rattle.rv_emit_layout.proofs.Telling.{block_told}
+use Rattle.rv_emit_layout.proofs.StopsTold.{block_told}
 use Rattle.rv_emit_layout.proofs.tracing.push_stops.Goals as goal
 
 pub loop-block-preserved : goal.loop-block-preserved

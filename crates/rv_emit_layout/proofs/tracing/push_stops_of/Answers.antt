@@ -1,7 +1,7 @@
 use Rattle.std.proofs.Common.{◌<◌, ◌∙◌, ap, subst, slice_index}
 use Rattle.rv_emit_sequence.specs.Sequences.{sequence_view}
 use Rattle.rv_emit_layout.specs.Layouts.{layout_view}
-use Rattle.rv_emit_layout.proofs.Telling.{piece_told}
+use Rattle.rv_emit_layout.proofs.StopsTold.{piece_told}
 use Rattle.rv_emit_layout.proofs.tracing.push_stops_of.Goals as goal
 
 pub loop-index-preserved : goal.loop-index-preserved
