@@ -22,6 +22,30 @@ pub tree_is : (ts : List Lexeme) (all : List ItemTree) → (tree_of ts ≡ Ok al
 tree_is ts all =
     ((λ e. let h = tree_spelled ts all e in record { spelled = h.0; fits = file_down all 64 h.1 }), (λ h. tree_read ts all h.spelled (file_up all 64 h.fits)))
 
+-- these items are read
+abbrev read : List ItemTree → Result (List ItemTree) Stuck
+read all = Ok all
+
+some_same : {a b : List ItemTree} → read a ≡ read b → a ≡ b
+some_same e = cc
+
+-- Tokens spell at most one tree, however deep it nests: the grammar is not ambiguous.
+pub one_tree : (ts : List Lexeme) (a b : List ItemTree) → Spells ts a → Spells ts b → a ≡ b
+one_tree ts a b s r =
+    let d = max (file_depth a) (file_depth b) in
+    let in_a : file_depth a ≤ suc d = omega (arith, le-max_left (file_depth a) (file_depth b)) in
+    let in_b : file_depth b ≤ suc d = omega (arith, le-max_right (file_depth a) (file_depth b)) in
+    let e : items_from (length ts) (suc d) [] ts ≡ Ok a = all_read s d (file_up a (suc d) in_a) (length ts) (omega arith) [] in
+    let f : items_from (length ts) (suc d) [] ts ≡ Ok b = all_read r d (file_up b (suc d) in_b) (length ts) (omega arith) [] in
+    some_same (sym e ∙ f)
+
+-- Tokens that are refused spell no tree, or one in which constructs nest more than 64 deep.
+pub refused_is_too_deep : (ts : List Lexeme) (fault : Code × ℕ) (all : List ItemTree) → tree_of ts ≡ Err fault → Spells ts all → 64 < file_depth all
+refused_is_too_deep ts fault all e s = grind (arith, not_within)
+  where
+    not_within : file_depth all ≤ 64 → ⊥
+    not_within le = let g : Ok all ≡ Err fault = sym (tree_read ts all s (file_up all 64 le)) ∙ e in absurd cc
+
 -- What a reader answers of tokens whose tree it reads.
 pub answer_spelled : (ts : List Lexeme) (r : Result Tree SourceErr) → Answers tree_view r (tree_of ts) → IfOk r (λ t. IsTreeOf ts (tree_view t))
 answer_spelled ts (Ok t) h = (tree_is ts (tree_view t)).0 h

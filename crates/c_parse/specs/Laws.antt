@@ -1,12 +1,17 @@
--- What the grammar says of `else` and of operators one after the other (ISO/IEC 9899:2011, 6.8.4.1p3, 6.5).
-use Rattle.std.specs.Prelude.{ℕ, ◌<◌, ◌≤◌, List, ⊥}
+-- What the grammar says: one tree at most, the `else` of an `if`, operators one after the other (ISO/IEC 9899:2011, 6.8.4.1p3, 6.5).
+use Rattle.std.specs.Prelude.{◌≡◌, ℕ, ◌<◌, ◌≤◌, List, Err}
+use Rattle.debug_records.specs.declared.code.Code.{Code}
 use Rattle.debug_records.specs.declared.source.Spot.{Spot}
 use Rattle.c_token.specs.Lexemes.{Lexeme}
 use Rattle.c_tree.specs.declared.operator.BinaryOperator.{BinaryOperator}
 use Rattle.c_tree.specs.declared.operator.BinaryOperator.TheVariants as binary
 use Rattle.c_tree.specs.Expressions.{ExpressionTree, Binary}
 use Rattle.c_tree.specs.Statements.{StatementTree, If, IfElse}
+use Rattle.c_tree.specs.Trees.{ItemTree}
+use Rattle.c_parse.specs.Depths.{file_depth}
 use Rattle.c_parse.specs.Expressions.{IsLevel}
+use Rattle.c_parse.specs.Files.{Spells}
+use Rattle.c_parse.specs.Reading.{tree_of}
 use Rattle.c_parse.specs.Statements.{IsStatement}
 
 -- the level at which an operator binds
@@ -43,3 +48,11 @@ ElseIsTheNearest = (spot inner : Spot) (c d : ExpressionTree) (s r : StatementTr
 abbrev pub AssociateToTheLeft : Type 0
 AssociateToTheLeft = (level : ℕ) (o : BinaryOperator) (left right : ExpressionTree) (ts rest : List Lexeme) → IsLevel level (Binary o left right) ts rest
     → (top_level left ≤ level_of o) × (top_level right < level_of o)
+
+-- Tokens spell at most one tree, however deep it nests: the grammar is not ambiguous.
+abbrev pub SpellAtMostOne : Type 0
+SpellAtMostOne = (ts : List Lexeme) (a b : List ItemTree) → Spells ts a → Spells ts b → a ≡ b
+
+-- Tokens that are refused spell no tree, or one in which constructs nest more than 64 deep.
+abbrev pub RefusedAreTooDeep : Type 0
+RefusedAreTooDeep = (ts : List Lexeme) (fault : Code × ℕ) (all : List ItemTree) → tree_of ts ≡ Err fault → Spells ts all → 64 < file_depth all

@@ -5,5 +5,5 @@ mod file;
 mod laws;
 mod source;
 
-pub use laws::trees_are_bound;
+pub use laws::{trees_are_bound, trees_are_one};
 pub use source::parse;

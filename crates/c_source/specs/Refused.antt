@@ -1,5 +1,5 @@
 -- What the definitions of order, of sound tokens and of formed trees refuse.
-use Rattle.std.specs.Prelude.{◌≡◌, ℕ, false, [], ◌∷◌, None, Some, ⊥}
+use Rattle.std.specs.Prelude.{◌≡◌, ℕ, false, [], ◌∷◌, None, Some}
 use Rattle.debug_records.specs.declared.source.Spot.{Spot}
 use Rattle.c_token.specs.Lexemes as word
 use Rattle.c_tree.specs.Expressions.{ExpressionTree}
