@@ -78,6 +78,25 @@ arithmetic_of x calls o t a b stays kind typed_a typed_b s sound =
     gives source.Null w s1 sound1 = tt
     gives (source.Pointer n k) w s1 sound1 = tt
 
+-- Expressions of constants, scalars, `+`, `-`, comparisons, `&&`, `||`, the comma, casts to `void`, and assignments to scalars, well typed.
+pub data Covered (x : Setting) : RvalueTree → Type 0 where
+  constant : {z : ℤ} {t : IntegerType} → holds (integer t) z ≡ true → Covered x (Constant z t)
+  null : Covered x Null
+  scalar : {sc : Scalar} {v : ℕ} {of : ObjectType} → (k : ℕ) → scalar_of (names_in x) v ≡ Some k → kind_of x.program x.tree (Load sc (Named (object.Automatic v) of)) ≡ Of (loaded sc) → of ≡ of-object.Scalar sc
+      → ((a : AutomaticTree) → slice_get x.program.automatics v ≡ Some a → a.of ≡ of) → Covered x (Load sc (Named (object.Automatic v) of))
+  sum : {t : IntegerType} {a b : RvalueTree} → is_promoted t ≡ true → kind_of x.program x.tree (Arithmetic arithmetic-is.Add t a b) ≡ Of (Integer t) → kind_of x.program x.tree a ≡ Of (Integer t) → kind_of x.program x.tree b ≡ Of (Integer t)
+      → Covered x a → Covered x b → Covered x (Arithmetic arithmetic-is.Add t a b)
+  difference : {t : IntegerType} {a b : RvalueTree} → is_promoted t ≡ true → kind_of x.program x.tree (Arithmetic arithmetic-is.Subtract t a b) ≡ Of (Integer t) → kind_of x.program x.tree a ≡ Of (Integer t) → kind_of x.program x.tree b ≡ Of (Integer t)
+      → Covered x a → Covered x b → Covered x (Arithmetic arithmetic-is.Subtract t a b)
+  compared : {o : declared-comparison.Comparison} {t : IntegerType} {a b : RvalueTree} → is_promoted t ≡ true → kind_of x.program x.tree (Compare o t a b) ≡ Of (Integer Int) → kind_of x.program x.tree a ≡ Of (Integer t) → kind_of x.program x.tree b ≡ Of (Integer t)
+      → Covered x a → Covered x b → Covered x (Compare o t a b)
+  conjunction : {a b : RvalueTree} → kind_of x.program x.tree (And a b) ≡ Of (Integer Int) → Covered x a → Covered x b → Covered x (And a b)
+  disjunction : {a b : RvalueTree} → kind_of x.program x.tree (Or a b) ≡ Of (Integer Int) → Covered x a → Covered x b → Covered x (Or a b)
+  sequence : {a b : RvalueTree} → kind_of x.program x.tree (Comma a b) ≡ kind_of x.program x.tree b → Covered x a → Covered x b → Covered x (Comma a b)
+  discarded : {e : RvalueTree} → Covered x e → Covered x (Discard e)
+  assigned : {sc : Scalar} {v : ℕ} {of : ObjectType} {e : RvalueTree} → (k : ℕ) → scalar_of (names_in x) v ≡ Some k → kind_of x.program x.tree (Assign sc (Named (object.Automatic v) of) e) ≡ Of (loaded sc) → of ≡ of-object.Scalar sc
+      → ((a : AutomaticTree) → slice_get x.program.automatics v ≡ Some a → a.of ≡ of) → is_of (kind_of x.program x.tree e) (loaded sc) ≡ true → Apart x k e → Covered x e → Covered x (Assign sc (Named (object.Automatic v) of) e)
+
 module _ (x : Setting) (calls : Calls) (low : ScalarsFirst x) (apart : ScalarsApart x) where
   low_of : (e : RvalueTree) → Low x e
   low_of e t le = let h = lays (names_in x) (size_in x) low e Anywhere t le in record { next = h.next; below = h.below }

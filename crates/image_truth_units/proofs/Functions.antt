@@ -24,11 +24,17 @@ use Rattle.image_truth_units.specs.Tables.{entry_number, entry_place}
 use Rattle.image_truth_units.proofs.Accepted.{facts_of}
 use Rattle.image_truth_units.proofs.Given.{Given}
 use Rattle.image_truth_units.proofs.Lists.{across, all_from, next_from}
-use Rattle.image_truth_units.proofs.ProgramPlaces.{in_order, numbered_at}
+use Rattle.image_truth_units.proofs.ProgramPlaces.{entry_there, in_order, numbered_at}
 
 pub some_length : (n : List ℕ) → n ≢ [] → 1 ≤ length n
 some_length [] some = absurd (some refl)
 some_length (b ∷ n) some = omega arith
+
+-- The entry of a function among the places of its program.
+pub record HasEntry (p : ProgramTree) (k : ℕ) (tree : TypedFunctionTree) : Type 0 where
+  pub index : ℕ
+  pub is : slice_get (places_of_program p) index ≡ Some (entry_of k tree)
+  pub number : entry_number p tree ≡ index + 1
 
 module _ (p : ProgramTree) (h : HomedForm) (e : EmittedForm) (rows : List PlaceRow) (m : Form) (given : Given p h e rows m) where
   pub has_entry : (k : ℕ) (tree : TypedFunctionTree) → slice_get p.functions k ≡ Some tree → HasEntry p k tree

@@ -136,6 +136,17 @@ in_order number (f ∷ all) i j q r le is at = elim (cases_lt i (length (places_
       (sym (behind_is (places_of_function number f) (places_of_functions (number + 1) all) n) ∙ ap (slice_get (places_of_function number f ++ places_of_functions (number + 1) all)) also ∙ at)
 ]
 
+-- A function begins with its entry.
+pub entry_there : (number : ℕ) (all : List TypedFunctionTree) (k : ℕ) (f : TypedFunctionTree) → slice_get all k ≡ Some f → (i : ℕ) × (slice_get (places_of_functions number all) i ≡ Some (entry_of (number + k) f))
+entry_there number [] k f is = absurd (none-some f is)
+entry_there number (g ∷ all) zero f is =
+    let here : number ≡ number + 0 = omega arith in
+    (0, ap (λ n. Some (entry_of n g)) here ∙ ap (λ x. Some (entry_of (number + 0) x)) (same_Some g f is))
+entry_there number (g ∷ all) (suc k) f is =
+    let later = entry_there (number + 1) all k f is in
+    let here : number + 1 + k ≡ number + suc k = omega arith in
+    (length (places_of_function number g) + later.0, behind_is (places_of_function number g) (places_of_functions (number + 1) all) later.0 ∙ later.1 ∙ ap (λ n. Some (entry_of n f)) here)
+
 -- A place that is an entry is that of a function.
 pub record IsEntryOf (number : ℕ) (all : List TypedFunctionTree) (q : Place) : Type 0 where
   pub index : ℕ
