@@ -116,7 +116,7 @@ def place_text(image, source, number):
         if depth < 0 or part == b';' or part == b'{' and not text.rstrip().endswith(b'='):
             break
         text += b'' if part.startswith((b'/*', b'//')) else part
-    return text.rstrip(b' \t\r,') or source[start:start + 1]
+    return text.rstrip(b' \t\r,*') or source[start:start + 1]
 
 
 def recipe(image, number):
