@@ -113,7 +113,7 @@ def place_text(image, source, number):
     text = b''
     for part in _PARTS.findall(source[start:end].split(b'\n', 1)[0]):
         depth += (part in (b'(', b'[')) - (part in (b')', b']'))
-        if depth < 0 or part == b';' or part == b'{' and not text.rstrip().endswith(b'='):
+        if depth < 0 or depth == 0 and (part == b';' or part == b'{' and not text.rstrip().endswith(b'=')):
             break
         text += b'' if part.startswith((b'/*', b'//')) else part
     return text.rstrip(b' \t\r,*') or source[start:start + 1]
