@@ -2,7 +2,7 @@
 // Opens the marks of the page: shows a change, and draws its path over the lines of the source. Without it each mark leads to the list of changes.
 (() => {
     const lines = document.getElementById('lines');
-    const drawn = document.getElementById('drawn');
+    const ways = document.getElementById('ways');
     const opened = document.getElementById('opened');
     let path = [];
 
@@ -31,7 +31,7 @@
         const a = middle(from);
         const b = middle(to);
         const down = b.y > a.y + 1;
-        if (down && to === from + 1) return `M${a.x} ${a.y + a.half}L${b.x} ${b.y - b.half - 1}`;
+        if (down && to === from + 1) return `M${a.x} ${a.y + a.half}L${b.x} ${b.y - b.half - 2}`;
         const side = Math.min(a.x, b.x) - 14 - Math.min(60, Math.abs(b.y - a.y) / 5);
         return `M${a.x - 10} ${a.y}C${side} ${a.y} ${side} ${b.y} ${b.x - 12} ${b.y}`;
     }
@@ -40,13 +40,13 @@
     function draw() {
         document.querySelectorAll('.place.path').forEach(found => found.classList.remove('path'));
         path.forEach(place => chip(place).classList.add('path'));
-        drawn.replaceChildren();
+        ways.replaceChildren();
         path.slice(1).forEach((place, index) => {
-            const line = document.createElementNS(drawn.namespaceURI, 'path');
+            const line = document.createElementNS(ways.namespaceURI, 'path');
             line.setAttribute('class', 'way');
             line.setAttribute('d', way(path[index], place));
-            line.setAttribute('marker-end', 'url(#head)');
-            drawn.append(line);
+            line.setAttribute('marker-end', 'url(#way-head)');
+            ways.append(line);
         });
     }
 
