@@ -1,5 +1,6 @@
 'use strict';
-// Opens the marks of the page: shows a change, and draws its path over the lines of the source. Without it each mark leads to the list of changes.
+// Opens the marks of the page: shows a change, and draws its path over the lines of the source. Without it each mark leads to
+// the list of changes.
 (() => {
     const lines = document.getElementById('lines');
     const ways = document.getElementById('ways');

@@ -28,14 +28,12 @@ def _add_immediate(rd, rs, value):
     return 'addi %s, %s, %d' % (rd, rs, value)
 
 
-def _immediate(word, rd, rs, kind):
+def _immediate(word, rd, rs, kind, value):
     """An instruction with a register and an immediate number."""
     if kind in (1, 5):
         name = SHIFTS.get((kind, word >> 25))
         return name and '%s %s, %s, %d' % (name, rd, rs, word >> 20 & 31)
-    if kind == 0:
-        return _add_immediate(rd, rs, _signed(word >> 20, 12))
-    return '%s %s, %s, %d' % (IMMEDIATE[kind], rd, rs, _signed(word >> 20, 12))
+    return '%s %s, %s, %d' % (IMMEDIATE[kind], rd, rs, value) if kind else _add_immediate(rd, rs, value)
 
 
 def _compute(word, rd, rs, other, kind):
@@ -59,26 +57,21 @@ def _jump(word, address, rd, names):
     return 'j ' + shown if rd == 'zero' else 'jal %s, %s' % (rd, shown)
 
 
-def _jump_register(word, rd, rs, kind):
-    """JALR."""
-    if word == 0x00008067:
-        return 'ret'
-    return None if kind else 'jalr %s, %d(%s)' % (rd, _signed(word >> 20, 12), rs)
-
-
 def _known(word, address, names):
     """The instruction that a word is, or None."""
-    rd, rs, other, kind = REGISTERS[word >> 7 & 31], REGISTERS[word >> 15 & 31], REGISTERS[word >> 20 & 31], word >> 12 & 7
-    store = _signed((word >> 25) << 5 | (word >> 7 & 31), 12)
+    rd, rs, other = (REGISTERS[word >> low & 31] for low in (7, 15, 20))
+    kind = word >> 12 & 7
+    value = _signed(word >> 20, 12)
+    offset = _signed((word >> 25) << 5 | (word >> 7 & 31), 12)
     return {
         0x37: lambda: 'lui %s, 0x%x' % (rd, word >> 12),
         0x17: lambda: 'auipc %s, 0x%x' % (rd, word >> 12),
         0x6F: lambda: _jump(word, address, rd, names),
-        0x67: lambda: _jump_register(word, rd, rs, kind),
+        0x67: lambda: 'ret' if word == 0x8067 else not kind and 'jalr %s, %d(%s)' % (rd, value, rs),
         0x63: lambda: _branch(word, address, rs, other, kind),
-        0x03: lambda: kind in LOADS and '%s %s, %d(%s)' % (LOADS[kind], rd, _signed(word >> 20, 12), rs),
-        0x23: lambda: kind in STORES and '%s %s, %d(%s)' % (STORES[kind], other, store, rs),
-        0x13: lambda: _immediate(word, rd, rs, kind),
+        0x03: lambda: kind in LOADS and '%s %s, %d(%s)' % (LOADS[kind], rd, value, rs),
+        0x23: lambda: kind in STORES and '%s %s, %d(%s)' % (STORES[kind], other, offset, rs),
+        0x13: lambda: _immediate(word, rd, rs, kind, value),
         0x33: lambda: _compute(word, rd, rs, other, kind),
         0x73: lambda: {0x73: 'ecall', 0x100073: 'ebreak'}.get(word),
     }.get(word & 127, lambda: None)()
