@@ -11,8 +11,8 @@ use Rattle.c_meaning_steps.specs.Views.{outcome_view, state_view}
 use Rattle.c_meaning.specs.Lifetimes.{closed}
 use Rattle.c_meaning.specs.Statements.{loop, rounds, then_do}
 use Rattle.c_meaning_eval.proofs.Rounds.{goes_on, leaves, rounds_step, weighs_less}
-use Rattle.c_eval.proofs.+run.Goals as goal
-use Rattle.c_eval.proofs.+run.Goals.{statements::execute-in-Next+in_ok-outcome-in-Next, statements::execute-in_default}
+use Rattle.c_meaning_eval.proofs.+run.Goals as goal
+use Rattle.c_meaning_eval.proofs.+run.Goals.{statements::execute-in-Next+in_ok-outcome-in-Next, statements::execute-in_default}
 
 pub execution::activate-execute_all-requires : goal.execution::activate-execute_all-requires
 execution::activate-execute_all-requires t c =

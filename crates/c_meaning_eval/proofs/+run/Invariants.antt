@@ -7,7 +7,7 @@ use Rattle.c_meaning.specs.Weights.{weight, weight_of_left, weights, weight_of_a
 use Rattle.c_meaning.specs.Views.{round_of}
 use Rattle.c_meaning_steps.specs.Views.{state_view}
 use Rattle.c_meaning.specs.Statements.{loop, rounds}
-use Rattle.c_eval.proofs.+run.Given as goal
+use Rattle.c_meaning_eval.proofs.+run.Given as goal
 
 abbrev pub decreases-execution::evaluate : goal.decreases-execution::evaluate
 decreases-execution::evaluate l = l.here.now.left * heaviest (program_view l.here.now.program.now).functions + (weight (rvalue_view l.e.now))
