@@ -1,5 +1,5 @@
 -- What a write of words does to the bits of rows.
-use Rattle.std.proofs.Common.{◌≡◌, ℕ, zero, suc, ◌+◌, ◌*◌, ◌/◌, ◌%◌, ◌^◌, ◌<◌, ◌≤◌, ◌==◌, ◌||◌, ◌&&◌, ◌⊎◌, inl, inr, Bool, true, false, List, [], ◌∷◌, length, map, get_or, replicate, bit_and, bit_or, min, max, w64, refl, sym, ap, ◌∙◌, arith, zero-add}
+use Rattle.std.proofs.Common.{◌≡◌, ℕ, zero, suc, ◌+◌, ◌*◌, ◌/◌, ◌%◌, ◌^◌, ◌<◌, ◌≤◌, ◌==◌, ◌||◌, ◌&&◌, ◌⊎◌, inl, inr, Bool, true, false, List, [], ◌∷◌, length, map, get_or, replicate, bit_and, bit_or, w64, refl, sym, ap, ◌∙◌, arith, zero-add}
 use Rattle.std.proofs.Math.ListN.{set}
 use Rattle.std.proofs.Math.Nat.{mul_comm}
 use Rattle.std.specs.Int.{bit_at, bit_not}
@@ -11,6 +11,7 @@ use Rattle.std.proofs.lemmas.List.{same_lists, get_or-set_same, get_or-set_other
 use Rattle.std.proofs.lemmas.List.FromFn.{length-map-range_with_len, get_or-map-range_with_len}
 use Rattle.bit_rows.specs.Grid.{row_at, with_bit, joined, met_bit}
 use Rattle.bit_rows.specs.Words.{bit_in, row_in, rows_in, AreRows, met_word, passed_word}
+use Rattle.base_laws.proofs.Numbers.{max_one, min_one}
 
 -- lists that are made of a function of the index
 pub at_index : {X : Type 0} (f : ℕ → X) (n i : ℕ) (d : X) → i < n → get_or (map f (range_with_len 0 n)) i d ≡ f i
@@ -154,24 +155,6 @@ module _ (words : List ℕ) (stride width rows : ℕ) (are : AreRows words strid
     rows_after = made_set (row_in words stride width) (row_in new stride width) rows to (map bits (range_with_len 0 width))
         (same_made (bit_in new stride to) bits width (λ c low. there c (omega (arith, are.room))))
         (λ r less ne. same_made (bit_in new stride r) (bit_in words stride r) width (λ c low. other_bits r c (omega (arith, are.room)) ne))
-
-max_one : (x y : ℕ) → x < 2 → y < 2 → (max x y == 1) ≡ ((x == 1) || (y == 1))
-max_one zero zero p q = refl
-max_one zero (suc zero) p q = refl
-max_one (suc zero) zero p q = refl
-max_one (suc zero) (suc zero) p q = refl
-max_one zero (suc (suc y)) p q = absurd (omega (arith, q))
-max_one (suc zero) (suc (suc y)) p q = absurd (omega (arith, q))
-max_one (suc (suc x)) y p q = absurd (omega (arith, p))
-
-min_one : (x y : ℕ) → x < 2 → y < 2 → (min x y == 1) ≡ ((x == 1) && (y == 1))
-min_one zero zero p q = refl
-min_one zero (suc zero) p q = refl
-min_one (suc zero) zero p q = refl
-min_one (suc zero) (suc zero) p q = refl
-min_one zero (suc (suc y)) p q = absurd (omega (arith, q))
-min_one (suc zero) (suc (suc y)) p q = absurd (omega (arith, q))
-min_one (suc (suc x)) y p q = absurd (omega (arith, p))
 
 or_bit : (a b i : ℕ) → (bit_at (bit_or a b) i == 1) ≡ ((bit_at a i == 1) || (bit_at b i == 1))
 or_bit a b i = ap (λ n. n == 1) (bit_at_or a b i) ∙ max_one (bit_at a i) (bit_at b i) (bit_at-lt a i) (bit_at-lt b i)

@@ -7,14 +7,11 @@ use Rattle.std.specs.Option.{option_map_or}
 use Rattle.std.proofs.lemmas.Bool.{and_parts, and_from, cases_eq, cases_order, eq-eqb, ne_eqb}
 use Rattle.std.proofs.Math.ListN.{get_or-append, set}
 use Rattle.std.proofs.Math.Seq.{get_or-append_seam}
-use Rattle.std.proofs.lemmas.Bool.Decides.{nat_tests}
 use Rattle.std.proofs.lemmas.List.{reverse-append}
 use Rattle.c_tree.specs.Programs.{AutomaticTree}
 use Rattle.c_places.specs.Places.{is_hidden, is_same_name, name_of, visible}
 use Rattle.c_flow.specs.Names.{AreClasses, IsFirstOfName, class_of}
-
-number_same : (a b : ℕ) → (a == b) ≡ true → a ≡ b
-number_same a b h = grind (arith, nat_tests)
+use Rattle.base_laws.proofs.Numbers.{are_equal as number_same}
 
 -- names that pass the test are one
 name_same : (s t : List ℕ) → is_same_name s t ≡ true → s ≡ t

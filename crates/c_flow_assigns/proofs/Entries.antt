@@ -11,10 +11,7 @@ use Rattle.c_flow.specs.Assigns.{assigns_object}
 use Rattle.c_flow_assigns.specs.PlacesBefore.{places_before}
 use Rattle.c_flow_assigns.specs.Wanted.{is_wanted}
 use Rattle.c_flow.proofs.EachAssigned.{entry_assigns}
-
-or_same : (b : Bool) → (b || false) ≡ b
-or_same true = refl
-or_same false = refl
+use Rattle.base_laws.proofs.Booleans.{or_false as or_same}
 
 module _ (p : ProgramTree) (number at : ℕ) where
   -- no parameter is an object that is not automatic

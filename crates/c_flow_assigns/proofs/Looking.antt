@@ -3,7 +3,6 @@ use Rattle.std.proofs.Common.{◌≡◌, inl, inr, ℕ, ◌+◌, List, [], ◌�
 use Rattle.std.specs.Prelude.{◌==◌, ◌↔◌, Option, Some, None}
 use Rattle.std.specs.List.{Contains, list_any}
 use Rattle.std.proofs.lemmas.Bool.{and_parts, and_from, eq-eqb, or_cases, or_left, or_right}
-use Rattle.std.proofs.lemmas.Bool.Decides.{nat_tests}
 use Rattle.std.proofs.lemmas.List.Elements.{Contains-append_left, Contains-append_right, Contains-append_cases, Contains-push, Contains-push_cases}
 use Rattle.debug_records.specs.declared.change.Place as declared-place
 use Rattle.debug_records.specs.declared.change.Var.{Var}
@@ -17,9 +16,7 @@ use Rattle.c_flow.specs.Assigns.{numbered_assigned, numbered_for, variable_numbe
 use Rattle.c_flow_assigns.specs.PlacesBefore.{places_before}
 use Rattle.c_flow_assigns.specs.Wanted.{is_same_object, is_wanted}
 use Rattle.c_flow_assigns.proofs.SameCount.{number_by_count}
-
-number_same : (a b : ℕ) → (a == b) ≡ true → a ≡ b
-number_same a b h = grind (arith, nat_tests)
+use Rattle.base_laws.proofs.Numbers.{are_equal as number_same}
 
 -- objects that pass the test are one
 object_same : (x y : Object) → is_same_object x y ≡ true → x ≡ y

@@ -1,5 +1,5 @@
 -- What is read, and what is read behind it.
-use Rattle.std.proofs.Common.{◌≡◌, ℕ, zero, suc, ◌+◌, Bool, true, false, cond, List, [], ◌∷◌, ◌++◌, Option, Some, None, Result, Ok, Err, refl, sym, ◌∙◌, subst, arith}
+use Rattle.std.proofs.Common.{◌≡◌, ℕ, zero, suc, ◌+◌, Bool, true, false, cond, List, [], ◌∷◌, ◌++◌, Some, None, Result, Ok, Err, refl, sym, ◌∙◌, subst, arith}
 use Rattle.std.specs.Option.{option_map_or}
 use Rattle.c_token.specs.declared.token.Punctuator.TheVariants as punctuator
 use Rattle.c_token.specs.Lexemes.{Lexeme}
@@ -14,6 +14,8 @@ use Rattle.c_parse_tokens.specs.Specifiers.{no_specifiers, is_type, with_word, k
 use Rattle.c_parse.specs.Tokens.{Grammar, IsPunctuator}
 use Rattle.c_parse.specs.Types.{AreSpecifiers, none, more, Specify, AreStars, no_star, star}
 use Rattle.c_parse.proofs.Words.{word_of, is_word, keyword_there, star_there}
+pub use Rattle.base_laws.proofs.Booleans.{by_test}
+pub use Rattle.base_laws.proofs.Options.{by_option}
 
 -- what is read is spelled by its tokens
 abbrev pub Found : {A : Type 0} → Grammar A → List Lexeme → Result (A × List Lexeme) Stuck → Type 0
@@ -21,14 +23,6 @@ Found G ts (Ok x) = G x.0 ts x.1
 Found G ts (Err stuck) = Unit {0}
 
 -- ---- by cases
-
-pub by_test : {A : Type 0} (P : A → Type 0) (b : Bool) (x y : A) → (b ≡ true → P x) → (b ≡ false → P y) → P (cond b x y)
-by_test P true x y f g = f refl
-by_test P false x y f g = g refl
-
-pub by_option : {A B : Type 0} (P : B → Type 0) (f : A → B) (o : Option A) (d : B) → ((x : A) → o ≡ Some x → P (f x)) → P d → P (option_map_or f o d)
-by_option P f None d g h = h
-by_option P f (Some x) d g h = g x refl
 
 pub next : {A B : Type 0} (G : Grammar A) (H : Grammar B) (ts whole : List Lexeme) (r : Result (A × List Lexeme) Stuck) (f : A × List Lexeme → Result (B × List Lexeme) Stuck)
     → Found G ts r → ((x : A × List Lexeme) → G x.0 ts x.1 → Found H whole (f x)) → Found H whole (r >>= f)

@@ -1,5 +1,5 @@
 -- What a token is, told from what is asked of it.
-use Rattle.std.proofs.Common.{◌≡◌, ℕ, true, false, List, Some, None, refl, ap}
+use Rattle.std.proofs.Common.{◌≡◌, ℕ, true, List, Some, None, refl, ap}
 use Rattle.c_token.specs.declared.token.Keyword.{Keyword}
 use Rattle.c_token.specs.declared.token.Keyword.TheVariants as keyword
 use Rattle.c_token.specs.declared.token.Punctuator.{Punctuator}
@@ -12,6 +12,8 @@ use Rattle.c_parse_tokens.specs.Front.{is, is_punctuator, is_keyword}
 use Rattle.c_parse_tokens.specs.Operators.{punctuator_of}
 use Rattle.c_parse_tokens.specs.Specifiers.{keyword_of, is_parenthesis, is_star}
 use Rattle.c_parse_expressions.specs.Expressions.{literal_of}
+pub use Rattle.base_laws.proofs.Numbers.{no}
+pub use Rattle.base_laws.proofs.Options.{same_some as some_same}
 
 -- the token that a mark is
 abbrev pub word_of : Mark → Word
@@ -49,9 +51,6 @@ word_is mark.Else = refl
 word_is mark.While = refl
 word_is mark.Void = refl
 
-pub no : {A : Type 0} → false ≡ true → A
-no e = absurd cc
-
 punctuator_is : (m : Mark) (p : Punctuator) → is_punctuator m p ≡ true → word.Punctuator p ≡ word_of m
 punctuator_is mark.OpenParenthesis punctuator.OpenParenthesis h = refl
 punctuator_is mark.CloseParenthesis punctuator.CloseParenthesis h = refl
@@ -81,9 +80,6 @@ is_word m (word.Name n) h = no h
 is_word m (word.Constant c) h = no h
 is_word m (word.Literal bytes) h = no h
 is_word m (word.Include i) h = no h
-
-pub some_same : {A : Type 0} {x y : A} → Some x ≡ Some y → x ≡ y
-some_same e = cc
 
 pub never : {A B : Type 0} {x : A} → None ≡ Some x → B
 never e = absurd cc

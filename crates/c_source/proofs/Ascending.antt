@@ -1,7 +1,6 @@
 -- The tokens of a text stand one behind the other.
-use Rattle.std.proofs.Common.{◌≡◌, ℕ, ◌<◌, ◌≤◌, Bool, true, ◌&&◌, nat_le, List, ◌++◌, map, Ok, refl, arith}
+use Rattle.std.proofs.Common.{◌≡◌, ℕ, ◌<◌, ◌≤◌, true, nat_le, List, ◌++◌, map, Ok, refl, arith}
 use Rattle.std.specs.Prelude.{nat_lt}
-use Rattle.std.proofs.lemmas.Bool.Decides.{nat_tests}
 use Rattle.debug_records.specs.declared.source.Spot.{Spot}
 use Rattle.c_token.specs.declared.context.Context.{Context}
 use Rattle.c_token.specs.Includes.{start}
@@ -16,15 +15,8 @@ use Rattle.c_type_laws.specs.Orders.{ascends_behind, ascends, never_falls}
 use Rattle.c_source.specs.TextOrder.{AreInOrder}
 use Rattle.c_source.specs.Tokens.{AreSound, spots_of_tokens}
 use Rattle.c_source.proofs.Spelling.{spelled_sound}
-
-both : (a b : Bool) → a ≡ true → b ≡ true → a && b ≡ true
-both a b h g = rw (h, g) refl
-
-less : (a b : ℕ) → a < b → nat_lt a b ≡ true
-less a b h = grind (arith, nat_tests, h)
-
-least : (a b : ℕ) → a ≤ b → nat_le a b ≡ true
-least a b h = grind (arith, nat_tests, h)
+use Rattle.base_laws.proofs.Booleans.{both}
+use Rattle.base_laws.proofs.Numbers.{is_most as least, less}
 
 -- the offsets of spots, and their lines
 abbrev pub offsets : List Spot → List ℕ

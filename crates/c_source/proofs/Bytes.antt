@@ -1,5 +1,5 @@
 -- What is read from a text of bytes: constants that are numbers of their types, and literals of bytes.
-use Rattle.std.proofs.Common.{◌≡◌, ℕ, zero, suc, ◌+◌, ◌-◌, ◌<◌, pos, Bool, true, false, cond, not, ◌&&◌, ◌||◌, nat_le, eqb, List, [], ◌∷◌, ◌++◌, take, drop, get_or, Option, Some, None, option_and_then, Result, Ok, Err, refl, arith}
+use Rattle.std.proofs.Common.{◌≡◌, ℕ, zero, suc, ◌+◌, ◌-◌, ◌<◌, pos, Bool, true, false, not, ◌&&◌, ◌||◌, nat_le, eqb, List, [], ◌∷◌, ◌++◌, take, drop, get_or, Option, Some, None, option_and_then, Result, Ok, Err, refl, arith}
 use Rattle.std.specs.Prelude.{nat_lt, if◌then◌else◌, codes}
 use Rattle.std.specs.List.{prefix_len}
 use Rattle.std.specs.Option.{option_map_or}
@@ -15,20 +15,15 @@ use Rattle.c_token.specs.Reading.{◌>>=◌, fault, fault_at}
 use Rattle.c_type_rules.specs.Integers.{fits}
 use Rattle.c_parse_expressions.specs.Expressions.{constant_type}
 use Rattle.c_type_laws.specs.Statics.{are_bytes}
+use Rattle.base_laws.proofs.Booleans.{both as two_true}
+pub use Rattle.base_laws.proofs.Booleans.{by_test}
+pub use Rattle.base_laws.proofs.Options.{by_option}
 
 -- ---- by cases
-
-pub by_test : {A : Type 0} (P : A → Type 0) (b : Bool) (x y : A) → (b ≡ true → P x) → (b ≡ false → P y) → P (cond b x y)
-by_test P true x y f g = f refl
-by_test P false x y f g = g refl
 
 pub by_read : {E A B : Type 0} (P : Result B E → Type 0) (r : Result A E) (f : A → Result B E) → ((e : E) → P (Err e)) → ((x : A) → r ≡ Ok x → P (f x)) → P (r >>= f)
 by_read P (Ok x) f g h = h x refl
 by_read P (Err e) f g h = g e
-
-pub by_option : {A B : Type 0} (P : B → Type 0) (f : A → B) (o : Option A) (d : B) → ((x : A) → o ≡ Some x → P (f x)) → P d → P (option_map_or f o d)
-by_option P f None d g h = h
-by_option P f (Some x) d g h = g x refl
 
 -- ---- constants
 
@@ -45,9 +40,6 @@ no_larger v most h = grind (arith, nat_tests, h)
 
 never_less : (v : ℕ) → nat_le 0 v ≡ true
 never_less v = grind (arith, nat_tests)
-
-two_true : (a b : Bool) → a ≡ true → b ≡ true → a && b ≡ true
-two_true a b h g = rw (h, g) refl
 
 typed_number : (is_decimal : Bool) (value : ℕ) (suffix : Bool × Bool) → nat_lt 4294967295 value ≡ false → MayBeNumber (typed is_decimal value suffix)
 unfolding typed

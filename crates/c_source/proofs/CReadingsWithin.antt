@@ -1,7 +1,6 @@
 -- The tokens of a text stand within it, and so does what is read of them.
-use Rattle.std.proofs.Common.{◌≡◌, ℕ, zero, suc, ◌+◌, ◌<◌, ◌≤◌, Bool, true, false, ◌&&◌, List, [], ◌∷◌, ◌++◌, length, take, Ok, refl, arith}
+use Rattle.std.proofs.Common.{◌≡◌, ℕ, zero, suc, ◌+◌, ◌<◌, ◌≤◌, List, [], ◌∷◌, ◌++◌, length, take, Ok, refl, arith}
 use Rattle.std.specs.Prelude.{nat_lt, ◌==◌}
-use Rattle.std.proofs.lemmas.Bool.Decides.{nat_tests}
 use Rattle.std.proofs.lemmas.List.Sums.{count_by-le-length}
 use Rattle.debug_records.specs.declared.source.Spot.{Spot}
 use Rattle.c_token.specs.declared.context.Context.{Context}
@@ -15,17 +14,8 @@ use Rattle.c_source.specs.TextOrder.{AreWithinText}
 use Rattle.c_source.specs.Tokens.{spots_of_tokens}
 use Rattle.c_source.specs.Standing.{Stand, none, passed, told}
 use Rattle.c_source.proofs.Ascending.{offsets, lines}
-
-both : (a b : Bool) → a ≡ true → b ≡ true → a && b ≡ true
-both a b h g = rw (h, g) refl
-
-both_true : (a b : Bool) → a && b ≡ true → (a ≡ true) × (b ≡ true)
-both_true true true h = (refl, refl)
-both_true false b h = cc
-both_true true false h = cc
-
-less : (a b : ℕ) → a < b → nat_lt a b ≡ true
-less a b h = grind (arith, nat_tests, h)
+use Rattle.base_laws.proofs.Booleans.{both, two_true as both_true}
+use Rattle.base_laws.proofs.Numbers.{less}
 
 take_short : (at : ℕ) (text : List ℕ) → length (take at text) ≤ at
 take_short zero text = omega arith

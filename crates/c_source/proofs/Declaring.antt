@@ -1,7 +1,6 @@
 -- Declarators of a function's block declare its variables, with values of their types.
 use Rattle.std.proofs.Common.{◌≡◌, ◌≤◌, ◌<◌, ℕ, ◌+◌, List, [], ◌∷◌, ◌++◌, length, slice_get, nat_le, nat_lt, true, Option, Some, None, refl, sym, ap, ◌∙◌, arith, append-nil, length-append}
 use Rattle.std.specs.Prelude.{◌==◌}
-use Rattle.std.proofs.lemmas.Bool.Decides.{nat_tests}
 use Rattle.debug_records.specs.declared.source.Spot.{Spot}
 use Rattle.debug_records.specs.declared.code.TheConstants.Code.{REDECLARED}
 use Rattle.debug_records.specs.declared.code.Code.{Code}
@@ -39,9 +38,7 @@ use Rattle.c_source.proofs.Coming.{next_ensures, stands_before, declared_known, 
 use Rattle.c_source.proofs.Numbering.{nothing_numbered, one_numbered, both_numbered}
 use Rattle.c_source.proofs.Sizing.{Types, type_elements}
 use Rattle.c_source.proofs.Initialising.{initial_makes}
-
-pub lt_true : (a b : ℕ) → a < b → nat_lt a b ≡ true
-lt_true a b h = grind (arith, nat_tests)
+use Rattle.base_laws.proofs.Numbers.{less as lt_true}
 
 pub spot_itself : (s : Spot) → same_spot s s ≡ true
 spot_itself s = both (s.at == s.at) (s.line == s.line) (itself s.at) (itself s.line)

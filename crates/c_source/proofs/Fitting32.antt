@@ -2,7 +2,6 @@
 use Rattle.std.proofs.Common.{◌≡◌, ◌≤◌, ◌<◌, ℕ, suc, ◌+◌, ◌*◌, ◌/◌, ◌^◌, List, [], ◌∷◌, ◌++◌, length, nat_le, nat_lt, Bool, true, false, ◌&&◌, Option, Some, None, refl, ap, arith, length-append}
 use Rattle.std.specs.Prelude.{◌==◌, if◌then◌else◌, is_none, All, slice_get}
 use Rattle.std.proofs.lemmas.Bool.{eqb-true}
-use Rattle.std.proofs.lemmas.Bool.Decides.{nat_tests}
 use Rattle.std.proofs.lemmas.List.{length-map}
 use Rattle.std.proofs.lemmas.List.Elements.{All-nil, All-cons}
 use Rattle.std.proofs.lemmas.List.Sums.{sum_by-cons}
@@ -30,6 +29,7 @@ use Rattle.c_type_laws.specs.Laws.{places_ascend, objects_ascend, are_in_memory,
 use Rattle.c_flow.specs.Tables.{Fits32}
 use Rattle.c_source.proofs.Same.{two_true}
 use Rattle.c_source.proofs.Stops.{stops_of_declarators, stops_of_start, stops_of_head, stops_of_step, stops_of, stops_of_all, stops_of_close, stops_of_function, stops_of_functions, program_there}
+use Rattle.base_laws.proofs.Numbers.{at_most as le_is, not_less as not_more}
 
 -- an expression has a node
 mutual
@@ -144,12 +144,6 @@ mutual
   declared_all_few (first s rest) vs = let h = declared_in_few s vs in let k = declared_all_few rest (declared_in s vs) in omega (arith, h, k)
   declared_all_few (case z rest) vs = let h = declared_all_few rest vs in omega (arith, h)
   declared_all_few (default rest) vs = let h = declared_all_few rest vs in omega (arith, h)
-
-le_is : (a b : ℕ) → nat_le a b ≡ true → a ≤ b
-le_is a b h = grind (arith, nat_tests)
-
-not_more : (a b : ℕ) → nat_lt a b ≡ false → b ≤ a
-not_more a b h = grind (arith, nat_tests)
 
 -- A function has no more places, and no more variables, than it weighs; its parameters are among its variables.
 record IsLight (f : TypedFunctionTree) : Type 0 where

@@ -11,6 +11,7 @@ use Rattle.c_type_expressions.specs.Findings.{FoundTree, Checked, gives, next, w
 use Rattle.c_type_expressions.specs.Judgements.{writing}
 use Rattle.c_source.proofs.Same.{two_true, both}
 use Rattle.c_source.specs.Findings.{Begins, Grows, Accepts, HoldsOf, Good, IsGood}
+pub use Rattle.base_laws.proofs.Lists.{none_behind as more_is_some}
 
 pub begins_itself : {A : Type 0} (xs : List A) → Begins xs xs
 begins_itself xs = ([], sym (append-nil xs))
@@ -22,10 +23,6 @@ begins_on xs ys zs a b = (a.0 ++ b.0, b.1 ∙ ap (λ q. q ++ b.0) a.1 ∙ append
 pub begins_nothing : {A : Type 0} (xs more : List A) → [] ≡ xs ++ more → xs ≡ []
 begins_nothing [] more h = refl
 begins_nothing (x ∷ xs) more h = cc
-
-pub more_is_some : {A : Type 0} (xs : List A) (x : A) → xs ++ x ∷ [] ≡ [] → ⊥
-more_is_some [] x h = cc
-more_is_some (y ∷ xs) x h = cc
 
 -- literals with one more that has its final zero
 pub ended_push : (xs : List LiteralTree) (l : LiteralTree) → are_ended xs ≡ true → nat_le 1 (length l.bytes) ≡ true → are_ended (xs ++ l ∷ []) ≡ true

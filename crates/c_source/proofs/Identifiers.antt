@@ -6,14 +6,8 @@ use Rattle.std.proofs.lemmas.Bool.Decides.{nat_tests}
 use Rattle.c_token.specs.Bytes.{is_letter, is_digit, is_word_byte}
 use Rattle.c_token.proofs.Runs.{all_of_prefix}
 use Rattle.c_type_laws.specs.Names.{begins_identifier, is_identifier_byte, is_identifier}
-
-pub both_true : (a b : Bool) → a ≡ true → b ≡ true → a && b ≡ true
-both_true a b h g = rw (h, g) refl
-
-two_true : (a b : Bool) → a && b ≡ true → (a ≡ true) × (b ≡ true)
-two_true true true h = (refl, refl)
-two_true false b h = cc
-two_true true false h = cc
+use Rattle.base_laws.proofs.Booleans.{two_true}
+pub use Rattle.base_laws.proofs.Booleans.{both as both_true}
 
 pub no_longer : (n : ℕ) → nat_lt 63 n ≡ false → nat_le n 63 ≡ true
 no_longer n h = grind (arith, nat_tests)

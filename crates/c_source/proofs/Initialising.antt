@@ -31,10 +31,7 @@ use Rattle.c_source.proofs.Growing.{begins_itself, grows_itself, ended_push, end
 use Rattle.c_source.proofs.Judging.{at_end}
 use Rattle.c_source.proofs.Coming.{next_ensures, stands_before, outer_itself}
 use Rattle.c_source.proofs.Looking.{looks_itself, looks_on, breaks_looks, breaks_never, misfit_looks, misfit_never, scalar_makes, tree_held}
-
--- what is not less
-at_least : (a b : ℕ) → nat_lt a b ≡ false → nat_le b a ≡ true
-at_least a b h = grind (arith, nat_tests)
+use Rattle.base_laws.proofs.Numbers.{at_least}
 
 more_than : (a b : ℕ) → nat_le b a ≡ true → nat_le (b + 1) (a + 1) ≡ true
 more_than a b h = grind (arith, nat_tests)

@@ -1,8 +1,7 @@
 -- What each construct of an expression gives is well typed where its parts are.
-use Rattle.std.proofs.Common.{◌≡◌, ◌≤◌, ◌<◌, ℕ, ◌+◌, ◌%◌, ◌^◌, ℤ, pos, negsuc, List, [], ◌∷◌, ◌++◌, length, slice_get, nat_le, Bool, true, false, Option, Some, None, refl, ap, ◌∙◌, arith}
+use Rattle.std.proofs.Common.{◌≡◌, ◌<◌, ℕ, ◌+◌, ◌%◌, ◌^◌, ℤ, pos, negsuc, List, [], ◌∷◌, ◌++◌, length, slice_get, Bool, true, false, Option, Some, None, refl, ap, ◌∙◌, arith}
 use Rattle.std.specs.Prelude.{◌==◌, if◌then◌else◌}
 use Rattle.std.specs.Option.{option_map}
-use Rattle.std.proofs.lemmas.Bool.Decides.{nat_tests}
 use Rattle.debug_records.specs.declared.source.Spot.{Spot}
 use Rattle.debug_records.specs.declared.code.TheConstants.Code.{OPERAND_TYPES, UNEXPECTED_KEYWORD}
 use Rattle.c_tree.specs.declared.types.IntegerType.{IntegerType}
@@ -44,12 +43,7 @@ use Rattle.c_source.proofs.Constants.{address_leads}
 use Rattle.c_source.proofs.Fitting.{given_kind}
 use Rattle.c_source.proofs.Values.{as_value_typed, address_typed, dereferenced_typed, signed_typed, negated_typed, discarded_typed, cast_typed, converted_typed}
 use Rattle.c_source.proofs.Writing.{stepped_typed, assigned_typed, updated_typed}
-
-pub le_true : (a b : ℕ) → a ≤ b → nat_le a b ≡ true
-le_true a b h = grind (arith, nat_tests)
-
-pub le_is : (a b : ℕ) → nat_le a b ≡ true → a ≤ b
-le_is a b h = grind (arith, nat_tests)
+pub use Rattle.base_laws.proofs.Numbers.{at_most as le_is, is_most as le_true}
 
 -- the element behind others
 pub at_end : {A : Type 0} (xs more : List A) (x : A) → slice_get ((xs ++ x ∷ []) ++ more) (length xs) ≡ Some x

@@ -1,7 +1,6 @@
 -- The variables that well typed expressions and statements keep in memory are their function's.
-use Rattle.std.proofs.Common.{◌≡◌, ◌≤◌, ◌<◌, ℕ, ◌+◌, List, [], ◌∷◌, ◌++◌, length, slice_get, nat_le, nat_lt, Bool, true, false, ◌&&◌, not, Option, Some, None, refl, arith}
+use Rattle.std.proofs.Common.{◌≡◌, ◌≤◌, ◌<◌, ℕ, ◌+◌, List, [], ◌∷◌, ◌++◌, length, slice_get, nat_le, nat_lt, Bool, true, false, not, Option, Some, None, refl}
 use Rattle.std.specs.Prelude.{if◌then◌else◌}
-use Rattle.std.proofs.lemmas.Bool.Decides.{nat_tests}
 use Rattle.c_tree.specs.declared.types.IntegerType.{IntegerType}
 use Rattle.c_tree.specs.declared.object_type.Scalar.{Scalar}
 use Rattle.c_tree.specs.declared.object_type.ObjectType.{ObjectType}
@@ -27,19 +26,8 @@ use Rattle.c_source.proofs.Same.{two_true}
 use Rattle.c_source.proofs.Fitting.{typed_kind}
 use Rattle.c_source.proofs.Judging.{le_is}
 use Rattle.c_source.proofs.Marking.{AreWithin}
-
-three_true : (a b c : Bool) → a && b && c ≡ true → (a ≡ true) × (b ≡ true) × (c ≡ true)
-three_true true true true h = (refl, refl, refl)
-three_true false b c h = cc
-three_true true false c h = cc
-three_true true true false h = cc
-
-four_true : (a b c d : Bool) → a && b && c && d ≡ true → (a ≡ true) × (b ≡ true) × (c ≡ true) × (d ≡ true)
-four_true true true true true h = (refl, refl, refl, refl)
-four_true false b c d h = cc
-four_true true false c d h = cc
-four_true true true false d h = cc
-four_true true true true false h = cc
+use Rattle.base_laws.proofs.Booleans.{four_true, three_true}
+use Rattle.base_laws.proofs.Numbers.{is_less as lt_is}
 
 -- what fits, and values that are typed
 fits_if : (b : Bool) (t : ValueType) → is_typed (of_if b t) ≡ true → b ≡ true
@@ -92,9 +80,6 @@ switch_typed (Of t) h = refl
 within_push : (m n k : ℕ) (ks : List ℕ) → AreWithin m n ks → m ≤ k → k < n → AreWithin m n (ks ++ k ∷ [])
 within_push m n k [] h le lt = ((le, lt), tt)
 within_push m n k (x ∷ ks) h le lt = (h.0, within_push m n k ks h.1 le lt)
-
-lt_is : (a b : ℕ) → nat_lt a b ≡ true → a < b
-lt_is a b h = grind (arith, nat_tests)
 
 module _ (p : ProgramTree) (f : TypedFunctionTree) where
   -- variables of a function

@@ -25,6 +25,7 @@ use Rattle.c_source.proofs.Growing.{more_is_some}
 use Rattle.c_source.proofs.Judging.{at_end}
 use Rattle.c_source.proofs.Coming.{slice_more}
 use Rattle.c_source.proofs.Parameters.{Definition, definition_of, definitions_if}
+use Rattle.base_laws.proofs.Lists.{last_is as last_there}
 
 -- a rule is broken
 pub broken : {A : Type 0} (code : Code) (extent : Extent) (q : ProgressTree) → (breaks code extent q).found.faults ≡ [] → A
@@ -36,9 +37,6 @@ push_case P [] x old new zero y h = let e : x ≡ y = cc in subst (P 0) e new
 push_case P [] x old new (suc m) y h = cc
 push_case P (z ∷ xs) x old new zero y h = old zero y h
 push_case P (z ∷ xs) x old new (suc m) y h = push_case (λ k. P (suc k)) xs x (λ k w e. old (suc k) w e) new m y h
-
-last_there : {A : Type 0} (xs : List A) (x : A) → slice_get (xs ++ x ∷ []) (length xs) ≡ Some x
-last_there xs x = ap (λ l. slice_get l (length xs)) (sym (append-nil (xs ++ x ∷ []))) ∙ at_end xs [] x
 
 -- what a name means behind a declaration
 meant_here : (name : List ℕ) (m : Meaning) (scope : Scope) → with_meaning name m scope name ≡ Some m

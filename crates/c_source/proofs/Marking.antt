@@ -1,7 +1,6 @@
 -- Variables that are marked to be kept in memory are the same ones otherwise.
 use Rattle.std.proofs.Common.{◌≡◌, ◌≤◌, ◌<◌, ℕ, zero, suc, ◌+◌, List, [], ◌∷◌, length, slice_get, nat_le, nat_lt, Bool, true, false, ◌||◌, Option, Some, None, Result, Ok, Err, refl, sym, ap, ◌∙◌, subst, arith}
 use Rattle.std.specs.Prelude.{if◌then◌else◌}
-use Rattle.std.proofs.lemmas.Bool.Decides.{nat_tests}
 use Rattle.debug_records.specs.declared.code.Code.{Code}
 use Rattle.debug_records.specs.declared.code.TheConstants.Code.{FUNCTION_WEIGHT, FUNCTION_OBJECTS, FUNCTION_COUNT}
 use Rattle.c_tree.specs.declared.object_type.ObjectType.{ObjectType}
@@ -13,6 +12,7 @@ use Rattle.c_type_laws.specs.Laws.{is_in_memory, are_in_memory}
 use Rattle.c_type_laws.specs.Names.{is_named, automatics_named}
 use Rattle.c_type_laws.specs.Objects.{is_kept_array, arrays_are_kept}
 use Rattle.c_source.proofs.Same.{two_true, both}
+use Rattle.base_laws.proofs.Numbers.{at_least as at_most, not_less as at_most_is}
 
 -- One variable, and the same one as it is marked.
 pub record MarkedAs (a b : AutomaticTree) : Type 0 where
@@ -121,12 +121,6 @@ pub record Limits (number : ℕ) (f : TypedFunctionTree) (vs : List AutomaticTre
   pub room : nat_le (memory_room (variables_of f (with_kept f vs))) 4096 ≡ true
   pub number_is : number ≤ 255
   pub parameters : nat_le f.parameters 8 ≡ true
-
-at_most : (a b : ℕ) → nat_lt a b ≡ false → nat_le b a ≡ true
-at_most a b h = grind (arith, nat_tests)
-
-at_most_is : (a b : ℕ) → nat_lt a b ≡ false → b ≤ a
-at_most_is a b h = grind (arith, nat_tests)
 
 -- the answer for one function
 function_marks : (number : ℕ) (f : TypedFunctionTree) (vs ws : List AutomaticTree) → behind_function number f vs ≡ Ok ws → (ws ≡ with_kept f vs) × Limits number f vs

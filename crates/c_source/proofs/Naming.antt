@@ -1,5 +1,5 @@
 -- The functions of an accepted program have the names of its source, and what it declares has names, elements and room.
-use Rattle.std.proofs.Common.{◌≡◌, ◌≤◌, ℕ, ◌+◌, ◌*◌, ◌/◌, List, [], ◌∷◌, ◌++◌, length, nat_le, nat_lt, Bool, true, false, Option, Some, None, refl, ap, ◌∙◌, subst, arith}
+use Rattle.std.proofs.Common.{◌≡◌, ◌≤◌, ℕ, ◌+◌, List, [], ◌∷◌, ◌++◌, length, nat_le, nat_lt, Bool, true, false, Option, Some, None, refl, ap, ◌∙◌, subst, arith}
 use Rattle.std.specs.Prelude.{is_none, if◌then◌else◌}
 use Rattle.std.proofs.lemmas.Bool.Decides.{nat_tests}
 use Rattle.std.proofs.lemmas.List.Sums.{sum_by-cons}
@@ -24,6 +24,7 @@ use Rattle.c_source.proofs.Same.{two_true, both, all_three}
 use Rattle.c_source.proofs.Judging.{le_true}
 use Rattle.c_source.proofs.Programs.{Accepted, statics_stored, variables_named, literals_ended, no_breach}
 use Rattle.c_source.proofs.Callees.{linked}
+use Rattle.base_laws.proofs.Numbers.{rounded}
 
 -- what is met gives functions with names
 abbrev HaveTheirNames : List TypedFunctionTree → ProgressTree → Type 0
@@ -69,10 +70,6 @@ room_is p h = by (nat_lt 4000 p.weight) (nat_lt 1048576 (objects_room p)) refl h
     by true b e h = cc
     by false true e h = cc
     by false false e h = no_more (objects_room p) 1048576 e
-
--- what is rounded up is no less
-rounded : (n : ℕ) → n ≤ (n + 3) / 4 * 4 + 4
-rounded n = omega arith
 
 enough : (n : ℕ) → n ≤ room n
 enough n = rounded n

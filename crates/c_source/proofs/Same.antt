@@ -1,7 +1,7 @@
 -- Types that are told to be one are one, and each type is one with itself.
-use Rattle.std.proofs.Common.{◌≡◌, ℕ, zero, suc, Bool, true, false, ◌&&◌, refl, sym, ap, ◌∙◌}
+use Rattle.std.proofs.Common.{◌≡◌, ℕ, zero, suc, Bool, true, ◌&&◌, refl, sym, ap, ◌∙◌}
 use Rattle.std.specs.Prelude.{◌==◌}
-use Rattle.std.proofs.lemmas.Bool.{eqb-true, eq-eqb}
+use Rattle.std.proofs.lemmas.Bool.{eqb-true}
 use Rattle.c_tree.specs.declared.types.IntegerType.{IntegerType}
 use Rattle.c_tree.specs.declared.types.IntegerType.TheVariants.{Char, SignedChar, UnsignedChar, Short, UnsignedShort, Int, UnsignedInt, Long, UnsignedLong}
 use Rattle.c_tree.specs.declared.object_type.Scalar.{Scalar}
@@ -10,20 +10,11 @@ use Rattle.c_tree.specs.declared.object_type.ObjectType.TheVariants as object
 use Rattle.c_tree.specs.declared.object_type.ValueType.{ValueType}
 use Rattle.c_tree.specs.declared.object_type.ValueType.TheVariants.{Void, Integer, Pointer}
 use Rattle.c_type_rules.specs.Types.{type_number, same_integer, same_scalar, same_object, same_value}
-
-pub two_true : (a b : Bool) → a && b ≡ true → (a ≡ true) × (b ≡ true)
-two_true true true h = (refl, refl)
-two_true false b h = cc
-two_true true false h = cc
-
-pub both : (a b : Bool) → a ≡ true → b ≡ true → a && b ≡ true
-both a b h g = rw (h, g) refl
+pub use Rattle.base_laws.proofs.Booleans.{all_four, both, two_true}
+pub use Rattle.base_laws.proofs.Numbers.{eq_same as itself}
 
 pub all_three : (a b c : Bool) → a ≡ true → b ≡ true → c ≡ true → a && b && c ≡ true
 all_three a b c h g k = rw (h, g, k) refl
-
-pub all_four : (a b c d : Bool) → a ≡ true → b ≡ true → c ≡ true → d ≡ true → a && b && c && d ≡ true
-all_four a b c d h g k m = rw (h, g, k, m) refl
 
 -- the type of a number
 abbrev of_number : ℕ → IntegerType
@@ -74,10 +65,6 @@ value_is (Integer t) (Pointer u) h = cc
 value_is (Pointer t) Void h = cc
 value_is (Pointer t) (Integer u) h = cc
 value_is (Pointer t) (Pointer u) h = ap Pointer (object_is t u h)
-
--- a number is itself
-pub itself : (n : ℕ) → (n == n) ≡ true
-itself n = eq-eqb n n refl
 
 pub integer_itself : (t : IntegerType) → same_integer t t ≡ true
 integer_itself t = itself (type_number t)

@@ -1,5 +1,5 @@
 -- Spots that stand in tokens which follow one another.
-use Rattle.std.proofs.Common.{◌≡◌, ℕ, ◌≤◌, Bool, true, false, ◌&&◌, nat_le, List, [], ◌∷◌, ◌++◌, Option, Some, None, Result, Ok, Err, refl, sym, ap, ◌∙◌, subst, append-nil, append_assoc, arith}
+use Rattle.std.proofs.Common.{◌≡◌, ℕ, ◌≤◌, true, nat_le, List, [], ◌∷◌, ◌++◌, Option, Some, None, Result, Ok, Err, refl, sym, ap, ◌∙◌, subst, append-nil, append_assoc, arith}
 use Rattle.std.specs.Prelude.{nat_lt}
 use Rattle.std.specs.Option.{option_map_or}
 use Rattle.std.proofs.lemmas.Bool.Decides.{nat_tests}
@@ -13,6 +13,8 @@ use Rattle.c_source.specs.TextOrder.{AreInOrder}
 use Rattle.c_source.specs.Tokens.{AreSound, spots_of_tokens}
 use Rattle.c_source.specs.Standing.{Stand, none, passed, told, Shape, Found, spots_of_many, AreAllFormed}
 use Rattle.c_source.proofs.Ascending.{offsets, lines}
+use Rattle.base_laws.proofs.Booleans.{both, two_true as both_true}
+use Rattle.base_laws.proofs.Numbers.{at_most as no_more}
 
 pub join : {a b : List Spot} {ts mid rest : List Lexeme} → Stand a ts mid → Stand b mid rest → Stand (a ++ b) ts rest
 join none r = r
@@ -36,14 +38,6 @@ same_spots {ts = ts} {rest = rest} e s = subst (λ (l : List Spot). Stand l ts r
 
 -- ---- order
 
-both_true : (a b : Bool) → a && b ≡ true → (a ≡ true) × (b ≡ true)
-both_true true true h = (refl, refl)
-both_true false b h = cc
-both_true true false h = cc
-
-both : (a b : Bool) → a ≡ true → b ≡ true → a && b ≡ true
-both a b h g = rw (h, g) refl
-
 lower : (low high : ℕ) (l : List ℕ) → low ≤ high → ascends_behind high l ≡ true → ascends_behind low l ≡ true
 lower low high [] le h = refl
 lower low high (n ∷ l) le h =
@@ -66,9 +60,6 @@ sink low high (n ∷ l) le h =
 
 at_most : (a b : ℕ) → nat_lt a b ≡ true → a ≤ b
 at_most a b h = grind (arith, nat_tests, h)
-
-no_more : (a b : ℕ) → nat_le a b ≡ true → a ≤ b
-no_more a b h = grind (arith, nat_tests, h)
 
 some_ascend : {spots : List Spot} {ts rest : List Lexeme} (last : ℕ) → Stand spots ts rest → ascends_behind last (offsets (spots_of_tokens ts)) ≡ true → ascends_behind last (offsets spots) ≡ true
 some_ascend last none h = refl

@@ -1,7 +1,6 @@
 -- The functions of a program weigh no more than the program.
 use Rattle.std.proofs.Common.{◌≡◌, ◌≤◌, ℕ, ◌+◌, List, [], ◌∷◌, ◌++◌, length, nat_le, nat_lt, Bool, true, false, Option, Some, None, refl, ap, subst, arith}
 use Rattle.std.specs.Prelude.{if◌then◌else◌}
-use Rattle.std.proofs.lemmas.Bool.Decides.{nat_tests}
 use Rattle.std.proofs.lemmas.List.Sums.{sum_by-cons}
 use Rattle.debug_records.specs.declared.code.Code.{Code}
 use Rattle.debug_records.specs.declared.code.TheConstants.Code.{PROGRAM_WEIGHT}
@@ -20,6 +19,7 @@ use Rattle.c_type_laws.specs.Laws.{weight_of}
 use Rattle.c_source.specs.Progress.{Ensures}
 use Rattle.c_source.proofs.Judging.{le_true}
 use Rattle.c_source.proofs.Programs.{Accepted}
+use Rattle.base_laws.proofs.Numbers.{not_less as not_more}
 
 -- functions that weigh so much at most
 abbrev Weigh : ℕ → List TypedFunctionTree → ProgressTree → Type 0
@@ -61,9 +61,6 @@ items_weigh names fs (i ∷ rest) q = by (item_met names (length fs) i q) (item_
 first_none : (b : Bool) (o : Option Code) → (if b then Some PROGRAM_WEIGHT else o) ≡ None → b ≡ false
 first_none true o h = cc
 first_none false o h = refl
-
-not_more : (a b : ℕ) → nat_lt a b ≡ false → b ≤ a
-not_more a b h = grind (arith, nat_tests)
 
 light : (p : ProgramTree) → program_breach p ≡ None → p.weight ≤ 4000
 light p h = not_more 4000 p.weight (first_none (nat_lt 4000 p.weight) _ h)

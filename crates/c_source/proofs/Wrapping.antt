@@ -1,38 +1,15 @@
 -- A converted number is one of its type.
-use Rattle.std.proofs.Common.{◌≡◌, ℕ, ◌+◌, ◌-◌, ◌<◌, ◌≤◌, Bool, true, false, ◌&&◌, refl, ap, ◌∙◌, arith, ℤ, pos, negsuc, ◌-ℤ◌}
-use Rattle.std.specs.Prelude.{if◌then◌else◌, int_le, nat_le}
-use Rattle.std.proofs.lemmas.Bool.{leb-true}
-use Rattle.std.proofs.lemmas.Bool.Decides.{nat_tests}
-use Rattle.std.proofs.lemmas.Int.{ints}
+use Rattle.std.proofs.Common.{◌≡◌, ℕ, ◌<◌, true, refl, arith, ℤ, pos, negsuc}
+use Rattle.std.specs.Prelude.{nat_le}
 use Rattle.word_base.specs.Types.{holds, modulo}
 use Rattle.c_tree.specs.declared.types.IntegerType.{IntegerType}
 use Rattle.c_tree.specs.declared.types.IntegerType.TheVariants.{Char, SignedChar, UnsignedChar, Short, UnsignedShort, Int, UnsignedInt, Long, UnsignedLong}
 use Rattle.c_type_rules.specs.Integers.{integer, wrapped}
-
-up_to : (m k : ℕ) → m ≤ k → int_le (pos 0) (pos m) && int_le (pos m) (pos k) ≡ true
-up_to m k le =
-    let a : int_le (pos 0) (pos m) ≡ true = grind (arith, nat_tests) in
-    let b : int_le (pos m) (pos k) ≡ true = grind (arith, nat_tests, le) in
-    ap (λ c. c && int_le (pos m) (pos k)) a ∙ b
+use Rattle.base_laws.proofs.Numbers.{by_sign, up_to}
 
 remainder_below : (m : ℕ) (z : ℤ) → 0 < m → modulo m z < m
 remainder_below m (pos n) some = omega (arith, some)
 remainder_below m (negsuc n) some = omega (arith, some)
-
--- a number with a sign, by its bits
-by_sign : (half range low : ℕ) → range ≡ half + half → 0 < half → low < range → (b : Bool) → nat_le half low ≡ b → int_le (negsuc (half - 1)) (if b then pos low -ℤ pos range else pos low) && int_le (if b then pos low -ℤ pos range else pos low) (pos (half - 1)) ≡ true
-by_sign half range low two some lt true e = under (pos low -ℤ pos range) refl
-  where
-    le : half ≤ low
-    le = leb-true half low e
-
-    under : (y : ℤ) → pos low -ℤ pos range ≡ y → int_le (negsuc (half - 1)) y && int_le y (pos (half - 1)) ≡ true
-    under (pos n) h = absurd (omega (arith, ints, lt, h))
-    under (negsuc n) h = let l = le in let k : n ≤ half - 1 = omega (arith, ints, two, l, lt, h) in let a : int_le (negsuc (half - 1)) (negsuc n) ≡ true = grind (arith, nat_tests, k) in ap (λ c. c && int_le (negsuc n) (pos (half - 1))) a
-by_sign half range low two some lt false e =
-    let k : low < half = grind (arith, nat_tests, e) in
-    let le : low ≤ half - 1 = omega (arith, k) in
-    grind (arith, nat_tests, le)
 
 -- A converted number is one of the type.
 pub wrapped_holds : (t : IntegerType) (z : ℤ) → holds (integer t) (wrapped t z) ≡ true

@@ -1,8 +1,7 @@
 -- What stands at an offset ends behind it, and within the text.
-use Rattle.std.proofs.Common.{◌≡◌, ℕ, zero, suc, ◌+◌, ◌-◌, ◌≤◌, ◌<◌, Bool, true, false, cond, not, ◌&&◌, ◌||◌, ltb, eqb, List, [], ◌∷◌, length, get_or, take, drop, Option, Some, None, Result, Ok, Err, refl, ap, ◌∙◌, arith, length-drop}
+use Rattle.std.proofs.Common.{◌≡◌, ℕ, zero, suc, ◌+◌, ◌-◌, ◌≤◌, ◌<◌, Bool, true, not, ◌&&◌, ◌||◌, ltb, eqb, List, [], ◌∷◌, length, get_or, take, drop, Option, Some, None, Result, Ok, Err, refl, ap, ◌∙◌, arith, length-drop}
 use Rattle.std.specs.Prelude.{codes}
 use Rattle.std.specs.List.{prefix_len}
-use Rattle.std.specs.Option.{option_map_or}
 use Rattle.std.specs.Str.{bytes_eq}
 use Rattle.std.proofs.lemmas.List.{length-take}
 use Rattle.std.proofs.lemmas.List.Sums.{prefix_len-le-length}
@@ -26,6 +25,8 @@ use Rattle.c_token.specs.Reading.{◌>>=◌, fault}
 use Rattle.c_token.specs.Words.{word_in, word_at}
 use Rattle.c_token.proofs.Firsts.{letter_begins, number_begins}
 use Rattle.c_token.proofs.Runs.{some_front, and_left, and_right}
+use Rattle.base_laws.proofs.Booleans.{by_test, not_false}
+use Rattle.base_laws.proofs.Options.{by_option}
 
 -- an end that is read lies between two offsets
 abbrev pub EndsIn : ℕ → ℕ → Result ℕ Fault → Type 0
@@ -49,17 +50,9 @@ OptionEnds low high (Some x) = (low ≤ x.1) × (x.1 ≤ high)
 
 -- ---- by cases
 
-by_test : {A : Type 0} (P : A → Type 0) (b : Bool) (x y : A) → (b ≡ true → P x) → (b ≡ false → P y) → P (cond b x y)
-by_test P true x y f g = f refl
-by_test P false x y f g = g refl
-
 by_read : {A B : Type 0} (P : Result B Fault → Type 0) (r : Result A Fault) (f : A → Result B Fault) → ((e : Fault) → P (Err e)) → ((x : A) → r ≡ Ok x → P (f x)) → P (r >>= f)
 by_read P (Ok x) f g h = h x refl
 by_read P (Err e) f g h = g e
-
-by_option : {A B : Type 0} (P : B → Type 0) (f : A → B) (o : Option A) (d : B) → ((x : A) → o ≡ Some x → P (f x)) → P d → P (option_map_or f o d)
-by_option P f None d g h = h
-by_option P f (Some x) d g h = g x refl
 
 end_is : {low high : ℕ} (r : Result ℕ Fault) (end : ℕ) → EndsIn low high r → r ≡ Ok end → (low ≤ end) × (end ≤ high)
 end_is {low = low} {high = high} r end e same = rw same at e
@@ -194,10 +187,6 @@ header_ends text at le =
 include_within : (text : List ℕ) (at : ℕ) → at ≤ length text → is_include_at text at ≡ true → at + 7 ≤ length text
 unfolding is_include_at
 include_within text at le h = stands_within text at (codes "include") le (and_left _ _ h)
-
-not_false : (b : Bool) → not b ≡ false → b ≡ true
-not_false true e = refl
-not_false false e = absurd cc
 
 include_ends : (c : Context) (text : List ℕ) (at : ℕ) → at < length text → Ends (at + 1) (length text) (include_at c text at)
 unfolding include_at

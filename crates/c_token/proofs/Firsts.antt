@@ -3,10 +3,7 @@ use Rattle.std.proofs.Common.{◌≡◌, ℕ, ◌+◌, Bool, true, false, ◌&&�
 use Rattle.c_token.specs.Bytes.{is_letter, is_digit, is_word_byte}
 use Rattle.c_token.specs.Constants.{is_number_byte}
 use Rattle.c_token.specs.Items.{begins_constant}
-
-letter_first : (a b : Bool) → a ≡ true → (a || b) ≡ true
-letter_first true b h = refl
-letter_first false b h = absurd cc
+use Rattle.base_laws.proofs.Booleans.{letter_first}
 
 number_first : (letter digit point next : Bool) → (digit || (point && next)) ≡ true → ((letter || digit) || point) ≡ true
 number_first true digit point next h = refl

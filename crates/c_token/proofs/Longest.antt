@@ -13,6 +13,7 @@ use Rattle.c_token.specs.Lexemes.{Word}
 use Rattle.c_token.specs.Punctuators.{punctuators, find_punctuator, longest_punctuator}
 use Rattle.c_token.specs.Reading.{◌>>=◌}
 use Rattle.c_token.specs.Words.{word_at}
+use Rattle.base_laws.proofs.Booleans.{both_true as and_parts}
 
 -- what stands behind the longest front that passes does not pass
 stops : (p : ℕ → Bool) (text : List ℕ) (at : ℕ) → p 0 ≡ false → p (get_or text (at + prefix_len p (drop at text)) 0) ≡ false
@@ -51,10 +52,6 @@ constants_are_longest text at c end e = rw (constant_end _ _ _ end c e) at (stop
 chosen : {A : Type 0} (b : Bool) (x y z : A) → cond b x y ≡ z → ((b ≡ true) × (x ≡ z)) ⊎ ((b ≡ false) × (y ≡ z))
 chosen true x y z e = inl (refl, e)
 chosen false x y z e = inr (refl, e)
-
-and_parts : (a b : Bool) → (a && b) ≡ true → (a ≡ true) × (b ≡ true)
-and_parts true b e = (refl, e)
-and_parts false b e = absurd cc
 
 -- no spelling is longer than one before it, and none is empty
 abbrev longest_first : List (List ℕ × Punctuator) → Bool

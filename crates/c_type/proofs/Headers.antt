@@ -1,12 +1,9 @@
 -- Lists of types.
-use Rattle.std.proofs.Common.{◌≡◌, List, [], ◌∷◌, length, Bool, true, false, ◌&&◌, suc, refl, ap}
+use Rattle.std.proofs.Common.{◌≡◌, List, [], ◌∷◌, length, false, suc, refl, ap}
 use Rattle.c_tree.specs.declared.object_type.Scalar.{Scalar}
 use Rattle.c_type_rules.specs.Types.{same_scalar}
 use Rattle.c_type.specs.Headers.{same_scalars}
-
-and_false : (b : Bool) → (b && false) ≡ false
-and_false true = refl
-and_false false = refl
+use Rattle.base_laws.proofs.Booleans.{and_false}
 
 -- lists of other lengths are not one
 pub apart : (xs ys : List Scalar) → (length xs ≡ length ys → ⊥) → same_scalars xs ys ≡ false

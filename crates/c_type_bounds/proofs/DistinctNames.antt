@@ -10,6 +10,7 @@ use Rattle.std.proofs.lemmas.Slice.Eq.{bytes_eq-Decides}
 use Rattle.c_tree.specs.Programs.{AutomaticTree}
 use Rattle.c_places.specs.Places.{is_hidden, is_same_name, name_of, visible}
 use Rattle.c_type_bounds.specs.Visible.{behind_scope, with_visible}
+use Rattle.base_laws.proofs.Booleans.{or_false as or_none, or_true}
 
 -- a name is among these
 abbrev among : List ℕ → List (List ℕ) → Bool
@@ -58,14 +59,6 @@ same_tests s t =
 turned : (s t : List ℕ) → bytes_eq s t ≡ bytes_eq t s
 turned s t =
     both_ways (bytes_eq s t) (bytes_eq t s) (λ h. (bytes_eq-Decides t s).1 (sym ((bytes_eq-Decides s t).0 h))) (λ h. (bytes_eq-Decides s t).1 (sym ((bytes_eq-Decides t s).0 h)))
-
-or_none : (b : Bool) → (b || false) ≡ b
-or_none true = refl
-or_none false = refl
-
-or_true : (b : Bool) → (b || true) ≡ true
-or_true true = refl
-or_true false = refl
 
 -- among names with one more at their end
 among_more : (name last : List ℕ) (seen : List (List ℕ)) → among name (seen ++ last ∷ []) ≡ (among name seen || bytes_eq last name)

@@ -1,25 +1,19 @@
 -- The limits of a function, one by one.
-use Rattle.std.proofs.Common.{◌≡◌, ◌<◌, ◌≤◌, arith, ℕ, List, take, drop, Bool, true, false, Ok, Err, Some, None, if◌then◌else◌, refl, ap, ◌∙◌}
+use Rattle.std.proofs.Common.{◌≡◌, ◌<◌, ◌≤◌, ℕ, List, take, drop, Bool, true, false, Ok, Err, Some, None, if◌then◌else◌, refl, ap, ◌∙◌}
 use Rattle.std.specs.Prelude.{map, nat_lt, ◌||◌}
 use Rattle.std.proofs.lemmas.Bool.{false≢true}
-use Rattle.std.proofs.lemmas.Bool.Decides.{nat_tests}
 use Rattle.debug_records.specs.declared.code.TheConstants.Code.{FUNCTION_WEIGHT, FUNCTION_OBJECTS, FUNCTION_COUNT}
 use Rattle.c_tree.specs.declared.program.AutomaticVariable.{AutomaticVariable}
 use Rattle.c_tree.specs.declared.program.TypedFunction.{TypedFunction}
 use Rattle.c_tree.specs.Programs.{AutomaticTree, TypedFunctionTree, automatic_view, function_view}
 use Rattle.c_type_bounds.specs.Bounds.{behind_function, memory_room, or_breach, variables_of, with_kept}
 use Rattle.c_type_bounds.proofs.FunctionPlaces.{own_view}
+use Rattle.base_laws.proofs.Numbers.{less as lt_true, not_before as lt_false}
 
 -- what the memory objects of a function take
 pub own_room_of : (own all : List AutomaticVariable) (f : TypedFunction) (ws : List AutomaticTree) → own ≡ take f.variables (drop f.first_variable all) → map automatic_view all ≡ ws
     → memory_room (map automatic_view own) ≡ memory_room (variables_of (function_view f) ws)
 own_room_of own all f ws is whole = ap memory_room (ap (map automatic_view) is ∙ own_view all f.first_variable f.variables ∙ ap (λ xs. take f.variables (drop f.first_variable xs)) whole)
-
-lt_true : (a b : ℕ) → a < b → nat_lt a b ≡ true
-lt_true a b h = grind (arith, nat_tests)
-
-lt_false : (a b : ℕ) → b ≤ a → nat_lt a b ≡ false
-lt_false a b h = grind (arith, nat_tests)
 
 either_true : (p q : Bool) → p ≡ true → (p || q) ≡ true
 either_true true q h = refl

@@ -1,5 +1,5 @@
 -- What the loops over initializers and declarators do at each item.
-use Rattle.std.proofs.Common.{◌≡◌, ℕ, suc, ◌+◌, ◌<◌, ◌≤◌, List, [], ◌∷◌, ◌++◌, length, map, drop, get_or, Option, refl, ap, sym, ◌∙◌, add-one, drop-cons}
+use Rattle.std.proofs.Common.{◌≡◌, ℕ, ◌+◌, ◌<◌, ◌≤◌, List, [], ◌∷◌, ◌++◌, length, map, drop, get_or, Option, refl, ap, sym}
 use Rattle.std.proofs.lemmas.List.{drop_all, append-nil}
 use Rattle.c_tree.specs.declared.extent.Extent.{Extent}
 use Rattle.c_tree.specs.declared.types.IntegerType.{IntegerType}
@@ -15,10 +15,7 @@ use Rattle.c_type_declarations.specs.Statics.{Contents, filled, fills_met, list_
 use Rattle.c_type_declarations.specs.Declarations.{automatic_met, automatics_met}
 use Rattle.c_type_declarations.proofs.Lists.{count_chain}
 use Rattle.c_type_declarations.proofs.Steps.{next_more}
-
--- an item, and those behind it
-pub drop_item : {A : Type 0} (xs : List A) (i : ℕ) (x : A) → i < length xs → x ≡ get_or xs i x → drop i xs ≡ x ∷ drop (i + 1) xs
-drop_item xs i x h e = rw (add-one) (drop-cons xs i x h ∙ ap (λ y. y ∷ drop (suc i) xs) (sym e))
+pub use Rattle.base_laws.proofs.Lists.{drop_item}
 
 pub chain_item : (xs : List Initializer) (i : ℕ) (x : Initializer) → i < length xs → x ≡ get_or xs i x → chain (map initializer_view (drop i xs)) ≡ first (initializer_view x) (chain (map initializer_view (drop (i + 1) xs)))
 chain_item xs i x h e = ap (λ ys. chain (map initializer_view ys)) (drop_item xs i x h e)

@@ -1,13 +1,9 @@
 -- The names and elements of each variable and function of a program that has them.
-use Rattle.std.proofs.Common.{◌≡◌, ◌≢◌, ◌≤◌, ℕ, zero, suc, nat_le, Bool, true, false, ◌&&◌, List, [], ◌∷◌, length, Some, slice_get, refl, subst, arith}
+use Rattle.std.proofs.Common.{◌≡◌, ◌≢◌, ◌≤◌, ℕ, zero, suc, nat_le, true, List, [], ◌∷◌, length, Some, slice_get, subst, arith}
 use Rattle.std.proofs.lemmas.Bool.Decides.{nat_tests}
 use Rattle.c_tree.specs.Programs.{AutomaticTree, StaticTree, TypedFunctionTree, ProgramTree}
 use Rattle.c_type_laws.specs.Names.{is_identifier, is_name, is_named, statics_named, automatics_named, functions_named, has_elements, statics_have_elements, HasNames}
-
-two_true : (a b : Bool) → a && b ≡ true → (a ≡ true) × (b ≡ true)
-two_true true true h = (refl, refl)
-two_true false b h = cc
-two_true true false h = cc
+use Rattle.base_laws.proofs.Booleans.{two_true}
 
 -- a name is not empty
 pub name_some : (s : List ℕ) → is_name s ≡ true → s ≢ []

@@ -16,6 +16,7 @@ pub use Rattle.command_line.specs.Words.{is_readable, is_fit}
 pub use Rattle.command_line.specs.Commands.{option_built, row}
 use Rattle.command_line.specs.Words.{Form, Use, Uses, is_dashed, is_used, long_word, uses_from, uses_of, with_use}
 use Rattle.command_line.specs.Commands.{place_rule}
+use Rattle.base_laws.proofs.Booleans.{neither, or_true}
 
 abbrev pub shape : Text → List Rule → Shape
 shape name c = record (new_shape name) {
@@ -55,10 +56,6 @@ fails [] = false
 fails (k ∷ ks) = true
 
 -- ---- what a use leaves
-
-neither : (a b : Bool) → (a || b) ≡ false → (a ≡ false) × (b ≡ false)
-neither true b h = absurd (true≢false h)
-neither false b h = (refl, h)
 
 row_new : (id : Text) (change : Row → List Row) (missing : List Row) (us : List Use) → is_used id us ≡ false
     → at_row id change missing (map row us) ≡ map row us ++ missing
@@ -108,10 +105,6 @@ HasNoDefaults (a ∷ rest) = (a.defaults ≡ []) × HasNoDefaults rest
 cond_same : {X : Type 0} (b : Bool) (x : X) → cond b x x ≡ x
 cond_same true x = refl
 cond_same false x = refl
-
-or_true : (b : Bool) → (b || true) ≡ true
-or_true true = refl
-or_true false = refl
 
 default_none : (rows : List Row) (a : Rule) → a.defaults ≡ [] → default_fault rows a ≡ []
 default_none rows a e = let b = or_true (has_row a.id rows) in rw (e, b) refl

@@ -1,8 +1,8 @@
 -- Blocks of a function, one after the other.
-use Rattle.std.proofs.Common.{◌≡◌, ℕ, ◌+◌, ◌-◌, ◌<◌, ◌≤◌, ◌++◌, Option, Some, None, List, length, get_or, map, take, drop, refl, sym, ap, ◌∙◌, subst, arith}
-use Rattle.std.specs.Prelude.{option_map, slice_get}
+use Rattle.std.proofs.Common.{◌≡◌, ℕ, ◌+◌, ◌-◌, ◌≤◌, ◌++◌, Some, None, List, length, map, take, drop, refl, sym, ap, ◌∙◌, subst, arith}
+use Rattle.std.specs.Prelude.{slice_get}
 use Rattle.std.proofs.lemmas.List.{drop_at, length-append, length-drop, length-map, length-take-le, take-append-drop, take_at}
-use Rattle.std.proofs.lemmas.Option.{same_Some, slice_get-map, slice_get_past, slice_get_read, slice_get_within}
+use Rattle.std.proofs.lemmas.Option.{same_Some, slice_get_past, slice_get_within}
 use Rattle.graph_core.specs.Graphs.{Instruction, Block, End, Graph}
 use Rattle.graph_core.specs.Points.{StandsWith, reads_at}
 use Rattle.graph_core.specs.Validity.{place_behind}
@@ -11,18 +11,11 @@ use Rattle.pass_law.specs.Changes.{Adds, Below, Numbered}
 use Rattle.pass_law.proofs.Adding.{adds_first, adds_last, adds_next, adds_none, adds_same}
 use Rattle.copy_pass.specs.Points.{IsReplacedIn}
 use Rattle.copy_pass.specs.Reads.{IsOther, IsReplacedRead}
+use Rattle.base_laws.proofs.Options.{none_there}
+pub use Rattle.base_laws.proofs.Lists.{there}
 
 abbrev pub block_of : Case → ℕ
 block_of c = c.block
-
-none_there : {A : Type 0} (o : Option A) (a : A) → o ≡ None → o ≡ Some a → ⊥
-none_there o a e f = let both : None ≡ Some a = sym e ∙ f in absurd (cc)
-
--- what stands at a number of a list that is read, and that nothing does behind its end
-pub there : {A B : Type 0} (view : A → B) (read xs : List A) (i : ℕ) (x : A) → read ≡ xs → i < length read → x ≡ get_or read i x → slice_get (map view xs) i ≡ Some (view x)
-there view read xs i x same inside is =
-    let at = slice_get_read read (length read) i x refl inside is in
-    slice_get-map view xs i ∙ ap (λ l. option_map view (slice_get l i)) (sym same) ∙ ap (option_map view) at
 
 pub gone : {A B : Type 0} (view : A → B) (xs : List A) (i : ℕ) → length xs ≤ i → slice_get (map view xs) i ≡ None
 gone view xs i past = slice_get_past (map view xs) i (let long = length-map xs view in omega (arith, long, past))

@@ -10,9 +10,7 @@ use Rattle.pass_law.specs.Changes.{Adds, Below, Numbered}
 use Rattle.pass_law.proofs.Adding.{adds_first, adds_last, adds_next, adds_none, adds_one}
 use Rattle.copy_pass.specs.Points.{IsReplacedAt, variable_in}
 use Rattle.copy_pass.specs.Reads.{IsOther}
-
-none_there : {A : Type 0} (o : Option A) (a : A) → o ≡ None → o ≡ Some a → ⊥
-none_there o a e f = let both : None ≡ Some a = sym e ∙ f in absurd (cc)
+use Rattle.base_laws.proofs.Options.{none_there}
 
 abbrev pub operand_of : Case → ℕ
 operand_of c = c.operand

@@ -1,22 +1,14 @@
 -- Instructions and blocks that are read one by one.
-use Rattle.std.proofs.Common.{◌≡◌, ℕ, suc, ◌+◌, ◌-◌, ◌<◌, ◌≤◌, Bool, true, false, Option, Some, List, [], ◌∷◌, ◌++◌, length, map, refl, sym, ap, ◌∙◌, subst, arith, append_assoc, get_or, take, drop}
-use Rattle.std.specs.Prelude.{◌==◌, ◌&&◌, not, if◌then◌else◌, slice_get}
-use Rattle.std.proofs.lemmas.List.{at_drop_more, length-map, map-append}
+use Rattle.std.proofs.Common.{◌≡◌, ℕ, suc, ◌+◌, ◌-◌, ◌<◌, ◌≤◌, Bool, true, Option, Some, List, [], ◌∷◌, ◌++◌, length, map, sym, ap, ◌∙◌, subst, arith, append_assoc, get_or, take, drop}
+use Rattle.std.specs.Prelude.{slice_get}
+use Rattle.std.proofs.lemmas.List.{length-map}
 use Rattle.std.proofs.Math.Path.{fun_ext}
-use Rattle.std.proofs.Math.Seq.{take-length}
 use Rattle.graph_core.specs.Graphs.{Operand, Instruction, End, Block, Scalar}
 use Rattle.graph_core.specs.Uses.{target_of}
 use Rattle.copy_pass_rule.specs.declared.copies.CopyAt.{CopyAt}
 use Rattle.copy_pass_rule.specs.Copying.{reading, reading_all, reading_end, reading_operand}
 use Rattle.copy_pass_rule.specs.Flow.{Bits, IsKnown, source_among, missing_along, missing_behind, AreRead, none, more, missing_in, IsReadBlock, unled, led, AreReadBlocks}
-
-pub append_nil : {A : Type 0} (xs : List A) → xs ++ [] ≡ xs
-append_nil [] = refl
-append_nil (x ∷ xs) = ap (λ ys. x ∷ ys) (append_nil xs)
-
--- what is left behind the first
-pub rest_is : {A : Type 0} (y : A) (left : List A) → take (length (y ∷ left) - 1) (drop 1 (y ∷ left)) ≡ left
-rest_is y left = (let count : length (y ∷ left) - 1 ≡ length left = omega arith in ap (λ n. take n left) count ∙ take-length left)
+use Rattle.base_laws.proofs.Lists.{append_nil, rest_is}
 
 module _ (scalars : List Scalar) (copies : List CopyAt) (n : ℕ) where
   -- What is still to be read of the instructions, behind what is read.

@@ -1,6 +1,6 @@
 -- What verdicts say, row by row.
 use Rattle.std.proofs.Common.{◌≡◌, inl, inr, ℕ, ◌+◌, ◌-◌, ◌<◌, ◌≤◌, Option, Some, None, List, [], ◌∷◌, ◌++◌, length, get_or, map, take, drop, refl, sym, ap, subst, ◌∙◌, arith}
-use Rattle.std.specs.Prelude.{slice_get, slice_set, MatchOption, ◌⊎◌}
+use Rattle.std.specs.Prelude.{slice_get, slice_set, MatchOption}
 use Rattle.std.proofs.lemmas.Bool.Decides.{eqb_tells}
 use Rattle.std.proofs.lemmas.List.{get_or-set_same, get_or-set_other}
 use Rattle.std.proofs.lemmas.Option.{same_Some, slice_get_within}
@@ -29,6 +29,7 @@ use Rattle.currency.specs.declared.verdict.PlaceVerdict as declared-row
 use Rattle.currency.specs.Telling.{told_at, AreRowsTold, AreSlotted, AreTold, IsNoneTold, IsRowTold, IsToldOf, IsToldRight, IsVerdictOf, IsVerdictOn}
 use Rattle.currency.proofs.Distinct.{distinct_homes}
 use Rattle.currency.specs.Sound.{AreApart, AreHidden, AreHome, AreLeast, AreOnly, AreRecovered, AreSo, IsHidden}
+use Rattle.base_laws.proofs.Lists.{append_nil as more_none, take_none}
 
 -- where a verdict hides a variable, nothing is told that shows it
 hidden_told : (log : List Logged) (homes : List Home) (g : Graph) (p : ℕ) (t : declared-variable.ToldVariable) (what : declared-told.Told) (v : declared-verdict.Verdict) → IsHidden v → IsVerdictOf what v → IsToldRight log homes g p t what → AreDistinct homes → (x : ℕ) → IsVariable g x t.var.0 → IsHiddenAt (home_in homes) g p x
@@ -76,10 +77,6 @@ more_more : {A : Type 0} (xs ys zs : List A) → (xs ++ ys) ++ zs ≡ xs ++ (ys 
 more_more [] ys zs = refl
 more_more (x ∷ xs) ys zs = ap (λ all. x ∷ all) (more_more xs ys zs)
 
-more_none : {A : Type 0} (xs : List A) → xs ++ [] ≡ xs
-more_none [] = refl
-more_none (x ∷ xs) = ap (λ all. x ∷ all) (more_none xs)
-
 -- one more verdict at a place, on the variable that was read
 module _ (told : List declared-variable.ToldVariable) (p : ℕ) (visible : List declared-var.Var) (first rows new : List declared-row.PlaceVerdict) (k : ℕ) (d : declared-var.Var) (v : declared-verdict.Verdict) (lt : k < length visible)
     (put : new ≡ rows ++ (record { place = record { 0 = p }; var = get_or visible k d; verdict = v } ∷ [])) where
@@ -94,10 +91,6 @@ module _ (told : List declared-variable.ToldVariable) (p : ℕ) (visible : List 
       ∙ more_more before (sights_at p (take k visible)) (record { place = p; variable = (get_or visible k d).0 } ∷ [])
       ∙ ap (λ (all : List Sight). before ++ all) (sym (map_more (λ (w : declared-var.Var). record { place = p; variable = w.0 }) (take k visible) (get_or visible k d)))
       ∙ ap (λ vars. before ++ sights_at p vars) (sym (take_more visible k d lt))
-
-take_none : {A : Type 0} (xs : List A) → take 0 xs ≡ []
-take_none [] = refl
-take_none (x ∷ xs) = refl
 
 pub sights_first : (p : ℕ) (visible : List declared-var.Var) (rows : List declared-row.PlaceVerdict) → map sight rows ≡ map sight rows ++ sights_at p (take 0 visible)
 sights_first p visible rows = sym (ap (λ vars. map sight rows ++ sights_at p vars) (take_none visible) ∙ more_none (map sight rows))

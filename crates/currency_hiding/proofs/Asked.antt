@@ -1,7 +1,6 @@
 -- The questions are on one scalar.
 use Rattle.std.proofs.Common.{◌≡◌, ◌≢◌, inl, inr, ℕ, ◌+◌, ◌-◌, ◌<◌, ◌≤◌, Bool, true, false, Some, List, length, get_or, take, refl, sym, ap, subst, ◌∙◌, true≢false, eqb-true, min}
 use Rattle.std.specs.Prelude.{All, Contains, slice_get, ◌⊎◌, ◌↔◌}
-use Rattle.std.proofs.lemmas.Option.{slice_get-get_or}
 use Rattle.std.proofs.lemmas.Bool.Decides.{eqb_tells}
 use Rattle.std.proofs.lemmas.List.Elements.{All-contains, All-more, All-weaker, Contains-get_or}
 use Rattle.debug_records.specs.declared.change.Change.{Change}
@@ -28,6 +27,7 @@ use Rattle.currency_writers.specs.Copies.{AreCopies}
 use Rattle.currency_hiding.specs.Changes.{AreFound, IsListed, log_of}
 use Rattle.currency_hiding.specs.Found.{AreForeign, IsCopied, IsForeign, IsFunction, IsHomeWritten, IsOn, IsOwn}
 use Rattle.currency_hiding.proofs.Listed.{listed_by, numbered}
+pub use Rattle.base_laws.proofs.Lists.{member_at}
 
 same_number : (a b : Home) → is_same_home a b ≡ true → number_at a ≡ number_at b
 same_number (Register r) (Register q) e = eqb-true r q e
@@ -50,10 +50,6 @@ AreOwnOnly f moved = (t : ℕ) → mark_of f.own t ≢ 0 → (d : Change) × Con
 -- the place of a write is marked, if it is one of the home of a name
 abbrev pub IsPlaceMarked : declared-writers.Writers → (x : ℕ) → declared-marks.Marks → declared-write.Write → Type 0
 IsPlaceMarked v x marks w = (z : declared-written.Written) → slice_get v.all.items w.number ≡ Some z → z.place ≡ w.place → HaveOneHome v z.name x → mark_of marks w.place ≢ 0
-
--- the member of a list stands somewhere
-pub member_at : {A : Type 0} (xs : List A) (x : A) → Contains xs x → (k : ℕ) × (slice_get xs k ≡ Some x)
-member_at xs x there = (there.0, slice_get-get_or xs there.0 x there.1 ∙ ap Some there.2)
 
 -- all writes of the home were looked at
 pub marked_all : (v : declared-writers.Writers) (x : ℕ) (marks : declared-marks.Marks) (list : List declared-write.Write) (k : ℕ) → AreWriters v → AreWritesBy v.all.items (home_key v) (home_key v x) list → length list ≤ k → All (IsPlaceMarked v x marks) (take k list) → AreMarked v x marks

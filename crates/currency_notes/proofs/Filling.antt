@@ -1,6 +1,6 @@
 -- A state that is full at a point is full at the next one.
 use mathlib.Core.Bool.{true≢false}
-use Rattle.std.proofs.Common.{◌≡◌, ℕ, ◌+◌, ◌<◌, Bool, true, false, Option, Some, None, List, [], ◌∷◌, ◌++◌, get_or, length, map, take, refl, sym, ap, subst, ◌∙◌}
+use Rattle.std.proofs.Common.{◌≡◌, ℕ, ◌+◌, ◌<◌, true, false, Option, Some, None, List, [], ◌∷◌, ◌++◌, get_or, length, map, take, refl, sym, ap, subst, ◌∙◌}
 use Rattle.std.specs.Prelude.{slice_get, slice_set, ◌||◌, if◌then◌else◌}
 use Rattle.std.proofs.lemmas.Bool.{eq-eqb, eqb-true}
 use Rattle.std.proofs.lemmas.List.{length-set, map-append}
@@ -21,6 +21,7 @@ use Rattle.currency_notes.specs.Full.{IsEqual, IsFull, IsLeft}
 use Rattle.currency_notes.proofs.Lists.{get_any, get_put_other, get_put_same, take_one_more}
 use Rattle.currency_notes.proofs.Steps.{bound_more, same_self}
 use Rattle.currency_notes.proofs.Sourcing.{told_equal}
+use Rattle.base_laws.proofs.Booleans.{by_bool as either, neither as or_false}
 
 -- an instruction that is no note of a scalar changes none of its notes
 plain_note : (x : ℕ) (i : Instruction) (before : Option NoteValue) → notes x i ≡ false → note_by x i before ≡ before
@@ -54,14 +55,6 @@ noted_by x (Call y f all) e = absurd (true≢false (sym e))
 
 note_same : (x : ℕ) (v : NoteValue) (before : Option NoteValue) → note_by x (Note x v) before ≡ Some v
 note_same x v before = ap (λ b. if b then Some v else before) (eq-eqb x x refl)
-
-or_false : (a b : Bool) → (a || b) ≡ false → (a ≡ false) × (b ≡ false)
-or_false true b e = absurd (true≢false e)
-or_false false b e = (refl, e)
-
-either : {C : Type 0} (b : Bool) → (b ≡ true → C) → (b ≡ false → C) → C
-either true t f = t refl
-either false t f = f refl
 
 -- an instruction that is passed
 abbrev passing : (n : ℕ) → Instruction → List Instruction → History → History

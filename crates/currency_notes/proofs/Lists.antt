@@ -4,6 +4,7 @@ use Rattle.std.specs.Prelude.{slice_get, slice_set, ◌⊎◌}
 use Rattle.std.proofs.lemmas.Bool.Decides.{eqb_tells}
 use Rattle.std.proofs.lemmas.Option.{none-some, same_Some, slice_get-get_or, slice_get_within}
 use Rattle.graph_core.specs.Paths.{Among, front, behind}
+pub use Rattle.base_laws.proofs.Lists.{get_same as get_any}
 
 pub among_parts : {A : Type 0} {a : A} (xs ys : List A) → Among a (xs ++ ys) → Among a xs ⊎ Among a ys
 among_parts [] ys there = inr there
@@ -42,10 +43,6 @@ get_among xs k a lt e = at_among xs k a (slice_get-get_or xs k a lt ∙ ap Some 
 -- the same, read with any default
 pub get_among_at : {A : Type 0} (xs : List A) (k : ℕ) (a d : A) → k < length xs → get_or xs k d ≡ a → Among a xs
 get_among_at xs k a d lt e = at_among xs k a (slice_get-get_or xs k d lt ∙ ap Some e)
-
--- within a list the default does not matter
-pub get_any : {A : Type 0} (xs : List A) (k : ℕ) (d e : A) → k < length xs → get_or xs k d ≡ get_or xs k e
-get_any xs k d e lt = same_Some (get_or xs k d) (get_or xs k e) (sym (slice_get-get_or xs k d lt) ∙ slice_get-get_or xs k e lt)
 
 -- what is so of each of the first ones and of the next is so of each as far as that
 pub each_next : {A : Type 0} (P : A → Type 0) (xs : List A) (k : ℕ) (x : A) → k < length xs → x ≡ get_or xs k x → ((a : A) → Among a (take k xs) → P a) → P x → (a : A) → Among a (take (suc k) xs) → P a

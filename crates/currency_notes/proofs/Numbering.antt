@@ -1,5 +1,5 @@
 -- Homes are numbered anew, one after the other.
-use Rattle.std.proofs.Common.{◌≡◌, ◌≢◌, inl, inr, ℕ, zero, suc, ◌+◌, ◌<◌, Option, Some, None, List, [], ◌∷◌, ◌++◌, get_or, length, map, replicate, take, refl, sym, ap, subst, ◌∙◌, arith}
+use Rattle.std.proofs.Common.{◌≡◌, ◌≢◌, inl, inr, ℕ, zero, suc, ◌+◌, ◌<◌, Option, Some, None, List, [], ◌∷◌, ◌++◌, get_or, length, map, take, refl, sym, ap, subst, ◌∙◌, arith}
 use Rattle.std.specs.Prelude.{slice_get, slice_set, option_map, ◌⊎◌}
 use Rattle.std.specs.Global.{Vec}
 use Rattle.std.specs.Option.{option_map_or}
@@ -17,12 +17,7 @@ use Rattle.currency_notes.specs.Homes.{home_by, home_in, number_at, number_in, r
 use Rattle.currency_notes.specs.Numbered.{AreNumbered, IsNoteIn}
 use Rattle.currency_notes.specs.Numbers.{AreNotesRead, AreOrderly, IsMore, IsReaderOf}
 use Rattle.currency_notes.proofs.Lists.{among_left, among_one, among_parts, among_right, at_among, get_put_other, get_put_same, set_cases, take_one_more}
-
--- what stands in a list stands in a longer one
-get_append : {A : Type 0} (xs ys : List A) (k : ℕ) (a : A) → slice_get xs k ≡ Some a → slice_get (xs ++ ys) k ≡ Some a
-get_append [] ys k a e = absurd (none-some a e)
-get_append (x ∷ xs) ys zero a e = e
-get_append (x ∷ xs) ys (suc k) a e = get_append xs ys k a e
+use Rattle.base_laws.proofs.Lists.{snoc_old as get_append}
 
 lt_append : {A : Type 0} (xs ys : List A) (k : ℕ) → k < length xs → k < length (xs ++ ys)
 lt_append [] ys k lt = absurd (omega (arith, lt))

@@ -1,7 +1,7 @@
 -- Names in recipes of parts.
 use mathlib.Core.Bool.{true≢false}
-use Rattle.std.proofs.Common.{◌≡◌, inl, inr, ℕ, Bool, true, false, Some, List, [], ◌∷◌, ◌++◌, refl, subst, sym, ◌∙◌}
-use Rattle.std.specs.Prelude.{◌⊎◌, ◌↔◌}
+use Rattle.std.proofs.Common.{◌≡◌, inl, inr, ℕ, Bool, true, false, Some, List, [], ◌∷◌, ◌++◌, subst, sym, ◌∙◌}
+use Rattle.std.specs.Prelude.{◌↔◌}
 use Rattle.std.proofs.lemmas.Option.{same_Some}
 use Rattle.graph_core.specs.Graphs.{Operand, Recipe, Of, Name}
 use Rattle.graph_core.specs.Paths.{Among, front}
@@ -9,6 +9,7 @@ use Rattle.graph_core.specs.Uses.{names_of}
 use Rattle.currency_notes.specs.declared.homes.Homes as declared-homes
 use Rattle.currency_notes.specs.Homes.{IsRead, IsUnread}
 use Rattle.currency_notes.proofs.Lists.{among_parts, among_one}
+use Rattle.base_laws.proofs.Booleans.{by_bool}
 
 -- what is so of the names of both parts is so of the names of the whole
 pub each_of_both : (P : ℕ → Type 0) (xs ys : List ℕ) → ((y : ℕ) → Among y xs → P y) → ((y : ℕ) → Among y ys → P y) → (y : ℕ) → Among y (xs ++ ys) → P y
@@ -20,10 +21,6 @@ each_of_one P x here y among = subst P (sym (among_one among)) here
 -- what tells something of a name tells it of each name that its operand reads
 pub each_of_name : (P : ℕ → Type 0) (x : ℕ) (b : Bool) → (b ≡ true) ↔ P x → (o : Operand) → Name x ≡ o → (b ≡ true) ↔ ((y : ℕ) → Among y (names_of o) → P y)
 each_of_name P x b tells o is = subst (λ (q : Operand). (b ≡ true) ↔ ((y : ℕ) → Among y (names_of q) → P y)) is ((λ e. each_of_one P x (tells.0 e)), (λ all. tells.1 (all x front)))
-
-by_bool : {C : Type 0} (b : Bool) → (b ≡ true → C) → (b ≡ false → C) → C
-by_bool true t f = t refl
-by_bool false t f = f refl
 
 -- whether a scalar's own value reads the home of a name
 pub unread_own : (m : declared-homes.Homes) (x name : ℕ) (b : Bool) → (b ≡ true → IsRead m x name) → (IsRead m x name → b ≡ true) → (r : Recipe) → Some (Of (Name x)) ≡ Some r → (b ≡ false) ↔ IsUnread m r name

@@ -1,6 +1,6 @@
 -- What is met and told of goes on.
 use mathlib.Core.Bool.{true≢false}
-use Rattle.std.proofs.Common.{◌≡◌, ◌≢◌, inl, inr, ℕ, ◌<◌, Bool, true, false, Option, Some, List, [], ◌∷◌, ◌++◌, length, get_or, refl, sym, ap, subst, ◌∙◌}
+use Rattle.std.proofs.Common.{◌≡◌, ◌≢◌, inl, inr, ℕ, ◌<◌, true, false, Option, Some, List, [], ◌∷◌, ◌++◌, length, get_or, sym, ap, subst, ◌∙◌}
 use Rattle.std.specs.Prelude.{slice_get, slice_set, ◌⊎◌}
 use Rattle.std.specs.Global.{Vec}
 use Rattle.std.proofs.lemmas.Bool.Decides.{eqb_tells}
@@ -16,13 +16,10 @@ use Rattle.currency_shown.specs.declared.found.Found as declared-found
 use Rattle.currency_shown.specs.declared.survey.Survey as declared-survey
 use Rattle.currency_shown.specs.Found.{entries_of, is_met, IsPlaceOf, IsShownBy, IsTold, IsAdded, IsNewPlace, Shows}
 use Rattle.currency_shown.specs.Survey.{AreMet, IsExtended, IsFound}
+use Rattle.base_laws.proofs.Booleans.{by_bool}
 
 pub extended_same : (table : declared-table.PlaceTable) (number : ℕ) (f : declared-found.Found) → AreMet table number f → IsExtended table number f f
 extended_same table number f all = record { met = λ p e. e; kept = λ x u there. there; only = λ x u there. inl there; all = all }
-
-by_bool : {C : Type 0} (b : Bool) → (b ≡ true → C) → (b ≡ false → C) → C
-by_bool true t f = t refl
-by_bool false t f = f refl
 
 pub extended_on : (table : declared-table.PlaceTable) (number : ℕ) (f g h : declared-found.Found) → IsExtended table number f g → IsExtended table number g h → IsExtended table number f h
 extended_on table number f g h one two = record {

@@ -10,28 +10,13 @@ use Rattle.currency_writers.specs.declared.flow.Flow as declared-flow
 use Rattle.currency_writers.specs.Lists.{entries_of}
 use Rattle.currency_writers.specs.Ways.{at_once, on}
 use Rattle.currency_writers.specs.Flow.{ComesOn, IsAhead}
+use Rattle.base_laws.proofs.Booleans.{and_all as both, and_left, and_right, or_right_again as or_right}
 
 pub take_whole : {X : Type 0} (xs : List X) (k : ℕ) → length xs ≤ k → take k xs ≡ xs
 take_whole [] zero le = refl
 take_whole [] (suc k) le = refl
 take_whole (y ∷ ys) zero le = absurd (omega (arith, le))
 take_whole (y ∷ ys) (suc k) le = ap (λ zs. y ∷ zs) (take_whole ys k (omega (arith, le)))
-
-and_left : (a b : Bool) → (a && b) ≡ true → a ≡ true
-and_left true b e = refl
-and_left false b e = absurd (true≢false (sym e))
-
-and_right : (a b : Bool) → (a && b) ≡ true → b ≡ true
-and_right true b e = e
-and_right false b e = absurd (true≢false (sym e))
-
-both : (a b : Bool) → a ≡ true → b ≡ true → (a && b) ≡ true
-both true b e f = f
-both false b e f = absurd (true≢false (sym e))
-
-or_right : (a b : Bool) → b ≡ true → (a || b) ≡ true
-or_right true b e = refl
-or_right false b e = e
 
 -- one of a list is so
 any_at : {X : Type 0} (is : X → Bool) (xs : List X) (k : ℕ) (d : X) → k < length xs → is (get_or xs k d) ≡ true → list_any is xs ≡ true

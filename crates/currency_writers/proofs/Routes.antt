@@ -4,10 +4,7 @@ use Rattle.std.specs.Prelude.{◌⊎◌, ◌==◌, ◌||◌}
 use Rattle.places.specs.Flow.{can_go, assigns}
 use Rattle.places.specs.Path.{Quest, LeadOn, IsRoute}
 use Rattle.currency_writers.specs.Ways.{Comes, at_once, on}
-
-or_true : (b : Bool) → (b || true) ≡ true
-or_true true = refl
-or_true false = refl
+use Rattle.base_laws.proofs.Booleans.{or_true}
 
 module _ (q : Quest) where
   abbrev Comes_from : (from p : ℕ) → Type 0

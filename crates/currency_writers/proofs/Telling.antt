@@ -1,5 +1,5 @@
 -- Places that get numbers.
-use Rattle.std.proofs.Common.{◌≡◌, ◌≢◌, inl, inr, ℕ, ◌<◌, Bool, true, false, List, [], ◌∷◌, ◌++◌, length, get_or, refl, sym, ap, subst, ◌∙◌}
+use Rattle.std.proofs.Common.{◌≡◌, ◌≢◌, inl, inr, ℕ, ◌<◌, true, List, [], ◌∷◌, ◌++◌, length, get_or, refl, sym, ap, subst, ◌∙◌}
 use Rattle.std.specs.Prelude.{All, Contains, ◌⊎◌}
 use Rattle.std.proofs.lemmas.Bool.Decides.{eqb_tells}
 use Rattle.std.proofs.lemmas.List.Elements.{All-contains, All-push, Contains-get_or}
@@ -9,13 +9,10 @@ use Rattle.currency_writers.specs.Lists.{entries_of}
 use Rattle.currency_writers.specs.Marks.{number_at}
 use Rattle.currency_writers.specs.Flow.{AreStarts, assigned, ComesOn, IsAhead, IsBlocked, IsFlow, IsToldFrom}
 use Rattle.currency_writers.proofs.Going.{come_next}
+use Rattle.base_laws.proofs.Booleans.{by_bool}
 
 is_none : (n : ℕ) → (n ≢ 0 → ⊥) → n ≡ 0
 is_none n none = elim (eqb_tells n 0) [ inl e ↦ e.1 | inr e ↦ absurd (none e.1) ]
-
-by_bool : {C : Type 0} (b : Bool) → (b ≡ true → C) → (b ≡ false → C) → C
-by_bool true t f = t refl
-by_bool false t f = f refl
 
 module _ (f : declared-flow.Flow) (from number : ℕ) where
   pub told_same : (m : declared-marks.Marks) → IsToldFrom f from number m m

@@ -1,18 +1,11 @@
 -- Instructions and blocks of which something is left, one by one.
-use Rattle.std.proofs.Common.{◌≡◌, ◌+◌, ◌-◌, ◌<◌, ◌≤◌, ℕ, zero, suc, Bool, List, [], ◌∷◌, ◌++◌, length, map, refl, sym, ap, ◌∙◌, subst, arith, append_assoc, get_or, take, drop}
+use Rattle.std.proofs.Common.{◌≡◌, ◌+◌, ◌-◌, ◌<◌, ◌≤◌, ℕ, zero, suc, Bool, List, [], ◌∷◌, ◌++◌, length, map, sym, ap, ◌∙◌, subst, arith, append_assoc, get_or, take, drop}
 use Rattle.std.proofs.lemmas.List.{length-map}
 use Rattle.std.specs.List.{AllByRecursion}
-use Rattle.std.proofs.Math.Seq.{take-length}
 use Rattle.graph_core.specs.Graphs.{NoteValue, Instruction, Note, Block}
 use Rattle.dead_pass_rule.specs.Removing.{without}
 use Rattle.dead_pass.specs.LeftBy.{IsKeptAs, noted, IsPushed, went, stayed, AreLeftBy, none, gone, kept, IsLeftBlockBy, AreLeftBlocksBy, IsNoteOf, notes}
-
-pub append_nil : {A : Type 0} (xs : List A) → xs ++ [] ≡ xs
-append_nil [] = refl
-append_nil (x ∷ xs) = ap (λ ys. x ∷ ys) (append_nil xs)
-
-pub rest_is : {A : Type 0} (y : A) (left : List A) → take (length (y ∷ left) - 1) (drop 1 (y ∷ left)) ≡ left
-rest_is y left = (let count : length (y ∷ left) - 1 ≡ length left = omega arith in ap (λ n. take n left) count ∙ take-length left)
+pub use Rattle.base_laws.proofs.Lists.{append_nil, rest_is}
 
 -- a note of the same scalar
 pub kept_note : (x : ℕ) (v : NoteValue) (j : Instruction) → IsNoteOf x j → IsKeptAs (Note x v) j

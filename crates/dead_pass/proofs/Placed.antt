@@ -1,8 +1,7 @@
 -- Instructions of a valid graph have places, and write names of it.
-use Rattle.std.proofs.Common.{◌≡◌, ◌≢◌, ℕ, zero, suc, ◌<◌, Option, Some, None, List, [], ◌∷◌, ◌++◌, refl, sym, ap, ◌∙◌, subst}
+use Rattle.std.proofs.Common.{◌≡◌, ◌≢◌, ℕ, ◌<◌, Option, Some, None, List, [], ◌∷◌, ◌++◌, refl, sym, ap, ◌∙◌, subst}
 use Rattle.std.specs.List.{AllByRecursion}
 use Rattle.std.specs.Option.{option_or}
-use Rattle.std.specs.Prelude.{slice_get}
 use Rattle.std.proofs.lemmas.Option.{same_Some, none-some}
 use Rattle.debug_records.specs.declared.change.Place.{Place}
 use Rattle.graph_core.specs.Graphs.{NoteValue, Instruction, Marker, Note, Move, Operate, Truncate, Same, Address, Load, Store, Zero, CopyWords, Call, Graph, UnitForm}
@@ -11,6 +10,7 @@ use Rattle.graph_core.specs.Validity.{place_behind, HasPlace, IsBlock, IsGraph, 
 use Rattle.dead_pass_notes.specs.Sources.{AreNamed}
 use Rattle.dead_pass_notes.specs.Points.{placed}
 use Rattle.dead_pass.specs.Noted.{ArePlaced}
+use Rattle.base_laws.proofs.Lists.{all_at, all_behind_these}
 
 -- a place in force stays, or another begins
 placed_behind : (before : List Instruction) (p : ℕ) → (q : ℕ) × (place_behind before (Some p) ≡ Some q)
@@ -45,16 +45,6 @@ placed_or (Some q) s = refl
 pub place_on : (before : List Instruction) (i : Instruction) (kept : Option ℕ) (m s : Option Place) → placed m ≡ marker_of i → placed s ≡ place_behind before kept → placed (option_or m s) ≡ place_behind (before ++ i ∷ []) kept
 place_on before i kept m s marks so_far =
     placed_or m s ∙ ap (λ a. option_or a (placed s)) marks ∙ ap (option_or (marker_of i)) so_far ∙ sym (behind_one i (place_behind before kept)) ∙ sym (behind_last before i kept)
-
--- what is so of all is so of each
-all_at : {A : Type 0} (P : A → Type 0) (xs : List A) (n : ℕ) (x : A) → AllByRecursion P xs → slice_get xs n ≡ Some x → P x
-all_at P [] n x all at = absurd (none-some x at)
-all_at P (y ∷ xs) zero x all at = subst P (same_Some y x at) all.0
-all_at P (y ∷ xs) (suc n) x all at = all_at P xs n x all.1 at
-
-all_behind_these : {A : Type 0} (P : A → Type 0) (before rest : List A) → AllByRecursion P (before ++ rest) → AllByRecursion P rest
-all_behind_these P [] rest all = all
-all_behind_these P (x ∷ before) rest all = all_behind_these P before rest all.1
 
 module _ (u : UnitForm) (g : Graph) where
   target_named : (i : Instruction) (x : ℕ) → IsInstruction u g i → target_of i ≡ Some x → x < g.name_count

@@ -1,11 +1,11 @@
 -- Members of lists, and lists that are gone through together.
-use Rattle.std.proofs.Common.{◌≡◌, ℕ, zero, suc, ◌⊎◌, inl, inr, Some, None, List, [], ◌∷◌, ◌++◌, length, refl, subst, arith}
+use Rattle.std.proofs.Common.{◌≡◌, ℕ, zero, suc, ◌⊎◌, inl, inr, Some, None, List, [], ◌∷◌, ◌++◌, length, refl, arith}
 use Rattle.std.specs.List.{AllByRecursion}
 use Rattle.std.specs.Prelude.{slice_get}
-use Rattle.std.proofs.lemmas.Option.{none-some, same_Some}
 use Rattle.graph_core.specs.Graphs.{Graph}
 use Rattle.graph_core.specs.Paths.{Among, front, behind}
 use Rattle.pass_law.specs.Kept.{EachFunction}
+pub use Rattle.base_laws.proofs.Lists.{all_at, all_within}
 
 -- A member of a list is one of it with others behind,
 pub among_left : {A : Type 0} (x : A) (xs ys : List A) → Among x xs → Among x (xs ++ ys)
@@ -17,17 +17,6 @@ among_left x (y ∷ xs) ys (behind later) = behind (among_left x xs ys later)
 pub among_right : {A : Type 0} (x : A) (xs ys : List A) → Among x ys → Among x (xs ++ ys)
 among_right x [] ys among = among
 among_right x (y ∷ xs) ys among = behind (among_right x xs ys among)
-
--- What is so of all is so of the one at a position,
-pub all_at : {A : Type 0} (P : A → Type 0) (xs : List A) (n : ℕ) (x : A) → AllByRecursion P xs → slice_get xs n ≡ Some x → P x
-all_at P [] n x all at = absurd (none-some x at)
-all_at P (y ∷ xs) zero x all at = subst P (same_Some y x at) all.0
-all_at P (y ∷ xs) (suc n) x all at = all_at P xs n x all.1 at
-
--- of one with others before and behind
-pub all_within : {A : Type 0} (P : A → Type 0) (xs : List A) (x : A) (ys : List A) → AllByRecursion P (xs ++ x ∷ ys) → P x
-all_within P [] x ys all = all.0
-all_within P (y ∷ xs) x ys all = all_within P xs x ys all.1
 
 -- and of each member.
 pub all_among : {A : Type 0} (P : A → Type 0) (xs : List A) (x : A) → AllByRecursion P xs → Among x xs → P x

@@ -12,6 +12,7 @@ use Rattle.pass_law.specs.Changes.{IsCaseOf, AddsChangesOf, logged_as}
 use Rattle.dead_pass_notes.specs.Said.{IsDropped}
 use Rattle.dead_pass_notes.specs.Writes.{IsRemovedWrite}
 use Rattle.dead_pass_laws.proofs.Came.{HasRemoval}
+use Rattle.base_laws.proofs.Lists.{front_at, map_at as mapped_at}
 
 -- what a list has at one position it has at some
 abbrev HasAt : {A : Type 0} → List A → A → Type 0
@@ -28,18 +29,6 @@ contained_at : {A : Type 0} (xs : List A) (k : ℕ) (x d : A) → k < length xs 
 contained_at [] k x d less is = absurd (omega (arith, less))
 contained_at (y ∷ xs) zero x d less is = ap (λ z. Some z) is
 contained_at (y ∷ xs) (suc k) x d less is = contained_at xs k x d (omega (arith, less)) is
-
--- and what is made of it stands there in the list of what is made of all
-mapped_at : {A B : Type 0} (f : A → B) (xs : List A) (k : ℕ) (x : A) → slice_get xs k ≡ Some x → slice_get (map f xs) k ≡ Some (f x)
-mapped_at f [] k x at = cc
-mapped_at f (y ∷ xs) zero x at = (let same : y ≡ x = cc in ap (λ z. Some (f z)) same)
-mapped_at f (y ∷ xs) (suc k) x at = mapped_at f xs k x at
-
--- it has it behind others, and before others
-front_at : {A : Type 0} (xs ys : List A) (k : ℕ) (x : A) → slice_get xs k ≡ Some x → slice_get (xs ++ ys) k ≡ Some x
-front_at [] ys k x at = cc
-front_at (y ∷ xs) ys zero x at = at
-front_at (y ∷ xs) ys (suc k) x at = front_at xs ys k x at
 
 -- behind others it stands at a later one
 behind_at : {A : Type 0} (xs ys : List A) (k : ℕ) (x : A) → slice_get ys k ≡ Some x → HasAt (xs ++ ys) x

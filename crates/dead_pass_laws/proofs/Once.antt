@@ -10,10 +10,7 @@ use Rattle.graph_core.specs.Uses.{target_of}
 use Rattle.graph_core.specs.Validity.{place_behind, total}
 use Rattle.dead_pass_laws.proofs.Points.{behind_one, first_same, rest_same}
 use Rattle.dead_pass_laws.proofs.Values.{writes_target}
-
--- one more is counted
-counted_yes : (b : Bool) (r : ℕ) → b ≡ true → (if b then 1 else 0) + r ≡ suc r
-counted_yes b r e = (let z : 1 + r ≡ suc r = omega arith in ap (λ c. (if c then 1 else 0) + r) e ∙ z)
+use Rattle.base_laws.proofs.Numbers.{counted_yes}
 
 module _ (p x : ℕ) where
   -- an instruction writes the name in the place

@@ -1,10 +1,10 @@
 -- A search comes to a block, and goes on to those to which an end leads.
 use Rattle.std.proofs.Common.{◌≡◌, ℕ, ◌+◌, ◌-◌, ◌*◌, ◌<◌, ◌≤◌, inl, inr, Bool, true, false, Result, Ok, Err, OnOk, List, [], ◌∷◌, ◌++◌, length, take, drop, get_or, map, refl, sym, ap, ◌∙◌, subst, arith}
-use Rattle.std.specs.Prelude.{if◌then◌else◌, option_map, slice_get, slice_set, slice_index_or, Some}
+use Rattle.std.specs.Prelude.{if◌then◌else◌, slice_get, slice_set, slice_index_or, Some}
 use Rattle.std.specs.Int.{from_bool}
 use Rattle.std.proofs.lemmas.Bool.{cases_eq}
 use Rattle.std.proofs.lemmas.List.{drop-map, get_or-set_other, length-drop, length-map, length-set, take_all}
-use Rattle.std.proofs.lemmas.Option.{slice_get-map, slice_get_read}
+use Rattle.std.proofs.lemmas.Option.{slice_get_read}
 use Rattle.graph_core.specs.declared.block.Block as declared-block
 use Rattle.graph_core.specs.declared.instruction.Instr as declared-instr
 use Rattle.graph_core.specs.Graphs.{End, Jump, Block, Graph, block_view, instruction_view}
@@ -16,11 +16,7 @@ use Rattle.dead_pass_notes.specs.declared.ways.Way.{Way}
 use Rattle.dead_pass_notes.specs.Scans.{HasCome, GoesOn, number_of}
 use Rattle.dead_pass_notes.specs.Spots.{left_at, left_in}
 use Rattle.dead_pass_notes.proofs.Searching.{among_left, among_right, among_parts, among_one}
-
-pub there : {A B : Type 0} (view : A → B) (read xs : List A) (i : ℕ) (x : A) → read ≡ xs → i < length read → x ≡ get_or read i x → slice_get (map view xs) i ≡ Some (view x)
-there view read xs i x same inside is =
-    let at = slice_get_read read (length read) i x refl inside is in
-    slice_get-map view xs i ∙ ap (λ l. option_map view (slice_get l i)) (sym same) ∙ ap (option_map view) at
+pub use Rattle.base_laws.proofs.Lists.{there}
 
 pub there_self : {A : Type 0} (read xs : List A) (i : ℕ) (x : A) → read ≡ xs → i < length read → x ≡ get_or read i x → slice_get xs i ≡ Some x
 there_self read xs i x same inside is = ap (λ l. slice_get l i) (sym same) ∙ slice_get_read read (length read) i x refl inside is

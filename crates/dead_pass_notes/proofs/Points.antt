@@ -15,12 +15,7 @@ use Rattle.dead_pass_rule.specs.Certified.{AreIdle}
 use Rattle.dead_pass_rule.specs.Idle.{Goes}
 use Rattle.dead_pass_notes.specs.Stale.{Went, IsStale, went, before as stale_before, ComesStale}
 use Rattle.dead_pass_notes.specs.Rows.{stale_behind, TellsOn}
-
-if_true : {A : Type 0} (b : Bool) (x y : A) → b ≡ true → (if b then x else y) ≡ x
-if_true b x y e = ap (λ c. if c then x else y) e
-
-if_false : {A : Type 0} (b : Bool) (x y : A) → b ≡ false → (if b then x else y) ≡ y
-if_false b x y e = ap (λ c. if c then x else y) e
+use Rattle.base_laws.proofs.Booleans.{if_false, if_true}
 
 -- one instruction more
 pub stale_more : (going : ℕ → Bool) (x : ℕ) (was : Bool) (before : List Instruction) (i : Instruction) (left : ℕ) → stale_behind going x was (before ++ i ∷ []) left ≡ (if writes x i then going left else stale_behind going x was before (suc left))

@@ -15,12 +15,7 @@ use Rattle.dead_pass_notes.specs.Between.{IsApart, ComesTo, there, passes, leads
 use Rattle.dead_pass_notes.specs.Scans.{is_there, stays_written, scan_of, HasCome, GoesOn, Comes, SomeComes}
 use Rattle.dead_pass_notes.specs.Spots.{left_at, IsPoint}
 use Rattle.dead_pass_notes.proofs.PlaceWaysPoints.{stands, left_there}
-
-if_true : {A : Type 0} (b : Bool) (x y : A) → b ≡ true → (if b then x else y) ≡ x
-if_true b x y e = ap (λ c. if c then x else y) e
-
-if_false : {A : Type 0} (b : Bool) (x y : A) → b ≡ false → (if b then x else y) ≡ y
-if_false b x y e = ap (λ c. if c then x else y) e
+use Rattle.base_laws.proofs.Booleans.{if_false, if_true}
 
 or_true : (a : Bool) → (a || true) ≡ true
 or_true true = refl

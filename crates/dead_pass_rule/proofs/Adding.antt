@@ -1,12 +1,13 @@
 -- Counts along instructions, blocks and bindings.
-use Rattle.std.proofs.Common.{◌≡◌, ℕ, zero, suc, ◌+◌, ◌<◌, Bool, true, false, Option, Some, None, List, [], ◌∷◌, length, map, refl, sym, ap, ◌∙◌, subst, arith, get_or, drop}
-use Rattle.std.specs.Prelude.{◌==◌, ◌&&◌, ◌||◌, if◌then◌else◌}
+use Rattle.std.proofs.Common.{◌≡◌, ℕ, ◌+◌, ◌<◌, Bool, true, false, Option, List, [], ◌∷◌, length, map, refl, sym, ap, ◌∙◌, arith, get_or, drop}
+use Rattle.std.specs.Prelude.{◌&&◌, ◌||◌}
 use Rattle.std.proofs.lemmas.List.{at_drop_more}
 use Rattle.graph_core.specs.Graphs.{Instruction, Block, Binding, ToScalar, ToObject}
 use Rattle.graph_core.specs.Paths.{writes, is_bound}
 use Rattle.graph_core.specs.Points.{is_place, writes_among}
 use Rattle.graph_core.specs.Validity.{place_behind, total}
 use Rattle.dead_pass_rule.specs.Counting.{is_bound_by, one_if}
+use Rattle.base_laws.proofs.Lists.{get_same}
 
 -- the first of those that are left
 pub drop_item : {A : Type 0} (xs : List A) (k : ℕ) (d : A) → k < length xs → d ≡ get_or xs k d → drop k xs ≡ d ∷ drop (k + 1) xs
@@ -46,11 +47,6 @@ bound_step view xs k d x b whole lt is so_far = by_view (view d) (is_bound x (ma
     front : (v : Binding) (more : List Binding) → ((is_bound_by x v || is_bound x more) || b) ≡ (is_bound x (v ∷ more) || b)
     front (ToScalar y) more = refl
     front (ToObject object) more = refl
-
-get_same : {A : Type 0} (xs : List A) (k : ℕ) (d e : A) → k < length xs → get_or xs k d ≡ get_or xs k e
-get_same [] k d e lt = absurd (omega (arith, lt))
-get_same (x ∷ xs) zero d e lt = refl
-get_same (x ∷ xs) (suc k) d e lt = get_same xs k d e (omega (arith, lt))
 
 pub bound_at : {A : Type 0} (view : A → Binding) (xs : List A) (k : ℕ) (d : A) (x : ℕ) (b whole : Bool) → k < length xs → (is_bound x (map view (drop k xs)) || b) ≡ whole → (is_bound x (map view (drop (k + 1) xs)) || (is_bound_by x (view (get_or xs k d)) || b)) ≡ whole
 bound_at view xs k d x b whole lt so_far = bound_step view xs k (get_or xs k d) x b whole lt (get_same xs k d (get_or xs k d) lt) so_far

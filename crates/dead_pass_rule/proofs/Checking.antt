@@ -1,9 +1,8 @@
 -- What is checked certifies that just the writes go which shall.
-use Rattle.std.proofs.Common.{◌≡◌, ◌≢◌, ℕ, zero, suc, ◌+◌, ◌-◌, ◌<◌, ◌≤◌, ◌⊎◌, inl, inr, Bool, true, false, true≢false, Option, Some, None, List, [], ◌∷◌, ◌++◌, length, map, refl, sym, ap, ◌∙◌, subst, arith, get_or, length-append}
-use Rattle.std.specs.Prelude.{◌↔◌, ◌==◌, ◌&&◌, ◌||◌, if◌then◌else◌, not, nat_lt, slice_get, slice_index_or}
-use Rattle.std.specs.Option.{option_map_or}
+use Rattle.std.proofs.Common.{◌≡◌, ◌≢◌, ℕ, zero, suc, ◌+◌, ◌-◌, ◌<◌, ◌≤◌, ◌⊎◌, inl, inr, Bool, true, false, true≢false, Option, Some, List, [], ◌∷◌, ◌++◌, length, map, refl, sym, ap, ◌∙◌, subst, arith, get_or, length-append}
+use Rattle.std.specs.Prelude.{◌↔◌, ◌&&◌, ◌||◌, not, slice_get, slice_index_or}
 use Rattle.std.proofs.lemmas.Bool.{and_parts, or_cases, ltb-true, cases_eq}
-use Rattle.std.proofs.lemmas.Option.{same_Some, none-some, slice_get_within}
+use Rattle.std.proofs.lemmas.Option.{same_Some, slice_get_within}
 use Rattle.graph_core.specs.Graphs.{Instruction, End, Block, Graph}
 use Rattle.graph_core.specs.Uses.{target_of}
 use Rattle.graph_core.specs.Validity.{place_behind}
@@ -20,6 +19,7 @@ use Rattle.dead_pass_rule.specs.Heights.{height_at, IsLater, AreLater}
 use Rattle.dead_pass_rule.specs.Walks.{AreAsked, EachBehind, IsAskedWhere, IsToldWhere}
 use Rattle.dead_pass_rule.proofs.Certificate.{are_idle}
 use Rattle.dead_pass_rule.proofs.Counted.{free_at}
+use Rattle.base_laws.proofs.Booleans.{not_true}
 
 -- the first so many are right
 abbrev pub AreRightTo : Turns → (names n : ℕ) → (is_reached : Bool) → (free asked : List Bool) → List Instruction → (count : ℕ) → Type 0
@@ -61,10 +61,6 @@ pub right_all : (turns : Turns) (names n : ℕ) (is_reached : Bool) (free asked 
 right_all turns names n is_reached free asked all count le are before rest i q =
     (let counts : length all ≡ length before + length (i ∷ rest) = ap (λ l. length l) q ∙ length-append before (i ∷ rest) in
     are before rest i q (omega (arith, le, counts)))
-
-not_true : (b : Bool) → not b ≡ true → b ≡ false
-not_true true e = sym e
-not_true false e = refl
 
 -- what goes and is right
 right_going : (goes reached free named asked : Bool) → is_right goes reached free named asked ≡ true → goes ≡ true → (reached ≡ true) × (free ≡ true) × (named ≡ true) × (asked ≡ false)

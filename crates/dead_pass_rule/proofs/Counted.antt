@@ -1,13 +1,13 @@
 -- Counts of writes by two bits for each, and what may go by them.
-use Rattle.std.proofs.Common.{◌≡◌, ◌≢◌, ℕ, zero, suc, ◌+◌, ◌-◌, ◌<◌, ◌≤◌, ◌⊎◌, inl, inr, Bool, true, false, true≢false, Option, Some, None, List, [], ◌∷◌, ◌++◌, length, map, refl, sym, ap, ◌∙◌, subst, arith, append_assoc, get_or}
-use Rattle.std.specs.Prelude.{◌↔◌, ◌==◌, ◌&&◌, ◌||◌, if◌then◌else◌, not, slice_get, slice_index_or}
-use Rattle.std.proofs.lemmas.Bool.{and_parts, and_from, cases_eq, eq-eqb, ne_eqb, eqb-true}
-use Rattle.std.proofs.lemmas.Option.{none-some}
+use Rattle.std.proofs.Common.{◌≡◌, ◌≢◌, ℕ, zero, suc, ◌+◌, ◌-◌, ◌<◌, ◌≤◌, inl, inr, Bool, true, false, true≢false, Option, List, [], ◌∷◌, ◌++◌, length, refl, sym, ap, ◌∙◌, subst, arith, append_assoc}
+use Rattle.std.specs.Prelude.{◌↔◌, ◌==◌, ◌&&◌, ◌||◌, slice_index_or}
+use Rattle.std.proofs.lemmas.Bool.{and_from, cases_eq, eq-eqb, ne_eqb}
 use Rattle.graph_core.specs.Graphs.{Instruction, Marker, Note, Move, Operate, Truncate, Same as SameOf, Address, Load, Store, Zero, CopyWords, Call, Graph}
 use Rattle.graph_core.specs.Uses.{marker_of}
 use Rattle.graph_core.specs.Validity.{place_behind}
 use Rattle.dead_pass_rule.specs.Certified.{IsFree}
 use Rattle.dead_pass_rule.specs.Counting.{is_some, is_many, one_if, AreFree}
+use Rattle.base_laws.proofs.Lists.{append_nil}
 
 -- So often it was counted, by the bits.
 abbrev pub IsAt : (bits : ℕ → ℕ → Bool) → (first places p x count : ℕ) → Type 0
@@ -106,10 +106,6 @@ pub free_next : (g : Graph) (start : Option ℕ) (all : List Instruction) (now n
 free_next g start all now next i ahead told longer v grown is places (goes_on go) =
     goes_on (λ later are. (let P : List Bool → Type 0 = λ l. AreFree g start all l in
     subst P (sym (append_assoc told (v ∷ []) later) ∙ ap (λ l. l ++ later) (sym grown)) (go (v ∷ later) (is, subst (λ p. AreFree g p ahead later) places are))))
-
-append_nil : {A : Type 0} (xs : List A) → xs ++ [] ≡ xs
-append_nil [] = refl
-append_nil (x ∷ xs) = ap (λ ys. x ∷ ys) (append_nil xs)
 
 pub free_done : (g : Graph) (start : Option ℕ) (all : List Instruction) (now : Option ℕ) (told : List Bool) → AreFreeAhead g start all now [] told → AreFree g start all told
 free_done g start all now told (goes_on go) = (let P : List Bool → Type 0 = λ l. AreFree g start all l in subst P (append_nil told) (go [] tt))

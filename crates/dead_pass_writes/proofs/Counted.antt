@@ -1,7 +1,7 @@
 -- What is told of writes by counting them is just where there is one.
-use Rattle.std.proofs.Common.{◌≡◌, ◌≢◌, ℕ, zero, suc, ◌+◌, ◌<◌, ◌≤◌, ◌⊎◌, inl, inr, Bool, true, false, true≢false, Option, Some, None, List, [], ◌∷◌, ◌++◌, length, refl, sym, ap, ◌∙◌, subst, arith, append_assoc}
-use Rattle.std.specs.Prelude.{◌↔◌, ◌==◌, ◌&&◌, ◌||◌, if◌then◌else◌, slice_get}
-use Rattle.std.proofs.lemmas.Bool.{cases_Bool, cases_eq, and_parts, and_from, eq-eqb, ne_eqb, eqb-true}
+use Rattle.std.proofs.Common.{◌≡◌, ◌≢◌, ℕ, zero, suc, ◌+◌, ◌≤◌, inl, inr, Bool, true, false, true≢false, Option, Some, None, List, [], ◌∷◌, ◌++◌, length, refl, sym, ap, ◌∙◌, arith}
+use Rattle.std.specs.Prelude.{◌==◌, ◌&&◌, ◌||◌, if◌then◌else◌, slice_get}
+use Rattle.std.proofs.lemmas.Bool.{cases_Bool, cases_eq, and_parts, and_from, eq-eqb, eqb-true}
 use Rattle.std.proofs.lemmas.Option.{none-some, same_Some}
 use Rattle.graph_core.specs.Graphs.{Instruction, Marker, Block, Binding, ToScalar, ToObject, Graph}
 use Rattle.graph_core.specs.Paths.{writes, is_bound}
@@ -14,15 +14,8 @@ use Rattle.dead_pass_writes.specs.declared.writes.Written.TheVariants.{Once, Mor
 use Rattle.dead_pass_writes.specs.declared.writes.PlaceWrites.{PlaceWrites}
 use Rattle.dead_pass_writes.specs.Once.{IsOnce}
 use Rattle.dead_pass_writes.specs.Telling.{one_more, with_write, with_binding, written_by, written_in, bound_by, is_name, told, Tells}
-
-if_true : {A : Type 0} (b : Bool) (x y : A) → b ≡ true → (if b then x else y) ≡ x
-if_true b x y e = ap (λ c. if c then x else y) e
-
-if_false : {A : Type 0} (b : Bool) (x y : A) → b ≡ false → (if b then x else y) ≡ y
-if_false b x y e = ap (λ c. if c then x else y) e
-
-counted_yes : (b : Bool) (r : ℕ) → b ≡ true → (if b then 1 else 0) + r ≡ suc r
-counted_yes b r e = (let z : 1 + r ≡ suc r = omega arith in ap (λ c. (if c then 1 else 0) + r) e ∙ z)
+use Rattle.base_laws.proofs.Booleans.{if_false, if_true}
+use Rattle.base_laws.proofs.Numbers.{counted_yes, same_turned as same_way}
 
 counted_no : (b : Bool) (r : ℕ) → b ≡ false → (if b then 1 else 0) + r ≡ r
 counted_no b r e = (let z : 0 + r ≡ r = omega arith in ap (λ c. (if c then 1 else 0) + r) e ∙ z)
@@ -35,12 +28,6 @@ behind_one _ more place = refl
 and_false : (a : Bool) → (a && false) ≡ false
 and_false true = refl
 and_false false = refl
-
-same_way : (a b : ℕ) → (a == b) ≡ (b == a)
-same_way a b = elim (cases_eq a b) [
-  | inl q ↦ eq-eqb a b q ∙ sym (eq-eqb b a (sym q))
-  | inr ne ↦ ne_eqb a b ne ∙ sym (ne_eqb b a (λ q. ne (sym q)))
-]
 
 placed : (p : ℕ) (place : Option ℕ) → is_place p place ≡ true → place ≡ Some p
 placed p None e = absurd (true≢false (sym e))

@@ -1,13 +1,10 @@
 -- Keys of places and names, and what is told where one is put.
-use Rattle.std.proofs.Common.{◌≡◌, ℕ, Bool, true, false, cond, true≢false, Option, Some, None, List, [], refl, sym, ap, ◌∙◌, arith, inl, inr, eqb, nat_cmp}
-use Rattle.std.specs.Prelude.{◌↔◌, ◌==◌, ◌&&◌, if◌then◌else◌, is_some}
+use Rattle.std.proofs.Common.{◌≡◌, ℕ, Bool, true, false, cond, true≢false, Option, Some, None, List, [], refl, sym, ap, ◌∙◌, nat_cmp}
+use Rattle.std.specs.Prelude.{◌↔◌, ◌==◌, ◌&&◌, is_some}
 use Rattle.std.specs.BTreeMap as tree
 use Rattle.std.specs.Map.{lookup}
-use Rattle.std.specs.Cmp.{nat_cmp_is}
-use Rattle.std.specs.Ordering.{is_eq, ordering_then}
-use Rattle.std.specs.declared.cmp.Ordering.{Ordering}
-use Rattle.std.specs.declared.cmp.Ordering.TheVariants.{Less, Equal, Greater}
-use Rattle.std.proofs.lemmas.Bool.{cases_order, eq-eqb, ne_eqb, eqb-true, and_parts}
+use Rattle.std.specs.Ordering.{is_eq}
+use Rattle.std.proofs.lemmas.Bool.{eqb-true, and_parts}
 use Rattle.std.proofs.lemmas.Option.{none-some, same_Some}
 use Rattle.graph_core.specs.Graphs.{Graph}
 use Rattle.dead_pass_writes.specs.declared.writes.Spot.{Spot}
@@ -16,21 +13,7 @@ use Rattle.dead_pass_writes.specs.declared.writes.Written.TheVariants.{Once, Mor
 use Rattle.dead_pass_writes.specs.declared.writes.PlaceWrites.{PlaceWrites}
 use Rattle.dead_pass_writes.specs.Once.{IsOnce}
 use Rattle.dead_pass_writes.specs.Telling.{pair_cmp, one_more, once_of, with_write, with_binding, told, Tells}
-
--- Numbers compare as equal where they are equal.
-same_number : (a b : ℕ) → is_eq (nat_cmp a b) ≡ eqb a b
-same_number a b = elim (cases_order a b) [
-  | inl same ↦ ap is_eq (sym (nat_cmp_is a b Equal same)) ∙ sym (eq-eqb a b same)
-  | inr apart ↦ elim apart [
-    | inl less ↦ ap is_eq (sym (nat_cmp_is a b Less less)) ∙ sym (ne_eqb a b (λ e. omega (arith, e, less)))
-    | inr more ↦ ap is_eq (sym (nat_cmp_is a b Greater more)) ∙ sym (ne_eqb a b (λ e. omega (arith, e, more)))
-  ]
-]
-
-is_eq-ordering_then : (a b : Ordering) → is_eq (ordering_then a b) ≡ (is_eq a && is_eq b)
-is_eq-ordering_then Less b = refl
-is_eq-ordering_then Equal b = refl
-is_eq-ordering_then Greater b = refl
+use Rattle.base_laws.proofs.Numbers.{is_eq-ordering_then, same_number}
 
 -- Keys compare as equal where they are the same.
 pub same_pair : (k q : ℕ × ℕ) → is_eq (pair_cmp k q) ≡ (k.0 == q.0 && k.1 == q.1)

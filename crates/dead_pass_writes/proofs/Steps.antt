@@ -2,7 +2,6 @@
 use Rattle.std.proofs.Common.{◌≡◌, ℕ, ◌+◌, ◌-◌, ◌<◌, ◌≤◌, Option, Some, None, List, [], ◌∷◌, length, get_or, take, drop, map, refl, sym, ap, ◌∙◌, arith}
 use Rattle.std.specs.Prelude.{◌&&◌, option_map}
 use Rattle.std.specs.Option.{option_or}
-use Rattle.std.proofs.Math.Seq.{take-length}
 use Rattle.std.proofs.lemmas.List.{length-map}
 use Rattle.debug_records.specs.declared.change.Place.{Place}
 use Rattle.graph_core.specs.Graphs.{Instruction, Marker, Block, Binding, ToScalar, ToObject}
@@ -12,9 +11,7 @@ use Rattle.graph_core.specs.Uses.{marker_of, target_of}
 use Rattle.graph_core.specs.Validity.{place_behind}
 use Rattle.dead_pass_writes.specs.declared.writes.Written.{Written}
 use Rattle.dead_pass_writes.specs.Telling.{is_name, with_write, written_by, written_in, bound_by}
-
-rest_is : {A : Type 0} (y : A) (left : List A) → take (length (y ∷ left) - 1) (drop 1 (y ∷ left)) ≡ left
-rest_is y left = (let count : length (y ∷ left) - 1 ≡ length left = omega arith in ap (λ n. take n left) count ∙ take-length left)
+use Rattle.base_laws.proofs.Lists.{rest_is}
 
 -- what is ahead is its first, and the rest
 pub ahead_is : {A B : Type 0} (view : A → B) (ahead : List A) (x : A) → 1 ≤ length ahead → x ≡ get_or ahead 0 x → map view ahead ≡ view x ∷ map view (take (length ahead - 1) (drop 1 ahead))

@@ -1,6 +1,5 @@
 -- The graph of a function, put together from its parts.
-use Rattle.std.proofs.Common.{◌≡◌, ℕ, suc, ◌+◌, ◌<◌, ◌==◌, Bool, false, List, [], ◌∷◌, ◌++◌, length, map, drop, get_or, ap, sym, ◌∙◌, subst, append_assoc, add-one, drop-cons}
-use Rattle.std.specs.Prelude.{nat_lt}
+use Rattle.std.proofs.Common.{◌≡◌, ℕ, ◌+◌, ◌<◌, ◌==◌, Bool, List, [], ◌∷◌, ◌++◌, length, map, drop, get_or, ap, sym, ◌∙◌, subst, append_assoc}
 use Rattle.std.proofs.lemmas.List.{map-append}
 use Rattle.c_tree.specs.declared.program.TypedFunction.{TypedFunction}
 use Rattle.c_tree.specs.Programs.{TypedFunctionTree, ProgramTree, function_view}
@@ -9,6 +8,7 @@ use Rattle.graph_core.specs.Graphs.{Block, Graph, graph_view}
 use Rattle.graph_build_names.specs.Names.{Names, names_of}
 use Rattle.graph_build_statements.specs.Coding.{Coding}
 use Rattle.graph_build.specs.Units.{names_used, blocks_in, function_part, coding_with, coding_of, is_again, block_count, function_coding, graph_in, graph_of, graphs_from}
+use Rattle.base_laws.proofs.Lists.{drop_item as item_and_rest}
 
 -- the blocks that are counted before they have their labels are as many as the function has
 pub blocks_counted_by : (p : ProgramTree) (f : TypedFunctionTree) (is_main : Bool) (n : Names) (c : Coding) (blocks : List Block) (count : ℕ) → n ≡ names_of p f (is_again p f)
@@ -23,10 +23,6 @@ pub graph_made_by : (p : ProgramTree) (f : TypedFunctionTree) (is_main : Bool) (
 graph_made_by p f is_main n c count g named many same made =
     let one : c ≡ function_coding p f is_main = same ∙ ap (λ (k : Names). coding_with p f k count) named ∙ ap (λ (t : ℕ). coding_of p f (is_again p f) t) many in
     made ∙ ap (λ (k : Coding). graph_in k.program k f is_main) one
-
--- an item, and those behind it
-item_and_rest : {A : Type 0} (xs : List A) (i : ℕ) (x : A) → i < length xs → x ≡ get_or xs i x → drop i xs ≡ x ∷ drop (i + 1) xs
-item_and_rest xs i x lt is = rw (add-one) (drop-cons xs i x lt ∙ ap (λ y. y ∷ drop (suc i) xs) (sym is))
 
 -- graphs that those of functions from a number on complete are completed, with the graph of the function of that number at their end, by those of the functions behind it
 pub graphs_on : (p : ProgramTree) (items all : List TypedFunction) (n : ℕ) (f : TypedFunction) (made more : List declared-graph.Graph) (g : declared-graph.Graph) (whole : List Graph)

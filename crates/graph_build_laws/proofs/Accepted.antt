@@ -1,7 +1,6 @@
 -- What a well-formed program tells of its functions, its variables and its objects.
 use Rattle.std.proofs.Common.{◌≡◌, ℕ, zero, suc, ◌+◌, ◌≤◌, ◌<◌, Bool, true, false, Option, Some, None, List, [], ◌∷◌, length, map, slice_get, refl, subst, arith, if◌then◌else◌}
 use Rattle.std.specs.Prelude.{◌&&◌, ◌==◌, nat_le, nat_lt, is_none}
-use Rattle.std.proofs.lemmas.Bool.Decides.{nat_tests}
 use Rattle.debug_records.specs.declared.code.Code.{Code}
 use Rattle.debug_records.specs.declared.code.TheConstants.Code.{PROGRAM_WEIGHT, STATIC_OBJECTS, VISIBLE_PAIRS}
 use Rattle.c_tree.specs.Programs.{AutomaticTree, TypedFunctionTree, ProgramTree}
@@ -20,21 +19,8 @@ use Rattle.c_type_laws.specs.Laws.{IsWellFormed, objects_ascend, follow, is_main
 use Rattle.c_type_laws.specs.Weighing.{weighed_statements}
 use Rattle.graph_build_laws.proofs.WellFormed.{and_both}
 use Rattle.graph_build_laws.proofs.Ascending.{Ascend, AllAscend}
-
-some_same : {A : Type 0} {a b : A} → Some a ≡ Some b → a ≡ b
-some_same e = cc
-
-at_most : (a b : ℕ) → nat_le a b ≡ true → a ≤ b
-at_most a b h = grind (arith, nat_tests)
-
-is_less : (a b : ℕ) → nat_lt a b ≡ true → a < b
-is_less a b h = grind (arith, nat_tests)
-
-not_less : (a b : ℕ) → nat_lt a b ≡ false → b ≤ a
-not_less a b h = grind (arith, nat_tests)
-
-are_equal : (a b : ℕ) → (a == b) ≡ true → a ≡ b
-are_equal a b h = grind (arith, nat_tests)
+use Rattle.base_laws.proofs.Numbers.{are_equal, at_most, is_less, not_less}
+use Rattle.base_laws.proofs.Options.{some_same}
 
 -- What is known of a function.
 pub record FunctionFacts (p : ProgramTree) (f : TypedFunctionTree) : Type 0 where

@@ -1,10 +1,11 @@
 -- Places that ascend in the text are numbered by where they stand among them.
-use Rattle.std.proofs.Common.{◌≡◌, ℕ, zero, suc, ◌+◌, ◌≤◌, ◌<◌, Bool, true, false, Some, None, List, [], ◌∷◌, ◌++◌, length, slice_get, refl, sym, ap, ◌∙◌, subst, arith, if◌then◌else◌}
+use Rattle.std.proofs.Common.{◌≡◌, ℕ, zero, suc, ◌+◌, ◌≤◌, ◌<◌, Bool, true, false, Some, List, [], ◌∷◌, ◌++◌, length, slice_get, refl, sym, ap, ◌∙◌, subst, arith, if◌then◌else◌}
 use Rattle.std.specs.Prelude.{nat_lt}
-use Rattle.std.proofs.lemmas.Bool.Decides.{nat_tests}
 use Rattle.std.proofs.lemmas.List.{append_assoc}
 use Rattle.c_tree.specs.Programs.{TypedFunctionTree}
 use Rattle.c_places.specs.Places.{Place, places_of_function, places_of_functions, count_before, number_at}
+use Rattle.base_laws.proofs.Numbers.{less as is_before, not_before}
+use Rattle.base_laws.proofs.Options.{none_is, some_same}
 
 -- each place stands behind the one before it, the first one behind a position
 abbrev pub Ascend : ℕ → List Place → Type 0
@@ -15,18 +16,6 @@ Ascend last (q ∷ more) = (last < q.spot.at) × Ascend q.spot.at more
 abbrev pub AllAscend : List Place → Type 0
 AllAscend [] = Unit {0}
 AllAscend (q ∷ more) = Ascend q.spot.at more
-
-none_is : {A : Type 0} {a : A} → None ≡ Some a → ⊥
-none_is e = cc
-
-some_same : {A : Type 0} {a b : A} → Some a ≡ Some b → a ≡ b
-some_same e = cc
-
-not_before : (a b : ℕ) → b ≤ a → nat_lt a b ≡ false
-not_before a b h = grind (arith, nat_tests)
-
-is_before : (a b : ℕ) → a < b → nat_lt a b ≡ true
-is_before a b h = grind (arith, nat_tests)
 
 counted_none : (at last : ℕ) (all : List Place) → at ≤ last → Ascend last all → count_before at all ≡ 0
 counted_none at last [] h k = refl

@@ -16,9 +16,7 @@ use Rattle.graph_build_laws.proofs.First.{Avoids, AllAvoid, HasAvoided, LeadsAwa
 use Rattle.graph_build_laws.proofs.Standing.{stand_behind, got_among, among_either, among_reversed}
 use Rattle.graph_build_laws.proofs.Instances.{got_before}
 use Rattle.graph_build_laws.proofs.Flows.{made_among}
-
-some_same : {A : Type 0} {a b : A} → Some a ≡ Some b → a ≡ b
-some_same e = cc
+use Rattle.base_laws.proofs.Options.{some_same}
 
 avoid_among : (all : List Block) (b : Block) → AllAvoid all → Among b all → Avoids b.end
 avoid_among [] b h a = elim a [ ]

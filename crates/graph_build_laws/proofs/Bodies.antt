@@ -1,5 +1,5 @@
 -- The statements of a well-formed function name what is there.
-use Rattle.std.proofs.Common.{◌≡◌, ℕ, ◌+◌, ◌≤◌, ◌<◌, inl, inr, Bool, true, false, not, Option, Some, None, List, [], ◌∷◌, length, slice_get, refl, sym, subst, arith}
+use Rattle.std.proofs.Common.{◌≡◌, ℕ, ◌+◌, ◌<◌, inl, inr, Bool, true, false, not, Option, Some, None, List, [], ◌∷◌, length, slice_get, refl, sym, subst, arith}
 use Rattle.std.specs.Prelude.{◌&&◌, nat_le, nat_lt}
 use Rattle.std.specs.Option.{option_map_or}
 use Rattle.std.proofs.lemmas.Bool.Decides.{nat_tests}
@@ -28,9 +28,7 @@ use Rattle.graph_build_laws.proofs.Naming.{IsThere, HasHomes, expression_names}
 use Rattle.graph_build_laws.proofs.Values.{Setting, E}
 use Rattle.graph_build_laws.proofs.Declarators.{ElementsName, InitialNames, InitialFits, HasObject, DeclaratorNames, DeclaratorsName}
 use Rattle.graph_build_laws.proofs.GraphProgramStatements.{StartNames, OptionNames, StepNames, StatementNames, StatementsName}
-
-at_most : (a b : ℕ) → nat_le a b ≡ true → a ≤ b
-at_most a b h = grind (arith, nat_tests)
+use Rattle.base_laws.proofs.Numbers.{at_most}
 
 switch_typed : (kind : Kind) → is_switch (tested_type kind) ≡ true → is_typed kind ≡ true
 switch_typed Wrong h = cc

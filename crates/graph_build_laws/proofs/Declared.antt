@@ -1,7 +1,6 @@
 -- Variables that are declared are numbered in the order of the text, and what is kept in memory within statements is.
 use Rattle.std.proofs.Common.{◌≡◌, ℕ, ◌+◌, ◌≤◌, true, false, Option, Some, None, List, [], ◌∷◌, ◌++◌, length, refl, ap, ◌∙◌, arith}
 use Rattle.std.specs.Prelude.{◌==◌, ◌&&◌}
-use Rattle.std.proofs.lemmas.Bool.Decides.{nat_tests}
 use Rattle.std.proofs.lemmas.List.{length-append}
 use Rattle.c_tree.specs.TypedExpressions.{RvalueTree}
 use Rattle.c_tree.specs.TypedStatements as statement
@@ -13,13 +12,11 @@ use Rattle.c_type_laws.specs.Declarations.{declared_by, declared_by_start, decla
 use Rattle.graph_build_runs.proofs.Shapes.{two_true}
 use Rattle.graph_build_runs.proofs.Formed.{behind_declared, behind_start, behind}
 use Rattle.graph_build_laws.proofs.Kept.{InIt, front}
+use Rattle.base_laws.proofs.Numbers.{are_equal}
 
 -- these are numbered from a first one on
 abbrev pub AreNumbered : ℕ → List ℕ → Type 0
 AreNumbered base vs = is_numbered base vs ≡ true
-
-are_equal : (a b : ℕ) → (a == b) ≡ true → a ≡ b
-are_equal a b h = grind (arith, nat_tests)
 
 numbered_front : (base : ℕ) (xs ys : List ℕ) → AreNumbered base (xs ++ ys) → AreNumbered base xs
 numbered_front base [] ys h = refl

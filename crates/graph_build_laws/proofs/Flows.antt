@@ -23,12 +23,7 @@ use Rattle.graph_build_laws.proofs.Targets.{AllFit, WayFits, EdgesFit, edge_fits
 use Rattle.graph_build_laws.proofs.Standing.{stand_behind, got_among, among_either, among_reversed}
 use Rattle.graph_build_laws.proofs.Ascending.{AllAscend, Among', places_within, numbered_within}
 use Rattle.graph_build_laws.proofs.Paths.{BeginsPlace, along}
-
-none_is : {A : Type 0} {a : A} → None ≡ Some a → ⊥
-none_is e = cc
-
-some_same : {A : Type 0} {a b : A} → Some a ≡ Some b → a ≡ b
-some_same e = cc
+use Rattle.base_laws.proofs.Options.{none_is, some_same}
 
 -- what is so of each is so of one that is among them
 pub made_among : (Has : (p : ℕ) → Made → Type 0) (inner all : List Block) (b : Block) → AreMadeOf Has inner all → Among b all → IsMadeOf Has inner b

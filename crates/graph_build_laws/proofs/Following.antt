@@ -1,7 +1,6 @@
 -- The markers of a well-formed program's unit follow its flow.
-use Rattle.std.proofs.Common.{◌≡◌, ℕ, zero, suc, ◌+◌, ◌<◌, Bool, true, false, Some, None, List, [], ◌∷◌, ◌++◌, map, slice_get, refl, sym, ap, subst, arith, ◌==◌}
+use Rattle.std.proofs.Common.{◌≡◌, ℕ, zero, suc, ◌+◌, true, Some, List, [], ◌∷◌, ◌++◌, map, slice_get, refl, sym, ap, subst, ◌==◌}
 use Rattle.std.specs.Prelude.{◌&&◌, ◌||◌, nat_lt}
-use Rattle.std.proofs.lemmas.Bool.Decides.{nat_tests}
 use Rattle.places.specs.declared.flow.FlowStep.{FlowStep}
 use Rattle.places.specs.Flow.{can_go}
 use Rattle.c_tree.specs.Programs.{TypedFunctionTree, ProgramTree}
@@ -20,15 +19,9 @@ use Rattle.graph_build_laws.specs.Following.{HasSteps, FollowsFlow, FollowFlow}
 use Rattle.graph_build_laws.proofs.Ascending.{Ascend, AllAscend}
 use Rattle.graph_build_laws.proofs.Flows.{begins, flows, cycles}
 use Rattle.graph_build_laws.proofs.Avoiding.{first}
-
-none_is : {A : Type 0} {a : A} → None ≡ Some a → ⊥
-none_is e = cc
-
-some_same : {A : Type 0} {a b : A} → Some a ≡ Some b → a ≡ b
-some_same e = cc
-
-is_less : (a b : ℕ) → nat_lt a b ≡ true → a < b
-is_less a b h = grind (arith, nat_tests)
+use Rattle.base_laws.proofs.Booleans.{or_right as or_second}
+use Rattle.base_laws.proofs.Numbers.{is_less, same_step}
+use Rattle.base_laws.proofs.Options.{none_is, some_same}
 
 of_function : (p : ProgramTree) (m : ℕ) (all : List TypedFunctionTree) (k : ℕ) (g : Graph) → slice_get (graphs_from p m all) k ≡ Some g → OfFunction p all k g
 of_function p m [] k g e = absurd (none_is e)
@@ -47,14 +40,6 @@ ascend_behind last (q ∷ all) h =
 all_ascend : (all : List Place) → ascends (spots all) ≡ true → AllAscend all
 all_ascend [] h = tt
 all_ascend (q ∷ all) h = ascend_behind q.spot.at all h
-
--- a step is one that execution may go
-same_step : (a b : ℕ) → ((a == a) && (b == b)) ≡ true
-same_step a b = grind (arith, nat_tests)
-
-or_second : (a b : Bool) → b ≡ true → a || b ≡ true
-or_second true b h = refl
-or_second false b h = h
 
 may_go : (steps : List FlowStep) (s : FlowStep) → Among s steps → can_go steps s.from.0 s.to.0 ≡ true
 may_go [] s a = elim a [ ]

@@ -49,17 +49,8 @@ use Rattle.graph_build_laws.proofs.Bodies.{named_all}
 use Rattle.graph_build_laws.proofs.Edges.{has_place, place_stays, HasKept, one_kept, kept_edges, grown_stand, whole_stands, kept}
 use Rattle.graph_build_laws.proofs.Markers.{markers_append}
 use Rattle.graph_build_laws.proofs.Storage.{statics_counted, objects_within}
-
-at_most : (a b : ℕ) → nat_le a b ≡ true → a ≤ b
-at_most a b h = grind (arith, nat_tests)
-
-is_less : (a b : ℕ) → nat_lt a b ≡ true → a < b
-is_less a b h = grind (arith, nat_tests)
-
-got_there : {A : Type 0} (xs : List A) (i : ℕ) → i < length xs → (a : A) × (slice_get xs i ≡ Some a)
-got_there [] i lt = absurd (omega (arith, lt))
-got_there (x ∷ xs) zero lt = (x, refl)
-got_there (x ∷ xs) (suc i) lt = got_there xs i (omega (arith, lt))
+use Rattle.base_laws.proofs.Lists.{got_there}
+use Rattle.base_laws.proofs.Numbers.{at_most, is_less}
 
 no_more : (m : ℕ) → m ≤ m
 no_more m = omega arith

@@ -1,7 +1,6 @@
 -- What holds all the time of an activation that runs a function of a program's unit: how its variables are named, and where it finds them.
-use Rattle.std.proofs.Common.{◌≡◌, ℕ, zero, suc, ◌+◌, ◌-◌, ◌≤◌, ◌<◌, Bool, true, false, Some, List, [], ◌∷◌, ◌++◌, length, map, slice_get, refl, sym, ap, ◌∙◌, subst, arith}
+use Rattle.std.proofs.Common.{◌≡◌, ℕ, zero, suc, ◌+◌, ◌-◌, ◌<◌, Bool, true, false, Some, List, [], ◌∷◌, ◌++◌, length, map, slice_get, refl, sym, ap, ◌∙◌, subst, arith}
 use Rattle.std.specs.Prelude.{◌==◌, nat_le, nat_lt}
-use Rattle.std.proofs.lemmas.Bool.Decides.{nat_tests}
 use Rattle.std.proofs.lemmas.List.{length-map}
 use Rattle.c_tree.specs.declared.object_type.ObjectType.{ObjectType}
 use Rattle.c_tree.specs.declared.object_type.ObjectType.TheVariants as of-object
@@ -31,23 +30,13 @@ use Rattle.graph_build_laws.proofs.Accepted.{ProgramFacts}
 use Rattle.graph_build_laws.proofs.Homes.{one_name, named_outside, object_there, name_there}
 use Rattle.graph_build_laws.proofs.GraphProgramScalars.{scalar_at, mapped_at}
 use Rattle.graph_build_laws.proofs.Settings.{graph_is, running, scalars_counted}
-
-at_most : (a b : ℕ) → nat_le a b ≡ true → a ≤ b
-at_most a b h = grind (arith, nat_tests)
-
-is_less : (a b : ℕ) → nat_lt a b ≡ true → a < b
-is_less a b h = grind (arith, nat_tests)
+use Rattle.base_laws.proofs.Lists.{got_there}
+use Rattle.base_laws.proofs.Numbers.{at_most, is_less}
 
 -- what is not in memory is one scalar
 single_of : (inside : Bool) (of : ObjectType) → is_kept_array inside of ≡ true → inside ≡ false → count_of of ≡ 1
 single_of inside (of-object.Scalar s) h e = refl
 single_of inside (of-object.Array s n) h e = let yes = (two_true (nat_le 1 n) inside h).1 in cc
-
--- what stands in a list, and in one that is made of it
-got_there : {A : Type 0} (xs : List A) (i : ℕ) → i < length xs → (a : A) × (slice_get xs i ≡ Some a)
-got_there [] i lt = absurd (omega (arith, lt))
-got_there (x ∷ xs) zero lt = (x, refl)
-got_there (x ∷ xs) (suc i) lt = got_there xs i (omega (arith, lt))
 
 pub got_mapped : {A B : Type 0} (g : A → B) (xs : List A) (i : ℕ) (a : A) → slice_get xs i ≡ Some a → slice_get (map g xs) i ≡ Some (g a)
 got_mapped g [] i a e = cc

@@ -35,12 +35,9 @@ use Rattle.graph_build_steps.specs.declared.change.Change.TheVariants as change
 use Rattle.graph_build_steps.specs.Steps.{signed, finished, distance, changed, changed_element, takes_more, renewed_scalar, loaded_first, renewed_memory, left_scalar, left_memory, object_address, or_zero}
 use Rattle.graph_build_laws.proofs.Temporaries.{picked, moved_behind}
 use Rattle.std.proofs.lemmas.Option.{slice_get_within}
-use Rattle.std.proofs.lemmas.Bool.Decides.{nat_tests}
 use Rattle.graph_build_laws.proofs.Naming.{InMemory}
 use Rattle.graph_build_laws.proofs.Values.{Setting, n, most, Stands, Fits, left_or, any_name, operation_most, standing_top}
-
-are_equal : (a b : ℕ) → (a == b) ≡ true → a ≡ b
-are_equal a b h = grind (arith, nat_tests)
+use Rattle.base_laws.proofs.Numbers.{are_equal}
 
 -- the name behind one that is taken
 pub taken : (b : Bool) (k m : ℕ) → behind_move b k ≤ m → b ≡ true → k < m

@@ -7,9 +7,7 @@ use Rattle.graph_build_names.specs.declared.names.Home.TheVariants as home
 use Rattle.graph_build_names.specs.Names.{Names, homes_from, names_of, scalar_in, scalar_of}
 use Rattle.graph_build.specs.Units.{add_if_some, scalars_among, variables_in}
 use Rattle.graph_build_laws.proofs.Homes.{home_at}
-
-some_same : {A : Type 0} {a b : A} → Some a ≡ Some b → a ≡ b
-some_same e = cc
+use Rattle.base_laws.proofs.Options.{some_same}
 
 module _ (p : ProgramTree) (f : TypedFunctionTree) (again : Bool) where
   abbrev n : Names

@@ -5,12 +5,8 @@ use Rattle.std.proofs.lemmas.Bool.Decides.{nat_tests}
 use Rattle.c_tree.specs.Programs.{AutomaticTree, TypedFunctionTree, ProgramTree}
 use Rattle.graph_build_names.specs.declared.names.Home.TheVariants as home
 use Rattle.graph_build_names.specs.Names.{Names, homes_from, names_of, scalar_in, object_in, home_of, scalar_of, object_of}
-
-some_same : {A : Type 0} {a b : A} → Some a ≡ Some b → a ≡ b
-some_same e = cc
-
-at_most : (a b : ℕ) → nat_le a b ≡ true → a ≤ b
-at_most a b h = grind (arith, nat_tests)
+use Rattle.base_laws.proofs.Numbers.{at_most}
+use Rattle.base_laws.proofs.Options.{some_same}
 
 -- a scalar's home is that of a variable that is not in memory, with a name from a first one on
 homes_scalar : (s o : ℕ) (all : List AutomaticTree) (k x : ℕ) → scalar_in (slice_get (homes_from s o all) k) ≡ Some x → (a : AutomaticTree) × (slice_get all k ≡ Some a) × (a.in_memory ≡ false) × (s ≤ x)

@@ -1,22 +1,12 @@
 -- A property of points that goes back, and one of instructions that are no markers, pass what is made.
-use Rattle.std.proofs.Common.{◌≡◌, ℕ, zero, suc, false, Some, None, List, [], ◌∷◌, ◌++◌, length, slice_get, refl, sym, ◌∙◌, subst}
+use Rattle.std.proofs.Common.{◌≡◌, ℕ, false, Some, List, [], ◌∷◌, ◌++◌, length, slice_get, refl, sym, ◌∙◌, subst}
 use Rattle.graph_core.specs.Graphs.{Instruction, End, Return, Jump, Branch, Block}
 use Rattle.graph_core.specs.Paths.{Among, front, behind, is_marker}
 use Rattle.graph_build_steps.specs.Drafts.{Made, closed, label_of}
 use Rattle.graph_build_laws.specs.Passing.{Grows, IsPassing}
 use Rattle.graph_build_laws.specs.Points.{AtLabel, GoesBack, StandIn}
-
-some_same : {A : Type 0} {a b : A} → Some a ≡ Some b → a ≡ b
-some_same e = cc
-
-none_is : {A : Type 0} {a : A} → None ≡ Some a → ⊥
-none_is e = cc
-
--- an element keeps its index when others come behind it, and the next one comes at their number
-pub got_before : {A : Type 0} (xs ys : List A) (k : ℕ) (a : A) → slice_get xs k ≡ Some a → slice_get (xs ++ ys) k ≡ Some a
-got_before [] ys k a e = absurd (none_is e)
-got_before (x ∷ xs) ys zero a e = e
-got_before (x ∷ xs) ys (suc k) a e = got_before xs ys k a e
+use Rattle.base_laws.proofs.Options.{none_is, some_same}
+pub use Rattle.base_laws.proofs.Lists.{snoc_old as got_before}
 
 pub got_next : {A : Type 0} (xs : List A) (a : A) → slice_get (xs ++ a ∷ []) (length xs) ≡ Some a
 got_next [] a = refl

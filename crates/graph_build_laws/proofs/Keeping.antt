@@ -1,5 +1,5 @@
 -- The graphs of a well-formed program keep the weights of its functions, and the bounds of valid units.
-use Rattle.std.proofs.Common.{◌≡◌, ℕ, zero, suc, ◌+◌, ◌*◌, ◌≤◌, Bool, Option, Some, None, List, [], ◌∷◌, length, map, slice_get, refl, sym, ap, ◌∙◌, subst, arith, ◌==◌}
+use Rattle.std.proofs.Common.{◌≡◌, ℕ, zero, suc, ◌+◌, ◌*◌, ◌≤◌, Bool, Some, List, [], ◌∷◌, length, slice_get, refl, sym, ap, ◌∙◌, subst, arith, ◌==◌}
 use Rattle.std.proofs.lemmas.List.{length-map}
 use Rattle.c_tree.specs.Programs.{TypedFunctionTree, ProgramTree}
 use Rattle.c_places.specs.Places.{numbers_from, parameters_of}
@@ -14,12 +14,7 @@ use Rattle.graph_build_laws.proofs.Blocks.{blocks_within}
 use Rattle.graph_build_laws.proofs.WellFormed.{KeepsLimits, KeepsLaws, laws_of}
 use Rattle.graph_build_laws.proofs.Names.{names_within}
 use Rattle.graph_build_laws.proofs.FunctionArguments.{arguments_within}
-
-none_is : {A : Type 0} {a : A} → None ≡ Some a → ⊥
-none_is e = cc
-
-some_same : {A : Type 0} {a b : A} → Some a ≡ Some b → a ≡ b
-some_same e = cc
+use Rattle.base_laws.proofs.Options.{none_is, some_same}
 
 -- a graph is that of the function of its number
 pub record OfFunction (p : ProgramTree) (all : List TypedFunctionTree) (k : ℕ) (g : Graph) : Type 0 where

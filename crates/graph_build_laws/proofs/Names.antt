@@ -1,7 +1,6 @@
 -- A function's graph has no more names than the function weighs.
-use Rattle.std.proofs.Common.{◌≡◌, ℕ, zero, suc, ◌+◌, ◌≤◌, ◌<◌, Bool, true, false, Option, Some, None, List, [], ◌∷◌, ◌++◌, length, refl, sym, ap, ◌∙◌, subst, arith, if◌then◌else◌}
-use Rattle.std.specs.Prelude.{max, nat_lt}
-use Rattle.std.proofs.lemmas.Bool.Decides.{nat_tests}
+use Rattle.std.proofs.Common.{◌≡◌, ℕ, zero, suc, ◌+◌, ◌≤◌, Bool, true, false, Option, Some, None, List, [], ◌∷◌, ◌++◌, length, refl, sym, ap, ◌∙◌, subst, arith, if◌then◌else◌}
+use Rattle.std.specs.Prelude.{max}
 use Rattle.std.proofs.lemmas.List.{length-append}
 use Rattle.c_tree.specs.TypedExpressions.{RvalueTree, Constant, Convert}
 use Rattle.c_tree.specs.TypedStatements as statement
@@ -22,6 +21,7 @@ use Rattle.graph_build_laws.proofs.Scalars.{names_few}
 use Rattle.graph_build_laws.proofs.NamesAgain.{top_most}
 use Rattle.graph_build_laws.proofs.SameSizes.{in_graph_of}
 use Rattle.graph_build_laws.proofs.WellFormed.{KeepsLimits}
+use Rattle.base_laws.proofs.Numbers.{not_less}
 
 -- how many declarators statements have
 abbrev pub begin_declares : TypedStartTree → ℕ
@@ -267,9 +267,6 @@ some_most (Some y) x more = omega arith
 scalars_most : (n : Names) (first count : ℕ) → length (scalars_among n (numbers_from first count)) ≤ count
 scalars_most n first zero = omega arith
 scalars_most n first (suc count) = omega (arith, some_most (scalar_of n first) first (scalars_among n (numbers_from (first + 1) count)), scalars_most n (first + 1) count)
-
-not_less : (a b : ℕ) → nat_lt a b ≡ false → b ≤ a
-not_less a b h = grind (arith, nat_tests)
 
 used_again : (p : ProgramTree) (f : TypedFunctionTree) (top : ℕ) → KeepsLimits f → names_used (coding_of p f true top) f ≤ f.weight
 used_again p f top h =

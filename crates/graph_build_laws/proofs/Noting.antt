@@ -36,13 +36,9 @@ use Rattle.graph_build_laws.specs.Surely.{IsSure, IsSurePlace, AreSure, Notes, n
 use Rattle.graph_build_laws.proofs.GraphMarkingPieces.{changed_leads, keep_leads, move_leads, loaded_leads}
 use Rattle.graph_build_laws.proofs.Passes.{code_passes, place_passes}
 use Rattle.graph_build_laws.proofs.Instances.{got_before, got_next, to_one, to_two, to_none}
-
-some_same : {A : Type 0} {a b : A} → Some a ≡ Some b → a ≡ b
-some_same e = cc
-
-or_cases : (a b : Bool) → a || b ≡ true → (a ≡ true) ⊎ (b ≡ true)
-or_cases true b h = inl refl
-or_cases false b h = inr h
+use Rattle.base_laws.proofs.Booleans.{or_cases}
+use Rattle.base_laws.proofs.Numbers.{false_true}
+use Rattle.base_laws.proofs.Options.{some_same}
 
 or_first : (a b : Bool) → a || b ≡ true → b ≡ false → a ≡ true
 or_first true b h k = refl
@@ -50,9 +46,6 @@ or_first false b h k = absurd (clash h k)
   where
     clash : b ≡ true → b ≡ false → ⊥
     clash h k = cc
-
-false_true : false ≡ true → ⊥
-false_true e = cc
 
 -- A property of points that goes back, of what is made alone
 module _ (blocks : List Block) (top : ℕ) (G : List Instruction → End → Type 0) (back : GoesBack blocks G) where

@@ -1,7 +1,6 @@
 -- The objects of a function's graph are those of its variables in memory, in their order.
 use Rattle.std.proofs.Common.{◌≡◌, ℕ, zero, suc, ◌+◌, ◌-◌, ◌<◌, ◌≤◌, Bool, true, false, Option, Some, None, List, [], ◌∷◌, take, drop, slice_get, refl, sym, ap, ◌∙◌, subst, arith, if◌then◌else◌}
 use Rattle.std.specs.Prelude.{nat_le}
-use Rattle.std.proofs.lemmas.Bool.Decides.{nat_tests}
 use Rattle.c_tree.specs.Programs.{AutomaticTree, TypedFunctionTree, ProgramTree}
 use Rattle.c_places.specs.Places.{numbers_from}
 use Rattle.graph_build_names.specs.declared.names.Home.{Home}
@@ -9,12 +8,8 @@ use Rattle.graph_build_names.specs.declared.names.Home.TheVariants as home
 use Rattle.graph_build_names.specs.Names.{Names, homes_from, names_of, object_in, object_of}
 use Rattle.graph_build.specs.Units.{add_if_some, kept_among, variables_in}
 use Rattle.graph_build_laws.proofs.Homes.{home_at}
-
-some_same : {A : Type 0} {a b : A} → Some a ≡ Some b → a ≡ b
-some_same e = cc
-
-at_most : (a b : ℕ) → nat_le a b ≡ true → a ≤ b
-at_most a b h = grind (arith, nat_tests)
+use Rattle.base_laws.proofs.Numbers.{at_most}
+use Rattle.base_laws.proofs.Options.{some_same}
 
 -- an object's number is from a first one on, and its variable is one of so many
 homes_object : (s o : ℕ) (all : List AutomaticTree) (k x : ℕ) → object_in (slice_get (homes_from s o all) k) ≡ Some x → o ≤ x

@@ -4,9 +4,7 @@ use Rattle.graph_core.specs.Graphs.{Instruction, Marker, Note, End, Block, Graph
 use Rattle.graph_core.specs.Paths.{History, Way, stays, passes, goes, Path, path, place_of, place_by, is_marker}
 use Rattle.graph_build_laws.specs.Points.{GoesOn}
 use Rattle.graph_build_laws.proofs.Instances.{NoMarkers}
-
-some_same : {A : Type 0} {a b : A} → Some a ≡ Some b → a ≡ b
-some_same e = cc
+use Rattle.base_laws.proofs.Options.{some_same}
 
 same_place : (i : Instruction) (before : Option ℕ) → is_marker i ≡ false → place_by i before ≡ before
 same_place (Marker p) before h = cc

@@ -11,6 +11,7 @@ use Rattle.graph_build_names.specs.declared.names.Home.TheVariants as home
 use Rattle.graph_build_names.specs.Names.{Names, homes_from, names_of, scalar_in, object_in, home_of, scalar_of, scalar_named}
 use Rattle.graph_build.specs.Units.{scalars_among, add_if_some, variables_in}
 use Rattle.graph_build_laws.proofs.Written.{NamesFew}
+use Rattle.base_laws.proofs.Options.{none_is, some_same as some_is}
 
 -- how many homes are scalars
 abbrev one_scalar : Home → ℕ
@@ -20,12 +21,6 @@ one_scalar (home.Object o) = 0
 abbrev scalar_homes : List Home → ℕ
 scalar_homes [] = 0
 scalar_homes (h ∷ more) = one_scalar h + scalar_homes more
-
-some_is : {A : Type 0} {a b : A} → Some a ≡ Some b → a ≡ b
-some_is e = cc
-
-none_is : {A : Type 0} {a : A} → None ≡ Some a → ⊥
-none_is e = cc
 
 -- homes are numbered in order
 numbered : (s o : ℕ) (all : List AutomaticTree) (k x : ℕ) → scalar_in (slice_get (homes_from s o all) k) ≡ Some x → x < s + scalar_homes (homes_from s o all)

@@ -1,5 +1,5 @@
 -- Objects of a well-formed program are small, and what `main` gives is a number.
-use Rattle.std.proofs.Common.{◌≡◌, ℕ, zero, suc, ◌+◌, ◌-◌, ◌*◌, ◌/◌, ◌≤◌, Bool, true, false, Some, List, [], ◌∷◌, length, drop, slice_get, refl, sym, ap, ◌∙◌, subst, arith, pos, if◌then◌else◌}
+use Rattle.std.proofs.Common.{◌≡◌, ℕ, zero, suc, ◌+◌, ◌-◌, ◌*◌, ◌≤◌, Bool, true, false, Some, List, [], ◌∷◌, length, drop, slice_get, refl, sym, ap, ◌∙◌, subst, arith, pos, if◌then◌else◌}
 use Rattle.std.specs.Prelude.{◌==◌, nat_le, sum_by}
 use Rattle.std.proofs.lemmas.Bool.Decides.{nat_tests}
 use Rattle.std.proofs.lemmas.Option.{slice_get_within}
@@ -26,6 +26,7 @@ use Rattle.graph_build_runs.proofs.Shapes.{two_true}
 use Rattle.graph_build_runs.proofs.Moving.{AreSmall}
 use Rattle.graph_build_laws.proofs.Accepted.{ProgramFacts}
 use Rattle.graph_build_laws.proofs.Homes.{dropped_at, taken_at}
+use Rattle.base_laws.proofs.Numbers.{rounded}
 
 -- a size is one in both
 pub type_sizes : (base : IntegerType) (stars : ℕ) → type_size (record { base = base; stars = stars }) ≡ size_by_stars base stars
@@ -50,10 +51,6 @@ bytes_by_type (of-object.Array s n) = ap (λ x. n * x) (sym (type_sizes s.base s
   where
     swapped : (x y : ℕ) → x * y ≡ y * x
     swapped x y = grind arith
-
--- what is rounded up is no less
-rounded : (n : ℕ) → n ≤ (n + 3) / 4 * 4 + 4
-rounded n = omega arith
 
 roomy : (n : ℕ) → n ≤ room n
 roomy n = rounded n

@@ -1,13 +1,11 @@
 -- The inner blocks of a function stand behind its places' blocks, in order of evaluation.
-use Rattle.std.proofs.Common.{◌≡◌, ◌⊎◌, inl, inr, ℕ, zero, suc, ◌+◌, ◌-◌, ◌<◌, Some, None, List, [], ◌∷◌, ◌++◌, length, reverse, slice_get, refl, sym, ◌∙◌, subst, arith}
+use Rattle.std.proofs.Common.{◌≡◌, ◌⊎◌, inl, inr, ℕ, zero, suc, ◌+◌, ◌-◌, ◌<◌, Some, List, [], ◌∷◌, ◌++◌, length, reverse, slice_get, refl, sym, ◌∙◌, subst, arith}
 use Rattle.std.proofs.lemmas.List.{reverse-append, length-reverse, length-append}
 use Rattle.graph_core.specs.Graphs.{Block}
 use Rattle.graph_core.specs.Paths.{Among, front, behind}
 use Rattle.graph_build_laws.specs.Points.{StandIn}
 use Rattle.graph_build_laws.proofs.Instances.{got_before, got_next}
-
-none_is : {A : Type 0} {a : A} → None ≡ Some a → ⊥
-none_is e = cc
+use Rattle.base_laws.proofs.Options.{none_is}
 
 pub got_within : {A : Type 0} (xs : List A) (k : ℕ) (a : A) → slice_get xs k ≡ Some a → k < length xs
 got_within [] k a e = absurd (none_is e)

@@ -34,9 +34,7 @@ use Rattle.graph_build_runs.proofs.Elements.{element_size}
 use Rattle.graph_build_laws.proofs.Accepted.{ProgramFacts}
 use Rattle.graph_build_laws.proofs.Homes.{object_there, name_there}
 use Rattle.graph_build_laws.proofs.Sizes.{type_sizes}
-
-some_same : {A : Type 0} {a b : A} → Some a ≡ Some b → a ≡ b
-some_same e = cc
+use Rattle.base_laws.proofs.Options.{some_same}
 
 -- the bytes of an object by its type
 pub bytes_by_type : (of : ObjectType) → object_count of * size_of (object_element of) ≡ object_size of

@@ -1,7 +1,6 @@
 -- What a well-formed program's functions keep, and where its places stand.
-use Rattle.std.proofs.Common.{◌≡◌, ℕ, zero, suc, ◌+◌, ◌*◌, ◌≤◌, ◌<◌, Bool, true, false, Option, Some, None, List, [], ◌∷◌, length, map, slice_get, refl, subst, arith, if◌then◌else◌, ◌==◌}
-use Rattle.std.specs.Prelude.{◌&&◌, ◌||◌, nat_le, nat_lt, is_none, IsTrue}
-use Rattle.std.proofs.lemmas.Bool.Decides.{nat_tests}
+use Rattle.std.proofs.Common.{◌≡◌, ℕ, zero, suc, ◌+◌, ◌≤◌, Bool, true, false, Option, Some, None, List, [], ◌∷◌, length, map, slice_get, refl, subst, arith, if◌then◌else◌, ◌==◌}
+use Rattle.std.specs.Prelude.{◌&&◌, nat_le, nat_lt, is_none}
 use Rattle.c_tree.specs.Programs.{TypedFunctionTree, ProgramTree}
 use Rattle.debug_records.specs.declared.code.Code.{Code}
 use Rattle.debug_records.specs.declared.code.TheConstants.Code.{PROGRAM_WEIGHT, STATIC_OBJECTS, VISIBLE_PAIRS}
@@ -18,22 +17,9 @@ use Rattle.c_type_laws.specs.Declarations.{declared_in_all}
 use Rattle.c_type_laws.specs.Parameters.{parameters_single}
 use Rattle.c_type_laws.specs.Plain.{are_plain}
 use Rattle.c_type_laws.specs.Laws.{IsWellFormed, objects_ascend, follow, is_main, are_objects, are_functions, is_function, declares_its_own, are_in_memory, keeps_limits, is_within, is_sound, weight_of, places_ascend}
-
-pub and_both : (a b : Bool) → a && b ≡ true → (a ≡ true) × (b ≡ true)
-and_both true b h = (refl, h)
-and_both false b h = cc
-
-at_most : (a b : ℕ) → nat_le a b ≡ true → a ≤ b
-at_most a b h = grind (arith, nat_tests)
-
-are_equal : (a b : ℕ) → (a == b) ≡ true → a ≡ b
-are_equal a b h = grind (arith, nat_tests)
-
-some_same : {A : Type 0} {a b : A} → Some a ≡ Some b → a ≡ b
-some_same e = cc
-
-none_is : {A : Type 0} {a : A} → None ≡ Some a → ⊥
-none_is e = cc
+use Rattle.base_laws.proofs.Numbers.{are_equal, at_most, not_less}
+use Rattle.base_laws.proofs.Options.{none_is, some_same}
+pub use Rattle.base_laws.proofs.Booleans.{two_true as and_both}
 
 -- the limits of a function
 pub record KeepsLimits (f : TypedFunctionTree) : Type 0 where
@@ -80,9 +66,6 @@ pub record KeepsLaws (p : ProgramTree) : Type 0 where
 if_none : (b : Bool) (code : Code) (rest : Option Code) → is_none (if b then Some code else rest) ≡ true → b ≡ false
 if_none true code rest h = cc
 if_none false code rest h = refl
-
-not_less : (a b : ℕ) → nat_lt a b ≡ false → b ≤ a
-not_less a b h = grind (arith, nat_tests)
 
 program_weight : (p : ProgramTree) → is_none (program_breach p) ≡ true → p.weight ≤ 4000
 program_weight p h =

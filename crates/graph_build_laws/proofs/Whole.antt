@@ -2,7 +2,6 @@
 use Rattle.std.proofs.Common.{◌≡◌, ℕ, zero, suc, ◌+◌, true, Option, Some, None, List, [], ◌∷◌, length, slice_get, refl, sym, ap, ◌∙◌, subst, arith}
 use Rattle.std.specs.Prelude.{◌==◌}
 use Rattle.std.specs.List.{AllByRecursion}
-use Rattle.std.proofs.lemmas.Bool.Decides.{nat_tests}
 use Rattle.c_tree.specs.declared.object_type.ValueType.TheVariants.{Integer}
 use Rattle.c_tree.specs.declared.types.IntegerType.TheVariants.{Int}
 use Rattle.c_tree.specs.Programs.{TypedFunctionTree, ProgramTree}
@@ -20,9 +19,8 @@ use Rattle.graph_build_laws.proofs.Settings.{graph_is}
 use Rattle.graph_build_laws.proofs.GraphProgramFunctions.{parameters_many, graph_valid}
 use Rattle.graph_build_laws.proofs.Markers.{numbers, markers_are, once, few_places}
 use Rattle.graph_build_laws.proofs.Storage.{statics_within, relocations_within}
-
-are_equal : (a b : ℕ) → (a == b) ≡ true → a ≡ b
-are_equal a b h = grind (arith, nat_tests)
+use Rattle.base_laws.proofs.Numbers.{are_equal}
+use Rattle.base_laws.proofs.Options.{some_same}
 
 -- what holds of each element by its number holds of all
 all_got : {A : Type 0} (P : A → Type 0) (all : List A) → ((k : ℕ) (a : A) → slice_get all k ≡ Some a → P a) → AllByRecursion P all
@@ -34,9 +32,6 @@ function_there : (p : ProgramTree) (m : ℕ) (all : List TypedFunctionTree) (k :
 function_there p m [] k g e = cc
 function_there p m (f ∷ all) zero g e = (f, refl)
 function_there p m (f ∷ all) (suc k) g e = function_there p (m + 1) all k g e
-
-some_same : {A : Type 0} {a b : A} → Some a ≡ Some b → a ≡ b
-some_same e = cc
 
 module _ (p : ProgramTree) (u : UnitForm) (well : IsWellFormed p) (is : IsUnitOf p u) where
   abbrev facts : ProgramFacts p

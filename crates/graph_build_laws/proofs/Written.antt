@@ -5,6 +5,7 @@ use Rattle.std.proofs.lemmas.Bool.Decides.{nat_tests}
 use Rattle.c_tree.specs.TypedExpressions.{RvalueTree, LvalueTree, ArgumentTrees, Constant, Null, Load, Decay, AddressOf, Convert, Discard, Signed, Not, Arithmetic, Compare, ComparePointers, Move, MoveFrom, Difference, And, Or, Conditional, Comma, Assign, Update, UpdatePointer, Step, StepPointer, Call, Named, Target, Element, ElementFrom, none, first}
 use Rattle.graph_build_names.specs.Names.{Names, scalar_named}
 use Rattle.graph_build_names.specs.Writes.{writes, writes_within, writes_any, names_it, is_that}
+use Rattle.base_laws.proofs.Booleans.{or_none}
 
 -- the scalars that lvalues name are fewer than a number
 abbrev pub NamesFew : Names → (scalars : ℕ) → Type 0
@@ -13,10 +14,6 @@ NamesFew n scalars = (l : LvalueTree) (x : ℕ) → scalar_named n l ≡ Some x 
 -- no name from a number on is one of these
 abbrev pub Few : (scalars : ℕ) → (ℕ → Bool) → Type 0
 Few scalars w = (y : ℕ) → scalars ≤ y → w y ≡ false
-
-or_none : (a b : Bool) → a ≡ false → b ≡ false → a || b ≡ false
-or_none true b p q = p
-or_none false b p q = q
 
 or_none_three : (a b c : Bool) → a ≡ false → b ≡ false → c ≡ false → a || b || c ≡ false
 or_none_three true b c p q r = p

@@ -38,6 +38,7 @@ use Rattle.graph_build_runs.proofs.AtPlaces.{Begins, going_comes}
 use Rattle.graph_build_runs.proofs.Making.{last_is, live_open, new_in, with_new, made_is, grown_made, sound_made, fits_made}
 use Rattle.graph_build_runs.proofs.Declared.{set_last, zero_same}
 use Rattle.graph_build_runs.proofs.Stored.{same_object, placed_new}
+pub use Rattle.base_laws.proofs.Lists.{none_left}
 
 -- the sizes of scalars
 pub sizes : (base : IntegerType) (stars : ℕ) → (size_by_stars base stars ≡ 1) ⊎ ((size_by_stars base stars ≡ 2) ⊎ (size_by_stars base stars ≡ 4))
@@ -57,12 +58,6 @@ room : (size count : ℕ) → (size ≡ 1) ⊎ ((size ≡ 2) ⊎ (size ≡ 4)) �
 room size count (inl e) = subst (λ k. count ≤ 4 * ((count * k + 3) / 4) / k) (sym e) (omega arith)
 room size count (inr (inl e)) = subst (λ k. count ≤ 4 * ((count * k + 3) / 4) / k) (sym e) (omega arith)
 room size count (inr (inr e)) = subst (λ k. count ≤ 4 * ((count * k + 3) / 4) / k) (sym e) (omega arith)
-
-pub none_left : {A : Type 0} (n : ℕ) (xs : List A) → length xs ≤ n → drop n xs ≡ []
-none_left zero [] le = refl
-none_left (suc n) [] le = refl
-none_left zero (x ∷ xs) le = absurd (omega (arith, le))
-none_left (suc n) (x ∷ xs) le = none_left n xs (omega (arith, le))
 
 pub zeros_same : (p : ProgramTree) (memory : SourceMemory) (others : Memory) (stars : ℕ) (sc : Scalar) → sc.stars ≡ stars → (count : ℕ) → SameValues p memory others (replicate count (zero_of sc)) (replicate count (Number 0))
 zeros_same p memory others stars sc e zero = tt

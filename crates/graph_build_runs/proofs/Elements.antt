@@ -1,6 +1,6 @@
 -- Elements of memory: how wide they are, and that they keep values of their types.
-use Rattle.std.proofs.Common.{◌≡◌, ◌≢◌, ℕ, zero, suc, ◌+◌, ◌-◌, ◌*◌, ◌/◌, ◌%◌, ◌<◌, ◌≤◌, Bool, true, false, not, ◌&&◌, List, [], ◌∷◌, length, Option, Some, None, slice_get, refl, sym, ap, ◌∙◌, subst, arith, ℤ, pos, negsuc}
-use Rattle.std.specs.Prelude.{◌==◌, if◌then◌else◌, nat_lt, int_le, option_map, option_and_then}
+use Rattle.std.proofs.Common.{◌≡◌, ℕ, zero, suc, ◌+◌, ◌-◌, ◌*◌, ◌/◌, ◌%◌, ◌<◌, ◌≤◌, Bool, true, false, not, length, Some, None, refl, sym, ap, ◌∙◌, arith, ℤ, pos, negsuc}
+use Rattle.std.specs.Prelude.{◌==◌, if◌then◌else◌, nat_lt, int_le}
 use Rattle.std.proofs.lemmas.Bool.{leb-true}
 use Rattle.std.proofs.lemmas.Bool.Decides.{nat_tests}
 use Rattle.word_base.specs.Types.{holds}
@@ -27,6 +27,8 @@ use Rattle.graph_build_steps.specs.Rules.{element_of}
 use Rattle.graph_build_runs.specs.Typed.{IsOf}
 use Rattle.graph_build_runs.specs.Correspondence.{SameValue}
 use Rattle.graph_build_runs.proofs.Words.{both_true}
+use Rattle.base_laws.proofs.Booleans.{all_four as four_true}
+use Rattle.base_laws.proofs.Numbers.{same_size}
 
 -- the element of a pointer, or of an integer
 abbrev element_if : Bool → ℕ → Bool → Element
@@ -72,16 +74,6 @@ multiple_by base (suc stars) k = (omega arith, omega arith)
 
 pub multiple : (sc : Scalar) (k : ℕ) → (k * scalar_size sc / scalar_size sc ≡ k) × (k * scalar_size sc % scalar_size sc ≡ 0)
 multiple sc k = multiple_by sc.base sc.stars k
-
-four_true : (a b c d : Bool) → a ≡ true → b ≡ true → c ≡ true → d ≡ true → a && b && c && d ≡ true
-four_true true true true true ha hb hc hd = refl
-four_true false b c d ha hb hc hd = cc
-four_true true false c d ha hb hc hd = cc
-four_true true true false d ha hb hc hd = cc
-four_true true true true false ha hb hc hd = cc
-
-same_size : (k : ℕ) → k == k ≡ true
-same_size k = grind (arith, nat_tests)
 
 -- An access by an element reaches the value with an index.
 pub reaches : (sc : Scalar) (q : Object) (k offset : ℕ) → q.live ≡ true → q.element ≡ element_of sc → offset ≡ k * scalar_size sc → k < length q.values → index_in (element_of sc) offset q ≡ Some k

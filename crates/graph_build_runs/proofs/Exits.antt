@@ -15,6 +15,7 @@ use Rattle.c_meaning.specs.Activations as activations
 use Rattle.c_meaning.specs.Lifetimes.{closed}
 use Rattle.c_meaning.specs.Expressions.{Calls}
 use Rattle.c_meaning.specs.Statements.{then_do, after_body, after_switch, rounds, while_round, do_round, for_round, on_number, by_label, has_case, is_same_number, value_at, initialise_elements, declare_with, declare, declare_all, run, begin_loop, test_at, check, step, result, execute, execute_all, execute_case, execute_default}
+use Rattle.base_laws.proofs.Booleans.{or_right}
 
 -- An outcome is one of these exits; a value is handed back where some may be.
 abbrev pub Within : (values : Bool) → Exits → Outcome → Type 0
@@ -73,10 +74,6 @@ wider values e f n b c (Ended x s) h = tt
 
 or_left : (a b : Bool) → a ≡ true → a || b ≡ true
 or_left a b h = ap (λ q. q || b) h
-
-or_right : (a b : Bool) → b ≡ true → a || b ≡ true
-or_right true b h = refl
-or_right false b h = h
 
 -- what is done at a place
 place_within : (values : Bool) (e : Exits) (here : Activation) (spot : Spot) (s : State) (go : State → Outcome) → ((t : State) → Within values e (go t)) → Within values e (activations.at here spot s go)

@@ -1,5 +1,5 @@
 -- Memories that go on: objects stay what they are, whatever they hold.
-use Rattle.std.proofs.Common.{◌≡◌, ◌≢◌, ℕ, zero, suc, ◌*◌, ◌≤◌, ◌⊎◌, inl, inr, List, [], ◌∷◌, length, Option, Some, None, slice_get, slice_set, refl, sym, ap, ◌∙◌, subst, arith}
+use Rattle.std.proofs.Common.{◌≡◌, ℕ, ◌*◌, ◌≤◌, inl, inr, List, [], ◌∷◌, length, Option, Some, slice_get, slice_set, refl, sym, ap, ◌∙◌, subst}
 use Rattle.std.proofs.lemmas.Bool.{cases_eq}
 use Rattle.std.proofs.lemmas.List.{length-set}
 use Rattle.c_tree.specs.Programs.{ProgramTree}
@@ -14,32 +14,8 @@ use Rattle.graph_core.specs.Memory.{Object, Memory, bytes_of}
 use Rattle.graph_core.specs.Values.{size_of}
 use Rattle.graph_build_steps.specs.Rules.{element_of}
 use Rattle.graph_build_runs.specs.Correspondence.{owner_of, IsInMemory, SameObject, SamePointer, points, ended, SameValue, SameValues}
-
--- what a list has where one of its members was replaced
-pub get_set : {A : Type 0} (xs : List A) (n m : ℕ) (y z : A) → slice_get (slice_set xs n y) m ≡ Some z → ((m ≡ n) × (z ≡ y)) ⊎ ((m ≢ n) × (slice_get xs m ≡ Some z))
-get_set [] n m y z h = cc
-get_set (x ∷ xs) zero zero y z h = let same : y ≡ z = cc in inl (refl, sym same)
-get_set (x ∷ xs) zero (suc m) y z h = inr ((λ e. cc), h)
-get_set (x ∷ xs) (suc n) zero y z h = inr ((λ e. cc), h)
-get_set (x ∷ xs) (suc n) (suc m) y z h = elim (get_set xs n m y z h) [
-  | inl both ↦ inl (ap (λ k. suc k) both.0, both.1)
-  | inr both ↦ inr ((λ e. both.0 (omega (arith, e))), both.1)
-]
-
-pub some_same : {A : Type 0} {x y : A} → Some x ≡ Some y → x ≡ y
-some_same h = cc
-
-pub set_here : {A : Type 0} (xs : List A) (n : ℕ) (x y : A) → slice_get xs n ≡ Some x → slice_get (slice_set xs n y) n ≡ Some y
-set_here [] n x y h = cc
-set_here (z ∷ xs) zero x y h = refl
-set_here (z ∷ xs) (suc n) x y h = set_here xs n x y h
-
-pub set_elsewhere : {A : Type 0} (xs : List A) (n m : ℕ) (y : A) → m ≢ n → slice_get (slice_set xs n y) m ≡ slice_get xs m
-set_elsewhere [] n m y ne = refl
-set_elsewhere (z ∷ xs) zero zero y ne = absurd (ne refl)
-set_elsewhere (z ∷ xs) zero (suc m) y ne = refl
-set_elsewhere (z ∷ xs) (suc n) zero y ne = refl
-set_elsewhere (z ∷ xs) (suc n) (suc m) y ne = set_elsewhere xs n m y (λ e. ne (ap (λ k. suc k) e))
+pub use Rattle.base_laws.proofs.Lists.{get_set, set_elsewhere, set_here}
+pub use Rattle.base_laws.proofs.Options.{same_some as some_same}
 
 -- How the phase of an object goes on: one that is being initialised may come to live.
 pub record Onward (before after : Phase) : Type 0 where

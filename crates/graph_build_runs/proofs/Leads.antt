@@ -1,6 +1,6 @@
 -- The steps of a unit within an activation: what they lead to, and what they show on the way.
-use Rattle.std.proofs.Common.{◌≡◌, ℕ, ◌+◌, ◌<◌, List, [], ◌∷◌, ◌++◌, Option, Some, None, Bool, true, false, refl, sym, ap, ◌∙◌, subst, arith}
-use Rattle.std.specs.Prelude.{nat_eq, ◌==◌, if◌then◌else◌, length}
+use Rattle.std.proofs.Common.{◌≡◌, ℕ, ◌+◌, ◌<◌, List, [], ◌∷◌, ◌++◌, Option, Bool, false, ap, arith}
+use Rattle.std.specs.Prelude.{◌==◌, if◌then◌else◌, length}
 use Rattle.std.proofs.lemmas.Bool.Decides.{nat_tests}
 use Rattle.c_tree.specs.Programs.{TypedFunctionTree, ProgramTree}
 use Rattle.c_meaning_values.specs.Memory.{Memory as SourceMemory}
@@ -10,6 +10,7 @@ use Rattle.graph_core.specs.Graphs.{Instruction, End, Graph, UnitForm}
 use Rattle.graph_core.specs.Memory.{Memory}
 use Rattle.graph_core.specs.Runs.{Activation, Configuration, Event, Stepped, Goes, Shows, put, step}
 use Rattle.graph_build_names.specs.Names.{Names, names_of}
+pub use Rattle.base_laws.proofs.Numbers.{same_size as same_number}
 
 -- Where the code of an expression runs: the program and its unit, the function with its number and graph, the place, the activation's first object, the activations that wait, whether
 -- temporaries are used again, how many blocks the graph has, the memory of the program's run with which the place's code began, and that
@@ -81,9 +82,6 @@ pub then_leads : {u : UnitForm} {a b c : Configuration} {es fs gs : List Event} 
 then_leads stays q = q
 then_leads (goes s p) q = goes s (then_leads p q)
 then_leads (shows s p) q = shows s (then_leads p q)
-
-pub same_number : (k : ℕ) → k == k ≡ true
-same_number k = grind (arith, nat_tests)
 
 pub put_here : {A : Type 0} (f : ℕ → A) (k : ℕ) (v : A) → put f k v k ≡ v
 put_here f k v = ap (λ b. if b then v else f k) (same_number k)

@@ -51,6 +51,7 @@ use Rattle.graph_build_runs.proofs.Declared.{set_twice}
 use Rattle.graph_build_runs.proofs.Clearing.{zeroed_is}
 use Rattle.graph_build_runs.proofs.Arrays.{with_array, sound_array, grown_array, lives_array, fits_array}
 use Rattle.graph_build_runs.proofs.ArrayLiterals.{filled_with, filled_length, filled_all, values_set_in, copied_same}
+use Rattle.base_laws.proofs.Numbers.{least}
 
 elements_length : (bytes : List ℕ) (e : Element) (index count : ℕ) → length (elements_from bytes e index count) ≡ count
 elements_length bytes e index zero = refl
@@ -67,9 +68,6 @@ taken_length (suc n) zero [] (y ∷ ys) e f = f
 taken_length (suc n) zero (x ∷ xs) (y ∷ ys) e f = absurd (omega (arith, e))
 taken_length (suc n) (suc m) [] (y ∷ ys) e f = absurd (omega (arith, e))
 taken_length (suc n) (suc m) (x ∷ xs) (y ∷ ys) e f = ap (λ k. suc k) (taken_length n m xs ys (omega (arith, e)) (omega (arith, f)))
-
-least : (m n : ℕ) → m ≤ n → nat_le m n ≡ true
-least m n le = grind (arith, nat_tests, le)
 
 -- So many words of bytes are copied into an object of elements of one byte.
 module _ (memory : Memory) (m : ℕ) (q : Object) (sc : Scalar) (count words : ℕ) (bytes : List ℕ) (is : slice_get memory m ≡ Some q) (lives : q.live ≡ true) (element : q.element ≡ rule.element_of sc) (single : scalar_size sc ≡ 1) (length_is : length q.values ≡ count) where

@@ -12,6 +12,7 @@ use Rattle.graph_core.specs.Runs.{Activation}
 use Rattle.graph_build_runs.specs.Stops.{StaticsLive}
 use Rattle.graph_build_runs.proofs.Later.{some_same, Later, later_refl, later_trans}
 use Rattle.graph_build_runs.proofs.Kept.{Since}
+pub use Rattle.base_laws.proofs.Lists.{there_is}
 
 -- A variable's object lives, in an activation at a depth.
 pub record LivesAt (memory : SourceMemory) (v depth : ℕ) : Type 0 where
@@ -96,12 +97,6 @@ Under memory depth bound = (n : ℕ) (o : SourceObject) (v d : ℕ) → slice_ge
 pub record Grown (depth low high : ℕ) (before after : SourceMemory) : Type 0 where
   pub later : Later before after
   pub fresh : (n : ℕ) (o : SourceObject) → slice_get after n ≡ Some o → o.phase ≢ Ended → (n < length before) ⊎ ((v : ℕ) × (o.owner ≡ Variable v depth) × (low ≤ v) × (v < high))
-
--- what stands within a list
-pub there_is : {A : Type 0} (xs : List A) (n : ℕ) → n < length xs → (x : A) × (slice_get xs n ≡ Some x)
-there_is [] n lt = absurd (omega (arith, lt))
-there_is (x ∷ xs) zero lt = (x, refl)
-there_is (x ∷ xs) (suc n) lt = there_is xs n (omega (arith, lt))
 
 depths_same : {a b d e : ℕ} → Variable a d ≡ Variable b e → d ≡ e
 depths_same h = cc

@@ -35,6 +35,7 @@ use Rattle.graph_build_runs.proofs.Typing.{of_later}
 use Rattle.graph_build_runs.proofs.Activities.{Activity, here_in}
 use Rattle.graph_build_runs.proofs.Living.{statics_later, lives_later, frames_later, Under, Grown}
 use Rattle.graph_build_runs.proofs.Stops.{Ready}
+pub use Rattle.base_laws.proofs.Lists.{last_is}
 
 -- a list with one more
 pub got_last : {A : Type 0} (xs : List A) (x z : A) (i : ℕ) → slice_get (xs ++ x ∷ []) i ≡ Some z → (slice_get xs i ≡ Some z) ⊎ ((i ≡ length xs) × (z ≡ x))
@@ -50,10 +51,6 @@ pub front_stays : {A : Type 0} (xs ys : List A) (z : A) (i : ℕ) → slice_get 
 front_stays [] ys z i h = cc
 front_stays (x ∷ xs) ys z zero h = h
 front_stays (x ∷ xs) ys z (suc i) h = front_stays xs ys z i h
-
-pub last_is : {A : Type 0} (xs : List A) (x : A) → slice_get (xs ++ x ∷ []) (length xs) ≡ Some x
-last_is [] x = refl
-last_is (y ∷ xs) x = last_is xs x
 
 pub later_more : (memory : SourceMemory) (o : SourceObject) → Later memory (memory ++ o ∷ [])
 later_more memory o n z is = record { object = z; is = front_stays memory (o ∷ []) z n is; owner = refl; element = refl; phase = onward z.phase z.phase refl; count = refl }

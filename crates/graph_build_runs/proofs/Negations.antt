@@ -1,5 +1,5 @@
 -- `!`, as a test and as a value.
-use Rattle.std.proofs.Common.{◌≡◌, ◌≢◌, ℕ, zero, suc, ◌+◌, ◌<◌, ◌≤◌, List, [], ◌∷◌, Option, Some, None, Bool, true, false, not, slice_get, refl, sym, ap, ◌∙◌, subst, arith, ℤ, pos, negsuc}
+use Rattle.std.proofs.Common.{◌≡◌, ℕ, zero, suc, ◌≤◌, List, None, Bool, true, false, not, refl, sym, ap, ◌∙◌, subst, arith, ℤ, pos}
 use Rattle.std.specs.Prelude.{◌==◌, if◌then◌else◌, nat_lt}
 use Rattle.std.specs.Option.{option_map_or}
 use Rattle.std.proofs.lemmas.Bool.Decides.{nat_tests}
@@ -43,6 +43,7 @@ use Rattle.graph_build_runs.proofs.Typing.{Gave, gave_by, HasKind, kind_word, Ty
 use Rattle.graph_build_runs.proofs.Standing.{Stands}
 use Rattle.graph_build_runs.proofs.Operands.{Does, Low, code_in, value_in, written_by}
 use Rattle.graph_build_runs.proofs.Arithmetic.{pick_between}
+use Rattle.base_laws.proofs.Booleans.{not_not}
 
 -- a test the other way round
 turned : (x : Setting) (one other t : ℕ) (f : ℕ → Bool) (ops : List Instruction) (end : End) (l : Local) (w : World) (r : Tested) → EitherR x other one t f ops end l w r → EitherR x one other t f ops end l w (tested (on_test r (truth (pos 0)) (truth (pos 1))))
@@ -60,10 +61,6 @@ tested_with (Ends e s) one other = refl
 none_below : (k : ℕ) → nat_lt k 1 ≡ (k == 0)
 none_below zero = refl
 none_below (suc k) = let a : nat_lt (suc k) 1 ≡ false = grind (arith, nat_tests) in let b : (suc k == 0) ≡ false = grind (arith, nat_tests) in a ∙ sym b
-
-not_not : (b : Bool) → not (not b) ≡ b
-not_not true = refl
-not_not false = refl
 
 not_word : (z : ℤ) → InWord z → operated_words operation.Sltu (word_of z) 1 ≡ word_of (truth_of (not (is_true (source.Number z))))
 unfolding operated_words

@@ -3,7 +3,7 @@ use Rattle.std.proofs.Common.{◌≡◌, ◌≢◌, ℕ, zero, suc, ◌-◌, ◌
 use Rattle.std.specs.Prelude.{◌==◌, if◌then◌else◌, int_le, int_lt, nat_le, int_div, int_rem, unsigned_abs}
 use Rattle.std.specs.Int.{cast_signed, cast_unsigned, int_wrap, w32}
 use Rattle.std.proofs.lemmas.Int.{ints, of_z-to_z, to_z-of_z, to_z_pos, wrapping_mul-bits, int_wrap-mul_left, int_wrap-mul_right, rem_below}
-use Rattle.std.proofs.lemmas.Nat.{mul-mod_second, and_le_l, or_lt, xor_lt, shr_le, mod_below}
+use Rattle.std.proofs.lemmas.Nat.{mul-mod_second, or_lt, xor_lt, shr_le, mod_below}
 use Rattle.std.proofs.lemmas.Bool.{leb-true}
 use Rattle.std.proofs.lemmas.Bool.Decides.{nat_tests}
 use Rattle.c_tree.specs.declared.types.IntegerType.{IntegerType}
@@ -19,6 +19,8 @@ use Rattle.c_type_laws.specs.Kinds.{is_promoted}
 use Rattle.graph_build_names.specs.Conversions.{word_of}
 use Rattle.graph_build_runs.proofs.Words.{InWord, in_word, both_true, in_range_is, kept_word_int, kept_word_unsigned, kept_in_int, kept_in_unsigned}
 use Rattle.graph_build_runs.proofs.Arithmetic.{Computes}
+use Rattle.base_laws.proofs.Numbers.{and_lt}
+use Rattle.base_laws.proofs.Options.{if_none, remainder_is}
 
 -- a number modulo 2^32, as the library wraps numbers
 wrap_is : (z : ℤ) → int_wrap w32 z ≡ cast_signed w32 (word_of z)
@@ -121,11 +123,6 @@ divide_computes UnsignedInt p a b z ha hb h = unsigned_quotient a b z ha hb h
 divide_computes Long p a b z ha hb h = signed_quotient a b z ha hb h
 divide_computes UnsignedLong p a b z ha hb h = unsigned_quotient a b z ha hb h
 
--- a remainder that there is has a divisor, too
-remainder_is : (c : Bool) (y z : ℤ) → (if c then Some y else None) ≡ Some z → y ≡ z
-remainder_is true y z h = cc
-remainder_is false y z h = cc
-
 -- a number no farther from 0 than a number with a sign
 near_word : (r b : ℤ) → holds int_type b ≡ true → unsigned_abs r < unsigned_abs b → InWord r
 near_word (pos n) (pos m) h lt = let le : m ≤ 2147483647 = leb-true m 2147483647 h in let k : n < m = lt in omega (arith, k, le)
@@ -192,10 +189,6 @@ count_bits k lt = omega (arith, lt)
 if_some : (c : Bool) (r : Option ℤ) (z : ℤ) → (if not c then None else r) ≡ Some z → (c ≡ true) × (r ≡ Some z)
 if_some true r z h = (refl, h)
 if_some false r z h = cc
-
-if_none : (c : Bool) (r : Option ℤ) (z : ℤ) → (if c then None else r) ≡ Some z → r ≡ Some z
-if_none true r z h = cc
-if_none false r z h = h
 
 if_first : (c : Bool) (y z : ℤ) → (if c then Some y else None) ≡ Some z → (c ≡ true) × (y ≡ z)
 if_first true y z h = (refl, cc)
@@ -295,9 +288,6 @@ unsigned_on_bits f below a b z h =
     let same : on_bits unsigned_type f a b ≡ z = cc in
     let c = unsigned_bits (f (word_of a) (word_of b)) (below (word_of a) (word_of b) (word_lt a) (word_lt b)) in
     (sym c.0 ∙ ap word_of same, subst InWord same c.1)
-
-and_lt : (m n : ℕ) → m < 2 ^ 32 → n < 2 ^ 32 → bit_and m n < 2 ^ 32
-and_lt m n hm hn = let le = and_le_l m n in omega (arith, le, hm)
 
 pub and_computes : (t : IntegerType) → is_promoted t ≡ true → Computes arithmetic-is.BitAnd t
 unfolding operated_words

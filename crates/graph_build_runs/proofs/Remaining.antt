@@ -2,7 +2,7 @@
 use Rattle.std.proofs.Common.{◌≡◌, ℕ, suc, ◌/◌, ◌%◌, ◌^◌, ◌<◌, ◌≤◌, ◌⊎◌, inl, inr, Bool, true, false, not, ◌&&◌, Option, Some, None, refl, sym, ap, ◌∙◌, arith, ℤ, pos, negsuc, ◌+ℤ◌, ◌-ℤ◌, ◌*ℤ◌, bit_and, bit_or, bit_xor}
 use Rattle.std.specs.Prelude.{◌==◌, if◌then◌else◌, int_le, int_lt, nat_le, int_div, int_rem, unsigned_abs}
 use Rattle.std.proofs.lemmas.Int.{ints, rem_below}
-use Rattle.std.proofs.lemmas.Nat.{and_le_l, or_lt, xor_lt, shr_le, mod_below}
+use Rattle.std.proofs.lemmas.Nat.{or_lt, xor_lt, shr_le, mod_below}
 use Rattle.std.proofs.lemmas.Bool.{leb-true}
 use Rattle.std.proofs.lemmas.Bool.Decides.{nat_tests}
 use Rattle.c_tree.specs.declared.types.IntegerType.{IntegerType}
@@ -20,6 +20,8 @@ use Rattle.graph_build_runs.proofs.Words.{both_true, in_range_is}
 use Rattle.graph_build_runs.proofs.Arithmetic.{IsRight, Computes, add_computes, subtract_computes}
 use Rattle.graph_build_runs.proofs.Fragment.{kept_holds}
 use Rattle.graph_build_runs.proofs.Products.{multiply_computes, divide_computes, remainder_computes, left_computes, right_computes, and_computes, or_computes, xor_computes}
+use Rattle.base_laws.proofs.Numbers.{and_lt}
+use Rattle.base_laws.proofs.Options.{if_none as none_or, remainder_is as some_or}
 
 -- what an operator gives of numbers of its type is of its type
 abbrev pub Remains : declared.Arithmetic → IntegerType → Type 0
@@ -46,15 +48,6 @@ int_below n h = leb-true n 2147483647 (both_true (int_le (negsuc 2147483647) (ne
 
 unsigned_bound : (n : ℕ) → holds unsigned_type (pos n) ≡ true → n ≤ 4294967295
 unsigned_bound n h = leb-true n 4294967295 (both_true (int_le (pos 0) (pos n)) (int_le (pos n) (pos 4294967295)) h).1
-
--- an operator that is defined by the range of its results
-none_or : (c : Bool) (r : Option ℤ) (z : ℤ) → (if c then None else r) ≡ Some z → r ≡ Some z
-none_or true r z h = cc
-none_or false r z h = h
-
-some_or : (c : Bool) (y z : ℤ) → (if c then Some y else None) ≡ Some z → y ≡ z
-some_or true y z h = cc
-some_or false y z h = cc
 
 -- a remainder of numbers with a sign
 near_holds : (r b : ℤ) → holds int_type b ≡ true → unsigned_abs r < unsigned_abs b → holds int_type r ≡ true
@@ -128,9 +121,6 @@ unsigned_of_two f below a b z h =
     let same : on_bits unsigned_type f a b ≡ z = cc in
     let lt = below (modulo (2 ^ 32) a) (modulo (2 ^ 32) b) (bits_below a) (bits_below b) in
     ap (holds unsigned_type) (sym same) ∙ between_unsigned (f (modulo (2 ^ 32) a) (modulo (2 ^ 32) b)) (omega (arith, lt))
-
-and_lt : (m n : ℕ) → m < 2 ^ 32 → n < 2 ^ 32 → bit_and m n < 2 ^ 32
-and_lt m n hm hn = let le = and_le_l m n in omega (arith, le, hm)
 
 -- in a type with a sign
 int_remains : (o : declared.Arithmetic) (a b z : ℤ) → holds int_type a ≡ true → (holds int_type b ≡ true) ⊎ ((o ≡ arithmetic-is.ShiftLeft) ⊎ (o ≡ arithmetic-is.ShiftRight)) → calculated o Int a b ≡ Some z → holds int_type z ≡ true

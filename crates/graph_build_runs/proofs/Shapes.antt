@@ -23,6 +23,7 @@ use Rattle.graph_build_runs.proofs.Typing.{HasKind}
 use Rattle.graph_build_runs.proofs.Types.{value_is}
 use Rattle.graph_build_runs.proofs.TwoPointers.{IsPointer}
 use Rattle.graph_build_runs.proofs.ValuesStand.{IsWhole, IsWholeIn}
+pub use Rattle.base_laws.proofs.Booleans.{four_true, three_true, two_true}
 
 -- an array's type, and that of a pointer's object
 pub array_of : (o : ObjectType) → is_array o ≡ true → (el : Scalar) × (count : ℕ) × (o ≡ of-object.Array el count)
@@ -77,24 +78,6 @@ pub scalar_typed : (k : Kind) → is_scalar k ≡ true → is_typed k ≡ true
 scalar_typed Wrong h = cc
 scalar_typed NullPointer h = refl
 scalar_typed (Of t) h = refl
-
-pub two_true : (a b : Bool) → a && b ≡ true → (a ≡ true) × (b ≡ true)
-two_true true true h = (refl, refl)
-two_true false b h = cc
-two_true true false h = cc
-
-pub three_true : (a b c : Bool) → a && b && c ≡ true → (a ≡ true) × (b ≡ true) × (c ≡ true)
-three_true true true true h = (refl, refl, refl)
-three_true false b c h = cc
-three_true true false c h = cc
-three_true true true false h = cc
-
-pub four_true : (a b c d : Bool) → a && b && c && d ≡ true → (a ≡ true) × (b ≡ true) × (c ≡ true) × (d ≡ true)
-four_true true true true true h = (refl, refl, refl, refl)
-four_true false b c d h = cc
-four_true true false c d h = cc
-four_true true true false d h = cc
-four_true true true true false h = cc
 
 -- The type that a tree tells of a value of a kind: the same, but that of a null pointer is some pointer's.
 abbrev pub Shape : Kind → ValueType → Type 0

@@ -1,15 +1,11 @@
 -- No temporary is among the scalars that the code of an expression writes.
-use Rattle.std.proofs.Common.{◌≡◌, ℕ, ◌<◌, ◌≤◌, Option, Some, None, Bool, true, false, ◌||◌, refl, arith}
-use Rattle.std.specs.Prelude.{◌==◌}
+use Rattle.std.proofs.Common.{◌≡◌, ℕ, ◌<◌, ◌≤◌, Option, Some, None, false, ◌||◌, refl, arith}
 use Rattle.std.proofs.lemmas.Bool.Decides.{nat_tests}
 use Rattle.c_tree.specs.declared.object_type.Object.TheVariants as object
 use Rattle.c_tree.specs.TypedExpressions.{RvalueTree, LvalueTree, ArgumentTrees, Constant, Null, Load, Decay, AddressOf, Convert, Discard, Signed, Not, Arithmetic, Compare, ComparePointers, Move, MoveFrom, Difference, And, Or, Conditional, Comma, Assign, Update, UpdatePointer, Step, StepPointer, Call, Named, Target, Element, ElementFrom, none, first}
 use Rattle.graph_build_names.specs.Names.{Names, scalar_of, scalar_named}
 use Rattle.graph_build_names.specs.Writes.{is_that, writes, writes_within, writes_any}
-
-pub neither : (a b : Bool) → a ≡ false → b ≡ false → a || b ≡ false
-neither false b ha hb = hb
-neither true b ha hb = cc
+use Rattle.base_laws.proofs.Booleans.{or_none as neither}
 
 module _ (n : Names) (size : ℕ) (low : (v k : ℕ) → scalar_of n v ≡ Some k → k < size) (y : ℕ) (le : size ≤ y) where
   no_scalar : (v : ℕ) (o : Option ℕ) → scalar_of n v ≡ o → is_that y o ≡ false

@@ -37,6 +37,7 @@ use Rattle.graph_build_runs.specs.Correspondence.{SameObject, SamePointer, point
 use Rattle.graph_build_runs.proofs.Elements.{word_element, element_size}
 use Rattle.graph_build_runs.proofs.StaticObjects.{object_count, static_number, relocation_of, static_of, literal_of, statics_of, element_same, count_same, unit_object, unit_there, unit_length, static_there, literal_there, unit_static, unit_literal}
 use Rattle.graph_build_runs.proofs.StaticValues.{IsAddress, AreAddresses, Bytes, StaticFits, taken_all, dropped_all, spelled_zero, both_spell, numbered}
+use Rattle.base_laws.proofs.Numbers.{times_within}
 
 pub numbers_length : (from count : ℕ) → length (numbers_from from count) ≡ count
 numbers_length from zero = refl
@@ -44,9 +45,6 @@ numbers_length from (suc count) = ap (λ n. suc n) (numbers_length (from + 1) co
 
 no_zero : (n : ℕ) → suc n == 0 ≡ false
 no_zero n = grind (arith, nat_tests)
-
-times_within : (i count size : ℕ) → i ≤ count → i * size ≤ count * size
-times_within i count size le = grind (arith, le)
 
 module _ (p : ProgramTree) where
   -- both memories as a run begins

@@ -1,5 +1,5 @@
 -- Writes where a pointer points: the unit's store does what the source's does.
-use Rattle.std.proofs.Common.{◌≡◌, ◌≢◌, ℕ, ◌<◌, List, ◌∷◌, length, Option, Some, None, Bool, true, false, not, ◌&&◌, slice_set, refl, sym, ap, ◌∙◌, subst, arith}
+use Rattle.std.proofs.Common.{◌≡◌, ◌≢◌, ℕ, ◌<◌, List, ◌∷◌, length, Option, Some, None, Bool, true, false, not, slice_set, refl, sym, ap, ◌∙◌, subst, arith}
 use Rattle.std.specs.Prelude.{if◌then◌else◌, nat_le, option_map, option_and_then}
 use Rattle.std.specs.Option.{option_map_or}
 use Rattle.std.proofs.lemmas.Bool.Decides.{nat_tests}
@@ -37,18 +37,13 @@ use Rattle.graph_build_runs.proofs.Access.{leads_to, index_is}
 use Rattle.graph_build_runs.proofs.Storing.{fits_stored}
 use Rattle.graph_build_runs.proofs.Places.{pointed_in}
 use Rattle.graph_build_runs.proofs.Loading.{pointed_same}
+use Rattle.base_laws.proofs.Booleans.{three_true}
 
 -- an object that is not over has not ended
 pub not_over : (phase : Phase) → not (is_over phase) ≡ true → phase ≢ Ended
 not_over Initialising h = λ e. cc
 not_over Live h = λ e. cc
 not_over Ended h = cc
-
-three_true : (a b c : Bool) → a && b && c ≡ true → (a ≡ true) × (b ≡ true) × (c ≡ true)
-three_true true true true h = (refl, refl, refl)
-three_true false b c h = cc
-three_true true false c h = cc
-three_true true true false h = cc
 
 -- an object that may be written at an offset is open, and has a value there
 pub writable_there : (o : SourceObject) (offset : ℕ) → is_writable o offset ≡ true → (o.phase ≢ Ended) × (index_at o offset < length o.values)

@@ -6,11 +6,10 @@ use Rattle.graph_core.specs.Paths.{Among, front, behind, History, Way, stays, pa
 use Rattle.graph_core.specs.Uses.{targets_of}
 use Rattle.graph_core.specs.Validity.{AreAllDifferent, HasPlace, markers_in, markers_of, markers_of_blocks, place_behind}
 use Rattle.graph_core.specs.WellMarked.{StandsIn, InPlace, here, behind as further}
+use Rattle.base_laws.proofs.Lists.{none_behind, one_behind}
+use Rattle.base_laws.proofs.Options.{same_some}
 
 -- ---- What a path passed
-
-same_some : {A : Type 0} {x y : A} → Some x ≡ Some y → x ≡ y
-same_some e = cc
 
 -- A marker was passed.
 pub record IsMarked (h : History) : Type 0 where
@@ -46,14 +45,6 @@ pub record StandsSo (g : Graph) (b0 : Block) (h : History) (n : ℕ) (rest : Lis
   pub end : e ≡ block.end
   pub only : n ≡ 0 → passed ≡ [] → h ≡ []
   pub mode : IsStart b0 h n rest ⊎ IsMarked h
-
-none_behind : {A : Type 0} (xs : List A) (x : A) → xs ++ x ∷ [] ≡ [] → ⊥
-none_behind [] x e = cc
-none_behind (y ∷ xs) x e = cc
-
-one_behind : {A : Type 0} (xs : List A) (x : A) (ys : List A) → xs ++ x ∷ ys ≡ (xs ++ x ∷ []) ++ ys
-one_behind [] x ys = refl
-one_behind (y ∷ xs) x ys = ap (λ l. y ∷ l) (one_behind xs x ys)
 
 module _ (g : Graph) (b0 : Block) (there0 : slice_get g.blocks 0 ≡ Some b0) (rest0 : List Instruction) (begins : b0.instructions ≡ Marker g.entry ∷ rest0) (first : (n : ℕ) (b : Block) → slice_get g.blocks n ≡ Some b → Among 0 (targets_of b.end) → ⊥) where
   -- What passes the first instruction passes the entry's marker.

@@ -7,11 +7,7 @@ use Rattle.graph_core.specs.Runs.{Activation}
 use Rattle.graph_homes.specs.declared.home.Home.{Home}
 use Rattle.graph_homes.specs.Homed.{HomedForm, home_of, placed_instruction, placed_block, placed_graph, placed_graphs, over_homes}
 use Rattle.graph_homes.specs.Owned.{HasMarker, IsPlaceOf, IsActivation, IsOfFunction}
-
-from_map : {A B : Type 0} (f : A → B) (xs : List A) (k : ℕ) (y : B) → slice_get (map f xs) k ≡ Some y → (x : A) × (slice_get xs k ≡ Some x) × (f x ≡ y)
-from_map f [] k y is = absurd (none-some y is)
-from_map f (x ∷ xs) zero y is = (x, refl, same_Some (f x) y is)
-from_map f (x ∷ xs) (suc k) y is = from_map f xs k y is
+use Rattle.base_laws.proofs.Lists.{from_map}
 
 among_map : {A B : Type 0} (f : A → B) (xs : List A) (y : B) → Among y (map f xs) → (x : A) × Among x xs × (f x ≡ y)
 among_map f [] y among = elim among [ ]

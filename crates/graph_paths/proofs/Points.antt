@@ -1,5 +1,5 @@
 -- Points that paths reach, by the blocks to which ways lead.
-use Rattle.std.proofs.Common.{◌≡◌, ℕ, ◌<◌, Bool, true, Some, List, [], ◌∷◌, ◌++◌, length, refl, sym, ap, ◌∙◌, subst, append_assoc}
+use Rattle.std.proofs.Common.{◌≡◌, ℕ, Bool, true, Some, List, [], ◌∷◌, ◌++◌, length, refl, sym, ◌∙◌, subst, append_assoc}
 use Rattle.std.specs.Prelude.{slice_get}
 use Rattle.std.proofs.lemmas.Option.{slice_get_within}
 use Rattle.graph_core.specs.declared.value.Value.{Value}
@@ -8,6 +8,7 @@ use Rattle.graph_core.specs.Graphs.{Instruction, End, Block, Graph}
 use Rattle.graph_core.specs.Uses.{targets_of}
 use Rattle.graph_core.specs.Paths.{Passed, History, Among, Way, stays, passes, goes, Path, path}
 use Rattle.graph_paths.specs.Reached.{IsReached, IsLed, entry, leads, AreLed}
+use Rattle.base_laws.proofs.Lists.{append_nil}
 
 module _ {g : Graph} where
   pub reached_behind : {n : ℕ} {i : Instruction} {rest : List Instruction} {e : End} → IsReached g n (i ∷ rest) e → Value → IsReached g n rest e
@@ -32,10 +33,6 @@ module _ {g : Graph} where
   pub reached_along : (n : ℕ) (before rest : List Instruction) (e : End) → IsReached g n (before ++ rest) e → IsReached g n rest e
   reached_along n [] rest e r = r
   reached_along n (i ∷ before) rest e r = reached_along n before rest e (reached_behind r Odd)
-
-append_nil : {A : Type 0} (xs : List A) → xs ++ [] ≡ xs
-append_nil [] = refl
-append_nil (x ∷ xs) = ap (λ ys. x ∷ ys) (append_nil xs)
 
 module _ (g : Graph) where
   -- where a way leads, a path comes

@@ -1,28 +1,17 @@
 -- What a meet of sets says of their numbers: by union those on some path, by intersection those on every path.
-use Rattle.std.proofs.Common.{◌≡◌, ℕ, ◌⊎◌, inl, inr, ◌↔◌, Bool, true, false, true≢false, refl, sym, ap, ◌∙◌}
-use Rattle.std.specs.Prelude.{◌||◌, ◌&&◌}
+use Rattle.std.proofs.Common.{◌≡◌, ℕ, inl, inr, ◌↔◌, Bool, true, false, true≢false, refl, sym, ap, ◌∙◌}
+use Rattle.std.specs.Prelude.{◌&&◌}
 use Rattle.std.specs.Cmp.{nat_cmp_total}
 use Rattle.std.specs.FinSet.{contains, union, intersection, contains-union, contains-intersection}
 use Rattle.graph_solve_problem.specs.Numbers.{Numbers}
 use Rattle.graph_solve_problem.specs.Problem.{DataFlow}
 use Rattle.graph_solve_problem.specs.Paths.{ControlFlow, Path, along, Comes, Leaves}
 use Rattle.graph_solve_problem.specs.Meets.{SomeMeet, one, both, IsMeetOf}
-
-either : (a b : Bool) → (a || b) ≡ true → (a ≡ true) ⊎ (b ≡ true)
-either true b e = inl refl
-either false b e = inr e
-
-or_true : (a b : Bool) → b ≡ true → (a || b) ≡ true
-or_true true b e = refl
-or_true false b e = e
+use Rattle.base_laws.proofs.Booleans.{and_all, either, or_right_again as or_true}
 
 and_parts : (a b : Bool) → (a && b) ≡ a → a ≡ true → b ≡ true
 and_parts true b e h = e
 and_parts false b e h = absurd (true≢false (sym h))
-
-and_all : (a b : Bool) → a ≡ true → b ≡ true → (a && b) ≡ true
-and_all true b e h = h
-and_all false b e h = absurd (true≢false (sym e))
 
 module _ (P : Numbers → Type 0) (x : Numbers) (q : ℕ) where
   from_some : {y : Numbers} → SomeMeet union P y → contains y q ≡ true → (v : Numbers) × P v × (contains v q ≡ true)

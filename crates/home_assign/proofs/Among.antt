@@ -4,17 +4,11 @@ use Rattle.std.specs.List.{AllByRecursion}
 use Rattle.graph_homes.specs.declared.home.Home.{Home}
 use Rattle.graph_homes.specs.declared.home.Home.TheVariants.{Register, Slot}
 use Rattle.graph_homes.specs.Homed.{IsHomeAmong}
+use Rattle.base_laws.proofs.Lists.{all_one_more, both_all as all_append}
 
 pub among_more : (m n : ℕ) → m ≤ n → (home : Home) → IsHomeAmong m home → IsHomeAmong n home
 among_more m n le (Register r) is = is
 among_more m n le (Slot k) is = omega (arith, le, is)
-
-pub all_append : {A : Type 0} (P : A → Type 0) (xs ys : List A) → AllByRecursion P xs → AllByRecursion P ys → AllByRecursion P (xs ++ ys)
-all_append P [] ys a b = b
-all_append P (x ∷ xs) ys a b = (a.0, all_append P xs ys a.1 b)
-
-pub all_one_more : {A : Type 0} (P : A → Type 0) (xs : List A) (x : A) → AllByRecursion P xs → P x → AllByRecursion P (xs ++ x ∷ [])
-all_one_more P xs x a p = all_append P xs (x ∷ []) a (p, tt)
 
 pub all_among_more : (m n : ℕ) → m ≤ n → (homes : List Home) → AllByRecursion (IsHomeAmong m) homes → AllByRecursion (IsHomeAmong n) homes
 all_among_more m n le [] all = tt

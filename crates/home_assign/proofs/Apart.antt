@@ -2,8 +2,7 @@
 use Rattle.std.proofs.Common.{◌≡◌, ℕ, zero, suc, ◌<◌, ◌==◌, inl, inr, false, Option, Some, List, [], ◌∷◌, length, take, sym, ap, ◌∙◌, refl, arith}
 use Rattle.std.specs.Prelude.{slice_get}
 use Rattle.std.specs.Option.{option_map_or}
-use Rattle.std.proofs.lemmas.Bool.{cases_order, eqb-true, ne_eqb, eq-eqb, false_from_ne_true}
-use Rattle.std.proofs.lemmas.Bool.Decides.{eqb_tells}
+use Rattle.std.proofs.lemmas.Bool.{cases_order, eqb-true, ne_eqb, false_from_ne_true}
 use Rattle.std.proofs.lemmas.Option.{same_Some, slice_get-get_or, slice_get_within}
 use Rattle.debug_records.specs.declared.mode.Mode.{Mode}
 use Rattle.debug_records.specs.declared.mode.Mode.TheVariants.{Slots, Registers}
@@ -13,9 +12,7 @@ use Rattle.graph_homes.specs.declared.home.Home.TheVariants.{Register, Slot}
 use Rattle.graph_homes.specs.Homes.{is_same_home}
 use Rattle.home_assign.specs.Clashes.{Interfere}
 use Rattle.home_assign.specs.Rule.{AreApart, AreHomes, IsFree, IsHome, joined, first, slot, slots_in}
-
-same_turned : (a b : ℕ) → (a == b) ≡ (b == a)
-same_turned a b = elim (eqb_tells a b) [ inl h ↦ h.0 ∙ sym (eq-eqb b a (sym h.1)) | inr h ↦ h.0 ∙ sym (ne_eqb b a (λ q. h.1 (sym q))) ]
+use Rattle.base_laws.proofs.Numbers.{same_turned}
 
 turned : (a b : Home) → is_same_home a b ≡ is_same_home b a
 turned (Register r) (Register q) = same_turned r q

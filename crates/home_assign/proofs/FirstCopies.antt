@@ -1,9 +1,8 @@
 -- The first copies, as one more is met.
-use Rattle.std.proofs.Common.{◌≡◌, ℕ, ◌≤◌, ◌==◌, ◌&&◌, ◌||◌, ◌⊎◌, ◌↔◌, inl, inr, Bool, true, false, not, true≢false, Option, Some, None, List, [], ◌∷◌, length, map, take, drop, get_or, ◌-◌, ◌<◌, sym, ap, ◌∙◌, refl, subst, arith}
+use Rattle.std.proofs.Common.{◌≡◌, ℕ, ◌≤◌, ◌==◌, ◌&&◌, ◌||◌, ◌⊎◌, inl, inr, Bool, true, false, true≢false, Option, Some, None, List, [], ◌∷◌, length, map, take, drop, get_or, ◌-◌, ◌<◌, sym, ap, ◌∙◌, refl, subst, arith}
 use Rattle.std.specs.Prelude.{if◌then◌else◌, is_some}
-use Rattle.std.proofs.lemmas.Bool.{and_from, and_parts, cond-true, cond-false, eq-eqb, eqb-true, or_cases, or_left, or_right, false_from_ne_true}
+use Rattle.std.proofs.lemmas.Bool.{and_from, and_parts, cond-true, eq-eqb, eqb-true, or_cases, or_left, or_right}
 use Rattle.std.proofs.lemmas.Option.{same_Some, none-some}
-use Rattle.std.proofs.Math.Seq.{take-length}
 use Rattle.graph_core.specs.Graphs.{Name, Constant, StaticAddress, Instruction, Marker, Note, Move, Operate, Truncate, Same, Address, Load, Store, Zero, CopyWords, Call, Block}
 use Rattle.graph_core.specs.Points.{is_place}
 use Rattle.graph_core.specs.Validity.{place_behind}
@@ -11,6 +10,7 @@ use Rattle.graph_homes.specs.Reused.{first_among, first_copy, or_else}
 use Rattle.home_assign.specs.declared.copies.Copies.{Copies}
 use Rattle.home_assign.specs.Copies.{AreCopies, AreSoFar, IsOwn, copy_at}
 use Rattle.home_assign.specs.Pairs.{has}
+use Rattle.base_laws.proofs.Lists.{rest_is}
 
 pub or_else_twice : {A : Type 0} (a b c : Option A) → or_else (or_else a b) c ≡ or_else a (or_else b c)
 or_else_twice None b c = refl
@@ -143,9 +143,6 @@ so_far_none moved scalars whole c unseen none = record {
 }
 
 -- ---- Instruction by instruction, and block by block
-
-rest_is : {A : Type 0} (y : A) (left : List A) → take (length (y ∷ left) - 1) (drop 1 (y ∷ left)) ≡ left
-rest_is y left = (let count : length (y ∷ left) - 1 ≡ length left = omega arith in ap (λ n. take n left) count ∙ take-length left)
 
 pub among_next : {A : Type 0} (view : A → Instruction) (left : List A) (i d : A) → 1 ≤ length left → i ≡ get_or left 0 d → (place : Option ℕ) (p x : ℕ)
     → first_among p x place (map view left) ≡ or_else (first_among p x place (view i ∷ [])) (first_among p x (place_behind (view i ∷ []) place) (map view (take (length left - 1) (drop 1 left))))

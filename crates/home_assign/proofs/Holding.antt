@@ -1,9 +1,9 @@
 -- The names that have a register, home by home, and what is so of some of them.
-use Rattle.std.proofs.Common.{◌≡◌, ℕ, zero, suc, ◌+◌, ◌<◌, ◌==◌, ◌&&◌, ◌||◌, ◌↔◌, cond, not, inl, inr, Bool, true, false, true≢false, Option, Some, None, Vec, Global, List, [], ◌∷◌, ◌++◌, length, get_or, refl, sym, ap, ◌∙◌, subst, arith, add-zero, zero-add}
+use Rattle.std.proofs.Common.{◌≡◌, ℕ, zero, suc, ◌+◌, ◌<◌, ◌==◌, ◌↔◌, cond, not, inl, inr, Bool, true, false, true≢false, Some, Vec, Global, List, [], ◌∷◌, ◌++◌, length, get_or, refl, sym, ap, ◌∙◌, arith}
 use Rattle.std.specs.Prelude.{◌≢◌, slice_get}
 use Rattle.std.specs.List.{list_any}
 use Rattle.std.proofs.Math.ListN.{set}
-use Rattle.std.proofs.lemmas.Bool.{cases_eq, eq-eqb, eqb-true, ne_eqb, cond-true, cond-false, or_cases, or_left, or_right, and_from, and_parts}
+use Rattle.std.proofs.lemmas.Bool.{cases_eq, eq-eqb, ne_eqb, cond-true, cond-false, or_cases, or_left, or_right, and_from, and_parts}
 use Rattle.std.proofs.lemmas.Bool.Decides.{eqb_tells}
 use Rattle.std.proofs.lemmas.List.{length-set, get_or-set_same, get_or-set_other}
 use Rattle.std.proofs.lemmas.Option.{same_Some, slice_get_within}
@@ -13,6 +13,7 @@ use Rattle.home_assign.specs.declared.pairs.Pairs.{Pairs}
 use Rattle.home_assign.specs.Holders.{AreHolders, names_from}
 use Rattle.home_assign.specs.Pairs.{has}
 use Rattle.home_assign.specs.Sharing.{IsForeign, is_other}
+use Rattle.base_laws.proofs.Booleans.{not_true}
 
 -- with a further name
 abbrev names_put : (n r : ℕ) → Home → List ℕ → List ℕ
@@ -101,10 +102,6 @@ module _ (f : ℕ → Bool) (r : ℕ) where
         | inl same ↦ ap (list_any f) (cond-true (q == r) (x ∷ names_from (x + 1) r homes) (names_from (x + 1) r homes) same.0) ∙ or_right (f x) (list_any f (names_from (x + 1) r homes)) later
         | inr other ↦ ap (list_any f) (cond-false (q == r) (x ∷ names_from (x + 1) r homes) (names_from (x + 1) r homes) other.0) ∙ later
       ]
-
-not_true : (b : Bool) → not b ≡ true → b ≡ false
-not_true true e = absurd (true≢false (sym e))
-not_true false e = refl
 
 not_false : (b : Bool) → b ≡ false → not b ≡ true
 not_false true e = absurd (true≢false e)

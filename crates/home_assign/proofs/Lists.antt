@@ -1,15 +1,10 @@
 -- Members of lists, of which something holds throughout.
-use Rattle.std.proofs.Common.{◌≡◌, ℕ, zero, suc, ◌⊎◌, inl, inr, true, Some, List, [], ◌∷◌, ◌++◌, refl, subst, arith}
-use Rattle.std.specs.Prelude.{◌==◌, slice_get, Contains}
+use Rattle.std.proofs.Common.{◌≡◌, ℕ, zero, suc, ◌⊎◌, inl, inr, true, List, [], ◌∷◌, ◌++◌, refl, arith}
+use Rattle.std.specs.Prelude.{◌==◌, Contains}
 use Rattle.std.specs.List.{AllByRecursion, list_any}
 use Rattle.std.proofs.lemmas.Bool.{or_left, or_right, eq-eqb}
 use Rattle.graph_core.specs.Paths.{Among, front, behind}
-
--- It holds of each by its number, and of what stands behind others.
-pub all_at : {A : Type 0} (P : A → Type 0) (xs : List A) (n : ℕ) (x : A) → AllByRecursion P xs → slice_get xs n ≡ Some x → P x
-all_at P [] n x all e = cc
-all_at P (y ∷ xs) zero x all e = let same : y ≡ x = cc in subst P same all.0
-all_at P (y ∷ xs) (suc n) x all e = all_at P xs n x all.1 e
+pub use Rattle.base_laws.proofs.Lists.{all_at}
 
 pub all_behind : {A : Type 0} (P : A → Type 0) (before : List A) (x : A) (rest : List A) → AllByRecursion P (before ++ x ∷ rest) → P x
 all_behind P [] x rest all = all.0

@@ -1,11 +1,12 @@
 -- The registers that may be homes, by their numbers.
-use Rattle.std.proofs.Common.{◌≡◌, ℕ, zero, suc, ◌+◌, ◌-◌, ◌<◌, ◌⊎◌, inl, inr, Some, List, [], ◌∷◌, map, sym, ap, ◌∙◌, refl, arith}
+use Rattle.std.proofs.Common.{◌≡◌, ℕ, zero, suc, ◌+◌, ◌-◌, ◌<◌, ◌⊎◌, inl, inr, Some, List, map, sym, ap, ◌∙◌, refl, arith}
 use Rattle.std.specs.Prelude.{slice_get}
-use Rattle.std.specs.List.{AllByRecursion, range_with_len}
+use Rattle.std.specs.List.{range_with_len}
 use Rattle.std.proofs.lemmas.Option.{same_Some, slice_get-get_or, slice_get_within}
 use Rattle.bit_rows.proofs.Bits.{at_index}
 use Rattle.graph_homes.specs.Frames.{home_registers}
 use Rattle.graph_homes.specs.Homed.{IsHomeRegister}
+pub use Rattle.base_laws.proofs.Lists.{all_there as all_at}
 
 behind_first : List ℕ
 behind_first = map (λ k. 18 + k) (range_with_len 0 14)
@@ -35,9 +36,3 @@ number_of_home r (inl e) = (0, ap (λ q. Some q) (sym e))
 number_of_home r (inr h) =
     let e : 18 + (r - 18) ≡ r = omega (arith, h.0) in
     (suc (r - 18), register_at (r - 18) (omega (arith, h.0, h.1)) ∙ ap (λ q. Some q) e)
-
--- what is so of all is so of each
-pub all_at : {A : Type 0} (P : A → Type 0) (xs : List A) (k : ℕ) (x : A) → AllByRecursion P xs → slice_get xs k ≡ Some x → P x
-all_at P [] k x all is = absurd (omega (arith, slice_get_within [] k x is))
-all_at P (y ∷ xs) zero x all is = rw (sym (same_Some y x is)) all.0
-all_at P (y ∷ xs) (suc k) x all is = all_at P xs k x all.1 is

@@ -1,6 +1,5 @@
 -- Homes of all functions of a unit.
 use Rattle.std.proofs.Common.{◌≡◌, inl, inr, ℕ, zero, suc, Some, ◌-◌, ◌<◌, ◌≤◌, List, [], ◌∷◌, ◌++◌, length, refl, sym, ap, ◌∙◌, subst, arith, append_assoc, get_or, map, take, drop}
-use Rattle.std.proofs.Math.Seq.{take-length}
 use Rattle.std.specs.List.{AllByRecursion}
 use Rattle.graph_homes.specs.declared.home.Home.{Home}
 use Rattle.graph_homes.specs.declared.home.Home.TheVariants.{Register, Slot}
@@ -24,6 +23,7 @@ use Rattle.home_assign.specs.Units.{AreChangesOfEach, AreHomesOfEach, AreLoggedO
 use Rattle.home_assign.proofs.Apart.{home_or, homes_apart}
 use Rattle.home_assign.proofs.Numbers.{all_at}
 use Rattle.home_assign.proofs.Sharings.{IsOf, all_told, ordered_pairs}
+use Rattle.base_laws.proofs.Lists.{append_nil, rest_is}
 
 all_may : (u : UnitForm) (gs : List Graph) → total (λ (g : Graph). length g.blocks) gs ≤ most_blocks → AllByRecursion (IsGraph u) gs → AllByRecursion IsHomeable gs
 all_may u [] few all = tt
@@ -49,15 +49,8 @@ left_next mode graphs homes all g left new e are by (leaves go) =
     subst P (sym e) (leaves (λ more of. (let Q : List (List Home) → Type 0 = λ hs. AreHomesOfEach mode graphs hs in
     subst Q (sym (append_assoc homes (new ∷ []) more)) (go (new ∷ more) (are, by, of)))))
 
-append_nil : {A : Type 0} (xs : List A) → xs ++ [] ≡ xs
-append_nil [] = refl
-append_nil (x ∷ xs) = ap (λ ys. x ∷ ys) (append_nil xs)
-
 pub left_none : (mode : Mode) (graphs : List Graph) (homes : List (List Home)) → Left mode graphs homes [] → AreHomesOfEach mode graphs homes
 left_none mode graphs homes (leaves go) = (let Q : List (List Home) → Type 0 = λ hs. AreHomesOfEach mode graphs hs in subst Q (append_nil homes) (go [] tt))
-
-rest_is : {A : Type 0} (y : A) (left : List A) → take (length (y ∷ left) - 1) (drop 1 (y ∷ left)) ≡ left
-rest_is y left = (let count : length (y ∷ left) - 1 ≡ length left = omega arith in ap (λ n. take n left) count ∙ take-length left)
 
 pub may_step : {A : Type 0} (P : Graph → Type 0) (view : A → Graph) (left : List A) → 1 ≤ length left → AllByRecursion P (map view left) → AllByRecursion P (map view (take (length left - 1) (drop 1 left)))
 may_step P view [] le all = absurd (omega arith)

@@ -11,6 +11,7 @@ use Rattle.image_form.specs.declared.tables.Place.{Place as ImagePlace}
 use Rattle.image_build_tables.specs.Tables.{Spot, spot}
 use Rattle.image_build.specs.Tables.{spot_of, visible_from}
 use Rattle.image_build.proofs.Listed.{seen_from}
+use Rattle.base_laws.proofs.Lists.{map_twice}
 
 -- what is visible place by place
 pub seen_same : (place : ℕ) (rows : List Row) → visible_from place rows ≡ seen_from place (map (λ (r : Row). r.visible) rows)
@@ -30,11 +31,6 @@ variables_follow p h =
     let d = and_parts (ordered && follow 0 (length p.automatics) p.functions && is_main (slice_get p.functions p.main)) (are_objects p) c.0 in
     let e = and_parts (ordered && follow 0 (length p.automatics) p.functions) (is_main (slice_get p.functions p.main)) d.0 in
     (and_parts ordered (follow 0 (length p.automatics) p.functions) e.0).1
-
--- two maps after one another
-map_twice : {A B C : Type 0} (f : B → C) (g : A → B) (all : List A) → map f (map g all) ≡ map (λ a. f (g a)) all
-map_twice f g [] = refl
-map_twice f g (a ∷ all) = ap (λ l. f (g a) ∷ l) (map_twice f g all)
 
 -- the functions of places, as an image with the program's tables has them
 pub functions_of : (p : ProgramTree) (m : Form) → map spot m.places ≡ map spot_of (rows_of_program p) → map (λ (q : ImagePlace). q.function) m.places ≡ map (λ (q : Place). q.function) (places_of_program p)

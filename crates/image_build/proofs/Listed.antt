@@ -9,6 +9,7 @@ use Rattle.event_runs.specs.Agreement.{Pairs}
 use Rattle.image_form.specs.declared.verdicts.VisibleRow.{VisibleRow}
 use Rattle.image_build_tables.specs.Tables.{Sight, sight}
 use Rattle.stop_engine_view.specs.Rows.{rows_at}
+use Rattle.base_laws.proofs.Lists.{append_nil as behind_none}
 
 -- what is seen at a place
 abbrev pub seen_at : (place : ℕ) → ℕ → Sight
@@ -42,10 +43,6 @@ later first place (seen ∷ more) lt =
     filter-append (λ (z : Sight). z.place == place) (map (seen_at first) seen) (seen_from (first + 1) more)
     ∙ ap (λ l. l ++ filter (λ (z : Sight). z.place == place) (seen_from (first + 1) more)) (others first place seen (λ e. absurd (omega (arith, lt, e))))
     ∙ later (first + 1) place more (omega (arith, lt))
-
-behind_none : {A : Type 0} (xs : List A) → xs ++ [] ≡ xs
-behind_none [] = refl
-behind_none (x ∷ xs) = ap (λ l. x ∷ l) (behind_none xs)
 
 of_place : (first place k : ℕ) (all : List (List ℕ)) (seen : List ℕ) → slice_get all k ≡ Some seen → place ≡ first + k → filter (λ (z : Sight). z.place == place) (seen_from first all) ≡ map (seen_at place) seen
 of_place first place k [] seen is number = absurd (none-some seen is)

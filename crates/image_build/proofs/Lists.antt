@@ -1,36 +1,12 @@
 -- Lists of numbers that ascend, and what stands where in lists.
-use Rattle.std.proofs.Common.{◌≡◌, ℕ, zero, suc, ◌+◌, ◌≤◌, ◌<◌, true, Some, Option, List, [], ◌∷◌, ◌++◌, length, map, slice_get, refl, ap, ◌∙◌, subst, arith, sym}
+use Rattle.std.proofs.Common.{◌≡◌, ℕ, ◌+◌, ◌≤◌, ◌<◌, true, Some, Option, List, [], ◌∷◌, ◌++◌, length, refl, subst, arith, sym}
 use Rattle.std.specs.Prelude.{◌==◌, ◌&&◌, Bool, false, IsSomeAnd}
-use Rattle.std.specs.List.{AllByRecursion}
 use Rattle.std.proofs.lemmas.Bool.{and_parts, eqb-true}
-use Rattle.std.proofs.lemmas.Option.{none-some, same_Some}
 use Rattle.c_type_laws.specs.Orders.{is_numbered}
 use Rattle.graph_core.specs.Paths.{Among, front, behind}
+pub use Rattle.base_laws.proofs.Lists.{all_there as all_at, behind_at, both_all, from_map, front_at}
 
 -- ---- What stands where
-
-pub both_all : {A : Type 0} (P : A → Type 0) (xs ys : List A) → AllByRecursion P xs → AllByRecursion P ys → AllByRecursion P (xs ++ ys)
-both_all P [] ys one two = two
-both_all P (x ∷ xs) ys one two = (one.0, both_all P xs ys one.1 two)
-
-pub all_at : {A : Type 0} (P : A → Type 0) (xs : List A) (k : ℕ) (x : A) → AllByRecursion P xs → slice_get xs k ≡ Some x → P x
-all_at P [] k x all is = absurd (none-some x is)
-all_at P (y ∷ xs) zero x all is = subst P (same_Some y x is) all.0
-all_at P (y ∷ xs) (suc k) x all is = all_at P xs k x all.1 is
-
-pub front_at : {A : Type 0} (xs ys : List A) (k : ℕ) (x : A) → slice_get xs k ≡ Some x → slice_get (xs ++ ys) k ≡ Some x
-front_at [] ys k x is = absurd (none-some x is)
-front_at (y ∷ xs) ys zero x is = is
-front_at (y ∷ xs) ys (suc k) x is = front_at xs ys k x is
-
-pub behind_at : {A : Type 0} (xs ys : List A) (k : ℕ) → slice_get (xs ++ ys) (length xs + k) ≡ slice_get ys k
-behind_at [] ys k = ap (slice_get ys) (omega arith)
-behind_at (x ∷ xs) ys k = let e : length (x ∷ xs) + k ≡ suc (length xs + k) = omega arith in ap (slice_get (x ∷ (xs ++ ys))) e ∙ behind_at xs ys k
-
-pub from_map : {A B : Type 0} (f : A → B) (xs : List A) (k : ℕ) (y : B) → slice_get (map f xs) k ≡ Some y → (x : A) × (slice_get xs k ≡ Some x) × (f x ≡ y)
-from_map f [] k y is = absurd (none-some y is)
-from_map f (x ∷ xs) zero y is = (x, refl, same_Some (f x) y is)
-from_map f (x ∷ xs) (suc k) y is = from_map f xs k y is
 
 pub some_and : {A : Type 0} (o : Option A) (a : A) (P : A → Type 0) → o ≡ Some a → P a → IsSomeAnd o P
 some_and o a P is h = subst (λ z. IsSomeAnd z P) (sym is) h

@@ -16,6 +16,7 @@ use Rattle.graph_homes.specs.Homes.{HoldsOnAllPaths}
 use Rattle.graph_homes.specs.Homed.{HomedForm, home_of}
 use Rattle.home_assign.specs.Alike.{AreShown}
 use Rattle.image_truth_units.proofs.Tables.{all_at}
+use Rattle.base_laws.proofs.Numbers.{no_entry as clash}
 
 -- ---- What is noted
 
@@ -88,9 +89,6 @@ note_test u g r = elim (recipe_test u.statics g r) [
 nothing_behind : {A : Type 0} (all : List A) → slice_get all (length all) ≡ None
 nothing_behind [] = refl
 nothing_behind (a ∷ all) = nothing_behind all
-
-clash : true ≡ false → ⊥
-clash e = cc
 
 -- Where a stop shows the values of the recipes that hold on all paths to it, these are valid: a path leads there, since what is not known would be shown otherwise.
 pub recipe_valid : (h : HomedForm) (a b : Activation) → IsGraph h.unit a.graph → AreShown h a b → (x : ℕ) (r : Recipe) → HoldsOnAllPaths (home_of h a.function) a.graph a.place x r → IsNoteValue h.unit a.graph (Is r)

@@ -14,6 +14,7 @@ use Rattle.c_flow.specs.Rows.{numbers_of, variable_if}
 use Rattle.c_flow.specs.Assigns.{variable_number}
 use Rattle.image_build_tables.specs.Variables.{owned_from, owners_of}
 use Rattle.image_build.proofs.Lists.{Up, up_le, front_at, behind_at}
+use Rattle.base_laws.proofs.Options.{replicate_at}
 
 -- ---- Laws
 
@@ -37,11 +38,6 @@ laws_of p h =
     record { follows = (and_parts ordered follows f.0).1; functions = d.1 }
 
 -- ---- To which function a variable belongs
-
-replicate_at : {A : Type 0} (n k : ℕ) (x : A) → k < n → slice_get (replicate n x) k ≡ Some x
-replicate_at zero k x lt = absurd (omega (arith, lt))
-replicate_at (suc n) zero x lt = refl
-replicate_at (suc n) (suc k) x lt = replicate_at n k x (omega (arith, lt))
 
 reached : (next count : ℕ) (all : List TypedFunctionTree) → follow next count all ≡ true → next ≤ count
 reached next count [] ok = let e = eqb-true next count ok in omega (arith, e)

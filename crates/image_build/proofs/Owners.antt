@@ -1,6 +1,6 @@
 -- To which functions the variables of an image belong.
-use Rattle.std.proofs.Common.{◌≡◌, ℕ, zero, suc, ◌+◌, ◌%◌, ◌<◌, ◌^◌, Bool, true, false, Option, Some, None, List, [], ◌∷◌, ◌++◌, length, map, replicate, slice_get, get_or, refl, sym, ap, subst, ◌∙◌, arith}
-use Rattle.std.specs.Prelude.{◌==◌, ◌&&◌, IsSomeAnd, if◌then◌else◌, unwrap_or}
+use Rattle.std.proofs.Common.{◌≡◌, ℕ, zero, suc, ◌+◌, ◌%◌, ◌<◌, ◌^◌, true, false, Option, Some, None, List, [], ◌∷◌, ◌++◌, length, map, replicate, slice_get, get_or, refl, sym, ap, subst, ◌∙◌, arith}
+use Rattle.std.specs.Prelude.{◌==◌, ◌&&◌, if◌then◌else◌, unwrap_or}
 use Rattle.std.specs.List.{AllByRecursion}
 use Rattle.std.proofs.lemmas.Bool.Decides.{nat_tests}
 use Rattle.std.proofs.lemmas.List.{length-append, length-replicate}
@@ -18,13 +18,9 @@ use Rattle.image_form.specs.declared.variables.Storage.{Storage}
 use Rattle.image_form.specs.declared.variables.Storage.TheVariants.{Static, Frame, Register, Slot}
 use Rattle.image_form.specs.declared.variables.Variable.{Variable}
 use Rattle.image_build_tables.specs.Variables.{owned_from, owner, owners_of}
-
-and_both : (a b : Bool) → a && b ≡ true → (a ≡ true) × (b ≡ true)
-and_both true b h = (refl, h)
-and_both false b h = cc
-
-are_equal : (a b : ℕ) → (a == b) ≡ true → a ≡ b
-are_equal a b h = grind (arith, nat_tests)
+use Rattle.base_laws.proofs.Booleans.{two_true as and_both}
+use Rattle.base_laws.proofs.Lists.{number_there as some_within}
+use Rattle.base_laws.proofs.Numbers.{are_equal}
 
 -- Where the variables of functions follow one another from a number to another, so many belong to them.
 owned_behind : (functions : List TypedFunctionTree) (number next count : ℕ) → follow next count functions ≡ true → next + length (owned_from number functions) ≡ count
@@ -62,11 +58,6 @@ told_below k less =
   where
     differ : (n : ℕ) → n < 4294967295 → (n == 4294967295) ≡ false
     differ n h = grind (arith, nat_tests)
-
-some_within : {A : Type 0} (xs : List A) (k : ℕ) (P : A → Type 0) → IsSomeAnd (slice_get xs k) P → k < length xs
-some_within [] k P h = absurd h
-some_within (x ∷ xs) zero P h = omega arith
-some_within (x ∷ xs) (suc k) P h = let rest = some_within xs k P h in omega (arith, rest)
 
 kept_within : (m : Form) (k : ℕ) (s : Storage) → IsKeptInFunction m k s → k < length m.functions
 kept_within m k (Static address) h = absurd h

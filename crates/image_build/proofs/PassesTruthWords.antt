@@ -1,5 +1,5 @@
 -- What operations and truncations make of words are words, and where a function's names and rows are.
-use Rattle.std.proofs.Common.{◌≡◌, ℕ, zero, suc, ◌+◌, ◌%◌, ◌<◌, subst, arith, Bool, true, false, cond, Some, List, [], ◌∷◌, length, slice_get, refl}
+use Rattle.std.proofs.Common.{◌≡◌, ℕ, zero, suc, ◌+◌, ◌%◌, ◌<◌, subst, arith, Some, List, [], ◌∷◌, length, slice_get, refl}
 use Rattle.std.specs.Prelude.{nat_lt}
 use Rattle.std.proofs.lemmas.Option.{none-some, same_Some}
 use Rattle.rv_emit_steps.proofs.Operations.{register_does}
@@ -12,14 +12,11 @@ use Rattle.word_base.specs.declared.operation.Operation.{Operation}
 use Rattle.word_base.specs.declared.operation.Truncation.{Truncation}
 use Rattle.word_base.specs.declared.operation.Truncation.TheVariants.{Unsigned8, Signed16, Unsigned16, Signed8}
 use Rattle.word_base.specs.WordOperations.{operated, truncated}
+use Rattle.base_laws.proofs.Numbers.{chosen_fits}
 
 -- What an operation makes of words is a word.
 pub operated_fits : (op : Operation) (a b : ℕ) → a < 4294967296 → b < 4294967296 → operated op a b < 4294967296
 operated_fits op a b ha hb = subst (λ x. x < 4294967296) (register_does op a b) (operated_in_range (register_operation op) a b ha hb)
-
-chosen_fits : (b : Bool) (x y : ℕ) → x < 4294967296 → y < 4294967296 → cond b x y < 4294967296
-chosen_fits true x y hx hy = hx
-chosen_fits false x y hx hy = hy
 
 -- What a truncation leaves is a word.
 pub truncated_fits : (t : Truncation) (a : ℕ) → truncated t a < 4294967296

@@ -1,5 +1,5 @@
 -- What a path passed, what each kind of instruction changes, and where a path of a well marked graph stands.
-use Rattle.std.proofs.Common.{◌≡◌, ℕ, zero, suc, ◌<◌, Bool, false, Some, None, Option, List, [], ◌∷◌, ◌++◌, slice_get, refl, subst}
+use Rattle.std.proofs.Common.{◌≡◌, ℕ, ◌<◌, Bool, false, Some, None, Option, List, [], ◌∷◌, slice_get, refl, subst}
 use Rattle.std.specs.Prelude.{◌||◌}
 use Rattle.std.specs.List.{AllByRecursion}
 use Rattle.graph_core.specs.Graphs.{NoteValue, Instruction, Marker, Note, Move, Operate, Truncate, Same, Address, Load, Store, Zero, CopyWords, Call, End, Block, Graph, UnitForm}
@@ -8,9 +8,9 @@ use Rattle.graph_core.specs.Paths.{Passed, History, Way, stays, passes, goes, Pa
 use Rattle.graph_core.specs.Validity.{IsBlock, IsGraph, IsInstruction}
 use Rattle.graph_core.specs.WellMarked.{IsWellMarked}
 use Rattle.graph_core_weights.proofs.Standing.{StandsSo, path_stands}
-
-pub some_same : {A : Type 0} {a b : A} → Some a ≡ Some b → a ≡ b
-some_same e = cc
+use Rattle.base_laws.proofs.Lists.{all_within as all_behind}
+pub use Rattle.base_laws.proofs.Lists.{all_there}
+pub use Rattle.base_laws.proofs.Options.{some_same}
 
 -- ---- What was passed before
 
@@ -71,15 +71,6 @@ kind_of (CopyWords o b w) = plain (record { marker = refl; silent = λ x. refl; 
 kind_of (Call y f all) = plain (record { marker = refl; silent = λ x. refl; note = λ x b. refl; place = λ b. refl; unbound = λ g x. refl; owes = λ s x b. refl })
 
 -- ---- Where a path stands
-
-pub all_there : {A : Type 0} (P : A → Type 0) (xs : List A) (k : ℕ) (x : A) → AllByRecursion P xs → slice_get xs k ≡ Some x → P x
-all_there P [] k x all e = cc
-all_there P (y ∷ xs) zero x all e = subst P (some_same e) all.0
-all_there P (y ∷ xs) (suc k) x all e = all_there P xs k x all.1 e
-
-all_behind : {A : Type 0} (P : A → Type 0) (xs : List A) (x : A) (ys : List A) → AllByRecursion P (xs ++ x ∷ ys) → P x
-all_behind P [] x ys all = all.0
-all_behind P (z ∷ xs) x ys all = all_behind P xs x ys all.1
 
 module _ (u : UnitForm) (g : Graph) (marked : IsWellMarked u g) where
   -- the first block of the graph, and where a path stands

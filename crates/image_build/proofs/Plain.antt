@@ -1,6 +1,5 @@
 -- Units that are as they were built, in slots: they are well marked, their slots show all variables, and their tables keep every rule of images.
-use Rattle.std.proofs.Common.{◌≡◌, ◌≢◌, ℕ, zero, suc, ◌^◌, ◌+◌, ◌<◌, ◌≤◌, ◌++◌, Some, List, [], ◌∷◌, length, map, slice_get, refl, sym, ap, ◌∙◌, subst, arith}
-use Rattle.std.specs.Prelude.{◌↔◌}
+use Rattle.std.proofs.Common.{◌≡◌, ◌≢◌, ℕ, zero, suc, ◌^◌, ◌+◌, ◌<◌, ◌≤◌, ◌++◌, List, [], ◌∷◌, length, map, refl, sym, ap, ◌∙◌, subst, arith}
 use Rattle.std.specs.List.{AllByRecursion, Contains}
 use Rattle.debug_records.specs.declared.change.Kind.TheVariants.{Removed}
 use Rattle.places.specs.declared.flow.Assignment.{Assignment}
@@ -68,6 +67,7 @@ use Rattle.image_build.proofs.Tables as tables
 use Rattle.image_build.proofs.Tables.{rows_few}
 use Rattle.image_build.specs.ProgramImageShown.{AreShownAt, IsPlainUnit, ShowsAll}
 use Rattle.image_build.specs.Tables.{HasShapeOf}
+use Rattle.base_laws.proofs.Lists.{one_behind_again as one_behind}
 
 -- ---- What is kept
 
@@ -75,9 +75,6 @@ contains_among : {A : Type 0} (xs : List A) (a : A) → Contains xs a → Among 
 contains_among [] a (k, within, is) = absurd (omega (arith, within))
 contains_among (x ∷ xs) a (zero, within, is) = subst (λ z. Among z (x ∷ xs)) is front
 contains_among (x ∷ xs) a (suc k, within, is) = behind (contains_among xs a (k, omega (arith, within), is))
-
-one_behind : {A : Type 0} (x : A) (xs : List A) (a : A) → Contains xs a → Contains (x ∷ xs) a
-one_behind x xs a (k, within, is) = (suc k, omega (arith, within), is)
 
 among_contains : {A : Type 0} (xs : List A) (a : A) → Among a xs → Contains xs a
 among_contains [] a there = elim there [ ]

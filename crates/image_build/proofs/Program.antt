@@ -1,11 +1,11 @@
 -- In a well-formed program a variable is known at each place where it is visible, at no entry of a function, and where it comes to be known along a step, the place before assigns it.
 use Rattle.std.proofs.Common.{◌≡◌, ℕ, zero, suc, ◌+◌, ◌≤◌, ◌<◌, ◌⊎◌, inl, inr, Bool, true, false, Some, None, Option, List, [], ◌∷◌, ◌++◌, length, map, slice_get, refl, sym, ap, ◌∙◌, subst, arith}
-use Rattle.std.specs.Prelude.{◌==◌, ◌&&◌, ◌||◌, ◌↔◌, nat_lt, if◌then◌else◌, option_map}
-use Rattle.std.specs.List.{AllByRecursion, Contains, list_any}
+use Rattle.std.specs.Prelude.{◌==◌, ◌&&◌, ◌↔◌, nat_lt, if◌then◌else◌, option_map}
+use Rattle.std.specs.List.{AllByRecursion, Contains}
 use Rattle.std.proofs.lemmas.Bool.{and_parts}
 use Rattle.std.proofs.lemmas.Bool.Decides.{nat_tests}
 use Rattle.std.proofs.lemmas.List.Elements.{Contains-append_left, Contains-append_right, Contains-push}
-use Rattle.std.proofs.lemmas.Option.{none-some, slice_get-map, slice_get-get_or}
+use Rattle.std.proofs.lemmas.Option.{none-some, slice_get-map}
 use Rattle.places.specs.declared.flow.FlowStep.{FlowStep}
 use Rattle.places.specs.declared.flow.Assignment.{Assignment}
 use Rattle.places.specs.Flow.{can_go, assigns}
@@ -28,17 +28,10 @@ use Rattle.graph_core.specs.Paths.{Among, front, behind}
 use Rattle.image_build.proofs.Passing.{some_same}
 use Rattle.image_build.proofs.Known.{known_of_function, known_of_functions, known_of_program, wider_at, wider_back, wider_program}
 use Rattle.image_build.proofs.Scopes.{IsPlaced, ArePlaced, IsSound, AreSound, functions_sound}
+use Rattle.base_laws.proofs.Lists.{any_at, member_at as at_of}
+use Rattle.base_laws.proofs.Numbers.{is_less, less, not_before as not_less}
 
 -- ---- Laws
-
-is_less : (a b : ℕ) → nat_lt a b ≡ true → a < b
-is_less a b h = grind (arith, nat_tests)
-
-not_less : (a b : ℕ) → b ≤ a → nat_lt a b ≡ false
-not_less a b h = grind (arith, nat_tests)
-
-less : (a b : ℕ) → a < b → nat_lt a b ≡ true
-less a b h = grind (arith, nat_tests)
 
 abbrev IsTyped : ProgramTree → TypedFunctionTree → Type 0
 IsTyped p f = are_statements p f false false None f.body ≡ true
@@ -200,22 +193,6 @@ module _ (p : ProgramTree) (formed : IsWellFormed p) where
   step_there (e ∷ all) sound (suc j) s is variable k = step_there all sound.1 j s is variable k
 
 -- ---- As units have it
-
-any_at : {A : Type 0} (test : A → Bool) (xs : List A) (j : ℕ) (x : A) → slice_get xs j ≡ Some x → test x ≡ true → list_any test xs ≡ true
-any_at test [] j x e t = absurd (none-some x e)
-any_at test (y ∷ xs) zero x e t = by_here (test y) (ap test (some_same e) ∙ t)
-  where
-    by_here : (b : Bool) → b ≡ true → (b || list_any test xs) ≡ true
-    by_here true h = refl
-    by_here false h = cc
-any_at test (y ∷ xs) (suc j) x e t = by_later (test y) (list_any test xs) (any_at test xs j x e t)
-  where
-    by_later : (a b : Bool) → b ≡ true → (a || b) ≡ true
-    by_later true b h = refl
-    by_later false b h = h
-
-at_of : {A : Type 0} (xs : List A) (x : A) → Contains xs x → (k : ℕ) × (slice_get xs k ≡ Some x)
-at_of xs x c = (c.0, slice_get-get_or xs c.0 x c.1 ∙ ap Some c.2)
 
 same_test : (a b c d : ℕ) → a ≡ c → b ≡ d → (a == c && b == d) ≡ true
 same_test a b c d one other = grind (arith, nat_tests)

@@ -23,6 +23,7 @@ use Rattle.c_flow.specs.Flow.{edge, start_of_declarators, start_of_for, start, s
 use Rattle.c_flow.specs.Assigns.{assigns_object, assigned, assigned_by_initial, assigned_by_option, assigned_by_step, assigned_by_declarators, assigned_by_start, assigned_by, assigned_by_statements, assigned_by_entry, assigned_by_function, assigned_by_functions}
 use Rattle.graph_core.specs.Paths.{Among, front, behind}
 use Rattle.image_build.proofs.Known.{among_front, among_back, known_of_head, known_of, known_of_all, known_of_function, known_of_functions}
+use Rattle.base_laws.proofs.Lists.{both_all as all_both, parts_all as all_parts}
 
 -- ---- Lists
 
@@ -33,14 +34,6 @@ among_cases x (y ∷ xs) ys (behind a) = elim (among_cases x xs ys a) [ inl b �
 
 among_nil : {A : Type 0} (x : A) (xs : List A) → Among x (xs ++ []) → Among x xs
 among_nil x xs a = elim (among_cases x xs [] a) [ inl b ↦ b | inr b ↦ elim b [ ] ]
-
-all_both : {A : Type 0} (P : A → Type 0) (xs ys : List A) → AllByRecursion P xs → AllByRecursion P ys → AllByRecursion P (xs ++ ys)
-all_both P [] ys one two = two
-all_both P (x ∷ xs) ys one two = (one.0, all_both P xs ys one.1 two)
-
-all_parts : {A : Type 0} (P : A → Type 0) (xs ys : List A) → AllByRecursion P (xs ++ ys) → AllByRecursion P xs × AllByRecursion P ys
-all_parts P [] ys all = (tt, all)
-all_parts P (x ∷ xs) ys all = let rest = all_parts P xs ys all.1 in ((all.0, rest.0), rest.1)
 
 abbrev declared_variables : List DeclaredTree → List ℕ
 declared_variables all = map (λ (d : DeclaredTree). d.variable) all

@@ -16,21 +16,15 @@ use Rattle.graph_core.specs.Validity.{IsBinding, IsGraph}
 use Rattle.graph_core.specs.WellMarked.{IsVariable, IsWellMarked, WasRemoved}
 use Rattle.graph_core_weights.proofs.Standing.{IsMarked}
 use Rattle.image_build.proofs.Passing.{Before, Kind, IsPlain, marks, noting, plain, Stands, kind_of, path_before, passed_valid, some_same, stands, target_low}
+use Rattle.base_laws.proofs.Booleans.{neither as or_none}
+use Rattle.base_laws.proofs.Numbers.{no as no_truth}
 
 -- ---- Booleans
-
-no_truth : {A : Type 0} → false ≡ true → A
-no_truth e = cc
 
 -- one of two is true
 or_cases : (a b : Bool) → (a || b) ≡ true → (a ≡ true) ⊎ ((a ≡ false) × (b ≡ true))
 or_cases true b e = inl refl
 or_cases false b e = inr (refl, e)
-
--- neither of two is
-or_none : (a b : Bool) → (a || b) ≡ false → (a ≡ false) × (b ≡ false)
-or_none true b e = cc
-or_none false b e = (refl, e)
 
 -- a test is true or not
 either : (a : Bool) → (a ≡ true) ⊎ (a ≡ false)

@@ -1,5 +1,5 @@
 -- An image stops where its code does, also behind passes: at the addresses of the code's stops, which are those of the program's places but entries.
-use Rattle.std.proofs.Common.{◌≡◌, ℕ, ◌+◌, ◌<◌, refl, sym, ap, ◌∙◌, subst, arith, Bool, true, false, Some, get_or, List, length, map, slice_get}
+use Rattle.std.proofs.Common.{◌≡◌, ℕ, ◌+◌, ◌<◌, sym, ap, ◌∙◌, subst, arith, true, false, Some, get_or, List, length, map, slice_get}
 use Rattle.std.specs.Prelude.{replicate}
 use Rattle.std.proofs.lemmas.List.{length-replicate}
 use Rattle.std.proofs.lemmas.Option.{same_Some, slice_get_within}
@@ -28,12 +28,7 @@ use Rattle.image_build.proofs.PutStops.{put_there, address_at, row_at, stop_ther
 use Rattle.pass_law.specs.Keeps.{SameFunction}
 use Rattle.image_build.proofs.Carried.{graph_back, graph_on}
 use Rattle.image_build.proofs.ProgramPlaces.{entries_tell, marked_stop, stop_marked}
-
--- two answers are the same if each yes of one is a yes of the other
-same_answers : (a b : Bool) → (a ≡ true → b ≡ true) → (b ≡ true → a ≡ true) → a ≡ b
-same_answers true b one other = sym (one refl)
-same_answers false true one other = other refl
-same_answers false false one other = refl
+use Rattle.base_laws.proofs.Booleans.{same_by as same_answers}
 
 -- A unit has graphs of the functions of the program's unit, and its code these stops.
 module _ (p : ProgramTree) (formed : IsWellFormed p) (m : Form) (u v : UnitForm) (is : IsUnitOf p u) (functions : Pairs SameFunction u.graphs v.graphs) (codes : List FunctionCode) (stops : List PlacedStop) (are : AreStopsOf v stops) (rows : List PlaceRow) (rows_are : map row_view rows ≡ rows_of_program p)

@@ -1,16 +1,16 @@
 -- The first row with each key, row after row.
-use Rattle.std.proofs.Common.{◌≡◌, ℕ, suc, ◌+◌, ◌<◌, Bool, true, false, ◌&&◌, cond, List, [], ◌∷◌, ◌++◌, length, get_or, take, Option, Some, None, refl, sym, ap, ◌∙◌, arith, add-one, ◌⊎◌, inl, inr, eqb, nat_cmp}
+use Rattle.std.proofs.Common.{◌≡◌, ℕ, suc, ◌+◌, ◌<◌, Bool, true, false, ◌&&◌, cond, List, [], ◌∷◌, ◌++◌, length, get_or, take, Option, Some, None, refl, sym, ap, ◌∙◌, arith, add-one, inl, inr, eqb, nat_cmp}
 use Rattle.std.specs.Prelude.{is_some}
-use Rattle.std.specs.Cmp.{nat_cmp_is}
 use Rattle.std.specs.Ordering.{is_eq, ordering_then}
-use Rattle.std.specs.declared.cmp.Ordering.{Ordering}
 use Rattle.image_form.specs.Layouts.{node_cmp}
-use Rattle.std.specs.declared.cmp.Ordering.TheVariants.{Less, Equal, Greater}
 use Rattle.std.specs.List.{position_from}
 use Rattle.std.proofs.Math.Seq.{take-suc}
-use Rattle.std.proofs.lemmas.Bool.{true≢false, cases_Bool, cases_order, eq-eqb, ne_eqb, eqb-true, and_parts}
+use Rattle.std.proofs.lemmas.Bool.{true≢false, cases_Bool, eq-eqb, eqb-true, and_parts}
 use Rattle.std.proofs.lemmas.List.{length-take}
 use Rattle.std.proofs.lemmas.Option.{none-some}
+use Rattle.base_laws.proofs.Numbers.{is_eq-ordering_then}
+use Rattle.base_laws.proofs.Options.{some_or_none}
+pub use Rattle.base_laws.proofs.Numbers.{same_number}
 
 -- The first that passes stays the first.
 position_seen : {A : Type 0} (test : A → Bool) (n : ℕ) (xs : List A) (ys : List A) (i : ℕ) → position_from test n xs ≡ Some i → position_from test n (xs ++ ys) ≡ Some i
@@ -30,11 +30,6 @@ position_unseen test n (x ∷ xs) y e = go (test x) refl (position_unseen test (
         → position_from test n ((x ∷ xs) ++ y ∷ []) ≡ cond (test y) (Some (n + length (x ∷ xs))) None
     go true t later = absurd (none-some _ (sym (rw t at e)))
     go false t later = let more : n + 1 + length xs ≡ n + suc (length xs) = omega arith in rw (t, ← more) (later (rw t at e))
-
--- An option is there or not.
-some_or_none : {A : Type 0} (o : Option A) → ((x : A) × (o ≡ Some x)) ⊎ (o ≡ None)
-some_or_none None = inr refl
-some_or_none (Some x) = inl (x, refl)
 
 module _ {A K : Type 0} (key : A → K) (same : K → K → Bool) (self : (k : K) → same k k ≡ true) (alike : (k q : K) → same k q ≡ true → k ≡ q) where
   -- A row whose key was seen changes nothing.
@@ -76,27 +71,12 @@ module _ {A K : Type 0} (key : A → K) (same : K → K → Bool) (self : (k : K
         | inr not ↦ not
       ]
 
--- Numbers compare as equal where they are equal.
-pub same_number : (a b : ℕ) → is_eq (nat_cmp a b) ≡ eqb a b
-same_number a b = elim (cases_order a b) [
-  | inl same ↦ ap is_eq (sym (nat_cmp_is a b Equal same)) ∙ sym (eq-eqb a b same)
-  | inr apart ↦ elim apart [
-    | inl less ↦ ap is_eq (sym (nat_cmp_is a b Less less)) ∙ sym (ne_eqb a b (λ e. omega (arith, e, less)))
-    | inr more ↦ ap is_eq (sym (nat_cmp_is a b Greater more)) ∙ sym (ne_eqb a b (λ e. omega (arith, e, more)))
-  ]
-]
-
 pub number_self : (a : ℕ) → eqb a a ≡ true
 number_self a = eq-eqb a a refl
 
 -- Three numbers are the same.
 abbrev pub three_same : ℕ × ℕ × ℕ → ℕ × ℕ × ℕ → Bool
 three_same k q = eqb k.0 q.0 && eqb k.1 q.1 && eqb k.2 q.2
-
-is_eq-ordering_then : (a b : Ordering) → is_eq (ordering_then a b) ≡ (is_eq a && is_eq b)
-is_eq-ordering_then Less b = refl
-is_eq-ordering_then Equal b = refl
-is_eq-ordering_then Greater b = refl
 
 -- They compare as equal where they are the same.
 pub same_three : (k q : ℕ × ℕ × ℕ) → is_eq (node_cmp k q) ≡ three_same k q

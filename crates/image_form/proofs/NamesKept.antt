@@ -6,7 +6,6 @@ use Rattle.std.specs.Option.{option_map}
 use Rattle.std.proofs.lemmas.Bool.{and_parts, and_from, cases_Bool}
 use Rattle.std.proofs.lemmas.List.{length-append, length-map, length-drop, length-take-le, drop-drop}
 use Rattle.std.proofs.lemmas.List.Concat.{flat_map-cons}
-use Rattle.std.proofs.lemmas.List.Sums.{sum_by-cons}
 use Rattle.std.proofs.lemmas.Option.{none-some, slice_get-map, get_or_from_slice_get}
 use Rattle.image_form.specs.declared.name_rules.NameKind.{NameKind}
 use Rattle.image_form.specs.declared.name_rules.NameKind.TheVariants.{Identifier, Letters}
@@ -23,6 +22,7 @@ use Rattle.image_form.specs.Names.{function_name_lengths, variable_name_lengths,
 use Rattle.image_form.specs.RulesOfNames.{is_lower_letter, begins_identifier, is_identifier_byte, IsIdentifier, IsIdentifierOrEmpty, NameRules}
 use Rattle.image_form.specs.TestsOfNames.{identifier_tests, byte_tests, table_tests, name_tests, first_unfit, first_misfit}
 use Rattle.image_form.proofs.Unfit.{first_unfit-append, first_unfit-front, unfit_long, misfit_none, length-byte_tests}
+use Rattle.base_laws.proofs.Lists.{sum_more as sum-cons}
 
 -- The parts of tests that are all met are met.
 split_met : (ts us : List (ℕ → Bool)) (bytes : List ℕ) → first_unfit (ts ++ us) bytes ≡ None → (first_unfit ts bytes ≡ None) × (first_unfit us (drop (length ts) bytes) ≡ None)
@@ -106,9 +106,6 @@ tests_by_lengths kind numbers len first (x ∷ xs) =
     flat_map-cons (λ r. byte_tests kind (slice_index r 0)) (numbers x) (map numbers xs)
     ∙ (λ i. byte_tests kind (first x i) ++ tests_by_lengths kind numbers len first xs i)
     ∙ sym (flat_map-cons (byte_tests kind) (len x) (map len xs))
-
-sum-cons : (n : ℕ) (ns : List ℕ) → sum (n ∷ ns) ≡ n + sum ns
-sum-cons n ns = sum_by-cons (λ x. x) n ns
 
 length-tests_of : (kind : NameKind) (ns : List ℕ) → length (tests_of kind ns) ≡ sum ns
 length-tests_of kind [] = refl

@@ -1,9 +1,8 @@
 -- Each record of an image is what its numbers say.
 use Rattle.std.proofs.Common.{◌≡◌, ℕ, ◌<◌, false, List, [], ◌∷◌, length, Option, Some, None, refl, ap, arith}
-use Rattle.std.specs.Prelude.{slice_get, unwrap_or, IsSomeAnd, ◌==◌}
+use Rattle.std.specs.Prelude.{unwrap_or, IsSomeAnd, ◌==◌}
 use Rattle.std.specs.List.{AllByRecursion}
 use Rattle.std.proofs.lemmas.Bool.{ne_eqb}
-use Rattle.std.proofs.lemmas.Option.{slice_get_within}
 use Rattle.debug_records.specs.declared.mode.Mode.{Mode}
 use Rattle.debug_records.specs.declared.mode.Mode.TheVariants.{Slots, Registers}
 use Rattle.image_form.specs.declared.recipes.Node.{Node}
@@ -29,6 +28,7 @@ use Rattle.image_form.specs.Numbers.{mode_number, no_function, element_number, s
 use Rattle.image_form.specs.RulesOfFunctions.{code_start}
 use Rattle.image_form.specs.RulesOfRows.{IsWriter, IsEvidence, IsVerdict}
 use Rattle.image_form.specs.RulesOfVariables.{IsVariable, IsKept}
+pub use Rattle.base_laws.proofs.Lists.{number_there}
 
 -- What holds of each record holds of each in a list.
 pub all_of : {A : Type 0} {P Q : A → Type 0} → ((x : A) → P x → Q x) → (xs : List A) → AllByRecursion P xs → AllByRecursion Q xs
@@ -102,10 +102,6 @@ node_back (node.Operated operation left right) = operation_node operation left r
 pub some_and : {A : Type 0} (o : Option A) (P : A → Type 0) → IsSomeAnd o P → (x : A) × (o ≡ Some x) × P x
 some_and None P h = absurd h
 some_and (Some x) P h = (x, refl, h)
-
--- A record of which something holds is there.
-pub number_there : {A : Type 0} (xs : List A) (k : ℕ) (P : A → Type 0) → IsSomeAnd (slice_get xs k) P → k < length xs
-number_there xs k P h = let x = some_and (slice_get xs k) P h in slice_get_within xs k x.0 x.1
 
 pub kept_there : (f : Form) (k : ℕ) (storage : Storage) → IsKept f (Some k) storage → k < length f.functions
 kept_there f k (Static address) kept = absurd kept

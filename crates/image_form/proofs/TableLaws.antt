@@ -1,20 +1,16 @@
 -- Laws of tables: what holds of each record, and of records in order.
-use Rattle.std.proofs.Common.{◌≡◌, ◌≢◌, ℕ, zero, suc, ◌+◌, ◌<◌, List, [], ◌∷◌, length, inl, inr, Some, refl, sym, ap, ◌∙◌, arith, subst}
+use Rattle.std.proofs.Common.{◌≡◌, ◌≢◌, ℕ, zero, suc, ◌+◌, ◌<◌, List, [], ◌∷◌, Some, refl, ap, arith, subst}
 use Rattle.std.specs.Prelude.{slice_get}
 use Rattle.std.specs.List.{AllByRecursion}
-use Rattle.std.proofs.lemmas.Option.{same_Some, slice_get_cases}
+use Rattle.std.proofs.lemmas.Option.{same_Some}
 use Rattle.image_form.specs.Lists.{BeforeFirst, EachToNext, AreDistinct}
+pub use Rattle.base_laws.proofs.Lists.{each_from}
 
 -- What holds of each record holds of the one with that number.
 pub each_at : {A : Type 0} (P : A → Type 0) (xs : List A) (i : ℕ) (x : A) → AllByRecursion P xs → slice_get xs i ≡ Some x → P x
 each_at P [] i x all e = absurd cc
 each_at P (y ∷ ys) zero x all e = subst P (same_Some y x e) all.0
 each_at P (y ∷ ys) (suc i) x all e = each_at P ys i x all.1 e
-
--- What holds of the record with each number holds of each record.
-pub each_from : {A : Type 0} (P : A → Type 0) (xs : List A) → ((i : ℕ) (x : A) → slice_get xs i ≡ Some x → P x) → AllByRecursion P xs
-each_from P [] at = tt
-each_from P (x ∷ xs) at = (at 0 x refl, each_from P xs (λ i y e. at (suc i) y e))
 
 -- A record whose key is below the next one's, in a table whose keys ascend, has a key below every later one's.
 below_later : {A : Type 0} (key : A → ℕ) (x : A) (xs : List A) (j : ℕ) (y : A) → BeforeFirst (λ a b. key a < key b) x xs → EachToNext (λ a b. key a < key b) xs → slice_get xs j ≡ Some y → key x < key y

@@ -1,7 +1,6 @@
 -- What a well-formed program keeps: how its places and objects stand in the text, and its limits.
-use Rattle.std.proofs.Common.{◌≡◌, ℕ, zero, suc, ◌+◌, ◌≤◌, ◌<◌, Bool, true, false, ◌&&◌, Option, Some, None, List, [], ◌∷◌, length, map, slice_get, refl, sym, ap, ◌∙◌, subst, arith}
-use Rattle.std.specs.Prelude.{◌==◌, nat_le, nat_lt, is_none, if◌then◌else◌}
-use Rattle.std.proofs.lemmas.Bool.Decides.{nat_tests}
+use Rattle.std.proofs.Common.{◌≡◌, ℕ, zero, suc, ◌≤◌, ◌<◌, Bool, true, false, ◌&&◌, Option, Some, None, List, [], ◌∷◌, length, map, slice_get, refl, arith}
+use Rattle.std.specs.Prelude.{nat_le, nat_lt, is_none, if◌then◌else◌}
 use Rattle.std.proofs.lemmas.Option.{none-some, same_Some}
 use Rattle.debug_records.specs.declared.code.Code.{Code}
 use Rattle.debug_records.specs.declared.code.TheConstants.Code.{PROGRAM_WEIGHT, STATIC_OBJECTS, VISIBLE_PAIRS}
@@ -13,19 +12,9 @@ use Rattle.c_type_laws.specs.Orders.{ascends, ascends_behind, never_falls}
 use Rattle.c_type_laws.specs.Objects.{are_ended, are_static, arrays_are_kept}
 use Rattle.c_type_laws.specs.Parameters.{parameters_single}
 use Rattle.c_type_laws.specs.Laws.{IsWellFormed, objects_ascend, follow, is_main, are_objects, are_functions, is_within, is_sound, weight_of, places_ascend}
-
-pub both : (a b : Bool) → a && b ≡ true → (a ≡ true) × (b ≡ true)
-both true b h = (refl, h)
-both false b h = cc
-
-pub at_most : (a b : ℕ) → nat_le a b ≡ true → a ≤ b
-at_most a b h = grind (arith, nat_tests)
-
-pub is_less : (a b : ℕ) → nat_lt a b ≡ true → a < b
-is_less a b h = grind (arith, nat_tests)
-
-not_less : (a b : ℕ) → nat_lt a b ≡ false → b ≤ a
-not_less a b h = grind (arith, nat_tests)
+use Rattle.base_laws.proofs.Numbers.{at_most, not_less}
+pub use Rattle.base_laws.proofs.Booleans.{two_true as both}
+pub use Rattle.base_laws.proofs.Numbers.{is_less}
 
 -- ---- Numbers in order
 

@@ -1,13 +1,13 @@
 -- Instructions write scalars that their place may write, and note these alone, each by itself.
 use Rattle.std.proofs.Common.{◌≡◌, ℕ, ◌≤◌, ◌<◌, true, false, Option, Some, None, List, [], ◌∷◌, ◌++◌, refl, sym, ◌∙◌, subst, arith, ◌==◌}
 use Rattle.std.specs.List.{AllByRecursion}
-use Rattle.std.proofs.lemmas.Bool.Decides.{nat_tests}
 use Rattle.graph_core.specs.Graphs.{Instruction, Marker, Note, Is, Of, Name, Move, Operate, Truncate, Same, Address, Load, Store, Zero, CopyWords, Call, Block}
 use Rattle.graph_core.specs.Uses.{target_of, is_computation}
 use Rattle.graph_core.specs.Paths.{writes}
 use Rattle.graph_build_steps.specs.Drafts.{Made}
 use Rattle.image_truth_units.proofs.Rules.{no_name, IsNoting}
 use Rattle.image_truth_units.proofs.Standing.{writes_target}
+use Rattle.base_laws.proofs.Numbers.{are_equal as same_name, false_true}
 
 -- a note is of the scalar itself, which may be written
 abbrev pub IsRightNote : (may : ℕ → Type 0) → Instruction → Type 0
@@ -29,9 +29,6 @@ BlockAllowed scalars may b = (p : ℕ) × (b.place ≡ Some p) × AllAllowed sca
 abbrev pub BlocksAllowed : (scalars : ℕ) → (may : ℕ → ℕ → Type 0) → List Block → Type 0
 BlocksAllowed scalars may all = AllByRecursion (BlockAllowed scalars may) all
 
-false_true : false ≡ true → ⊥
-false_true e = cc
-
 right_note : (may : ℕ → Type 0) (i : Instruction) → is_computation i ≡ true → IsRightNote may i
 right_note may (Marker p) h = tt
 right_note may (Note y v) h = cc
@@ -45,9 +42,6 @@ right_note may (Store e l a) h = tt
 right_note may (Zero o k) h = tt
 right_note may (CopyWords o b k) h = tt
 right_note may (Call y f all) h = tt
-
-same_name : (a b : ℕ) → (a == b) ≡ true → a ≡ b
-same_name a b h = grind (arith, nat_tests)
 
 module _ (scalars : ℕ) (may : ℕ → ℕ → Type 0) (place top : ℕ) where
   -- a name that was written may be written, if it is a scalar's

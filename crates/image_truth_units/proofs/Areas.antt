@@ -1,5 +1,5 @@
 -- Addresses that lie in what an owner owns, and those that do not.
-use Rattle.std.proofs.Common.{◌≡◌, ◌≢◌, ℕ, zero, suc, ◌+◌, ◌-◌, ◌<◌, ◌≤◌, ◌⊎◌, inl, inr, true, false, Option, Some, None, List, [], ◌∷◌, length, slice_get, refl, sym, ap, ◌∙◌, arith}
+use Rattle.std.proofs.Common.{◌≡◌, ◌≢◌, ℕ, ◌+◌, ◌-◌, ◌<◌, ◌≤◌, ◌⊎◌, inl, inr, true, false, Option, Some, None, List, ◌∷◌, length, slice_get, refl, sym, ap, ◌∙◌, arith}
 use Rattle.std.specs.Prelude.{◌==◌, nat_le, if◌then◌else◌}
 use Rattle.std.specs.Option.{option_map_or}
 use Rattle.std.proofs.lemmas.Bool.{cases_lt, le-leb}
@@ -15,13 +15,9 @@ use Rattle.rv_machine.specs.State.{State}
 use Rattle.stop_engine_view.specs.Pointers.{distance, object_size, is_within, literals, offset_within, is_of, function_of}
 use Rattle.image_truth_units.specs.Variables.{static_count, automatic_number, HasVariablesOf}
 use Rattle.image_truth_units.specs.Standing.{Standing, IsArea, HoldsMemory}
+pub use Rattle.base_laws.proofs.Lists.{there_again as there}
 
 -- ---- Lists
-
-pub there : {A : Type 0} (all : List A) (i : ℕ) → i < length all → (x : A) × (slice_get all i ≡ Some x)
-there [] i lt = absurd (omega arith)
-there (x ∷ all) zero lt = (x, refl)
-there (x ∷ all) (suc i) lt = there all i (omega arith)
 
 -- ---- Distances
 

@@ -1,5 +1,5 @@
 -- What the places of a function assign, its unit's graph may write there.
-use Rattle.std.proofs.Common.{◌≡◌, ℕ, zero, suc, ◌+◌, ◌≤◌, ◌<◌, Bool, true, false, Option, Some, None, List, [], ◌∷◌, ◌++◌, length, map, slice_get, refl, sym, ap, ◌∙◌, subst, arith, if◌then◌else◌, ◌==◌}
+use Rattle.std.proofs.Common.{◌≡◌, ℕ, zero, suc, ◌+◌, ◌≤◌, ◌<◌, Bool, true, Option, Some, None, List, [], ◌∷◌, ◌++◌, length, map, slice_get, refl, sym, ap, ◌∙◌, subst, arith, if◌then◌else◌, ◌==◌}
 use Rattle.std.specs.Prelude.{◌||◌, ◌&&◌, nat_lt, option_map}
 use Rattle.std.proofs.lemmas.Bool.Decides.{nat_tests}
 use Rattle.places.specs.declared.flow.Assignment.{Assignment}
@@ -18,19 +18,9 @@ use Rattle.graph_build.specs.Units.{add_if_some, scalars_among, variables_in, va
 use Rattle.graph_build_laws.proofs.Homes.{one_name}
 use Rattle.graph_build_laws.proofs.GraphProgramScalars.{scalar_at, mapped_at}
 use Rattle.image_truth_units.proofs.UnitFactsAssigned.{among_front, among_back}
-
-none_is : {A : Type 0} {a : A} → None ≡ Some a → ⊥
-none_is e = cc
-
-some_same : {A : Type 0} {a b : A} → Some a ≡ Some b → a ≡ b
-some_same e = cc
-
-same_two : (a b : ℕ) → ((a == a) && (b == b)) ≡ true
-same_two a b = grind (arith, nat_tests)
-
-or_right : (a b : Bool) → b ≡ true → a || b ≡ true
-or_right true b h = refl
-or_right false b h = h
+use Rattle.base_laws.proofs.Booleans.{or_right}
+use Rattle.base_laws.proofs.Numbers.{same_step as same_two}
+use Rattle.base_laws.proofs.Options.{none_is, some_same}
 
 -- an assignment among these is one that there is
 pub assigned_true : (all : List Assignment) (a : Assignment) → Among a all → assigns all a.place.0 a.var.0 ≡ true

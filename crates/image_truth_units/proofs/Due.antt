@@ -11,6 +11,7 @@ use Rattle.graph_build_laws.specs.Points.{AtLabel, StandIn}
 use Rattle.graph_build_laws.proofs.Instances.{to_one, to_two, to_none}
 use Rattle.image_truth_units.proofs.Rules.{no_name, IsNoting}
 use Rattle.image_truth_units.proofs.Standing.{closed_before, closed_at, grown, no_marker, no_note, no_call, writes_target}
+use Rattle.base_laws.proofs.Numbers.{false_true}
 
 -- whether a scalar waits for its note behind an instruction
 abbrev pub waiting : ℕ → Instruction → Bool → Bool
@@ -21,9 +22,6 @@ pub data Due (blocks : List Block) (x : ℕ) : Bool → List Instruction → End
   marks : {p : ℕ} {rest : List Instruction} {e : End} → Due blocks x false (Marker p ∷ rest) e
   step : {b : Bool} {i : Instruction} {rest : List Instruction} {e : End} → is_marker i ≡ false → (b ≡ true → is_call i ≡ false) → Due blocks x (waiting x i b) rest e → Due blocks x b (i ∷ rest) e
   over : {b : Bool} {e : End} → ((l : ℕ) → Among l (targets_of e) → (d : Block) → slice_get blocks l ≡ Some d → Due blocks x b d.instructions d.end) → Due blocks x b [] e
-
-false_true : false ≡ true → ⊥
-false_true e = cc
 
 module _ (blocks : List Block) (x scalars : ℕ) (few : x < scalars) (place top : ℕ) (may : ℕ → Type 0) where
   abbrev D : Bool → List Instruction → End → Type 0

@@ -1,5 +1,5 @@
 -- The code of an expression has a property of the rules where what it is for has it.
-use Rattle.std.proofs.Common.{◌≡◌, ℕ, ◌+◌, Bool, true, false, Option, Some, None, List, refl, ap, ◌∙◌, subst, arith, if◌then◌else◌, ◌==◌}
+use Rattle.std.proofs.Common.{◌≡◌, ℕ, ◌+◌, Bool, true, false, Option, Some, None, List, refl, ap, ◌∙◌, subst, arith, if◌then◌else◌}
 use Rattle.std.specs.Prelude.{not, max, ◌||◌}
 use Rattle.c_tree.specs.declared.types.IntegerType.{IntegerType}
 use Rattle.c_tree.specs.declared.object_type.Scalar.{Scalar}
@@ -38,14 +38,12 @@ use Rattle.graph_build_laws.specs.Passing.{Grows, IsPassing}
 use Rattle.graph_build_laws.proofs.Passes.{code_passes}
 use Rattle.image_truth_units.proofs.Rules.{NoneStands, Marking}
 use Rattle.image_truth_units.proofs.Pieces.{n, H, Own, S, Loc, From, For, ForName, Computes, two_value, tested_has, leaf_has, zero_has, least_pick, operated_has, held_clear, move_has, hold_has, location_clear, finished_has, signed_computes, renewed_has, memory_has, loaded_has, left_scalar_has, left_memory_has, called_has, object_has, forked_has}
+use Rattle.base_laws.proofs.Booleans.{or_right}
+use Rattle.base_laws.proofs.Numbers.{same_is}
 
 -- what holds where one of two is so holds where each is
 left_of : (f g : ℕ → Bool) (P : ℕ → Type 0) → ((y : ℕ) → f y || g y ≡ true → P y) → (y : ℕ) → f y ≡ true → P y
 left_of f g P h y e = h y (ap (λ b. b || g y) e)
-
-or_right : (a b : Bool) → b ≡ true → a || b ≡ true
-or_right true b e = refl
-or_right false b e = e
 
 right_of : (f g : ℕ → Bool) (P : ℕ → Type 0) → ((y : ℕ) → f y || g y ≡ true → P y) → (y : ℕ) → g y ≡ true → P y
 right_of f g P h y e = h y (or_right (f y) (g y) e)
@@ -72,10 +70,6 @@ three_right f g k P h y e = h y (three (f y) (g y) (k y) e)
     three true b c e = refl
     three false true c e = refl
     three false false c e = e
-
--- the name itself
-same_is : (y : ℕ) → (y == y) ≡ true
-same_is y = grind (arith, Rattle.std.proofs.lemmas.Bool.Decides.nat_tests)
 
 pub any_passes : (place top : ℕ) → IsPassing place top (λ m. Unit {0}) (λ l inner. Unit {0}) (λ inner. Unit {0})
 any_passes place top = record {

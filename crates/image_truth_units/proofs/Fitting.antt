@@ -1,6 +1,6 @@
 -- What declarators of a well-typed function write fits their objects.
 use Rattle.std.proofs.Common.{◌≡◌, ℕ, ◌+◌, Bool, true, false, Option, Some, None, List, [], ◌∷◌, slice_get, refl, subst}
-use Rattle.std.specs.Prelude.{◌&&◌, nat_le, nat_lt}
+use Rattle.std.specs.Prelude.{nat_le, nat_lt}
 use Rattle.std.specs.List.{AllByRecursion}
 use Rattle.std.specs.Option.{option_map_or}
 use Rattle.c_tree.specs.declared.types.IntegerType.{IntegerType}
@@ -16,6 +16,7 @@ use Rattle.c_type_laws.specs.Statements.{same_spot, tested_type, is_label, is_sw
 use Rattle.c_type_laws.specs.Objects.{is_kept_array}
 use Rattle.graph_build_names.specs.Names.{Names, scalar_of}
 use Rattle.graph_build_statements.specs.Declaring.{object_type_of}
+use Rattle.base_laws.proofs.Booleans.{four_true, three_true, two_true}
 
 -- What is written fits its object.
 abbrev pub Fits : Option ℕ → ObjectType → InitialTree → Type 0
@@ -58,16 +59,6 @@ module _ (names : Names) (program : ProgramTree) where
     StatementsFit (statement.first s rest) = StatementFits s × StatementsFit rest
     StatementsFit (case z rest) = StatementsFit rest
     StatementsFit (default rest) = StatementsFit rest
-
-two_true : (a b : Bool) → a && b ≡ true → (a ≡ true) × (b ≡ true)
-two_true true b h = (refl, h)
-two_true false b h = cc
-
-three_true : (a b c : Bool) → a && b && c ≡ true → (a ≡ true) × (b ≡ true) × (c ≡ true)
-three_true a b c h = let k = two_true (a && b) c h in let l = two_true a b k.0 in (l.0, l.1, k.1)
-
-four_true : (a b c d : Bool) → a && b && c && d ≡ true → (a ≡ true) × (b ≡ true) × (c ≡ true) × (d ≡ true)
-four_true a b c d h = let k = two_true (a && b && c) d h in let l = three_true a b c k.0 in (l.0, l.1, l.2, k.1)
 
 module _ (p : ProgramTree) (f : TypedFunctionTree) (names : Names) (arrays : (v : ℕ) (a : AutomaticTree) → slice_get p.automatics v ≡ Some a → is_kept_array a.in_memory a.of ≡ true)
     (outside : (v k : ℕ) (a : AutomaticTree) → scalar_of names v ≡ Some k → slice_get p.automatics v ≡ Some a → a.in_memory ≡ false) where

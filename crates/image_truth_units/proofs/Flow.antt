@@ -1,7 +1,7 @@
 -- The steps of the flow keep their rules.
-use Rattle.std.proofs.Common.{◌≡◌, ℕ, zero, suc, ◌+◌, ◌≤◌, ◌<◌, Bool, true, false, Option, Some, None, List, [], ◌∷◌, ◌++◌, length, map, slice_get, refl, sym, ap, ◌∙◌, subst, arith}
+use Rattle.std.proofs.Common.{◌≡◌, ℕ, zero, suc, ◌+◌, ◌≤◌, ◌<◌, Bool, true, false, Some, None, List, [], ◌∷◌, ◌++◌, length, slice_get, refl, sym, ap, ◌∙◌, subst, arith}
 use Rattle.std.specs.Prelude.{◌↔◌, AllPairs, slice_index_or, if◌then◌else◌}
-use Rattle.std.specs.List.{AllByRecursion, Contains}
+use Rattle.std.specs.List.{Contains}
 use Rattle.std.proofs.lemmas.Option.{none-some, same_Some, slice_get_within}
 use Rattle.places.specs.declared.flow.FlowStep.{FlowStep}
 use Rattle.places.specs.declared.table.PlaceRow.{PlaceRow}
@@ -24,6 +24,7 @@ use Rattle.image_truth_units.proofs.Functions.{places_many}
 use Rattle.image_truth_units.proofs.Given.{Given}
 use Rattle.image_truth_units.proofs.Lists.{all_from, from_map, next_from}
 use Rattle.image_truth_units.proofs.ProgramPlaces.{numbered_at}
+pub use Rattle.base_laws.proofs.Lists.{front_at as front_there}
 
 -- ---- Lists
 
@@ -57,11 +58,6 @@ IsPosition all at = (i : ℕ) × (q : Place) × (slice_get all i ≡ Some q) × 
 pub fit_all : (all own : List Place) (number : ℕ) → ((q : Place) (i : ℕ) → slice_get own i ≡ Some q → IsPosition all q.spot.at) → AllFit number (IsPosition all) own
 fit_all all [] number each = tt
 fit_all all (q ∷ own) number each = (each q 0 refl, fit_all all own number (λ r i is. each r (suc i) is))
-
-pub front_there : {A : Type 0} (xs ys : List A) (k : ℕ) (x : A) → slice_get xs k ≡ Some x → slice_get (xs ++ ys) k ≡ Some x
-front_there [] ys k x is = absurd (none-some x is)
-front_there (y ∷ xs) ys zero x is = is
-front_there (y ∷ xs) ys (suc k) x is = front_there xs ys k x is
 
 pub behind_there : {A : Type 0} (xs ys : List A) (k : ℕ) (x : A) → slice_get ys k ≡ Some x → (i : ℕ) × (slice_get (xs ++ ys) i ≡ Some x)
 behind_there [] ys k x is = (k, is)

@@ -1,5 +1,5 @@
 -- The functions of tables keep their rules.
-use Rattle.std.proofs.Common.{◌≡◌, ◌≢◌, ℕ, zero, suc, ◌+◌, ◌*◌, ◌/◌, ◌%◌, ◌≤◌, ◌<◌, inl, inr, Bool, true, ◌&&◌, Some, List, [], ◌∷◌, length, map, slice_get, refl, sym, ap, ◌∙◌, subst, arith}
+use Rattle.std.proofs.Common.{◌≡◌, ℕ, suc, ◌+◌, ◌≤◌, ◌<◌, inl, inr, Some, List, length, slice_get, sym, ap, ◌∙◌, arith}
 use Rattle.std.proofs.lemmas.Bool.{cases_lt}
 use Rattle.std.proofs.lemmas.List.{length-map}
 use Rattle.std.proofs.lemmas.Option.{same_Some, slice_get_within}
@@ -25,10 +25,7 @@ use Rattle.image_truth_units.proofs.Accepted.{facts_of}
 use Rattle.image_truth_units.proofs.Given.{Given}
 use Rattle.image_truth_units.proofs.Lists.{across, all_from, next_from}
 use Rattle.image_truth_units.proofs.ProgramPlaces.{entry_there, in_order, numbered_at}
-
-pub some_length : (n : List ℕ) → n ≢ [] → 1 ≤ length n
-some_length [] some = absurd (some refl)
-some_length (b ∷ n) some = omega arith
+pub use Rattle.base_laws.proofs.Lists.{some_length}
 
 -- The entry of a function among the places of its program.
 pub record HasEntry (p : ProgramTree) (k : ℕ) (tree : TypedFunctionTree) : Type 0 where

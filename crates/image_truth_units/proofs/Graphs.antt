@@ -35,12 +35,8 @@ use Rattle.image_truth_units.proofs.Due.{Due, HasDue, LeadsDue, due_noting}
 use Rattle.image_truth_units.proofs.Due as due
 use Rattle.image_truth_units.proofs.Allowed.{Allowed, AllAllowed, BlockAllowed, BlocksAllowed, HasAllowed, LeadsAllowed, allowed_noting, note_allowed}
 use Rattle.image_truth_units.proofs.Walking.{IsKept, walked}
-
-some_same : {A : Type 0} {a b : A} → Some a ≡ Some b → a ≡ b
-some_same e = cc
-
-false_true : false ≡ true → ⊥
-false_true e = cc
+use Rattle.base_laws.proofs.Numbers.{false_true, same_is}
+use Rattle.base_laws.proofs.Options.{some_same}
 
 none_among : (all : List Block) (b : Block) → NoneMarked all → Among b all → NoMarkers b.instructions
 none_among [] b h a = elim a [ ]
@@ -58,9 +54,6 @@ fit_from number all (x ∷ xs) j h = ((j + 0, x, h 0 x refl, refl), fit_from num
   where
     one : (i : ℕ) → j + suc i ≡ j + 1 + i
     one i = omega arith
-
-same_is : (y : ℕ) → (y == y) ≡ true
-same_is y = grind (arith, nat_tests)
 
 -- a parameter's scalar is bound
 bound_is : (n : Names) (all : List ℕ) (v y : ℕ) → Among v all → scalar_of n v ≡ Some y → is_bound y (map (binding_of n) all) ≡ true

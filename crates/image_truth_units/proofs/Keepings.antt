@@ -1,8 +1,8 @@
 -- Where tables keep each variable of a program.
-use Rattle.std.proofs.Common.{◌≡◌, ◌≢◌, ℕ, zero, suc, ◌+◌, ◌*◌, ◌/◌, ◌%◌, ◌≤◌, ◌<◌, ◌⊎◌, inl, inr, ⊎_elim, Option, Some, None, List, [], ◌∷◌, ◌++◌, length, map, replicate, slice_get, slice_index, refl, sym, ap, ◌∙◌, subst, arith}
+use Rattle.std.proofs.Common.{◌≡◌, ◌≢◌, ℕ, zero, suc, ◌+◌, ◌≤◌, ◌<◌, ◌⊎◌, inl, inr, ⊎_elim, Some, List, [], ◌∷◌, ◌++◌, length, map, replicate, slice_get, slice_index, refl, sym, ap, ◌∙◌, subst, arith}
 use Rattle.std.specs.Prelude.{slice_set}
 use Rattle.std.specs.List.{AllByRecursion}
-use Rattle.std.proofs.lemmas.List.{length-append, length-map, length-replicate, length-set}
+use Rattle.std.proofs.lemmas.List.{length-append, length-map}
 use Rattle.std.proofs.lemmas.Option.{none-some, same_Some}
 use Rattle.graph_homes.specs.declared.home.Home.{Home}
 use Rattle.graph_homes.specs.declared.home.Home.TheVariants.{Register, Slot}
@@ -17,6 +17,7 @@ use Rattle.rv_emit_tables.specs.Emitted.{EmittedForm, FunctionCode}
 use Rattle.image_form.specs.declared.variables.Storage.{Storage}
 use Rattle.image_form.specs.declared.variables.Storage.TheVariants as storage
 use Rattle.image_build_tables.specs.Storages.{Keeping, functions_kept, keepings_of, objects_kept, put_all, scalars_kept, statics_kept, storage_of, storages_of}
+use Rattle.base_laws.proofs.Lists.{both_all as both_kinds, set_other}
 
 -- ---- Lists
 
@@ -29,23 +30,12 @@ pub among_right : {A : Type 0} (xs ys : List A) (x : A) → Among x ys → Among
 among_right [] ys x among = among
 among_right (y ∷ xs) ys x among = behind (among_right xs ys x among)
 
-both_kinds : {A : Type 0} (P : A → Type 0) (xs ys : List A) → AllByRecursion P xs → AllByRecursion P ys → AllByRecursion P (xs ++ ys)
-both_kinds P [] ys one two = two
-both_kinds P (x ∷ xs) ys one two = (one.0, both_kinds P xs ys one.1 two)
-
 -- ---- What stands in a table
 
 set_same : {A : Type 0} (xs : List A) (n : ℕ) (x y : A) → slice_get (slice_set xs n x) n ≡ Some y → x ≡ y
 set_same [] n x y is = absurd (none-some y is)
 set_same (z ∷ xs) zero x y is = same_Some x y is
 set_same (z ∷ xs) (suc n) x y is = set_same xs n x y is
-
-set_other : {A : Type 0} (xs : List A) (n k : ℕ) (x y : A) → slice_get (slice_set xs n x) k ≡ Some y → ((k ≡ n) × (x ≡ y)) ⊎ (slice_get xs k ≡ Some y)
-set_other [] n k x y is = inr is
-set_other (z ∷ xs) zero zero x y is = inl (refl, same_Some x y is)
-set_other (z ∷ xs) zero (suc k) x y is = inr is
-set_other (z ∷ xs) (suc n) zero x y is = inr is
-set_other (z ∷ xs) (suc n) (suc k) x y is = ⊎_elim (λ both. inl (ap (λ i. suc i) both.0, both.1)) (λ old. inr old) (set_other xs n k x y is)
 
 -- what is put behind others stands, or what stood does
 put_or : (P : Storage → Type 0) (all : List Keeping) (table : List Storage) (number : ℕ) (at : Storage) → AllByRecursion (λ (k : Keeping). P k.storage) all → slice_get (put_all all table) number ≡ Some at → P at ⊎ (slice_get table number ≡ Some at)

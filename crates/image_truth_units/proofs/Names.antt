@@ -1,12 +1,10 @@
 -- The names of tables keep their rules, where no pass made a change.
-use Rattle.std.proofs.Common.{◌≡◌, ◌≢◌, ℕ, zero, suc, ◌+◌, ◌*◌, ◌≤◌, ◌<◌, inl, inr, Bool, true, ◌&&◌, Option, Some, None, List, [], ◌∷◌, ◌++◌, length, map, take, drop, sum, slice_get, refl, sym, ap, ◌∙◌, subst, arith}
-use Rattle.std.specs.Prelude.{◌-◌, nat_le, slice_index, EachIndex}
+use Rattle.std.proofs.Common.{◌≡◌, ℕ, zero, suc, ◌+◌, ◌*◌, ◌≤◌, true, Some, List, [], ◌∷◌, ◌++◌, length, map, take, drop, sum, slice_get, refl, sym, ap, ◌∙◌, subst, arith}
+use Rattle.std.specs.Prelude.{◌-◌, nat_le, slice_index}
 use Rattle.std.specs.List.{AllByRecursion, flat_map, list_all}
-use Rattle.std.proofs.lemmas.Bool.{cases_lt}
 use Rattle.std.proofs.lemmas.List.{length-map, length-append}
 use Rattle.std.proofs.lemmas.List.Concat.{flat_map-append}
 use Rattle.std.proofs.lemmas.List.Folds.{flat_map-map}
-use Rattle.std.proofs.lemmas.List.Sums.{sum_by-cons}
 use Rattle.std.proofs.lemmas.Option.{none-some, same_Some}
 use Rattle.std.proofs.Math.Seq.{take-append_seam, drop-append-add}
 use Rattle.places.specs.declared.table.PlaceRow.{PlaceRow}
@@ -27,19 +25,9 @@ use Rattle.image_truth_units.proofs.Accepted.{both}
 use Rattle.image_truth_units.proofs.Given.{Given}
 use Rattle.image_truth_units.proofs.Lists.{all_at, all_from, from_map, map_at, there}
 use Rattle.image_truth_units.proofs.ProgramPlaces.{both_all}
+use Rattle.base_laws.proofs.Lists.{all_map, all_weaker, append_same, map_map, sum_more}
 
 -- ---- Names that lie one after the other
-
-sum_more : (n : ℕ) (ns : List ℕ) → sum (n ∷ ns) ≡ n + sum ns
-sum_more n ns = sum_by-cons (λ k. k) n ns
-
-append_same : (a b c : List ℕ) → (a ++ b) ++ c ≡ a ++ (b ++ c)
-append_same [] b c = refl
-append_same (x ∷ a) b c = ap (λ l. x ∷ l) (append_same a b c)
-
-map_map : {A B C : Type 0} (g : B → C) (f : A → B) (xs : List A) → map g (map f xs) ≡ map (λ x. g (f x)) xs
-map_map g f [] = refl
-map_map g f (x ∷ xs) = ap (λ l. g (f x) ∷ l) (map_map g f xs)
 
 -- each is found by the lengths
 name_found : (names : List (List ℕ)) (more : List ℕ) (k : ℕ) (name : List ℕ) → slice_get names k ≡ Some name → name_at (map length names) k (flat_map (λ n. n) names ++ more) ≡ name
@@ -137,14 +125,6 @@ IsAllowed n = (length n ≤ 63) × IsIdentifierOrEmpty n
 
 allowed : (n : List ℕ) → is_name n ≡ true → IsAllowed n
 allowed n h = (name_short n h, identifier_or_empty n (identifier n h))
-
-all_map : {A B : Type 0} (f : A → B) (P : B → Type 0) (all : List A) → AllByRecursion (λ a. P (f a)) all → AllByRecursion P (map f all)
-all_map f P [] each = tt
-all_map f P (a ∷ all) each = (each.0, all_map f P all each.1)
-
-all_weaker : {A : Type 0} (P Q : A → Type 0) (all : List A) → ((a : A) → P a → Q a) → AllByRecursion P all → AllByRecursion Q all
-all_weaker P Q [] go each = tt
-all_weaker P Q (a ∷ all) go each = (go a each.0, all_weaker P Q all go each.1)
 
 -- ---- All of it
 

@@ -35,26 +35,9 @@ use Rattle.image_truth_units.proofs.Growing.{going_grows}
 use Rattle.image_truth_units.proofs.Owing.{N, Owns, HasN, step_on, note_is, statements_owe}
 use Rattle.image_truth_units.proofs.Positions.{At, at_front, at_back, split_among, above, apart, same_assigned, ascend_front, ascend_back, Within, joined, statements_within}
 use Rattle.image_truth_units.proofs.Walking.{IsKept, walked}
-
-some_same : {A : Type 0} {a b : A} → Some a ≡ Some b → a ≡ b
-some_same e = cc
-
-none_is : {A : Type 0} {a : A} → None ≡ Some a → ⊥
-none_is e = cc
-
-false_true : false ≡ true → ⊥
-false_true e = cc
-
-or_cases : (a b : Bool) → a || b ≡ true → (a ≡ true) ⊎ (b ≡ true)
-or_cases true b h = inl refl
-or_cases false b h = inr h
-
-two_true : (a b : Bool) → a && b ≡ true → (a ≡ true) × (b ≡ true)
-two_true true b h = (refl, h)
-two_true false b h = cc
-
-same_name : (a b : ℕ) → (a == b) ≡ true → a ≡ b
-same_name a b h = grind (arith, nat_tests)
+use Rattle.base_laws.proofs.Booleans.{or_cases, two_true}
+use Rattle.base_laws.proofs.Numbers.{are_equal as same_name, false_true}
+use Rattle.base_laws.proofs.Options.{none_is, some_same}
 
 -- ---- where the variable of an assignment of the unit is assigned
 

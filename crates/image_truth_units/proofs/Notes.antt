@@ -2,7 +2,6 @@
 use Rattle.std.proofs.Common.{◌≡◌, ◌⊎◌, inl, inr, ℕ, zero, suc, ◌+◌, ◌≤◌, ◌<◌, Bool, true, false, Option, Some, None, List, [], ◌∷◌, length, map, slice_get, refl, sym, ap, ◌∙◌, subst, arith, ◌==◌}
 use Rattle.std.specs.Prelude.{◌||◌, ◌&&◌, nat_le, option_map}
 use Rattle.std.specs.List.{list_any}
-use Rattle.std.proofs.lemmas.Bool.Decides.{nat_tests}
 use Rattle.std.proofs.lemmas.List.{length-map}
 use Rattle.places.specs.Flow.{assigns}
 use Rattle.c_tree.specs.Programs.{TypedFunctionTree, ProgramTree}
@@ -22,25 +21,9 @@ use Rattle.image_truth_units.proofs.Allowed.{Allowed}
 use Rattle.image_truth_units.proofs.Assigning.{HasAssignments, May, may_statements, may_entry}
 use Rattle.image_truth_units.proofs.Graphs.{code, behind_written, end_written, call_noted, in_place_allowed}
 use Rattle.image_truth_units.proofs.Placing.{marker_is, path_in_place, path_writes}
-
-none_is : {A : Type 0} {a : A} → None ≡ Some a → ⊥
-none_is e = cc
-
-some_same : {A : Type 0} {a b : A} → Some a ≡ Some b → a ≡ b
-some_same e = cc
-
-same_is : (y : ℕ) → (y == y) ≡ true
-same_is y = grind (arith, nat_tests)
-
-at_most : (a b : ℕ) → nat_le a b ≡ true → a ≤ b
-at_most a b h = grind (arith, nat_tests)
-
-is_most : (a b : ℕ) → a ≤ b → nat_le a b ≡ true
-is_most a b h = grind (arith, nat_tests, h)
-
-or_right : (a b : Bool) → b ≡ true → a || b ≡ true
-or_right true b h = refl
-or_right false b h = h
+use Rattle.base_laws.proofs.Booleans.{or_cases, or_right}
+use Rattle.base_laws.proofs.Numbers.{are_equal as same_name, at_most, is_most, same_is}
+use Rattle.base_laws.proofs.Options.{none_is, some_same}
 
 among_any : (y : ℕ) (all : List ℕ) → Among y all → list_any (λ (z : ℕ). z == y) all ≡ true
 among_any y [] h = elim h [ ]
@@ -56,13 +39,6 @@ got_variable : (all : List Scalar) (x variable : ℕ) → option_map (λ (s : Sc
 got_variable [] x variable e = absurd (none_is e)
 got_variable (s ∷ all) zero variable e = omega arith
 got_variable (s ∷ all) (suc x) variable e = omega (arith, got_variable all x variable e)
-
-or_cases : (a b : Bool) → a || b ≡ true → (a ≡ true) ⊎ (b ≡ true)
-or_cases true b h = inl refl
-or_cases false b h = inr h
-
-same_name : (a b : ℕ) → (a == b) ≡ true → a ≡ b
-same_name a b h = grind (arith, nat_tests)
 
 -- a scalar that is bound is that of a parameter
 bound_of : (n : Names) (all : List ℕ) (x : ℕ) → is_bound x (map (binding_of n) all) ≡ true → (v : ℕ) × Among v all × (scalar_of n v ≡ Some x)

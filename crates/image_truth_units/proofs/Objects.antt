@@ -1,5 +1,5 @@
 -- The text of what stands in memory of a program's object is that of its values.
-use Rattle.std.proofs.Common.{◌≡◌, ℕ, zero, suc, ◌+◌, ◌*◌, ◌<◌, ◌≤◌, true, false, Some, List, [], ◌∷◌, length, take, slice_get, refl, sym, ap, ◌∙◌, subst, arith}
+use Rattle.std.proofs.Common.{◌≡◌, ℕ, zero, suc, ◌+◌, ◌*◌, ◌<◌, true, false, Some, List, [], ◌∷◌, length, take, slice_get, refl, sym, ap, ◌∙◌, subst, arith}
 use Rattle.std.specs.Prelude.{◌==◌, nat_lt, min, if◌then◌else◌}
 use Rattle.std.proofs.lemmas.Bool.Decides.{nat_tests}
 use Rattle.event_runs.specs.Agreement.{Pairs}
@@ -24,15 +24,11 @@ use Rattle.image_truth_units.specs.Texts.{IsText, IsScalarText, IsObjectText, mo
 use Rattle.image_truth_units.specs.Variables.{HasVariablesOf, HasElements}
 use Rattle.image_truth_units.specs.Standing.{Standing, AreBitsOf, HoldsMemory}
 use Rattle.image_truth_units.proofs.Values.{size_same, element_shown}
+use Rattle.base_laws.proofs.Numbers.{times_within}
 
 same_most : view.most_elements ≡ most_elements
 unfolding view.most_elements most_elements
 same_most = refl
-
-times_within : (i count size : ℕ) → i ≤ count → i * size ≤ count * size
-times_within zero count size le = omega arith
-times_within (suc i) zero size le = absurd (omega (arith, le))
-times_within (suc i) (suc count) size le = let rest = times_within i count size (omega (arith, le)) in omega (arith, rest)
 
 module _ (p : ProgramTree) (m : Form) (tables : HasVariablesOf p m) (memory : Memory) (here : Standing) (waiting : List Standing) (s : State) (h : HoldsMemory p m memory here waiting s) (n : ℕ) (o : Object) (is : slice_get memory n ≡ Some o) (start : ℕ) (fits : start + length o.values * scalar_size o.element < 4294967296)
     (values : (i : ℕ) (v : source.Value) → slice_get o.values i ≡ Some v → AreBitsOf p m (here ∷ waiting) memory v (scalar_size o.element) (element_word s (element_by_stars o.element.base o.element.stars) (start + i * scalar_size o.element))) where

@@ -1,5 +1,5 @@
 -- The functions to which the variables of a well-formed program belong.
-use Rattle.std.proofs.Common.{◌≡◌, ℕ, zero, suc, ◌+◌, ◌-◌, ◌<◌, ◌≤◌, true, Some, List, [], ◌∷◌, ◌++◌, length, replicate, slice_get, refl, ap, ◌∙◌, arith}
+use Rattle.std.proofs.Common.{◌≡◌, ℕ, zero, suc, ◌+◌, ◌-◌, ◌<◌, ◌≤◌, true, Some, List, [], ◌∷◌, ◌++◌, length, replicate, slice_get, ap, ◌∙◌, arith}
 use Rattle.std.specs.Prelude.{◌==◌}
 use Rattle.std.proofs.lemmas.Bool.{and_parts, eqb-true}
 use Rattle.std.proofs.lemmas.List.{length-replicate}
@@ -8,11 +8,7 @@ use Rattle.c_tree.specs.Programs.{TypedFunctionTree}
 use Rattle.c_type_laws.specs.Laws.{follow}
 use Rattle.image_build_tables.specs.Variables.{owned_from}
 use Rattle.image_truth_units.proofs.Tables.{front_at, behind_at}
-
-replicate_at : {A : Type 0} (n k : ℕ) (x : A) → k < n → slice_get (replicate n x) k ≡ Some x
-replicate_at zero k x lt = absurd (omega (arith, lt))
-replicate_at (suc n) zero x lt = refl
-replicate_at (suc n) (suc k) x lt = replicate_at n k x (omega (arith, lt))
+use Rattle.base_laws.proofs.Options.{replicate_at}
 
 -- a later function's variables come behind
 later_behind : (next count : ℕ) (all : List TypedFunctionTree) (k : ℕ) (f : TypedFunctionTree) → follow next count all ≡ true → slice_get all k ≡ Some f → next ≤ f.first_variable

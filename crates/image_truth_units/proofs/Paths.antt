@@ -9,6 +9,7 @@ use Rattle.graph_core.specs.WellMarked as marked
 use Rattle.graph_core.specs.WellMarked.{StandsIn, InPlace}
 use Rattle.image_truth_units.specs.Timing.{KeepsTime}
 use Rattle.image_truth_units.proofs.Ordinary.{is_ordinary, AllOrdinary, WordsFirst, sets, copies, ordinary, IsPlaced, IsInner}
+use Rattle.base_laws.proofs.Options.{some_same}
 
 -- notes alone
 abbrev pub is_note : Instruction → Bool
@@ -22,9 +23,6 @@ AllNotes (i ∷ more) = (is_note i ≡ true) × AllNotes more
 -- a block begins with a marker
 abbrev pub BeginsPlace : List Instruction → Type 0
 BeginsPlace all = (q : ℕ) × (rest : List Instruction) × (all ≡ Marker q ∷ rest)
-
-some_same : {A : Type 0} {a b : A} → Some a ≡ Some b → a ≡ b
-some_same e = cc
 
 head_same : {i j : Instruction} {xs ys : List Instruction} → i ∷ xs ≡ j ∷ ys → i ≡ j
 head_same e = cc

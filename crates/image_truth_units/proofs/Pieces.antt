@@ -1,6 +1,5 @@
 -- The pieces of code have a property of the rules where what they are for has it.
 use Rattle.std.proofs.Common.{◌≡◌, ℕ, ◌+◌, ◌≤◌, Bool, true, false, Option, Some, None, List, [], ◌∷◌, refl, sym, subst, arith, if◌then◌else◌, ◌==◌, not}
-use Rattle.std.proofs.lemmas.Bool.Decides.{nat_tests}
 use Rattle.c_tree.specs.declared.types.IntegerType.{IntegerType}
 use Rattle.c_tree.specs.declared.typed_expression.Comparison as declared-comparison
 use Rattle.c_tree.specs.declared.typed_expression.Comparison.TheVariants as comparison
@@ -36,12 +35,7 @@ use Rattle.graph_build_steps.specs.Steps.{signed, finished, distance, changed, c
 use Rattle.graph_build_laws.proofs.Temporaries.{pick_least, moved_behind}
 use Rattle.graph_build_laws.proofs.GraphMarkingPieces.{grows_none}
 use Rattle.image_truth_units.proofs.Rules.{stands, lies, NoneStands, Clear, Marking}
-
-same_name : (a b : ℕ) → (a == b) ≡ true → a ≡ b
-same_name a b h = grind (arith, nat_tests)
-
-false_true : false ≡ true → ⊥
-false_true e = cc
+use Rattle.base_laws.proofs.Numbers.{are_equal as same_name, false_true}
 
 module _ (x : Marking) where
   abbrev pub n : Names

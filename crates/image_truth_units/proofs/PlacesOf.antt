@@ -20,12 +20,9 @@ use Rattle.image_form.specs.Form.{numbered as numbered_place}
 use Rattle.image_form.specs.declared.tables.Place.{Place as ImagePlace}
 use Rattle.image_truth_units.proofs.Tables.{from_map, front_at, all_at, map_at}
 use Rattle.image_truth_units.proofs.ImageUnitsWhole.{of_graph}
+use Rattle.base_laws.proofs.Lists.{both_all}
 
 -- ---- Lists
-
-both_all : {A : Type 0} (P : A → Type 0) (xs ys : List A) → AllByRecursion P xs → AllByRecursion P ys → AllByRecursion P (xs ++ ys)
-both_all P [] ys one two = two
-both_all P (x ∷ xs) ys one two = (one.0, both_all P xs ys one.1 two)
 
 among_at : {A : Type 0} (all : List A) (x : A) → Among x all → (k : ℕ) × (slice_get all k ≡ Some x)
 among_at [] x among = elim among [ ]

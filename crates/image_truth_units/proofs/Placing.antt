@@ -1,6 +1,6 @@
 -- What a path has written in the place in force an instruction of that place writes, or the call that binds the parameters.
 use Rattle.std.proofs.Common.{◌≡◌, ◌⊎◌, inl, inr, ℕ, Bool, true, false, Option, Some, None, List, [], ◌∷◌, ◌++◌, slice_get, refl, sym, ap, ◌∙◌, subst, arith, if◌then◌else◌, ◌==◌}
-use Rattle.std.specs.Prelude.{◌||◌, ◌&&◌}
+use Rattle.std.specs.Prelude.{◌||◌}
 use Rattle.std.specs.List.{AllByRecursion}
 use Rattle.std.proofs.lemmas.Bool.Decides.{nat_tests}
 use Rattle.graph_core.specs.Graphs.{Instruction, Marker, Note, Move, Operate, Truncate, Same, Address, Load, Store, Zero, CopyWords, Call, End, Block, Graph, UnitForm}
@@ -8,23 +8,11 @@ use Rattle.graph_core.specs.Uses.{targets_of}
 use Rattle.graph_core.specs.Paths.{History, Among, front, behind, Way, stays, passes, goes, Path, path, place_of, place_by, is_marker, is_bound, bound_at, writes, written}
 use Rattle.graph_core.specs.Validity.{IsBlock, IsKept, KeepsPlace, place_behind}
 use Rattle.graph_core.specs.WellMarked.{StandsIn, here, behind as further, InPlace, WrittenIn, instruction, bound}
-
-some_same : {A : Type 0} {a b : A} → Some a ≡ Some b → a ≡ b
-some_same e = cc
-
-none_is : {A : Type 0} {a : A} → None ≡ Some a → ⊥
-none_is e = cc
-
-false_true : false ≡ true → ⊥
-false_true e = cc
-
-one_behind : {A : Type 0} (xs : List A) (x : A) (ys : List A) → xs ++ x ∷ ys ≡ (xs ++ x ∷ []) ++ ys
-one_behind [] x ys = refl
-one_behind (y ∷ xs) x ys = ap (λ l. y ∷ l) (one_behind xs x ys)
-
-nothing_behind : {A : Type 0} (xs : List A) → xs ++ [] ≡ xs
-nothing_behind [] = refl
-nothing_behind (x ∷ xs) = ap (λ l. x ∷ l) (nothing_behind xs)
+use Rattle.base_laws.proofs.Booleans.{two_true as and_parts}
+use Rattle.base_laws.proofs.Lists.{append_nil as nothing_behind, one_behind}
+use Rattle.base_laws.proofs.Numbers.{false_true}
+use Rattle.base_laws.proofs.Options.{none_is, some_same}
+pub use Rattle.base_laws.proofs.Lists.{got_one}
 
 -- the place behind one more instruction
 place_on : (j : Instruction) (all : List Instruction) (place : Option ℕ) → place_behind (j ∷ all) place ≡ place_behind all (place_by j place)
@@ -113,15 +101,6 @@ one_of_all : {A : Type 0} (P : A → Type 0) (all : List A) (a : A) → AllByRec
 one_of_all P [] a h k = elim k [ ]
 one_of_all P (x ∷ all) a h front = h.0
 one_of_all P (x ∷ all) a h (behind k) = one_of_all P all a h.1 k
-
-pub got_one : {A : Type 0} (P : A → Type 0) (all : List A) (k : ℕ) (a : A) → AllByRecursion P all → slice_get all k ≡ Some a → P a
-got_one P [] k a h e = absurd (none_is e)
-got_one P (x ∷ all) Rattle.std.proofs.Common.zero a h e = subst P (some_same e) h.0
-got_one P (x ∷ all) (Rattle.std.proofs.Common.suc k) a h e = got_one P all k a h.1 e
-
-and_parts : (a b : Bool) → a && b ≡ true → (a ≡ true) × (b ≡ true)
-and_parts true b h = (refl, h)
-and_parts false b h = cc
 
 -- Where a path stands: what is left of a block, and the place in force there.
 pub record StandsAt (g : Graph) (h : History) (n : ℕ) (rest : List Instruction) (e : End) : Type 0 where

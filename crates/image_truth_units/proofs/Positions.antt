@@ -16,6 +16,7 @@ use Rattle.graph_build_names.specs.Names.{Names, scalar_of}
 use Rattle.graph_build_names.specs.Writes.{writes, writes_within, writes_any, names_it, is_that}
 use Rattle.graph_build_laws.proofs.Ascending.{Ascend}
 use Rattle.image_truth_units.proofs.UnitFactsAssigned.{among_front, among_back}
+use Rattle.base_laws.proofs.Numbers.{no_entry as true_false}
 
 -- a position is that of one of these places
 abbrev pub At : ℕ → List Place → Type 0
@@ -131,9 +132,6 @@ abbrev automatic_number : designator.Object → ℕ
 automatic_number (object.Automatic v) = v
 automatic_number (object.Static i) = 0
 automatic_number (object.Literal i) = 0
-
-true_false : true ≡ false → ⊥
-true_false e = cc
 
 -- two automatic variables that are assigned alike are one
 pub same_assigned : (at v w : ℕ) → assigns_object at (object.Automatic v) ≡ assigns_object at (object.Automatic w) → v ≡ w

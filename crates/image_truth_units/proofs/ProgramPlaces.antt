@@ -1,10 +1,9 @@
 -- The places of a program: function by function, each at its number.
 use Rattle.std.proofs.Common.{◌≡◌, ℕ, zero, suc, ◌+◌, ◌-◌, ◌≤◌, ◌<◌, ◌⊎◌, inl, inr, Bool, true, false, Option, Some, None, List, [], ◌∷◌, ◌++◌, length, map, slice_get, refl, sym, ap, ◌∙◌, subst, arith}
-use Rattle.std.specs.Prelude.{◌&&◌, nat_lt, if◌then◌else◌}
+use Rattle.std.specs.Prelude.{nat_lt, if◌then◌else◌}
 use Rattle.std.specs.List.{AllByRecursion}
 use Rattle.std.proofs.lemmas.Bool.{cases_lt}
-use Rattle.std.proofs.lemmas.Bool.Decides.{nat_tests}
-use Rattle.std.proofs.lemmas.Option.{none-some, same_Some, slice_get_within}
+use Rattle.std.proofs.lemmas.Option.{none-some, same_Some}
 use Rattle.debug_records.specs.declared.source.Spot.{Spot}
 use Rattle.c_tree.specs.TypedExpressions.{RvalueTree}
 use Rattle.c_tree.specs.TypedStatements.{DeclaredTree, TypedStartTree, Nothing, Value, Declares, StepTree, TypedStatementTree, Block, Declaration, Empty, Run, If, IfElse, While, DoWhile, For, Switch, Break, Continue, Return, TypedStatementTrees, none, first, case, default}
@@ -14,30 +13,21 @@ use Rattle.c_places.specs.Places.{Place, stop, brought, brought_by_start, brough
 use Rattle.c_type_laws.specs.Orders.{ascends, ascends_behind}
 use Rattle.image_truth_units.proofs.Accepted.{both, is_less}
 use Rattle.image_truth_units.proofs.Lists.{all_at}
+use Rattle.base_laws.proofs.Numbers.{less as is_before, no_entry, not_before}
+pub use Rattle.base_laws.proofs.Lists.{behind_at as behind_is, both_all}
 
 -- ---- Lists
-
-pub both_all : {A : Type 0} (P : A → Type 0) (xs ys : List A) → AllByRecursion P xs → AllByRecursion P ys → AllByRecursion P (xs ++ ys)
-both_all P [] ys one two = two
-both_all P (x ∷ xs) ys one two = (one.0, both_all P xs ys one.1 two)
 
 pub front_is : {A : Type 0} (xs ys : List A) (k : ℕ) → k < length xs → slice_get (xs ++ ys) k ≡ slice_get xs k
 front_is [] ys k low = absurd (omega (arith, low))
 front_is (x ∷ xs) ys zero low = refl
 front_is (x ∷ xs) ys (suc k) low = front_is xs ys k (omega (arith, low))
 
-pub behind_is : {A : Type 0} (xs ys : List A) (k : ℕ) → slice_get (xs ++ ys) (length xs + k) ≡ slice_get ys k
-behind_is [] ys k = ap (slice_get ys) (omega arith)
-behind_is (x ∷ xs) ys k = let e : length (x ∷ xs) + k ≡ suc (length xs + k) = omega arith in ap (slice_get (x ∷ (xs ++ ys))) e ∙ behind_is xs ys k
-
 -- ---- The function of each place
 
 -- a place is one of a function, and no entry
 abbrev IsIn : (function : ℕ) → Place → Type 0
 IsIn f q = (q.function ≡ f) × (q.is_entry ≡ false)
-
-no_entry : true ≡ false → ⊥
-no_entry e = cc
 
 declared_in : (f : ℕ) (scope : List ℕ) (all : List DeclaredTree) → AllByRecursion (IsIn f) (places_of_declarators f scope all)
 declared_in f scope [] = tt
@@ -174,12 +164,6 @@ entry_only number (f ∷ all) i q is flag = elim (cases_lt i (length (places_of_
 
 abbrev pub spots : List Place → List ℕ
 spots all = map (λ (q : Place). q.spot.at) all
-
-not_before : (a b : ℕ) → b ≤ a → nat_lt a b ≡ false
-not_before a b h = grind (arith, nat_tests)
-
-is_before : (a b : ℕ) → a < b → nat_lt a b ≡ true
-is_before a b h = grind (arith, nat_tests)
 
 none_before : (at last : ℕ) (all : List Place) → at ≤ last → ascends_behind last (spots all) ≡ true → count_before at all ≡ 0
 none_before at last [] h k = refl

@@ -19,9 +19,7 @@ use Rattle.graph_build_laws.proofs.WellFormed.{and_both}
 use Rattle.graph_build_statements.specs.Declaring.{object_type_of, words_of, copied_words}
 use Rattle.graph_build_laws.proofs.Accepted.{ProgramFacts}
 use Rattle.graph_build_laws.proofs.Homes.{dropped_at, taken_at}
-
-some_same : {A : Type 0} {a b : A} → Some a ≡ Some b → a ≡ b
-some_same e = cc
+use Rattle.base_laws.proofs.Options.{some_same}
 
 -- a scalar has a word at most
 small_integer : (t : IntegerType) → size t ≤ 4

@@ -13,16 +13,9 @@ use Rattle.c_type_laws.specs.Laws.{IsWellFormed}
 use Rattle.c_type_laws.specs.Orders.{is_numbered}
 use Rattle.c_type_laws.specs.Declarations.{declared_by, declared_by_start, declared_in, declared_in_all}
 use Rattle.graph_build_laws.proofs.Accepted.{FunctionFacts, facts_of}
+use Rattle.base_laws.proofs.Lists.{both_all, parts_all}
 
 -- ---- Lists
-
-both_all : {A : Type 0} (P : A → Type 0) (xs ys : List A) → AllByRecursion P xs → AllByRecursion P ys → AllByRecursion P (xs ++ ys)
-both_all P [] ys one two = two
-both_all P (x ∷ xs) ys one two = (one.0, both_all P xs ys one.1 two)
-
-parts_all : {A : Type 0} (P : A → Type 0) (xs ys : List A) → AllByRecursion P (xs ++ ys) → AllByRecursion P xs × AllByRecursion P ys
-parts_all P [] ys all = (tt, all)
-parts_all P (x ∷ xs) ys all = let rest = parts_all P xs ys all.1 in ((all.0, rest.0), rest.1)
 
 -- ---- Statements
 

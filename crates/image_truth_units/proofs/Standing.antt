@@ -11,9 +11,7 @@ use Rattle.graph_build_laws.specs.Passing.{Grows}
 use Rattle.graph_build_laws.specs.Points.{AtLabel, StandIn}
 use Rattle.graph_build_laws.proofs.Instances.{got_before, got_next}
 use Rattle.image_truth_units.proofs.Rules.{stands, lies, NoneStands, SomeClear, Clear}
-
-some_same : {A : Type 0} {a b : A} → Some a ≡ Some b → a ≡ b
-some_same e = cc
+use Rattle.base_laws.proofs.Options.{some_same}
 
 module _ (blocks : List Block) (top : ℕ) where
   pub closed_before : (place : ℕ) (m : Made) → StandIn blocks top (closed place m) → StandIn blocks top m.inner

@@ -11,6 +11,7 @@ use Rattle.rv_emit_tables.specs.Emitted.{EmittedForm, FunctionCode}
 use Rattle.image_form.specs.declared.variables.Storage.{Storage}
 use Rattle.image_form.specs.declared.variables.Storage.TheVariants as storage
 use Rattle.image_build_tables.specs.Storages.{Keeping, storage_of, scalars_kept, objects_kept, functions_kept, statics_kept, keepings_of, put_all, storages_of}
+use Rattle.base_laws.proofs.Lists.{set_other as set_from}
 
 -- ---- Lists
 
@@ -18,13 +19,6 @@ among_either : {A : Type 0} (xs ys : List A) (x : A) → Among x (xs ++ ys) → 
 among_either [] ys x among = inr among
 among_either (y ∷ xs) ys x front = inl front
 among_either (y ∷ xs) ys x (behind among) = ⊎_elim (λ left. inl (behind left)) (λ right. inr right) (among_either xs ys x among)
-
-set_from : {A : Type 0} (xs : List A) (n k : ℕ) (x y : A) → slice_get (slice_set xs n x) k ≡ Some y → ((k ≡ n) × (x ≡ y)) ⊎ (slice_get xs k ≡ Some y)
-set_from [] n k x y is = inr is
-set_from (z ∷ xs) zero zero x y is = inl (refl, same_Some x y is)
-set_from (z ∷ xs) zero (suc k) x y is = inr is
-set_from (z ∷ xs) (suc n) zero x y is = inr is
-set_from (z ∷ xs) (suc n) (suc k) x y is = ⊎_elim (λ both. inl (ap (λ i. suc i) both.0, both.1)) (λ old. inr old) (set_from xs n k x y is)
 
 same_from : {A : Type 0} (n k : ℕ) (x y : A) → slice_get (replicate n x) k ≡ Some y → x ≡ y
 same_from zero k x y is = absurd (none-some y is)

@@ -11,14 +11,7 @@ use Rattle.c_type_laws.specs.Laws.{is_in_memory, are_in_memory}
 use Rattle.graph_build_names.specs.Names.{Names, scalar_of}
 use Rattle.graph_build_names.specs.Writes.{writes, writes_within, writes_any, names_it, is_that}
 use Rattle.graph_build_laws.specs.Surely.{IsSure, IsSurePlace, AreSure}
-
-two_true : (a b : Bool) → a && b ≡ true → (a ≡ true) × (b ≡ true)
-two_true true b h = (refl, h)
-two_true false b h = cc
-
-no_two : (a b : Bool) → a ≡ false → b ≡ false → a || b ≡ false
-no_two true b h k = cc
-no_two false b h k = k
+use Rattle.base_laws.proofs.Booleans.{or_none as no_two, two_true}
 
 no_three : (a b c : Bool) → a ≡ false → b ≡ false → c ≡ false → a || b || c ≡ false
 no_three a b c h k l = no_two (a || b) c (no_two a b h k) l

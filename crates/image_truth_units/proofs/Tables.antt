@@ -7,7 +7,6 @@ use Rattle.std.proofs.lemmas.Bool.{cases_lt}
 use Rattle.std.proofs.lemmas.List.{length-map, length-append}
 use Rattle.std.proofs.lemmas.List.Concat.{flat_map-append}
 use Rattle.std.proofs.lemmas.List.Folds.{flat_map-map}
-use Rattle.std.proofs.lemmas.List.Sums.{sum_by-cons}
 use Rattle.std.proofs.lemmas.Option.{none-some, same_Some}
 use Rattle.std.proofs.Math.Seq.{take-append_seam, drop-append-add}
 use Rattle.c_tree.specs.declared.object_type.ObjectType.{ObjectType}
@@ -24,53 +23,12 @@ use Rattle.image_form.specs.declared.variables.Storage.TheVariants as kept
 use Rattle.image_form.specs.declared.variables.Variable.{Variable}
 use Rattle.image_truth_units.proofs.Areas.{there}
 use Rattle.image_truth_units.specs.Variables.{static_count, automatic_number, HasElements, IsNamed, HasVariablesOf}
+use Rattle.base_laws.proofs.Lists.{all_map, all_weaker, append_same, map_map, some_length, sum_more}
+pub use Rattle.base_laws.proofs.Lists.{behind_at, from_map, front_at, got_one as all_at, map_at}
 
 -- ---- Lists
 
-pub all_at : {A : Type 0} (P : A → Type 0) (all : List A) (k : ℕ) (a : A) → AllByRecursion P all → slice_get all k ≡ Some a → P a
-all_at P [] k a each is = absurd (none-some a is)
-all_at P (b ∷ all) zero a each is = subst P (same_Some b a is) each.0
-all_at P (b ∷ all) (suc k) a each is = all_at P all k a each.1 is
-
-all_map : {A B : Type 0} (f : A → B) (P : B → Type 0) (all : List A) → AllByRecursion (λ a. P (f a)) all → AllByRecursion P (map f all)
-all_map f P [] each = tt
-all_map f P (a ∷ all) each = (each.0, all_map f P all each.1)
-
-all_weaker : {A : Type 0} (P Q : A → Type 0) (all : List A) → ((a : A) → P a → Q a) → AllByRecursion P all → AllByRecursion Q all
-all_weaker P Q [] go each = tt
-all_weaker P Q (a ∷ all) go each = (go a each.0, all_weaker P Q all go each.1)
-
-pub front_at : {A : Type 0} (xs ys : List A) (k : ℕ) (x : A) → slice_get xs k ≡ Some x → slice_get (xs ++ ys) k ≡ Some x
-front_at [] ys k x is = absurd (none-some x is)
-front_at (y ∷ xs) ys zero x is = is
-front_at (y ∷ xs) ys (suc k) x is = front_at xs ys k x is
-
-pub behind_at : {A : Type 0} (xs ys : List A) (k : ℕ) → slice_get (xs ++ ys) (length xs + k) ≡ slice_get ys k
-behind_at [] ys k = ap (slice_get ys) (omega arith)
-behind_at (x ∷ xs) ys k = let e : length (x ∷ xs) + k ≡ suc (length xs + k) = omega arith in ap (slice_get (x ∷ (xs ++ ys))) e ∙ behind_at xs ys k
-
-pub map_at : {A B : Type 0} (f : A → B) (xs : List A) (k : ℕ) (x : A) → slice_get xs k ≡ Some x → slice_get (map f xs) k ≡ Some (f x)
-map_at f [] k x is = absurd (none-some x is)
-map_at f (y ∷ xs) zero x is = ap (λ z. Some (f z)) (same_Some y x is)
-map_at f (y ∷ xs) (suc k) x is = map_at f xs k x is
-
-pub from_map : {A B : Type 0} (f : A → B) (xs : List A) (k : ℕ) (y : B) → slice_get (map f xs) k ≡ Some y → (x : A) × (slice_get xs k ≡ Some x) × (f x ≡ y)
-from_map f [] k y is = absurd (none-some y is)
-from_map f (x ∷ xs) zero y is = (x, refl, same_Some (f x) y is)
-from_map f (x ∷ xs) (suc k) y is = from_map f xs k y is
-
-map_map : {A B C : Type 0} (g : B → C) (f : A → B) (xs : List A) → map g (map f xs) ≡ map (λ x. g (f x)) xs
-map_map g f [] = refl
-map_map g f (x ∷ xs) = ap (λ l. g (f x) ∷ l) (map_map g f xs)
-
 -- ---- Names that lie one after the other
-
-sum_more : (n : ℕ) (ns : List ℕ) → sum (n ∷ ns) ≡ n + sum ns
-sum_more n ns = sum_by-cons (λ k. k) n ns
-
-append_same : (a b c : List ℕ) → (a ++ b) ++ c ≡ a ++ (b ++ c)
-append_same [] b c = refl
-append_same (x ∷ a) b c = ap (λ l. x ∷ l) (append_same a b c)
 
 -- of names that lie one after the other, each is found by the lengths
 name_found : (names : List (List ℕ)) (more : List ℕ) (k : ℕ) (name : List ℕ) → slice_get names k ≡ Some name → name_at (map length names) k (flat_map (λ n. n) names ++ more) ≡ name
@@ -161,10 +119,6 @@ all_owned number (f ∷ more) = in_front f.variables (all_owned (number + 1) mor
     in_front (suc n) rest = (tt, in_front n rest)
 
 -- ---- The variables
-
-some_length : (n : List ℕ) → n ≢ [] → 1 ≤ length n
-some_length [] some = absurd (some refl)
-some_length (b ∷ n) some = omega arith
 
 module _ (p : ProgramTree) (m : Form) (functions : map name_length m.functions ≡ map length_of_name p.functions) (variables : map shape m.variables ≡ shapes_of p) (owners : map owner m.variables ≡ owners_of p) (more : List ℕ) (names : m.names ≡ declared_names p ++ more) (rules : IsImage m) where
   -- the lengths of names are theirs

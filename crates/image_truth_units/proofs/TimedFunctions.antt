@@ -23,6 +23,8 @@ use Rattle.image_truth_units.proofs.Paths.{is_note, AllNotes, BeginsPlace, Leads
 use Rattle.image_truth_units.proofs.Rooms.{few}
 use Rattle.image_truth_units.proofs.Starts.{entry_leads}
 use Rattle.image_truth_units.proofs.TimedStatements.{ArePlaced, Adds, no_part, place_adds, statements_add}
+use Rattle.base_laws.proofs.Lists.{all_before, all_behind}
+use Rattle.base_laws.proofs.Options.{some_same}
 
 -- the notes of parameters
 record IsNoted (now m : Made) : Type 0 where
@@ -64,15 +66,6 @@ kept_place (Zero o w ∷ rest) p q h k = k
 kept_place (CopyWords o b w ∷ rest) p q h k = k
 kept_place (Call y f all ∷ rest) p q h k = k
 
--- what is so of all is so of some
-all_behind : (P : ℕ → Type 0) (xs ys : List ℕ) → AllByRecursion P (xs ++ ys) → AllByRecursion P ys
-all_behind P [] ys h = h
-all_behind P (x ∷ xs) ys h = all_behind P xs ys h.1
-
-all_before : (P : ℕ → Type 0) (xs ys : List ℕ) → AllByRecursion P (xs ++ ys) → AllByRecursion P xs
-all_before P [] ys h = tt
-all_before P (x ∷ xs) ys h = (h.0, all_before P xs ys h.1)
-
 all_turned : (p : ℕ) (all : List ℕ) → AllByRecursion (λ q. p ≢ q) all → AllByRecursion (λ q. q ≢ p) all
 all_turned p [] h = tt
 all_turned p (q ∷ all) h = ((λ e. h.0 (sym e)), all_turned p all h.1)
@@ -91,9 +84,6 @@ own_among : (Own : ℕ → Type 0) (all : List Block) (b : Block) → AllByRecur
 own_among Own [] b h a q rest is = elim a [ ]
 own_among Own (x ∷ all) b h front q rest is = (subst (λ (l : List Instruction). AllByRecursion Own (markers_in l ++ markers_of_blocks all)) is h).0
 own_among Own (x ∷ all) b h (behind a) q rest is = own_among Own all b (all_behind Own (markers_in x.instructions) (markers_of_blocks all) h) a q rest is
-
-some_same : {A : Type 0} {a b : A} → Some a ≡ Some b → a ≡ b
-some_same e = cc
 
 among_first : (b x : Block) (xs : List Block) → Among b (x ∷ xs) → (b ≡ x) ⊎ Among b xs
 among_first b x xs front = inl refl

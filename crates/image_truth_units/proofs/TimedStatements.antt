@@ -1,5 +1,5 @@
 -- The blocks of places begin with their markers, behind which words are set and copied first and few; inner blocks have ordinary instructions, and places of their own.
-use Rattle.std.proofs.Common.{ℕ, ◌+◌, ◌*◌, ◌≤◌, Bool, true, false, Option, Some, None, List, [], ◌∷◌, ◌++◌, refl, arith, if◌then◌else◌}
+use Rattle.std.proofs.Common.{ℕ, ◌+◌, ◌*◌, ◌≤◌, Bool, true, false, Option, Some, None, List, [], ◌∷◌, refl, arith, if◌then◌else◌}
 use Rattle.std.specs.Prelude.{nat_le}
 use Rattle.std.specs.List.{AllByRecursion}
 use Rattle.c_tree.specs.declared.object_type.Scalar.{Scalar}
@@ -30,14 +30,11 @@ use Rattle.image_truth_units.proofs.Ordinary.{WordsFirst, sets, copies, ordinary
 use Rattle.image_truth_units.proofs.TimedPieces.{before_fine}
 use Rattle.image_truth_units.proofs.TimedExpressions.{code_fine}
 use Rattle.image_truth_units.proofs.Rooms.{HasFew, few_of_scalar, copied_few}
+use Rattle.base_laws.proofs.Lists.{all_behind}
 
 abbrev pub ArePlaced : List unit.Block → Type 0
 ArePlaced [] = Unit {0}
 ArePlaced (b ∷ more) = IsPlaced b × ArePlaced more
-
-all_behind : (P : ℕ → Type 0) (xs ys : List ℕ) → AllByRecursion P (xs ++ ys) → AllByRecursion P ys
-all_behind P [] ys h = h
-all_behind P (x ∷ xs) ys h = all_behind P xs ys h.1
 
 module _ (Own : ℕ → Type 0) (c : Coding) (few : (x : ℕ) → HasFew (object_type_of c.program x)) where
   abbrev P : (at : ℕ) → ℕ

@@ -1,6 +1,5 @@
 -- The unit of a well-formed program keeps what bounds how long its places take.
-use Rattle.std.proofs.Common.{◌≡◌, ◌≢◌, ℕ, zero, suc, ◌+◌, Bool, Some, None, List, [], ◌∷◌, ◌++◌, slice_get, sym, subst, ◌==◌}
-use Rattle.std.specs.List.{AllByRecursion}
+use Rattle.std.proofs.Common.{◌≡◌, ◌≢◌, ℕ, zero, suc, ◌+◌, Bool, Some, List, [], ◌∷◌, ◌++◌, slice_get, sym, subst, ◌==◌}
 use Rattle.c_tree.specs.Programs.{TypedFunctionTree, ProgramTree}
 use Rattle.c_type_laws.specs.Laws.{IsWellFormed}
 use Rattle.graph_core.specs.Graphs.{Graph, UnitForm}
@@ -10,12 +9,8 @@ use Rattle.graph_build_laws.proofs.Accepted.{facts_of}
 use Rattle.graph_build_laws.proofs.Whole.{valid}
 use Rattle.image_truth_units.specs.Timing.{KeepsTime, KeepTime}
 use Rattle.image_truth_units.proofs.TimedFunctions.{graph_keeps_time}
-
-none_is : {A : Type 0} {a : A} → None ≡ Some a → ⊥
-none_is e = cc
-
-some_same : {A : Type 0} {a b : A} → Some a ≡ Some b → a ≡ b
-some_same e = cc
+use Rattle.base_laws.proofs.Lists.{all_before, got_one as one_of_all}
+use Rattle.base_laws.proofs.Options.{none_is, some_same}
 
 -- a graph is that of a function
 record OfFunction (p : ProgramTree) (g : Graph) : Type 0 where
@@ -27,16 +22,6 @@ of_function : (p : ProgramTree) (m : ℕ) (all : List TypedFunctionTree) (k : �
 of_function p m [] k g e = absurd (none_is e)
 of_function p m (f ∷ all) zero g e = record { function = f; is_main = m == p.main; same = some_same e }
 of_function p m (f ∷ all) (suc k) g e = of_function p (m + 1) all k g e
-
--- what is so of all is so of one
-one_of_all : {A : Type 0} (P : A → Type 0) (all : List A) (k : ℕ) (a : A) → AllByRecursion P all → slice_get all k ≡ Some a → P a
-one_of_all P [] k a h e = absurd (none_is e)
-one_of_all P (x ∷ all) zero a h e = subst P (some_same e) h.0
-one_of_all P (x ∷ all) (suc k) a h e = one_of_all P all k a h.1 e
-
-all_before : (P : ℕ → Type 0) (xs ys : List ℕ) → AllByRecursion P (xs ++ ys) → AllByRecursion P xs
-all_before P [] ys h = tt
-all_before P (x ∷ xs) ys h = (h.0, all_before P xs ys h.1)
 
 -- numbers that are all different are so among fewer
 different_before : (xs ys : List ℕ) → AreAllDifferent (xs ++ ys) → AreAllDifferent xs

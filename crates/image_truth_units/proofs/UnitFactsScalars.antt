@@ -23,6 +23,7 @@ use Rattle.image_truth_units.proofs.Tables.{all_at, map_at}
 use Rattle.image_truth_units.proofs.ImageUnitsWhole.{of_graph}
 use Rattle.image_truth_units.proofs.Scopes.{IsOf, SeesOwn, program_sees, visible_have}
 use Rattle.image_truth_units.proofs.UnitFactsPlaces.{place_is}
+use Rattle.base_laws.proofs.Numbers.{least}
 
 -- A graph has a scalar for a variable of this number, and the variable is of a scalar type.
 pub record HasScalar (g : Graph) (number : ℕ) (of : ObjectType) : Type 0 where
@@ -47,9 +48,6 @@ name_there (b ∷ list) scalars objects i a is outside = by (λ s o j e. name_th
     by rest true e (suc i) is = rest scalars (objects + 1) i is
     by rest false e zero is = (scalars, refl)
     by rest false e (suc i) is = rest (scalars + 1) objects i is
-
-least : (m n : ℕ) → m ≤ n → nat_le m n ≡ true
-least m n le = grind (arith, nat_tests, le)
 
 has_name : (p : ProgramTree) (f : TypedFunctionTree) (again : Bool) (x : ℕ) (a : AutomaticTree) → IsOf f x → slice_get p.automatics x ≡ Some a → a.in_memory ≡ false → (k : ℕ) × (scalar_of (names_of p f again) x ≡ Some k)
 has_name p f again x a of is outside =

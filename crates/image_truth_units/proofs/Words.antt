@@ -2,7 +2,7 @@
 use Rattle.std.proofs.Common.{◌≡◌, ◌≢◌, ℕ, zero, suc, ◌+◌, ◌≤◌, ◌<◌, inl, inr, Bool, true, false, Some, List, [], ◌∷◌, length, map, replicate, slice_get, slice_index, get_or, refl, sym, ap, ◌∙◌, subst, arith}
 use Rattle.std.specs.Prelude.{slice_set, if◌then◌else◌}
 use Rattle.std.specs.List.{AllByRecursion}
-use Rattle.std.proofs.lemmas.List.{length-map, length-replicate, length-set}
+use Rattle.std.proofs.lemmas.List.{length-replicate, length-set}
 use Rattle.std.proofs.lemmas.Option.{none-some, same_Some, slice_get_within, get_or_from_slice_get}
 use Rattle.places.specs.declared.table.PlaceRow.{PlaceRow}
 use Rattle.c_tree.specs.Programs.{ProgramTree, TypedFunctionTree}
@@ -31,6 +31,7 @@ use Rattle.image_truth_units.proofs.Functions.{has_entry}
 use Rattle.image_truth_units.proofs.Given.{Given}
 use Rattle.image_truth_units.proofs.Lists.{across, all_at, map_at, there}
 use Rattle.image_truth_units.proofs.ProgramPlaces.{IsEntryOf, entry_only, in_range, numbered_at}
+use Rattle.base_laws.proofs.Numbers.{no_entry}
 
 -- ---- Tables of addresses
 
@@ -64,9 +65,6 @@ address_there n firsts stops (y ∷ rows) zero x r is at =
 address_there n firsts stops (y ∷ rows) (suc k) x r is at =
     let here : n + 1 + k ≡ n + suc k = omega arith in
     address_there (n + 1) firsts stops rows k x r is at ∙ ap (λ j. if r.is_entry then get_or firsts r.function 0 else get_or stops j 0) here
-
-no_entry : true ≡ false → ⊥
-no_entry e = cc
 
 -- ---- Words of places
 

@@ -6,6 +6,7 @@ use Rattle.std.proofs.lemmas.Option.{none-some, same_Some}
 use Rattle.event_runs.specs.Agreement.{Pairs}
 use Rattle.graph_core.specs.Paths.{Among, front, behind}
 use Rattle.graph_core.specs.Validity.{total}
+pub use Rattle.base_laws.proofs.Lists.{all_so}
 
 module _ {A : Type 0} where
   -- A member of the first of two lists is one of both.
@@ -61,11 +62,6 @@ module _ {A : Type 0} (P : A → Type 0) where
   pub all_behind : (xs ys : List A) → AllByRecursion P (xs ++ ys) → AllByRecursion P ys
   all_behind [] ys all = all
   all_behind (x ∷ xs) ys all = all_behind xs ys all.1
-
--- What follows from what is so of each is so of each.
-pub all_so : {A : Type 0} (P Q : A → Type 0) → ((x : A) → P x → Q x) → (xs : List A) → AllByRecursion P xs → AllByRecursion Q xs
-all_so P Q follows [] all = tt
-all_so P Q follows (x ∷ xs) all = (follows x all.0, all_so P Q follows xs all.1)
 
 module _ {A B : Type 0} (R : A → B → Type 0) where
   -- They are as many.

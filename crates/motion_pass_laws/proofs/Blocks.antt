@@ -5,12 +5,7 @@ use Rattle.std.proofs.lemmas.Option.{none-some, same_Some}
 use Rattle.graph_core.specs.Graphs.{Block}
 use Rattle.graph_core.specs.Computations.{Computation}
 use Rattle.motion_pass_placement.specs.Moving.{IsMovedBlock, AreMovedBlocks, no_block, one_block}
-
--- What a list has it has with others behind.
-pub at_left : {A : Type 0} (xs ys : List A) (k : ℕ) (x : A) → slice_get xs k ≡ Some x → slice_get (xs ++ ys) k ≡ Some x
-at_left [] ys k x at = absurd (none-some x at)
-at_left (z ∷ xs) ys zero x at = at
-at_left (z ∷ xs) ys (suc k) x at = at_left xs ys k x at
+pub use Rattle.base_laws.proofs.Lists.{front_at as at_left}
 
 -- and others have it behind a list
 pub at_right : {A : Type 0} (xs ys : List A) (j k : ℕ) → k ≡ length xs + j → slice_get (xs ++ ys) k ≡ slice_get ys j

@@ -1,8 +1,8 @@
 -- The values of names and temporaries at a point, before what is done there and behind it.
-use Rattle.std.proofs.Common.{◌≡◌, ℕ, zero, suc, ◌+◌, ◌<◌, ◌⊎◌, inl, inr, Bool, false, true≢false, Some, List, [], ◌∷◌, ◌++◌, sym, ap, ◌∙◌, subst, arith}
+use Rattle.std.proofs.Common.{◌≡◌, ℕ, zero, suc, ◌+◌, ◌<◌, ◌⊎◌, inl, inr, Bool, false, true≢false, Some, List, [], ◌∷◌, sym, ap, ◌∙◌, subst, arith}
 use Rattle.std.specs.Prelude.{slice_get}
 use Rattle.std.specs.List.{AllByRecursion}
-use Rattle.std.proofs.lemmas.Option.{none-some, same_Some}
+use Rattle.std.proofs.lemmas.Option.{same_Some}
 use Rattle.graph_core.specs.declared.value.Value.{Value}
 use Rattle.graph_core.specs.Graphs.{Instruction, End, Graph, UnitForm}
 use Rattle.graph_core.specs.Computations.{Computation}
@@ -13,17 +13,8 @@ use Rattle.motion_pass_points.proofs.Keys.{it_does}
 use Rattle.motion_pass_placement.specs.Moving.{IsDoneAt}
 use Rattle.motion_pass_laws.proofs.Ready.{come_stands, IsReady, ready_unspoiled, ready_before}
 use Rattle.motion_pass_laws.proofs.Values.{computed, value_stable, put_other, put_same, AreOwn, own_computed}
-
--- what is so of each of a list is so of one of them
-pub all_at : {A : Type 0} (P : A → Type 0) (xs : List A) (n : ℕ) (x : A) → AllByRecursion P xs → slice_get xs n ≡ Some x → P x
-all_at P [] n x all is = absurd (none-some x is)
-all_at P (y ∷ xs) zero x all is = subst P (same_Some y x is) all.0
-all_at P (y ∷ xs) (suc n) x all is = all_at P xs n x all.1 is
-
--- what is so of each of a list is so of each of those behind others
-all_behind : {A : Type 0} (P : A → Type 0) (before rest : List A) → AllByRecursion P (before ++ rest) → AllByRecursion P rest
-all_behind P [] rest all = all
-all_behind P (y ∷ before) rest all = all_behind P before rest all.1
+use Rattle.base_laws.proofs.Lists.{all_behind_these as all_behind}
+pub use Rattle.base_laws.proofs.Lists.{all_at}
 
 module _ (u : UnitForm) (g : Graph) (valid : IsGraph u g) where
   -- What stands in a block of a valid graph is valid.

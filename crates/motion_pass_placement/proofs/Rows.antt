@@ -1,20 +1,17 @@
 -- Rows, one more after the other.
-use Rattle.std.proofs.Common.{◌≡◌, ℕ, zero, suc, ◌+◌, ◌<◌, ◌≤◌, List, [], ◌∷◌, ◌++◌, length, take, drop, Some, refl, sym, ap, ◌∙◌, arith}
+use Rattle.std.proofs.Common.{◌≡◌, ℕ, zero, suc, ◌+◌, ◌<◌, ◌≤◌, List, [], ◌∷◌, ◌++◌, length, take, drop, refl, sym, ap, ◌∙◌, arith}
 use Rattle.std.specs.Prelude.{slice_get}
 use Rattle.std.specs.Option.{option_map_or}
 use Rattle.std.specs.Global.{Vec}
 use Rattle.std.proofs.lemmas.List.{append-nil, drop_all}
 use Rattle.std.proofs.Math.Seq.{take-length}
 use Rattle.std.proofs.lemmas.Option.{slice_get_past}
+pub use Rattle.base_laws.proofs.Lists.{snoc_new as got_there}
 
 pub got_below : {A : Type 0} (xs : List A) (y : A) (n : ℕ) → n < length xs → slice_get (xs ++ y ∷ []) n ≡ slice_get xs n
 got_below [] y n lt = absurd (omega (arith, lt))
 got_below (x ∷ xs) y zero lt = refl
 got_below (x ∷ xs) y (suc n) lt = got_below xs y n (omega (arith, lt))
-
-pub got_there : {A : Type 0} (xs : List A) (y : A) → slice_get (xs ++ y ∷ []) (length xs) ≡ Some y
-got_there [] y = refl
-got_there (x ∷ xs) y = got_there xs y
 
 -- what is in the row of a number
 abbrev pub items_of : {A : Type 0} → List (Vec A) → ℕ → List A

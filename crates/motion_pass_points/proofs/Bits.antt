@@ -1,29 +1,12 @@
 -- Sets of numbers in words.
-use Rattle.std.proofs.Common.{◌≡◌, ℕ, zero, suc, ◌-◌, ◌*◌, ◌%◌, ◌^◌, ◌<◌, Bool, true, false, not, ◌&&◌, ◌||◌, bit_and, bit_or, min, max, w64, refl, sym, ap, ◌∙◌, arith, inl, inr}
+use Rattle.std.proofs.Common.{◌≡◌, ℕ, zero, suc, ◌-◌, ◌*◌, ◌%◌, ◌^◌, ◌<◌, not, ◌&&◌, ◌||◌, bit_and, bit_or, w64, refl, sym, ap, ◌∙◌, arith, inl, inr}
 use Rattle.std.specs.Prelude.{◌==◌}
 use Rattle.std.specs.Int.{bit_at, bit_not}
 use Rattle.std.proofs.lemmas.Bool.{cases_eq, eq-eqb, ne_eqb}
 use Rattle.std.proofs.lemmas.Nat.{mod_below, one_shl}
-use Rattle.std.proofs.lemmas.Nat.Bits.{bit_at-lt, bit_at_and, bit_at_or, bit_at_not, bit_at-pow_same, bit_at-pow_other, shr_and_one}
+use Rattle.std.proofs.lemmas.Nat.Bits.{bit_at-lt, bit_at_and, bit_at_or, bit_at_not, bit_at-pow_same, bit_at-pow_other}
 use Rattle.motion_pass_points.specs.Words.{has}
-
-max_one : (x y : ℕ) → x < 2 → y < 2 → (max x y == 1) ≡ ((x == 1) || (y == 1))
-max_one zero zero p q = refl
-max_one zero (suc zero) p q = refl
-max_one (suc zero) zero p q = refl
-max_one (suc zero) (suc zero) p q = refl
-max_one zero (suc (suc y)) p q = absurd (omega (arith, q))
-max_one (suc zero) (suc (suc y)) p q = absurd (omega (arith, q))
-max_one (suc (suc x)) y p q = absurd (omega (arith, p))
-
-min_one : (x y : ℕ) → x < 2 → y < 2 → (min x y == 1) ≡ ((x == 1) && (y == 1))
-min_one zero zero p q = refl
-min_one zero (suc zero) p q = refl
-min_one (suc zero) zero p q = refl
-min_one (suc zero) (suc zero) p q = refl
-min_one zero (suc (suc y)) p q = absurd (omega (arith, q))
-min_one (suc zero) (suc (suc y)) p q = absurd (omega (arith, q))
-min_one (suc (suc x)) y p q = absurd (omega (arith, p))
+use Rattle.base_laws.proofs.Numbers.{max_one, min_one}
 
 not_one : (x : ℕ) → x < 2 → (1 - x == 1) ≡ not (x == 1)
 not_one zero p = refl

@@ -1,5 +1,5 @@
 -- Computations and their keys.
-use Rattle.std.proofs.Common.{◌≡◌, ℕ, ◌<◌, ◌-◌, Bool, true, false, ◌&&◌, List, [], ◌∷◌, get_or, Option, Some, None, refl, sym, ap, ◌∙◌, subst, arith, eqb}
+use Rattle.std.proofs.Common.{◌≡◌, ℕ, ◌-◌, true, false, ◌&&◌, [], ◌∷◌, get_or, Option, Some, None, refl, sym, ap, ◌∙◌}
 use Rattle.std.specs.Prelude.{◌==◌, if◌then◌else◌, nat_lt}
 use Rattle.std.proofs.lemmas.Bool.{true≢false, eq-eqb, eqb-true, and_parts}
 use Rattle.word_base.specs.declared.operation.Operation.{Operation}
@@ -9,6 +9,7 @@ use Rattle.word_base.specs.declared.operation.Truncation.TheVariants.{Unsigned8,
 use Rattle.graph_core.specs.Graphs.{Operand, Name, Constant, StaticAddress, Instruction}
 use Rattle.graph_core.specs.Computations.{Computation, Operating, Truncating, Comparing, computed_by}
 use Rattle.motion_pass_points.specs.Computing.{operation_number, truncation_number, operand_key, key_of, same_three, same_key, is_same, is_some_same, does}
+use Rattle.base_laws.proofs.Booleans.{and_all as both_true}
 
 abbrev Key : Type 0
 Key = ℕ × ((ℕ × (ℕ × ℕ)) × (ℕ × (ℕ × ℕ)))
@@ -63,9 +64,6 @@ computation_back (Comparing a b) = λ i. Comparing (operand_back a i) (operand_b
 -- computations with one key are one
 pub one_key : (d e : Computation) → key_of d ≡ key_of e → d ≡ e
 one_key d e q = sym (computation_back d) ∙ ap computation_at q ∙ computation_back e
-
-both_true : (a b : Bool) → a ≡ true → b ≡ true → (a && b) ≡ true
-both_true a b p q = rw (p, q) refl
 
 three_self : (k : ℕ × (ℕ × ℕ)) → same_three k k ≡ true
 three_self k = both_true _ _ (eq-eqb k.0 k.0 refl) (both_true _ _ (eq-eqb k.1.0 k.1.0 refl) (eq-eqb k.1.1 k.1.1 refl))

@@ -1,5 +1,5 @@
 -- Computations and their numbers, one more after the other.
-use Rattle.std.proofs.Common.{◌≡◌, ℕ, zero, suc, ◌+◌, ◌<◌, Bool, true, false, cond, List, [], ◌∷◌, ◌++◌, length, map, get_or, Option, Some, None, refl, sym, ap, ◌∙◌, subst, arith, ◌⊎◌, inl, inr}
+use Rattle.std.proofs.Common.{◌≡◌, ℕ, zero, suc, ◌+◌, ◌<◌, true, false, cond, List, [], ◌∷◌, ◌++◌, length, get_or, Option, Some, None, refl, sym, ap, ◌∙◌, subst, arith, ◌⊎◌, inl, inr}
 use Rattle.std.specs.Prelude.{is_some, slice_get}
 use Rattle.std.proofs.lemmas.Bool.{true≢false, cases_Bool, cases_lt}
 use Rattle.std.proofs.lemmas.Option.{none-some, same_Some}
@@ -9,25 +9,15 @@ use Rattle.motion_pass_points.specs.Computing.{key_of, same_key}
 use Rattle.motion_pass_points.specs.Numbers.{Key, AreNumbersOf, AreOnce, again, first, IsNumberOf}
 use Rattle.motion_pass_points.specs.Columns.{number_at}
 use Rattle.motion_pass_points.proofs.Keys.{one_key, key_self, key_alike}
-
-pub snoc_old : {A : Type 0} (xs ys : List A) (k : ℕ) (a : A) → slice_get xs k ≡ Some a → slice_get (xs ++ ys) k ≡ Some a
-snoc_old [] ys k a e = absurd (none-some _ e)
-snoc_old (x ∷ xs) ys zero a e = e
-snoc_old (x ∷ xs) ys (suc k) a e = snoc_old xs ys k a e
-
-pub snoc_new : {A : Type 0} (xs : List A) (y : A) → slice_get (xs ++ y ∷ []) (length xs) ≡ Some y
-snoc_new [] y = refl
-snoc_new (x ∷ xs) y = snoc_new xs y
+use Rattle.base_laws.proofs.Lists.{snoc_below, snoc_there}
+use Rattle.base_laws.proofs.Options.{some_or_none}
+pub use Rattle.base_laws.proofs.Lists.{snoc_new, snoc_old}
 
 pub snoc_cases : {A : Type 0} (xs : List A) (y : A) (k : ℕ) (a : A) → slice_get (xs ++ y ∷ []) k ≡ Some a → (slice_get xs k ≡ Some a) ⊎ ((k ≡ length xs) × (y ≡ a))
 snoc_cases [] y zero a e = inr (refl, same_Some y a e)
 snoc_cases [] y (suc k) a e = absurd (none-some _ e)
 snoc_cases (x ∷ xs) y zero a e = inl e
 snoc_cases (x ∷ xs) y (suc k) a e = elim (snoc_cases xs y k a e) [ inl old ↦ inl old | inr new ↦ inr (ap suc new.0, new.1) ]
-
-some_or_none : {A : Type 0} (o : Option A) → ((x : A) × (o ≡ Some x)) ⊎ (o ≡ None)
-some_or_none None = inr refl
-some_or_none (Some x) = inl (x, refl)
 
 module _ (all : List Computation) (find : Key → Option ℕ) (are : AreNumbersOf all find) (e : Computation) where
   -- one that is found is one of them
@@ -72,15 +62,6 @@ number_found all find are what e is None found = λ d k at there. none-some k (f
 number_found all find are what e is (Some k) found =
     let d = are.only (key_of e) k (sym found) in
     (e, is, d.1 ∙ ap Some (one_key d.0 e d.2))
-
-snoc_below : {A : Type 0} (xs : List A) (y d : A) (k : ℕ) → k < length xs → get_or (xs ++ y ∷ []) k d ≡ get_or xs k d
-snoc_below [] y d k lt = absurd (omega (arith, lt))
-snoc_below (x ∷ xs) y d zero lt = refl
-snoc_below (x ∷ xs) y d (suc k) lt = snoc_below xs y d k (omega (arith, lt))
-
-snoc_there : {A : Type 0} (xs : List A) (y d : A) → get_or (xs ++ y ∷ []) (length xs) d ≡ y
-snoc_there [] y d = refl
-snoc_there (x ∷ xs) y d = snoc_there xs y d
 
 -- one number more
 pub numbers_on : (all : List Computation) (instructions : List Instruction) (out longer : List (Option ℕ)) (index : ℕ) (i : Instruction) (o : Option ℕ) → longer ≡ out ++ o ∷ [] → length out ≡ index → slice_get instructions index ≡ Some i → IsNumberOf all (computed_by i) o

@@ -1,23 +1,12 @@
 -- Computations of blocks, one instruction after the other.
-use Rattle.std.proofs.Common.{◌≡◌, ℕ, suc, ◌+◌, ◌-◌, ◌≤◌, ◌<◌, Bool, true, false, Option, Some, None, List, [], ◌∷◌, ◌++◌, length, map, refl, sym, ap, ◌∙◌, subst, arith, append_assoc, get_or, take, drop}
+use Rattle.std.proofs.Common.{◌≡◌, ℕ, ◌+◌, ◌<◌, Bool, Some, List, [], ◌∷◌, ◌++◌, length, refl, sym, ◌∙◌, subst, arith, append_assoc}
 use Rattle.std.specs.Prelude.{if◌then◌else◌}
-use Rattle.std.proofs.Math.Seq.{take-length}
 use Rattle.graph_core.specs.Graphs.{Instruction, Block}
 use Rattle.graph_core.specs.Computations.{Computation, computed_by}
 use Rattle.motion_pass_points.specs.MotionPointsComputing.{computed_along, with_some}
 use Rattle.motion_pass_points.specs.Numbers.{AreOnce, none, computed_in}
-
-pub append_nil : {A : Type 0} (xs : List A) → xs ++ [] ≡ xs
-append_nil [] = refl
-append_nil (x ∷ xs) = ap (λ ys. x ∷ ys) (append_nil xs)
-
--- a list is its first and the rest
-pub whole_is : {A : Type 0} (left : List A) (x d : A) → 1 ≤ length left → x ≡ get_or left 0 d → left ≡ x ∷ take (length left - 1) (drop 1 left)
-whole_is [] x d le e = absurd (omega arith)
-whole_is (y ∷ left) x d le e =
-    let count : length (y ∷ left) - 1 ≡ length left = omega arith in
-    let rest : take (length (y ∷ left) - 1) left ≡ left = ap (λ n. take n left) count ∙ take-length left in
-    (λ i. sym e i ∷ sym rest i)
+use Rattle.base_laws.proofs.Lists.{append_nil}
+pub use Rattle.base_laws.proofs.Lists.{whole_is}
 
 pub none_left : {A : Type 0} (left : List A) → length left < 1 → left ≡ []
 none_left [] lt = refl

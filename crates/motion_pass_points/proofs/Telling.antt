@@ -1,13 +1,13 @@
 -- What words tell of computations.
-use Rattle.std.proofs.Common.{◌≡◌, ℕ, ◌+◌, ◌*◌, ◌/◌, ◌%◌, ◌<◌, ◌≤◌, Bool, true, false, not, ◌&&◌, ◌||◌, List, [], ◌∷◌, ◌++◌, length, map, drop, get_or, zero, suc, Option, Some, None, refl, sym, ap, ◌∙◌, subst, arith, inl, inr}
-use Rattle.std.specs.Prelude.{◌==◌, slice_get, slice_index_or}
+use Rattle.std.proofs.Common.{◌≡◌, ℕ, ◌+◌, ◌*◌, ◌/◌, ◌%◌, ◌<◌, ◌≤◌, false, not, List, [], ◌∷◌, length, map, drop, get_or, Option, Some, None, refl, sym, ap, ◌∙◌, inl, inr}
+use Rattle.std.specs.Prelude.{◌==◌, slice_get}
 use Rattle.std.specs.List.{list_any}
 use Rattle.std.specs.Option.{option_map_or}
-use Rattle.std.proofs.lemmas.Bool.{cases_Bool, cases_eq, eq-eqb, ne_eqb, eqb-true, true≢false}
+use Rattle.std.proofs.lemmas.Bool.{cases_Bool, cases_eq, eq-eqb, ne_eqb}
 use Rattle.std.proofs.lemmas.List.{at_drop_more}
 use Rattle.std.proofs.lemmas.Nat.{div-add-mod'}
 use Rattle.std.proofs.lemmas.Nat.Bits.{bit_at-zero}
-use Rattle.std.proofs.lemmas.Option.{none-some, same_Some}
+use Rattle.std.proofs.lemmas.Option.{same_Some}
 use Rattle.graph_core.specs.Graphs.{Instruction}
 use Rattle.graph_core.specs.Uses.{target_of}
 use Rattle.graph_core.specs.Paths.{writes}
@@ -18,6 +18,7 @@ use Rattle.motion_pass_points.specs.MotionPointsComputing.{nothing, Told, told_d
 use Rattle.motion_pass_points.specs.Numbers.{Key, IsNumberOf, AreNumbersOf}
 use Rattle.motion_pass_points.specs.Columns.{is_among, is_marked, is_operand, is_number, is_spoiled}
 use Rattle.motion_pass_points.proofs.Keys.{does_it, it_does, same_is, one_key}
+use Rattle.base_laws.proofs.Lists.{none_left as drop_past}
 
 -- numbers of one column that are equal but for multiples of 64 are equal
 pub one_number : (n m index : ℕ) → n / 64 ≡ index → m / 64 ≡ index → n % 64 ≡ m % 64 → n ≡ m
@@ -66,12 +67,6 @@ pub told_more : {A : Type 0} (view : A → Instruction) (e : Computation) (xs : 
     → told_along e (map view (drop k xs)) before ≡ whole → told_along e (map view (drop (k + 1) xs)) after ≡ whole
 told_more view e xs k x lt is before after whole step was =
     ap (told_along e (map view (drop (k + 1) xs))) step ∙ ap (λ y. told_along e (map view (drop (k + 1) xs)) (told_behind e (view y) before)) is ∙ sym (at_drop_more (λ ys. told_along e (map view ys) before) xs k x lt) ∙ was
-
-drop_past : {A : Type 0} (n : ℕ) (xs : List A) → length xs ≤ n → drop n xs ≡ []
-drop_past zero [] le = refl
-drop_past zero (x ∷ xs) le = absurd (omega (arith, le))
-drop_past (suc n) [] le = refl
-drop_past (suc n) (x ∷ xs) le = drop_past n xs (omega (arith, le))
 
 pub told_all : {A : Type 0} (view : A → Instruction) (e : Computation) (xs : List A) (k : ℕ) (t whole : Told) → length xs ≤ k → told_along e (map view (drop k xs)) t ≡ whole → t ≡ whole
 told_all view e xs k t whole le is = sym (ap (λ ys. told_along e (map view ys) t) (drop_past k xs le)) ∙ is

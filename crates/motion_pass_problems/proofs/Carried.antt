@@ -1,7 +1,7 @@
 -- Facts that flow along one edge more.
-use Rattle.std.proofs.Common.{◌≡◌, ◌⊎◌, inl, inr, ℕ, ◌<◌, Bool, true, false, true≢false, ◌&&◌, ◌||◌, List, [], ◌∷◌, length, map, refl, sym, ap, ◌∙◌, subst, arith}
+use Rattle.std.proofs.Common.{◌≡◌, ◌⊎◌, inl, inr, ℕ, ◌<◌, Bool, true, false, ◌&&◌, ◌||◌, List, length, map, refl, sym, ap, ◌∙◌, subst}
 use Rattle.std.specs.Prelude.{Some, slice_get, slice_index_or}
-use Rattle.std.proofs.lemmas.Bool.{cases_Bool, or_cases, or_left, and_parts, cases_eq}
+use Rattle.std.proofs.lemmas.Bool.{or_cases, or_left, and_parts}
 use Rattle.std.proofs.lemmas.Option.{same_Some}
 use Rattle.graph_core.specs.Graphs.{Block, block_view}
 use Rattle.graph_core.specs.Uses.{targets_of}
@@ -10,10 +10,7 @@ use Rattle.motion_pass_points.specs.Words.{has}
 use Rattle.motion_pass_problems.specs.declared.flow.Passage.{Passage}
 use Rattle.motion_pass_problems.specs.declared.flow.Flow.{Flow}
 use Rattle.motion_pass_problems.specs.Flowing.{HasEdge, FlowsBy, Flows, IsBrought, made_by, passed_by, makes, lets_pass, is_at, AreBrought, IsSettled, IsEdgeOf, AreSettledAt}
-
-or_true : (b : Bool) → (b || true) ≡ true
-or_true true = refl
-or_true false = refl
+use Rattle.base_laws.proofs.Booleans.{or_true}
 
 -- what leaves a block, as a word
 abbrev pub IsLeaving : List Passage → (words : List ℕ) → (m leaves : ℕ) → Type 0

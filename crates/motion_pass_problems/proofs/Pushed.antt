@@ -1,5 +1,5 @@
 -- Lists that grow by one.
-use Rattle.std.proofs.Common.{◌≡◌, ℕ, zero, suc, ◌+◌, ◌<◌, ◌≤◌, true, false, not, ◌&&◌, ◌||◌, List, [], ◌∷◌, ◌++◌, length, get_or, refl, sym, ap, ◌∙◌, subst, arith, inl, inr}
+use Rattle.std.proofs.Common.{◌≡◌, ℕ, ◌+◌, ◌<◌, ◌≤◌, true, false, not, ◌&&◌, ◌||◌, List, [], ◌∷◌, ◌++◌, length, get_or, sym, ap, ◌∙◌, subst, arith, inl, inr}
 use Rattle.std.specs.Prelude.{◌==◌, ◌%◌}
 use Rattle.std.proofs.lemmas.Bool.{cases_lt}
 use Rattle.std.proofs.lemmas.List.{get_or_past, length-append}
@@ -9,15 +9,7 @@ use Rattle.motion_pass_points.proofs.Bits.{has_not}
 use Rattle.motion_pass_problems.specs.declared.flow.Passage.{Passage}
 use Rattle.motion_pass_problems.specs.Flowing.{is_at, lets_pass, makes, no_passage}
 use Rattle.motion_pass_problems.proofs.Bools.{and_false}
-
-pub pushed_below : {A : Type 0} (xs : List A) (y d : A) (k : ℕ) → k < length xs → get_or (xs ++ y ∷ []) k d ≡ get_or xs k d
-pushed_below [] y d k lt = absurd (omega (arith, lt))
-pushed_below (x ∷ xs) y d zero lt = refl
-pushed_below (x ∷ xs) y d (suc k) lt = pushed_below xs y d k (omega (arith, lt))
-
-pub pushed_there : {A : Type 0} (xs : List A) (y d : A) → get_or (xs ++ y ∷ []) (length xs) d ≡ y
-pushed_there [] y d = refl
-pushed_there (x ∷ xs) y d = pushed_there xs y d
+use Rattle.base_laws.proofs.Lists.{snoc_below as pushed_below, snoc_there as pushed_there}
 
 -- what holds of each holds of one more
 pub each_on : {A : Type 0} (P : ℕ → A → Type 0) (out longer : List A) (a d : A) (k : ℕ) → longer ≡ out ++ a ∷ [] → length out ≡ k → P k a → ((n : ℕ) → n < k → P n (get_or out n d)) → (n : ℕ) → n < k + 1 → P n (get_or longer n d)

@@ -1,5 +1,5 @@
 -- The blocks that some way reaches.
-use Rattle.std.proofs.Common.{◌≡◌, ◌⊎◌, ◌↔◌, inl, inr, ℕ, ◌<◌, Bool, true, List, [], length, Option, Some, None, refl, sym, ap, ◌∙◌, subst}
+use Rattle.std.proofs.Common.{◌≡◌, ◌↔◌, ℕ, ◌<◌, Bool, true, List, [], length, Some, sym, ap, ◌∙◌, subst}
 use Rattle.std.specs.Prelude.{slice_get}
 use Rattle.std.proofs.lemmas.List.{append-nil}
 use Rattle.std.proofs.lemmas.Option.{slice_get_within}
@@ -8,10 +8,7 @@ use Rattle.motion_pass_points.specs.Ways.{within, leaves, enters, IsCome, begins
 use Rattle.motion_pass_problems.proofs.Standing.{come_along}
 use Rattle.motion_pass_problems.specs.Flowing.{FlowsBy, IsBrought, begin, made_by, passed_by}
 use Rattle.motion_pass_problems.specs.Facts.{AreReached}
-
-pub some_or_none : {A : Type 0} (o : Option A) → ((x : A) × (o ≡ Some x)) ⊎ (o ≡ None)
-some_or_none None = inr refl
-some_or_none (Some x) = inl (x, refl)
+pub use Rattle.base_laws.proofs.Options.{some_or_none}
 
 module _ (blocks : List Block) (told made passed begins_at reached : ℕ → Bool) (flow : (n : ℕ) → n < length blocks → (reached n ≡ true) ↔ IsBrought (FlowsBy blocks told true) made passed begins_at n)
     (all : (n : ℕ) (b : Block) → slice_get blocks n ≡ Some b → told n ≡ true) (none : (n : ℕ) → made n ≡ true → ⊥) (each : (n : ℕ) (b : Block) → slice_get blocks n ≡ Some b → passed n ≡ true)

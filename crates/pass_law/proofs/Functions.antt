@@ -1,20 +1,12 @@
 -- Functions that are gone through one by one.
-use Rattle.std.proofs.Common.{◌≡◌, ◌-◌, ◌<◌, ◌≤◌, ℕ, zero, suc, List, [], ◌∷◌, ◌++◌, length, refl, sym, ap, ◌∙◌, subst, arith, append_assoc, get_or, map, take, drop}
-use Rattle.std.specs.Prelude.{slice_set}
-use Rattle.std.proofs.Math.Seq.{take-length}
+use Rattle.std.proofs.Common.{◌≡◌, ◌-◌, ◌<◌, ◌≤◌, List, [], ◌∷◌, ◌++◌, length, sym, subst, arith, append_assoc, get_or, map, take, drop}
 use Rattle.graph_core.specs.Graphs.{Graph}
 use Rattle.pass_law.specs.Kept.{EachFunction, KeepsAllButBlocks}
+use Rattle.base_laws.proofs.Lists.{append_nil, rest_is}
 
 -- What is left of the functions, behind those that stand in their new form.
 pub data Left (IsMade : Graph → Graph → Type 0) (gs hs left : List Graph) : Type 0 where
   leaves : ((more : List Graph) → EachFunction IsMade left more → EachFunction IsMade gs (hs ++ more)) → Left IsMade gs hs left
-
-append_nil : {A : Type 0} (xs : List A) → xs ++ [] ≡ xs
-append_nil [] = refl
-append_nil (x ∷ xs) = ap (λ ys. x ∷ ys) (append_nil xs)
-
-rest_is : {A : Type 0} (y : A) (left : List A) → take (length (y ∷ left) - 1) (drop 1 (y ∷ left)) ≡ left
-rest_is y left = (let count : length (y ∷ left) - 1 ≡ length left = omega arith in ap (λ n. take n left) count ∙ take-length left)
 
 module _ (IsMade : Graph → Graph → Type 0) where
   pub left_first : (gs : List Graph) → Left IsMade gs [] gs

@@ -1,20 +1,13 @@
 -- What stands where in the graph of a small program, and what values that are known say.
-use Rattle.std.proofs.Common.{◌≡◌, ℕ, zero, suc, ◌<◌, ◌≤◌, true, false, List, [], ◌∷◌, ◌++◌, Some, None, refl, sym, ◌∙◌, subst, arith, slice_get}
+use Rattle.std.proofs.Common.{◌≡◌, ℕ, zero, suc, ◌<◌, ◌≤◌, List, [], ◌∷◌, ◌++◌, Some, refl, sym, ◌∙◌, subst, arith, slice_get}
 use Rattle.std.specs.Prelude.{option_map}
 use Rattle.graph_core.specs.Graphs.{Operand, Instruction, End, Jump, Block, Scalar, Graph}
 use Rattle.graph_core.specs.declared.value.Value.TheVariants.{Odd}
 use Rattle.graph_core.specs.Paths as paths
 use Rattle.graph_core.specs.Paths.{History, Among, front, behind, Way, Path, path}
 use Rattle.pass_law.specs.Worked.{scalar, block, entry_block, return_block, main_with}
-
-pub some_same : {A : Type 0} {a b : A} → Some a ≡ Some b → a ≡ b
-some_same e = cc
-
-pub none_is_some : {A : Type 0} {a : A} → None ≡ Some a → ⊥
-none_is_some e = cc
-
-pub false_is_true : false ≡ true → ⊥
-false_is_true e = cc
+pub use Rattle.base_laws.proofs.Numbers.{false_true as false_is_true}
+pub use Rattle.base_laws.proofs.Options.{none_is as none_is_some, some_same}
 
 pub among_one : {A : Type 0} {a b : A} → Among a (b ∷ []) → a ≡ b
 among_one front = refl

@@ -1,5 +1,5 @@
 -- The cases of functions, one function after the other.
-use Rattle.std.proofs.Common.{◌≡◌, ℕ, ◌+◌, ◌<◌, ◌≤◌, Option, Some, None, List, [], ◌∷◌, ◌++◌, length, get_or, map, refl, sym, ap, ◌∙◌, subst, arith}
+use Rattle.std.proofs.Common.{◌≡◌, ℕ, ◌+◌, ◌<◌, ◌≤◌, Some, None, List, [], ◌∷◌, ◌++◌, length, get_or, map, refl, sym, ap, ◌∙◌, subst, arith}
 use Rattle.std.specs.List.{Contains, slice_get}
 use Rattle.std.proofs.lemmas.List.{length-map, get_or-map, map-append}
 use Rattle.std.proofs.lemmas.Option.{same_Some, slice_get_within}
@@ -7,6 +7,7 @@ use Rattle.graph_core.specs.Graphs.{Graph}
 use Rattle.pass_law.specs.declared.cases.Case.{Case}
 use Rattle.pass_law.specs.Changes.{AreAll, AreCasesOf, Adds, Below, IsCaseOf, Numbered}
 use Rattle.pass_law.proofs.Adding.{adds_none, adds_same, all_next, all_none, all_same, stands_in}
+use Rattle.base_laws.proofs.Options.{none_there}
 
 -- a case with the number of its function
 abbrev tagged : (f : ℕ) → Case → ℕ × Case
@@ -21,9 +22,6 @@ number_of c = c.0
 tagged_as : (f : ℕ) (xs : List Case) → map untagged (map (tagged f) xs) ≡ xs
 tagged_as f [] = refl
 tagged_as f (x ∷ xs) = ap (λ l. x ∷ l) (tagged_as f xs)
-
-none_there : {A : Type 0} (o : Option A) (a : A) → o ≡ None → o ≡ Some a → ⊥
-none_there o a e f = let both : None ≡ Some a = sym e ∙ f in absurd (cc)
 
 module _ (IsCase : (before after : Graph) → Case → Type 0) (gs hs : List Graph) where
   -- the cases of the functions below a number

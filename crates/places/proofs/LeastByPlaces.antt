@@ -11,6 +11,7 @@ use Rattle.places.specs.Flow.{can_go, assigns, AreInOrder}
 use Rattle.places.specs.Path.{Quest, LeadOn, IsRoute, IsLess, IsBefore, IsNotBehind, IsLeastRoute}
 use Rattle.places.specs.Route.{after, goes_in, first_of, least_on, fewest, most_steps, route_of}
 use Rattle.places.proofs.Searched.{step_order}
+use Rattle.base_laws.proofs.Booleans.{and_left as both_left, and_right as both_right}
 
 -- the test of a place that may come next
 abbrev next_test : Quest → ℕ → Bool → ℕ → Bool
@@ -156,14 +157,6 @@ test_goes false b e = e
 
 test_holds : (a b : Bool) → a ≡ false → b ≡ true → (not a && b) ≡ true
 test_holds a b e f = rw (e, f) refl
-
-both_left : (a b : Bool) → (a && b) ≡ true → a ≡ true
-both_left true b e = refl
-both_left false b e = absurd cc
-
-both_right : (a b : Bool) → (a && b) ≡ true → b ≡ true
-both_right true b e = e
-both_right false b e = absurd cc
 
 -- one place more in front
 lead_more : (quest : Quest) (passed : Bool) (p q : ℕ) (rest : List ℕ) → can_go quest.steps p q ≡ true → assigns quest.assignments q quest.var ≡ false

@@ -1,6 +1,6 @@
 -- What a search knows, step by step.
 use Rattle.std.proofs.Common.{◌≡◌, ◌≢◌, ℕ, zero, suc, ◌+◌, ◌*◌, ◌<◌, ◌≤◌, ◌⊎◌, Bool, true, false, Some, List, [], ◌∷◌, ◌++◌, length, map, get_or, refl, sym, ap, ◌∙◌, subst, inl, inr, append_assoc, arith}
-use Rattle.std.specs.Prelude.{◌||◌, ◌&&◌, ◌==◌, slice_get}
+use Rattle.std.specs.Prelude.{◌&&◌, ◌==◌, slice_get}
 use Rattle.std.proofs.Math.ListN.{set}
 use Rattle.std.proofs.lemmas.Bool.{cases_eq}
 use Rattle.std.specs.List.{list_any}
@@ -15,16 +15,14 @@ use Rattle.places.specs.Path.{Quest, LeadOn, IsRoute, IsBefore, IsNotBehind, IsL
 use Rattle.places.specs.Search.{state_number, Row, visit_of, ComesFrom, Start, Later, passes, Came, Settled, IsClosed, Assigned, Visited, IsTaken, Searched, IsWayTo, WayStart, WayLater, Answered, AreBlocked}
 use Rattle.places.proofs.Numbers.{state_place, state_passed}
 use Rattle.places.proofs.Orders.{before_more, before_last, not_behind_length, not_behind_trans, not_behind_more, shorter_before}
+use Rattle.base_laws.proofs.Lists.{any_at, snoc_new}
+pub use Rattle.base_laws.proofs.Lists.{length_mapped as length_map}
 
 -- one more at the end of a list
 pub snoc_old : {A : Type 0} (xs : List A) (y : A) (i : ℕ) (x : A) → slice_get xs i ≡ Some x → slice_get (xs ++ y ∷ []) i ≡ Some x
 snoc_old [] y i x e = absurd (none-some x e)
 snoc_old (z ∷ xs) y zero x e = e
 snoc_old (z ∷ xs) y (suc i) x e = snoc_old xs y i x e
-
-pub snoc_new : {A : Type 0} (xs : List A) (y : A) → slice_get (xs ++ y ∷ []) (length xs) ≡ Some y
-snoc_new [] y = refl
-snoc_new (z ∷ xs) y = snoc_new xs y
 
 pub snoc_cases : {A : Type 0} (xs : List A) (y : A) (i : ℕ) (x : A) → slice_get (xs ++ y ∷ []) i ≡ Some x → (slice_get xs i ≡ Some x) ⊎ ((i ≡ length xs) × (x ≡ y))
 snoc_cases [] y zero x e = inr (refl, sym (same_Some y x e))
@@ -44,10 +42,6 @@ pub get_map : {A B : Type 0} (f : A → B) (xs : List A) (i : ℕ) (x : A) → s
 get_map f [] i x e = absurd (none-some x e)
 get_map f (z ∷ xs) zero x e = ap Some (ap f (same_Some z x e))
 get_map f (z ∷ xs) (suc i) x e = get_map f xs i x e
-
-pub length_map : {A B : Type 0} (f : A → B) (xs : List A) → length (map f xs) ≡ length xs
-length_map f [] = refl
-length_map f (x ∷ xs) = ap suc (length_map f xs)
 
 -- steps of one place come in the order of the places that they lead to
 pub step_order : (steps : List FlowStep) (i j : ℕ) (s u : FlowStep) → AreInOrder steps → slice_get steps i ≡ Some s → slice_get steps j ≡ Some u → i < j → s.from.0 ≡ u.from.0 → s.to.0 < u.to.0
@@ -348,15 +342,6 @@ any_found {A = A} test (x ∷ xs) e = go (test x) refl (any_found test xs)
         → (j : ℕ) × (y : A) × (slice_get (x ∷ xs) j ≡ Some y) × (test y ≡ true)
     go true t more = (0, x, refl, t)
     go false t more = let found = more (rw t at e) in (suc found.0, found.1, found.2, found.3)
-
-any_at : {A : Type 0} (test : A → Bool) (xs : List A) (j : ℕ) (x : A) → slice_get xs j ≡ Some x → test x ≡ true → list_any test xs ≡ true
-any_at test [] j x e t = absurd (none-some x e)
-any_at test (y ∷ xs) zero x e t = let here : test y ≡ true = ap test (same_Some y x e) ∙ t in rw here refl
-any_at test (y ∷ xs) (suc j) x e t = let later = any_at test xs j x e t in rw later (or_true (test y))
-  where
-    or_true : (b : Bool) → (b || true) ≡ true
-    or_true true = refl
-    or_true false = refl
 
 -- a step of the table
 pub record StepOf (steps : List FlowStep) (p q : ℕ) : Type 0 where

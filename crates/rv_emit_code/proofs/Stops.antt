@@ -6,10 +6,7 @@ use Rattle.graph_core.specs.Validity.{markers_in}
 use Rattle.rv_emit_words.specs.declared.code.Code.{Code}
 use Rattle.rv_emit_words.specs.Shown.{shown, stop_if, stops_of}
 use Rattle.rv_emit_code.specs.Stops.{shown_after}
-
-append_none : (xs : List ℕ) → xs ++ [] ≡ xs
-append_none [] = refl
-append_none (x ∷ xs) = ap (λ ys. x ∷ ys) (append_none xs)
+use Rattle.base_laws.proofs.Lists.{append_none}
 
 -- stops that are no entry
 abbrev stops_but : (entry : ℕ) → List ℕ → List ℕ

@@ -1,6 +1,5 @@
 -- Functions that are laid out one behind the other.
 use Rattle.std.proofs.Common.{◌≡◌, ◌≤◌, ◌-◌, ◌==◌, Bool, ℕ, ◌+◌, ◌<◌, List, [], ◌∷◌, ◌++◌, length, take, drop, map, get_or, refl, sym, ap, ◌∙◌, subst, arith}
-use Rattle.std.proofs.Math.Seq.{take-length}
 use Rattle.std.proofs.lemmas.List.{append_assoc, append-nil, map-append}
 use Rattle.graph_core.specs.Graphs.{Graph}
 use Rattle.graph_homes.specs.declared.home.Home.{Home}
@@ -11,6 +10,7 @@ use Rattle.rv_emit_sequence.proofs.Splitting.{split_first}
 use Rattle.rv_emit_layout.specs.declared.laying.Laid.{Laid}
 use Rattle.rv_emit_layout.specs.Laid.{ground_for, laid_view, told_of_all, AreLaid, IsLaidOf, LaidForm, StaticForm}
 use Rattle.rv_emit_layout.specs.Words.{laid_words, most_words_of_graph, most_words_of_graphs}
+use Rattle.base_laws.proofs.Lists.{rest_is}
 
 laid_append : (xs : List Laid) (one : Laid) → laid_words (xs ++ one ∷ []) ≡ laid_words xs + words_in one.sequence.pieces.items
 laid_append [] one = omega arith
@@ -18,9 +18,6 @@ laid_append (x ∷ xs) one = omega (arith, laid_append xs one)
 
 laid_put : (xs ys : List Laid) (one : Laid) → ys ≡ xs ++ one ∷ [] → laid_words ys ≡ laid_words xs + words_in one.sequence.pieces.items
 laid_put xs ys one e = subst (λ zs. laid_words zs ≡ laid_words xs + words_in one.sequence.pieces.items) (sym e) (laid_append xs one)
-
-rest_is : {A : Type 0} (y : A) (left : List A) → take (length (y ∷ left) - 1) (drop 1 (y ∷ left)) ≡ left
-rest_is y left = (let count : length (y ∷ left) - 1 ≡ length left = omega arith in ap (λ n. take n left) count ∙ take-length left)
 
 -- one fewer is left
 pub fewer : {A : Type 0} (left : List A) → 1 ≤ length left → length (take (length left - 1) (drop 1 left)) + 1 ≡ length left

@@ -1,7 +1,7 @@
 -- A layout in which a branch has one word where the longest layout allows that: where pieces stand in it, and that these branches are near enough.
-use Rattle.std.proofs.Common.{◌≡◌, ℕ, zero, suc, ◌+◌, ◌-◌, ◌*◌, ◌%◌, ◌<◌, ◌≤◌, ◌⊎◌, inl, inr, ⊎_elim, ◌==◌, ◌&&◌, ◌||◌, not, nat_lt, nat_le, min, if◌then◌else◌, Bool, true, false, Some, List, [], ◌∷◌, length, slice_get, slice_index, get_or, drop, replicate, refl, sym, ap, ◌∙◌, subst, arith}
-use Rattle.std.proofs.lemmas.Bool.{and_parts, or_cases, ltb-true, leb-true, eqb-true, cases_lt}
-use Rattle.std.proofs.lemmas.List.{get_or-drop, drop-drop, get_or_past}
+use Rattle.std.proofs.Common.{◌≡◌, ℕ, zero, suc, ◌+◌, ◌-◌, ◌*◌, ◌%◌, ◌<◌, ◌≤◌, ◌⊎◌, inl, inr, ⊎_elim, ◌==◌, ◌||◌, nat_lt, nat_le, if◌then◌else◌, Bool, true, false, Some, List, [], ◌∷◌, length, slice_get, slice_index, get_or, drop, replicate, refl, sym, ap, ◌∙◌, subst, arith}
+use Rattle.std.proofs.lemmas.Bool.{and_parts, or_cases, ltb-true, leb-true, cases_lt}
+use Rattle.std.proofs.lemmas.List.{drop-drop, get_or_past}
 use Rattle.rv_code.specs.InForm.{IsBranchDistance}
 use Rattle.rv_emit_words.specs.declared.piece.Piece.{Piece}
 use Rattle.rv_emit_words.specs.declared.piece.Piece.TheVariants.{Word, Jump, Branch, Call}
@@ -9,6 +9,8 @@ use Rattle.rv_emit_words.specs.declared.piece.PlacedPiece.{PlacedPiece}
 use Rattle.rv_emit_sequence.specs.Sequences.{SequenceForm, counted}
 use Rattle.rv_emit_layout.specs.Spelling.{is_branch_distance}
 use Rattle.rv_emit_layout.specs.Layouts.{LayoutForm, distance, far_from, is_far, label_at, layout_by, layout_of, longest, offsets_from, width, words_before, IsLayoutOf, IsNearEnough}
+use Rattle.base_laws.proofs.Booleans.{not_false}
+use Rattle.base_laws.proofs.Lists.{flag_is}
 
 -- ---- How many words
 
@@ -67,9 +69,6 @@ words_longest far (p ∷ more) (suc i) zero le = absurd (omega (arith, le))
 words_longest far (p ∷ more) (suc i) (suc j) le = omega (arith, words_longest (drop 1 far) more i j (omega (arith, le)))
 
 -- ---- Offsets
-
-flag_is : (far : List Bool) (i : ℕ) → get_or (drop i far) 0 false ≡ get_or far i false
-flag_is far i = get_or-drop i far 0 false ∙ (let e : i + 0 ≡ i = omega arith in ap (λ k. get_or far k false) e)
 
 offset_is : (far : List Bool) (pieces : List PlacedPiece) (i n k : ℕ) → i + length pieces ≤ 4294967295 → n + 2 * length pieces ≤ 4294967295 → k ≤ length pieces
     → slice_index (offsets_from far i n pieces) k ≡ n + words_before (drop i far) pieces k
@@ -201,10 +200,6 @@ branch_near s far k l few low test =
         let less = words_longest far s.pieces k j ge in
         forward_near (words_before (replicate (length s.pieces) true) s.pieces k) (words_before (replicate (length s.pieces) true) s.pieces j) (words_before far s.pieces k) (words_before far s.pieces j) before (omega (arith, a2, few)) after (omega (arith, a4, few)) (omega (arith, less)) near)
         (cases_lt j k)
-
-not_false : (b : Bool) → not b ≡ false → b ≡ true
-not_false true e = refl
-not_false false e = sym e
 
 piece_near : (s : SequenceForm) (k : ℕ) (x : Piece) → length s.pieces ≤ 262144 → k < length s.pieces → (far : Bool) → far ≡ is_far s.labels (longest s.pieces) (slice_index (longest s.pieces) k) x
     → IsNearEnough s.labels (layout_of s).offsets far (slice_index (layout_of s).offsets k) x

@@ -4,13 +4,9 @@ use Rattle.std.specs.Option.{option_map_or}
 use Rattle.std.specs.List.{AllByRecursion}
 use Rattle.rv_emit_words.specs.declared.piece.Held.{Held}
 use Rattle.rv_emit_plan.specs.Plans.{AreConstants}
+pub use Rattle.base_laws.proofs.Lists.{all_one_more as all_with}
 
 -- ---- Lists
-
--- What all of a list have, all have with one more behind them.
-pub all_with : {A : Type 0} (P : A → Type 0) (xs : List A) (x : A) → AllByRecursion P xs → P x → AllByRecursion P (xs ++ x ∷ [])
-all_with P [] x all one = (one, tt)
-all_with P (y ∷ ys) x all one = (all.0, all_with P ys x all.1 one)
 
 -- ---- Blocks
 

@@ -31,6 +31,7 @@ use Rattle.rv_emit_runs.proofs.Growing.{addresses_with, grown_new, laid_new, obj
 use Rattle.rv_emit_runs.proofs.Loading.{frame_found}
 use Rattle.rv_emit_runs.proofs.Outer.{IsNoObject, Grown, LeavesAbove, means_grown, frame_grown, waiting_kept}
 use Rattle.rv_emit_runs.proofs.Restoring.{low_no_home, restored_low, AreSaved, restored_saved, behind_other}
+pub use Rattle.base_laws.proofs.Lists.{length_mapped}
 
 -- main sets gp to what it is: no other register but t0 is written.
 base_set : (is_main : Bool) (base : ℕ) (h : Holding) → base < 4294967296 → h.registers 0 ≡ 0 → h.registers 3 ≡ base → Brings (base_code is_main base) h 3 3 base
@@ -87,10 +88,6 @@ given_grown addresses after memory later limit h t n (v ∷ more) few grown kept
       subst (λ x. x < 4294967296) (sym same) given.1,
       given_grown addresses after memory later limit h t (n + 1) more (omega (arith, few)) grown kept given.2,
     )
-
-pub length_mapped : {A B : Type 0} (f : A → B) (xs : List A) → length (map f xs) ≡ length xs
-length_mapped f [] = refl
-length_mapped f (x ∷ xs) = let same = length_mapped f xs in omega (arith, same)
 
 -- ---- The frame
 

@@ -22,6 +22,7 @@ use Rattle.rv_emit_runs.proofs.Frames.{graph_valid, over_homes_there}
 use Rattle.rv_emit_runs.proofs.Rest.{program_in, codes_in, places_in, RestFrom, start_at}
 use Rattle.rv_emit_runs.proofs.Tracks.{at_block, path_begins}
 use Rattle.rv_emit_runs.proofs.UnitSteps.{spot_of}
+pub use Rattle.base_laws.proofs.Lists.{mapped_there}
 
 -- What stands at a number of a list that was mapped.
 pub record IsOf {A B : Type 0} (f : A → B) (xs : List A) (n : ℕ) (y : B) : Type 0 where
@@ -33,11 +34,6 @@ pub of_mapped : {A B : Type 0} (f : A → B) (xs : List A) (n : ℕ) (y : B) →
 of_mapped f [] n y e = cc
 of_mapped f (x ∷ xs) zero y e = let same : f x ≡ y = cc in record { from = x; there = refl; is = sym same }
 of_mapped f (x ∷ xs) (suc n) y e = let later = of_mapped f xs n y e in record { from = later.from; there = later.there; is = later.is }
-
-pub mapped_there : {A B : Type 0} (f : A → B) (xs : List A) (n : ℕ) (x : A) → slice_get xs n ≡ Some x → slice_get (map f xs) n ≡ Some (f x)
-mapped_there f [] n x e = cc
-mapped_there f (z ∷ xs) zero x e = let same : z ≡ x = cc in ap (λ q. Some (f q)) same
-mapped_there f (z ∷ xs) (suc n) x e = mapped_there f xs n x e
 
 module _ (h : HomedForm) (valid : IsValid h.unit) (e : EmittedForm) (code : IsCode h e) where
   -- The words with which a function begins, in front of its first block.

@@ -32,6 +32,7 @@ use Rattle.rv_emit_steps.proofs.Reaching.{Finds, location_found}
 use Rattle.rv_emit_code.specs.Beginning.{element_of, binding_code}
 use Rattle.rv_emit_runs.proofs.Bringing.{home_made}
 use Rattle.rv_emit_runs.proofs.Spare.{BindsOne, HasRoom, performs_binds, spare_stored}
+use Rattle.base_laws.proofs.Booleans.{and_false as and_none}
 
 -- The objects of an activation are in memory, live, with their elements and as many of them.
 pub record IsOwnObject (memory : Memory) (n : ℕ) (m : MemoryObject) : Type 0 where
@@ -85,11 +86,6 @@ first_set memory n v o there live some =
     ∙ ap (λ q. option_map_or (λ m. m) (write memory o.element q v) memory) (ap (λ (q : Option Object). option_map_or (λ (z : Object). Pointer n (bytes_of z) 0) q Odd) there)
     ∙ ap (λ q. option_map_or (λ m. m) (option_and_then (write_in memory n o.element 0 v) q) memory) there
     ∙ ap (λ q. option_map_or (λ m. m) (option_map (written_in memory n v o) q) memory) (index_first o.element o live refl some)
-
--- Where it has none, nothing is written.
-and_none : (b : Bool) → (b && false) ≡ false
-and_none true = refl
-and_none false = refl
 
 no_first : (o : Object) → length o.values ≡ 0 → index_in o.element 0 o ≡ None
 no_first o none =

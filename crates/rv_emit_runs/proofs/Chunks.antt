@@ -6,6 +6,7 @@ use Rattle.std.proofs.lemmas.List.{length-replicate}
 use Rattle.rv_machine.specs.Table.{zeros}
 use Rattle.graph_core.specs.Validity.{taken_by, total}
 use Rattle.graph_homes.specs.Statics.{addresses_from, padded}
+pub use Rattle.base_laws.proofs.Lists.{front_only}
 
 -- ---- Lists of bytes
 
@@ -17,12 +18,6 @@ in_front (x ∷ xs) ys (suc k) lt = in_front xs ys k (omega (arith, lt))
 pub behind_front : (xs ys : List ℕ) (k : ℕ) → slice_index (xs ++ ys) (length xs + k) ≡ slice_index ys k
 behind_front [] ys k = let here : 0 + k ≡ k = omega arith in ap (slice_index ys) here
 behind_front (x ∷ xs) ys k = let here : length (x ∷ xs) + k ≡ suc (length xs + k) = omega arith in ap (slice_index ((x ∷ xs) ++ ys)) here ∙ behind_front xs ys k
-
-pub front_only : (n : ℕ) (xs : List ℕ) (k : ℕ) → k < n → slice_index (take n xs) k ≡ slice_index xs k
-front_only zero xs k lt = absurd (omega (arith, lt))
-front_only (suc n) [] k lt = refl
-front_only (suc n) (x ∷ xs) zero lt = refl
-front_only (suc n) (x ∷ xs) (suc k) lt = front_only n xs k (omega (arith, lt))
 
 pub rest_only : (n : ℕ) (xs : List ℕ) (k : ℕ) → slice_index (drop n xs) k ≡ slice_index xs (n + k)
 rest_only zero xs k = let here : k ≡ 0 + k = omega arith in ap (slice_index xs) here

@@ -21,6 +21,7 @@ use Rattle.rv_emit_steps.specs.EmitMovesDoing.{IsReadable, value_of}
 use Rattle.rv_emit_steps.specs.Meaning.{Means, AreLaid}
 use Rattle.rv_emit_steps.proofs.Values.{operation_means, same_means}
 use Rattle.rv_emit_code.specs.Ends.{Compared, branch_operation, word_test, is_word, with_zero}
+use Rattle.base_laws.proofs.Booleans.{not_not as twice}
 
 -- The branch by a comparison is taken where it holds.
 pub branch_tests : (k : Comparison) (x y : ℕ) → taken (branch_operation k) x y ≡ word_test k x y
@@ -71,10 +72,6 @@ module _ (addresses : ℕ → ℕ) (memory : Memory) (laid : AreLaid addresses m
   comparison_means AtLeastUnsigned a b x y t hx hy ma mb is = false_word addresses memory (operate Sltu a b) (nat_lt x y) t (less_unsigned_word a b x y hx hy ma mb) is
 
 -- ---- Comparisons with 0
-
-twice : (b : Bool) → not (not b) ≡ b
-twice true = refl
-twice false = refl
 
 -- A word is below 1 where 0 is not below it.
 below_one : (x : ℕ) → int_lt (signed x) (signed 1) ≡ not (int_lt (signed 0) (signed x))

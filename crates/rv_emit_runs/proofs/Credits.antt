@@ -28,9 +28,7 @@ use Rattle.rv_emit_runs.specs.Room.{HasRoom}
 use Rattle.rv_emit_runs.proofs.Amounts.{plain_cost, early_cost, later_cost, first_of, left_words, all_plain, all_early, all_later, begins_of, ends_of, once, most_once, most_early, most_later}
 use Rattle.rv_emit_runs.proofs.Payments.{pay, pay_few}
 use Rattle.rv_emit_runs.proofs.Totals.{first_there, all_few}
-
-same_of : {A : Type 0} {x y : A} → Some x ≡ Some y → x ≡ y
-same_of e = cc
+use Rattle.base_laws.proofs.Options.{same_some as same_of}
 
 module _ (h : HomedForm) (timed : AreTimed h.unit) (e : EmittedForm) (code : IsCode h e) (room : HasRoom h e code) where
   -- What is to be paid of each sort of cost.

@@ -1,5 +1,5 @@
 -- Static memory that begins with a unit's initial bytes holds the unit's first objects and the bytes that initialise arrays.
-use Rattle.std.proofs.Common.{◌≡◌, ◌≢◌, ℕ, zero, suc, ◌+◌, ◌-◌, ◌*◌, ◌/◌, ◌%◌, ◌<◌, ◌≤◌, ◌⊎◌, ⊎_elim, inl, inr, sym, ap, ◌∙◌, subst, arith, refl, Option, Some, None, Bool, true, false, cond, List, [], ◌∷◌, ◌++◌, length, length-append, map, take, drop, slice_get}
+use Rattle.std.proofs.Common.{◌≡◌, ◌≢◌, ℕ, zero, suc, ◌+◌, ◌-◌, ◌*◌, ◌/◌, ◌%◌, ◌<◌, ◌≤◌, ◌⊎◌, ⊎_elim, inl, inr, sym, ap, ◌∙◌, subst, arith, refl, Option, Some, None, Bool, true, false, cond, List, [], ◌∷◌, ◌++◌, length, map, take, drop, slice_get}
 use Rattle.std.specs.Prelude.{◌==◌, nat_le, option_map, slice_index}
 use Rattle.std.specs.Option.{option_map_or}
 use Rattle.std.specs.List.{flat_map}
@@ -31,6 +31,8 @@ use Rattle.rv_emit_runs.specs.Laid.{Arrangement, code_of, first_bytes}
 use Rattle.rv_emit_runs.proofs.Beginnings.{mapped_there}
 use Rattle.rv_emit_runs.proofs.Chunks.{with_zeros, in_front, behind_front, front_only, rest_only, padded_at, padded_length, joined, AreChunks, lies_among, lies_before, chunk_at, joined_both, joined_mapped, chunks_both, chunks_mapped, total_both}
 use Rattle.rv_emit_runs.proofs.Lists.{all_at, get_some}
+use Rattle.base_laws.proofs.Lists.{length_mapped}
+use Rattle.base_laws.proofs.Options.{same_some as some_same}
 
 -- ---- Elements
 
@@ -151,9 +153,6 @@ pub record IsFirst (statics all : List StaticObject) (n : ℕ) (o : Object) : Ty
   pub values : o.values ≡ first_values statics static 0 static.count
   pub bytes : bytes_of o ≡ static_bytes static
 
-some_same : {A : Type 0} {x y : A} → Some x ≡ Some y → x ≡ y
-some_same e = cc
-
 first_of : (statics all : List StaticObject) (k n : ℕ) (o : Object) → slice_get (static_objects statics k all) n ≡ Some o → IsFirst statics all n o
 first_of statics [] k n o e = cc
 first_of statics (z ∷ all) k zero o e =
@@ -184,10 +183,6 @@ front_there (y ∷ xs) ys (suc n) x e = front_there xs ys n x e
 back_there : {A : Type 0} (xs ys : List A) (n : ℕ) (x : A) → slice_get ys n ≡ Some x → slice_get (xs ++ ys) (length xs + n) ≡ Some x
 back_there [] ys n x e = let same : 0 + n ≡ n = omega arith in ap (slice_get ys) same ∙ e
 back_there (y ∷ xs) ys n x e = let same : length (y ∷ xs) + n ≡ suc (length xs + n) = omega arith in ap (slice_get ((y ∷ xs) ++ ys)) same ∙ back_there xs ys n x e
-
-length_mapped : {A B : Type 0} (f : A → B) (xs : List A) → length (map f xs) ≡ length xs
-length_mapped f [] = refl
-length_mapped f (x ∷ xs) = let same = length_mapped f xs in omega (arith, same)
 
 module _ (u : UnitForm) (valid : IsValid u) (e : EmittedForm) (same : e.initial ≡ initial_bytes u) (bytes : (a : ℕ) → first_bytes e a < 256) where
   -- ---- Where they lie

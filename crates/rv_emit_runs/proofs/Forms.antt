@@ -1,6 +1,5 @@
 -- Words can spell the code of constants, operands and homes.
-use Rattle.std.proofs.Common.{◌≡◌, ℕ, ◌+◌, ◌%◌, ◌<◌, ◌≤◌, inl, inr, ⊎_elim, ◌==◌, ◌&&◌, not, nat_lt, nat_le, cond, Bool, true, false, Option, Some, None, List, [], ◌∷◌, ◌++◌, refl, subst, arith}
-use Rattle.std.specs.Option.{option_map_or}
+use Rattle.std.proofs.Common.{◌≡◌, ℕ, ◌+◌, ◌%◌, ◌<◌, ◌≤◌, inl, inr, ⊎_elim, ◌==◌, ◌&&◌, not, nat_lt, nat_le, cond, Bool, true, false, Some, List, [], ◌∷◌, ◌++◌, subst, arith}
 use Rattle.std.specs.List.{AllByRecursion}
 use Rattle.std.proofs.lemmas.Bool.{and_parts, or_cases, ltb-true, ltb-false, leb-true}
 use Rattle.word_base.specs.Arithmetic.{subtracted}
@@ -20,6 +19,8 @@ use Rattle.rv_emit_words.specs.Constants.{is_small, low_part, high_part, is_near
 use Rattle.rv_emit_words.specs.Growing.{forgotten, holder_of}
 use Rattle.rv_emit_words.specs.Operands.{address_code, bringing, fetched_home, fetched_source, finishing, home_register, home_written, load_slot_code, result_register, source_register, store_slot_code}
 use Rattle.rv_emit_runs.proofs.Stops.{all_append}
+pub use Rattle.base_laws.proofs.Booleans.{by_test as choice}
+pub use Rattle.base_laws.proofs.Options.{by_option as perhaps}
 
 -- Words can spell each of some instructions.
 abbrev pub AreInForm : List Instruction → Type 0
@@ -32,14 +33,6 @@ pub three_in_form : (front middle back : List Instruction) → AreInForm front �
 three_in_form front middle back a b c = both_in_form (front ++ middle) back (both_in_form front middle a b) c
 
 -- ---- Choices
-
-pub choice : {A : Type 0} (P : A → Type 0) (b : Bool) (x y : A) → (b ≡ true → P x) → (b ≡ false → P y) → P (cond b x y)
-choice P true x y f g = f refl
-choice P false x y f g = g refl
-
-pub perhaps : {A B : Type 0} (P : B → Type 0) (f : A → B) (o : Option A) (d : B) → ((x : A) → o ≡ Some x → P (f x)) → P d → P (option_map_or f o d)
-perhaps P f None d g h = h
-perhaps P f (Some x) d g h = g x refl
 
 -- ---- Numbers
 

@@ -1,7 +1,7 @@
 -- The words of each function stand in the code of a unit.
 use Rattle.std.proofs.Common.{◌≡◌, ℕ, zero, suc, ◌+◌, ◌≤◌, Bool, true, false, Some, List, [], ◌∷◌, ◌++◌, length, slice_get, slice_index, get_or, drop, refl, sym, ap, ◌∙◌, subst, arith, append_assoc}
 use Rattle.std.specs.List.{AllByRecursion}
-use Rattle.std.proofs.lemmas.List.{get_or-drop, drop-drop, length-append, length-map}
+use Rattle.std.proofs.lemmas.List.{drop-drop, length-append, length-map}
 use Rattle.rv_emit_words.specs.declared.piece.Piece.{Piece}
 use Rattle.rv_emit_words.specs.declared.piece.Piece.TheVariants.{Word, Jump, Branch, Call}
 use Rattle.rv_emit_words.specs.declared.piece.PlacedPiece.{PlacedPiece}
@@ -11,6 +11,7 @@ use Rattle.rv_emit_layout.specs.Spelling.{spelled}
 use Rattle.rv_emit_layout.specs.Layouts.{LayoutForm, Lying, function_words, lying, owned_words, piece_code, width, words_before, words_from, IsLayoutOf}
 use Rattle.rv_emit_layout.proofs.Layouts.{width_some}
 use Rattle.rv_emit_layout.specs.Laid.{LaidForm, firsts_from, words_of_all}
+use Rattle.base_laws.proofs.Lists.{flag_is}
 
 -- ---- How many words pieces become
 
@@ -33,9 +34,6 @@ pieces_few t far i (x ∷ more) =
     let later : length more ≤ length (words_from t far (counted (i + 1)) more) = pieces_few t far (counted (i + 1)) more in
     let all = length-append (owned_words x.owner (piece_code t (get_or far i false) (slice_index t.offsets i) x.piece)) (words_from t far (counted (i + 1)) more) in
     omega (arith, one, size, later, all)
-
-flag_is : (far : List Bool) (i : ℕ) → get_or (drop i far) 0 false ≡ get_or far i false
-flag_is far i = get_or-drop i far 0 false ∙ (let e : i + 0 ≡ i = omega arith in ap (λ k. get_or far k false) e)
 
 words_count : (t : Lying) (far : List Bool) (i : ℕ) (pieces : List PlacedPiece) → i + length pieces ≤ 4294967295 → length (words_from t far i pieces) ≡ words_before (drop i far) pieces (length pieces)
 words_count t far i [] fits = refl

@@ -17,6 +17,7 @@ use Rattle.rv_emit_steps.proofs.Objects.{WasThere, element_within}
 use Rattle.rv_emit_runs.specs.Waiting.{FunctionCode, IsFunctionCode, LiesInFrame, bytes_in}
 use Rattle.rv_emit_runs.proofs.Binding.{AreOwnObjects}
 use Rattle.rv_emit_runs.proofs.Outer.{Grown}
+use Rattle.base_laws.proofs.Lists.{mapped_there as map_get}
 
 -- ---- A list behind another
 
@@ -51,11 +52,6 @@ get_mapped : {A B : Type 0} (f : A → B) (xs : List A) (n : ℕ) (y : B) → sl
 get_mapped f [] n y e = cc
 get_mapped f (x ∷ xs) zero y e = let same : f x ≡ y = cc in record { from = x; there = refl; is = same }
 get_mapped f (x ∷ xs) (suc n) y e = let later = get_mapped f xs n y e in record { from = later.from; there = later.there; is = later.is }
-
-map_get : {A B : Type 0} (f : A → B) (xs : List A) (n : ℕ) (x : A) → slice_get xs n ≡ Some x → slice_get (map f xs) n ≡ Some (f x)
-map_get f [] n x e = cc
-map_get f (z ∷ xs) zero x e = let same : z ≡ x = cc in ap (λ q. Some (f q)) same
-map_get f (z ∷ xs) (suc n) x e = map_get f xs n x e
 
 replicate_odd : (k j : ℕ) (v : Value) → slice_get (replicate k Odd) j ≡ Some v → v ≡ Odd
 replicate_odd zero j v e = cc

@@ -25,13 +25,11 @@ use Rattle.rv_emit_runs.proofs.Credits.{pay_plain, pay_early, pay_later, Credit,
 use Rattle.rv_emit_runs.proofs.Enough.{plain_first, plain_end, early_is, later_is, Going, mode, called_low, never_new}
 use Rattle.rv_emit_runs.proofs.Plain.{IsOther, Plain, plain_is}
 use Rattle.rv_emit_runs.proofs.Payments.{pay_passed, pay_block}
+use Rattle.base_laws.proofs.Options.{same_some as first_one}
 
 none_of : {A : Type 0} (xs ys : List A) → length (xs ++ ys) ≡ length ys → xs ≡ []
 none_of [] ys e = refl
 none_of (x ∷ xs) ys e = let both = length-append xs ys in absurd (omega (arith, e, both))
-
-first_one : {A : Type 0} {x y : A} → Some x ≡ Some y → x ≡ y
-first_one e = cc
 
 module _ (h : HomedForm) (timed : AreTimed h.unit) (e : EmittedForm) (code : IsCode h e) (room : HasRoom h e code) {x : Spot} {index : ℕ} {held : List Held} {begins : Bool} (r : RestAt h e code x index held begins) (w b : ℕ) (credit : Credit h timed e code room (position_of r) w b) where
   abbrev f : FunctionCode

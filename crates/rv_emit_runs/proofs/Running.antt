@@ -28,6 +28,7 @@ use Rattle.rv_emit_runs.specs.Loaded.{IsLoaded}
 use Rattle.rv_emit_runs.specs.Waiting.{FunctionCode, IsFunctionCode, HoldsAll}
 use Rattle.rv_emit_runs.proofs.Placed.{behind_none}
 use Rattle.rv_emit_runs.proofs.Starting.{first, t4, now, starts, starting_can}
+use Rattle.base_laws.proofs.Options.{same_some as some_same}
 
 -- Where nothing is given nothing is bound.
 no_names : (params : List Binding) (names : ℕ → Value) → bind_names params [] names ≡ names
@@ -37,9 +38,6 @@ no_names (b ∷ more) names = refl
 no_objects : (n : ℕ) (params : List Binding) (memory : Memory) → bind_objects n params [] memory ≡ memory
 no_objects n [] memory = refl
 no_objects n (b ∷ more) memory = refl
-
-some_same : {A : Type 0} {x y : A} → Some x ≡ Some y → x ≡ y
-some_same e = cc
 
 -- The words before all functions: sp is the end of the stack, 1,024 activations may begin, and main is called.
 pub record StubAt (p : Program) (main : ℕ) : Type 0 where

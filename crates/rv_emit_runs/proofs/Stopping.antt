@@ -1,6 +1,6 @@
 -- At a stop the machine holds what a debugger reads there: the place, the frames of all activations, the homes of the innermost one, and all objects.
-use Rattle.std.proofs.Common.{◌≡◌, ℕ, zero, suc, ◌+◌, ◌%◌, ◌<◌, ◌≤◌, inl, inr, sym, ap, ◌∙◌, subst, arith, refl, Option, Some, None, Bool, true, false, ◌||◌, List, [], ◌∷◌, length, map}
-use Rattle.std.specs.Prelude.{◌==◌, option_map, take, slice_index}
+use Rattle.std.proofs.Common.{◌≡◌, ℕ, ◌+◌, ◌%◌, ◌≤◌, inl, inr, sym, ap, ◌∙◌, subst, arith, refl, Option, Some, None, Bool, true, false, ◌||◌, List, [], ◌∷◌, length, map}
+use Rattle.std.specs.Prelude.{◌==◌, option_map, slice_index}
 use Rattle.std.proofs.lemmas.Bool.{eqb-true}
 use Rattle.rv_machine.specs.State.{State}
 use Rattle.rv_machine.specs.Run.{is_stop}
@@ -28,6 +28,7 @@ use Rattle.rv_emit_runs.specs.Standing.{IsFrame, ReturnsTo, IsStack, StandsAt}
 use Rattle.rv_emit_runs.proofs.Lists.{get_some}
 use Rattle.rv_emit_runs.proofs.Related.{GoesOn}
 use Rattle.rv_emit_runs.proofs.Rest.{program_in, codes_in}
+use Rattle.base_laws.proofs.Lists.{front_only as index_front}
 
 -- ---- The stop
 
@@ -75,12 +76,6 @@ one_home slots (Some (Slot k)) (Some (Register r)) ax ay e = absurd (far r k ay 
     far : (m n : ℕ) → IsHomeRegister m → 32 + n ≡ m → ⊥
     far m n (inl is) same = omega (arith, is, same)
     far m n (inr (low, high)) same = omega (arith, high, same)
-
-index_front : (n : ℕ) (xs : List ℕ) (k : ℕ) → k < n → slice_index (take n xs) k ≡ slice_index xs k
-index_front zero xs k lt = absurd (omega (arith, lt))
-index_front (suc n) [] k lt = refl
-index_front (suc n) (x ∷ xs) zero lt = refl
-index_front (suc n) (x ∷ xs) (suc k) lt = index_front n xs k (omega (arith, lt))
 
 module _ (h : HomedForm) (valid : IsValid h.unit) (homed : HaveHomes h) (e : EmittedForm) (code : IsCode h e) (addresses : ℕ → ℕ) where
   -- ---- The stack

@@ -14,12 +14,9 @@ use Rattle.rv_emit_layout.specs.Layouts.{LayoutForm, words_before, IsLayoutOf}
 use Rattle.rv_emit_layout.specs.Tracing.{piece_address, stop_at, stops_of_block, stops_of_blocks, stops_of_pieces}
 use Rattle.rv_emit_layout.proofs.Layouts.{words_more}
 use Rattle.rv_emit_runs.specs.Stops.{IsStopOf}
+pub use Rattle.base_laws.proofs.Lists.{both_all as all_append}
 
 -- ---- Lists
-
-pub all_append : {A : Type 0} (P : A → Type 0) (xs ys : List A) → AllByRecursion P xs → AllByRecursion P ys → AllByRecursion P (xs ++ ys)
-all_append P [] ys a b = b
-all_append P (x ∷ xs) ys a b = (a.0, all_append P xs ys a.1 b)
 
 pub among_left : {A : Type 0} (x : A) (xs ys : List A) → Among x xs → Among x (xs ++ ys)
 among_left x [] ys there = elim there [ ]

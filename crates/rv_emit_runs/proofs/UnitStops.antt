@@ -17,15 +17,12 @@ use Rattle.rv_emit_runs.specs.EmitPlacedStanding.{HasStops}
 use Rattle.rv_emit_runs.specs.Stops.{IsStopOf, IsStopOfOne}
 use Rattle.rv_emit_runs.proofs.Pieces.{words_step}
 use Rattle.rv_emit_runs.proofs.Stops.{blocks_told, block_told, no_stop_there, stop_there, all_append, among_left, among_right, address_is}
+pub use Rattle.base_laws.proofs.Lists.{all_so as all_more}
 
 -- A function has its layout and fits in the code, behind so many words.
 pub record Fits (l : LaidForm) (first : ℕ) : Type 0 where
   pub layout : IsLayoutOf l.sequence l.layout
   pub low : first + words_before l.layout.far l.sequence.pieces (length l.sequence.pieces) ≤ 262144
-
-pub all_more : {A : Type 0} (P Q : A → Type 0) → ((x : A) → P x → Q x) → (xs : List A) → AllByRecursion P xs → AllByRecursion Q xs
-all_more P Q f [] all = tt
-all_more P Q f (x ∷ xs) all = (f x all.0, all_more P Q f xs all.1)
 
 -- ---- Each stop is that of a piece
 

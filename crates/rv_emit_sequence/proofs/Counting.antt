@@ -1,11 +1,11 @@
 -- Words that are appended, and words that are left.
 use Rattle.std.proofs.Common.{◌≡◌, ◌≤◌, ◌-◌, ℕ, ◌+◌, List, [], ◌∷◌, ◌++◌, length, map, take, drop, get_or, refl, sym, ap, ◌∙◌, subst, append_assoc, arith}
-use Rattle.std.proofs.Math.Seq.{take-length}
 use Rattle.rv_emit_words.specs.declared.piece.Piece.{Piece}
 use Rattle.rv_emit_words.specs.declared.piece.PlacedPiece.{PlacedPiece}
 use Rattle.rv_emit_words.specs.Words.{words_of_piece, words_in}
 use Rattle.rv_emit_sequence.specs.Sequences.{numbered}
 use Rattle.rv_emit_sequence.proofs.Splitting.{split_first}
+use Rattle.base_laws.proofs.Lists.{rest_is}
 
 words_append : (xs : List PlacedPiece) (p : PlacedPiece) → words_in (xs ++ p ∷ []) ≡ words_in xs + words_of_piece p.piece
 words_append [] p = omega arith
@@ -14,9 +14,6 @@ words_append (x ∷ xs) p = omega (arith, words_append xs p)
 -- a piece that has as many words as another one is appended
 pub words_put : (xs ys : List PlacedPiece) (p x : PlacedPiece) → p.piece ≡ x.piece → ys ≡ xs ++ p ∷ [] → words_in ys ≡ words_in xs + words_of_piece x.piece
 words_put xs ys p x same e = subst (λ zs. words_in zs ≡ words_in xs + words_of_piece x.piece) (sym e) (words_append xs p ∙ ap (λ (q : Piece). words_in xs + words_of_piece q) same)
-
-rest_is : {A : Type 0} (y : A) (left : List A) → take (length (y ∷ left) - 1) (drop 1 (y ∷ left)) ≡ left
-rest_is y left = (let count : length (y ∷ left) - 1 ≡ length left = omega arith in ap (λ n. take n left) count ∙ take-length left)
 
 -- the first piece, and those that are left
 pub words_step : (left : List PlacedPiece) (x d : PlacedPiece) → 1 ≤ length left → x ≡ get_or left 0 d → words_in left ≡ words_of_piece x.piece + words_in (take (length left - 1) (drop 1 left))

@@ -38,6 +38,7 @@ use Rattle.rv_emit_steps.proofs.Fetching.{holder_holds}
 use Rattle.rv_emit_steps.proofs.Writing.{home_writes}
 use Rattle.rv_emit_steps.proofs.Computing.{can_write_stays, memory_with_stays, fetched, found_apart, immediate_computes, registers_compute, computed_made, immediate_made, registers_made, result_some}
 use Rattle.rv_emit_steps.proofs.Operations.{register_does, FormDoes, form_does, commutes, low_byte, low_half, signed_low_byte, signed_low_half, is_none, none_differ}
+use Rattle.base_laws.proofs.Numbers.{chosen_fits}
 
 -- ---- What is read is a word
 
@@ -143,10 +144,6 @@ then_immediate code h op rd v n some a =
       memory = ap (λ (u : Holding). u.memory) both ∙ a.memory;
       input = ap (λ (u : Holding). u.input) both ∙ a.input;
     }
-
-chosen_fits : (b : Bool) (x y : ℕ) → x < 4294967296 → y < 4294967296 → cond b x y < 4294967296
-chosen_fits true x y hx hy = hx
-chosen_fits false x y hx hy = hy
 
 truncated_fits : (t : Truncation) (a : ℕ) → truncated t a < 4294967296
 unfolding truncated

@@ -1,5 +1,5 @@
 -- Objects hold what they are to hold behind a write: elsewhere in memory, and in one of them.
-use Rattle.std.proofs.Common.{◌≡◌, ◌≢◌, ℕ, zero, suc, ◌+◌, ◌*◌, ◌<◌, ◌≤◌, ◌⊎◌, ⊎_elim, inl, inr, sym, ap, ◌∙◌, subst, arith, refl, List, [], ◌∷◌, length, slice_get, slice_set, Option, Some, true}
+use Rattle.std.proofs.Common.{◌≡◌, ◌≢◌, ℕ, ◌+◌, ◌*◌, ◌<◌, ◌≤◌, ◌⊎◌, ⊎_elim, inl, inr, sym, ap, ◌∙◌, subst, arith, refl, length, slice_get, slice_set, Option, Some, true}
 use Rattle.std.specs.Prelude.{option_map}
 use Rattle.std.proofs.lemmas.Bool.{cases_lt, cases_eq}
 use Rattle.std.proofs.lemmas.List.{length-set}
@@ -14,31 +14,9 @@ use Rattle.rv_emit_steps.specs.Holding.{with_bytes}
 use Rattle.rv_emit_steps.proofs.Apart.{byte_outside}
 use Rattle.rv_emit_steps.specs.Meaning.{size_at, Means, bits_at, HoldsBits, HoldsObjects, IsInMemory, AreLaid}
 use Rattle.rv_emit_steps.proofs.Elements.{kept_means, bits_stored, bits_kept}
+pub use Rattle.base_laws.proofs.Lists.{get_set, set_elsewhere, set_here}
 
 -- ---- Lists of which a member is replaced
-
--- What stands there: the new member, or what stood elsewhere.
-pub get_set : {A : Type 0} (xs : List A) (n m : ℕ) (y z : A) → slice_get (slice_set xs n y) m ≡ Some z → ((m ≡ n) × (z ≡ y)) ⊎ ((m ≢ n) × (slice_get xs m ≡ Some z))
-get_set [] n m y z h = cc
-get_set (x ∷ xs) zero zero y z h = let same : y ≡ z = cc in inl (refl, sym same)
-get_set (x ∷ xs) zero (suc m) y z h = inr ((λ e. cc), h)
-get_set (x ∷ xs) (suc n) zero y z h = inr ((λ e. cc), h)
-get_set (x ∷ xs) (suc n) (suc m) y z h = elim (get_set xs n m y z h) [
-  | inl both ↦ inl (ap (λ k. suc k) both.0, both.1)
-  | inr both ↦ inr ((λ e. both.0 (omega (arith, e))), both.1)
-]
-
-pub set_here : {A : Type 0} (xs : List A) (n : ℕ) (x y : A) → slice_get xs n ≡ Some x → slice_get (slice_set xs n y) n ≡ Some y
-set_here [] n x y h = cc
-set_here (z ∷ xs) zero x y h = refl
-set_here (z ∷ xs) (suc n) x y h = set_here xs n x y h
-
-pub set_elsewhere : {A : Type 0} (xs : List A) (n m : ℕ) (y : A) → m ≢ n → slice_get (slice_set xs n y) m ≡ slice_get xs m
-set_elsewhere [] n m y ne = refl
-set_elsewhere (z ∷ xs) zero zero y ne = absurd (ne refl)
-set_elsewhere (z ∷ xs) zero (suc m) y ne = refl
-set_elsewhere (z ∷ xs) (suc n) zero y ne = refl
-set_elsewhere (z ∷ xs) (suc n) (suc m) y ne = set_elsewhere xs n m y (λ e. ne (ap (λ k. suc k) e))
 
 -- ---- Objects that stay what they are
 

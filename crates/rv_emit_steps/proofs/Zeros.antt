@@ -36,6 +36,7 @@ use Rattle.rv_emit_steps.proofs.Filled.{with_front, filled_framed}
 use Rattle.rv_emit_steps.proofs.Limits.{address_brings, limit_brings}
 use Rattle.rv_emit_steps.proofs.Looping.{LoopDone, loop_done}
 use Rattle.rv_emit_steps.proofs.Zeroing.{AreZeroed, none_zeroed, Zeroes, zeros_done, zero_body, ZerosLeft, zero_turns}
+use Rattle.base_laws.proofs.Booleans.{both_true}
 
 -- ---- What the unit does
 
@@ -46,11 +47,6 @@ pub record IsFilled (memory : Memory) (n words : ℕ) (new : Object → List Val
   pub live : object.live ≡ true
   pub few : words ≤ words_of (bytes_of object)
   pub makes : slice_set memory n (record object { values = with_front (new object) object.values }) ≡ later
-
-both_true : (a b : Bool) → (a && b) ≡ true → (a ≡ true) × (b ≡ true)
-both_true true true e = (refl, refl)
-both_true true false e = cc
-both_true false b e = cc
 
 pub filled_is : (memory : Memory) (n words : ℕ) (new : Object → List Value) (later : Memory) → option_and_then (λ o. option_map (with_object memory n) (filled words (new o) o)) (slice_get memory n) ≡ Some later → IsFilled memory n words new later
 filled_is memory n words new later found = by_object (slice_get memory n) refl found

@@ -5,6 +5,7 @@ use Rattle.rv_emit_words.specs.declared.piece.PlacedPiece.{PlacedPiece}
 use Rattle.rv_emit_words.specs.Words.{words_of_piece, words_in}
 use Rattle.rv_emit_words.specs.Shown.{stop_if, stops_of}
 use Rattle.rv_emit_words.specs.Growing.{marked}
+use Rattle.base_laws.proofs.Lists.{append_none}
 
 pub words_append : (xs : List PlacedPiece) (p : PlacedPiece) → words_in (xs ++ p ∷ []) ≡ words_in xs + words_of_piece p.piece
 words_append [] p = omega arith
@@ -21,10 +22,6 @@ words_set (z ∷ zs) (suc i) x y e p lt = ap (λ n. words_of_piece z.piece + n) 
 stops_append : (xs ys : List PlacedPiece) → stops_of (xs ++ ys) ≡ stops_of xs ++ stops_of ys
 stops_append [] ys = refl
 stops_append (x ∷ xs) ys = ap (λ l. stop_if x.is_stop x.owner ++ l) (stops_append xs ys) ∙ sym (append_assoc (stop_if x.is_stop x.owner) (stops_of xs) (stops_of ys))
-
-append_none : (xs : List ℕ) → xs ++ [] ≡ xs
-append_none [] = refl
-append_none (x ∷ xs) = ap (λ ys. x ∷ ys) (append_none xs)
 
 -- The place that begins at the next word begins at the word that is put.
 pub shown_put : (xs ys : List PlacedPiece) (p : PlacedPiece) → ys ≡ xs ++ p ∷ [] → stops_of ys ++ [] ≡ stops_of xs ++ stop_if p.is_stop p.owner

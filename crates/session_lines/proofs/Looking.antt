@@ -1,5 +1,6 @@
 -- Looking up names.
 use Rattle.std.proofs.Common.{◌≡◌, ◌∙◌, ℕ, zero, suc, ◌+◌, ◌-◌, ◌<◌, ◌≤◌, refl, sym, ap, List, [], ◌∷◌, ◌++◌, map, length, get_or, arith}
+use Rattle.base_laws.proofs.Lists.{map_twice}
 
 -- what stands in the first part
 within : (first more : List (List ℕ)) (x : ℕ) → x < length first → get_or (first ++ more) x [] ≡ get_or first x []
@@ -18,10 +19,6 @@ nameless : {A : Type 0} (all : List A) (x : ℕ) → get_or {A = List ℕ} (map 
 nameless [] x = refl
 nameless (b ∷ all) zero = refl
 nameless (b ∷ all) (suc x) = nameless all x
-
-map_twice : {A B C : Type 0} (f : B → C) (g : A → B) (all : List A) → map f (map g all) ≡ map (λ a. f (g a)) all
-map_twice f g [] = refl
-map_twice f g (a ∷ all) = ap (λ l. f (g a) ∷ l) (map_twice f g all)
 
 counted : {A B : Type 0} (f : A → B) (all : List A) → length (map f all) ≡ length all
 counted f [] = refl

@@ -4,6 +4,8 @@ use Rattle.std.proofs.lemmas.Bool.Decides.{nat_tests}
 use Rattle.std.proofs.lemmas.List.{get_or-set_same, get_or-set_other, length-replicate}
 use Rattle.stop_engine.specs.MarkTable.{mark_table, marked_from}
 use Rattle.stop_engine.specs.Transcript.{is_among}
+use Rattle.base_laws.proofs.Booleans.{or_false, or_true}
+use Rattle.base_laws.proofs.Numbers.{eq_same}
 
 -- a number in front of a table is not among its marks
 not_before : (n k : ℕ) (marks : List Bool) → k < n → is_among (marked_from n marks) k ≡ false
@@ -27,17 +29,6 @@ marks_from n (suc i) k (false ∷ marks) at = marks_from (n + 1) i k marks (omeg
 
 pub marks_among : (marks : List Bool) (i : ℕ) → is_among (marked_from 0 marks) i ≡ get_or marks i false
 marks_among marks i = marks_from 0 i i marks (omega arith)
-
-or_true : (b : Bool) → (b || true) ≡ true
-or_true true = refl
-or_true false = refl
-
-or_false : (b : Bool) → (b || false) ≡ b
-or_false true = refl
-or_false false = refl
-
-eq_same : (n : ℕ) → (n == n) ≡ true
-eq_same n = grind (arith, nat_tests)
 
 -- one mark more
 pub mark_one : (marks : List Bool) (i p : ℕ) → i < length marks → is_among (marked_from 0 (slice_set marks i true)) p ≡ (is_among (marked_from 0 marks) p || i == p)
