@@ -3,7 +3,7 @@ use Rattle.std.proofs.Common.{◌≡◌, ℕ, ◌+◌, ◌<◌, ◌≤◌, ◌++
 use Rattle.std.specs.Option.{option_or}
 use Rattle.std.proofs.lemmas.List.{drop_all, drop_more, get_or-map, length-map, take_more}
 use Rattle.debug_records.specs.declared.change.Place.{Place}
-use Rattle.graph_core.specs.Graphs.{Instruction, Marker, Block, End, Scalar}
+use Rattle.graph_core.specs.Graphs.{Instruction, Block, End, Scalar}
 use Rattle.graph_core.specs.Points.{reads_at}
 use Rattle.graph_core.specs.Uses.{marker_of, reads_of, reads_of_end}
 use Rattle.graph_core.specs.Validity.{place_behind}
@@ -12,19 +12,10 @@ use Rattle.pass_law.specs.Changes.{Adds, Below, Numbered}
 use Rattle.pass_law.proofs.Adding.{adds_first, adds_last, adds_next, adds_same}
 use Rattle.copy_pass.specs.Points.{IsInBoth, IsReplacedAt, IsReplacedIn, placed}
 use Rattle.copy_pass.specs.Reads.{IsOther}
+use Rattle.graph_core.proofs.Among.{behind_last, behind_one}
 
 abbrev pub index_of : Case → ℕ
 index_of c = c.index
-
--- the place behind one more instruction
-behind_last : (all : List Instruction) (i : Instruction) (p : Option ℕ) → place_behind (all ++ i ∷ []) p ≡ place_behind (i ∷ []) (place_behind all p)
-behind_last [] i p = refl
-behind_last (Marker q ∷ more) i p = behind_last more i (Some q)
-behind_last (_ ∷ more) i p = behind_last more i p
-
-behind_one : (i : Instruction) (p : Option ℕ) → place_behind (i ∷ []) p ≡ option_or (marker_of i) p
-behind_one (Marker q) p = refl
-behind_one _ p = refl
 
 placed_or : (m s : Option Place) → placed (option_or m s) ≡ option_or (placed m) (placed s)
 placed_or None s = refl

@@ -4,10 +4,11 @@ use Rattle.std.specs.Prelude.{slice_get}
 use Rattle.graph_core.specs.declared.value.Value.{Value}
 use Rattle.graph_core.specs.Graphs.{Name, Move, Instruction, End, Block, Graph}
 use Rattle.graph_core.specs.Uses.{target_of, targets_of, reads_of_end}
-use Rattle.graph_core.specs.Paths.{History, Among, stays, passes, goes, Path, path}
+use Rattle.graph_core.specs.Paths.{History, Among, stays, Path, path}
 use Rattle.graph_core.specs.Runs.{put}
 use Rattle.copy_pass_rule.specs.Copying.{reading_end, IsReadAs, AreCopied, IsCopiedBlock, IsPropagated}
 use Rattle.copy_pass_laws.proofs.Truth.{AreTrue, true_first, true_passed, true_written}
+use Rattle.graph_core.proofs.Among.{path_goes, path_passes}
 
 -- a graph with other blocks
 abbrev pub copied_graph : Graph → List Block → Graph
@@ -25,13 +26,6 @@ pub record Fits (g : Graph) (blocks : List Block) (names : ℕ → Value) (point
   pub read_as : ℕ → ℕ
   pub ends : later ≡ reading_end read_as end
   pub reads : (x : ℕ) → Among x (reads_of_end end) → IsReadAs (copied_graph g blocks) block [] later x (read_as x)
-
--- A path passes an instruction, and goes on to a block.
-path_passes : (g : Graph) (h : History) (n : ℕ) (i : Instruction) (rest : List Instruction) (e : End) (v : Value) → Path g h n (i ∷ rest) e → Path g (record { block = n; left = length rest; instruction = i; wrote = v } ∷ h) n rest e
-path_passes g h n i rest e v (path b at way) = path b at (passes way v)
-
-path_goes : (g : Graph) (h : History) (n : ℕ) (e : End) (l : ℕ) (b : Block) → Among l (targets_of e) → slice_get g.blocks l ≡ Some b → Path g h n [] e → Path g h l b.instructions b.end
-path_goes g h n e l b to at (path first begins way) = path first begins (goes way to b at)
 
 module _ (g : Graph) (blocks : List Block) where
   -- An instruction was passed that writes no name.

@@ -5,11 +5,7 @@ use Rattle.std.proofs.lemmas.Bool.Decides.{eqb_tells}
 use Rattle.std.proofs.lemmas.Option.{none-some, same_Some, slice_get-get_or, slice_get_within}
 use Rattle.graph_core.specs.Paths.{Among, front, behind}
 pub use Rattle.base_laws.proofs.Lists.{get_same as get_any}
-
-pub among_parts : {A : Type 0} {a : A} (xs ys : List A) → Among a (xs ++ ys) → Among a xs ⊎ Among a ys
-among_parts [] ys there = inr there
-among_parts (x ∷ xs) ys front = inl front
-among_parts (x ∷ xs) ys (behind there) = elim (among_parts xs ys there) [ inl f ↦ inl (behind f) | inr f ↦ inr f ]
+pub use Rattle.graph_core.proofs.Among.{among_one, among_parts, at_among}
 
 pub among_left : {A : Type 0} {a : A} (xs ys : List A) → Among a xs → Among a (xs ++ ys)
 among_left [] ys there = elim there [ ]
@@ -20,21 +16,11 @@ pub among_right : {A : Type 0} {a : A} (xs ys : List A) → Among a ys → Among
 among_right [] ys there = there
 among_right (x ∷ xs) ys there = behind (among_right xs ys there)
 
-pub among_one : {A : Type 0} {a b : A} → Among a (b ∷ []) → a ≡ b
-among_one front = refl
-among_one (behind e) = elim e [ ]
-
 -- a member stands somewhere
 pub among_at : {A : Type 0} {a : A} (xs : List A) → Among a xs → (k : ℕ) × (slice_get xs k ≡ Some a)
 among_at [] there = elim there [ ]
 among_at (x ∷ xs) front = (0, refl)
 among_at (x ∷ xs) (behind there) = (let f = among_at xs there in (suc f.0, f.1))
-
--- what stands somewhere is a member
-pub at_among : {A : Type 0} (xs : List A) (k : ℕ) (a : A) → slice_get xs k ≡ Some a → Among a xs
-at_among [] k a e = absurd (none-some a e)
-at_among (x ∷ xs) zero a e = subst (λ b. Among b (x ∷ xs)) (same_Some x a e) front
-at_among (x ∷ xs) (suc k) a e = behind (at_among xs k a e)
 
 -- what stands at an index is a member
 pub get_among : {A : Type 0} (xs : List A) (k : ℕ) (a : A) → k < length xs → a ≡ get_or xs k a → Among a xs

@@ -1,6 +1,6 @@
 -- Names in recipes of parts.
 use mathlib.Core.Bool.{true≢false}
-use Rattle.std.proofs.Common.{◌≡◌, inl, inr, ℕ, Bool, true, false, Some, List, [], ◌∷◌, ◌++◌, subst, sym, ◌∙◌}
+use Rattle.std.proofs.Common.{◌≡◌, inl, inr, ℕ, Bool, true, false, Some, List, ◌++◌, subst, sym, ◌∙◌}
 use Rattle.std.specs.Prelude.{◌↔◌}
 use Rattle.std.proofs.lemmas.Option.{same_Some}
 use Rattle.graph_core.specs.Graphs.{Operand, Recipe, Of, Name}
@@ -10,13 +10,11 @@ use Rattle.currency_notes.specs.declared.homes.Homes as declared-homes
 use Rattle.currency_notes.specs.Homes.{IsRead, IsUnread}
 use Rattle.currency_notes.proofs.Lists.{among_parts, among_one}
 use Rattle.base_laws.proofs.Booleans.{by_bool}
+pub use Rattle.graph_core.proofs.Among.{each_of_one}
 
 -- what is so of the names of both parts is so of the names of the whole
 pub each_of_both : (P : ℕ → Type 0) (xs ys : List ℕ) → ((y : ℕ) → Among y xs → P y) → ((y : ℕ) → Among y ys → P y) → (y : ℕ) → Among y (xs ++ ys) → P y
 each_of_both P xs ys left right y among = elim (among_parts xs ys among) [ inl f ↦ left y f | inr f ↦ right y f ]
-
-pub each_of_one : (P : ℕ → Type 0) (x : ℕ) → P x → (y : ℕ) → Among y (x ∷ []) → P y
-each_of_one P x here y among = subst P (sym (among_one among)) here
 
 -- what tells something of a name tells it of each name that its operand reads
 pub each_of_name : (P : ℕ → Type 0) (x : ℕ) (b : Bool) → (b ≡ true) ↔ P x → (o : Operand) → Name x ≡ o → (b ≡ true) ↔ ((y : ℕ) → Among y (names_of o) → P y)

@@ -1,17 +1,16 @@
 -- What writes names, as far as it is known.
 use Rattle.std.proofs.Common.{◌≡◌, inl, inr, ℕ, ◌+◌, ◌<◌, Option, Some, None, List, [], ◌∷◌, ◌++◌, length, get_or, map, take, drop, refl, sym, ap, subst, ◌∙◌, arith}
-use Rattle.std.specs.Prelude.{slice_get, option_map, All}
+use Rattle.std.specs.Prelude.{slice_get, option_map}
 use Rattle.std.specs.Option.{option_or}
 use Rattle.std.proofs.lemmas.Bool.Decides.{eqb_tells}
 use Rattle.std.proofs.lemmas.List.{get_or-map, length-map, length-take-le, take-append-drop, take_more, drop_more, take_at, length-append}
-use Rattle.std.proofs.lemmas.List.Elements.{All-push}
-use Rattle.std.proofs.lemmas.Option.{none-some, same_Some, slice_get-map, slice_get-get_or, slice_get_within}
+use Rattle.std.proofs.lemmas.Option.{same_Some, slice_get-map, slice_get-get_or, slice_get_within}
 use Rattle.debug_records.specs.declared.change.Place.{Place}
 use Rattle.graph_core.specs.declared.graph.Binding as declared-binding
 use Rattle.graph_core.specs.declared.block.Block as declared-block
 use Rattle.graph_core.specs.declared.graph.Graph as declared-graph
 use Rattle.graph_core.specs.declared.instruction.Instr as declared-instr
-use Rattle.graph_core.specs.Graphs.{Instruction, Marker, Block, Binding, ToScalar, ToObject, block_view, binding_view, instruction_view, end_view, graph_view}
+use Rattle.graph_core.specs.Graphs.{Instruction, Block, Binding, ToScalar, block_view, binding_view, instruction_view, end_view, graph_view}
 use Rattle.graph_core.specs.Uses.{target_of, marker_of}
 use Rattle.graph_core.specs.Points.{StandsWith}
 use Rattle.graph_core.specs.Validity.{place_behind}
@@ -20,6 +19,7 @@ use Rattle.currency_writers.specs.declared.writers.Writer.TheVariants as writer
 use Rattle.currency_writers.specs.declared.writers.Writers as declared-writers
 use Rattle.currency_writers.specs.declared.writers.Written as declared-written
 use Rattle.currency_writers.specs.Writers.{AreBindings, AreBlocks, AreInstructions, AreMore, AreSound, AreWriters, IsIndexed, IsKnown, Writes, instruction, parameter, placed}
+use Rattle.graph_core.proofs.Among.{behind_last, behind_one}
 
 pub more_on : (u v w : declared-writers.Writers) → AreMore u v → AreMore v w → AreMore u w
 more_on u v w one two = record { function = two.function ∙ one.function; graph = two.graph ∙ one.graph; homes = two.homes ∙ one.homes; kept = λ z c. two.kept z (one.kept z c) }
@@ -87,16 +87,6 @@ all_written v sound indexed bindings blocks = record { sound = sound; all = all;
         (let inside = slice_get_within (graph_view v.graph.now).parameters k (ToScalar x) at in
         let long = length-map v.graph.now.parameters.items binding_view in
         subst (λ q. IsKnown v q x (writer.Binding v.function k)) (sym entry) (bindings k x (omega (arith, inside, long)) at))
-
--- the place behind one more instruction
-behind_last : (all : List Instruction) (i : Instruction) (p : Option ℕ) → place_behind (all ++ i ∷ []) p ≡ place_behind (i ∷ []) (place_behind all p)
-behind_last [] i p = refl
-behind_last (Marker q ∷ more) i p = behind_last more i (Some q)
-behind_last (_ ∷ more) i p = behind_last more i p
-
-behind_one : (i : Instruction) (p : Option ℕ) → place_behind (i ∷ []) p ≡ option_or (marker_of i) p
-behind_one (Marker q) p = refl
-behind_one _ p = refl
 
 placed_or : (m s : Option Place) → placed (option_or m s) ≡ option_or (placed m) (placed s)
 placed_or None s = refl

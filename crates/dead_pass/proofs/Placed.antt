@@ -11,6 +11,7 @@ use Rattle.dead_pass_notes.specs.Sources.{AreNamed}
 use Rattle.dead_pass_notes.specs.Points.{placed}
 use Rattle.dead_pass.specs.Noted.{ArePlaced}
 use Rattle.base_laws.proofs.Lists.{all_at, all_behind_these}
+use Rattle.graph_core.proofs.Among.{behind_last, behind_one}
 
 -- a place in force stays, or another begins
 placed_behind : (before : List Instruction) (p : ℕ) → (q : ℕ) × (place_behind before (Some p) ≡ Some q)
@@ -27,16 +28,6 @@ pub note_placed : (before rest : List Instruction) (x : ℕ) (v : NoteValue) (ke
 note_placed [] rest x v kept has = placed_kept [] kept has
 note_placed (Marker q ∷ before) rest x v kept has = placed_behind before q
 note_placed (_ ∷ before) rest x v kept has = placed_kept before kept has
-
--- the place in force behind one more instruction
-behind_last : (all : List Instruction) (i : Instruction) (p : Option ℕ) → place_behind (all ++ i ∷ []) p ≡ place_behind (i ∷ []) (place_behind all p)
-behind_last [] i p = refl
-behind_last (Marker q ∷ more) i p = behind_last more i (Some q)
-behind_last (_ ∷ more) i p = behind_last more i p
-
-behind_one : (i : Instruction) (p : Option ℕ) → place_behind (i ∷ []) p ≡ option_or (marker_of i) p
-behind_one (Marker q) p = refl
-behind_one _ p = refl
 
 placed_or : (m s : Option Place) → placed (option_or m s) ≡ option_or (placed m) (placed s)
 placed_or None s = refl

@@ -5,7 +5,7 @@ use Rattle.std.proofs.lemmas.Bool.{cases_Bool}
 use Rattle.graph_core.specs.declared.value.Value.{Value}
 use Rattle.graph_core.specs.Graphs.{Instruction, Move, Operate, Truncate, End, Block, Graph, StaticObject, Logged, UnitForm}
 use Rattle.graph_core.specs.Uses.{target_of, targets_of}
-use Rattle.graph_core.specs.Paths.{History, Among, stays, passes, goes, Path, path, writes}
+use Rattle.graph_core.specs.Paths.{History, Among, stays, Path, path, writes}
 use Rattle.graph_core.specs.Points.{Behind, ReadsNext}
 use Rattle.graph_core.specs.Histories.{name_by, values_behind}
 use Rattle.graph_core.specs.Validity.{AreAllDifferent, IsGraph, markers_of_blocks}
@@ -19,6 +19,7 @@ use Rattle.dead_pass_writes.specs.Removals.{IsRemoval}
 use Rattle.dead_pass_laws.proofs.Lags.{Lags, lags_behind, lags_on, lags_first, lags_read}
 use Rattle.dead_pass_laws.proofs.Points.{IsAt, path_at}
 use Rattle.dead_pass_laws.proofs.Values.{name_kept, name_taken, target_written, unwritten_other}
+pub use Rattle.graph_core.proofs.Among.{path_goes, path_passes}
 
 -- a graph with other blocks
 abbrev pub reduced_graph : Graph → List Block → Graph
@@ -60,14 +61,6 @@ pub record Came (u : UnitForm) (log : List Logged) (g : Graph) (blocks : List Bl
   pub holds : names ≡ values_behind first history
   pub are_true : AreTrue u.statics first history
   pub agree : (x : ℕ) → Lags g x history n rest end ⊎ (others x ≡ names x)
-
--- A path passes an instruction, and goes on to a block.
-pub path_passes : (g : Graph) (h : History) (n : ℕ) (i : Instruction) (rest : List Instruction) (e : End) (v : Value) → Path g h n (i ∷ rest) e → Path g (record { block = n; left = length rest; instruction = i; wrote = v } ∷ h) n rest e
-path_passes g h n i rest e v (path b at way) = path b at (passes way v)
-
--- and goes on to a block
-pub path_goes : (g : Graph) (h : History) (n : ℕ) (e : End) (l : ℕ) (b : Block) → Among l (targets_of e) → slice_get g.blocks l ≡ Some b → Path g h n [] e → Path g h l b.instructions b.end
-path_goes g h n e l b to at (path first begins way) = path first begins (goes way to b at)
 
 module _ (u : UnitForm) (log : List Logged) (g : Graph) (blocks : List Block) where
   module _ (names others : ℕ → Value) (n : ℕ) (i : Instruction) (rest : List Instruction) (e : End) (w : Value) where

@@ -1,28 +1,10 @@
 -- Members of lists, and lists that are gone through together.
-use Rattle.std.proofs.Common.{◌≡◌, ℕ, zero, suc, ◌⊎◌, inl, inr, Some, None, List, [], ◌∷◌, ◌++◌, length, refl, arith}
-use Rattle.std.specs.List.{AllByRecursion}
+use Rattle.std.proofs.Common.{◌≡◌, ℕ, zero, suc, ◌⊎◌, inl, inr, Some, None, List, [], ◌∷◌, length, refl, arith}
 use Rattle.std.specs.Prelude.{slice_get}
 use Rattle.graph_core.specs.Graphs.{Graph}
-use Rattle.graph_core.specs.Paths.{Among, front, behind}
 use Rattle.pass_law.specs.Kept.{EachFunction}
 pub use Rattle.base_laws.proofs.Lists.{all_at, all_within}
-
--- A member of a list is one of it with others behind,
-pub among_left : {A : Type 0} (x : A) (xs ys : List A) → Among x xs → Among x (xs ++ ys)
-among_left x [] ys among = elim among [ ]
-among_left x (y ∷ xs) ys front = front
-among_left x (y ∷ xs) ys (behind later) = behind (among_left x xs ys later)
-
--- and with others before.
-pub among_right : {A : Type 0} (x : A) (xs ys : List A) → Among x ys → Among x (xs ++ ys)
-among_right x [] ys among = among
-among_right x (y ∷ xs) ys among = behind (among_right x xs ys among)
-
--- and of each member.
-pub all_among : {A : Type 0} (P : A → Type 0) (xs : List A) (x : A) → AllByRecursion P xs → Among x xs → P x
-all_among P [] x all among = elim among [ ]
-all_among P (y ∷ xs) x all front = all.0
-all_among P (y ∷ xs) x all (behind later) = all_among P xs x all.1 later
+pub use Rattle.graph_core.proofs.Among.{among_left, among_right, one_of_all as all_among}
 
 -- By one number either both lists have something, or neither has.
 abbrev pub AtBoth : {A B : Type 0} (IsMade : A → B → Type 0) (xs : List A) (ys : List B) (n : ℕ) → Type 0

@@ -1,10 +1,9 @@
 -- Each note that a path of the graph after comes to is right.
-use Rattle.std.proofs.Common.{◌≡◌, ◌≢◌, ℕ, zero, suc, ◌<◌, inl, inr, true, Some, List, [], ◌∷◌, length, refl, sym, ap, ◌∙◌, subst}
+use Rattle.std.proofs.Common.{◌≡◌, ◌≢◌, ℕ, ◌<◌, inl, inr, true, Some, List, ◌∷◌, length, refl, sym, ap, ◌∙◌, subst}
 use Rattle.std.specs.List.{AllByRecursion}
-use Rattle.std.specs.Prelude.{slice_get}
 use Rattle.std.proofs.lemmas.Option.{same_Some}
 use Rattle.graph_core.specs.Graphs.{Operand, Name, Recipe, Of, NoteValue, Is, Gone, Instruction, Note, End, Block, Graph, Logged, UnitForm}
-use Rattle.graph_core.specs.Paths.{History, Among, front, behind, Path, place_of, written}
+use Rattle.graph_core.specs.Paths.{History, Path, place_of, written}
 use Rattle.graph_core.specs.Points.{StandsWith}
 use Rattle.graph_core.specs.Validity.{IsInstruction, IsBlock}
 use Rattle.graph_core.specs.WellMarked.{IsVariable, WasRemoved, WrittenIn, instruction, IsRightNote}
@@ -21,14 +20,9 @@ use Rattle.dead_pass_laws.proofs.Instructions.{note_name, note_value}
 use Rattle.dead_pass_laws.proofs.Ways.{path_next}
 use Rattle.dead_pass_laws.proofs.Followed.{IsFollowed}
 use Rattle.dead_pass_laws.proofs.Written.{dropped_none, goes_dropped, written_stays, stays_written, written_before, written_kept, variable_scalar}
+use Rattle.graph_core.proofs.Among.{at_among}
 
 -- ---- The log
-
--- What stands at a position is a member.
-at_among : {A : Type 0} (xs : List A) (k : ℕ) (x : A) → slice_get xs k ≡ Some x → Among x xs
-at_among [] k x at = cc
-at_among (y ∷ xs) zero x at = subst (λ z. Among z (y ∷ xs)) (same_Some y x at) front
-at_among (y ∷ xs) (suc k) x at = behind (at_among xs k x at)
 
 -- What some change of the log removed was removed.
 removal_was : (log : List Logged) (p variable : ℕ) → HasRemoval log p variable → WasRemoved log p variable

@@ -10,6 +10,7 @@ use Rattle.graph_core.specs.Uses.{targets_of}
 use Rattle.graph_core.specs.Validity.{KeepsPlace, IsKept, IsBlock, IsGraph, place_behind, place_at_end}
 use Rattle.graph_core.specs.WellMarked.{IsWellMarked}
 use Rattle.dead_pass_laws.proofs.Lists.{all_at, all_among}
+use Rattle.graph_core.proofs.Among.{behind_last}
 
 -- The place in force behind one instruction and then others is the one behind all of them.
 pub behind_one : (j : Instruction) (more : List Instruction) (place : Option ℕ) → place_behind more (place_behind (j ∷ []) place) ≡ place_behind (j ∷ more) place
@@ -61,12 +62,6 @@ place_kept (Store f l v) rest a b m e = e
 place_kept (Zero o w) rest a b m e = e
 place_kept (CopyWords o w v) rest a b m e = e
 place_kept (Call x f all) rest a b m e = e
-
--- the place behind one more instruction
-behind_last : (all : List Instruction) (i : Instruction) (p : Option ℕ) → place_behind (all ++ i ∷ []) p ≡ place_behind (i ∷ []) (place_behind all p)
-behind_last [] i p = refl
-behind_last (Marker q ∷ more) i p = behind_last more i (Some q)
-behind_last (_ ∷ more) i p = behind_last more i p
 
 -- of lists that are the same the first is, and the rest
 pub first_same : {A : Type 0} {x y : A} {xs ys : List A} → x ∷ xs ≡ y ∷ ys → x ≡ y

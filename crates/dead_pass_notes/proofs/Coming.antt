@@ -7,7 +7,7 @@ use Rattle.std.proofs.lemmas.List.{drop-map, get_or-set_other, length-drop, leng
 use Rattle.std.proofs.lemmas.Option.{slice_get_read}
 use Rattle.graph_core.specs.declared.block.Block as declared-block
 use Rattle.graph_core.specs.declared.instruction.Instr as declared-instr
-use Rattle.graph_core.specs.Graphs.{End, Jump, Block, Graph, block_view, instruction_view}
+use Rattle.graph_core.specs.Graphs.{End, Block, Graph, block_view, instruction_view}
 use Rattle.graph_core.specs.Paths.{Among, front, behind}
 use Rattle.graph_core.specs.Uses.{targets_of}
 use Rattle.dead_pass_notes.specs.declared.scans.Scanned.{Scanned}
@@ -17,6 +17,7 @@ use Rattle.dead_pass_notes.specs.Scans.{HasCome, GoesOn, number_of}
 use Rattle.dead_pass_notes.specs.Spots.{left_at, left_in}
 use Rattle.dead_pass_notes.proofs.Searching.{among_left, among_right, among_parts, among_one}
 pub use Rattle.base_laws.proofs.Lists.{there}
+pub use Rattle.graph_core.proofs.Among.{leads_jump}
 
 pub there_self : {A : Type 0} (read xs : List A) (i : ℕ) (x : A) → read ≡ xs → i < length read → x ≡ get_or read i x → slice_get xs i ≡ Some x
 there_self read xs i x same inside is = ap (λ l. slice_get l i) (sym same) ∙ slice_get_read read (length read) i x refl inside is
@@ -74,10 +75,6 @@ come_seen seen search old new block w number is grown all b v inside e = elim (c
 
 pub come_here : (old new : List Way) (block : ℕ) (w : Bool) → new ≡ old ++ record { block = block; is_written = w } ∷ [] → HasCome new block w
 come_here old new block w grown = (let P : List Way → Type 0 = λ ways. HasCome ways block w in subst P (sym grown) (among_right old front))
-
--- the ends of blocks
-pub leads_jump : (e : End) (l : ℕ) → e ≡ Jump l → Among l (targets_of e)
-leads_jump e l is = subst (λ f. Among l (targets_of f)) (sym is) front
 
 pub leads_then : (e : End) (l m : ℕ) → targets_of e ≡ l ∷ m ∷ [] → Among l (targets_of e)
 leads_then e l m is = subst (λ all. Among l all) (sym is) front

@@ -16,19 +16,11 @@ use Rattle.dead_pass_notes.specs.Between.{leads, leads as on}
 use Rattle.dead_pass_notes.specs.Scans.{scan_of, HasCome, HasGrown, GoesOn, Comes, SomeComes}
 use Rattle.dead_pass_notes.specs.Spots.{IsPoint}
 use Rattle.dead_pass_notes.proofs.Scanning.{scan_stops, scan_leaves, none_comes}
-
-pub among_left : {A : Type 0} {a : A} {xs : List A} → Among a xs → (ys : List A) → Among a (xs ++ ys)
-among_left front ys = front
-among_left (behind here) ys = behind (among_left here ys)
+pub use Rattle.graph_core.proofs.Among.{among_longer as among_left, among_none, among_one, among_parts}
 
 pub among_right : {A : Type 0} {a : A} (xs : List A) {ys : List A} → Among a ys → Among a (xs ++ ys)
 among_right [] here = here
 among_right (x ∷ xs) here = behind (among_right xs here)
-
-pub among_parts : {A : Type 0} {a : A} (xs ys : List A) → Among a (xs ++ ys) → Among a xs ⊎ Among a ys
-among_parts [] ys here = inr here
-among_parts (x ∷ xs) ys front = inl front
-among_parts (x ∷ xs) ys (behind here) = elim (among_parts xs ys here) [ inl one ↦ inl (behind one) | inr two ↦ inr two ]
 
 among_index : {A : Type 0} {a : A} {xs : List A} → Among a xs → (j : ℕ) × (slice_get xs j ≡ Some a)
 among_index front = (0, refl)
@@ -38,13 +30,6 @@ among_of : {A : Type 0} (a : A) (xs : List A) (j : ℕ) → slice_get xs j ≡ S
 among_of a [] j e = absurd (none-some a e)
 among_of {A} a (x ∷ xs) zero e = subst (λ (z : A). Among a (z ∷ xs)) (sym (same_Some x a e)) front
 among_of a (x ∷ xs) (suc j) e = behind (among_of a xs j e)
-
-pub among_none : {A : Type 0} {a : A} → Among a [] → ⊥
-among_none here = elim here [ ]
-
-pub among_one : {A : Type 0} {a b : A} → Among a (b ∷ []) → a ≡ b
-among_one front = refl
-among_one (behind here) = absurd (among_none here)
 
 get_front : {A : Type 0} (xs ys : List A) (j : ℕ) → j < length xs → slice_get (xs ++ ys) j ≡ slice_get xs j
 get_front [] ys j lt = absurd (omega (arith, lt))

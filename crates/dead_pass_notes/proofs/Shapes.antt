@@ -8,6 +8,7 @@ use Rattle.graph_core.specs.Uses.{is_computation}
 use Rattle.graph_core.specs.Validity.{total, counts, instructions_of, arguments_in, arguments_of, markers_in, markers_of_blocks, markers_of, place_behind, place_at_end, KeepsPlace, IsKept, HasPlace}
 use Rattle.dead_pass_notes.specs.Thinned.{AreThinned, ends, goes, forgets, says, stays, IsThinnedBlock, IsThinned}
 use Rattle.dead_pass_notes.proofs.Lists.{as_many, less_total, carried_at}
+use Rattle.graph_core.proofs.Among.{computed_behind}
 
 -- ---- Computations, which are no markers
 
@@ -15,11 +16,6 @@ use Rattle.dead_pass_notes.proofs.Lists.{as_many, less_total, carried_at}
 computed_marks : (i : Instruction) → is_computation i ≡ true → (more : List Instruction) → markers_in (i ∷ more) ≡ markers_in more
 computed_marks (Marker p) computed more = cc
 computed_marks _ computed more = refl
-
--- the place behind it is the one before it,
-computed_behind : (i : Instruction) → is_computation i ≡ true → (more : List Instruction) (before : Option ℕ) → place_behind (i ∷ more) before ≡ place_behind more before
-computed_behind (Marker p) computed more before = cc
-computed_behind _ computed more before = refl
 
 -- a block that begins with it keeps a place only where that is in force,
 computed_keeps : (i : Instruction) → is_computation i ≡ true → (more : List Instruction) (place kept : Option ℕ) → KeepsPlace (i ∷ more) place kept → place ≡ kept

@@ -1,5 +1,5 @@
 -- Entries of columns, one by one.
-use Rattle.std.proofs.Common.{◌≡◌, ◌≢◌, ℕ, zero, suc, ◌+◌, ◌<◌, ◌≤◌, ◌⊎◌, inl, inr, Bool, true, false, true≢false, Option, Some, None, List, [], ◌∷◌, ◌++◌, length, map, refl, sym, ap, ◌∙◌, subst, arith, get_or, take}
+use Rattle.std.proofs.Common.{◌≡◌, ◌≢◌, ℕ, zero, suc, ◌+◌, ◌<◌, ◌≤◌, ◌⊎◌, inl, inr, Bool, true, false, true≢false, Option, Some, None, List, [], ◌∷◌, length, map, refl, sym, ap, ◌∙◌, subst, arith, get_or, take}
 use Rattle.std.specs.Prelude.{◌==◌, if◌then◌else◌, slice_get, slice_set, slice_index_or}
 use Rattle.std.specs.Option.{option_map_or}
 use Rattle.std.proofs.lemmas.Bool.{cases_eq, eqb-true}
@@ -7,7 +7,8 @@ use Rattle.std.proofs.lemmas.List.{get_or-set_same, get_or-set_other}
 use Rattle.std.proofs.lemmas.Option.{same_Some, none-some}
 use Rattle.graph_core.specs.Paths.{Among, front, behind}
 use Rattle.dead_pass_rule.specs.declared.heights.Heights.{Heights}
-use Rattle.dead_pass_rule.specs.Heights.{column_by, column_of, height_in, IsOver}
+use Rattle.dead_pass_rule.specs.Heights.{column_by, column_of, height_in}
+use Rattle.graph_core.proofs.Among.{no_target as among_none}
 
 -- a column has the name whose column it is
 column_name : (names : List ℕ) (x : ℕ) (o : Option ℕ) (c : ℕ) → column_by names x o ≡ Some c → slice_get names c ≡ Some x
@@ -48,9 +49,6 @@ raised heights old new name turn was le there same rest x = elim (cases_eq x nam
 among_cons : {x y : ℕ} {l : List ℕ} → Among x (y ∷ l) → (x ≡ y) ⊎ Among x l
 among_cons front = inl refl
 among_cons (behind b) = inr b
-
-among_none : {x : ℕ} → Among x [] → ⊥
-among_none a = elim a [ ]
 
 -- a name among one more
 among_suc : {A : Type 0} (view : A → ℕ) (xs : List A) (k : ℕ) (d : A) (x : ℕ) → k < length xs → Among x (map view (take (suc k) xs)) → Among x (map view (take k xs)) ⊎ (x ≡ view (get_or xs k d))

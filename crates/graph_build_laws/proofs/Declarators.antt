@@ -13,7 +13,7 @@ use Rattle.c_places.specs.Places.{Place}
 use Rattle.c_flow.specs.Flow.{start_of_declarators}
 use Rattle.graph_core.specs.declared.graph.MemoryObject.{MemoryObject}
 use Rattle.graph_core.specs.Graphs as unit
-use Rattle.graph_core.specs.Graphs.{Operand, Marker, Store, CopyWords, Automatic, Jump, Block}
+use Rattle.graph_core.specs.Graphs.{Store, CopyWords, Automatic, Jump, Block}
 use Rattle.graph_core.specs.Paths.{Among, front, behind}
 use Rattle.graph_core.specs.Values.{size_of}
 use Rattle.graph_core.specs.Validity.{IsInObject, markers_in, markers_of_blocks}
@@ -34,6 +34,7 @@ use Rattle.graph_build_laws.proofs.Sizes.{type_sizes}
 use Rattle.graph_build_laws.proofs.Values.{Setting, n, most, E, value_stands}
 use Rattle.graph_build_laws.proofs.GraphProgramPieces.{Are, EndIs, AreInner, IsMade, IsGoal, before_is, ending_is, note_is, closed_is}
 use Rattle.graph_build_laws.proofs.GraphProgramExpressions.{code_is}
+use Rattle.graph_core.proofs.Among.{among_behind as in_back}
 
 -- what an element of a list is without its conversion names what is there, too
 bare_names : (x : Setting) (e : RvalueTree) → E x e → E x (bare e)
@@ -62,10 +63,6 @@ bare_names x (UpdatePointer d of l e) h = h
 bare_names x (Step d g t u l) h = h
 bare_names x (StepPointer d g of l) h = h
 bare_names x (Call c all) h = h
-
-in_back : {A : Type 0} (xs ys : List A) (a : A) → Among a ys → Among a (xs ++ ys)
-in_back [] ys a h = h
-in_back (x ∷ xs) ys a h = behind (in_back xs ys a h)
 
 -- more places may be a block's own
 pub more_own : (x : Setting) (Own Other : ℕ → Type 0) → ((q : ℕ) → Own q → Other q) → (all : List Block) → AreInner x Own all → AreInner x Other all

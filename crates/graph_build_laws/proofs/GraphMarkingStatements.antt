@@ -13,8 +13,8 @@ use Rattle.c_flow.specs.declared.edge.Ways.{Ways}
 use Rattle.c_flow.specs.Flow.{edge, start, start_of_all, start_of_declarators, flow_of_declarators, flow_of_start, round_of, flow_of_step, flow_out, flow_to_labels, flow_past, within_loop, within_switch, before as with_rest, flow_of, flow_of_all}
 use Rattle.graph_core.specs.declared.block.Comparison.TheVariants as branch
 use Rattle.graph_core.specs.Graphs as unit
-use Rattle.graph_core.specs.Graphs.{Operand, Instruction, Marker, Automatic, Store, CopyWords, End, Jump, Branch}
-use Rattle.graph_core.specs.Paths.{Among, front, behind, is_marker}
+use Rattle.graph_core.specs.Graphs.{Operand, Instruction, Marker, Automatic, Store, CopyWords}
+use Rattle.graph_core.specs.Paths.{Among, front, is_marker}
 use Rattle.graph_build_names.specs.Conversions.{word_of}
 use Rattle.graph_build_layout.specs.declared.laid.Use.TheVariants.{Anywhere, Tested}
 use Rattle.graph_build_names.specs.Names.{scalar_of, object_of, pick}
@@ -30,16 +30,7 @@ use Rattle.graph_build_statements.specs.Forms.{default_start, tests, add_run, ad
 use Rattle.graph_build_laws.specs.Passing.{Grows, IsPassing}
 use Rattle.graph_build_laws.proofs.GraphMarkingPieces.{grows_on, grows_none, closed_grows, Carried, Before, leads_on, before_leads, stays}
 use Rattle.graph_build_laws.proofs.Passes.{code_passes}
-
--- an edge among those of two lists
-in_front : {A : Type 0} (a : A) (xs ys : List A) → Among a xs → Among a (xs ++ ys)
-in_front a [] ys h = elim h [ ]
-in_front a (x ∷ xs) ys front = front
-in_front a (x ∷ xs) ys (behind h) = behind (in_front a xs ys h)
-
-in_back : {A : Type 0} (a : A) (xs ys : List A) → Among a ys → Among a (xs ++ ys)
-in_back a [] ys h = h
-in_back a (x ∷ xs) ys h = behind (in_back a xs ys h)
+use Rattle.graph_core.proofs.Among.{among_left as in_front, among_right as in_back}
 
 -- A block is what was made in a place, behind its marker, from inner blocks that stand first among these.
 pub record IsMadeOf (Has : (p : ℕ) → Made → Type 0) (inner : List unit.Block) (b : unit.Block) : Type 0 where

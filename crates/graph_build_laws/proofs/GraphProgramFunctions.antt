@@ -1,5 +1,5 @@
 -- The graph of a function of a well-formed program is valid.
-use Rattle.std.proofs.Common.{◌≡◌, ℕ, zero, suc, ◌+◌, ◌-◌, ◌≤◌, ◌<◌, ◌⊎◌, inl, inr, Bool, true, false, Option, Some, None, List, [], ◌∷◌, ◌++◌, length, map, reverse, take, drop, slice_get, refl, sym, ap, ◌∙◌, subst, arith}
+use Rattle.std.proofs.Common.{◌≡◌, ℕ, zero, suc, ◌+◌, ◌-◌, ◌≤◌, ◌<◌, ◌⊎◌, inl, inr, Bool, true, false, Option, Some, None, List, [], ◌∷◌, length, map, reverse, take, drop, slice_get, refl, sym, ap, ◌∙◌, subst, arith}
 use Rattle.std.specs.Prelude.{◌==◌, nat_le, nat_lt, is_some}
 use Rattle.std.specs.List.{AllByRecursion}
 use Rattle.std.proofs.lemmas.Bool.Decides.{nat_tests}
@@ -16,7 +16,7 @@ use Rattle.c_places.specs.Places.{numbers_from, parameters_of, places_of_program
 use Rattle.c_type_laws.specs.Kinds.{is_variable, is_callee, taken_by, element_type, types_of, parameters_in}
 use Rattle.c_type_laws.specs.Laws.{is_in_memory}
 use Rattle.graph_core.specs.Graphs as unit
-use Rattle.graph_core.specs.Graphs.{Binding, Block, Graph, UnitForm}
+use Rattle.graph_core.specs.Graphs.{Block, Graph, UnitForm}
 use Rattle.graph_core.specs.Paths.{Among, front, behind}
 use Rattle.graph_core.specs.Uses.{targets_of}
 use Rattle.graph_core.specs.Validity.{IsBinding, IsBlock, IsGraph, HasPlace, HasParameters, IsCall, IsOwnPlace, AreEdges, place_behind, place_at_end, markers_of_blocks}
@@ -51,6 +51,7 @@ use Rattle.graph_build_laws.proofs.Markers.{markers_append}
 use Rattle.graph_build_laws.proofs.Storage.{statics_counted, objects_within}
 use Rattle.base_laws.proofs.Lists.{got_there}
 use Rattle.base_laws.proofs.Numbers.{at_most, is_less}
+use Rattle.graph_core.proofs.Among.{among_front as in_front, one_of_all}
 
 no_more : (m : ℕ) → m ≤ m
 no_more m = omega arith
@@ -67,16 +68,6 @@ stretch_length (x ∷ xs) zero (suc count) h = ap suc (stretch_length xs zero co
 stretch_length [] (suc first) zero h = absurd (omega (arith, h))
 stretch_length [] (suc first) (suc count) h = absurd (omega (arith, h))
 stretch_length (x ∷ xs) (suc first) count h = stretch_length xs first count (omega (arith, h))
-
-pub in_front : {A : Type 0} (xs ys : List A) (a : A) → Among a xs → Among a (xs ++ ys)
-in_front [] ys a h = elim h [ ]
-in_front (x ∷ xs) ys a front = front
-in_front (x ∷ xs) ys a (behind h) = behind (in_front xs ys a h)
-
-one_of_all : {A : Type 0} (P : A → Type 0) (all : List A) (a : A) → AllByRecursion P all → Among a all → P a
-one_of_all P [] a h k = elim k [ ]
-one_of_all P (x ∷ all) a h front = h.0
-one_of_all P (x ∷ all) a h (behind k) = one_of_all P all a h.1 k
 
 none_among : (all : List Block) (b : Block) → NoneMarked all → Among b all → NoMarkers b.instructions
 none_among [] b h a = elim a [ ]

@@ -5,8 +5,9 @@ use Rattle.graph_core.specs.Paths.{Among, front, behind, is_marker}
 use Rattle.graph_build_steps.specs.Drafts.{Made, closed, label_of}
 use Rattle.graph_build_laws.specs.Passing.{Grows, IsPassing}
 use Rattle.graph_build_laws.specs.Points.{AtLabel, GoesBack, StandIn}
-use Rattle.base_laws.proofs.Options.{none_is, some_same}
+use Rattle.base_laws.proofs.Options.{some_same}
 pub use Rattle.base_laws.proofs.Lists.{snoc_old as got_before}
+pub use Rattle.graph_core.proofs.Among.{each_of_one as to_one}
 
 pub got_next : {A : Type 0} (xs : List A) (a : A) → slice_get (xs ++ a ∷ []) (length xs) ≡ Some a
 got_next [] a = refl
@@ -17,10 +18,6 @@ pub to_two : (P : ℕ → Type 0) (l m : ℕ) → P l → P m → (k : ℕ) → 
 to_two P l m h g k front = h
 to_two P l m h g k (behind front) = g
 to_two P l m h g k (behind (behind a)) = elim a [ ]
-
-pub to_one : (P : ℕ → Type 0) (l : ℕ) → P l → (k : ℕ) → Among k (l ∷ []) → P k
-to_one P l h k front = h
-to_one P l h k (behind a) = elim a [ ]
 
 pub to_none : (P : ℕ → Type 0) → (k : ℕ) → Among k [] → P k
 to_none P k a = elim a [ ]

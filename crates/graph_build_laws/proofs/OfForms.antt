@@ -1,5 +1,5 @@
 -- The unit that the forms give of a program is built of it.
-use Rattle.std.proofs.Common.{zero, suc, List, [], ◌∷◌, refl, subst, arith}
+use Rattle.std.proofs.Common.{List, [], ◌∷◌, refl, arith}
 use Rattle.std.specs.Prelude.{◌↔◌, IfOk, Result, Ok, Err, AllPairs}
 use Rattle.std.specs.List.{Contains}
 use Rattle.places.specs.declared.flow.Assignment.{Assignment}
@@ -17,12 +17,7 @@ use Rattle.graph_build_laws.specs.Following.{FollowFlow, HasSteps}
 use Rattle.graph_build_runs.specs.Correspondence.{DoesProgram}
 use Rattle.graph_build_laws.specs.Built.{IsBuilt}
 use Rattle.base_laws.proofs.Lists.{one_behind_again as one_behind}
-
--- an element of a list is among it, and what is among it is an element
-contains_among : {A : Type 0} (xs : List A) (a : A) → Contains xs a → Among a xs
-contains_among [] a (k, within, is) = absurd (omega (arith, within))
-contains_among (x ∷ xs) a (zero, within, is) = subst (λ z. Among z (x ∷ xs)) is front
-contains_among (x ∷ xs) a (suc k, within, is) = behind (contains_among xs a (k, omega (arith, within), is))
+use Rattle.graph_core.proofs.Among.{contains_among}
 
 among_contains : {A : Type 0} (xs : List A) (a : A) → Among a xs → Contains xs a
 among_contains [] a there = elim there [ ]

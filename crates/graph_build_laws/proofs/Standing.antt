@@ -6,6 +6,7 @@ use Rattle.graph_core.specs.Paths.{Among, front, behind}
 use Rattle.graph_build_laws.specs.Points.{StandIn}
 use Rattle.graph_build_laws.proofs.Instances.{got_before, got_next}
 use Rattle.base_laws.proofs.Options.{none_is}
+pub use Rattle.graph_core.proofs.Among.{among_either, get_among as got_among}
 
 pub got_within : {A : Type 0} (xs : List A) (k : ℕ) (a : A) → slice_get xs k ≡ Some a → k < length xs
 got_within [] k a e = absurd (none_is e)
@@ -40,24 +41,6 @@ stand_behind placed inner k b e =
     let less : k < length inner = got_within inner k b e in
     let at : length placed + (length inner - (k + 1)) ≡ length (placed ++ reverse inner) - (k + 1) = omega (arith, length-append placed (reverse inner), length-reverse inner) in
     subst (λ j. slice_get (placed ++ reverse inner) j ≡ Some b) at (got_behind placed (reverse inner) (length inner - (k + 1)) b (got_reversed inner k b e))
-
--- what is got from a list is among its elements
-pub got_among : {A : Type 0} (xs : List A) (k : ℕ) (a : A) → slice_get xs k ≡ Some a → Among a xs
-got_among [] k a e = absurd (none_is e)
-got_among (x ∷ xs) zero a e = subst (λ y. Among y (x ∷ xs)) (same e) front
-  where
-    same : Some x ≡ Some a → x ≡ a
-    same e = cc
-got_among (x ∷ xs) (suc k) a e = behind (got_among xs k a e)
-
-pub among_either : {A : Type 0} (xs ys : List A) (a : A) → Among a (xs ++ ys) → Among a xs ⊎ Among a ys
-among_either [] ys a h = inr h
-among_either (x ∷ xs) ys a front = inl front
-among_either (x ∷ xs) ys a (behind h) = by (among_either xs ys a h)
-  where
-    by : Among a xs ⊎ Among a ys → Among a (x ∷ xs) ⊎ Among a ys
-    by (inl k) = inl (behind k)
-    by (inr k) = inr k
 
 among_one : {A : Type 0} {a b : A} → Among a (b ∷ []) → b ≡ a
 among_one front = refl

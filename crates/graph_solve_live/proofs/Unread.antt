@@ -1,7 +1,7 @@
 -- A name is unread from a point on just where no path reads it first there.
-use Rattle.std.proofs.Common.{◌≡◌, ℕ, suc, ◌==◌, inl, inr, true, false, true≢false, List, [], ◌∷◌, ◌++◌, refl, sym, ◌∙◌, subst, arith}
-use Rattle.std.specs.List.{Contains, list_any}
-use Rattle.std.proofs.lemmas.Bool.{or_cases, or_parts, or_from, or_left, or_right, eqb-true, eq-eqb, true_from_ne_false}
+use Rattle.std.proofs.Common.{◌≡◌, ℕ, suc, inl, inr, true, false, true≢false, List, [], ◌∷◌, ◌++◌, refl, sym, ◌∙◌, subst, arith}
+use Rattle.std.specs.List.{Contains}
+use Rattle.std.proofs.lemmas.Bool.{or_parts, or_from, true_from_ne_false}
 use Rattle.graph_core.specs.declared.value.Value.TheVariants.{Odd}
 use Rattle.graph_core.specs.Graphs.{Instruction, End, Graph}
 use Rattle.graph_core.specs.Uses.{reads_of, reads_of_end, targets_of}
@@ -9,6 +9,7 @@ use Rattle.graph_core.specs.Paths.{History, Among, front, behind, Way, stays, pa
 use Rattle.graph_core.specs.Points.{ReadsNext, IsUnread, some_passed}
 use Rattle.graph_solve_live.specs.Live.{IsReadFirst, read, read_at_end, passed, onward}
 use Rattle.graph_solve.proofs.Working.{contains_cases}
+use Rattle.graph_core.proofs.Among.{among_any, any_among}
 
 -- the two notions of membership
 pub among_contains : {A : Type 0} (a : A) (all : List A) → Among a all → Contains all a
@@ -18,14 +19,6 @@ among_contains a _ (behind {b} {all} more) = let there = among_contains a all mo
 pub contains_among : {A : Type 0} (a : A) (all : List A) → Contains all a → Among a all
 contains_among a [] (k, lt, e) = absurd (omega (arith, lt))
 contains_among a (b ∷ all) has = elim (contains_cases b all a has) [ inl e ↦ subst (λ c. Among c (b ∷ all)) (sym e) front | inr rest ↦ behind (contains_among a all rest) ]
-
-any_among : (x : ℕ) (all : List ℕ) → list_any (λ y. y == x) all ≡ true → Among x all
-any_among x [] e = absurd (true≢false (sym e))
-any_among x (y ∷ all) e = elim (or_cases (y == x) (list_any (λ y. y == x) all) e) [ inl here ↦ subst (λ z. Among x (z ∷ all)) (sym (eqb-true y x here)) front | inr rest ↦ behind (any_among x all rest) ]
-
-among_any : (x : ℕ) (all : List ℕ) → Among x all → list_any (λ y. y == x) all ≡ true
-among_any x _ (front {all}) = or_left (x == x) (list_any (λ y. y == x) all) (eq-eqb x x refl)
-among_any x _ (behind {b} {all} more) = or_right (b == x) (list_any (λ y. y == x) all) (among_any x all more)
 
 module _ (g : Graph) where
   joined : {n : ℕ} {rest : List Instruction} {e : End} {h : History} {m : ℕ} {left : List Instruction} {f : End} {k : History} {l : ℕ} {more : List Instruction} {d : End} →

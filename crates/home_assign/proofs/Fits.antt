@@ -13,7 +13,7 @@ use Rattle.graph_core.specs.declared.value.Value.TheVariants.{Odd}
 use Rattle.graph_core.specs.declared.value.Shadow.{Shadow}
 use Rattle.graph_core.specs.declared.value.Shadow.TheVariants as shadow
 use Rattle.graph_core.specs.Graphs.{Recipe, Is, Instruction, Marker, End, Block, Binding, ToScalar, Graph}
-use Rattle.graph_core.specs.Uses.{target_of, targets_of, names_in}
+use Rattle.graph_core.specs.Uses.{target_of, names_in}
 use Rattle.graph_core.specs.Paths.{History, Among, front, behind, Way, stays, passes, goes, Path, path, writes, last_note}
 use Rattle.graph_core.specs.Points.{Behind}
 use Rattle.graph_core.specs.Validity.{AreOperandsOf, IsInstruction, IsBlock, IsGraph, IsBinding, IsValid}
@@ -30,6 +30,7 @@ use Rattle.home_assign.proofs.Lists.{all_at, all_behind}
 use Rattle.home_assign.proofs.NamesRead.{recipe_within, target_within}
 use Rattle.home_assign.proofs.HomeRunsNumbers.{same_number, same_turned, home_among}
 use Rattle.home_assign.proofs.Values.{recipe_same}
+pub use Rattle.graph_core.proofs.Among.{path_goes}
 
 -- ---- Points
 
@@ -53,9 +54,6 @@ path_stands g h n left e (path b is way) = way_stands (record { block = b; befor
 
 pub path_passes : (g : Graph) (h : History) (n : ℕ) (i : Instruction) (left : List Instruction) (e : End) (v : Value) → Path g h n (i ∷ left) e → Path g (record { block = n; left = length left; instruction = i; wrote = v } ∷ h) n left e
 path_passes g h n i left e v (path b is way) = path b is (passes way v)
-
-pub path_goes : (g : Graph) (h : History) (n : ℕ) (e : End) (l : ℕ) (c : Block) → Among l (targets_of e) → slice_get g.blocks l ≡ Some c → Path g h n [] e → Path g h l c.instructions c.end
-path_goes g h n e l c among at (path b is way) = path b is (goes way among c at)
 
 -- ---- What is held
 

@@ -12,22 +12,9 @@ use Rattle.graph_core.specs.Paths.{Among, front, behind}
 use Rattle.home_assign.specs.Sharing.{AreShared, none, shared, own, change_of, home_in}
 use Rattle.home_assign.specs.Changes.{IsBefore, Sharing}
 use Rattle.home_assign.specs.Units.{AreChangesOfEach, no_more, of_first}
+use Rattle.graph_core.proofs.Among.{among_cases, among_left, among_right}
 
 -- ---- One list behind another
-
-among_cases : {A : Type 0} (a : A) (xs ys : List A) → Among a (xs ++ ys) → Among a xs ⊎ Among a ys
-among_cases a [] ys is = inr is
-among_cases a (x ∷ xs) ys front = inl front
-among_cases a (x ∷ xs) ys (behind is) = elim (among_cases a xs ys is) [ inl h ↦ inl (behind h) | inr h ↦ inr h ]
-
-among_left : {A : Type 0} (a : A) (xs ys : List A) → Among a xs → Among a (xs ++ ys)
-among_left a (x ∷ xs) ys front = front
-among_left a (x ∷ xs) ys (behind is) = behind (among_left a xs ys is)
-among_left a [] ys is = elim is [ ]
-
-among_right : {A : Type 0} (a : A) (xs ys : List A) → Among a ys → Among a (xs ++ ys)
-among_right a [] ys is = is
-among_right a (x ∷ xs) ys is = behind (among_right a xs ys is)
 
 among_at : {A : Type 0} (xs : List A) (k : ℕ) (d : A) → k < length xs → Among (get_or xs k d) xs
 among_at [] k d lt = absurd (omega (arith, lt))

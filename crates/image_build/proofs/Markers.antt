@@ -1,45 +1,12 @@
 -- The markers of a graph, told by where they stand and by their list.
-use Rattle.std.proofs.Common.{◌≡◌, ℕ, zero, suc, ◌⊎◌, inl, inr, Some, List, [], ◌∷◌, ◌++◌, slice_get, refl, sym, ◌∙◌, subst}
+use Rattle.std.proofs.Common.{◌≡◌, ℕ, zero, suc, ◌⊎◌, inl, inr, Some, List, [], ◌∷◌, slice_get, refl, sym, ◌∙◌, subst}
 use Rattle.std.proofs.lemmas.Option.{none-some, same_Some}
 use Rattle.graph_core.specs.Graphs.{Instruction, Marker, Note, Move, Operate, Truncate, Same, Address, Load, Store, Zero, CopyWords, Call, Block, Graph}
 use Rattle.graph_core.specs.Paths.{Among, front, behind}
 use Rattle.graph_core.specs.Validity.{markers_in, markers_of_blocks}
 use Rattle.pass_law.specs.Keeps.{SameFunction}
 use Rattle.graph_homes.specs.Owned.{IsPlaceOf}
-
--- what is among the first of two lists is among both
-pub among_front : {A : Type 0} (xs ys : List A) (x : A) → Among x xs → Among x (xs ++ ys)
-among_front [] ys x among = elim among [ ]
-among_front (y ∷ xs) ys x front = front
-among_front (y ∷ xs) ys x (behind among) = behind (among_front xs ys x among)
-
--- so is what is among the second
-pub among_behind : {A : Type 0} (xs ys : List A) (x : A) → Among x ys → Among x (xs ++ ys)
-among_behind [] ys x among = among
-among_behind (y ∷ xs) ys x among = behind (among_behind xs ys x among)
-
--- what is among both is among one of them
-pub among_either : {A : Type 0} (xs ys : List A) (x : A) → Among x (xs ++ ys) → Among x xs ⊎ Among x ys
-among_either [] ys x among = inr among
-among_either (y ∷ xs) ys x front = inl front
-among_either (y ∷ xs) ys x (behind among) = elim (among_either xs ys x among) [ inl a ↦ inl (behind a) | inr a ↦ inr a ]
-
--- a marker that stands among instructions begins one of their places
-marker_in : (all : List Instruction) (p : ℕ) → Among (Marker p) all → Among p (markers_in all)
-marker_in [] p among = elim among [ ]
-marker_in (Marker q ∷ rest) p front = front
-marker_in (Marker q ∷ rest) p (behind among) = behind (marker_in rest p among)
-marker_in (Note y v ∷ rest) p (behind among) = marker_in rest p among
-marker_in (Move y a ∷ rest) p (behind among) = marker_in rest p among
-marker_in (Operate y o a b ∷ rest) p (behind among) = marker_in rest p among
-marker_in (Truncate y t a ∷ rest) p (behind among) = marker_in rest p among
-marker_in (Same y a b ∷ rest) p (behind among) = marker_in rest p among
-marker_in (Address y o ∷ rest) p (behind among) = marker_in rest p among
-marker_in (Load y e l ∷ rest) p (behind among) = marker_in rest p among
-marker_in (Store e l a ∷ rest) p (behind among) = marker_in rest p among
-marker_in (Zero o k ∷ rest) p (behind among) = marker_in rest p among
-marker_in (CopyWords o b k ∷ rest) p (behind among) = marker_in rest p among
-marker_in (Call y f all ∷ rest) p (behind among) = marker_in rest p among
+use Rattle.graph_core.proofs.Among.{among_behind, among_either, among_front, marker_in}
 
 -- and a place of theirs has its marker among them
 marker_from : (all : List Instruction) (p : ℕ) → Among p (markers_in all) → Among (Marker p) all

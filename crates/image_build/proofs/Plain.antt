@@ -1,5 +1,5 @@
 -- Units that are as they were built, in slots: they are well marked, their slots show all variables, and their tables keep every rule of images.
-use Rattle.std.proofs.Common.{◌≡◌, ◌≢◌, ℕ, zero, suc, ◌^◌, ◌+◌, ◌<◌, ◌≤◌, ◌++◌, List, [], ◌∷◌, length, map, refl, sym, ap, ◌∙◌, subst, arith}
+use Rattle.std.proofs.Common.{◌≡◌, ◌≢◌, ℕ, ◌^◌, ◌+◌, ◌<◌, ◌≤◌, ◌++◌, List, [], ◌∷◌, length, map, refl, sym, ap, ◌∙◌, subst, arith}
 use Rattle.std.specs.List.{AllByRecursion, Contains}
 use Rattle.debug_records.specs.declared.change.Kind.TheVariants.{Removed}
 use Rattle.places.specs.declared.flow.Assignment.{Assignment}
@@ -19,7 +19,6 @@ use Rattle.home_assign.specs.Sharing.{change_of}
 use Rattle.home_assign.specs.Changes.{HaveChanges, IsSharing, Sharing, homes_pass}
 use Rattle.home_assign.specs.Rule.{HaveSlots}
 use Rattle.currency.specs.declared.verdict.PlaceVerdict.{PlaceVerdict}
-use Rattle.currency.specs.Sound.{AreHome}
 use Rattle.currency.specs.Visible.{sight, sights_from}
 use Rattle.graph_build_laws.specs.Built.{IsBuilt}
 use Rattle.image_build.proofs.Rows.{IsPlainUnitOf, shown_home}
@@ -68,13 +67,9 @@ use Rattle.image_build.proofs.Tables.{rows_few}
 use Rattle.image_build.specs.ProgramImageShown.{AreShownAt, IsPlainUnit, ShowsAll}
 use Rattle.image_build.specs.Tables.{HasShapeOf}
 use Rattle.base_laws.proofs.Lists.{one_behind_again as one_behind}
+use Rattle.graph_core.proofs.Among.{contains_among}
 
 -- ---- What is kept
-
-contains_among : {A : Type 0} (xs : List A) (a : A) → Contains xs a → Among a xs
-contains_among [] a (k, within, is) = absurd (omega (arith, within))
-contains_among (x ∷ xs) a (zero, within, is) = subst (λ z. Among z (x ∷ xs)) is front
-contains_among (x ∷ xs) a (suc k, within, is) = behind (contains_among xs a (k, omega (arith, within), is))
 
 among_contains : {A : Type 0} (xs : List A) (a : A) → Among a xs → Contains xs a
 among_contains [] a there = elim there [ ]

@@ -6,7 +6,7 @@ use Rattle.c_tree.specs.Programs.{ProgramTree, TypedFunctionTree}
 use Rattle.c_places.specs.Places.{Place, entry_of, places_of_function, places_of_functions, places_of_program, number_at}
 use Rattle.c_type_laws.specs.Laws.{IsWellFormed}
 use Rattle.graph_core.specs.Graphs.{Graph, UnitForm}
-use Rattle.graph_core.specs.Paths.{Among, front, behind}
+use Rattle.graph_core.specs.Paths.{Among, behind}
 use Rattle.graph_core.specs.Validity.{markers_of_blocks}
 use Rattle.graph_build.specs.Units.{graph_of, graphs_from, IsUnitOf}
 use Rattle.graph_build_laws.proofs.Ascending.{AllAscend, numbered_in, places_within}
@@ -18,18 +18,9 @@ use Rattle.image_truth_units.proofs.ImageUnitsWhole.{of_graph}
 use Rattle.image_build.specs.Tables as tables
 use Rattle.rv_machine.specs.Run.{is_stop}
 use Rattle.image_build.proofs.PutStops.{image_among, image_from}
+use Rattle.graph_core.proofs.Among.{among_at, get_among as at_among}
 
 -- ---- Lists
-
-pub among_at : {A : Type 0} (all : List A) (x : A) → Among x all → (k : ℕ) × (slice_get all k ≡ Some x)
-among_at [] x there = elim there [ ]
-among_at (_ ∷ all) x front = (0, refl)
-among_at (y ∷ all) x (behind there) = let r = among_at all x there in (suc r.0, r.1)
-
-pub at_among : {A : Type 0} (all : List A) (k : ℕ) (x : A) → slice_get all k ≡ Some x → Among x all
-at_among [] k x is = absurd (none-some x is)
-at_among (y ∷ all) zero x is = subst (λ z. Among z (y ∷ all)) (same_Some y x is) front
-at_among (y ∷ all) (suc k) x is = behind (at_among all k x is)
 
 -- what stands in two lists, the one behind the other, stands in one of them
 in_parts : {A : Type 0} (xs ys : List A) (k : ℕ) (x : A) → slice_get (xs ++ ys) k ≡ Some x → (slice_get xs k ≡ Some x) ⊎ ((j : ℕ) × (slice_get ys j ≡ Some x))

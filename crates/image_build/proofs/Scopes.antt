@@ -24,13 +24,9 @@ use Rattle.c_flow.specs.Assigns.{assigns_object, assigned, assigned_by_initial, 
 use Rattle.graph_core.specs.Paths.{Among, front, behind}
 use Rattle.image_build.proofs.Known.{among_front, among_back, known_of_head, known_of, known_of_all, known_of_function, known_of_functions}
 use Rattle.base_laws.proofs.Lists.{both_all as all_both, parts_all as all_parts}
+pub use Rattle.graph_core.proofs.Among.{among_cases}
 
 -- ---- Lists
-
-pub among_cases : {A : Type 0} (x : A) (xs ys : List A) → Among x (xs ++ ys) → Among x xs ⊎ Among x ys
-among_cases x [] ys a = inr a
-among_cases x (y ∷ xs) ys front = inl front
-among_cases x (y ∷ xs) ys (behind a) = elim (among_cases x xs ys a) [ inl b ↦ inl (behind b) | inr b ↦ inr b ]
 
 among_nil : {A : Type 0} (x : A) (xs : List A) → Among x (xs ++ []) → Among x xs
 among_nil x xs a = elim (among_cases x xs [] a) [ inl b ↦ b | inr b ↦ elim b [ ] ]

@@ -1,5 +1,5 @@
 -- The unit that is built of a program has the program's places.
-use Rattle.std.proofs.Common.{◌≡◌, ℕ, zero, suc, ◌+◌, ◌-◌, ◌≤◌, ◌<◌, inl, inr, Bool, Some, List, [], ◌∷◌, ◌++◌, length, map, slice_get, refl, sym, ap, ◌∙◌, subst, arith}
+use Rattle.std.proofs.Common.{◌≡◌, ℕ, zero, suc, ◌+◌, ◌-◌, inl, inr, Some, List, [], ◌∷◌, ◌++◌, length, map, slice_get, refl, sym, ap, ◌∙◌, subst, arith}
 use Rattle.std.proofs.lemmas.Bool.{cases_lt}
 use Rattle.std.proofs.lemmas.Option.{none-some, same_Some}
 use Rattle.c_tree.specs.Programs.{ProgramTree, TypedFunctionTree}
@@ -8,21 +8,17 @@ use Rattle.c_type_laws.specs.Laws.{IsWellFormed}
 use Rattle.graph_core.specs.Graphs.{Graph, UnitForm}
 use Rattle.graph_core.specs.Paths.{Among, front, behind}
 use Rattle.graph_core.specs.Validity.{markers_of_blocks}
-use Rattle.graph_build.specs.Units.{IsUnitOf, graph_of}
+use Rattle.graph_build.specs.Units.{IsUnitOf}
 use Rattle.graph_build_laws.proofs.Accepted as accepted
 use Rattle.graph_build_laws.proofs.Markers.{graph_markers}
 use Rattle.image_truth_units.specs.Units.{HasVariablesIn}
 use Rattle.image_truth_units.proofs.ImageUnitsWhole.{has_variables, of_graph}
-use Rattle.image_truth_units.specs.ImageRulesUnits.{HasOwnPlaces, IsPlaceIn}
+use Rattle.image_truth_units.specs.ImageRulesUnits.{HasOwnPlaces}
 use Rattle.image_truth_units.proofs.Accepted.{facts_of}
 use Rattle.image_truth_units.proofs.Flow.{behind_there, front_there}
 use Rattle.image_truth_units.proofs.Lists.{from_map, map_at}
 use Rattle.image_truth_units.proofs.ProgramPlaces.{behind_is, front_is, numbered_at, own_function}
-
-among_at : {A : Type 0} (all : List A) (x : A) → Among x all → (k : ℕ) × (slice_get all k ≡ Some x)
-among_at [] x among = elim among [ ]
-among_at (y ∷ all) x front = (0, refl)
-among_at (y ∷ all) x (behind among) = let r = among_at all x among in (suc r.0, r.1)
+use Rattle.graph_core.proofs.Among.{among_at}
 
 at_among : {A : Type 0} (all : List A) (x : A) (k : ℕ) → slice_get all k ≡ Some x → Among x all
 at_among [] x k is = absurd (none-some x is)

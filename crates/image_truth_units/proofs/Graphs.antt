@@ -1,7 +1,6 @@
 -- In the graph of a function the properties of the rules hold behind each marker, and so along each path.
 use Rattle.std.proofs.Common.{◌≡◌, ◌⊎◌, inl, inr, ℕ, suc, ◌+◌, ◌≤◌, ◌<◌, Bool, true, false, Option, Some, None, List, [], ◌∷◌, ◌++◌, length, map, slice_get, refl, sym, ap, ◌∙◌, subst, arith, if◌then◌else◌, ◌==◌}
 use Rattle.std.specs.Prelude.{◌||◌, ◌&&◌}
-use Rattle.std.specs.List.{AllByRecursion}
 use Rattle.std.proofs.lemmas.Bool.Decides.{nat_tests}
 use Rattle.c_tree.specs.Programs.{TypedFunctionTree, ProgramTree}
 use Rattle.c_places.specs.Flow.{reaches_end}
@@ -9,7 +8,7 @@ use Rattle.c_places.specs.Places.{Place, stop, brought_by_body, parameters_of, c
 use Rattle.c_flow.specs.declared.edge.Edge.{Edge}
 use Rattle.c_flow.specs.Assigns.{assigned_by_statements}
 use Rattle.c_flow.specs.Flow.{edge, start_of_all, ways_of_body, flow_of_all, flow_of_function}
-use Rattle.graph_core.specs.Graphs.{NoteValue, Instruction, Marker, Note, Is, Of, Name, Binding, ToScalar, ToObject, End, Block, Graph}
+use Rattle.graph_core.specs.Graphs.{Instruction, Marker, Note, Is, Of, Name, Binding, ToScalar, ToObject, End, Block, Graph}
 use Rattle.graph_core.specs.Uses.{targets_of}
 use Rattle.graph_core.specs.Paths.{History, Among, front, behind, Path, is_marker, is_call, is_bound, bound_at, writes, written, unnoted}
 use Rattle.graph_core.specs.WellMarked.{StandsIn, here, behind as further, InPlace}
@@ -37,16 +36,12 @@ use Rattle.image_truth_units.proofs.Allowed.{Allowed, AllAllowed, BlockAllowed, 
 use Rattle.image_truth_units.proofs.Walking.{IsKept, walked}
 use Rattle.base_laws.proofs.Numbers.{false_true, same_is}
 use Rattle.base_laws.proofs.Options.{some_same}
+use Rattle.graph_core.proofs.Among.{one_of_all}
 
 none_among : (all : List Block) (b : Block) → NoneMarked all → Among b all → NoMarkers b.instructions
 none_among [] b h a = elim a [ ]
 none_among (x ∷ all) b h front = h.0
 none_among (x ∷ all) b h (behind a) = none_among all b h.1 a
-
-one_of_all : {A : Type 0} (P : A → Type 0) (all : List A) (a : A) → AllByRecursion P all → Among a all → P a
-one_of_all P [] a h k = elim k [ ]
-one_of_all P (x ∷ all) a h front = h.0
-one_of_all P (x ∷ all) a h (behind k) = one_of_all P all a h.1 k
 
 fit_from : (number : ℕ) (all xs : List Place) (j : ℕ) → ((i : ℕ) (q : Place) → slice_get xs i ≡ Some q → slice_get all (j + i) ≡ Some q) → AllFit number (StandsAmong all) xs
 fit_from number all [] j h = tt

@@ -18,17 +18,9 @@ use Rattle.image_form.specs.declared.variables.Storage.{Storage}
 use Rattle.image_form.specs.declared.variables.Storage.TheVariants as storage
 use Rattle.image_build_tables.specs.Storages.{Keeping, functions_kept, keepings_of, objects_kept, put_all, scalars_kept, statics_kept, storage_of, storages_of}
 use Rattle.base_laws.proofs.Lists.{both_all as both_kinds, set_other}
+use Rattle.graph_core.proofs.Among.{among_behind as among_right, among_front as among_left}
 
 -- ---- Lists
-
-pub among_left : {A : Type 0} (xs ys : List A) (x : A) → Among x xs → Among x (xs ++ ys)
-among_left [] ys x among = elim among [ ]
-among_left (y ∷ xs) ys x front = front
-among_left (y ∷ xs) ys x (behind among) = behind (among_left xs ys x among)
-
-pub among_right : {A : Type 0} (xs ys : List A) (x : A) → Among x ys → Among x (xs ++ ys)
-among_right [] ys x among = among
-among_right (y ∷ xs) ys x among = behind (among_right xs ys x among)
 
 -- ---- What stands in a table
 

@@ -10,8 +10,8 @@ use Rattle.c_places.specs.Flow.{reaches_end}
 use Rattle.debug_records.specs.declared.source.Spot.{Spot}
 use Rattle.c_places.specs.Places.{Place, stop, brought, brought_by_start, brought_by_body, parameters_of, entry_of, close_of, places_of_declarators, places_of_start, places_of_head, places_of_step, places_of, places_of_all, places_of_function, places_of_functions, places_of_program, number_at}
 use Rattle.graph_core.specs.Graphs as unit
-use Rattle.graph_core.specs.Graphs.{Instruction, Marker, Note, Move, Operate, Truncate, Same, Address, Load, Store, Zero, CopyWords, Call, Graph, UnitForm}
-use Rattle.graph_core.specs.Paths.{Among, front, behind}
+use Rattle.graph_core.specs.Graphs.{Marker, Graph, UnitForm}
+use Rattle.graph_core.specs.Paths.{Among}
 use Rattle.graph_core.specs.Validity.{markers_in, markers_of_blocks}
 use Rattle.graph_build.specs.Units.{graph_of, IsUnitOf}
 use Rattle.graph_homes.specs.Owned.{IsPlaceOf}
@@ -21,22 +21,9 @@ use Rattle.image_form.specs.declared.tables.Place.{Place as ImagePlace}
 use Rattle.image_truth_units.proofs.Tables.{from_map, front_at, all_at, map_at}
 use Rattle.image_truth_units.proofs.ImageUnitsWhole.{of_graph}
 use Rattle.base_laws.proofs.Lists.{both_all}
+use Rattle.graph_core.proofs.Among.{among_at, among_behind, among_front, marker_in}
 
 -- ---- Lists
-
-among_at : {A : Type 0} (all : List A) (x : A) → Among x all → (k : ℕ) × (slice_get all k ≡ Some x)
-among_at [] x among = elim among [ ]
-among_at (y ∷ all) x front = (0, refl)
-among_at (y ∷ all) x (behind among) = let r = among_at all x among in (suc r.0, r.1)
-
-among_front : {A : Type 0} (xs ys : List A) (x : A) → Among x xs → Among x (xs ++ ys)
-among_front [] ys x among = elim among [ ]
-among_front (y ∷ xs) ys x front = front
-among_front (y ∷ xs) ys x (behind among) = behind (among_front xs ys x among)
-
-among_behind : {A : Type 0} (xs ys : List A) (x : A) → Among x ys → Among x (xs ++ ys)
-among_behind [] ys x among = among
-among_behind (y ∷ xs) ys x among = behind (among_behind xs ys x among)
 
 -- an element of a list is one of it with others before it
 behind_all : {A : Type 0} (xs ys : List A) (k : ℕ) (y : A) → slice_get ys k ≡ Some y → (i : ℕ) × (slice_get (xs ++ ys) i ≡ Some y)
@@ -44,22 +31,6 @@ behind_all [] ys k y is = (k, is)
 behind_all (x ∷ xs) ys k y is = let r = behind_all xs ys k y is in (suc r.0, r.1)
 
 -- ---- Markers
-
-marker_in : (all : List Instruction) (p : ℕ) → Among (Marker p) all → Among p (markers_in all)
-marker_in [] p among = elim among [ ]
-marker_in (Marker q ∷ rest) p front = front
-marker_in (Marker q ∷ rest) p (behind among) = behind (marker_in rest p among)
-marker_in (Note y v ∷ rest) p (behind among) = marker_in rest p among
-marker_in (Move y a ∷ rest) p (behind among) = marker_in rest p among
-marker_in (Operate y o a b ∷ rest) p (behind among) = marker_in rest p among
-marker_in (Truncate y t a ∷ rest) p (behind among) = marker_in rest p among
-marker_in (Same y a b ∷ rest) p (behind among) = marker_in rest p among
-marker_in (Address y o ∷ rest) p (behind among) = marker_in rest p among
-marker_in (Load y e l ∷ rest) p (behind among) = marker_in rest p among
-marker_in (Store e l a ∷ rest) p (behind among) = marker_in rest p among
-marker_in (Zero o k ∷ rest) p (behind among) = marker_in rest p among
-marker_in (CopyWords o b k ∷ rest) p (behind among) = marker_in rest p among
-marker_in (Call y f all ∷ rest) p (behind among) = marker_in rest p among
 
 marker_of_blocks : (blocks : List unit.Block) (k p : ℕ) (b : unit.Block) → slice_get blocks k ≡ Some b → Among (Marker p) b.instructions → Among p (markers_of_blocks blocks)
 marker_of_blocks [] k p b is among = absurd (none-some b is)

@@ -5,14 +5,15 @@ use Rattle.std.specs.List.{AllByRecursion}
 use Rattle.std.proofs.lemmas.Bool.Decides.{nat_tests}
 use Rattle.graph_core.specs.Graphs.{Instruction, Marker, Note, Move, Operate, Truncate, Same, Address, Load, Store, Zero, CopyWords, Call, End, Block, Graph, UnitForm}
 use Rattle.graph_core.specs.Uses.{targets_of}
-use Rattle.graph_core.specs.Paths.{History, Among, front, behind, Way, stays, passes, goes, Path, path, place_of, place_by, is_marker, is_bound, bound_at, writes, written}
+use Rattle.graph_core.specs.Paths.{History, Among, Way, stays, passes, goes, Path, path, place_of, place_by, is_marker, is_bound, bound_at, writes, written}
 use Rattle.graph_core.specs.Validity.{IsBlock, IsKept, KeepsPlace, place_behind}
 use Rattle.graph_core.specs.WellMarked.{StandsIn, here, behind as further, InPlace, WrittenIn, instruction, bound}
 use Rattle.base_laws.proofs.Booleans.{two_true as and_parts}
 use Rattle.base_laws.proofs.Lists.{append_nil as nothing_behind, one_behind}
 use Rattle.base_laws.proofs.Numbers.{false_true}
-use Rattle.base_laws.proofs.Options.{none_is, some_same}
+use Rattle.base_laws.proofs.Options.{some_same}
 pub use Rattle.base_laws.proofs.Lists.{got_one}
+use Rattle.graph_core.proofs.Among.{one_of_all}
 
 -- the place behind one more instruction
 place_on : (j : Instruction) (all : List Instruction) (place : Option ℕ) → place_behind (j ∷ all) place ≡ place_behind all (place_by j place)
@@ -96,11 +97,6 @@ marker_is (Store e l a) h = cc
 marker_is (Zero o k) h = cc
 marker_is (CopyWords o b k) h = cc
 marker_is (Call y f all) h = cc
-
-one_of_all : {A : Type 0} (P : A → Type 0) (all : List A) (a : A) → AllByRecursion P all → Among a all → P a
-one_of_all P [] a h k = elim k [ ]
-one_of_all P (x ∷ all) a h front = h.0
-one_of_all P (x ∷ all) a h (behind k) = one_of_all P all a h.1 k
 
 -- Where a path stands: what is left of a block, and the place in force there.
 pub record StandsAt (g : Graph) (h : History) (n : ℕ) (rest : List Instruction) (e : End) : Type 0 where

@@ -17,6 +17,7 @@ use Rattle.graph_build_names.specs.Writes.{writes, writes_within, writes_any, na
 use Rattle.graph_build_laws.proofs.Ascending.{Ascend}
 use Rattle.image_truth_units.proofs.UnitFactsAssigned.{among_front, among_back}
 use Rattle.base_laws.proofs.Numbers.{no_entry as true_false}
+pub use Rattle.graph_core.proofs.Among.{among_cases as split_among}
 
 -- a position is that of one of these places
 abbrev pub At : ℕ → List Place → Type 0
@@ -27,15 +28,6 @@ at_front at xs ys h = (h.0, among_front h.0 xs ys h.1, h.2)
 
 pub at_back : (at : ℕ) (xs ys : List Place) → At at ys → At at (xs ++ ys)
 at_back at xs ys h = (h.0, among_back h.0 xs ys h.1, h.2)
-
-pub split_among : {A : Type 0} (a : A) (xs ys : List A) → Among a (xs ++ ys) → Among a xs ⊎ Among a ys
-split_among a [] ys h = inr h
-split_among a (x ∷ xs) ys front = inl front
-split_among a (x ∷ xs) ys (behind h) = by (split_among a xs ys h)
-  where
-    by : Among a xs ⊎ Among a ys → Among a (x ∷ xs) ⊎ Among a ys
-    by (inl k) = inl (behind k)
-    by (inr k) = inr k
 
 -- places that ascend are behind where they begin, and those of a second list behind those of the first
 pub above : (last : ℕ) (all : List Place) (at : ℕ) → Ascend last all → At at all → last < at

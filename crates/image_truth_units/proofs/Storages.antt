@@ -12,13 +12,9 @@ use Rattle.image_form.specs.declared.variables.Storage.{Storage}
 use Rattle.image_form.specs.declared.variables.Storage.TheVariants as storage
 use Rattle.image_build_tables.specs.Storages.{Keeping, storage_of, scalars_kept, objects_kept, functions_kept, statics_kept, keepings_of, put_all, storages_of}
 use Rattle.base_laws.proofs.Lists.{set_other as set_from}
+use Rattle.graph_core.proofs.Among.{among_either}
 
 -- ---- Lists
-
-among_either : {A : Type 0} (xs ys : List A) (x : A) → Among x (xs ++ ys) → Among x xs ⊎ Among x ys
-among_either [] ys x among = inr among
-among_either (y ∷ xs) ys x front = inl front
-among_either (y ∷ xs) ys x (behind among) = ⊎_elim (λ left. inl (behind left)) (λ right. inr right) (among_either xs ys x among)
 
 same_from : {A : Type 0} (n k : ℕ) (x y : A) → slice_get (replicate n x) k ≡ Some y → x ≡ y
 same_from zero k x y is = absurd (none-some y is)

@@ -1,30 +1,22 @@
 -- The scalars that the code of an expression writes are those of variables that its place assigns.
-use Rattle.std.proofs.Common.{◌≡◌, ◌⊎◌, inl, inr, ℕ, Bool, true, Option, Some, None, List, [], ◌∷◌, ◌++◌, ap}
+use Rattle.std.proofs.Common.{◌≡◌, ◌⊎◌, inl, inr, ℕ, Bool, true, Option, Some, None, List, ◌++◌, ap}
 use Rattle.std.specs.Prelude.{◌||◌}
 use Rattle.c_tree.specs.declared.object_type.Object.TheVariants as object
 use Rattle.c_tree.specs.TypedExpressions.{RvalueTree, LvalueTree, ArgumentTrees, Constant, Null, Load, Decay, AddressOf, Convert, Discard, Signed, Not, Arithmetic, Compare, ComparePointers, Move, MoveFrom, Difference, And, Or, Conditional, Comma, Assign, Update, UpdatePointer, Step, StepPointer, Call, Named, Target, Element, ElementFrom, none, first}
 use Rattle.c_flow.specs.declared.assigned.Assigned.{Assigned}
 use Rattle.c_flow.specs.Assigns.{assigns_object, named, assigned, assigned_within, assigned_by_all}
-use Rattle.graph_core.specs.Paths.{Among, front, behind}
+use Rattle.graph_core.specs.Paths.{Among, front}
 use Rattle.graph_build_names.specs.Names.{Names, scalar_of}
 use Rattle.graph_build_names.specs.Writes.{writes, writes_within, writes_any, names_it, is_that}
 use Rattle.base_laws.proofs.Booleans.{or_cases}
 use Rattle.base_laws.proofs.Numbers.{are_equal as same_name, false_true}
+pub use Rattle.graph_core.proofs.Among.{among_left as among_front, among_right as among_back}
 
 -- Among these a variable is assigned at a position, whose scalar has this name.
 pub record IsAssigned (n : Names) (at y : ℕ) (all : List Assigned) : Type 0 where
   pub variable : ℕ
   pub name : scalar_of n variable ≡ Some y
   pub among : Among (assigns_object at (object.Automatic variable)) all
-
-pub among_front : {A : Type 0} (a : A) (xs ys : List A) → Among a xs → Among a (xs ++ ys)
-among_front a [] ys h = elim h [ ]
-among_front a (x ∷ xs) ys front = front
-among_front a (x ∷ xs) ys (behind h) = behind (among_front a xs ys h)
-
-pub among_back : {A : Type 0} (a : A) (xs ys : List A) → Among a ys → Among a (xs ++ ys)
-among_back a [] ys h = h
-among_back a (x ∷ xs) ys h = behind (among_back a xs ys h)
 
 that_is : (y : ℕ) (o : Option ℕ) → is_that y o ≡ true → o ≡ Some y
 that_is y None h = cc

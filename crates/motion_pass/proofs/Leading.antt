@@ -8,6 +8,7 @@ use Rattle.graph_core.specs.Uses.{targets_of}
 use Rattle.graph_core.specs.Computations.{Computation}
 use Rattle.motion_pass_points.specs.Ways.{along}
 use Rattle.motion_pass_placement.specs.Moving.{AreDone, IsLed, directly, by_own, IsEnd, returns, jumps, branches}
+pub use Rattle.graph_core.proofs.Among.{leads_jump as jump_among}
 
 pub no_items : {A : Type 0} (xs : List A) → length xs ≡ 0 → xs ≡ []
 no_items [] none = refl
@@ -19,9 +20,6 @@ then_among e c a b l m is = subst (λ f. Among l (targets_of f)) (sym is) front
 
 pub else_among : (e : End) (c : Comparison) (a b : Operand) (l m : ℕ) → e ≡ Branch c a b l m → Among m (targets_of e)
 else_among e c a b l m is = subst (λ f. Among m (targets_of f)) (sym is) (behind front)
-
-pub jump_among : (e : End) (l : ℕ) → e ≡ Jump l → Among l (targets_of e)
-jump_among e l is = subst (λ f. Among l (targets_of f)) (sym is) front
 
 module _ (blocks : List Block) (first : ℕ) (treated : List Computation) (from : ℕ) (place : Option ℕ) where
   pub led_on : (to next : ℕ) (done : List Instruction) → AreDone blocks first treated (along from to) done → done ≡ [] → IsLed blocks first treated from place to next to []

@@ -4,7 +4,7 @@ use Rattle.std.specs.Option.{option_or}
 use Rattle.std.specs.Prelude.{slice_get}
 use Rattle.std.proofs.lemmas.List.{append-nil, drop_all, get_or-map, length-append, length-map, take_more}
 use Rattle.debug_records.specs.declared.change.Place.{Place}
-use Rattle.graph_core.specs.Graphs.{Instruction, Marker, End, Block}
+use Rattle.graph_core.specs.Graphs.{Instruction, End, Block}
 use Rattle.graph_core.specs.Uses.{marker_of}
 use Rattle.graph_core.specs.Validity.{place_behind}
 use Rattle.graph_core.specs.Computations.{Computation}
@@ -12,16 +12,7 @@ use Rattle.motion_pass_points.specs.Ways.{within}
 use Rattle.motion_pass_problems.proofs.Inner.{drop_at}
 use Rattle.motion_pass_placement.specs.Moving.{AreDone, Becomes, AreMoved, no_more, one_more, IsLed, directly, by_own, IsEnd, returns, jumps, branches, IsMovedBlock, AreMovedBlocks, no_block, one_block}
 use Rattle.motion_pass.specs.Placing.{placed}
-
--- the place behind one more instruction
-behind_last : (all : List Instruction) (i : Instruction) (p : Option ℕ) → place_behind (all ++ i ∷ []) p ≡ place_behind (i ∷ []) (place_behind all p)
-behind_last [] i p = refl
-behind_last (Marker q ∷ more) i p = behind_last more i (Some q)
-behind_last (_ ∷ more) i p = behind_last more i p
-
-behind_it : (i : Instruction) (p : Option ℕ) → place_behind (i ∷ []) p ≡ option_or (marker_of i) p
-behind_it (Marker q) p = refl
-behind_it _ p = refl
+use Rattle.graph_core.proofs.Among.{behind_last, behind_one as behind_it}
 
 placed_or : (m s : Option Place) → placed (option_or m s) ≡ option_or (placed m) (placed s)
 placed_or None s = refl

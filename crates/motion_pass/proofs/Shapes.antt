@@ -11,6 +11,7 @@ use Rattle.graph_core.specs.Uses.{is_computation}
 use Rattle.graph_core.specs.Validity.{total, arguments_in, arguments_of, markers_in, markers_of_blocks, markers_of, place_behind, place_at_end, KeepsPlace, IsKept, HasPlace, IsOwnPlace}
 use Rattle.motion_pass.specs.Grown.{BeginNoPlace, stays, is_replaced, AreGrown, ends, adds, turns, IsOnEdge, IsGrownBlock, IsGrown}
 use Rattle.motion_pass.proofs.Lists.{among_left, among_right, at_left, total_parts, same_total, carried_at}
+use Rattle.graph_core.proofs.Among.{computed_behind as place_stays}
 
 -- ---- Computations
 
@@ -18,11 +19,6 @@ use Rattle.motion_pass.proofs.Lists.{among_left, among_right, at_left, total_par
 marker_free : (i : Instruction) → is_computation i ≡ true → (rest : List Instruction) → markers_in (i ∷ rest) ≡ markers_in rest
 marker_free (Marker p) computes rest = absurd (true≢false (sym computes))
 marker_free _ computes rest = refl
-
--- leave the place in force,
-place_stays : (i : Instruction) → is_computation i ≡ true → (rest : List Instruction) (place : Option ℕ) → place_behind (i ∷ rest) place ≡ place_behind rest place
-place_stays (Marker p) computes rest place = absurd (true≢false (sym computes))
-place_stays _ computes rest place = refl
 
 -- have no arguments,
 no_arguments : (i : Instruction) → is_computation i ≡ true → arguments_in i ≡ 0

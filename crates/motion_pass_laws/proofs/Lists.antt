@@ -1,27 +1,11 @@
 -- What is among lists, and at their numbers.
-use Rattle.std.proofs.Common.{◌≡◌, ◌⊎◌, inl, inr, ℕ, zero, suc, ◌+◌, Some, List, [], ◌∷◌, ◌++◌, length, refl, subst, arith}
+use Rattle.std.proofs.Common.{◌≡◌, ◌⊎◌, inl, inr, ℕ, zero, suc, ◌+◌, Some, List, [], ◌∷◌, length, refl, subst, arith}
 use Rattle.std.specs.Prelude.{slice_get}
 use Rattle.std.specs.List.{AllByRecursion}
 use Rattle.std.proofs.lemmas.Option.{none-some, same_Some}
 use Rattle.event_runs.specs.Agreement.{Pairs}
 use Rattle.graph_core.specs.Paths.{Among, front, behind}
-
--- What is among two lists is among the one or the other.
-pub among_parts : {A : Type 0} (a : A) (xs ys : List A) → Among a (xs ++ ys) → Among a xs ⊎ Among a ys
-among_parts a [] ys among = inr among
-among_parts a (_ ∷ xs) ys front = inl front
-among_parts a (x ∷ xs) ys (behind later) = elim (among_parts a xs ys later) [ inl one ↦ inl (behind one) | inr other ↦ inr other ]
-
--- What is among one list is among it with others behind.
-pub among_left : {A : Type 0} (a : A) (xs ys : List A) → Among a xs → Among a (xs ++ ys)
-among_left a [] ys among = elim among [ ]
-among_left a (_ ∷ xs) ys front = front
-among_left a (x ∷ xs) ys (behind later) = behind (among_left a xs ys later)
-
--- It is among it with others before.
-pub among_right : {A : Type 0} (a : A) (xs ys : List A) → Among a ys → Among a (xs ++ ys)
-among_right a [] ys among = among
-among_right a (x ∷ xs) ys among = behind (among_right a xs ys among)
+pub use Rattle.graph_core.proofs.Among.{among_cases as among_parts, among_left, among_right, at_among}
 
 -- What is so of each of a list is so of one among it.
 pub each_among : {A : Type 0} (P : A → Type 0) (xs : List A) (a : A) → Among a xs → AllByRecursion P xs → P a
@@ -40,12 +24,6 @@ inside_or_behind (x ∷ xs) (suc n) = elim (inside_or_behind xs n) [ inl at ↦ 
   where
     one_more : (k : ℕ) → n ≡ length xs + k → suc n ≡ length (x ∷ xs) + k
     one_more k is = omega (arith, is)
-
--- What is at a number is among them.
-pub at_among : {A : Type 0} (xs : List A) (n : ℕ) (x : A) → slice_get xs n ≡ Some x → Among x xs
-at_among [] n x at = absurd (none-some x at)
-at_among (y ∷ xs) zero x at = subst (λ z. Among z (y ∷ xs)) (same_Some y x at) front
-at_among (y ∷ xs) (suc n) x at = behind (at_among xs n x at)
 
 -- What is so related to the element of a number of the second list.
 pub pairs_before : {A B : Type 0} (R : A → B → Type 0) (xs : List A) (ys : List B) → Pairs R xs ys → (n : ℕ) (y : B) → slice_get ys n ≡ Some y → (x : A) × (slice_get xs n ≡ Some x) × R x y

@@ -16,23 +16,13 @@ use Rattle.graph_core.specs.Validity.{IsOperand, IsInstruction}
 use Rattle.graph_core.specs.Values.{operate, truncate, same}
 use Rattle.graph_core.specs.Runs.{put, value}
 use Rattle.motion_pass_points.specs.Computing.{spoils}
+use Rattle.graph_core.proofs.Among.{among_left, among_right}
 
 -- the value of a computation, where these objects live
 abbrev pub computed : List StaticObject → (live : ℕ → Bool) → (names : ℕ → Value) → Computation → Value
 computed statics live names (Operating o a b) = operate o (value statics names a) (value statics names b)
 computed statics live names (Truncating t a) = truncate t (value statics names a)
 computed statics live names (Comparing a b) = same live (value statics names a) (value statics names b)
-
--- A member of a list is one of it with others behind.
-among_left : {A : Type 0} (x : A) (xs ys : List A) → Among x xs → Among x (xs ++ ys)
-among_left x [] ys among = elim among [ ]
-among_left x (y ∷ xs) ys front = front
-among_left x (y ∷ xs) ys (behind later) = behind (among_left x xs ys later)
-
--- a member of a list is one of it with others before
-among_right : {A : Type 0} (x : A) (xs ys : List A) → Among x ys → Among x (xs ++ ys)
-among_right x [] ys among = among
-among_right x (y ∷ xs) ys among = behind (among_right x xs ys among)
 
 -- Two numbers that can't differ are one.
 number_stable : (a b : ℕ) → ((a ≡ b → ⊥) → ⊥) → a ≡ b

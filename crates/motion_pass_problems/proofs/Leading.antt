@@ -1,9 +1,7 @@
 -- The targets of an end, one by one.
-use Rattle.std.proofs.Common.{ℕ, List, [], ◌∷◌}
+use Rattle.std.proofs.Common.{ℕ, [], ◌∷◌}
 use Rattle.graph_core.specs.Paths.{Among, front, behind}
-
-pub no_target : {l : ℕ} → Among l [] → ⊥
-no_target among = elim among [ ]
+pub use Rattle.graph_core.proofs.Among.{no_target}
 
 pub one_target : (P : ℕ → Type 0) {a l : ℕ} → Among l (a ∷ []) → P a → P l
 one_target P front first = first

@@ -4,17 +4,11 @@ use Rattle.std.specs.Prelude.{option_map}
 use Rattle.graph_core.specs.Graphs.{Operand, Instruction, End, Jump, Block, Scalar, Graph}
 use Rattle.graph_core.specs.declared.value.Value.TheVariants.{Odd}
 use Rattle.graph_core.specs.Paths as paths
-use Rattle.graph_core.specs.Paths.{History, Among, front, behind, Way, Path, path}
+use Rattle.graph_core.specs.Paths.{History, Way, Path, path}
 use Rattle.pass_law.specs.Worked.{scalar, block, entry_block, return_block, main_with}
 pub use Rattle.base_laws.proofs.Numbers.{false_true as false_is_true}
 pub use Rattle.base_laws.proofs.Options.{none_is as none_is_some, some_same}
-
-pub among_one : {A : Type 0} {a b : A} → Among a (b ∷ []) → a ≡ b
-among_one front = refl
-among_one (behind a) = elim a [ ]
-
-pub among_none : {A : Type 0} {a : A} → Among a [] → ⊥
-among_none a = elim a [ ]
+pub use Rattle.graph_core.proofs.Among.{among_none, among_one}
 
 -- the one scalar is x
 pub only_scalar : (x variable : ℕ) → option_map (λ (s : Scalar). s.variable) (slice_get (scalar 0 ∷ []) x) ≡ Some variable → (x ≡ 0) × (variable ≡ 0)

@@ -7,7 +7,6 @@ use Rattle.graph_core.specs.declared.instruction.Callee.TheVariants as callee
 use Rattle.graph_core.specs.declared.value.Value.{Value}
 use Rattle.graph_core.specs.Graphs.{NoteValue, Is, Gone, Instruction, Marker, Note, Move, Operate, Truncate, Same, Address, Load, Store, Zero, CopyWords, Call, End, Jump, Branch, Return, Block, Graph, Logged, UnitForm}
 use Rattle.graph_core.specs.Paths as paths
-use Rattle.graph_core.specs.Paths.{Among}
 use Rattle.graph_core.specs.Validity.{IsNoteValue, IsInstruction, IsBlock, IsGraph, IsValid}
 use Rattle.graph_core.specs.WellMarked.{WasRemoved, IsRightNote, IsWellMarked, AreWellMarked}
 use Rattle.graph_core.specs.Memory.{first_memory}
@@ -15,6 +14,7 @@ use Rattle.graph_core.specs.Values.{is_odd}
 use Rattle.graph_core.specs.Runs.{Configuration, Wild, value, enter, call, execute, execute_end, step_from, step, after, run, run_some, unit_run}
 use Rattle.pass_law.specs.Keeps.{SameFunction, Keeps}
 use Rattle.pass_law.proofs.Keeping.{pairs_itself, function_itself, reached_itself}
+use Rattle.graph_core.proofs.Among.{among_longer}
 
 abbrev pub with_changes : UnitForm → List Logged → UnitForm
 with_changes u added = record u { log = u.log ++ added }
@@ -22,10 +22,6 @@ with_changes u added = record u { log = u.log ++ added }
 all_map : {A : Type 0} (P Q : A → Type 0) → ((a : A) → P a → Q a) → (all : List A) → AllByRecursion P all → AllByRecursion Q all
 all_map P Q f [] all = tt
 all_map P Q f (a ∷ more) all = (f a all.0, all_map P Q f more all.1)
-
-among_longer : {A : Type 0} {a : A} {all : List A} → Among a all → (added : List A) → Among a (all ++ added)
-among_longer paths.front added = paths.front
-among_longer (paths.behind a) added = paths.behind (among_longer a added)
 
 module _ (u : UnitForm) (added : List Logged) where
   abbrev longer : UnitForm

@@ -1,5 +1,5 @@
 -- The stops of code are those of its pieces, and each of these is one.
-use Rattle.std.proofs.Common.{◌≡◌, ◌≢◌, ℕ, zero, suc, ◌+◌, ◌-◌, ◌<◌, ◌≤◌, ⊎_elim, ◌==◌, cond, Bool, true, false, Option, Some, None, List, [], ◌∷◌, ◌++◌, length, map, slice_get, slice_index, refl, sym, subst, arith}
+use Rattle.std.proofs.Common.{◌≡◌, ◌≢◌, ℕ, zero, suc, ◌+◌, ◌-◌, ◌<◌, ◌≤◌, ⊎_elim, ◌==◌, cond, Bool, true, false, Option, Some, None, List, [], ◌∷◌, length, map, slice_get, slice_index, refl, sym, subst, arith}
 use Rattle.std.specs.Option.{option_map_or}
 use Rattle.std.specs.List.{AllByRecursion}
 use Rattle.std.proofs.lemmas.Bool.{cases_eq, or_left, or_right, or_from, eq-eqb, ne_eqb}
@@ -15,17 +15,9 @@ use Rattle.rv_emit_layout.specs.Tracing.{piece_address, stop_at, stops_of_block,
 use Rattle.rv_emit_layout.proofs.Layouts.{words_more}
 use Rattle.rv_emit_runs.specs.Stops.{IsStopOf}
 pub use Rattle.base_laws.proofs.Lists.{both_all as all_append}
+pub use Rattle.graph_core.proofs.Among.{among_left, among_right}
 
 -- ---- Lists
-
-pub among_left : {A : Type 0} (x : A) (xs ys : List A) → Among x xs → Among x (xs ++ ys)
-among_left x [] ys there = elim there [ ]
-among_left x (_ ∷ more) ys front = front
-among_left x (y ∷ more) ys (behind there) = behind (among_left x more ys there)
-
-pub among_right : {A : Type 0} (x : A) (xs ys : List A) → Among x ys → Among x (xs ++ ys)
-among_right x [] ys there = there
-among_right x (y ∷ xs) ys there = behind (among_right x xs ys there)
 
 -- ---- Addresses
 

@@ -12,6 +12,7 @@ use Rattle.rv_emit_words.specs.Growing.{CodeState}
 use Rattle.rv_emit_instructions.specs.Code.{with_instruction}
 use Rattle.rv_emit_runs.proofs.Places.{BeginsPlace, begins_or_keeps, keeps_same}
 use Rattle.rv_emit_runs.proofs.States.{going_on_from}
+use Rattle.graph_core.proofs.Among.{behind_last as place_one}
 
 -- ---- The code of what was passed
 
@@ -35,21 +36,6 @@ behind_one g entry (j ∷ passed) i s = behind_one g entry passed i (going_on_fr
 pieces_one : (g : StorageForm) (entry : ℕ) (passed : List Instruction) (i : Instruction) (s : CodeState) → pieces_of_all g entry (passed ++ i ∷ []) s ≡ pieces_of_all g entry passed s + pieces_of g entry i (behind_all g entry passed s)
 pieces_one g entry [] i s = omega arith
 pieces_one g entry (j ∷ passed) i s = let rest = pieces_one g entry passed i (going_on_from (with_instruction g entry j s)) in omega (arith, rest)
-
-place_one : (passed : List Instruction) (i : Instruction) (before : Option ℕ) → place_behind (passed ++ i ∷ []) before ≡ place_behind (i ∷ []) (place_behind passed before)
-place_one [] i before = refl
-place_one (Marker p ∷ passed) i before = place_one passed i (Some p)
-place_one (Note x v ∷ passed) i before = place_one passed i before
-place_one (Move x a ∷ passed) i before = place_one passed i before
-place_one (Operate x op a b ∷ passed) i before = place_one passed i before
-place_one (Truncate x t a ∷ passed) i before = place_one passed i before
-place_one (Same x a b ∷ passed) i before = place_one passed i before
-place_one (Address x o ∷ passed) i before = place_one passed i before
-place_one (Load x e l ∷ passed) i before = place_one passed i before
-place_one (Store e l a ∷ passed) i before = place_one passed i before
-place_one (Zero o w ∷ passed) i before = place_one passed i before
-place_one (CopyWords o b w ∷ passed) i before = place_one passed i before
-place_one (Call x c all ∷ passed) i before = place_one passed i before
 
 -- ---- Paths
 
