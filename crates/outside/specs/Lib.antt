@@ -6,3 +6,4 @@ pub mod Held
 pub mod MemoryShelf
 pub mod MemorySink
 pub mod Taken
+pub mod TornMemoryShelf

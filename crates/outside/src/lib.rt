@@ -10,6 +10,7 @@ mod shelf;
 mod sink;
 mod stdout_sink;
 mod streams;
+mod torn_shelf;
 
 pub use file_shelf::FileShelf;
 pub use memory_shelf::MemShelf;
@@ -18,3 +19,4 @@ pub use quiet_sink::QuietSink;
 pub use shelf::{Shelf, ShelfErr};
 pub use sink::{PutErr, Sink};
 pub use stdout_sink::StdoutSink;
+pub use torn_shelf::TornShelf;

@@ -1,11 +1,11 @@
 //! A shelf in memory, whose calls fail as they are told.
-ghost use Rattle.std.specs.Prelude.{◌≡◌, ◌≢◌, ◌↔◌, ◌<◌, ℕ, List, true, IfOk, OnOk, OnErr};
+ghost use Rattle.std.specs.Prelude.{◌≡◌, ◌≢◌, ◌↔◌, ◌<◌, ℕ, List, true, IsTrue, IfOk, OnOk, OnErr};
 ghost use Rattle.std.specs.FinMap.{get};
 ghost use Rattle.std.specs.Option.{option_copied};
 ghost use Rattle.outside.specs.Calls.{NextFails};
-ghost use Rattle.outside.specs.Counts.{Counts};
+ghost use Rattle.outside.specs.Counts.{Counts, RoseOrStands, raised};
 ghost use Rattle.outside.specs.Held.{Loads};
-ghost use Rattle.outside.specs.MemoryShelf.{NextLoadFails, after_load, after_save, empty_shelf, placed};
+ghost use Rattle.outside.specs.MemoryShelf.{NextLoadFails, after_load, after_save, called, empty_shelf, placed};
 
 use crate::numbered_calls::NumberedCalls;
 use crate::shelf::{Shelf, ShelfErr};
@@ -71,6 +71,22 @@ impl MemShelf {
             None => None,
             Some(bytes) => Some(bytes.as_slice()),
         }
+    }
+
+    /// Counts a call, and tells whether it is to fail.
+    pub(crate) fn next_fails(&mut self) -> bool
+        ensures listed { IsTrue result ↔ NextFails self.old.calls }
+        ensures counted { self.new ≡ called self.old }
+    {
+        self.calls.next_fails()
+    }
+
+    /// Counts the fault of a save.
+    pub(crate) fn count_failed_save(&mut self)
+        ensures counted { self.new ≡ record self.old { save_count = raised self.old.save_count } }
+        ensures rises { RoseOrStands self.old.save_count self.new.save_count }
+    {
+        self.save_faults = self.save_faults.saturating_add(1);
     }
 }
 
