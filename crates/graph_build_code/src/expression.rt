@@ -12,21 +12,18 @@ ghost use Rattle.graph_build_layout.specs.declared.laid.Use.TheVariants.{Anywher
 ghost use Rattle.graph_build_steps.specs.Drafts.{goal_of, made_of, use_of};
 ghost use Rattle.graph_build_code.specs.Code.{code, code_address, code_all, code_place, code_stepped, code_two, code_updated};
 
+use crate::parts::{argument_laid, arms_laid, chain_laid, later_laid, tested_laid, written_laid};
 use c_tree::{Arguments, Callee, Direction, Given, IntegerType, Lvalue, Rvalue, Scalar, Sign};
 use c_type_rules::{given_by, integer_in, is_pointer, is_void, object_size, type_of};
 use graph_build_layout::{
-    Laid, Use, behind_move, behind_own, lefts_laid, pair_behind, passed_laid, place_laid, use_for,
-    value_laid,
+    Laid, Use, behind_move, behind_own, pair_behind, passed_laid, place_laid, use_for, value_laid,
 };
-use graph_build_names::{
-    held, is_location_moved, is_moved_before, keeps_bits, pick, scalar_named, word_of, writes,
-};
+use graph_build_names::{held, keeps_bits, pick, scalar_named, word_of, writes};
 use graph_build_steps::{
-    Change, Computation, Draft, Goal, Site, Two, arm_goal, arm_use, arm_value, assigned_memory,
-    called_by, callee_for, closed, element_of, finished, forked, hold_location, label_of,
-    leading_to, leaf, left_memory, left_scalar, loaded_first, move_if, narrowed, negated, noted,
-    object_address, one_at, operated, renewed_memory, renewed_scalar, signed, steps_by, use_of,
-    used, valued,
+    Change, Computation, Draft, Goal, Site, Two, arm_goal, arm_value, assigned_memory, called_by,
+    callee_for, closed, element_of, finished, forked, hold_location, label_of, leading_to, leaf,
+    left_memory, left_scalar, loaded_first, move_if, narrowed, negated, noted, object_address,
+    one_at, operated, renewed_memory, renewed_scalar, signed, steps_by, use_of, used, valued,
 };
 use graph_core::{Name, Operand};
 use std::alloc::{AllocError, Global};
@@ -41,6 +38,22 @@ macro_rules! given {
     };
 }
 
+// What a call gives; its failure is the function's own, which gives up what the value was for.
+macro_rules! given_for {
+    ($goal:ident, $call:expr) => {
+        match $call {
+            Ok(value) => value,
+            Err(fault) => {
+                give_up($goal);
+                return Err(fault);
+            }
+        }
+    };
+}
+
+/// What a value was for is given up, with what follows.
+fn give_up(_goal: Goal) {}
+
 /// Two values in turn, the first moved where the code of the second writes it, and what is made of them.
 #[cycle(code)]
 fn code_two(
@@ -54,10 +67,21 @@ fn code_two(
 ) -> Result<Draft, AllocError>
     ensures { IfOk result (λ d. made_of d ≡ code_two (names_view site.now.names.now) site.now.place.0 site.now.top (rvalue_view first.now) (rvalue_view second.now) two begun (goal_of goal)) }
 {
-    let mut known = Vec::new(alloc);
-    let one = given!(lefts_laid(site.names, first, Use::Anywhere, begun, &mut known));
-    known.reverse();
-    code_two_known(alloc, site, first, second, two, one, &known, begun, goal)
+    let laid = given_for!(
+        goal,
+        chain_laid(alloc, site.names, first, Use::Anywhere, begun)
+    );
+    code_two_known(
+        alloc,
+        site,
+        first,
+        second,
+        two,
+        laid.one,
+        &laid.known,
+        begun,
+        goal,
+    )
 }
 
 /// Two values in turn, where it is known where the first one stands and the left operands within it.
@@ -77,7 +101,7 @@ fn code_two_known(
     requires known { map laid_view known.now ≡ lefts (names_view site.now.names.now) (rvalue_view first.now) Anywhere begun }
     ensures { IfOk result (λ d. made_of d ≡ code_two (names_view site.now.names.now) site.now.place.0 site.now.top (rvalue_view first.now) (rvalue_view second.now) two begun (goal_of goal)) }
 {
-    let pair = given!(pair_behind(site.names, first, one, second, begun));
+    let pair = given_for!(goal, pair_behind(site.names, first, one, second, begun));
     let last = given!(finished(alloc, site, two, pair, begun, goal));
     let second = given!(code(alloc, site, second, pair.from, Goal::To(None, last)));
     let moved = given!(move_if(pair.moved, Name(pair.moved_to), pair.first, second));
@@ -174,10 +198,11 @@ fn code_comma(
 ) -> Result<Draft, AllocError>
     ensures { IfOk result (λ d. made_of d ≡ code (names_view site.now.names.now) site.now.place.0 site.now.top (tree.Comma (rvalue_view left.now) (rvalue_view right.now)) begun (goal_of goal)) }
 {
-    let mut known = Vec::new(alloc);
-    let one = given!(lefts_laid(site.names, left, Use::Nothing, begun, &mut known));
-    known.reverse();
-    code_comma_known(alloc, site, left, right, one, &known, begun, goal)
+    let laid = given_for!(
+        goal,
+        chain_laid(alloc, site.names, left, Use::Nothing, begun)
+    );
+    code_comma_known(alloc, site, left, right, laid.one, &laid.known, begun, goal)
 }
 
 /// What comes before the location of an lvalue in memory.
@@ -237,7 +262,8 @@ fn code_address(
     match l {
         Lvalue::Named { object, .. } => object_address(alloc, site, *object, begun, goal),
         Lvalue::Target { pointer, .. } => {
-            let value = given!(value_laid(site.names, pointer, Use::Anywhere, begun)).value;
+            let laid = value_laid(site.names, pointer, Use::Anywhere, begun);
+            let value = given_for!(goal, laid).value;
             code(
                 alloc,
                 site,
@@ -272,7 +298,7 @@ fn code_load(
     match scalar_named(site.names, from) {
         Some(name) => leaf(alloc, goal, Operand::Name(Name(name))),
         None => {
-            let place = given!(place_laid(site.names, from, begun));
+            let place = given_for!(goal, place_laid(site.names, from, begun));
             let load = Computation::Load(element_of(scalar), place.location);
             let draft = given!(operated(alloc, site.names, goal, begun, place.next, load));
             code_place(alloc, site, from, begun, draft)
@@ -293,7 +319,7 @@ fn code_converted(
     ensures { IfOk result (λ d. made_of d ≡ code (names_view site.now.names.now) site.now.place.0 site.now.top (tree.Convert to (rvalue_view operand.now)) begun (goal_of goal)) }
 {
     let from = integer_in(type_of(&site.names.results, operand));
-    let value = given!(value_laid(site.names, operand, Use::Anywhere, begun));
+    let value = given_for!(goal, value_laid(site.names, operand, Use::Anywhere, begun));
     if keeps_bits(from, to) {
         return code(
             alloc,
@@ -319,7 +345,7 @@ fn code_signed(
 ) -> Result<Draft, AllocError>
     ensures { (of : IntegerType) → IfOk result (λ d. made_of d ≡ code (names_view site.now.names.now) site.now.place.0 site.now.top (tree.Signed sign of (rvalue_view operand.now)) begun (goal_of goal)) }
 {
-    let value = given!(value_laid(site.names, operand, Use::Anywhere, begun));
+    let value = given_for!(goal, value_laid(site.names, operand, Use::Anywhere, begun));
     match sign {
         Sign::Plus => code(
             alloc,
@@ -351,7 +377,7 @@ fn code_not(
             code(alloc, site, operand, begun, Goal::Either(other, one, inner))
         }
         _ => {
-            let value = given!(value_laid(site.names, operand, Use::Anywhere, begun));
+            let value = given_for!(goal, value_laid(site.names, operand, Use::Anywhere, begun));
             let is_pointer = is_pointer(type_of(&site.names.results, operand));
             let draft = given!(negated(alloc, site, is_pointer, value, begun, goal));
             code(alloc, site, operand, begun, Goal::To(None, draft))
@@ -372,11 +398,21 @@ fn code_both(
 ) -> Result<Draft, AllocError>
     ensures { IfOk result (λ d. made_of d ≡ code (names_view site.now.names.now) site.now.place.0 site.now.top (if is_and then tree.And (rvalue_view left.now) (rvalue_view right.now) else tree.Or (rvalue_view left.now) (rvalue_view right.now)) begun (goal_of goal)) }
 {
-    let at = given!(behind_own(use_of(&goal), begun));
-    let mut known = Vec::new(alloc);
-    let one = given!(lefts_laid(site.names, left, Use::Tested, at, &mut known));
-    known.reverse();
-    code_both_known(alloc, site, is_and, left, right, one, &known, begun, goal)
+    let laid = given_for!(
+        goal,
+        tested_laid(alloc, site.names, left, use_of(&goal), begun)
+    );
+    code_both_known(
+        alloc,
+        site,
+        is_and,
+        left,
+        right,
+        laid.one,
+        &laid.known,
+        begun,
+        goal,
+    )
 }
 
 /// `&&` and `||`, where it is known where the first operand stands and the left operands within it.
@@ -396,7 +432,7 @@ fn code_both_known(
     requires known { map laid_view known.now ≡ lefts (names_view site.now.names.now) (rvalue_view left.now) Tested (behind_own (use_of (goal_of goal)) begun) }
     ensures { IfOk result (λ d. made_of d ≡ code (names_view site.now.names.now) site.now.place.0 site.now.top (if is_and then tree.And (rvalue_view left.now) (rvalue_view right.now) else tree.Or (rvalue_view left.now) (rvalue_view right.now)) begun (goal_of goal)) }
 {
-    let at = given!(behind_own(use_of(&goal), begun));
+    let at = given_for!(goal, behind_own(use_of(&goal), begun));
     let behind = pick(site.names, at, one.top);
     let way = given!(forked(alloc, site.place, site.top, goal, Name(begun)));
     let (one, other) = (way.one, way.other);
@@ -433,29 +469,23 @@ fn code_conditional(
 ) -> Result<Draft, AllocError>
     ensures { IfOk result (λ d. made_of d ≡ code (names_view site.now.names.now) site.now.place.0 site.now.top (tree.Conditional (rvalue_view condition.now) (rvalue_view chosen.now) (rvalue_view otherwise.now)) begun (goal_of goal)) }
 {
-    let names = site.names;
-    let is_void = is_void(type_of(&names.results, chosen));
-    let at = given!(behind_move(!is_void, begun));
-    let tested = given!(value_laid(names, condition, Use::Tested, at));
-    let at_then = pick(names, at, tested.top);
-    let first = given!(value_laid(names, chosen, arm_use(is_void, begun), at_then));
-    let at_other = pick(names, at, first.top);
-    let after = given!(leaf(alloc, goal, arm_value(is_void, Name(begun))));
+    let laid = given_for!(goal, arms_laid(site.names, condition, chosen, begun));
+    let after = given!(leaf(alloc, goal, arm_value(laid.is_void, Name(begun))));
     let join = label_of(site, &after);
     let draft = given!(leading_to(alloc, site, join, after));
-    let goal = arm_goal(is_void, Name(begun), draft);
-    let other = given!(code(alloc, site, otherwise, at_other, goal));
+    let goal = arm_goal(laid.is_void, Name(begun), draft);
+    let other = given!(code(alloc, site, otherwise, laid.at_other, goal));
     let other_label = label_of(site, &other);
     let draft = given!(leading_to(alloc, site, join, other));
-    let goal = arm_goal(is_void, Name(begun), draft);
-    let one = given!(code(alloc, site, chosen, at_then, goal));
+    let goal = arm_goal(laid.is_void, Name(begun), draft);
+    let one = given!(code(alloc, site, chosen, laid.at_then, goal));
     let one_label = label_of(site, &one);
     let inner = given!(closed(site.place, one));
     code(
         alloc,
         site,
         condition,
-        at,
+        laid.at,
         Goal::Either(one_label, other_label, inner),
     )
 }
@@ -480,14 +510,13 @@ fn code_assigned(
             code(alloc, site, value, begun, Goal::To(Some(Name(name)), draft))
         }
         None => {
-            let place = given!(place_laid(names, l, begun));
-            let moved = is_location_moved(names, place.location, value);
-            let from = given!(behind_move(moved, place.next));
             let asked = use_for(None, use_of(&goal));
-            let source = given!(value_laid(names, value, asked, from)).value;
+            let laid = given_for!(goal, written_laid(names, l, value, asked, false, begun));
+            let (place, moved) = (laid.place, laid.moved);
+            let source = laid.right.value.value;
             let element = element_of(scalar);
             let right = given!(assigned_memory(alloc, goal, place, moved, element, source));
-            let draft = given!(code(alloc, site, value, from, right));
+            let draft = given!(code(alloc, site, value, laid.right.from, right));
             let draft = given!(hold_location(moved, Name(place.next), place.location, draft));
             code_place(alloc, site, l, begun, draft)
         }
@@ -511,22 +540,19 @@ fn code_updated(
     match scalar_named(names, l) {
         Some(name) => {
             let moved = writes(names, name, value);
-            let from = given!(behind_move(moved, begun));
-            let by = given!(value_laid(names, value, Use::Anywhere, from));
+            let by = given_for!(goal, later_laid(names, value, Use::Anywhere, moved, begun));
             let scalar = Operand::Name(Name(name));
             let old = held(moved, scalar, begun);
-            let draft = given!(renewed_scalar(alloc, change, name, old, by, goal));
-            let draft = given!(code(alloc, site, value, from, Goal::To(None, draft)));
+            let draft = given!(renewed_scalar(alloc, change, name, old, by.value, goal));
+            let draft = given!(code(alloc, site, value, by.from, Goal::To(None, draft)));
             move_if(moved, Name(begun), scalar, draft)
         }
         None => {
-            let place = given!(place_laid(names, l, begun));
-            let behind = given!(behind_move(true, place.next));
-            let moved = is_location_moved(names, place.location, value);
-            let from = given!(behind_move(moved, behind));
-            let by = given!(value_laid(names, value, Use::Anywhere, from));
-            let draft = given!(renewed_memory(alloc, names, change, place, moved, by, goal));
-            let draft = given!(code(alloc, site, value, from, Goal::To(None, draft)));
+            let anywhere = Use::Anywhere;
+            let laid = given_for!(goal, written_laid(names, l, value, anywhere, true, begun));
+            let (place, moved, by) = (laid.place, laid.moved, laid.right);
+            let draft = given!(renewed_memory(alloc, names, change, place, moved, by.value, goal));
+            let draft = given!(code(alloc, site, value, by.from, Goal::To(None, draft)));
             let draft = given!(loaded_first(change, place, moved, draft));
             code_place(alloc, site, l, begun, draft)
         }
@@ -553,15 +579,15 @@ fn code_stepped(
             renewed_scalar(alloc, change, name, old, one_at(begun), goal)
         }
         (Given::New, None) => {
-            let place = given!(place_laid(names, l, begun));
-            let one = one_at(given!(behind_move(true, place.next)));
+            let place = given_for!(goal, place_laid(names, l, begun));
+            let one = one_at(given_for!(goal, behind_move(true, place.next)));
             let draft = given!(renewed_memory(alloc, names, change, place, false, one, goal));
             let draft = given!(loaded_first(change, place, false, draft));
             code_place(alloc, site, l, begun, draft)
         }
         (Given::Old, Some(name)) => left_scalar(alloc, change, name, begun, goal),
         (Given::Old, None) => {
-            let place = given!(place_laid(names, l, begun));
+            let place = given_for!(goal, place_laid(names, l, begun));
             let draft = given!(left_memory(alloc, change, place, goal));
             code_place(alloc, site, l, begun, draft)
         }
@@ -580,7 +606,7 @@ fn code_called(
 ) -> Result<Draft, AllocError>
     ensures { IfOk result (λ d. made_of d ≡ code (names_view site.now.names.now) site.now.place.0 site.now.top (tree.Call callee (arguments_view arguments.now)) begun (goal_of goal)) }
 {
-    let passed = given!(passed_laid(alloc, site.names, arguments, begun));
+    let passed = given_for!(goal, passed_laid(alloc, site.names, arguments, begun));
     let is_void = is_void(given_by(&site.names.results, callee));
     let own = Name(pick(site.names, begun, passed.next));
     let draft = given!(called_by(alloc, is_void, goal, own, callee_for(callee), passed.values));
@@ -601,11 +627,10 @@ fn code_all(
     match all {
         Arguments::End => Ok(draft),
         Arguments::More(first, rest) => {
-            let value = given!(value_laid(site.names, first, Use::Anywhere, begun));
-            let moved = is_moved_before(site.names, value.value, rest);
-            let behind = given!(behind_move(moved, value.next));
-            let draft = given!(code_all(alloc, site, rest, behind, draft));
-            let draft = given!(move_if(moved, Name(value.next), value.value, draft));
+            let laid = given!(argument_laid(site.names, first, rest, begun));
+            let draft = given!(code_all(alloc, site, rest, laid.behind, draft));
+            let (name, value) = (Name(laid.value.next), laid.value.value);
+            let draft = given!(move_if(laid.moved, name, value, draft));
             code(alloc, site, first, begun, Goal::To(None, draft))
         }
     }

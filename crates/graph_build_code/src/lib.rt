@@ -2,5 +2,6 @@
 #![tactic(auto)]
 
 mod expression;
+mod parts;
 
 pub use expression::code;
