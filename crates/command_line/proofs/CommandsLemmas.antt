@@ -1,11 +1,12 @@
 -- Arguments and commands that are added one after the other.
-use Rattle.std.proofs.Common.{refl, sym, ap, ap₂, ◌∙◌, ◌≡◌, Bool, true, false, not, ◌||◌, List, [], ◌∷◌, ◌++◌, map, ℕ, ◌+◌, ◌<◌, length, take, slice_index_or, Bor}
+use Rattle.std.proofs.Common.{refl, sym, ap, ap₂, ◌∙◌, ◌≡◌, Bool, true, false, not, ◌||◌, Some, List, [], ◌∷◌, ◌++◌, map, ℕ, ◌+◌, ◌<◌, length, take, slice_index_or, Bor}
 use Rattle.std.specs.Prelude.{fold}
 use Rattle.std.proofs.lemmas.List.{append_assoc, append-nil, map_more, map_push}
 use Rattle.clap.specs.Walk.{Rule, rule_of}
 use Rattle.clap.specs.Built.{AddsArg, AddsInTurn, AddsSubcommand}
-use Rattle.clap.specs.Simple.{App, app_of, with_rule, with_subcommand}
+use Rattle.clap.specs.Simple.{App, app_of, new_rule, with_rule, with_subcommand}
 use Rattle.clap.specs.declared.builder.arg.Arg.{Arg}
+use Rattle.clap.specs.declared.builder.action.ArgAction.TheVariants.{Set}
 use Rattle.clap.specs.declared.builder.command.Command.{Command}
 use Rattle.clap.specs.declared.builder.command.Command.TheViews.{out-Command}
 use Rattle.command_line.specs.Words.{Jobs, Text}
@@ -26,6 +27,31 @@ map_twice f (x ∷ xs) = ap (λ (l : List Rule). f x.now ∷ l) (map_twice f xs)
 more_rules : (name : Text) (before rs : List Rule) → fold with_rule (app_with name before) rs ≡ app_with name (before ++ rs)
 more_rules name before [] = ap (app_with name) (sym (append-nil before))
 more_rules name before (r ∷ rs) = more_rules name (before ++ r ∷ []) rs ∙ ap (app_with name) (append_assoc before (r ∷ []) rs)
+
+-- one more argument stands behind others
+argument_added : (a : Arg) (r : Rule) (before after : List Arg) → rule_of a ≡ r → a.global ≡ false → after ≡ before ++ a ∷ []
+    → rules_with_reach after ≡ rules_with_reach before ++ (r, false) ∷ []
+argument_added a r before after rule global added =
+    ap rules_with_reach added ∙ (map_push (λ (y : Arg). (rule_of y, y.global)) before a
+    ∙ ap₂ (λ (q : Rule) (g : Bool). rules_with_reach before ++ (q, g) ∷ []) rule global)
+
+-- a new argument that is made an option stands behind others
+pub option_added : (x a : Arg) (name : Bor Text) (before after : List Arg) → rule_of x ≡ new_rule name.now → x.global ≡ false
+    → a ≡ record (record x { long = Some name }) { action = Some Set } → after ≡ before ++ a ∷ []
+    → rules_with_reach after ≡ rules_with_reach before ++ (option_rule name.now, false) ∷ []
+option_added x a name before after rule global is added =
+    argument_added a (option_rule name.now) before after
+    (ap rule_of is ∙ ap (λ (r : Rule). record r { long = Some name.now; action = Some Set }) rule)
+    (ap (λ (y : Arg). y.global) is ∙ global) added
+
+-- a new argument that is made a positional stands behind others
+pub place_added : (x a : Arg) (name : Bor Text) (before after : List Arg) → rule_of x ≡ new_rule name.now → x.global ≡ false
+    → a ≡ record (record x { required = true }) { action = Some Set } → after ≡ before ++ a ∷ []
+    → rules_with_reach after ≡ rules_with_reach before ++ (place_rule name.now, false) ∷ []
+place_added x a name before after rule global is added =
+    argument_added a (place_rule name.now) before after
+    (ap rule_of is ∙ ap (λ (r : Rule). record r { required = true; action = Some Set }) rule)
+    (ap (λ (y : Arg). y.global) is ∙ global) added
 
 -- one more argument, by the next place of a list
 pub one_more : (rule : Bor Text → Rule) (before : List Rule) (xs : List (Bor Text)) (i : ℕ) (d : Bor Text) (a b : List Arg)
