@@ -4,3 +4,4 @@ pub mod OneJobLemmas
 pub mod JobsLemmas
 pub mod WordsLemmas
 pub mod GrammarLemmas
+pub mod CommandsLemmas

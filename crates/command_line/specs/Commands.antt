@@ -1,6 +1,7 @@
 -- The commands, as `clap` sees them.
 use Rattle.std.specs.Prelude.{◌≡◌, not, Bool, true, false, List, [], ◌∷◌, ◌++◌, map, Option, Some, None, codes}
-use Rattle.clap.specs.Walk.{Row, Rule, reading_by}
+use Rattle.clap.specs.Walk.{Row, Rule, reading_by, rule_of}
+use Rattle.clap.specs.declared.builder.arg.Arg.{Arg}
 use Rattle.clap.specs.declared.parser.matches.ArgMatches.{ArgMatches}
 use Rattle.clap.specs.declared.parser.matches.ValueSource.TheVariants.{CommandLine}
 use Rattle.clap.specs.Simple.{filled, subcommand_rows_of, App, Shape, new_rule, new_shape}
@@ -8,7 +9,7 @@ use Rattle.clap.specs.declared.builder.action.ArgAction.TheVariants.{Set}
 use Rattle.clap.specs.Simple.{shape_of}
 use Rattle.clap.specs.declared.builder.command.Command.{Command}
 use Rattle.clap.specs.declared.builder.command.Command.TheViews.{out-Command}
-use Rattle.command_line.specs.Words.{Text, Form, Use}
+use Rattle.command_line.specs.Words.{Text, Form, Jobs, Use}
 use Rattle.command_line.specs.Forms.{jobs, reading}
 
 abbrev pub option_rule : Text → Rule
@@ -43,6 +44,25 @@ raw_top = record (new_shape (codes "cdbg")) {
 -- the command before its jobs are added
 abbrev pub bare_app : App
 bare_app = record { top = record raw_top { is_leaf = true }; subs = [] }
+
+-- the rules of arguments, each with whether subcommands take the argument too
+abbrev pub rules_with_reach : List Arg → List (Rule × Bool)
+rules_with_reach args = map (λ a. (rule_of a, a.global)) args
+
+-- the arguments have these rules, and no subcommand takes them too
+abbrev pub AreRules : List Arg → List Rule → Type 0
+AreRules args rules = rules_with_reach args ≡ map (λ r. (r, false)) rules
+
+-- one more command stands at the end, that of a job with these options and positionals
+abbrev pub AddsJobCommand : Text → (options places : List Text) → List Command → List Command → Type 0
+AddsJobCommand name options places before after =
+    (c : Command) × (after ≡ before ++ c ∷ []) × IsJobCommand name (record { options = options; places = places }) c
+
+-- the commands of jobs, one after the other
+abbrev pub AreJobCommands : Jobs → List Command → Type 0
+AreJobCommands [] [] = Unit {0}
+AreJobCommands (j ∷ js) (c ∷ cs) = IsJobCommand j.0 j.1 c × AreJobCommands js cs
+AreJobCommands _ _ = ⊥
 
 -- the whole command, before it is built
 abbrev pub raw_app : App

@@ -1,34 +1,66 @@
 //! The commands of the jobs, for `clap`, which reads the words.
 
-ghost use Rattle.std.specs.Prelude.{◌≡◌, ◌++◌, IfOk, false, true, codes, map};
-ghost use Rattle.clap.specs.Words.{app_of, shape_of, with_rule, with_subcommand};
+ghost use Rattle.std.specs.Prelude.{◌≡◌, ◌++◌, ◌∷◌, [], IfOk, OnOk, false, map};
+ghost use Rattle.clap.specs.Words.{app_of};
 ghost use Rattle.clap.specs.declared.builder.command.Command.TheViews.{out-Command as fields_of};
-ghost use Rattle.command_line.specs.Forms.{attach_form, compile_form, debug_form, passes_form, sweep_form};
-ghost use Rattle.command_line.specs.Commands.{IsJobCommand, app_with, bare_app, is_local, option_rule, place_rule, raw_app};
+ghost use Rattle.command_line.specs.Forms.{jobs};
+ghost use Rattle.command_line.specs.Commands.{AddsJobCommand, AreJobCommands, AreRules, app_with, bare_app, option_rule, place_rule, raw_app, rules_with_reach};
 
 use clap::{Arg, ArgAction, Command};
 use std::alloc::{AllocError, Global};
 
-fn with_option<'a>(
-    alloc: Global,
-    command: Command<'a>,
-    name: &'a str,
-) -> Result<Command<'a>, AllocError>
-    ensures app { IfOk result (λ c. app_of c ≡ with_rule (app_of command.entry) (option_rule name.entry.now)) }
-    ensures local { (fields_of command.entry).has_globals ≡ false → IfOk result (λ c. (fields_of c).has_globals ≡ false) }
+/// Moves an item to the end of a list.
+fn push<T: Drop>(list: &mut Vec<T>, item: T) -> Result<(), AllocError>
+    ensures { OnOk result (list.new.items ≡ list.old.items ++ item ∷ []) }
 {
-    command.arg(Arg::new(alloc, name).long(name).action(ArgAction::Set))
+    Ok(list.push(item)?)
 }
 
-fn with_place<'a>(
+/// Adds an option with one value.
+fn add_option<'a>(
     alloc: Global,
-    command: Command<'a>,
+    arguments: &mut Vec<Arg<'a>>,
     name: &'a str,
-) -> Result<Command<'a>, AllocError>
-    ensures app { IfOk result (λ c. app_of c ≡ with_rule (app_of command.entry) (place_rule name.entry.now)) }
-    ensures local { (fields_of command.entry).has_globals ≡ false → IfOk result (λ c. (fields_of c).has_globals ≡ false) }
+) -> Result<(), AllocError>
+    ensures { OnOk result (rules_with_reach arguments.new.items ≡ rules_with_reach arguments.old.items ++ (option_rule name.entry.now, false) ∷ []) }
 {
-    command.arg(Arg::new(alloc, name).required(true).action(ArgAction::Set))
+    push(
+        arguments,
+        Arg::new(alloc, name).long(name).action(ArgAction::Set),
+    )
+}
+
+/// Adds a positional, which may not be left out.
+fn add_place<'a>(
+    alloc: Global,
+    arguments: &mut Vec<Arg<'a>>,
+    name: &'a str,
+) -> Result<(), AllocError>
+    ensures { OnOk result (rules_with_reach arguments.new.items ≡ rules_with_reach arguments.old.items ++ (place_rule name.entry.now, false) ∷ []) }
+{
+    push(
+        arguments,
+        Arg::new(alloc, name).required(true).action(ArgAction::Set),
+    )
+}
+
+/// Options, each with one value, and positionals, of which none may be left out.
+fn arguments<'a>(
+    alloc: Global,
+    options: &[&'a str],
+    places: &[&'a str],
+) -> Result<Vec<Arg<'a>>, AllocError>
+    ensures { IfOk result (λ v. AreRules v.items
+        (map (λ s. option_rule s.now) options.entry.now ++ map (λ s. place_rule s.now) places.entry.now)) }
+{
+    let mut arguments = Vec::new(alloc);
+    for option in options {
+        add_option(alloc, &mut arguments, *option)?;
+    }
+    for place in places {
+        add_place(alloc, &mut arguments, *place)?;
+    }
+    Ok(arguments)
 }
 
 /// The command of a job: its options, each with one value, and its positionals, of which none may be left out.
@@ -42,49 +74,53 @@ fn job_command<'a>(
         (map (λ s. option_rule s.now) options.entry.now ++ map (λ s. place_rule s.now) places.entry.now)) }
     ensures local { IfOk result (λ c. (fields_of c).has_globals ≡ false) }
 {
-    let mut command = Command::new(alloc, name);
-    for option in options {
-        command = with_option(alloc, command, *option)?;
-    }
-    for place in places {
-        command = with_place(alloc, command, *place)?;
-    }
-    Ok(command)
+    let arguments = arguments(alloc, options, places)?;
+    Command::new(alloc, name).args(arguments)
 }
 
-fn debug_command<'a>(alloc: Global) -> Result<Command<'a>, AllocError>
-    ensures { IfOk result (IsJobCommand (codes "debug") debug_form) }
+/// Adds the command of a job.
+fn add_job<'a>(
+    alloc: Global,
+    commands: &mut Vec<Command<'a>>,
+    name: &'a str,
+    options: &[&'a str],
+    places: &[&'a str],
+) -> Result<(), AllocError>
+    ensures { OnOk result (AddsJobCommand name.entry.now
+        (map (λ s. s.now) options.entry.now) (map (λ s. s.now) places.entry.now) commands.old.items commands.new.items) }
 {
-    job_command(
+    push(commands, job_command(alloc, name, options, places)?)
+}
+
+/// The commands of all jobs.
+fn job_commands<'a>(alloc: Global) -> Result<Vec<Command<'a>>, AllocError>
+    ensures { IfOk result (λ v. AreJobCommands jobs v.items) }
+{
+    let mut jobs = Vec::new(alloc);
+    add_job(
         alloc,
+        &mut jobs,
         "debug",
         &["passes", "homes", "limit"],
         &["src", "script", "input", "image"],
-    )
-}
-
-fn compile_command<'a>(alloc: Global) -> Result<Command<'a>, AllocError>
-    ensures { IfOk result (IsJobCommand (codes "compile") compile_form) }
-{
-    job_command(alloc, "compile", &["passes", "homes"], &["src", "image"])
-}
-
-fn attach_command<'a>(alloc: Global) -> Result<Command<'a>, AllocError>
-    ensures { IfOk result (IsJobCommand (codes "attach") attach_form) }
-{
-    job_command(alloc, "attach", &["limit"], &["image", "script", "input"])
-}
-
-fn passes_command<'a>(alloc: Global) -> Result<Command<'a>, AllocError>
-    ensures { IfOk result (IsJobCommand (codes "passes") passes_form) }
-{
-    job_command(alloc, "passes", &["passes"], &["src"])
-}
-
-fn sweep_command<'a>(alloc: Global) -> Result<Command<'a>, AllocError>
-    ensures { IfOk result (IsJobCommand (codes "sweep") sweep_form) }
-{
-    job_command(alloc, "sweep", &[], &["seed", "size"])
+    )?;
+    add_job(
+        alloc,
+        &mut jobs,
+        "compile",
+        &["passes", "homes"],
+        &["src", "image"],
+    )?;
+    add_job(
+        alloc,
+        &mut jobs,
+        "attach",
+        &["limit"],
+        &["image", "script", "input"],
+    )?;
+    add_job(alloc, &mut jobs, "passes", &["passes"], &["src"])?;
+    add_job(alloc, &mut jobs, "sweep", &[], &["seed", "size"])?;
+    Ok(jobs)
 }
 
 /// The command above the jobs, which has no option of its own.
@@ -98,20 +134,10 @@ fn bare_command<'a>(alloc: Global) -> Command<'a>
         .subcommand_required(true)
 }
 
-fn with_job<'a>(command: Command<'a>, job: Command<'a>) -> Result<Command<'a>, AllocError>
-    ensures { is_local job.entry ≡ true → IfOk result (λ c. app_of c ≡ with_subcommand (app_of command.entry) (shape_of job.entry)) }
-{
-    command.subcommand(job)
-}
-
 /// The command with all jobs.
 pub fn whole_command<'a>(alloc: Global) -> Result<Command<'a>, AllocError>
     ensures { IfOk result (λ c. app_of c ≡ raw_app) }
 {
-    let command = bare_command(alloc);
-    let command = with_job(command, debug_command(alloc)?)?;
-    let command = with_job(command, compile_command(alloc)?)?;
-    let command = with_job(command, attach_command(alloc)?)?;
-    let command = with_job(command, passes_command(alloc)?)?;
-    with_job(command, sweep_command(alloc)?)
+    let jobs = job_commands(alloc)?;
+    bare_command(alloc).subcommands(jobs)
 }
