@@ -5,7 +5,7 @@ use Rattle.c_meaning_steps.specs.declared.event.Stop as declared-stop
 use Rattle.c_meaning_values.specs.Memory.{Memory}
 use Rattle.c_tree.specs.Programs.{program_view}
 use Rattle.c_places.specs.Places.{number_at, place_view}
-use Rattle.c_meaning_steps.specs.States.{Stop, State}
+use Rattle.c_meaning_steps.specs.States.{Event, Stop, State}
 use Rattle.c_meaning.specs.Activations.{Activation, Begun, Goes, NoTurn, depth_of, frames_at, shown_at}
 use Rattle.c_meaning_values.specs.Views.{object_view}
 use Rattle.c_meaning_steps.specs.Views.{shown_view}
@@ -18,6 +18,11 @@ activation_view a =
 abbrev pub begun_view : Bool → State → Begun
 begun_view true s = Goes s
 begun_view false s = NoTurn s
+
+-- the stop at the place at a position
+abbrev pub stop_at : Activation → ℕ → Memory → Event
+stop_at here at memory =
+    Stop (number_at here.places at) (depth_of here) (frames_at here (number_at here.places at)) (shown_at here at memory) memory
 
 -- this is the stop at the place at a position
 abbrev pub IsStop : Activation → ℕ → Memory → declared-stop.Stop → Type 0

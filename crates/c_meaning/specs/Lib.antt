@@ -2,6 +2,7 @@ pub mod Activations
 pub mod Lifetimes
 pub mod Calls
 pub mod StaticStorage
+pub mod BeginningViews
 pub mod CActivationsViews
 pub mod Operands
 pub mod Expressions

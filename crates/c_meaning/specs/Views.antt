@@ -2,7 +2,7 @@
 use Rattle.std.specs.Prelude.{Option, Some, None, List, ◌++◌, ℕ}
 use Rattle.c_meaning.specs.declared.activation.Activation as declared-activation
 use Rattle.c_meaning_values.specs.declared.value.Value.{Value}
-use Rattle.c_meaning_steps.specs.declared.event.Ending.{Ending}
+use Rattle.c_meaning_steps.specs.declared.state.End.{End}
 use Rattle.c_tree.specs.TypedExpressions.{RvalueTree, LvalueTree, ArgumentTrees}
 use Rattle.c_tree.specs.TypedStatements.{TypedStatementTree, While, DoWhile, For, TypedStatementTrees, DeclaredTree, StepTree, TypedStartTree}
 use Rattle.c_meaning.specs.Expressions.{evaluate, designate, evaluate_all}
@@ -13,13 +13,13 @@ use Rattle.c_meaning_steps.specs.States.{State, Evaluated, Outcome, Tested, List
 use Rattle.c_meaning.specs.Activations.{Activation, depth_of}
 use Rattle.c_meaning.specs.Statements.{execute, execute_all, value_at, test_at, check, run, step, begin_loop, declare_all, declare, initialise_elements, while_round, do_round, for_round}
 use Rattle.c_meaning.specs.Runs.{calls_at}
-use Rattle.c_meaning_steps.specs.Views.{outcome_view}
+use Rattle.c_meaning_steps.specs.Views.{end_view, outcome_view}
 use Rattle.c_meaning.specs.CActivationsViews.{activation_view}
 
 -- values of arguments behind earlier ones
-abbrev pub listed_view : Option Ending → List Value → State → Listed
+abbrev pub listed_view : Option End → List Value → State → Listed
 listed_view None vs s = Lists vs s
-listed_view (Some e) vs s = NoList e s
+listed_view (Some e) vs s = NoList (end_view e) s
 
 -- these values, and behind them others
 abbrev pub behind : List Value → Listed → Listed

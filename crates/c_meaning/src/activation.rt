@@ -1,13 +1,16 @@
 //! Activations of functions, and the stops at their places (ISO/IEC 9899:2011, 5.1.2.3).
 
-ghost use Rattle.std.specs.Prelude.{◌≡◌, IfOk, ◌++◌, map};
-ghost use Rattle.c_meaning.specs.CActivationsViews.{IsStop, activation_view, begun_view};
+ghost use Rattle.std.specs.Prelude.{◌≡◌, IfOk, IfSome, Some, ◌++◌, map};
+ghost use Rattle.c_meaning.specs.CActivationsViews.{IsStop, activation_view, begun_view, stop_at};
 ghost use Rattle.c_meaning_values.specs.Views.{object_view, owner_view};
+ghost use Rattle.c_meaning_steps.specs.EventViews.{stop_view};
+ghost use Rattle.c_meaning_steps.specs.Tallies.{standing};
 ghost use Rattle.c_meaning_steps.specs.Views.{shown_view, state_view};
-ghost use Rattle.c_meaning_values.specs.Memory.{contents};
+ghost use Rattle.c_meaning_values.specs.Memory.{Memory, contents};
 ghost use Rattle.c_meaning.specs.Activations.{begin, depth_of, frames_at, shown_at};
 
-use c_meaning_steps::{Event, Frame, Shown, State, Stop};
+use crate::beginning::{Beginning, with_stop};
+use c_meaning_steps::{Frame, Seen, Shown, Standing, State, Stop};
 use c_meaning_values::{Object, Owner, Value, object_of};
 use c_places::{Place, number_at, scope_at, visible};
 use c_tree::Program;
@@ -115,6 +118,43 @@ impl<'a> Activation<'a> {
         })
     }
 
+    /// Where this activation stands at a place.
+    pub fn standing_at(&self, place: usize) -> Standing {
+        Standing {
+            place,
+            depth: self.depth(),
+            function: self.function,
+        }
+    }
+
+    /// Where the stop at the place at a position stands.
+    fn standing(&self, at: u32) -> Standing
+        ensures { (memory : Memory) → standing (stop_at (activation_view self.now) at memory) ≡ Some result }
+    {
+        Standing {
+            place: number_at(self.places, at),
+            depth: self.depth(),
+            function: self.function,
+        }
+    }
+
+    /// The stop at the place at a position, where all events are kept.
+    fn stop_for(
+        &self,
+        alloc: Global,
+        at: u32,
+        memory: &[Object],
+        seen: &Seen,
+    ) -> Result<Option<Stop>, AllocError>
+        ensures { IfOk result (λ o. IfSome o (λ s. stop_view s ≡ stop_at (activation_view self.now) at (map object_view memory.now))) }
+    {
+        if seen.keeps_all() {
+            Ok(Some(self.stop(alloc, at, memory)?))
+        } else {
+            Ok(None)
+        }
+    }
+
     /// A place is begun, where a turn is left.
     pub fn begin(&self, alloc: Global, spot: Spot, state: &mut State) -> Result<bool, AllocError>
         ensures { IfOk result (λ b. begun_view b (state_view state.new) ≡ begin (activation_view self.now) spot (state_view state.old)) }
@@ -122,8 +162,16 @@ impl<'a> Activation<'a> {
         if state.turns == 0 {
             return Ok(false);
         }
-        let stop = self.stop(alloc, spot.at, &state.memory)?;
-        state.events.push(Event::Stop(stop))?;
+        let made = self.stop_for(alloc, spot.at, &state.memory, &state.seen)?;
+        let beginning = Beginning {
+            here: &*self,
+            at: spot.at,
+            memory: state.memory.as_slice(),
+        };
+        let log = with_stop(&state.seen.log, &beginning);
+        let standing = self.standing(spot.at);
+        state.seen.stop(standing, made, log)?;
+        state.at = Some(standing);
         state.turns -= 1;
         Ok(true)
     }

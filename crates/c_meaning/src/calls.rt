@@ -11,7 +11,7 @@ ghost use Rattle.c_meaning.specs.Calls.{at_close, bind, bind_one, enter_turn, ha
 
 use crate::activation::Activation;
 use crate::lifetimes::variable_at;
-use c_meaning_steps::{Ending, Evaluated, Outcome, State};
+use c_meaning_steps::{End, Evaluated, Fault, Outcome, State};
 use c_meaning_values::{Object, Owner, Phase, Value};
 use c_tree::{Program, TypedFunction};
 use debug_records::Spot;
@@ -49,7 +49,7 @@ pub fn handed_back(is_main: bool, outcome: Outcome) -> Evaluated
         }
         Outcome::Returned(Some(value)) => Evaluated::Gives(value),
         Outcome::Returned(None) => Evaluated::Leaves,
-        Outcome::Broken | Outcome::Continued => Evaluated::Ends(Ending::Undefined),
+        Outcome::Broken | Outcome::Continued => Evaluated::Ends(End::Undefined(Fault::Untyped)),
         Outcome::Ended(ending) => Evaluated::Ends(ending),
     }
 }
@@ -69,7 +69,7 @@ pub fn at_close(
             if here.begin(alloc, close, state)? {
                 Ok(Outcome::Next)
             } else {
-                Ok(Outcome::Ended(Ending::Turns))
+                Ok(Outcome::Ended(End::Turns))
             }
         }
         outcome => Ok(outcome),

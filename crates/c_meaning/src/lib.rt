@@ -2,6 +2,7 @@
 #![tactic(auto)]
 
 mod activation;
+mod beginning;
 mod calls;
 mod laws;
 mod lifetimes;

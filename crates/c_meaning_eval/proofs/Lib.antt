@@ -1,2 +1,3 @@
+pub mod InShort
 pub mod Rounds
 pub mod SourceRuns

@@ -18,7 +18,7 @@ use c_meaning::{
     of_operands, of_right_side,
 };
 use c_meaning_steps::{
-    Ending, Evaluated, Frame, Operands, State, Tested, given, leave, located, moved_behind,
+    End, Evaluated, Fault, Frame, Operands, State, Tested, given, leave, located, moved_behind,
     moved_from, named, next_byte, put, second, tested, truth_of, usable_from,
 };
 use c_meaning_values::Value;
@@ -26,7 +26,11 @@ use c_places::Place;
 use c_tree::{Arguments, Callee, Lvalue, Program, Rvalue};
 use std::alloc::{AllocError, Global};
 
-const UNDEFINED: Evaluated = Evaluated::Ends(Ending::Undefined);
+/// The value of an expression is used that has none.
+const NO_VALUE: End = End::Undefined(Fault::NoValueGiven);
+
+/// What no accepted program does.
+const UNTYPED: Evaluated = Evaluated::Ends(End::Undefined(Fault::Untyped));
 
 // What a call gives; its failure is the function's own.
 macro_rules! done {
@@ -183,7 +187,7 @@ fn evaluate_both(
             let other = done!(evaluate(alloc, here, place, right, state));
             Ok(second(value, other))
         }
-        Evaluated::Leaves => Ok(Operands::NoPair(Ending::Undefined)),
+        Evaluated::Leaves => Ok(Operands::NoPair(NO_VALUE)),
         Evaluated::Ends(ending) => Ok(Operands::NoPair(ending)),
     }
 }
@@ -205,7 +209,7 @@ fn designate_and_evaluate(
             let other = done!(evaluate(alloc, here, place, right, state));
             Ok(second(value, other))
         }
-        Evaluated::Leaves => Ok(Operands::NoPair(Ending::Undefined)),
+        Evaluated::Leaves => Ok(Operands::NoPair(NO_VALUE)),
         Evaluated::Ends(ending) => Ok(Operands::NoPair(ending)),
     }
 }
@@ -237,7 +241,10 @@ fn designate(
     ensures { IfOk result (λ v. evaluated_view v (state_view state.new) ≡ designates here.now place (lvalue_view l.now) (state_view state.old)) }
 {
     match l {
-        Lvalue::Named { object, .. } => { Ok(given(named(here.depth(), *object, &state.memory))) }
+        Lvalue::Named { object, .. } => {
+            let object = named(here.depth(), *object, &state.memory);
+            Ok(given(object, Fault::Untyped))
+        }
         Lvalue::Target { pointer, .. } => {
             let found = done!(evaluate(alloc, here, place, pointer, state));
             Ok(usable_from(found, state))
@@ -262,7 +269,7 @@ fn evaluate_all(
     arguments: &Arguments,
     values: &mut Vec<Value>,
     state: &mut State,
-) -> Result<Option<Ending>, AllocError>
+) -> Result<Option<End>, AllocError>
     ensures { IfOk result (λ r. listed_view r values.new.items (state_view state.new) ≡ behind values.old.items (evaluates_all here.now place (arguments_view arguments.now) (state_view state.old))) }
 {
     match arguments {
@@ -273,7 +280,7 @@ fn evaluate_all(
                 let ending = done!(evaluate_all(alloc, here, place, rest, values, state));
                 Ok(ending)
             }
-            Evaluated::Leaves => Ok(Some(Ending::Undefined)),
+            Evaluated::Leaves => Ok(Some(NO_VALUE)),
             Evaluated::Ends(ending) => Ok(Some(ending)),
         },
     }
@@ -304,16 +311,17 @@ fn call_callee(
                 values,
                 state,
             )?;
+            state.at = Some(here.standing_at(place));
             Ok(value)
         }
         Callee::Getchar => Ok(next_byte(state)),
         Callee::Putchar => match values {
             [value] => put(*value, state),
-            _ => Ok(UNDEFINED),
+            _ => Ok(UNTYPED),
         },
         Callee::Exit => match values {
             [value] => Ok(leave(*value)),
-            _ => Ok(UNDEFINED),
+            _ => Ok(UNTYPED),
         },
     }
 }
@@ -334,7 +342,7 @@ pub fn call_function(
     ensures { IfOk result (λ v. evaluated_view v (state_view state.new) ≡ calls_of (program_view program.now) (map place_view places.now) left waiting.now function values.now (state_view state.old)) }
 {
     if left == 0 {
-        return Ok(Evaluated::Ends(Ending::Depth));
+        return Ok(Evaluated::Ends(End::Depth));
     }
     let here = Activation {
         program,
@@ -358,10 +366,10 @@ fn activate(
     ensures { IfOk result (λ v. evaluated_view v (state_view state.new) ≡ activate (calls_at (activation_view here.now) here.now.left) (activation_view here.now) (slice_get (program_view here.now.program.now).functions here.now.function) values.now (state_view state.old)) }
 {
     match function_at(here.program, here.function) {
-        None => Ok(UNDEFINED),
+        None => Ok(UNTYPED),
         Some(function) => {
             if !enter(state) {
-                return Ok(Evaluated::Ends(Ending::Turns));
+                return Ok(Evaluated::Ends(End::Turns));
             }
             let first = state.memory.len();
             bind(alloc, here, function, values, state)?;

@@ -5,4 +5,4 @@ mod execution;
 mod source_run;
 mod statements;
 
-pub use source_run::{SourceRun, eval};
+pub use source_run::{RunInShort, SourceRun, eval, eval_in_short};

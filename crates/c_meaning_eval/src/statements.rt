@@ -15,12 +15,15 @@ use c_meaning::{
     Activation, Round, behind_body, behind_step, close, element_type, initialise,
     initialise_by_literal, labelled, left_switch, make, store_element,
 };
-use c_meaning_steps::{Ending, Evaluated, Outcome, State, Tested, effect, tested};
+use c_meaning_steps::{End, Evaluated, Fault, Outcome, State, Tested, effect, tested};
 use c_meaning_values::{Phase, Value};
 use c_places::number_at;
 use c_tree::{Declared, Initial, Rvalue, TypedStart, TypedStatement, TypedStatements, TypedStep};
 use debug_records::Spot;
 use std::alloc::{AllocError, Global};
+
+/// The value of an expression is used that has none.
+const NO_VALUE: End = End::Undefined(Fault::NoValueGiven);
 
 // What a call gives; its failure is the function's own.
 macro_rules! done {
@@ -90,7 +93,7 @@ fn run(
     ensures { IfOk result (λ o. outcome_view o (state_view state.new) ≡ runs here.now spot (rvalue_view e.now) (state_view state.old)) }
 {
     if !done!(here.begin(alloc, spot, state)) {
-        return Ok(Outcome::Ended(Ending::Turns));
+        return Ok(Outcome::Ended(End::Turns));
     }
     let value = done!(value_at(alloc, here, spot, e, state));
     Ok(effect(value))
@@ -162,7 +165,7 @@ fn declare(
     ensures { IfOk result (λ o. outcome_view o (state_view state.new) ≡ declares here.now (declared_view d.now) (state_view state.old)) }
 {
     if !done!(here.begin(alloc, d.spot, state)) {
-        return Ok(Outcome::Ended(Ending::Turns));
+        return Ok(Outcome::Ended(End::Turns));
     }
     let object = state.memory.len();
     match &d.initial {
@@ -177,7 +180,7 @@ fn declare(
                     initialise(object, value, state);
                     Ok(Outcome::Next)
                 }
-                Evaluated::Leaves => Ok(Outcome::Ended(Ending::Undefined)),
+                Evaluated::Leaves => Ok(Outcome::Ended(NO_VALUE)),
                 Evaluated::Ends(ending) => Ok(Outcome::Ended(ending)),
             }
         }
@@ -225,7 +228,7 @@ fn initialise_elements(
                 ));
                 Ok(outcome)
             }
-            Evaluated::Leaves => Ok(Outcome::Ended(Ending::Undefined)),
+            Evaluated::Leaves => Ok(Outcome::Ended(NO_VALUE)),
             Evaluated::Ends(ending) => Ok(Outcome::Ended(ending)),
         },
     }
@@ -257,7 +260,7 @@ fn execute(
             then,
         } => {
             if !done!(here.begin(alloc, *spot, state)) {
-                return Ok(Outcome::Ended(Ending::Turns));
+                return Ok(Outcome::Ended(End::Turns));
             }
             match done!(test_at(alloc, here, *spot, condition, state)) {
                 Tested::Holds => {
@@ -275,7 +278,7 @@ fn execute(
             otherwise,
         } => {
             if !done!(here.begin(alloc, *spot, state)) {
-                return Ok(Outcome::Ended(Ending::Turns));
+                return Ok(Outcome::Ended(End::Turns));
             }
             match done!(test_at(alloc, here, *spot, condition, state)) {
                 Tested::Holds => {
@@ -324,7 +327,7 @@ fn pass(
     if here.begin(alloc, spot, state)? {
         Ok(outcome)
     } else {
-        Ok(Outcome::Ended(Ending::Turns))
+        Ok(Outcome::Ended(End::Turns))
     }
 }
 
@@ -366,14 +369,15 @@ fn execute_switch(
     ensures { IfOk result (λ o. outcome_view o (state_view state.new) ≡ executes here.now (Switch spot (rvalue_view value.now) (statements_view body.now)) (state_view state.old)) }
 {
     if !done!(here.begin(alloc, spot, state)) {
-        return Ok(Outcome::Ended(Ending::Turns));
+        return Ok(Outcome::Ended(End::Turns));
     }
     match done!(value_at(alloc, here, spot, value, state)) {
         Evaluated::Gives(Value::Number(number)) => {
             let outcome = done!(execute_all(alloc, here, labelled(number, body), state));
             Ok(left_switch(outcome))
         }
-        Evaluated::Gives(_) | Evaluated::Leaves => Ok(Outcome::Ended(Ending::Undefined)),
+        Evaluated::Gives(_) => Ok(Outcome::Ended(End::Undefined(Fault::Untyped))),
+        Evaluated::Leaves => Ok(Outcome::Ended(NO_VALUE)),
         Evaluated::Ends(ending) => Ok(Outcome::Ended(ending)),
     }
 }
@@ -390,13 +394,13 @@ fn execute_return(
     ensures { IfOk result (λ o. outcome_view o (state_view state.new) ≡ executes here.now (Return spot (option_map rvalue_view value.now)) (state_view state.old)) }
 {
     if !done!(here.begin(alloc, spot, state)) {
-        return Ok(Outcome::Ended(Ending::Turns));
+        return Ok(Outcome::Ended(End::Turns));
     }
     match value {
         None => Ok(Outcome::Returned(None)),
         Some(e) => match done!(value_at(alloc, here, spot, e, state)) {
             Evaluated::Gives(value) => Ok(Outcome::Returned(Some(value))),
-            Evaluated::Leaves => Ok(Outcome::Ended(Ending::Undefined)),
+            Evaluated::Leaves => Ok(Outcome::Ended(NO_VALUE)),
             Evaluated::Ends(ending) => Ok(Outcome::Ended(ending)),
         },
     }
@@ -422,7 +426,7 @@ fn execute_loop(
             Round::Leave(outcome) => return Ok(outcome),
         }
     }
-    Ok(Outcome::Ended(Ending::Turns))
+    Ok(Outcome::Ended(End::Turns))
 }
 
 /// A round of a loop.
@@ -470,7 +474,7 @@ fn while_round(
     ensures { IfOk result (λ r. (again : states.State → states.Outcome) → round_view r again (state_view state.new) ≡ while_round (activation_view here.now) spot (tests_at here.now spot (rvalue_view condition.now)) (executes here.now (statement_view body.now)) again (state_view state.old)) }
 {
     if !done!(here.begin(alloc, spot, state)) {
-        return Ok(Round::Leave(Outcome::Ended(Ending::Turns)));
+        return Ok(Round::Leave(Outcome::Ended(End::Turns)));
     }
     match done!(test_at(alloc, here, spot, condition, state)) {
         Tested::Holds => {
@@ -499,7 +503,7 @@ fn do_round(
         Round::Leave(outcome) => Ok(Round::Leave(outcome)),
         Round::Again => {
             if !done!(here.begin(alloc, spot, state)) {
-                return Ok(Round::Leave(Outcome::Ended(Ending::Turns)));
+                return Ok(Round::Leave(Outcome::Ended(End::Turns)));
             }
             match done!(test_at(alloc, here, spot, condition, state)) {
                 Tested::Holds => Ok(Round::Again),
@@ -524,7 +528,7 @@ fn for_round(
     ensures { IfOk result (λ r. (again : states.State → states.Outcome) → round_view r again (state_view state.new) ≡ for_round (activation_view here.now) spot (checks here.now spot (option_map rvalue_view condition.now)) (executes here.now (statement_view body.now)) (steps here.now (option_map step_view part.now)) again (state_view state.old)) }
 {
     if !done!(here.begin(alloc, spot, state)) {
-        return Ok(Round::Leave(Outcome::Ended(Ending::Turns)));
+        return Ok(Round::Leave(Outcome::Ended(End::Turns)));
     }
     match done!(check(alloc, here, spot, condition, state)) {
         Tested::Holds => {

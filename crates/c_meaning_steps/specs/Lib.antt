@@ -1,3 +1,5 @@
+pub mod EventViews
 pub mod States
 pub mod Steps
+pub mod Tallies
 pub mod Views

@@ -31,6 +31,17 @@ pub struct Stop {
     pub memory: Vec<Object>,
 }
 
+/// Where a stop stands.
+#[derive(Clone, Copy, PartialEq, Eq)]
+pub struct Standing {
+    /// The number of the place.
+    pub place: usize,
+    /// How many activations live.
+    pub depth: usize,
+    /// The function of the innermost, by its number in text order from 0.
+    pub function: u32,
+}
+
 /// What can be seen of a run.
 #[derive(Drop)]
 pub enum Event {

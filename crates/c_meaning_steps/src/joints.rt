@@ -8,8 +8,10 @@ ghost use Rattle.c_tree.specs.declared.typed_expression.Direction.TheVariants.{U
 ghost use Rattle.c_meaning_values.specs.Operations.{arithmetic, comparison, convert, moved_by, operator_of, pointer_comparison, pointer_difference, signed};
 ghost use Rattle.c_meaning_steps.specs.Steps.{decayed, load, located, one, replace_if, store, store_if, truth, updated};
 
-use crate::event::Ending;
-use crate::state::{Evaluated, Operands, Outcome, State, Tested};
+use crate::fault::{
+    Fault, arithmetic_fault, difference_fault, move_fault, order_fault, update_fault,
+};
+use crate::state::{End, Evaluated, Operands, Outcome, State, Tested};
 use crate::steps::{decayed, given, load, replaced, store, usable};
 use c_meaning_values::{
     Value, arithmetic, comparison, convert, is_true, moved_by, pointer_comparison,
@@ -17,7 +19,18 @@ use c_meaning_values::{
 };
 use c_tree::{Arithmetic, Comparison, Direction, Given, IntegerType, ObjectType, Sign};
 
-const UNDEFINED: Evaluated = Evaluated::Ends(Ending::Undefined);
+/// The value of an expression is used that has none.
+const NO_VALUE: End = End::Undefined(Fault::NoValueGiven);
+
+// A value; where there is none, C does not define what comes, for a cause.
+macro_rules! known {
+    ($value:expr, $fault:expr) => {
+        match $value {
+            Some(value) => value,
+            None => return Evaluated::Ends(End::Undefined($fault)),
+        }
+    };
+}
 
 /// What an object holds where an operand points.
 pub fn load_from(found: Evaluated, state: &State) -> Evaluated
@@ -25,7 +38,7 @@ pub fn load_from(found: Evaluated, state: &State) -> Evaluated
 {
     match found {
         Evaluated::Gives(pointer) => load(pointer, state),
-        Evaluated::Leaves => UNDEFINED,
+        Evaluated::Leaves => Evaluated::Ends(NO_VALUE),
         Evaluated::Ends(ending) => Evaluated::Ends(ending),
     }
 }
@@ -36,7 +49,7 @@ pub fn decay_from(found: Evaluated, state: &State) -> Evaluated
 {
     match found {
         Evaluated::Gives(pointer) => decayed(pointer, state),
-        Evaluated::Leaves => UNDEFINED,
+        Evaluated::Leaves => Evaluated::Ends(NO_VALUE),
         Evaluated::Ends(ending) => Evaluated::Ends(ending),
     }
 }
@@ -47,7 +60,7 @@ pub fn usable_from(found: Evaluated, state: &State) -> Evaluated
 {
     match found {
         Evaluated::Gives(pointer) => usable(pointer, state),
-        Evaluated::Leaves => UNDEFINED,
+        Evaluated::Leaves => Evaluated::Ends(NO_VALUE),
         Evaluated::Ends(ending) => Evaluated::Ends(ending),
     }
 }
@@ -57,7 +70,7 @@ pub fn convert_from(of: IntegerType, operand: Evaluated) -> Evaluated
     ensures { (s : states.State) → evaluated_view result s ≡ mapped (evaluated_view operand s) (convert of) }
 {
     match operand {
-        Evaluated::Gives(value) => given(convert(of, value)),
+        Evaluated::Gives(value) => given(convert(of, value), Fault::Untyped),
         Evaluated::Leaves => Evaluated::Leaves,
         Evaluated::Ends(ending) => Evaluated::Ends(ending),
     }
@@ -79,8 +92,8 @@ pub fn sign_from(sign: Sign, of: IntegerType, operand: Evaluated) -> Evaluated
     ensures { (s : states.State) → evaluated_view result s ≡ with (evaluated_view operand s) (λ v t. given (signed sign of v) t) }
 {
     match operand {
-        Evaluated::Gives(value) => given(signed(sign, of, value)),
-        Evaluated::Leaves => UNDEFINED,
+        Evaluated::Gives(value) => given(signed(sign, of, value), Fault::ResultTooGreat),
+        Evaluated::Leaves => Evaluated::Ends(NO_VALUE),
         Evaluated::Ends(ending) => Evaluated::Ends(ending),
     }
 }
@@ -91,7 +104,7 @@ pub fn second(left: Value, right: Evaluated) -> Operands
 {
     match right {
         Evaluated::Gives(value) => Operands::Pair(left, value),
-        Evaluated::Leaves => Operands::NoPair(Ending::Undefined),
+        Evaluated::Leaves => Operands::NoPair(NO_VALUE),
         Evaluated::Ends(ending) => Operands::NoPair(ending),
     }
 }
@@ -109,10 +122,10 @@ pub fn tested(operand: Evaluated, state: &State) -> Tested
                     Tested::Fails
                 }
             }
-            Evaluated::Leaves => Tested::NoTest(Ending::Undefined),
+            Evaluated::Leaves => Tested::NoTest(NO_VALUE),
             Evaluated::Ends(ending) => Tested::NoTest(ending),
         },
-        Evaluated::Leaves => Tested::NoTest(Ending::Undefined),
+        Evaluated::Leaves => Tested::NoTest(NO_VALUE),
         Evaluated::Ends(ending) => Tested::NoTest(ending),
     }
 }
@@ -144,7 +157,10 @@ pub fn arithmetic_from(operator: Arithmetic, of: IntegerType, operands: Operands
     ensures { (s : states.State) → evaluated_view result s ≡ on_both (both_view operands s) (λ v w t. given (arithmetic operator of v w) t) }
 {
     match operands {
-        Operands::Pair(left, right) => given(arithmetic(operator, of, left, right)),
+        Operands::Pair(left, right) => {
+            let value = arithmetic(operator, of, left, right);
+            Evaluated::Gives(known!(value, arithmetic_fault(operator, left, right)))
+        }
         Operands::NoPair(ending) => Evaluated::Ends(ending),
     }
 }
@@ -154,7 +170,7 @@ pub fn comparison_from(operator: Comparison, operands: Operands) -> Evaluated
     ensures { (s : states.State) → evaluated_view result s ≡ on_both (both_view operands s) (λ v w t. given (comparison operator v w) t) }
 {
     match operands {
-        Operands::Pair(left, right) => given(comparison(operator, left, right)),
+        Operands::Pair(left, right) => given(comparison(operator, left, right), Fault::Untyped),
         Operands::NoPair(ending) => Evaluated::Ends(ending),
     }
 }
@@ -165,7 +181,8 @@ pub fn pointer_comparison_from(operator: Comparison, operands: Operands, state: 
 {
     match operands {
         Operands::Pair(left, right) => {
-            given(pointer_comparison(&state.memory, operator, left, right))
+            let value = pointer_comparison(&state.memory, operator, left, right);
+            Evaluated::Gives(known!(value, order_fault(&state.memory, left, right)))
         }
         Operands::NoPair(ending) => Evaluated::Ends(ending),
     }
@@ -182,7 +199,8 @@ pub fn moved_from(
 {
     match operands {
         Operands::Pair(pointer, by) => {
-            given(moved_by(&state.memory, direction, element, pointer, by))
+            let value = moved_by(&state.memory, direction, element, pointer, by);
+            Evaluated::Gives(known!(value, move_fault(&state.memory, pointer)))
         }
         Operands::NoPair(ending) => Evaluated::Ends(ending),
     }
@@ -193,13 +211,10 @@ pub fn moved_behind(element: ObjectType, operands: Operands, state: &State) -> E
     ensures { evaluated_view result (state_view state.now) ≡ on_both (both_view operands (state_view state.now)) (λ w v t. given (moved_by t.memory Up element v w) t) }
 {
     match operands {
-        Operands::Pair(by, pointer) => given(moved_by(
-            &state.memory,
-            Direction::Up,
-            element,
-            pointer,
-            by,
-        )),
+        Operands::Pair(by, pointer) => {
+            let value = moved_by(&state.memory, Direction::Up, element, pointer, by);
+            Evaluated::Gives(known!(value, move_fault(&state.memory, pointer)))
+        }
         Operands::NoPair(ending) => Evaluated::Ends(ending),
     }
 }
@@ -210,7 +225,8 @@ pub fn difference_from(element: ObjectType, operands: Operands, state: &State) -
 {
     match operands {
         Operands::Pair(left, right) => {
-            given(pointer_difference(&state.memory, element, left, right))
+            let value = pointer_difference(&state.memory, element, left, right);
+            Evaluated::Gives(known!(value, difference_fault(&state.memory, left, right)))
         }
         Operands::NoPair(ending) => Evaluated::Ends(ending),
     }
@@ -232,7 +248,7 @@ pub fn located(found: Evaluated, state: &State) -> Operands
 {
     match found {
         Evaluated::Gives(pointer) => second(pointer, load(pointer, state)),
-        Evaluated::Leaves => Operands::NoPair(Ending::Undefined),
+        Evaluated::Leaves => Operands::NoPair(NO_VALUE),
         Evaluated::Ends(ending) => Operands::NoPair(ending),
     }
 }
@@ -252,32 +268,6 @@ fn updated(
     convert(target, number)
 }
 
-/// A new value, if there is one, is written where a pointer points.
-fn store_if(value: Option<Value>, pointer: Value, state: &mut State) -> Evaluated
-    ensures { evaluated_view result (state_view state.new) ≡ store_if value pointer (state_view state.old) }
-{
-    match value {
-        None => UNDEFINED,
-        Some(value) => store(pointer, value, state),
-    }
-}
-
-/// A new value, if there is one, is written in place of an old one.
-fn replace_if(
-    value: Option<Value>,
-    which: Given,
-    pointer: Value,
-    old: Value,
-    state: &mut State,
-) -> Evaluated
-    ensures { evaluated_view result (state_view state.new) ≡ replace_if value which pointer old (state_view state.old) }
-{
-    match value {
-        None => UNDEFINED,
-        Some(new) => replaced(which, pointer, old, new, state),
-    }
-}
-
 /// An integer is updated by the value of the right side.
 pub fn update(
     operator: Arithmetic,
@@ -291,12 +281,12 @@ pub fn update(
     ensures { evaluated_view result (state_view state.new) ≡ with (evaluated_view right (state_view state.old)) (λ v u. store_if (updated operator target calculated_in old v) pointer u) }
 {
     match right {
-        Evaluated::Gives(value) => store_if(
-            updated(operator, target, calculated_in, old, value),
-            pointer,
-            state,
-        ),
-        Evaluated::Leaves => UNDEFINED,
+        Evaluated::Gives(value) => {
+            let new = updated(operator, target, calculated_in, old, value);
+            let new = known!(new, update_fault(operator, calculated_in, old, value));
+            store(pointer, new, state)
+        }
+        Evaluated::Leaves => Evaluated::Ends(NO_VALUE),
         Evaluated::Ends(ending) => Evaluated::Ends(ending),
     }
 }
@@ -315,9 +305,10 @@ pub fn update_pointer(
     match by {
         Evaluated::Gives(value) => {
             let new = moved_by(&state.memory, direction, element, old, value);
-            store_if(new, pointer, state)
+            let new = known!(new, move_fault(&state.memory, old));
+            store(pointer, new, state)
         }
-        Evaluated::Leaves => UNDEFINED,
+        Evaluated::Leaves => Evaluated::Ends(NO_VALUE),
         Evaluated::Ends(ending) => Evaluated::Ends(ending),
     }
 }
@@ -339,8 +330,10 @@ pub fn step(
     };
     match operands {
         Operands::Pair(pointer, old) => {
-            let new = updated(operator, target, calculated_in, old, Value::Number(1));
-            replace_if(new, which, pointer, old, state)
+            let one = Value::Number(1);
+            let new = updated(operator, target, calculated_in, old, one);
+            let new = known!(new, update_fault(operator, calculated_in, old, one));
+            replaced(which, pointer, old, new, state)
         }
         Operands::NoPair(ending) => Evaluated::Ends(ending),
     }
@@ -359,7 +352,8 @@ pub fn step_pointer(
     match operands {
         Operands::Pair(pointer, old) => {
             let new = moved_by(&state.memory, direction, element, old, Value::Number(1));
-            replace_if(new, which, pointer, old, state)
+            let new = known!(new, move_fault(&state.memory, old));
+            replaced(which, pointer, old, new, state)
         }
         Operands::NoPair(ending) => Evaluated::Ends(ending),
     }

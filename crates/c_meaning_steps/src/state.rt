@@ -1,6 +1,8 @@
 //! What a run has at each moment, and how its parts end.
 
-use crate::event::{Ending, Event};
+use crate::event::Standing;
+use crate::fault::Fault;
+use crate::seen::Seen;
 use c_meaning_values::{Object, Value};
 
 /// What a run has.
@@ -9,10 +11,25 @@ pub struct State<'a> {
     pub memory: Vec<Object>,
     /// The input that is left.
     pub input: &'a [u8],
-    /// The events so far.
-    pub events: Vec<Event>,
+    /// What was seen so far.
+    pub seen: Seen,
     /// How many places may still begin.
     pub turns: u64,
+    /// The place that the run has come to: that of the last stop or, behind a call, the place of the call.
+    pub at: Option<Standing>,
+}
+
+/// Why a run goes no further.
+#[derive(Clone, Copy, PartialEq, Eq)]
+pub enum End {
+    /// C does not define what comes next, for a cause.
+    Undefined(Fault),
+    /// The program ended with this status.
+    Exit(i64),
+    /// A call found 1,024 activations alive.
+    Depth,
+    /// No end was reached: the turns are used up.
+    Turns,
 }
 
 /// What an expression comes to.
@@ -23,7 +40,7 @@ pub enum Evaluated {
     /// No value.
     Leaves,
     /// The run ends within it.
-    Ends(Ending),
+    Ends(End),
 }
 
 /// What a statement comes to.
@@ -33,7 +50,7 @@ pub enum Outcome {
     Broken,
     Continued,
     Returned(Option<Value>),
-    Ended(Ending),
+    Ended(End),
 }
 
 /// What two operands come to.
@@ -41,7 +58,7 @@ pub enum Outcome {
 pub enum Operands {
     Pair(Value, Value),
     /// The run ends within one.
-    NoPair(Ending),
+    NoPair(End),
 }
 
 /// Whether a value is true.
@@ -50,5 +67,5 @@ pub enum Tested {
     Holds,
     Fails,
     /// The run ends within the expression.
-    NoTest(Ending),
+    NoTest(End),
 }

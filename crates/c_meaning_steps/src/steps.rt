@@ -8,19 +8,19 @@ ghost use Rattle.c_meaning_steps.specs.States as states;
 ghost use Rattle.c_meaning_steps.specs.States.{given, usable};
 ghost use Rattle.c_meaning_steps.specs.Steps.{decayed, leave, load, named, next_byte, put, replaced, store};
 
-use crate::event::{Ending, Event};
-use crate::state::{Evaluated, State};
+use crate::fault::{Fault, read_fault, write_fault};
+use crate::state::{End, Evaluated, State};
 use c_meaning_values::{Object, Owner, Value, address_of, is_usable, read, write};
 use c_tree::{Given, IntegerType};
 use c_type_rules::wrapped;
 use std::alloc::AllocError;
 
-/// A value, or undefined where there is none.
-pub fn given(value: Option<Value>) -> Evaluated
+/// A value, or undefined for a cause where there is none.
+pub fn given(value: Option<Value>, fault: Fault) -> Evaluated
     ensures { (s : states.State) → evaluated_view result s ≡ given value s }
 {
     match value {
-        None => Evaluated::Ends(Ending::Undefined),
+        None => Evaluated::Ends(End::Undefined(fault)),
         Some(value) => Evaluated::Gives(value),
     }
 }
@@ -32,7 +32,7 @@ pub fn usable(value: Value, state: &State) -> Evaluated
     if is_usable(&state.memory, value) {
         Evaluated::Gives(value)
     } else {
-        Evaluated::Ends(Ending::Undefined)
+        Evaluated::Ends(End::Undefined(Fault::LifetimeOver))
     }
 }
 
@@ -41,7 +41,7 @@ pub fn load(pointer: Value, state: &State) -> Evaluated
     ensures { evaluated_view result (state_view state.now) ≡ load pointer (state_view state.now) }
 {
     match read(&state.memory, pointer) {
-        None => Evaluated::Ends(Ending::Undefined),
+        None => Evaluated::Ends(End::Undefined(read_fault(&state.memory, pointer))),
         Some(value) => usable(value, state),
     }
 }
@@ -53,7 +53,7 @@ pub fn store(pointer: Value, value: Value, state: &mut State) -> Evaluated
     if write(&mut state.memory, pointer, value) {
         Evaluated::Gives(value)
     } else {
-        Evaluated::Ends(Ending::Undefined)
+        Evaluated::Ends(End::Undefined(write_fault(&state.memory, pointer)))
     }
 }
 
@@ -77,7 +77,7 @@ pub fn decayed(pointer: Value, state: &State) -> Evaluated
     ensures { evaluated_view result (state_view state.now) ≡ decayed pointer (state_view state.now) }
 {
     match read(&state.memory, pointer) {
-        None => Evaluated::Ends(Ending::Undefined),
+        None => Evaluated::Ends(End::Undefined(read_fault(&state.memory, pointer))),
         Some(_) => Evaluated::Gives(pointer),
     }
 }
@@ -97,7 +97,7 @@ pub fn replaced(
         Given::New => stored,
         Given::Old => match stored {
             Evaluated::Gives(_) => Evaluated::Gives(old),
-            Evaluated::Leaves => Evaluated::Ends(Ending::Undefined),
+            Evaluated::Leaves => Evaluated::Ends(End::Undefined(Fault::NoValueGiven)),
             Evaluated::Ends(ending) => Evaluated::Ends(ending),
         },
     }
@@ -123,10 +123,10 @@ pub fn put(value: Value, state: &mut State) -> Result<Evaluated, AllocError>
     match value {
         Value::Number(number) => {
             let byte = wrapped(IntegerType::Char, i128::from(number));
-            state.events.push(Event::Put(byte as u8))?;
+            state.seen.put(byte as u8)?;
             Ok(Evaluated::Gives(Value::Number(byte)))
         }
-        _ => Ok(Evaluated::Ends(Ending::Undefined)),
+        _ => Ok(Evaluated::Ends(End::Undefined(Fault::Untyped))),
     }
 }
 
@@ -135,7 +135,7 @@ pub fn leave(value: Value) -> Evaluated
     ensures { (s : states.State) → evaluated_view result s ≡ leave value s }
 {
     match value {
-        Value::Number(status) => Evaluated::Ends(Ending::Exit(status)),
-        _ => Evaluated::Ends(Ending::Undefined),
+        Value::Number(status) => Evaluated::Ends(End::Exit(status)),
+        _ => Evaluated::Ends(End::Undefined(Fault::Untyped)),
     }
 }

@@ -1,12 +1,7 @@
-use Rattle.std.proofs.Common.{map, ap, ◌∙◌}
-use Rattle.c_tree.specs.Programs.{program_view}
-use Rattle.c_places.specs.Places.{place_view}
-use Rattle.c_meaning_steps.specs.Views.{event_view, state_view}
-use Rattle.c_meaning_values.specs.Views.{object_view}
-use Rattle.c_meaning_eval.proofs.SourceRuns.{run_is}
+use Rattle.std.proofs.Common.{ap, ◌∙◌}
+use Rattle.c_meaning_steps.specs.Views.{end_view}
+use Rattle.c_meaning.specs.Runs.{with_ending}
 use Rattle.c_meaning_eval.proofs.source_run.eval.Goals as goal
 
 pub returns : goal.returns
-returns c =
-    c.in_ok-run.ensures
-    ∙ run_is (program_view c.args.program.now) c.args.input.now c.args.turns (map place_view c.deref.result.now) (map object_view c.in_ok-memory.memory.items) (map event_view c.new.result.items) c.in_ok-value.value (state_view c.call_function.new.state) c.ending_of.result (ap (map place_view) c.deref.ensures.value ∙ c.in_ok-places.ensures) c.in_ok-memory.ensures (ap (map event_view) c.new.ensures.items) c.in_ok-value.ensures c.ending_of.ensures
+returns c = c.in_ok-whole.ensures ∙ ap (with_ending (end_view c.in_ok-ended.ended.end)) c.in-Some.ensures ∙ c.in_ok-ended.ensures
