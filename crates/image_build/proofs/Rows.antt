@@ -12,6 +12,7 @@ use Rattle.c_type_laws.specs.Laws.{IsWellFormed}
 use Rattle.c_places.specs.Places.{number_at, places_of_program}
 use Rattle.c_flow.specs.Rows.{Row, row_view, rows_of_program}
 use Rattle.graph_homes.specs.Homes.{HoldsOnAllPaths}
+use Rattle.graph_core.specs.declared.recipe.Recipe as declared-recipe
 use Rattle.graph_core.specs.Graphs.{Graph, Logged, Name, Of}
 use Rattle.graph_core.specs.Paths.{Among, front, behind}
 use Rattle.graph_core.specs.Validity.{IsGraph}
@@ -23,7 +24,7 @@ use Rattle.currency.specs.declared.verdict.Verdict.TheVariants as verdict
 use Rattle.currency.specs.declared.verdict.PlaceVerdict as declared-row
 use Rattle.currency.specs.Evident.{AreEvident, IsEvident}
 use Rattle.currency.specs.Named.{AreNamed, IsNamed}
-use Rattle.currency.specs.Sound.{AreHome, AreRecovered}
+use Rattle.currency.specs.Sound.{AreApart, AreHidden, AreHome, AreLeast, AreOnly, AreRecovered, IsHidden}
 use Rattle.currency.specs.Visible.{Sight, next, sight, sights_at, sights_from}
 use Rattle.currency.specs.Written.{AreWritten, IsWritten}
 use Rattle.image_build.specs.Shown.{AreShown}
@@ -128,13 +129,28 @@ module _ (p : ProgramTree) (formed : IsWellFormed p) (h : HomedForm) (plain : Is
     pub shown_home : AreHome h rows
     shown_home w among home f x g at is = known_holds f x w.var.0 w.place.0 g at is (row_known w among)
 
--- Verdicts by which homes show variables name no recipe, no change and no write.
+-- Verdicts by which homes show variables name no recipe, hide nothing, and name no change and no write.
 module _ (rows : List declared-row.PlaceVerdict) (shown : AreShown rows) where
-  pub shown_recovered : (h : HomedForm) → AreRecovered h rows
-  shown_recovered h w r change among is f x g at variable = absurd (no_recipe (sym (shown w among) ∙ is))
+  no_recipe : (w : declared-row.PlaceVerdict) (r : declared-recipe.Recipe) (change : ℕ) → Among w rows → w.verdict ≡ verdict.Recovered r change → ⊥
+  no_recipe w r change among is = none (sym (shown w among) ∙ is)
     where
-      no_recipe : verdict.Home ≡ verdict.Recovered r change → ⊥
-      no_recipe e = cc
+      none : verdict.Home ≡ verdict.Recovered r change → ⊥
+      none e = cc
+
+  pub shown_recovered : (h : HomedForm) → AreRecovered h rows
+  shown_recovered h w r change among is f x g at variable = absurd (no_recipe w r change among is)
+
+  pub shown_apart : (h : HomedForm) → AreApart h rows
+  shown_apart h w r change among is f x g at variable history n rest e way own = no_recipe w r change among is
+
+  pub shown_only : (h : HomedForm) → AreOnly h rows
+  shown_only h w r change among is f x g at variable history n rest e way other holds = absurd (no_recipe w r change among is)
+
+  pub shown_least : (h : HomedForm) → AreLeast h rows
+  shown_least h w r change among is f x g at variable history n rest e way = absurd (no_recipe w r change among is)
+
+  pub shown_hidden : (h : HomedForm) → AreHidden h rows
+  shown_hidden h w among hidden homes f x g at some few variable history n rest e way r holds = subst IsHidden (shown w among) hidden
 
   pub shown_named : (log : List Logged) → AreNamed log rows
   shown_named log w among = subst (λ (v : declared-verdict.Verdict). IsNamed log w.var.0 v) (sym (shown w among)) tt

@@ -15,7 +15,7 @@ use Rattle.rv_emit.specs.Emits.{Emits}
 use Rattle.currency.specs.declared.verdict.PlaceVerdict.{PlaceVerdict}
 use Rattle.currency.specs.Evident.{AreEvident}
 use Rattle.currency.specs.Named.{AreNamed}
-use Rattle.currency.specs.Sound.{AreHome, AreRecovered}
+use Rattle.currency.specs.Sound.{AreApart, AreHidden, AreHome, AreLeast, AreOnly, AreRecovered}
 use Rattle.currency.specs.Written.{AreWritten}
 use Rattle.image_form.specs.Form.{Form}
 use Rattle.image_form.specs.Numbers.{row_numbers}
@@ -28,14 +28,19 @@ use Rattle.image_build_tables.specs.Rows.{AreNodesOf, AreRowsOf, telling_of}
 use Rattle.image_build_tables.specs.Tables.{change_record}
 use Rattle.image_build.specs.Evidence.{AreEvidentIn}
 
--- Verdicts are borne out by a unit with homes: where one says that a home shows a variable, or gives a recipe for it, that is so on all paths; the change that one names is in the log, and what
--- one says to write a home does so, and hides the variable.
+-- Verdicts are borne out by a unit with homes: where one says that a home shows a variable, or gives a recipe for it, that is so on all paths. A recipe is given only where the home does not show
+-- the variable and no other recipe holds, and beside it stands the least change that removed its assignment; a variable is hidden only where no recipe holds. The change that one names is in the
+-- log, and what one says to write a home does so, and hides the variable.
 pub record AreBorneOut (h : HomedForm) (told : List PlaceVerdict) : Type 0 where
   pub flow : FlowTable
   pub steps : flow.steps.items ≡ h.unit.steps
   pub assignments : flow.assignments.items ≡ h.unit.assignments
   pub home : AreHome h told
   pub recovered : AreRecovered h told
+  pub apart : AreApart h told
+  pub only : AreOnly h told
+  pub least : AreLeast h told
+  pub hidden : AreHidden h told
   pub named : AreNamed h.unit.log told
   pub written : AreWritten h told
   pub evident : AreEvident h.unit.log flow h told
