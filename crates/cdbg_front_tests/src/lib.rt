@@ -2,6 +2,8 @@
 #![tactic(auto)]
 
 #[cfg(test)]
+mod defined_tests;
+#[cfg(test)]
 mod flow_tests;
 #[cfg(test)]
 mod refusal_tests;
