@@ -57,19 +57,25 @@ fn status_of(rt: &HostRuntime) -> Status {
     }
 }
 
-/// Says on standard error why the session was not done.
-fn tell(rt: &HostRuntime, status: &Status) {
-    if *status == Status::Done {
-        return;
+/// Says on standard error why the session was not done, and gives the status that is said: want of memory where its text
+/// is refused memory.
+fn tell(rt: &HostRuntime, status: Status) -> Status {
+    if status == Status::Done {
+        return status;
     }
-    let _ = match fault_text(rt.alloc(), status) {
-        Ok(text) => eprintln!(rt; "{text}"),
-        Err(_) => eprintln!(rt; "cdbg: out of memory"),
-    };
+    match fault_text(rt.alloc(), &status) {
+        Ok(text) => {
+            let _ = eprintln!(rt; "{text}");
+            status
+        }
+        Err(_) => {
+            let _ = eprintln!(rt; "cdbg: out of memory");
+            Status::NoMemory
+        }
+    }
 }
 
 fn main(rt: HostRuntime) -> ExitCode {
-    let status = status_of(&rt);
-    tell(&rt, &status);
+    let status = tell(&rt, status_of(&rt));
     ExitCode::from(status.number())
 }

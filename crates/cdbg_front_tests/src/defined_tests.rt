@@ -30,147 +30,159 @@ struct Row {
     last: usize,
 }
 
-/// A run that C does not define, at its last stop.
-const fn fault(text: &'static [u8], fault: Fault, stops: u64, at: usize) -> Row {
-    Row {
-        text,
-        end: End::Undefined(fault),
-        stops,
-        bytes: 0,
-        at,
-        last: at,
-    }
-}
-
-/// A run that ends with a status, at its last stop.
-const fn sound(text: &'static [u8], status: i64, stops: u64, bytes: u64, at: usize) -> Row {
-    Row {
-        text,
-        end: End::Exit(status),
-        stops,
-        bytes,
-        at,
-        last: at,
-    }
-}
-
 static FAULTS: [Row; 18] = [
     // 6.5.5p5
-    fault(
-        b"int main(void){int n=0; return 1/n;}",
-        Fault::DivisionByZero,
-        2,
-        3,
-    ),
-    fault(
-        b"int main(void){int n=0; return 1%n;}",
-        Fault::DivisionByZero,
-        2,
-        3,
-    ),
+    Row {
+        text: b"int main(void){int n=0; return 1/n;}",
+        end: End::Undefined(Fault::DivisionByZero),
+        stops: 2,
+        bytes: 0,
+        at: 3,
+        last: 3,
+    },
+    Row {
+        text: b"int main(void){int n=0; return 1%n;}",
+        end: End::Undefined(Fault::DivisionByZero),
+        stops: 2,
+        bytes: 0,
+        at: 3,
+        last: 3,
+    },
     // 2147483648 is no `int` (6.5p5)
-    fault(
-        b"int main(void){int x=2147483647; x=x+1; return 0;}",
-        Fault::ResultTooGreat,
-        2,
-        3,
-    ),
-    fault(
-        b"int main(void){int x=-2147483647-1; return -x;}",
-        Fault::ResultTooGreat,
-        2,
-        3,
-    ),
-    fault(
-        b"int main(void){int x=-2147483647-1; return x/-1;}",
-        Fault::ResultTooGreat,
-        2,
-        3,
-    ),
+    Row {
+        text: b"int main(void){int x=2147483647; x=x+1; return 0;}",
+        end: End::Undefined(Fault::ResultTooGreat),
+        stops: 2,
+        bytes: 0,
+        at: 3,
+        last: 3,
+    },
+    Row {
+        text: b"int main(void){int x=-2147483647-1; return -x;}",
+        end: End::Undefined(Fault::ResultTooGreat),
+        stops: 2,
+        bytes: 0,
+        at: 3,
+        last: 3,
+    },
+    Row {
+        text: b"int main(void){int x=-2147483647-1; return x/-1;}",
+        end: End::Undefined(Fault::ResultTooGreat),
+        stops: 2,
+        bytes: 0,
+        at: 3,
+        last: 3,
+    },
     // 6.5.7p3 and p4
-    fault(
-        b"int main(void){int n=32; return 1<<n;}",
-        Fault::ShiftCount,
-        2,
-        3,
-    ),
-    fault(
-        b"int main(void){int n=-1; return 8>>n;}",
-        Fault::ShiftCount,
-        2,
-        3,
-    ),
-    fault(
-        b"int main(void){int n=-1; return n<<1;}",
-        Fault::NegativeShifted,
-        2,
-        3,
-    ),
-    fault(
-        b"int main(void){int n=1; return n<<31;}",
-        Fault::ShiftTooGreat,
-        2,
-        3,
-    ),
+    Row {
+        text: b"int main(void){int n=32; return 1<<n;}",
+        end: End::Undefined(Fault::ShiftCount),
+        stops: 2,
+        bytes: 0,
+        at: 3,
+        last: 3,
+    },
+    Row {
+        text: b"int main(void){int n=-1; return 8>>n;}",
+        end: End::Undefined(Fault::ShiftCount),
+        stops: 2,
+        bytes: 0,
+        at: 3,
+        last: 3,
+    },
+    Row {
+        text: b"int main(void){int n=-1; return n<<1;}",
+        end: End::Undefined(Fault::NegativeShifted),
+        stops: 2,
+        bytes: 0,
+        at: 3,
+        last: 3,
+    },
+    Row {
+        text: b"int main(void){int n=1; return n<<31;}",
+        end: End::Undefined(Fault::ShiftTooGreat),
+        stops: 2,
+        bytes: 0,
+        at: 3,
+        last: 3,
+    },
     // a variable is read before it has its value (6.3.2.1p2)
-    fault(
-        b"int main(void){int x=x+1; return x;}",
-        Fault::NoValueYet,
-        1,
-        2,
-    ),
+    Row {
+        text: b"int main(void){int x=x+1; return x;}",
+        end: End::Undefined(Fault::NoValueYet),
+        stops: 1,
+        bytes: 0,
+        at: 2,
+        last: 2,
+    },
     // 6.5.3.2p4, 6.5.6p8
-    fault(
-        b"int main(void){int *p=0; return *p;}",
-        Fault::NullPointer,
-        2,
-        3,
-    ),
-    fault(
-        b"int main(void){int a[3]={1,2,3}; int i=3; return a[i];}",
-        Fault::PastTheEnd,
-        3,
-        4,
-    ),
-    fault(
-        b"int main(void){int a[3]={1,2,3}; int i=-1; return a[i];}",
-        Fault::MovedOut,
-        3,
-        4,
-    ),
-    fault(
-        b"int main(void){int *p=0; p=p+1; return 0;}",
-        Fault::NullMoved,
-        2,
-        3,
-    ),
+    Row {
+        text: b"int main(void){int *p=0; return *p;}",
+        end: End::Undefined(Fault::NullPointer),
+        stops: 2,
+        bytes: 0,
+        at: 3,
+        last: 3,
+    },
+    Row {
+        text: b"int main(void){int a[3]={1,2,3}; int i=3; return a[i];}",
+        end: End::Undefined(Fault::PastTheEnd),
+        stops: 3,
+        bytes: 0,
+        at: 4,
+        last: 4,
+    },
+    Row {
+        text: b"int main(void){int a[3]={1,2,3}; int i=-1; return a[i];}",
+        end: End::Undefined(Fault::MovedOut),
+        stops: 3,
+        bytes: 0,
+        at: 4,
+        last: 4,
+    },
+    Row {
+        text: b"int main(void){int *p=0; p=p+1; return 0;}",
+        end: End::Undefined(Fault::NullMoved),
+        stops: 2,
+        bytes: 0,
+        at: 3,
+        last: 3,
+    },
     // the block in which y was declared has been left (6.2.4p2)
-    fault(
-        b"int main(void){int *p=0; {int y=1; p=&y;} return *p;}",
-        Fault::LifetimeOver,
-        4,
-        5,
-    ),
+    Row {
+        text: b"int main(void){int *p=0; {int y=1; p=&y;} return *p;}",
+        end: End::Undefined(Fault::LifetimeOver),
+        stops: 4,
+        bytes: 0,
+        at: 5,
+        last: 5,
+    },
     // 6.5.6p9, 6.5.8p5
-    fault(
-        b"int main(void){int a[2]; int b[2]; return &a[0]-&b[0];}",
-        Fault::DifferenceOfTwo,
-        3,
-        4,
-    ),
-    fault(
-        b"int main(void){int a[2]; int b[2]; return &a[0]<&b[0];}",
-        Fault::OrderOfTwo,
-        3,
-        4,
-    ),
+    Row {
+        text: b"int main(void){int a[2]; int b[2]; return &a[0]-&b[0];}",
+        end: End::Undefined(Fault::DifferenceOfTwo),
+        stops: 3,
+        bytes: 0,
+        at: 4,
+        last: 4,
+    },
+    Row {
+        text: b"int main(void){int a[2]; int b[2]; return &a[0]<&b[0];}",
+        end: End::Undefined(Fault::OrderOfTwo),
+        stops: 3,
+        bytes: 0,
+        at: 4,
+        last: 4,
+    },
     // 6.4.5p7
-    fault(
-        b"int main(void){char *s=\"ab\"; s[0]=99; return 0;}",
-        Fault::LiteralWritten,
-        2,
-        3,
-    ),
+    Row {
+        text: b"int main(void){char *s=\"ab\"; s[0]=99; return 0;}",
+        end: End::Undefined(Fault::LiteralWritten),
+        stops: 2,
+        bytes: 0,
+        at: 3,
+        last: 3,
+    },
 ];
 
 /// What is not defined is done behind a call, at the place of the call, which is no longer that of the last stop.
@@ -205,82 +217,112 @@ static FAULTS_BEHIND_CALLS: [Row; 3] = [
 
 static SOUND: [Row; 12] = [
     // an unsigned sum is reduced (6.2.5p9)
-    sound(
-        b"int main(void){unsigned x=4294967295u; x=x+1u; return x==0u;}",
-        1,
-        3,
-        0,
-        4,
-    ),
+    Row {
+        text: b"int main(void){unsigned x=4294967295u; x=x+1u; return x==0u;}",
+        end: End::Exit(1),
+        stops: 3,
+        bytes: 0,
+        at: 4,
+        last: 4,
+    },
     // the right operand of `&&` is not evaluated (6.5.13p4)
-    sound(b"int main(void){int n=0; return n!=0 && 1/n;}", 0, 2, 0, 3),
+    Row {
+        text: b"int main(void){int n=0; return n!=0 && 1/n;}",
+        end: End::Exit(0),
+        stops: 2,
+        bytes: 0,
+        at: 3,
+        last: 3,
+    },
     // the operand of `sizeof` is not evaluated (6.5.3.4p2)
-    sound(
-        b"int main(void){int n=0; return sizeof(1/n)==4u;}",
-        1,
-        2,
-        0,
-        3,
-    ),
+    Row {
+        text: b"int main(void){int n=0; return sizeof(1/n)==4u;}",
+        end: End::Exit(1),
+        stops: 2,
+        bytes: 0,
+        at: 3,
+        last: 3,
+    },
     // a pointer one past the end may be made and compared (6.5.6p8)
-    sound(
-        b"int main(void){int a[2]; int *p=a+2; return p==a;}",
-        0,
-        3,
-        0,
-        4,
-    ),
+    Row {
+        text: b"int main(void){int a[2]; int *p=a+2; return p==a;}",
+        end: End::Exit(0),
+        stops: 3,
+        bytes: 0,
+        at: 4,
+        last: 4,
+    },
     // pointers to different objects may be compared by `==` (6.5.9p6)
-    sound(
-        b"int main(void){int a[2]; int b[2]; return &a[0]==&b[0];}",
-        0,
-        3,
-        0,
-        4,
-    ),
+    Row {
+        text: b"int main(void){int a[2]; int b[2]; return &a[0]==&b[0];}",
+        end: End::Exit(0),
+        stops: 3,
+        bytes: 0,
+        at: 4,
+        last: 4,
+    },
     // a value that the function did not give is not used (6.9.1p12)
-    sound(
-        b"int f(int n){if(n) return 1;} int main(void){f(0); return 3;}",
-        3,
-        4,
-        0,
-        7,
-    ),
+    Row {
+        text: b"int f(int n){if(n) return 1;} int main(void){f(0); return 3;}",
+        end: End::Exit(3),
+        stops: 4,
+        bytes: 0,
+        at: 7,
+        last: 7,
+    },
     // a shift of an unsigned number is reduced (6.5.7p4)
-    sound(
-        b"int main(void){unsigned x=1u; return x<<31==2147483648u;}",
-        1,
-        2,
-        0,
-        3,
-    ),
+    Row {
+        text: b"int main(void){unsigned x=1u; return x<<31==2147483648u;}",
+        end: End::Exit(1),
+        stops: 2,
+        bytes: 0,
+        at: 3,
+        last: 3,
+    },
     // a conversion to a type of fewer numbers is not undefined (6.3.1.3)
-    sound(
-        b"int main(void){int n=257; unsigned char c=n; return c;}",
-        1,
-        3,
-        0,
-        4,
-    ),
+    Row {
+        text: b"int main(void){int n=257; unsigned char c=n; return c;}",
+        end: End::Exit(1),
+        stops: 3,
+        bytes: 0,
+        at: 4,
+        last: 4,
+    },
     // static objects begin as zero (6.7.9p10)
-    sound(b"int a[3]; int main(void){return a[2];}", 0, 1, 0, 2),
+    Row {
+        text: b"int a[3]; int main(void){return a[2];}",
+        end: End::Exit(0),
+        stops: 1,
+        bytes: 0,
+        at: 2,
+        last: 2,
+    },
     // the closing brace of `main` returns 0 (5.1.2.2.3)
-    sound(b"int main(void){}", 0, 1, 0, 2),
-    sound(
-        b"#include <stdio.h>\nint main(void){putchar(72); putchar(10); return 2;}",
-        2,
-        3,
-        2,
-        4,
-    ),
+    Row {
+        text: b"int main(void){}",
+        end: End::Exit(0),
+        stops: 1,
+        bytes: 0,
+        at: 2,
+        last: 2,
+    },
+    Row {
+        text: b"#include <stdio.h>\nint main(void){putchar(72); putchar(10); return 2;}",
+        end: End::Exit(2),
+        stops: 3,
+        bytes: 2,
+        at: 4,
+        last: 4,
+    },
     // `exit` ends the program within a call (7.22.4.4)
-    sound(
-        b"#include <stdlib.h>\nint f(void){exit(7);}\nint main(void){f(); return 1;}",
-        7,
-        2,
-        0,
-        2,
-    ),
+    Row {
+        text: b"#include <stdlib.h>\nint f(void){exit(7);}\nint main(void){f(); return 1;}",
+        end: End::Exit(7),
+        stops: 2,
+        bytes: 0,
+        at: 2,
+        last: 2,
+    },
 ];
 
 /// Whether the run of a row ends as the row says.

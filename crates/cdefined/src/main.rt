@@ -110,22 +110,26 @@ fn status_of(rt: &HostRuntime) -> Status {
     status_over(rt.alloc(), &words, &mut shelf, &mut sink)
 }
 
-/// Says on standard error why there is no answer, in the words of `cdbg` under this program's name.
-fn tell(rt: &HostRuntime, status: &Status) {
-    if *status == Status::Done {
-        return;
+/// Says on standard error why there is no answer, in the words of `cdbg` under this program's name, and gives the status
+/// that is said: want of memory where its text is refused memory.
+fn tell(rt: &HostRuntime, status: Status) -> Status {
+    if status == Status::Done {
+        return status;
     }
-    let _ = match fault_text(rt.alloc(), status) {
+    match fault_text(rt.alloc(), &status) {
         Ok(text) => {
             let cause = text.as_str().strip_prefix("cdbg").unwrap_or("");
-            eprintln!(rt; "cdefined{cause}")
+            let _ = eprintln!(rt; "cdefined{cause}");
+            status
         }
-        Err(_) => eprintln!(rt; "cdefined: out of memory"),
-    };
+        Err(_) => {
+            let _ = eprintln!(rt; "cdefined: out of memory");
+            Status::NoMemory
+        }
+    }
 }
 
 fn main(rt: HostRuntime) -> ExitCode {
-    let status = status_of(&rt);
-    tell(&rt, &status);
+    let status = tell(&rt, status_of(&rt));
     ExitCode::from(status.number())
 }
