@@ -18,8 +18,8 @@ use c_meaning::{
     of_operands, of_right_side,
 };
 use c_meaning_steps::{
-    End, Evaluated, Fault, Frame, Operands, State, Tested, given, leave, located, moved_behind,
-    moved_from, named, next_byte, put, second, tested, truth_of, usable_from,
+    End, Evaluated, Fault, Frame, Operands, Standing, State, Tested, given, leave, located,
+    moved_behind, moved_from, named, next_byte, put, second, tested, truth_of, usable_from,
 };
 use c_meaning_values::Value;
 use c_places::Place;
@@ -286,6 +286,15 @@ fn evaluate_all(
     }
 }
 
+/// Control goes on at the place of a call, unless the run ended within it.
+fn return_to(at: Standing, value: Evaluated, state: &mut State)
+    ensures { state_view state.new ≡ state_view state.old }
+{
+    if !matches!(value, Evaluated::Ends(_)) {
+        state.at = Some(at);
+    }
+}
+
 /// A call of a function of the program, or of the library.
 #[cycle(run)]
 fn call_callee(
@@ -311,7 +320,7 @@ fn call_callee(
                 values,
                 state,
             )?;
-            state.at = Some(here.standing_at(place));
+            return_to(here.standing_at(place), value, state);
             Ok(value)
         }
         Callee::Getchar => Ok(next_byte(state)),

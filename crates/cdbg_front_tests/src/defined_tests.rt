@@ -202,7 +202,7 @@ static FAULTS_BEHIND_CALLS: [Row; 3] = [
         end: End::Undefined(Fault::LifetimeOver),
         stops: 3,
         bytes: 0,
-        at: 6,
+        at: 5,
         last: 3,
     },
     Row {
@@ -210,7 +210,7 @@ static FAULTS_BEHIND_CALLS: [Row; 3] = [
         end: End::Undefined(Fault::DivisionByZero),
         stops: 2,
         bytes: 0,
-        at: 5,
+        at: 4,
         last: 2,
     },
 ];

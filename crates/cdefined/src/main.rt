@@ -1,6 +1,8 @@
 //! cdefined: says whether C defines the whole run of a program on an input.
 #![tactic(auto)]
 
+ghost use Rattle.std.specs.Prelude.{◌<◌};
+
 mod asking;
 mod telling;
 
