@@ -1,11 +1,11 @@
 -- The least route is that of the definition by places.
-use Rattle.std.proofs.Common.{◌≡◌, ℕ, zero, suc, ◌+◌, ◌<◌, ◌≤◌, ◌⊎◌, Bool, true, false, not, Option, Some, None, List, [], ◌∷◌, length, refl, sym, ap, ◌∙◌, subst, inl, inr, arith}
+use Rattle.std.proofs.Common.{◌≡◌, ◌≢◌, ℕ, zero, suc, ◌+◌, ◌*◌, ◌<◌, ◌≤◌, ◌⊎◌, Bool, true, false, not, Option, Some, None, List, [], ◌∷◌, length, refl, sym, ap, ◌∙◌, subst, inl, inr, arith}
 use Rattle.std.specs.Prelude.{◌||◌, ◌&&◌, ◌==◌, slice_get, option_map}
 use Rattle.std.specs.List.{list_any}
 use Rattle.std.specs.Option.{option_map_or}
 use Rattle.std.proofs.lemmas.Bool.{cases_eq}
 use Rattle.std.proofs.lemmas.Bool.Decides.{nat_tests}
-use Rattle.std.proofs.lemmas.Option.{none-some, same_Some}
+use Rattle.std.proofs.lemmas.Option.{none-some, same_Some, slice_get_within}
 use Rattle.places.specs.declared.flow.FlowStep.{FlowStep}
 use Rattle.places.specs.Flow.{can_go, assigns, AreInOrder}
 use Rattle.places.specs.Path.{Quest, LeadOn, IsRoute, IsLess, IsBefore, IsNotBehind, IsLeastRoute}
@@ -325,3 +325,142 @@ no_route_of quest order none_is = by_steps (fewest quest 1 most_steps) refl
     by_steps : (o : Option ℕ) → fewest quest 1 most_steps ≡ o → None ≡ route_of quest
     by_steps None e = sym (ap (λ o. option_map (λ k. quest.start ∷ least_on quest k (quest.start == quest.via) quest.start) o) e)
     by_steps (Some n) e = absurd (none_is (quest.start ∷ least_on quest n (quest.start == quest.via) quest.start) (route_least quest order most_steps n e).route)
+
+-- ---- Where a path leads to the stop, the definition has a route
+
+-- As many steps lead from here to the stop, and no fewer.
+record IsFewest (quest : Quest) (n : ℕ) (passed : Bool) (p : ℕ) : Type 0 where
+  pub goes : goes_in quest n passed p ≡ true
+  pub fewest : (j : ℕ) → 1 ≤ j → goes_in quest j passed p ≡ true → n ≤ j
+
+-- A step of the flow leads to a place from which that is so.
+record Comes (quest : Quest) (n : ℕ) : Type 0 where
+  pub passed : Bool
+  pub place : ℕ
+  pub index : ℕ
+  pub step : FlowStep
+  pub is : slice_get quest.steps index ≡ Some step
+  pub to : step.to.0 ≡ place
+  pub few : IsFewest quest n passed place
+
+comes_next : (quest : Quest) (k : ℕ) (passed : Bool) (p : ℕ) → IsFewest quest (suc (suc k)) passed p → Comes quest (suc k)
+comes_next quest k passed p few =
+    let f = first_any (next_test quest k passed) (after quest.steps p) few.goes in
+    let c = comes_by quest.steps p f.first f.there in
+    let free = test_free (assigns quest.assignments f.first quest.var) _ f.passes in
+    record {
+      passed = passed || f.first == quest.via;
+      place = f.first;
+      index = c.index;
+      step = c.step;
+      is = c.is;
+      to = c.to;
+      few = record { goes = test_goes (assigns quest.assignments f.first quest.var) _ f.passes; fewest = no_fewer f free };
+    }
+  where
+    no_fewer : (f : FirstOf (next_test quest k passed) (after quest.steps p)) → assigns quest.assignments f.first quest.var ≡ false → (j : ℕ) → 1 ≤ j → goes_in quest j (passed || f.first == quest.via) f.first ≡ true → suc k ≤ j
+    no_fewer f free zero some goes = absurd (omega arith)
+    no_fewer f free (suc j) some goes =
+        let all = few.fewest (suc (suc j)) (omega arith) (any_among (next_test quest j passed) f.first (after quest.steps p) f.there (test_holds (assigns quest.assignments f.first quest.var) _ free goes)) in
+        omega (arith, all)
+
+comes_at : (quest : Quest) (m : ℕ) (passed : Bool) (p : ℕ) → IsFewest quest (suc m) passed p → (k : ℕ) → k < m → Comes quest (suc k)
+comes_at quest zero passed p few k lt = absurd (omega arith)
+comes_at quest (suc m) passed p few k lt = by (comes_next quest m passed p few) (comes_at quest m)
+  where
+    by : Comes quest (suc m) → ((c : Bool) (q : ℕ) → IsFewest quest (suc m) c q → (i : ℕ) → i < m → Comes quest (suc i)) → Comes quest (suc k)
+    by c below = elim (cases_eq k m) [
+      | inl same ↦ subst (λ n. Comes quest (suc n)) (sym same) c
+      | inr other ↦ below c.passed c.place c.few k (omega arith)
+    ]
+
+-- what stands for a number, where the greatest stands in the place of one that is gone
+abbrev InPlace : (ℕ → ℕ → Type 0) → (greatest gone k v : ℕ) → Type 0
+InPlace At greatest gone k v = (v ≡ gone → At k greatest) × (v ≢ gone → At k v)
+
+in_place : (At : ℕ → ℕ → Type 0) (n m gone k v : ℕ) → ((i j w : ℕ) → At i w → At j w → i ≡ j) → At n gone → gone < suc m → k < n → v < suc m → At k v → (w : ℕ) × (w < m) × InPlace At m gone k w
+in_place At n m gone k v one last low lt within at = elim (cases_eq v m) [
+  | inl same ↦
+      let apart : gone ≢ m = λ e. not_both (one n k v (subst (At n) (e ∙ sym same) last) at) in
+      (gone, omega (arith, apart), (λ e. subst (At k) same at, λ ne. absurd (ne refl)))
+  | inr other ↦ (v, omega arith, (λ e. absurd (not_both (one n k v (subst (At n) (sym e) last) at)), λ ne. at))
+]
+  where
+    not_both : n ≡ k → ⊥
+    not_both e = omega arith
+
+-- Numbers that are told apart by so many are no more than these.
+pigeonhole : (n m : ℕ) (At : ℕ → ℕ → Type 0) → ((k : ℕ) → k < n → (v : ℕ) × (v < m) × At k v) → ((j k v : ℕ) → At j v → At k v → j ≡ k) → n ≤ m
+pigeonhole zero m At each one = omega arith
+pigeonhole (suc n) zero At each one = let none = (each n (omega arith)).1 in absurd (omega (arith, none))
+pigeonhole (suc n) (suc m) At each one = by (each n (omega arith)) (pigeonhole n m)
+  where
+    by : (last : (v : ℕ) × (v < suc m) × At n v) → ((Other : ℕ → ℕ → Type 0) → ((k : ℕ) → k < n → (v : ℕ) × (v < m) × Other k v) → ((j k v : ℕ) → Other j v → Other k v → j ≡ k) → n ≤ m) → suc n ≤ suc m
+    by last rest =
+        let fewer = rest (λ k v. InPlace At m last.0 k v)
+        (λ k lt. (let at = each k (omega arith) in in_place At n m last.0 k at.0 one last.2 last.1 lt at.1 at.2))
+        (λ j k v a b. elim (cases_eq v last.0) [ inl same ↦ one j k m (a.0 same) (b.0 same) | inr other ↦ one j k v (a.1 other) (b.1 other) ]) in
+        omega (arith, fewer)
+
+abbrev mark : Bool → ℕ
+mark true = 1
+mark false = 0
+
+mark_low : (b : Bool) → mark b ≤ 1
+mark_low true = omega arith
+mark_low false = omega arith
+
+same_mark : (a b : Bool) (i j : ℕ) → 2 * i + mark a ≡ 2 * j + mark b → (i ≡ j) × (a ≡ b)
+same_mark true true i j e = (omega arith, refl)
+same_mark false false i j e = (omega arith, refl)
+same_mark true false i j e = absurd (omega arith)
+same_mark false true i j e = absurd (omega arith)
+
+-- a step with a mark, from whose place so many steps lead to the stop
+abbrev ComesAs : Quest → (k v : ℕ) → Type 0
+ComesAs quest k v = (c : Comes quest (suc k)) × (v ≡ 2 * c.index + mark c.passed)
+
+one_level : (quest : Quest) (j k v : ℕ) → ComesAs quest j v → ComesAs quest k v → j ≡ k
+one_level quest j k v (a, at) (b, too) =
+    let both = same_mark a.passed b.passed a.index b.index (sym at ∙ too) in
+    let step : a.step ≡ b.step = same_Some a.step b.step (sym a.is ∙ ap (slice_get quest.steps) both.0 ∙ b.is) in
+    let place : a.place ≡ b.place = sym a.to ∙ ap (λ (s : FlowStep). s.to.0) step ∙ b.to in
+    let low : suc j ≤ suc k = a.few.fewest (suc k) (omega arith) (subst (λ c. goes_in quest (suc k) c a.place ≡ true) (sym both.1) (subst (λ q. goes_in quest (suc k) b.passed q ≡ true) (sym place) b.few.goes)) in
+    let high : suc k ≤ suc j = b.few.fewest (suc j) (omega arith) (subst (λ c. goes_in quest (suc j) c b.place ≡ true) both.1 (subst (λ q. goes_in quest (suc j) a.passed q ≡ true) place a.few.goes)) in
+    omega (arith, low, high)
+
+-- No more steps are needed than there are steps of the flow, each with one of two marks.
+few_steps : (quest : Quest) (m : ℕ) (passed : Bool) (p : ℕ) → IsFewest quest (suc m) passed p → m ≤ 2 * length quest.steps
+few_steps quest m passed p few =
+    pigeonhole m (2 * length quest.steps) (λ k v. ComesAs quest k v) (λ k lt. by (comes_at quest m passed p few k lt)) (one_level quest)
+  where
+    by : {k : ℕ} (c : Comes quest (suc k)) → (v : ℕ) × (v < 2 * length quest.steps) × ComesAs quest k v
+    by c =
+        let low = slice_get_within quest.steps c.index c.step c.is in
+        let one = mark_low c.passed in
+        (2 * c.index + mark c.passed, omega (arith, low, one), (c, refl))
+
+none_goes : (quest : Quest) (passed : Bool) (p : ℕ) → goes_in quest zero passed p ≡ true → ⊥
+none_goes quest passed p e = cc
+
+-- Where a path leads to the stop, the definition has a route, which is the least.
+pub route_there : (quest : Quest) (path : List ℕ) → AreInOrder quest.steps → length quest.steps < 4294967296 → IsRoute quest path → (least : List ℕ) × (route_of quest ≡ Some least) × IsLeastRoute quest least
+unfolding most_steps
+route_there quest path order few route = by_steps (fewest quest 1 (length route.rest)) refl
+  where
+    by_most : (n : ℕ) → (goes_in quest n (quest.start == quest.via) quest.start ≡ true) × ((j : ℕ) → 1 ≤ j → goes_in quest j (quest.start == quest.via) quest.start ≡ true → n ≤ j) → (o : Option ℕ) → fewest quest 1 most_steps ≡ o
+        → (least : List ℕ) × (route_of quest ≡ Some least) × IsLeastRoute quest least
+    by_most n found (Some m) e = (
+      quest.start ∷ least_on quest m (quest.start == quest.via) quest.start,
+      ap (λ o. option_map (λ k. quest.start ∷ least_on quest k (quest.start == quest.via) quest.start) o) e,
+      route_least quest order most_steps m e,
+    )
+    by_most zero found None e = absurd (none_goes quest (quest.start == quest.via) quest.start found.0)
+    by_most (suc m) found None e =
+        let low = few_steps quest m (quest.start == quest.via) quest.start (record { goes = found.0; fewest = found.1 }) in
+        absurd (fewest_none quest 1 most_steps e (suc m) (omega arith) (omega (arith, low)) found.0)
+
+    by_steps : (o : Option ℕ) → fewest quest 1 (length route.rest) ≡ o → (least : List ℕ) × (route_of quest ≡ Some least) × IsLeastRoute quest least
+    by_steps None e =
+        absurd (fewest_none quest 1 (length route.rest) e (length route.rest) (some_leads quest (quest.start == quest.via) quest.start route.rest route.leads) (omega arith) (goes_leads quest (quest.start == quest.via) quest.start route.rest route.leads))
+    by_steps (Some n) e = by_most n (fewest_goes quest 1 (length route.rest) n e) (fewest quest 1 most_steps) refl
