@@ -91,8 +91,8 @@ module _ (calls : ℕ → Calls) (here : Activation) where
   initialise_elements spot n index (e ∷ all) s =
       on_value (value_at spot e s) (λ v t. initialise_elements spot n (index + 1) all (record t { memory = set_value t.memory n index v }))
 
-  -- What a declarator comes to (6.7.9): a scalar must not be read before its own initializer has given it its value; an array is zero, and then its elements come
-  -- in order.
+  -- What a declarator comes to (6.7.9): a scalar must not be read in its own initializer before something was stored in it; an array is zero, and then its elements
+  -- come in order.
   abbrev pub declare_with : Spot → ℕ → InitialTree → State → Outcome
   declare_with spot x Zero s = Next (made here Live x s)
   declare_with spot x (Scalar e) s =

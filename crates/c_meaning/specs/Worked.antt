@@ -1,5 +1,5 @@
 -- The runs of small programs.
-use Rattle.std.specs.Prelude.{◌≡◌, ℕ, ◌+◌, pos, false, List, [], ◌∷◌, Some, None, codes}
+use Rattle.std.specs.Prelude.{◌≡◌, ℕ, ◌+◌, pos, true, false, List, [], ◌∷◌, Some, None, codes}
 use Rattle.debug_records.specs.declared.source.Spot.{Spot}
 use Rattle.c_tree.specs.declared.types.IntegerType.TheVariants.{Int}
 use Rattle.c_tree.specs.declared.object_type.Scalar.{Scalar}
@@ -8,8 +8,8 @@ use Rattle.c_tree.specs.declared.object_type.ValueType.TheVariants as result
 use Rattle.c_tree.specs.declared.object_type.Object.TheVariants.{Automatic}
 use Rattle.c_tree.specs.declared.typed_expression.Arithmetic.TheVariants.{Add}
 use Rattle.c_tree.specs.declared.typed_expression.Comparison.TheVariants.{Less}
-use Rattle.c_tree.specs.declared.typed_expression.Callee.TheVariants.{Putchar}
-use Rattle.c_tree.specs.TypedExpressions.{RvalueTree, LvalueTree, Constant, Load, AddressOf, Arithmetic, Compare, Assign, Call, Named, Target}
+use Rattle.c_tree.specs.declared.typed_expression.Callee.TheVariants.{Function, Putchar}
+use Rattle.c_tree.specs.TypedExpressions.{RvalueTree, LvalueTree, Constant, Load, AddressOf, Arithmetic, Compare, Comma, Assign, Call, Named, Target}
 use Rattle.c_tree.specs.TypedExpressions as expression
 use Rattle.c_tree.specs.TypedStatements.{TypedStatementTree, TypedStatementTrees, Block, Declaration, Empty, Run, IfElse, For, Switch, Break, Continue, Return, none, first, case, default, Nothing, Declares}
 use Rattle.c_tree.specs.TypedStatements as statement
@@ -153,6 +153,55 @@ goes_on =
     (Some (Compare Less Int (value_of 0) (number 2))) (Some (record { spot = spot 33; value = Assign int (the 0) (Arithmetic Add Int (value_of 0) (number 1)) }))
     (Continue (spot 40)) ∷ Return (spot 50) (Some (number 0)) ∷ []))
 
+-- the `int` to which the variable 0 points
+abbrev pub target_of_p : LvalueTree
+target_of_p = Target (type.Scalar int) (Load pointer_to_int (Named (Automatic 0) (type.Scalar pointer_to_int)))
+
+-- int set(int *p){*p=5; return *p+1;}
+-- int main(void){int x=set(&x); int y=(y=3,y+4); return x+y;}
+abbrev pub stores_first : ProgramTree
+stores_first = record {
+  functions =
+      record {
+        name = codes "set";
+        spot = spot 4;
+        result = result.Integer Int;
+        first_variable = 0;
+        parameters = 1;
+        variables = 1;
+        body = sequence (Run (spot 16) (Assign int target_of_p (number 5)) ∷ Return (spot 22) (Some (Arithmetic Add Int (Load int target_of_p) (number 1))) ∷ []);
+        close = spot 34;
+        weight = 0;
+      }
+      ∷ record {
+        name = codes "main";
+        spot = spot 40;
+        result = result.Integer Int;
+        first_variable = 1;
+        parameters = 0;
+        variables = 2;
+        body =
+            sequence (
+            declares 1 55 (Call (Function 0) (expression.first (AddressOf (the 1)) expression.none))
+            ∷ declares 2 70 (Comma (Assign int (the 2) (number 3)) (Arithmetic Add Int (value_of 2) (number 4)))
+            ∷ Return (spot 83) (Some (Arithmetic Add Int (value_of 1) (value_of 2))) ∷ []);
+        close = spot 94;
+        weight = 0;
+      }
+      ∷ [];
+  main = 1;
+  statics = [];
+  automatics = variable 112 13 pointer_to_int ∷ record (variable 120 55 int) { in_memory = true } ∷ variable 121 70 int ∷ [];
+  literals = [];
+  array_literals = [];
+  weight = 0;
+}
+
+-- int main(void){int x = x + 1; return x;}
+abbrev pub reads_first : ProgramTree
+reads_first =
+    only_main 4 39 (variable 120 19 int ∷ []) (sequence (declares 0 19 (Arithmetic Add Int (value_of 0) (number 1)) ∷ Return (spot 30) (Some (value_of 0)) ∷ []))
+
 -- the numbers of the places at which a run stops
 abbrev pub places_in : List Event → List ℕ
 places_in [] = []
@@ -189,5 +238,9 @@ pub record AreWorked : Type 0 where
   pub overflows_runs : Runs (source_run overflows [] 100) (2 ∷ 3 ∷ []) [] Undefined
   -- the object to which p points has ended
   pub points_back_runs : Runs (source_run points_back [] 100) (2 ∷ 3 ∷ 4 ∷ 5 ∷ []) [] Undefined
+  -- x and y are read in their own initializers behind a store, through a pointer and by name
+  pub stores_first_runs : Runs (source_run stores_first [] 100) (5 ∷ 2 ∷ 3 ∷ 6 ∷ 7 ∷ []) [] (Exit (pos 13))
+  -- and x before any
+  pub reads_first_runs : Runs (source_run reads_first [] 100) (2 ∷ []) [] Undefined
   -- `continue` goes to the step
   pub goes_on_runs : Runs (source_run goes_on [] 100) (2 ∷ 3 ∷ 5 ∷ 4 ∷ 3 ∷ 5 ∷ 4 ∷ 3 ∷ 6 ∷ []) [] (Exit (pos 0))

@@ -162,11 +162,12 @@ impl<'a> Activation<'a> {
         if state.turns == 0 {
             return Ok(false);
         }
-        let made = self.stop_for(alloc, spot.at, &state.memory, &state.seen)?;
+        let memory = &state.memory;
+        let made = self.stop_for(alloc, spot.at, &memory.all, &state.seen)?;
         let beginning = Beginning {
             here: &*self,
             at: spot.at,
-            memory: state.memory.as_slice(),
+            memory: memory.all.as_slice(),
         };
         let log = with_stop(&state.seen.log, &beginning);
         let standing = self.standing(spot.at);

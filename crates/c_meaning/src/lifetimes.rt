@@ -11,7 +11,7 @@ ghost use Rattle.c_meaning.specs.Calls.{forgotten};
 
 use crate::activation::Activation;
 use c_meaning_steps::{Evaluated, Outcome, State};
-use c_meaning_values::{Object, Owner, Phase, Value, begin, element_of, end_from, set_value};
+use c_meaning_values::{Object, Objects, Owner, Phase, Value, element_of};
 use c_tree::{AutomaticVariable, IntegerType, Program, StringLiteral};
 use c_type_rules::wrapped;
 use std::alloc::{AllocError, Global};
@@ -55,7 +55,7 @@ pub fn make(
 pub fn end_objects(first: usize, state: &mut State)
     ensures { state_view state.new ≡ ending_from first (state_view state.old) }
 {
-    end_from(&mut state.memory, first);
+    state.memory.end_from(first);
 }
 
 /// A block is left.
@@ -84,15 +84,15 @@ pub fn forget(first: usize, value: Evaluated, state: &mut State)
 pub fn initialise(object: usize, value: Value, state: &mut State)
     ensures { state_view state.new ≡ record (state_view state.old) { memory = begun (set_value (state_view state.old).memory object 0 value) object } }
 {
-    set_value(&mut state.memory, object, 0, value);
-    begin(&mut state.memory, object);
+    state.memory.set_value(object, 0, value);
+    state.memory.begin(object);
 }
 
 /// An element gets its first value.
 pub fn store_element(object: usize, index: usize, value: Value, state: &mut State)
     ensures { state_view state.new ≡ record (state_view state.old) { memory = set_value (state_view state.old).memory object index value } }
 {
-    set_value(&mut state.memory, object, index, value);
+    state.memory.set_value(object, index, value);
 }
 
 /// The integer type of a variable's elements; `char` where the program has no such variable.
@@ -116,12 +116,11 @@ fn literal_bytes(literals: &[StringLiteral], of: IntegerType, number: u32) -> &[
 }
 
 /// Elements of a type get the values of bytes, from the first on.
-fn set_bytes(object: usize, of: IntegerType, bytes: &[u8], memory: &mut Vec<Object>)
-    ensures { map object_view memory.new.items ≡ set_values (map object_view memory.old.items) object 0 (map (element_value of) bytes.now) }
+fn set_bytes(object: usize, of: IntegerType, bytes: &[u8], memory: &mut Objects)
+    ensures { map object_view memory.new.all.items ≡ set_values (map object_view memory.old.all.items) object 0 (map (element_value of) bytes.now) }
 {
     for index in 0..bytes.len() {
-        set_value(
-            memory,
+        memory.set_value(
             object,
             index,
             Value::Number(wrapped(of, i128::from(bytes[index]))),

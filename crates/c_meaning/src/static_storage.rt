@@ -8,7 +8,7 @@ ghost use Rattle.c_meaning_values.specs.Types.{count_of, element_of, integer_siz
 ghost use Rattle.c_meaning_values.specs.Views.{object_view};
 ghost use Rattle.c_meaning.specs.StaticStorage.{address_at, first_memory, first_value, first_values, literal_object, literal_objects, spelled, static_number, static_object, static_objects};
 
-use c_meaning_values::{Object, Owner, Phase, Value, count_of, element_of, scalar_size};
+use c_meaning_values::{Object, Objects, Owner, Phase, Value, count_of, element_of, scalar_size};
 use c_tree::{IntegerType, Program, Relocation, Scalar, StaticVariable, StringLiteral};
 use c_type_rules::number_of;
 use std::alloc::{AllocError, Global};
@@ -151,8 +151,8 @@ fn literal_object(
 }
 
 /// The static objects come first.
-fn add_statics(alloc: Global, program: &Program, memory: &mut Vec<Object>) -> Result<(), AllocError>
-    ensures { OnOk result (map object_view memory.new.items ≡ map object_view memory.old.items ++ static_objects (program_view program.now) 0 (map static_view program.now.statics.items)) }
+fn add_statics(alloc: Global, program: &Program, memory: &mut Objects) -> Result<(), AllocError>
+    ensures { OnOk result (map object_view memory.new.all.items ≡ map object_view memory.old.all.items ++ static_objects (program_view program.now) 0 (map static_view program.now.statics.items)) }
 {
     for (number, variable) in program.statics.iter().enumerate() {
         memory.push(static_object(alloc, program, number, variable)?)?;
@@ -164,9 +164,9 @@ fn add_statics(alloc: Global, program: &Program, memory: &mut Vec<Object>) -> Re
 fn add_literals(
     alloc: Global,
     literals: &[StringLiteral],
-    memory: &mut Vec<Object>,
+    memory: &mut Objects,
 ) -> Result<(), AllocError>
-    ensures { OnOk result (map object_view memory.new.items ≡ map object_view memory.old.items ++ literal_objects 0 (map literal_view literals.now)) }
+    ensures { OnOk result (map object_view memory.new.all.items ≡ map object_view memory.old.all.items ++ literal_objects 0 (map literal_view literals.now)) }
 {
     for (number, literal) in literals.iter().enumerate() {
         memory.push(literal_object(alloc, number, literal)?)?;
@@ -175,10 +175,10 @@ fn add_literals(
 }
 
 /// The objects with which a run begins.
-pub fn first_memory(alloc: Global, program: &Program) -> Result<Vec<Object>, AllocError>
-    ensures { IfOk result (λ v. map object_view v.items ≡ first_memory (program_view program.now)) }
+pub fn first_memory(alloc: Global, program: &Program) -> Result<Objects, AllocError>
+    ensures { IfOk result (λ m. map object_view m.all.items ≡ first_memory (program_view program.now)) }
 {
-    let mut memory = Vec::new(alloc);
+    let mut memory = Objects::new(alloc);
     add_statics(alloc, program, &mut memory)?;
     add_literals(alloc, &program.literals, &mut memory)?;
     Ok(memory)

@@ -380,7 +380,7 @@ fn activate(
             if !enter(state) {
                 return Ok(Evaluated::Ends(End::Turns));
             }
-            let first = state.memory.len();
+            let first = state.memory.all.len();
             bind(alloc, here, function, values, state)?;
             let outcome = done!(execute_statements(alloc, here, &function.body, state));
             let closed = done!(at_close(alloc, here, function.close, outcome, state));

@@ -167,7 +167,7 @@ fn declare(
     if !done!(here.begin(alloc, d.spot, state)) {
         return Ok(Outcome::Ended(End::Turns));
     }
-    let object = state.memory.len();
+    let object = state.memory.all.len();
     match &d.initial {
         Initial::Zero => {
             make(alloc, here, Phase::Live, d.variable as usize, state)?;
@@ -246,7 +246,7 @@ fn execute(
 {
     match statement {
         TypedStatement::Block(all) => {
-            let first = state.memory.len();
+            let first = state.memory.all.len();
             let outcome = done!(execute_all(alloc, here, all, state));
             close(first, outcome, state);
             Ok(outcome)
@@ -295,7 +295,7 @@ fn execute(
         TypedStatement::While { .. } => execute_loop(alloc, here, statement, state),
         TypedStatement::DoWhile { .. } => execute_loop(alloc, here, statement, state),
         TypedStatement::For { start, .. } => {
-            let first = state.memory.len();
+            let first = state.memory.all.len();
             let outcome = match done!(begin_loop(alloc, here, start, state)) {
                 Outcome::Next => execute_loop(alloc, here, statement, state)?,
                 outcome => outcome,

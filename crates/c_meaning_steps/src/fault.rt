@@ -19,7 +19,7 @@ pub enum Fault {
     NegativeShifted,
     /// A number was shifted left beyond its type (6.5.7p4).
     ShiftTooGreat,
-    /// A variable was read while its own initializer was evaluated (6.2.4p6, 6.3.2.1p2).
+    /// A variable was read in its own initializer before anything was stored in it (6.2.4p6, 6.3.2.1p2).
     NoValueYet,
     /// The null pointer was used to reach an object (6.5.3.2p4).
     NullPointer,

@@ -181,8 +181,8 @@ pub fn pointer_comparison_from(operator: Comparison, operands: Operands, state: 
 {
     match operands {
         Operands::Pair(left, right) => {
-            let value = pointer_comparison(&state.memory, operator, left, right);
-            Evaluated::Gives(known!(value, order_fault(&state.memory, left, right)))
+            let value = pointer_comparison(&state.memory.all, operator, left, right);
+            Evaluated::Gives(known!(value, order_fault(&state.memory.all, left, right)))
         }
         Operands::NoPair(ending) => Evaluated::Ends(ending),
     }
@@ -199,8 +199,8 @@ pub fn moved_from(
 {
     match operands {
         Operands::Pair(pointer, by) => {
-            let value = moved_by(&state.memory, direction, element, pointer, by);
-            Evaluated::Gives(known!(value, move_fault(&state.memory, pointer)))
+            let value = moved_by(&state.memory.all, direction, element, pointer, by);
+            Evaluated::Gives(known!(value, move_fault(&state.memory.all, pointer)))
         }
         Operands::NoPair(ending) => Evaluated::Ends(ending),
     }
@@ -212,8 +212,8 @@ pub fn moved_behind(element: ObjectType, operands: Operands, state: &State) -> E
 {
     match operands {
         Operands::Pair(by, pointer) => {
-            let value = moved_by(&state.memory, Direction::Up, element, pointer, by);
-            Evaluated::Gives(known!(value, move_fault(&state.memory, pointer)))
+            let value = moved_by(&state.memory.all, Direction::Up, element, pointer, by);
+            Evaluated::Gives(known!(value, move_fault(&state.memory.all, pointer)))
         }
         Operands::NoPair(ending) => Evaluated::Ends(ending),
     }
@@ -225,8 +225,8 @@ pub fn difference_from(element: ObjectType, operands: Operands, state: &State) -
 {
     match operands {
         Operands::Pair(left, right) => {
-            let value = pointer_difference(&state.memory, element, left, right);
-            Evaluated::Gives(known!(value, difference_fault(&state.memory, left, right)))
+            let value = pointer_difference(&state.memory.all, element, left, right);
+            Evaluated::Gives(known!(value, difference_fault(&state.memory.all, left, right)))
         }
         Operands::NoPair(ending) => Evaluated::Ends(ending),
     }
@@ -304,8 +304,8 @@ pub fn update_pointer(
 {
     match by {
         Evaluated::Gives(value) => {
-            let new = moved_by(&state.memory, direction, element, old, value);
-            let new = known!(new, move_fault(&state.memory, old));
+            let new = moved_by(&state.memory.all, direction, element, old, value);
+            let new = known!(new, move_fault(&state.memory.all, old));
             store(pointer, new, state)
         }
         Evaluated::Leaves => Evaluated::Ends(NO_VALUE),
@@ -351,8 +351,8 @@ pub fn step_pointer(
 {
     match operands {
         Operands::Pair(pointer, old) => {
-            let new = moved_by(&state.memory, direction, element, old, Value::Number(1));
-            let new = known!(new, move_fault(&state.memory, old));
+            let new = moved_by(&state.memory.all, direction, element, old, Value::Number(1));
+            let new = known!(new, move_fault(&state.memory.all, old));
             replaced(which, pointer, old, new, state)
         }
         Operands::NoPair(ending) => Evaluated::Ends(ending),

@@ -3,12 +3,12 @@
 use crate::event::Standing;
 use crate::fault::Fault;
 use crate::seen::Seen;
-use c_meaning_values::{Object, Value};
+use c_meaning_values::{Objects, Value};
 
 /// What a run has.
 #[derive(Drop)]
 pub struct State<'a> {
-    pub memory: Vec<Object>,
+    pub memory: Objects,
     /// The input that is left.
     pub input: &'a [u8],
     /// What was seen so far.

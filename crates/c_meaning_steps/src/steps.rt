@@ -10,7 +10,7 @@ ghost use Rattle.c_meaning_steps.specs.Steps.{decayed, leave, load, named, next_
 
 use crate::fault::{Fault, read_fault, write_fault};
 use crate::state::{End, Evaluated, State};
-use c_meaning_values::{Object, Owner, Value, address_of, is_usable, read, write};
+use c_meaning_values::{Objects, Owner, Value, is_usable, read};
 use c_tree::{Given, IntegerType};
 use c_type_rules::wrapped;
 use std::alloc::AllocError;
@@ -29,7 +29,7 @@ pub fn given(value: Option<Value>, fault: Fault) -> Evaluated
 pub fn usable(value: Value, state: &State) -> Evaluated
     ensures { evaluated_view result (state_view state.now) ≡ usable value (state_view state.now) }
 {
-    if is_usable(&state.memory, value) {
+    if is_usable(&state.memory.all, value) {
         Evaluated::Gives(value)
     } else {
         Evaluated::Ends(End::Undefined(Fault::LifetimeOver))
@@ -40,8 +40,8 @@ pub fn usable(value: Value, state: &State) -> Evaluated
 pub fn load(pointer: Value, state: &State) -> Evaluated
     ensures { evaluated_view result (state_view state.now) ≡ load pointer (state_view state.now) }
 {
-    match read(&state.memory, pointer) {
-        None => Evaluated::Ends(End::Undefined(read_fault(&state.memory, pointer))),
+    match read(&state.memory.all, pointer) {
+        None => Evaluated::Ends(End::Undefined(read_fault(&state.memory.all, pointer))),
         Some(value) => usable(value, state),
     }
 }
@@ -50,16 +50,16 @@ pub fn load(pointer: Value, state: &State) -> Evaluated
 pub fn store(pointer: Value, value: Value, state: &mut State) -> Evaluated
     ensures { evaluated_view result (state_view state.new) ≡ store pointer value (state_view state.old) }
 {
-    if write(&mut state.memory, pointer, value) {
+    if state.memory.write(pointer, value) {
         Evaluated::Gives(value)
     } else {
-        Evaluated::Ends(End::Undefined(write_fault(&state.memory, pointer)))
+        Evaluated::Ends(End::Undefined(write_fault(&state.memory.all, pointer)))
     }
 }
 
 /// A pointer to the beginning of an object that a name designates.
-pub fn named(depth: usize, object: c_tree::Object, memory: &[Object]) -> Option<Value>
-    ensures { result ≡ named depth object (map object_view memory.now) }
+pub fn named(depth: usize, object: c_tree::Object, memory: &Objects) -> Option<Value>
+    ensures { result ≡ named depth object (map object_view memory.now.all.items) }
 {
     let owner = match object {
         c_tree::Object::Static(number) => Owner::Static(number as usize),
@@ -69,15 +69,15 @@ pub fn named(depth: usize, object: c_tree::Object, memory: &[Object]) -> Option<
             depth,
         },
     };
-    address_of(owner, memory)
+    memory.address_of(owner)
 }
 
 /// An array that is used.
 pub fn decayed(pointer: Value, state: &State) -> Evaluated
     ensures { evaluated_view result (state_view state.now) ≡ decayed pointer (state_view state.now) }
 {
-    match read(&state.memory, pointer) {
-        None => Evaluated::Ends(End::Undefined(read_fault(&state.memory, pointer))),
+    match read(&state.memory.all, pointer) {
+        None => Evaluated::Ends(End::Undefined(read_fault(&state.memory.all, pointer))),
         Some(_) => Evaluated::Gives(pointer),
     }
 }

@@ -70,8 +70,8 @@ is_usable memory (Pointer n offset) = option_map_or (λ o. not (is_over o.phase)
 abbrev pub value_in : Object → ℕ → Option Value
 value_in o offset = if is_begun o.phase then slice_get o.values (index_at o offset) else None
 
--- What an object holds where a pointer points: not by null, not one past the object's end, not in an object that is being initialised or has ended
--- (6.5.3.2p4, 6.5.6p8, 6.3.2.1p2).
+-- What an object holds where a pointer points: not by null, not one past the object's end, not in an object that has ended, nor in one that is being initialised and that
+-- nothing was stored in yet (6.5.3.2p4, 6.5.6p8, 6.3.2.1p2).
 abbrev pub read : Memory → Value → Option Value
 read memory (Number z) = None
 read memory Null = None
@@ -90,11 +90,21 @@ with_value o index v = record o { values = slice_set o.values index v }
 abbrev pub set_value : Memory → ℕ → (index : ℕ) → Value → Memory
 set_value memory n index v = option_map_or (λ o. slice_set memory n (with_value o index v)) (slice_get memory n) memory
 
+-- an object's phase is another
+abbrev pub in_phase : Phase → Object → Object
+in_phase phase o = record o { phase = phase }
+
+-- the object with this number can be read and written from now on
+abbrev pub begun : Memory → ℕ → Memory
+begun memory n = option_map_or (λ o. slice_set memory n (in_phase Live o)) (slice_get memory n) memory
+
 abbrev pub is_writable : Object → ℕ → Bool
 is_writable o offset = not (is_over o.phase) && not (is_literal o.owner) && not (nat_le (length o.values) (index_at o offset))
 
+-- A write changes a value of an object that may be written, and makes the object live: a read of a variable in its own initializer is undefined only where nothing was
+-- assigned to it before, by its name or through a pointer (6.3.2.1p2, 6.7.9p8).
 abbrev pub written_in : Memory → ℕ → ℕ → Value → Object → Option Memory
-written_in memory n offset v o = if is_writable o offset then Some (set_value memory n (index_at o offset) v) else None
+written_in memory n offset v o = if is_writable o offset then Some (begun (set_value memory n (index_at o offset) v) n) else None
 
 -- The memory behind a write where a pointer points: not by null, not one past the object's end, not to an object that has ended, not to a string literal.
 abbrev pub write : Memory → Value → Value → Option Memory
@@ -118,14 +128,6 @@ abbrev pub moved : Memory → Value → ℤ → Option Value
 moved memory (Number z) by = None
 moved memory Null by = None
 moved memory (Pointer n offset) by = option_and_then (moved_in n (pos offset +ℤ by)) (slice_get memory n)
-
--- an object's phase is another
-abbrev pub in_phase : Phase → Object → Object
-in_phase phase o = record o { phase = phase }
-
--- the object with this number can be read and written from now on
-abbrev pub begun : Memory → ℕ → Memory
-begun memory n = option_map_or (λ o. slice_set memory n (in_phase Live o)) (slice_get memory n) memory
 
 -- all objects that began when there were so many end
 abbrev pub ended_from : ℕ → Memory → Memory

@@ -1,9 +1,11 @@
 //! Memory: all objects of a run (ISO/IEC 9899:2011, 6.2.4).
 
-ghost use Rattle.std.specs.Prelude.{pos, ◌+ℤ◌, ◌≡◌, ◌<◌, ◌*◌, ◌++◌, ◌∷◌, [], map, length, Some, None, IfOk, OnOk, OnErr, true, false, option_map, option_and_then, slice_get, MatchOption};
+ghost use Rattle.std.specs.Prelude.{pos, ◌+ℤ◌, ◌-◌, ◌≡◌, ◌<◌, ◌*◌, ◌++◌, ◌∷◌, [], map, take, length, Some, None, IfOk, OnOk, OnErr, true, false, if◌then◌else◌, option_map, option_and_then, slice_get, MatchOption};
 ghost use Rattle.word_base.specs.Owners.{is_same_owner};
 ghost use Rattle.c_meaning_values.specs.Views.{owner_view, object_view};
-ghost use Rattle.c_meaning_values.specs.Memory.{is_over, is_begun, new_object, bytes_of, index_at, is_owned, object_of, address_of, in_bytes, is_usable, value_in, read, with_value, IsOpen, IsClosed, is_literal, set_value, is_writable, write, moved, begun, ended_from};
+ghost use Rattle.c_meaning_values.specs.declared.value.Phase.TheVariants.{Ended};
+ghost use Rattle.c_meaning_values.specs.Memory.{is_over, is_begun, new_object, bytes_of, index_at, is_owned, object_of, in_bytes, in_phase, is_usable, value_in, read, with_value, IsOpen, IsClosed, is_literal, set_value, is_writable, moved, begun, ended_from};
+ghost use Rattle.c_meaning_values.specs.Living.{IsLivingAt, is_owned_at, living_from, owned_among};
 
 use crate::types::{count_of, element_of, scalar_size, zero_of};
 use crate::value::{Phase, Value};
@@ -51,7 +53,7 @@ fn is_same_owner(one: Owner, other: Owner) -> bool
 }
 
 /// Whether an object has ended.
-fn is_over(phase: Phase) -> bool
+pub(crate) fn is_over(phase: Phase) -> bool
     ensures { result ≡ is_over phase }
 {
     matches!(phase, Phase::Ended)
@@ -134,12 +136,36 @@ pub fn object_of(owner: Owner, memory: &[Object]) -> Option<usize>
     None
 }
 
-/// A pointer to the beginning of an owner's object.
-pub fn address_of(owner: Owner, memory: &[Object]) -> Option<Value>
-    ensures { result ≡ address_of (owner_view owner) (map object_view memory.now) }
+/// Whether the object of a number is an owner's, and has not ended.
+fn is_owned_at(owner: Owner, memory: &[Object], number: usize) -> bool
+    ensures { result ≡ is_owned_at (owner_view owner) (map object_view memory.now) number }
 {
-    let object = object_of(owner, memory)?;
-    Some(Value::Pointer { object, offset: 0 })
+    match object_at(memory, number) {
+        None => false,
+        Some(o) => o.is_owned(owner),
+    }
+}
+
+/// The first of these numbers whose object is an owner's.
+pub(crate) fn owned_among(owner: Owner, memory: &[Object], numbers: &[usize]) -> Option<usize>
+    ensures { result ≡ owned_among (owner_view owner) (map object_view memory.now) numbers.now }
+{
+    for number in numbers {
+        if is_owned_at(owner, memory, *number) {
+            return Some(*number);
+        }
+    }
+    None
+}
+
+/// Whether the object of a number, if there is one, has not ended.
+pub(crate) fn is_living_at(memory: &[Object], object: usize) -> bool
+    ensures { result ≡ true → IsLivingAt (map object_view memory.now) object }
+{
+    match object_at(memory, object) {
+        None => true,
+        Some(o) => !is_over(o.phase),
+    }
 }
 
 /// The object of a number.
@@ -219,7 +245,7 @@ impl Object {
 }
 
 /// An object's value of this index becomes another.
-pub fn set_value(memory: &mut Vec<Object>, object: usize, index: usize, value: Value)
+pub(crate) fn set_value(memory: &mut Vec<Object>, object: usize, index: usize, value: Value)
     ensures { map object_view memory.new.items ≡ set_value (map object_view memory.old.items) object index value }
 {
     if object < memory.len() {
@@ -228,7 +254,7 @@ pub fn set_value(memory: &mut Vec<Object>, object: usize, index: usize, value: V
 }
 
 /// An object can be read and written from now on.
-pub fn begin(memory: &mut Vec<Object>, object: usize)
+pub(crate) fn begin(memory: &mut Vec<Object>, object: usize)
     ensures { map object_view memory.new.items ≡ begun (map object_view memory.old.items) object }
 {
     if object < memory.len() {
@@ -236,27 +262,8 @@ pub fn begin(memory: &mut Vec<Object>, object: usize)
     }
 }
 
-/// A write where a pointer points, if it may be written there.
-pub fn write(memory: &mut Vec<Object>, pointer: Value, value: Value) -> bool
-    ensures done { result ≡ true → write (map object_view memory.old.items) pointer value ≡ Some (map object_view memory.new.items) }
-    ensures undefined { result ≡ false → write (map object_view memory.old.items) pointer value ≡ None }
-    ensures unchanged { result ≡ false → map object_view memory.new.items ≡ map object_view memory.old.items }
-{
-    match pointer {
-        Value::Number(_) => false,
-        Value::Null => false,
-        Value::Pointer { object, offset } => {
-            let Some(index) = writable_index(memory, object, offset) else {
-                return false;
-            };
-            set_value(memory, object, index, value);
-            true
-        }
-    }
-}
-
 /// The index at which an object may be written by an offset.
-fn writable_index(memory: &[Object], object: usize, offset: u128) -> Option<usize>
+pub(crate) fn writable_index(memory: &[Object], object: usize, offset: u128) -> Option<usize>
     ensures { MatchOption result (IsClosed (map object_view memory.now) object offset) (λ index. IsOpen (map object_view memory.now) object offset index) }
 {
     let o = object_at(memory, object)?;
@@ -267,9 +274,21 @@ fn writable_index(memory: &[Object], object: usize, offset: u128) -> Option<usiz
     }
 }
 
-/// All objects from a number on end.
-pub fn end_from(memory: &mut Vec<Object>, first: usize)
-    ensures { map object_view memory.new.items ≡ ended_from first (map object_view memory.old.items) }
+/// An object ends. If it had not, its number goes, which is the last of these.
+fn end_last(object: &mut Object, living: &mut Vec<usize>)
+    ensures ended { object_view object.new ≡ in_phase Ended (object_view object.old) }
+    ensures living { living.new.items ≡ (if is_over object.old.phase then living.old.items else take (length living.old.items - 1) living.old.items) }
+{
+    if !is_over(object.phase) {
+        living.pop();
+    }
+    object.phase = Phase::Ended;
+}
+
+/// All objects from a number on end. The numbers are those of the objects that have not ended.
+pub(crate) fn end_from(memory: &mut Vec<Object>, living: &mut Vec<usize>, first: usize)
+    ensures ended { map object_view memory.new.items ≡ ended_from first (map object_view memory.old.items) }
+    ensures living { living.old.items ≡ living_from 0 (map object_view memory.old.items) → living.new.items ≡ living_from 0 (map object_view memory.new.items) }
 {
     let mut n = memory.len();
     if n <= first {
@@ -277,6 +296,6 @@ pub fn end_from(memory: &mut Vec<Object>, first: usize)
     }
     while first < n {
         n -= 1;
-        memory[n].phase = Phase::Ended;
+        end_last(&mut memory[n], living);
     }
 }

@@ -14,7 +14,7 @@ pub enum Value {
 /// How far the lifetime of an object has come (6.2.4).
 #[derive(Clone, Copy, PartialEq, Eq)]
 pub enum Phase {
-    /// Its own initializer is being evaluated.
+    /// Its own initializer is being evaluated, and nothing was stored in it yet.
     Initialising,
     /// It can be read and written.
     Live,

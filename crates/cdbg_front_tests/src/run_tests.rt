@@ -51,7 +51,7 @@ struct Row {
     ending: Ending,
 }
 
-static ROWS: [Row; 14] = [
+static ROWS: [Row; 16] = [
     Row {
         text: b"#include <stdio.h>\nint main(void){int x=2; x=x+3; putchar(65); return x;}",
         turns: TURNS,
@@ -165,6 +165,24 @@ static ROWS: [Row; 14] = [
         turns: TURNS,
         input: b"",
         stops: &[2, 3, 4, 5],
+        bytes: b"",
+        ending: Ending::Undefined,
+    },
+    // x and y are read in their own initializers behind a store, through a pointer and by name (6.3.2.1p2)
+    Row {
+        text: b"int set(int *p){*p=5; return *p+1;}\nint main(void){int x=set(&x); int y=(y=3,y+4); return x+y;}",
+        turns: TURNS,
+        input: b"",
+        stops: &[5, 2, 3, 6, 7],
+        bytes: b"",
+        ending: Ending::Exit(13),
+    },
+    // and x before any
+    Row {
+        text: b"int main(void){int x = x + 1; return x;}",
+        turns: TURNS,
+        input: b"",
+        stops: &[2],
         bytes: b"",
         ending: Ending::Undefined,
     },

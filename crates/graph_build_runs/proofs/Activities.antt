@@ -58,4 +58,4 @@ fits_anywhere k place began want s l w f = record { own = f.own; outer = f.outer
 -- what was kept since there was a memory is kept from now on
 pub sound_now : (p : ProgramTree) (began : SourceMemory) (s : State) → Sound p began s → Sound p s.memory s
 sound_now p began s h =
-    record { typed = h.typed; differ = h.differ; declared = h.declared; bytes = h.bytes; since = record { later = later_refl s.memory; ends = λ n o is alive. slice_get_within s.memory n o is } }
+    record { typed = h.typed; differ = h.differ; declared = h.declared; single = h.single; bytes = h.bytes; since = record { later = later_refl s.memory; ends = λ n o is alive. slice_get_within s.memory n o is } }

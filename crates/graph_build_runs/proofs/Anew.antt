@@ -1,7 +1,6 @@
 -- A scalar's value changes, and is noted.
 use Rattle.std.proofs.Common.{◌≡◌, ◌≢◌, ℕ, ◌<◌, ◌≤◌, List, ◌∷◌, length, Option, Some, None, Bool, true, false, slice_get, slice_set, refl, sym, ap, ◌∙◌, subst, arith}
 use Rattle.std.specs.Prelude.{◌==◌, if◌then◌else◌, option_map, option_and_then}
-use Rattle.std.specs.Option.{option_map_or}
 use Rattle.std.proofs.lemmas.Bool.{eqb-true}
 use Rattle.std.proofs.lemmas.Bool.Decides.{nat_tests}
 use Rattle.word_base.specs.Owners.{Variable}
@@ -12,8 +11,8 @@ use Rattle.c_tree.specs.TypedExpressions.{Named}
 use Rattle.c_type_rules.specs.Types.{loaded}
 use Rattle.c_meaning_values.specs.declared.value.Value as source-value
 use Rattle.c_meaning_values.specs.declared.value.Value.TheVariants as source
-use Rattle.c_meaning_values.specs.declared.value.Phase.TheVariants.{Ended}
-use Rattle.c_meaning_values.specs.Memory.{Object as SourceObject, Memory as SourceMemory, is_usable, is_begun, is_writable, object_of, value_in as value_at, written_in, index_at, set_value, with_value}
+use Rattle.c_meaning_values.specs.declared.value.Phase.TheVariants.{Live, Ended}
+use Rattle.c_meaning_values.specs.Memory.{Object as SourceObject, Memory as SourceMemory, is_usable, is_begun, is_writable, object_of, value_in as value_at, written_in, index_at, set_value, begun}
 use Rattle.c_meaning_steps.specs.declared.event.Ending.TheVariants as ending
 use Rattle.c_meaning_steps.specs.States.{State, Evaluated, Gives, Ends, given, with, usable, Both, Pair, NoPair}
 use Rattle.c_meaning.specs.Expressions.{Calls, designate}
@@ -31,7 +30,7 @@ use Rattle.graph_build_runs.specs.Typed.{IsOf}
 use Rattle.graph_build_runs.specs.Correspondence.{SameValue}
 use Rattle.graph_build_runs.specs.Stops.{IsDeclared}
 use Rattle.graph_build_runs.proofs.Leads.{Setting, names_in, size_in, depth_in, Local, World, set_name, at, stays, goes, then_leads, put_here, put_elsewhere, less_other}
-use Rattle.graph_build_runs.proofs.Later.{Later, later_set, others_refl, value_later}
+use Rattle.graph_build_runs.proofs.Later.{Later, later_written, written_is, others_refl, value_later}
 use Rattle.graph_build_runs.proofs.Kept.{is_want, Sound, Fits, ScalarsFirst, fits_local, fits_wanted}
 use Rattle.graph_build_runs.proofs.Results.{Passes}
 use Rattle.graph_build_runs.proofs.Noting.{ScalarsApart, known_value, fits_noted}
@@ -88,23 +87,23 @@ module _ (x : Setting) (apart : ScalarsApart x) (v k : ℕ) (named_by : scalar_o
       subst (λ q. R (stored (option_and_then (written_in s.memory n 0 u) q) u s)) (sym o.is) (by_way (is_writable o.object 0))
     where
       after : SourceMemory
-      after = slice_set s.memory n (record o.object { values = slice_set o.object.values 0 u })
+      after = slice_set s.memory n (record o.object { values = slice_set o.object.values 0 u; phase = Live })
 
-      written : set_value s.memory n (index_at o.object 0) u ≡ slice_set s.memory n (record o.object { values = slice_set o.object.values 0 u })
-      written = ap (λ q. option_map_or (λ p. slice_set s.memory n (with_value p (index_at o.object 0) u)) q s.memory) o.is ∙ ap (λ i. slice_set s.memory n (with_value o.object i u)) (first_index o.object.element)
+      written : begun (set_value s.memory n (index_at o.object 0) u) n ≡ slice_set s.memory n (record o.object { values = slice_set o.object.values 0 u; phase = Live })
+      written = ap (λ i. begun (set_value s.memory n i u) n) (first_index o.object.element) ∙ written_is s.memory n 0 o.object u o.is
 
-      by_way : (b : Bool) → R (stored (if b then Some (set_value s.memory n (index_at o.object 0) u) else None) u s)
+      by_way : (b : Bool) → R (stored (if b then Some (begun (set_value s.memory n (index_at o.object 0) u) n) else None) u s)
       by_way false = undefined
       by_way true =
           let a = subst (λ q. IsDeclared x.program q o.object) o.owner (sound.declared n o.object o.is) in
           let one : length o.object.values ≡ 1 = a.3 ∙ apart.single v k a.0 named_by a.1 in
-          let later = later_set s.memory n 0 o.object u o.is in
+          let later = later_written s.memory n 0 o.object u o.is o.alive in
           subst (λ m. R (Gives u (record s { memory = m }))) (sym written)
-          (next (slice_set s.memory n (record o.object { values = slice_set o.object.values 0 u }))
+          (next (slice_set s.memory n (record o.object { values = slice_set o.object.values 0 u; phase = Live }))
           (record {
             fits = fits_noted x v k n o.object u s l w apart named_by o.is o.owner o.alive one sound.differ f same;
             later = later;
-            same = value_later x.program s.memory (slice_set s.memory n (record o.object { values = slice_set o.object.values 0 u })) w.memory w.memory later (others_refl w.memory) u (l.names k) same;
+            same = value_later x.program s.memory (slice_set s.memory n (record o.object { values = slice_set o.object.values 0 u; phase = Live })) w.memory w.memory later (others_refl w.memory) u (l.names k) same;
           }))
 
   -- A scalar is designated and read: nothing is defined, or its name has the value.

@@ -27,6 +27,7 @@ use Rattle.graph_build_steps.specs.Steps.{or_zero}
 use Rattle.graph_build_statements.specs.Coding.{begun, going}
 use Rattle.graph_build_statements.specs.Declaring.{object_type_of, cleared, store_elements, copied_words, declare_array, declare_kept, declare_as}
 use Rattle.graph_build_runs.proofs.Leads.{names_in, World, goes, stays, then_leads}
+use Rattle.graph_build_runs.proofs.Later.{not_initialising}
 use Rattle.graph_build_runs.proofs.Activities.{Activity, coding_in, here_in, place_at, before_in}
 use Rattle.graph_build_runs.proofs.Living.{frames_length}
 use Rattle.graph_build_runs.proofs.Outcomes.{Runs, GoesOn, runs_since}
@@ -72,7 +73,7 @@ module _ (k : Activity) (law : Lawful k) (v j : ℕ) (a : AutomaticTree) (is : s
       let u2 : World = record u { memory = slice_set u.memory number (record q.object { values = words }) } in
       let memory = with_new k v a is Live s.memory in
       let s1 : State = record s { memory = memory } in
-      let sound1 = sound_made k v a is Live s low le h.under sound in
+      let sound1 = sound_made k v a is Live (λ young. not_initialising young) s low le h.under sound in
       let fits1 = fits_array k law v j a is named inside s l u low le h.under sound fits zeros words (length-replicate count (zero_of sc)) (length-replicate count (Number 0)) (zeros_same p (with_new k v a is Initialising s.memory) u.memory sc.stars sc refl count) in
       let clears : step k.setting.unit (before_in k place (unit.Zero j clear_words ∷ m.ops) m.end l u) ≡ Goes (before_in k place m.ops m.end l u2) = ap (with_memory (before_in k place m.ops m.end l u)) (zeroed_is u.memory number q.object sc count q.is q.lives q.element q.count) in
       subst (λ z. Runs k c es low (v + 1) (v ∷ []) s.memory w (initialise_elements k.calls (here_in k) spot (length s.memory) 0 all z)) (sym (made_is k v a is Live s frames))
@@ -88,7 +89,7 @@ module _ (k : Activity) (law : Lawful k) (v j : ℕ) (a : AutomaticTree) (is : s
       let s1 : State = record s { memory = memory } in
       subst (λ z. KeptBy k low (v + 1) (v ∷ []) s.memory (initialise_elements k.calls (here_in k) spot (length s.memory) 0 all z)) (sym (made_is k v a is Live s frames))
       (kept_since k low (v + 1) low (v + 1) (v ∷ []) s.memory memory (initialise_elements k.calls (here_in k) spot (length s.memory) 0 all s1) (omega arith) (omega arith) (grown_made k v a is Live s.memory low le)
-      (elements_keep k law v j a is named inside low spot all 0 work s1 (sound_made k v a is Live s low le h.under sound) (ready_made k v a is Live (place_at k spot.at) s.memory ready) (length s.memory) (new_array s)))))
+      (elements_keep k law v j a is named inside low spot all 0 work s1 (sound_made k v a is Live (λ young. not_initialising young) s low le h.under sound) (ready_made k v a is Live (place_at k spot.at) s.memory ready) (length s.memory) (new_array s)))))
 
 -- A declarator of an array in memory.
 module _ (k : Activity) (law : Lawful k) (d : DeclaredTree) (a : AutomaticTree) (is : slice_get k.setting.program.automatics d.variable ≡ Some a) (j : ℕ) (sc : Scalar) (n : ℕ) (nowhere : scalar_of (names_in k.setting) d.variable ≡ None) (named : object_of (names_in k.setting) d.variable ≡ Some j) (inside : a.in_memory ≡ true)

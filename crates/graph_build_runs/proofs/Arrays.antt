@@ -26,7 +26,7 @@ use Rattle.graph_build_steps.specs.Rules as rule
 use Rattle.graph_build_runs.specs.Typed.{IsOf}
 use Rattle.graph_build_runs.specs.Correspondence.{owner_of, SameValue, SameValues, IsInMemory}
 use Rattle.graph_build_runs.proofs.Leads.{names_in, depth_in, Local, World}
-use Rattle.graph_build_runs.proofs.Later.{Later, later_set}
+use Rattle.graph_build_runs.proofs.Later.{not_initialising, live_open, Later, later_set}
 use Rattle.graph_build_runs.proofs.Kept.{Since, Sound, Fits}
 use Rattle.graph_build_runs.proofs.Elements.{reaches, element_size}
 use Rattle.graph_build_runs.proofs.Meanings.{sound_set}
@@ -36,7 +36,7 @@ use Rattle.graph_build_runs.proofs.Writing.{store_step}
 use Rattle.graph_build_runs.proofs.Activities.{Activity, placed, before_in, fits_placed, fits_anywhere, sound_now}
 use Rattle.graph_build_runs.proofs.Living.{statics_later, Under, Grown, LivesAt, lives_later, frames_later, was_there}
 use Rattle.graph_build_runs.proofs.Stops.{Lawful, Ready}
-use Rattle.graph_build_runs.proofs.Making.{last_is, live_open, new_in, with_new, sound_made, fits_made, sound_more, grown_more}
+use Rattle.graph_build_runs.proofs.Making.{last_is, new_in, with_new, differ_made, declared_made, fits_made, sound_more, grown_more}
 use Rattle.graph_build_runs.proofs.Declared.{set_last}
 use Rattle.graph_build_runs.proofs.Stored.{same_object, placed_new}
 
@@ -59,7 +59,7 @@ module _ (k : Activity) (v : ℕ) (a : AutomaticTree) (is : slice_get k.setting.
 
   pub sound_array : (s : State) (low : ℕ) → low ≤ v → Under s.memory (depth_in k.setting) low → Sound k.setting.program s.memory s → (vs : List source-value.Value) → length vs ≡ count_of a.of → AllByRecursion (IsOf (with_array vs s.memory) (loaded (element_of a.of))) vs
       → Sound k.setting.program (with_array vs s.memory) (record s { memory = with_array vs s.memory })
-  sound_array s low le under sound vs count typed = sound_more k v a is (array_of vs) refl refl count s low le under sound typed
+  sound_array s low le under sound vs count typed = sound_more k v a is (array_of vs) refl refl count (λ young. not_initialising young) s low le under sound typed
 
   pub grown_array : (memory : SourceMemory) (low : ℕ) (vs : List source-value.Value) → low ≤ v → Grown (depth_in k.setting) low (v + 1) memory (with_array vs memory)
   grown_array memory low vs le = grown_more (depth_in k.setting) memory (array_of vs) low v le refl
@@ -101,7 +101,6 @@ module _ (k : Activity) (law : Lawful k) (v j : ℕ) (a : AutomaticTree) (is : s
       let o = new_in k v a is Initialising in
       let memory = with_new k v a is Initialising s.memory in
       let s1 : State = record s { memory = memory } in
-      let sound1 : Sound p s1.memory s1 = sound_made k v a is Initialising s low le under sound in
       let fits1 = fits_made k v a s l u fits (λ inside_it. placed_new k law v j a is named inside s l u fits) in
       let q = fits.own.objects v j a named is in
       let m = k.setting.first + j in
@@ -111,7 +110,7 @@ module _ (k : Activity) (law : Lawful k) (v j : ℕ) (a : AutomaticTree) (is : s
       let alive : o.phase ≢ Ended = λ over. initialising_open over in
       let so = same_object k law v j a is named inside u.memory o refl refl counted q in
       let after : State = record s { memory = with_array k v a is vs s.memory } in
-      let fits2 = fits_both_set (placed k 0 memory) None s1 l u (length s.memory) o m q.object vs ws (count ∙ sym counted) (unit_count ∙ sym q.count) Live (live_open o.phase alive) sound1 (fits_placed k 0 memory None s1 l u fits1) (last_is s.memory o) alive (a, is, inside) q.is so
+      let fits2 = fits_both_set (placed k 0 memory) None s1 l u (length s.memory) o m q.object vs ws (count ∙ sym counted) (unit_count ∙ sym q.count) Live (live_open o.phase alive) (differ_made k v a is Initialising s.memory low le under sound.differ) (declared_made k v a is Initialising s.memory sound.declared) (fits_placed k 0 memory None s1 l u fits1) (last_is s.memory o) alive (a, is, inside) q.is so
       (λ live. same) in
       fits_anywhere k 0 memory None after l u2 (subst (λ z. Fits (placed k 0 memory) None (record s { memory = z }) l u2) (set_last s.memory o (array_of k v a is vs)) fits2)
     where

@@ -19,7 +19,7 @@ use Rattle.c_meaning_steps.specs.States.{State}
 use Rattle.c_meaning.specs.Calls.{bind_one, bind}
 use Rattle.graph_build_runs.specs.Typed.{IsOf}
 use Rattle.graph_build_runs.proofs.Leads.{depth_in}
-use Rattle.graph_build_runs.proofs.Later.{Later}
+use Rattle.graph_build_runs.proofs.Later.{not_initialising, Later}
 use Rattle.graph_build_runs.proofs.Kept.{Sound}
 use Rattle.graph_build_runs.proofs.Typing.{of_later}
 use Rattle.graph_build_runs.proofs.Arguments.{AreOf}
@@ -75,7 +75,7 @@ module _ (k : Activity) (same_depth : length k.frames ≡ length k.setting.waiti
       let more = later_more s.memory o in
       let typed = subst (λ t. IsOf memory t u) (element_loaded a.of) (of_later s.memory memory more (element_type a.of) u are.0) in
       let zeros = all_alike (IsOf memory (loaded (element_of a.of))) (count_of a.of) (zero_of (element_of a.of)) (zero_typed memory (element_of a.of).base (element_of a.of).stars) in
-      let sound1 = sound_more k first a is o refl refl (length-set (replicate (count_of a.of) (zero_of (element_of a.of))) 0 u ∙ length-replicate (count_of a.of) (zero_of (element_of a.of))) s first self under sound
+      let sound1 = sound_more k first a is o refl refl (length-set (replicate (count_of a.of) (zero_of (element_of a.of))) 0 u ∙ length-replicate (count_of a.of) (zero_of (element_of a.of))) (λ young. not_initialising young) s first self under sound
       (all_first (IsOf memory (loaded (element_of a.of))) (replicate (count_of a.of) (zero_of (element_of a.of))) u zeros typed) in
       let grown1 = grown_more d s.memory o first first self refl in
       let next : first ≤ first + 1 = omega arith in

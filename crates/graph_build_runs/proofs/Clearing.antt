@@ -27,7 +27,8 @@ use Rattle.graph_build_steps.specs.Drafts.{before}
 use Rattle.graph_build_statements.specs.Coding.{going}
 use Rattle.graph_build_runs.specs.Correspondence.{SameValues}
 use Rattle.graph_build_runs.proofs.Leads.{names_in, World, goes, stays, then_leads}
-use Rattle.graph_build_runs.proofs.Kept.{Sound, Fits}
+use Rattle.graph_build_runs.proofs.Later.{not_initialising, live_open}
+use Rattle.graph_build_runs.proofs.Kept.{Fits}
 use Rattle.graph_build_runs.proofs.Elements.{element_size}
 use Rattle.graph_build_runs.proofs.Storing.{fits_both_set}
 use Rattle.graph_build_runs.proofs.Activities.{Activity, coding_in, here_in, place_at, placed, before_in, fits_placed, fits_anywhere}
@@ -35,7 +36,7 @@ use Rattle.graph_build_runs.proofs.Living.{frames_length}
 use Rattle.graph_build_runs.proofs.Outcomes.{Runs, GoesOn}
 use Rattle.graph_build_runs.proofs.Stops.{Lawful, place_begins}
 use Rattle.graph_build_runs.proofs.AtPlaces.{Begins, going_comes}
-use Rattle.graph_build_runs.proofs.Making.{last_is, live_open, new_in, with_new, made_is, grown_made, sound_made, fits_made}
+use Rattle.graph_build_runs.proofs.Making.{last_is, new_in, with_new, made_is, grown_made, differ_made, declared_made, sound_made, fits_made}
 use Rattle.graph_build_runs.proofs.Declared.{set_last, zero_same}
 use Rattle.graph_build_runs.proofs.Stored.{same_object, placed_new}
 pub use Rattle.base_laws.proofs.Lists.{none_left}
@@ -113,7 +114,6 @@ module _ (k : Activity) (law : Lawful k) (v j : ℕ) (a : AutomaticTree) (is : s
       let frames = frames_length p k.setting.unit s.memory k.frames k.setting.waiting h.frames in
       let sc = element_of a.of in
       let count = count_of a.of in
-      let sound1 : Sound p s1.memory s1 = sound_made k v a is Initialising s low le h.under sound in
       let fits1 = fits_made k v a s l u fits (λ inside_it. placed_new k law v j a is named inside s l u fits) in
       let q = fits1.own.objects v j a named is in
       let m = k.setting.first + j in
@@ -124,7 +124,7 @@ module _ (k : Activity) (law : Lawful k) (v j : ℕ) (a : AutomaticTree) (is : s
       let alive : o.phase ≢ Ended = λ over. initialising_open over in
       let so = same_object k law v j a is named inside u.memory o refl refl counted q in
       let after : State = record s { memory = with_new k v a is Live s.memory } in
-      let fits2 = fits_both_set (placed k place memory) None s1 l u (length s.memory) o m q.object (replicate count (zero_of sc)) zeros refl (length-replicate count (Number 0) ∙ sym q.count) Live (live_open o.phase alive) sound1 (fits_placed k place memory None s1 l u fits1) (last_is s.memory o) alive (a, is, inside) q.is so
+      let fits2 = fits_both_set (placed k place memory) None s1 l u (length s.memory) o m q.object (replicate count (zero_of sc)) zeros refl (length-replicate count (Number 0) ∙ sym q.count) Live (live_open o.phase alive) (differ_made k v a is Initialising s.memory low le h.under sound.differ) (declared_made k v a is Initialising s.memory sound.declared) (fits_placed k place memory None s1 l u fits1) (last_is s.memory o) alive (a, is, inside) q.is so
       (λ live. zeros_same p memory u.memory sc.stars sc refl count) in
       let fits3 = subst (λ z. Fits (placed k place memory) None (record s { memory = z }) l u2) (set_last s.memory o (new_in k v a is Live)) fits2 in
       let clears : step k.setting.unit (before_in k place (before (unit.Zero j clear_words) g).ops g.end l u) ≡ Goes (before_in k place g.ops g.end l u2) = ap (with_memory (before_in k place g.ops g.end l u)) (zeroed_is u.memory m q.object sc count q.is q.lives q.element q.count) in
@@ -134,7 +134,7 @@ module _ (k : Activity) (law : Lawful k) (v j : ℕ) (a : AutomaticTree) (is : s
         local = l;
         world = u2;
         comes = going_comes k c es w.next b.inner place l u2 (then_leads leads (goes clears stays));
-        sound = sound_made k v a is Live s low le h.under sound;
+        sound = sound_made k v a is Live (λ young. not_initialising young) s low le h.under sound;
         fits = fits_anywhere k place memory None after l u2 fits3;
         grown = grown_made k v a is Live s.memory low le;
         brings = (record { number = length s.memory; object = new_in k v a is Live; is = last_is s.memory (new_in k v a is Live); owner = refl; lives = refl }, tt);

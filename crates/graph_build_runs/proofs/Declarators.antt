@@ -45,7 +45,7 @@ module _ (k : Activity) (law : Lawful k) (d : DeclaredTree) (a : AutomaticTree) 
       let b2 = subst (λ q. Begins k scope d.spot.at (λ t i. declare_scalar (coding_in k) d.spot.at j q t (going (coding_in k) w.next i))) init b1 in (
         subst (λ q. GoesOn k low (d.variable + 1) (d.variable ∷ []) w scope (Some d.spot.at) (λ s. activations.at (here_in k) d.spot s (declare_with k.calls (here_in k) d.spot d.variable q))) (sym init)
             (initialised_goes k law scope low w d.spot d.variable j a is named le e works fits apart b2),
-        subst (λ q. KeepsOn k low (d.variable + 1) (d.variable ∷ []) scope (λ s. activations.at (here_in k) d.spot s (declare_with k.calls (here_in k) d.spot d.variable q))) (sym init) (initialised_keeps k scope low d.spot b.here d.variable a is le e works fits),
+        subst (λ q. KeepsOn k low (d.variable + 1) (d.variable ∷ []) scope (λ s. activations.at (here_in k) d.spot s (declare_with k.calls (here_in k) d.spot d.variable q))) (sym init) (initialised_keeps k scope low d.spot b.here d.variable a is le (law.apart.single d.variable j a named is) e works fits),
       )
 
   -- and without one.
@@ -79,7 +79,7 @@ module _ (k : Activity) (law : Lawful k) (d : DeclaredTree) (a : AutomaticTree) 
         let b3 = subst (λ s. Begins k scope d.spot.at (λ t i. declare_single (coding_in k) d.spot.at j s (scalar-initial e) t (going (coding_in k) w.next i))) kept_of b2 in (
           subst (λ q. GoesOn k low (d.variable + 1) (d.variable ∷ []) w scope (Some d.spot.at) (λ s. activations.at (here_in k) d.spot s (declare_with k.calls (here_in k) d.spot d.variable q))) (sym init)
               (stored_goes k law d.variable j a is named inside scope low w d.spot le kept_single e works fits b3),
-          subst (λ q. KeepsOn k low (d.variable + 1) (d.variable ∷ []) scope (λ s. activations.at (here_in k) d.spot s (declare_with k.calls (here_in k) d.spot d.variable q))) (sym init) (initialised_keeps k scope low d.spot b.here d.variable a is le e works fits),
+          subst (λ q. KeepsOn k low (d.variable + 1) (d.variable ∷ []) scope (λ s. activations.at (here_in k) d.spot s (declare_with k.calls (here_in k) d.spot d.variable q))) (sym init) (initialised_keeps k scope low d.spot b.here d.variable a is le kept_single e works fits),
         )
 
     -- and without one.

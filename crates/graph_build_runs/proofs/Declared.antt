@@ -1,7 +1,6 @@
 -- Declarators of scalars that are kept in names do what they mean.
 use Rattle.std.proofs.Common.{◌≡◌, ◌≢◌, ℕ, zero, suc, ◌+◌, ◌≤◌, inl, List, [], ◌∷◌, ◌++◌, length, replicate, Option, Some, true, slice_get, slice_set, refl, sym, ap, ◌∙◌, subst, arith}
 use Rattle.std.specs.Prelude.{if◌then◌else◌}
-use Rattle.std.specs.Option.{option_map_or}
 use Rattle.std.proofs.lemmas.List.{length-set}
 use Rattle.std.proofs.lemmas.Option.{slice_get_within}
 use Rattle.debug_records.specs.declared.source.Spot.{Spot}
@@ -15,7 +14,7 @@ use Rattle.c_type_laws.specs.Expressions.{kind_of}
 use Rattle.c_meaning_values.specs.declared.value.Value as source-value
 use Rattle.c_meaning_values.specs.declared.value.Phase.TheVariants.{Initialising, Live, Ended}
 use Rattle.c_meaning_values.specs.Types.{element_of, count_of, zero_of, zero_by_stars}
-use Rattle.c_meaning_values.specs.Memory.{Object as SourceObject, Memory as SourceMemory, set_value, with_value, in_phase, begun as begun_in}
+use Rattle.c_meaning_values.specs.Memory.{Object as SourceObject, Memory as SourceMemory, set_value, begun as begun_in}
 use Rattle.c_meaning_steps.specs.States.{State, Outcome, Next, on_value}
 use Rattle.c_meaning.specs.Activations as activations
 use Rattle.c_meaning.specs.Statements.{value_at, declare_with}
@@ -32,24 +31,19 @@ use Rattle.graph_build_runs.specs.Typed.{IsOf}
 use Rattle.graph_build_runs.specs.Correspondence.{SameValue, IsInMemory}
 use Rattle.graph_build_runs.specs.Stops.{IsDeclared}
 use Rattle.graph_build_runs.proofs.Leads.{names_in, depth_in, Local, World, Leads, goes, stays, then_leads, set_name, put_here}
-use Rattle.graph_build_runs.proofs.Later.{set_here, Later, later_changed}
+use Rattle.graph_build_runs.proofs.Later.{not_initialising, live_open, Later, later_written, written_is, set_here}
 use Rattle.graph_build_runs.proofs.Kept.{Sound, Fits, fits_wanted}
 use Rattle.graph_build_runs.proofs.Noting.{known_value, fits_written}
 use Rattle.graph_build_runs.proofs.Types.{kind_is_of}
 use Rattle.graph_build_runs.proofs.Operands.{Apart}
-use Rattle.graph_build_runs.proofs.Meanings.{sound_set}
-use Rattle.graph_build_runs.proofs.Activities.{Activity, coding_in, here_in, place_at, placed, before_in}
+use Rattle.graph_build_runs.proofs.Meanings.{sound_written}
+use Rattle.graph_build_runs.proofs.Activities.{Activity, coding_in, here_in, place_at, placed, before_in, sound_now}
 use Rattle.graph_build_runs.proofs.Living.{LivesAt, frames_length, Grown}
 use Rattle.graph_build_runs.proofs.Outcomes.{Arrives, Runs, GoesOn, runs_since}
 use Rattle.graph_build_runs.proofs.Stops.{Lawful, PlaceIs, place_begins}
 use Rattle.graph_build_runs.proofs.Keeping.{Stays, KeptBy, KeepsOn, kept_since, place_kept, value_kept}
 use Rattle.graph_build_runs.proofs.AtPlaces.{Works, Begins, begun_above, going_comes, value_runs}
-use Rattle.graph_build_runs.proofs.Making.{last_is, zero_typed, live_open, sound_begun, new_in, with_new, made_is, grown_made, ready_made, sound_made, fits_made}
-
-pub set_twice : {A : Type 0} (xs : List A) (n : ℕ) (a b : A) → slice_set (slice_set xs n a) n b ≡ slice_set xs n b
-set_twice [] n a b = refl
-set_twice (x ∷ xs) zero a b = refl
-set_twice (x ∷ xs) (suc n) a b = ap (λ ys. x ∷ ys) (set_twice xs n a b)
+use Rattle.graph_build_runs.proofs.Making.{last_is, zero_typed, new_in, with_new, made_is, grown_made, ready_made, sound_made, fits_made}
 
 length_set : {A : Type 0} (xs : List A) (n : ℕ) (a : A) → length (slice_set xs n a) ≡ length xs
 length_set xs n a = length-set xs n a
@@ -63,17 +57,11 @@ module _ (k : Activity) (v : ℕ) (s : State) (n : ℕ) (o : SourceObject) (at :
   abbrev pub after : SourceMemory
   after = slice_set s.memory n taken
 
-  abbrev pub between : SourceMemory
-  between = slice_set s.memory n (record o { values = slice_set o.values 0 u })
-
   pub begun_after : begun_in (set_value s.memory n 0 u) n ≡ after
-  begun_after =
-      ap (λ q. begun_in (option_map_or (λ z. slice_set s.memory n (with_value z 0 u)) q s.memory) n) at
-      ∙ ap (λ q. option_map_or (λ z. slice_set between n (in_phase Live z)) q between) (set_here s.memory n o (record o { values = slice_set o.values 0 u }) at)
-      ∙ set_twice s.memory n (record o { values = slice_set o.values 0 u }) taken
+  begun_after = written_is s.memory n 0 o u at
 
   later_after : Later s.memory after
-  later_after = later_changed s.memory n o taken at refl refl (live_open o.phase alive) (length-set o.values 0 u)
+  later_after = later_written s.memory n 0 o u at alive
 
   pub grown_after : (low high : ℕ) → Grown (depth_in k.setting) low high s.memory after
   grown_after low high = record { later = later_after; fresh = λ m z found open_z. (let lt = slice_get_within after m z found in let e = length_set s.memory n taken in inl (omega (arith, lt, e))) }
@@ -82,10 +70,7 @@ module _ (k : Activity) (v : ℕ) (s : State) (n : ℕ) (o : SourceObject) (at :
   lives_after = record { number = n; object = taken; is = set_here s.memory n o taken at; owner = owner; lives = refl }
 
   pub sound_after : Sound k.setting.program after (record s { memory = after })
-  sound_after =
-      let half = record o { values = slice_set o.values 0 u } in
-      subst (λ m. Sound k.setting.program m (record s { memory = m })) (set_twice s.memory n half taken)
-      (sound_begun k.setting.program s.memory (record s { memory = between }) n half (set_here s.memory n o half at) alive (sound_set k.setting.program s.memory s n 0 o u at sound is))
+  sound_after = sound_now k.setting.program s.memory (record s { memory = after }) (sound_written k.setting.program s.memory s n 0 o u at alive sound is)
 
 -- It is kept in a name.
 module _ (k : Activity) (law : Lawful k) (v j : ℕ) (named : scalar_of (names_in k.setting) v ≡ Some j) (s : State) (n : ℕ) (o : SourceObject) (at : slice_get s.memory n ≡ Some o) (owner : o.owner ≡ Variable v (depth_in k.setting)) (alive : o.phase ≢ Ended) (u : source-value.Value)
@@ -146,7 +131,7 @@ module _ (k : Activity) (law : Lawful k) (scope : List ℕ) (low : ℕ) (w : Way
       let above = begun_above k b.free b.size in
       subst (λ z. Runs k c es low (v + 1) (v ∷ []) s.memory w (on_value (value_at k.calls (here_in k) spot e z) next)) (sym (made_is k v a is Initialising s frames))
       (runs_since k c es low (v + 1) low (v + 1) (v ∷ []) s.memory memory w (on_value (value_at k.calls (here_in k) spot e s1) next) (omega arith) (omega arith) (grown_made k v a is Initialising s.memory low le)
-      (value_runs k spot.at e works c es l u s1 (sound_made k v a is Initialising s low le h.under sound) (fits_made k v a s l u fits (λ inside. scalar_nowhere k law v j (depth_in k.setting) named inside)) (ready_made k v a is Initialising (place_at k spot.at) s.memory ready)
+      (value_runs k spot.at e works c es l u s1 (sound_made k v a is Initialising (λ young. law.apart.single v j a named is) s low le h.under sound) (fits_made k v a s l u fits (λ inside. scalar_nowhere k law v j (depth_in k.setting) named inside)) (ready_made k v a is Initialising (place_at k spot.at) s.memory ready)
       (begun (coding_in k) b.free) above low (v + 1) (v ∷ []) w (Some j) m next b.stands (omega (arith, less, above), λ lt. apart memory) leads
       (λ val s2 l2 u2 leads2 sound2 fits2 since same kind.
       (let o = since.later (length s.memory) (new_in k v a is Initialising) (last_is s.memory (new_in k v a is Initialising)) in
@@ -169,7 +154,7 @@ module _ (k : Activity) (law : Lawful k) (scope : List ℕ) (low : ℕ) (w : Way
       let s1 : State = record s { memory = memory } in
       let frames = frames_length k.setting.program k.setting.unit s.memory k.frames k.setting.waiting h.frames in
       let zero_is = zero_of (element_of a.of) in
-      let sound1 = sound_made k v a is Initialising s low le h.under sound in
+      let sound1 = sound_made k v a is Initialising (λ young. law.apart.single v j a named is) s low le h.under sound in
       let fits1 = fits_made k v a s l u fits (λ inside. scalar_nowhere k law v j (depth_in k.setting) named inside) in
       let l1 = set_name l j (Number 0) in
       let fits2 = fits_wanted k.setting s1 l u j (Number 0) fits1 in
@@ -188,8 +173,8 @@ module _ (k : Activity) (law : Lawful k) (scope : List ℕ) (low : ℕ) (w : Way
 
 -- What a program's run keeps is kept by declarators of scalars.
 module _ (k : Activity) (scope : List ℕ) (low : ℕ) (spot : Spot) (here : PlaceIs k scope spot.at) (v : ℕ) (a : AutomaticTree) (is : slice_get k.setting.program.automatics v ≡ Some a) (le : low ≤ v) where
-  pub initialised_keeps : (e : RvalueTree) → Works k (place_at k spot.at) e → is_of (kind_of k.setting.program k.setting.tree e) (loaded (element_of a.of)) ≡ true → KeepsOn k low (v + 1) (v ∷ []) scope (λ s. activations.at (here_in k) spot s (declare_with k.calls (here_in k) spot v (scalar-initial e)))
-  initialised_keeps e works fits_type =
+  pub initialised_keeps : count_of a.of ≡ 1 → (e : RvalueTree) → Works k (place_at k spot.at) e → is_of (kind_of k.setting.program k.setting.tree e) (loaded (element_of a.of)) ≡ true → KeepsOn k low (v + 1) (v ∷ []) scope (λ s. activations.at (here_in k) spot s (declare_with k.calls (here_in k) spot v (scalar-initial e)))
+  initialised_keeps single e works fits_type =
       place_kept k scope spot here low (v + 1) (v ∷ []) (declare_with k.calls (here_in k) spot v (scalar-initial e))
       (λ s sound h ready.
       (let memory = with_new k v a is Initialising s.memory in
@@ -198,7 +183,7 @@ module _ (k : Activity) (scope : List ℕ) (low : ℕ) (spot : Spot) (here : Pla
       let next : source-value.Value → State → Outcome = λ val t. Next (record t { memory = begun_in (set_value t.memory (length s.memory) 0 val) (length s.memory) }) in
       subst (λ z. KeptBy k low (v + 1) (v ∷ []) s.memory (on_value (value_at k.calls (here_in k) spot e z) next)) (sym (made_is k v a is Initialising s frames))
       (kept_since k low (v + 1) low (v + 1) (v ∷ []) s.memory memory (on_value (value_at k.calls (here_in k) spot e s1) next) (omega arith) (omega arith) (grown_made k v a is Initialising s.memory low le)
-      (value_kept k spot.at e works s1 (sound_made k v a is Initialising s low le h.under sound) (ready_made k v a is Initialising (place_at k spot.at) s.memory ready) low (v + 1) (v ∷ []) next
+      (value_kept k spot.at e works s1 (sound_made k v a is Initialising (λ young. single) s low le h.under sound) (ready_made k v a is Initialising (place_at k spot.at) s.memory ready) low (v + 1) (v ∷ []) next
       (λ val s2 sound2 since kind.
       (let o = since.later (length s.memory) (new_in k v a is Initialising) (last_is s.memory (new_in k v a is Initialising)) in
       let alive : o.object.phase ≢ Ended = λ over. initialising_open (o.phase.open_before over) in
@@ -221,7 +206,7 @@ module _ (k : Activity) (scope : List ℕ) (low : ℕ) (spot : Spot) (here : Pla
       let o = new_in k v a is Live in
       subst (λ z. Stays k low (v + 1) (v ∷ []) s.memory z) (sym (made_is k v a is Live s frames))
       (record {
-        sound = sound_made k v a is Live s low le h.under sound;
+        sound = sound_made k v a is Live (λ young. not_initialising young) s low le h.under sound;
         grown = grown_made k v a is Live s.memory low le;
         brings = (record { number = length s.memory; object = o; is = last_is s.memory o; owner = refl; lives = refl }, tt);
       })))

@@ -53,7 +53,7 @@ module _ (k : Activity) (began before : SourceMemory) (since : Since began befor
       let ends = since_closed (depth_in k.setting) 0 high before s.memory grown in
       let there = sound_closed k.setting.program s.memory s (length before) sound in
       record {
-        sound = record { typed = there.typed; differ = there.differ; declared = there.declared; bytes = there.bytes; since = since_both began before (source_ended (length before) s.memory) since ends };
+        sound = record { typed = there.typed; differ = there.differ; declared = there.declared; single = there.single; bytes = there.bytes; since = since_both began before (source_ended (length before) s.memory) since ends };
         later = ends.later;
       }
 
@@ -67,7 +67,7 @@ module _ (k : Activity) (began before : SourceMemory) (since : Since began befor
   at_close_keeps s (suc left) sound grown = by is_main is_number
     where
       now : Sound k.setting.program s.memory (stopped (here_in k) close.at (record s { turns = left }))
-      now = record { typed = sound.typed; differ = sound.differ; declared = sound.declared; bytes = sound.bytes; since = sound.since }
+      now = record { typed = sound.typed; differ = sound.differ; declared = sound.declared; single = sound.single; bytes = sound.bytes; since = sound.since }
 
       by : (b : Bool) → (b ≡ true → (memory : SourceMemory) → IsOf memory k.setting.tree.result (source.Number (pos 0)))
           → Keeps k.setting.program began before (Of k.setting.tree.result) (forgotten (length before) (if b then Gives (source.Number (pos 0)) (stopped (here_in k) close.at (record s { turns = left })) else Leaves (stopped (here_in k) close.at (record s { turns = left }))))

@@ -254,7 +254,7 @@ byte_keeps x calls vs s sound are = by s.input refl
     by (byte ∷ input) e =
         let bytes : AreBytes (byte ∷ input) = subst AreBytes e sound.bytes in
         let lt = bytes.0 in
-        record { sound = record { typed = sound.typed; differ = sound.differ; declared = sound.declared; bytes = bytes.1; since = sound.since }; later = later_refl s.memory; is = small byte lt }
+        record { sound = record { typed = sound.typed; differ = sound.differ; declared = sound.declared; single = sound.single; bytes = bytes.1; since = sound.since }; later = later_refl s.memory; is = small byte lt }
       where
         small : (n : ℕ) → n < 256 → holds (integer Int) (pos n) ≡ true
         small n lt = grind (arith, nat_tests, lt)
@@ -262,7 +262,7 @@ byte_keeps x calls vs s sound are = by s.input refl
 put_keeps : (x : Setting) (calls : Calls) → CallKeeps x calls callee.Putchar (Integer Int ∷ [])
 put_keeps x calls [] s sound are = absurd are
 put_keeps x calls (source.Number z ∷ []) s sound are =
-    record { sound = record { typed = sound.typed; differ = sound.differ; declared = sound.declared; bytes = sound.bytes; since = sound.since }; later = later_refl s.memory; is = char_in z }
+    record { sound = record { typed = sound.typed; differ = sound.differ; declared = sound.declared; single = sound.single; bytes = sound.bytes; since = sound.since }; later = later_refl s.memory; is = char_in z }
   where
     char_in : (z : ℤ) → holds (integer Int) (converted char_type z) ≡ true
     char_in (pos n) = let lt : n % 256 < 256 = omega arith in grind (arith, nat_tests, lt)

@@ -10,7 +10,7 @@ use Rattle.c_tree.specs.Programs.{ProgramTree}
 use Rattle.c_type_rules.specs.Types.{loaded}
 use Rattle.c_meaning_values.specs.declared.value.Value as source-value
 use Rattle.c_meaning_values.specs.declared.value.Value.TheVariants as source
-use Rattle.c_meaning_values.specs.declared.value.Phase.TheVariants.{Live, Ended}
+use Rattle.c_meaning_values.specs.declared.value.Phase.TheVariants.{Initialising, Live, Ended}
 use Rattle.c_meaning_values.specs.Memory.{Object as SourceObject, Memory as SourceMemory, in_phase, ended_from}
 use Rattle.c_meaning_steps.specs.States.{State}
 use Rattle.c_meaning.specs.Lifetimes.{ending_from}
@@ -155,6 +155,7 @@ sound_closed p began s n h = record {
     | inl both ↦ h.declared i z both.1
     | inr both ↦ subst (λ q. IsDeclared p q.owner q) (sym both.2) (declared_ended p both.0.owner both.0 (h.declared i both.0 both.1))
   ];
+  single = λ i z at young. h.single i z (was i z at (λ over. young_open (sym young ∙ over))) young;
   bytes = h.bytes;
   since = record { later = later_refl (ended_from n s.memory); ends = λ i o at alive. slice_get_within (ended_from n s.memory) i o at };
 }
@@ -164,6 +165,9 @@ sound_closed p began s n h = record {
       | inl both ↦ both.1
       | inr both ↦ absurd (alive (ended_now z both.0 both.2))
     ]
+
+    young_open : Initialising ≡ Ended → ⊥
+    young_open h = cc
 
 -- What the unit's run keeps of it is kept, too.
 pub fits_closed : (x : Setting) (s : State) (l : Local) (w : World) (n : ℕ) → Fits x None s l w → Fits x None (ending_from n s) l w

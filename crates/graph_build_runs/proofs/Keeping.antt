@@ -134,7 +134,7 @@ module _ (k : Activity) where
       by : (turns : ℕ) → KeptBy k low high brought s.memory (on_begun (elim turns [ zero ↦ activations.NoTurn s | suc left ↦ activations.Goes (stopped (here_in k) spot.at (record s { turns = left })) ]) go)
       by zero = tt
       by (suc left) =
-          inside (stopped (here_in k) spot.at (record s { turns = left })) (record { typed = sound.typed; differ = sound.differ; declared = sound.declared; bytes = sound.bytes; since = sound.since }) h (ready k scope low spot.at s.memory here h)
+          inside (stopped (here_in k) spot.at (record s { turns = left })) (record { typed = sound.typed; differ = sound.differ; declared = sound.declared; single = sound.single; bytes = sound.bytes; since = sound.since }) h (ready k scope low spot.at s.memory here h)
 
 module _ (k : Activity) (at : ℕ) (e : RvalueTree) (works : Works k (place_at k at) e) (s : State) (sound : Sound k.setting.program s.memory s) (here : Ready k (place_at k at) s.memory) (low high : ℕ) (brought : List ℕ) where
   depths : length k.setting.waiting + 1 ≡ depth_of (here_in k)

@@ -4,7 +4,7 @@ use Rattle.std.specs.Prelude.{◌==◌, if◌then◌else◌}
 use Rattle.word_base.specs.Owners.{Variable}
 use Rattle.c_tree.specs.Programs.{AutomaticTree, TypedFunctionTree, ProgramTree}
 use Rattle.c_meaning_values.specs.declared.value.Value as source-value
-use Rattle.c_meaning_values.specs.declared.value.Phase.TheVariants.{Live, Ended}
+use Rattle.c_meaning_values.specs.declared.value.Phase.TheVariants.{Initialising, Live, Ended}
 use Rattle.c_meaning_values.specs.Types.{element_of, count_of}
 use Rattle.c_meaning_values.specs.Memory.{Object as SourceObject, Memory as SourceMemory}
 use Rattle.c_meaning_steps.specs.States.{State}
@@ -29,11 +29,17 @@ pub record Since (began memory : SourceMemory) : Type 0 where
   pub later : Later began memory
   pub ends : (n : ℕ) (o : SourceObject) → slice_get memory n ≡ Some o → o.phase ≢ Ended → n < length began
 
--- What a program's run keeps: values are of their types, owners differ, objects are of the types of their variables, the input is bytes, and what began since there was a memory has ended.
+-- an object that is being initialised is a scalar: it has one value
+abbrev pub AreSingle : SourceMemory → Type 0
+AreSingle memory = (n : ℕ) (o : SourceObject) → slice_get memory n ≡ Some o → o.phase ≡ Initialising → length o.values ≡ 1
+
+-- What a program's run keeps: values are of their types, owners differ, objects are of the types of their variables, what is being initialised is a scalar, the input is bytes, and what began since
+-- there was a memory has ended.
 pub record Sound (p : ProgramTree) (began : SourceMemory) (s : State) : Type 0 where
   pub typed : AreTyped s.memory
   pub differ : OwnersDiffer s.memory
   pub declared : AreDeclared p s.memory
+  pub single : AreSingle s.memory
   pub bytes : AreBytes s.input
   pub since : Since began s.memory
 

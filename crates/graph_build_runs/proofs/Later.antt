@@ -1,13 +1,14 @@
 -- Memories that go on: objects stay what they are, whatever they hold.
-use Rattle.std.proofs.Common.{◌≡◌, ℕ, ◌*◌, ◌≤◌, inl, inr, List, [], ◌∷◌, length, Option, Some, slice_get, slice_set, refl, sym, ap, ◌∙◌, subst}
+use Rattle.std.proofs.Common.{◌≡◌, ◌≢◌, ℕ, zero, suc, ◌*◌, ◌≤◌, inl, inr, List, [], ◌∷◌, length, Option, Some, slice_get, slice_set, refl, sym, ap, ◌∙◌, subst}
+use Rattle.std.specs.Option.{option_map_or}
 use Rattle.std.proofs.lemmas.Bool.{cases_eq}
 use Rattle.std.proofs.lemmas.List.{length-set}
 use Rattle.c_tree.specs.Programs.{ProgramTree}
 use Rattle.c_meaning_values.specs.declared.value.Value as source-value
 use Rattle.c_meaning_values.specs.declared.value.Value.TheVariants as source
 use Rattle.c_meaning_values.specs.declared.value.Phase.{Phase}
-use Rattle.c_meaning_values.specs.declared.value.Phase.TheVariants.{Live, Ended}
-use Rattle.c_meaning_values.specs.Memory.{Object as SourceObject, Memory as SourceMemory}
+use Rattle.c_meaning_values.specs.declared.value.Phase.TheVariants.{Initialising, Live, Ended}
+use Rattle.c_meaning_values.specs.Memory.{Object as SourceObject, Memory as SourceMemory, with_value, set_value, in_phase, begun as begun_in}
 use Rattle.graph_core.specs.declared.value.Value.{Value}
 use Rattle.graph_core.specs.declared.value.Value.TheVariants.{Pointer}
 use Rattle.graph_core.specs.Memory.{Object, Memory, bytes_of}
@@ -28,6 +29,23 @@ onward before after same = record { live = λ e. same ∙ e; over = λ e. same �
 
 pub onward_trans : (a b c : Phase) → Onward a b → Onward b c → Onward a c
 onward_trans a b c f g = record { live = λ e. g.live (f.live e); over = λ e. g.over (f.over e); open_before = λ e. f.open_before (g.open_before e) }
+
+-- what lives is not being initialised
+pub not_initialising : {A : Type 0} → Live ≡ Initialising → A
+not_initialising h = cc
+
+-- an object that has not ended comes to live
+pub live_open : (phase : Phase) → phase ≢ Ended → Onward phase Live
+live_open phase alive = record { live = λ e. refl; over = λ e. absurd (alive e); open_before = λ e. no e }
+  where
+    no : {A : Type 0} → Live ≡ Ended → A
+    no h = cc
+
+-- one that is being initialised was so before
+pub still_initialising : (before after : Phase) → Onward before after → after ≡ Initialising → before ≡ Initialising
+still_initialising Initialising after goes_on e = refl
+still_initialising Live after goes_on e = let lives : after ≡ Live = goes_on.live refl in cc
+still_initialising Ended after goes_on e = let over : after ≡ Ended = goes_on.over refl in cc
 
 -- An object of a program's run is there later, the same but for what it holds, and that it may have come to live.
 pub record StillThere (o : SourceObject) (found : Option SourceObject) : Type 0 where
@@ -81,6 +99,22 @@ later_set memory n i o v at m q is = elim (cases_eq m n) [
       }
   | inr ne ↦ record { object = q; is = set_elsewhere memory n m (record o { values = slice_set o.values i v }) ne ∙ is; owner = refl; element = refl; phase = onward q.phase q.phase refl; count = refl }
 ]
+
+-- a value of an object was replaced, and the object lives
+pub later_written : (memory : SourceMemory) (n i : ℕ) (o : SourceObject) (v : source-value.Value) → slice_get memory n ≡ Some o → o.phase ≢ Ended → Later memory (slice_set memory n (record o { values = slice_set o.values i v; phase = Live }))
+later_written memory n i o v at alive = later_changed memory n o (record o { values = slice_set o.values i v; phase = Live }) at refl refl (live_open o.phase alive) (length-set o.values i v)
+
+pub set_twice : {A : Type 0} (xs : List A) (n : ℕ) (a b : A) → slice_set (slice_set xs n a) n b ≡ slice_set xs n b
+set_twice [] n a b = refl
+set_twice (x ∷ xs) zero a b = refl
+set_twice (x ∷ xs) (suc n) a b = ap (λ ys. x ∷ ys) (set_twice xs n a b)
+
+-- What a write makes of a memory: the object has the value, and lives.
+pub written_is : (memory : SourceMemory) (n i : ℕ) (o : SourceObject) (v : source-value.Value) → slice_get memory n ≡ Some o → begun_in (set_value memory n i v) n ≡ slice_set memory n (record o { values = slice_set o.values i v; phase = Live })
+written_is memory n i o v at =
+    ap (λ q. begun_in (option_map_or (λ z. slice_set memory n (with_value z i v)) q memory) n) at
+    ∙ ap (λ q. option_map_or (λ z. slice_set (slice_set memory n (with_value o i v)) n (in_phase Live z)) q (slice_set memory n (with_value o i v))) (set_here memory n o (with_value o i v) at)
+    ∙ set_twice memory n (with_value o i v) (record o { values = slice_set o.values i v; phase = Live })
 
 -- An object of a unit's run is there later, the same but for what it holds.
 pub record OtherThere (q : Object) (found : Option Object) : Type 0 where

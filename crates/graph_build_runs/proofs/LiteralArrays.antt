@@ -37,7 +37,7 @@ use Rattle.graph_build_statements.specs.Declaring.{cleared}
 use Rattle.graph_build_runs.specs.Typed.{IsOf}
 use Rattle.graph_build_runs.specs.Correspondence.{SameValues}
 use Rattle.graph_build_runs.proofs.Leads.{names_in, Local, World, Leads, goes, stays, then_leads}
-use Rattle.graph_build_runs.proofs.Later.{set_here}
+use Rattle.graph_build_runs.proofs.Later.{set_here, set_twice}
 use Rattle.graph_build_runs.proofs.Elements.{element_size}
 use Rattle.graph_build_runs.proofs.Wrapping.{wrapped_holds}
 use Rattle.graph_build_runs.proofs.Activities.{Activity, coding_in, here_in, place_at, before_in}
@@ -47,7 +47,6 @@ use Rattle.graph_build_runs.proofs.Stops.{Lawful, PlaceIs, place_begins}
 use Rattle.graph_build_runs.proofs.AtPlaces.{Begins, going_comes}
 use Rattle.graph_build_runs.proofs.Keeping.{KeptBy, KeepsOn, place_kept}
 use Rattle.graph_build_runs.proofs.Making.{new_in, with_new, made_is, zero_typed}
-use Rattle.graph_build_runs.proofs.Declared.{set_twice}
 use Rattle.graph_build_runs.proofs.Clearing.{zeroed_is}
 use Rattle.graph_build_runs.proofs.Arrays.{with_array, sound_array, grown_array, lives_array, fits_array}
 use Rattle.graph_build_runs.proofs.ArrayLiterals.{filled_with, filled_length, filled_all, values_set_in, copied_same}

@@ -1,12 +1,12 @@
 -- A declarator makes a new object: what is kept with it.
-use Rattle.std.proofs.Common.{◌≡◌, ◌≢◌, ℕ, zero, suc, ◌+◌, ◌≤◌, ◌⊎◌, inl, inr, List, [], ◌∷◌, ◌++◌, length, replicate, Some, None, true, false, slice_get, slice_set, refl, sym, ap, ◌∙◌, subst, arith, pos}
+use Rattle.std.proofs.Common.{◌≡◌, ◌≢◌, ℕ, zero, suc, ◌+◌, ◌≤◌, ◌⊎◌, inl, inr, List, [], ◌∷◌, ◌++◌, length, replicate, Some, None, true, false, slice_get, refl, sym, ap, ◌∙◌, subst, arith, pos}
 use Rattle.std.specs.Prelude.{◌==◌, if◌then◌else◌}
 use Rattle.std.specs.List.{AllByRecursion}
 use Rattle.std.proofs.lemmas.Bool.Decides.{nat_tests}
 use Rattle.std.specs.Option.{option_map_or}
 use Rattle.std.proofs.lemmas.Option.{slice_get_within}
 use Rattle.std.proofs.lemmas.List.{length-replicate}
-use Rattle.word_base.specs.Owners.{Owner, Static, Literal, Variable}
+use Rattle.word_base.specs.Owners.{Variable}
 use Rattle.word_base.specs.Types.{holds}
 use Rattle.c_tree.specs.declared.types.IntegerType.{IntegerType}
 use Rattle.c_tree.specs.declared.types.IntegerType.TheVariants.{Char, SignedChar, UnsignedChar, Short, UnsignedShort, Int, UnsignedInt, Long, UnsignedLong}
@@ -21,14 +21,14 @@ use Rattle.c_meaning_values.specs.declared.value.Value.TheVariants.{Null}
 use Rattle.c_meaning_values.specs.declared.value.Phase.{Phase}
 use Rattle.c_meaning_values.specs.declared.value.Phase.TheVariants.{Initialising, Live, Ended}
 use Rattle.c_meaning_values.specs.Types.{element_of, count_of, zero_of, zero_by_stars}
-use Rattle.c_meaning_values.specs.Memory.{Object as SourceObject, Memory as SourceMemory, new_object, in_phase}
+use Rattle.c_meaning_values.specs.Memory.{Object as SourceObject, Memory as SourceMemory, new_object}
 use Rattle.c_meaning_steps.specs.States.{State}
 use Rattle.c_meaning.specs.Lifetimes.{made}
-use Rattle.graph_build_runs.specs.Typed.{IsOf}
+use Rattle.graph_build_runs.specs.Typed.{IsOf, OwnersDiffer}
 use Rattle.graph_build_runs.specs.Correspondence.{IsInMemory}
-use Rattle.graph_build_runs.specs.Stops.{IsDeclared}
+use Rattle.graph_build_runs.specs.Stops.{IsDeclared, AreDeclared}
 use Rattle.graph_build_runs.proofs.Leads.{depth_in, Local, World}
-use Rattle.graph_build_runs.proofs.Later.{some_same, get_set, Onward, onward, Later, later_refl, later_changed, others_refl}
+use Rattle.graph_build_runs.proofs.Later.{some_same, onward, Later, later_refl, others_refl}
 use Rattle.graph_build_runs.proofs.Kept.{Sound, Placed, Fits}
 use Rattle.graph_build_runs.proofs.Noting.{scalar_later, outer_later, placed_later}
 use Rattle.graph_build_runs.proofs.Typing.{of_later}
@@ -82,74 +82,49 @@ pub typed_later : (memory after : SourceMemory) → Later memory after → (t : 
 typed_later memory after later t [] all = tt
 typed_later memory after later t (v ∷ vs) all = (of_later memory after later t v all.0, typed_later memory after later t vs all.1)
 
--- an object in another phase is of its variable's type
-declared_in : (p : ProgramTree) (owner : Owner) (phase : Phase) (o : SourceObject) → IsDeclared p owner o → IsDeclared p owner (in_phase phase o)
-declared_in p (Static n) phase o c = (c.0, c.1, c.2, c.3)
-declared_in p (Literal n) phase o c = (c.0, c.1, c.2, c.3)
-declared_in p (Variable n d) phase o c = (c.0, c.1, c.2, c.3)
-
 depth_is : {a b d e : ℕ} → Variable a d ≡ Variable b e → d ≡ e
 depth_is h = cc
 
-pub live_open : (phase : Phase) → phase ≢ Ended → Onward phase Live
-live_open phase alive = record { live = λ e. refl; over = λ e. absurd (alive e); open_before = λ e. no e }
+-- Owners differ with a new object of a variable above those that live.
+differ_more : (depth v : ℕ) (o : SourceObject) → o.owner ≡ Variable v depth → (memory : SourceMemory) (low : ℕ) → low ≤ v → Under memory depth low → OwnersDiffer memory → OwnersDiffer (memory ++ o ∷ [])
+differ_more depth v o owner_is memory low le under differ i j q r fi fj qa ra same = elim (got_last memory o q i fi) [
+  | inl here ↦ elim (got_last memory o r j fj) [
+    | inl there ↦ differ i j q r here there qa ra same
+    | inr both ↦ older i q here qa (same ∙ ap (λ z. z.owner) both.1 ∙ owner_is)
+  ]
+  | inr front ↦ elim (got_last memory o r j fj) [
+    | inl there ↦ older j r there ra (sym same ∙ ap (λ z. z.owner) front.1 ∙ owner_is)
+    | inr both ↦ front.0 ∙ sym both.0
+  ]
+]
   where
-    no : {A : Type 0} → Live ≡ Ended → A
-    no h = cc
+    older : {A : Type 0} (i : ℕ) (q : SourceObject) → slice_get memory i ≡ Some q → q.phase ≢ Ended → q.owner ≡ Variable v depth → A
+    older i q found alive owner = let c = under i q v depth found alive owner in let less = c.1 refl in absurd (omega (arith, less, le))
 
--- An object comes to live: what a program's run keeps is kept.
-pub sound_begun : (p : ProgramTree) (began : SourceMemory) (s : State) (n : ℕ) (o : SourceObject) → slice_get s.memory n ≡ Some o → o.phase ≢ Ended → Sound p began s → Sound p (slice_set s.memory n (in_phase Live o)) (record s { memory = slice_set s.memory n (in_phase Live o) })
-sound_begun p began s n o at alive sound = record {
-  typed = λ m z found. elim (get_set s.memory n m (in_phase Live o) z found) [
-    | inl both ↦
-        subst (λ q. AllByRecursion (IsOf (slice_set s.memory n (in_phase Live o)) (loaded q.element)) q.values) (sym both.1)
-        (typed_later s.memory (slice_set s.memory n (in_phase Live o)) (later_changed s.memory n o (in_phase Live o) at refl refl (live_open o.phase alive) refl) (loaded o.element) o.values (sound.typed n o at))
-    | inr both ↦
-        typed_later s.memory (slice_set s.memory n (in_phase Live o)) (later_changed s.memory n o (in_phase Live o) at refl refl (live_open o.phase alive) refl) (loaded z.element) z.values (sound.typed m z both.1)
-  ];
-  differ = λ i j q r fi fj qa ra same. (let x = old i q fi qa in let y = old j r fj ra in sound.differ i j x.0 y.0 x.1 y.1 x.2 y.2 (sym x.3 ∙ same ∙ y.3));
-  declared = λ m z found. elim (get_set s.memory n m (in_phase Live o) z found) [
-    | inl both ↦ subst (λ q. IsDeclared p q.owner q) (sym both.1) (declared_in p o.owner Live o (sound.declared n o at))
-    | inr both ↦ sound.declared m z both.1
-  ];
-  bytes = sound.bytes;
-  since = record { later = later_refl (slice_set s.memory n (in_phase Live o)); ends = λ m z found open_z. slice_get_within (slice_set s.memory n (in_phase Live o)) m z found };
-}
-  where
-    old : (i : ℕ) (q : SourceObject) → slice_get (slice_set s.memory n (in_phase Live o)) i ≡ Some q → q.phase ≢ Ended → (z : SourceObject) × (slice_get s.memory i ≡ Some z) × (z.phase ≢ Ended) × (q.owner ≡ z.owner)
-    old i q found open_q = elim (get_set s.memory n i (in_phase Live o) q found) [
-      | inl both ↦ (o, ap (slice_get s.memory) both.0 ∙ at, alive, ap (λ z. z.owner) both.1)
-      | inr both ↦ (q, both.1, open_q, refl)
-    ]
+-- objects are of the types of their variables with a new one that is
+declared_more : (p : ProgramTree) (depth v : ℕ) (a : AutomaticTree) → slice_get p.automatics v ≡ Some a → (o : SourceObject) → o.owner ≡ Variable v depth → o.element ≡ element_of a.of → length o.values ≡ count_of a.of → (memory : SourceMemory) → AreDeclared p memory → AreDeclared p (memory ++ o ∷ [])
+declared_more p depth v a is o owner_is element count memory declared n z found = elim (got_last memory o z n found) [
+  | inl here ↦ declared n z here
+  | inr both ↦ subst (λ q. IsDeclared p q.owner q) (sym both.1) (subst (λ w. IsDeclared p w o) (sym owner_is) (a, is, element, count))
+]
 
 -- What a program's run keeps is kept with a new object of a variable above those that live.
-pub sound_more : (k : Activity) (v : ℕ) (a : AutomaticTree) → slice_get k.setting.program.automatics v ≡ Some a → (o : SourceObject) → o.owner ≡ Variable v (depth_in k.setting) → o.element ≡ element_of a.of → length o.values ≡ count_of a.of → (s : State) (low : ℕ) → low ≤ v → Under s.memory (depth_in k.setting) low
-    → Sound k.setting.program s.memory s → AllByRecursion (IsOf (s.memory ++ o ∷ []) (loaded o.element)) o.values → Sound k.setting.program (s.memory ++ o ∷ []) (record s { memory = s.memory ++ o ∷ [] })
-sound_more k v a is o owner_is element count s low le under sound typed = record {
+pub sound_more : (k : Activity) (v : ℕ) (a : AutomaticTree) → slice_get k.setting.program.automatics v ≡ Some a → (o : SourceObject) → o.owner ≡ Variable v (depth_in k.setting) → o.element ≡ element_of a.of → length o.values ≡ count_of a.of → (o.phase ≡ Initialising → length o.values ≡ 1)
+    → (s : State) (low : ℕ) → low ≤ v → Under s.memory (depth_in k.setting) low → Sound k.setting.program s.memory s → AllByRecursion (IsOf (s.memory ++ o ∷ []) (loaded o.element)) o.values → Sound k.setting.program (s.memory ++ o ∷ []) (record s { memory = s.memory ++ o ∷ [] })
+sound_more k v a is o owner_is element count single s low le under sound typed = record {
   typed = λ n z found. elim (got_last s.memory o z n found) [
     | inl here ↦ typed_later s.memory (s.memory ++ o ∷ []) (later_more s.memory o) (loaded z.element) z.values (sound.typed n z here)
     | inr both ↦ subst (λ q. AllByRecursion (IsOf (s.memory ++ o ∷ []) (loaded q.element)) q.values) (sym both.1) typed
   ];
-  differ = λ i j q r fi fj qa ra same. elim (got_last s.memory o q i fi) [
-    | inl here ↦ elim (got_last s.memory o r j fj) [
-      | inl there ↦ sound.differ i j q r here there qa ra same
-      | inr both ↦ older i q here qa (same ∙ ap (λ z. z.owner) both.1 ∙ owner_is)
-    ]
-    | inr front ↦ elim (got_last s.memory o r j fj) [
-      | inl there ↦ older j r there ra (sym same ∙ ap (λ z. z.owner) front.1 ∙ owner_is)
-      | inr both ↦ front.0 ∙ sym both.0
-    ]
-  ];
-  declared = λ n z found. elim (got_last s.memory o z n found) [
-    | inl here ↦ sound.declared n z here
-    | inr both ↦ subst (λ q. IsDeclared k.setting.program q.owner q) (sym both.1) (subst (λ w. IsDeclared k.setting.program w o) (sym owner_is) (a, is, element, count))
+  differ = differ_more (depth_in k.setting) v o owner_is s.memory low le under sound.differ;
+  declared = declared_more k.setting.program (depth_in k.setting) v a is o owner_is element count s.memory sound.declared;
+  single = λ n z found young. elim (got_last s.memory o z n found) [
+    | inl here ↦ sound.single n z here young
+    | inr both ↦ ap (λ q. length q.values) both.1 ∙ single (sym (ap (λ q. q.phase) both.1) ∙ young)
   ];
   bytes = sound.bytes;
   since = record { later = later_refl (s.memory ++ o ∷ []); ends = λ n z found alive. slice_get_within (s.memory ++ o ∷ []) n z found };
 }
-  where
-    older : {A : Type 0} (i : ℕ) (q : SourceObject) → slice_get s.memory i ≡ Some q → q.phase ≢ Ended → q.owner ≡ Variable v (depth_in k.setting) → A
-    older i q found alive owner = let c = under i q v (depth_in k.setting) found alive owner in let less = c.1 refl in absurd (omega (arith, less, le))
 
 pub grown_more : (depth : ℕ) (memory : SourceMemory) (o : SourceObject) (low v : ℕ) → low ≤ v → o.owner ≡ Variable v depth → Grown depth low (v + 1) memory (memory ++ o ∷ [])
 grown_more depth memory o low v le owner = record {
@@ -187,10 +162,17 @@ module _ (k : Activity) (v : ℕ) (a : AutomaticTree) (is : slice_get k.setting.
     sees = λ q found j w vis. lives_later memory (with_new memory) (later_more memory new_in) w (depth_in k.setting) (h.sees q found j w vis);
   }
 
-  -- What a program's run keeps is kept with the new object, whose variable is above those that live.
-  pub sound_made : (s : State) (low : ℕ) → low ≤ v → Under s.memory (depth_in k.setting) low → Sound k.setting.program s.memory s → Sound k.setting.program (with_new s.memory) (record s { memory = with_new s.memory })
-  sound_made s low le under sound =
-      sound_more k v a is new_in refl refl (length-replicate (count_of a.of) (zero_of (element_of a.of))) s low le under sound
+  -- Owners differ with the new object, whose variable is above those that live, and objects are of the types of their variables.
+  pub differ_made : (memory : SourceMemory) (low : ℕ) → low ≤ v → Under memory (depth_in k.setting) low → OwnersDiffer memory → OwnersDiffer (with_new memory)
+  differ_made memory low le under differ = differ_more (depth_in k.setting) v new_in refl memory low le under differ
+
+  pub declared_made : (memory : SourceMemory) → AreDeclared k.setting.program memory → AreDeclared k.setting.program (with_new memory)
+  declared_made memory declared = declared_more k.setting.program (depth_in k.setting) v a is new_in refl refl (length-replicate (count_of a.of) (zero_of (element_of a.of))) memory declared
+
+  -- What a program's run keeps is kept with the new object, which is a scalar where it is being initialised.
+  pub sound_made : (phase ≡ Initialising → count_of a.of ≡ 1) → (s : State) (low : ℕ) → low ≤ v → Under s.memory (depth_in k.setting) low → Sound k.setting.program s.memory s → Sound k.setting.program (with_new s.memory) (record s { memory = with_new s.memory })
+  sound_made single s low le under sound =
+      sound_more k v a is new_in refl refl (length-replicate (count_of a.of) (zero_of (element_of a.of))) (λ young. length-replicate (count_of a.of) (zero_of (element_of a.of)) ∙ single young) s low le under sound
       (all_alike (IsOf (with_new s.memory) (loaded (element_of a.of))) (count_of a.of) (zero_of (element_of a.of)) (zero_typed (with_new s.memory) (element_of a.of).base (element_of a.of).stars))
 
 -- What the unit's run keeps is kept with an object that is being initialised.

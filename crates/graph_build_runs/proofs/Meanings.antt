@@ -22,7 +22,8 @@ use Rattle.c_type_laws.specs.Kinds.{of_if, is_of, is_typed}
 use Rattle.c_type_laws.specs.Expressions.{kind_of}
 use Rattle.c_meaning_values.specs.declared.value.Value.{Value}
 use Rattle.c_meaning_values.specs.declared.value.Value.TheVariants as source
-use Rattle.c_meaning_values.specs.declared.value.Phase.TheVariants.{Ended}
+use Rattle.c_meaning_values.specs.declared.value.Phase.{Phase}
+use Rattle.c_meaning_values.specs.declared.value.Phase.TheVariants.{Live, Ended}
 use Rattle.c_meaning_steps.specs.declared.event.Ending.TheVariants.{Undefined}
 use Rattle.c_meaning_values.specs.Types.{element_of, scalar_size}
 use Rattle.c_meaning_values.specs.Memory.{Object, Memory, is_usable, is_begun, is_writable, index_at, read, value_in, write, written_in, set_value, with_value}
@@ -32,7 +33,7 @@ use Rattle.c_meaning_steps.specs.Steps.{load, store, stored}
 use Rattle.graph_build_runs.specs.Typed.{PointsInto, IsOf, AreTyped, OwnersDiffer}
 use Rattle.graph_build_runs.specs.Stops.{IsDeclared, AreDeclared}
 use Rattle.graph_build_runs.proofs.Leads.{Setting, depth_in}
-use Rattle.graph_build_runs.proofs.Later.{get_set, Later, later_refl, later_trans, later_set}
+use Rattle.graph_build_runs.proofs.Later.{get_set, Onward, onward, live_open, still_initialising, Later, later_refl, later_trans, later_changed}
 use Rattle.graph_build_runs.proofs.Kept.{Sound}
 use Rattle.graph_build_runs.proofs.Leaves.{both_with}
 use Rattle.graph_build_runs.proofs.Typing.{HasKind, Gave, Left, Keeps, Typed, of_later, kind_later}
@@ -81,40 +82,61 @@ all_set memory t [] i v all is = tt
 all_set memory t (u ∷ vs) zero v all is = (is, all.1)
 all_set memory t (u ∷ vs) (suc i) v all is = (all.0, all_set memory t vs i v all.1 is)
 
--- A value of its type is written into an object: what runs keep is kept.
-module _ (p : ProgramTree) (began : Memory) (s : State) (n i : ℕ) (o : Object) (v : Value) (at : slice_get s.memory n ≡ Some o) (sound : Sound p began s) (is : IsOf s.memory (loaded o.element) v) where
-  written_later : Later s.memory (slice_set s.memory n (record o { values = slice_set o.values i v }))
-  written_later = later_set s.memory n i o v at
+-- An object takes a value of its type, and may come to live: what runs keep is kept.
+module _ (p : ProgramTree) (began : Memory) (s : State) (n i : ℕ) (o : Object) (v : Value) (phase : Phase) (goes_on : Onward o.phase phase) (at : slice_get s.memory n ≡ Some o) (sound : Sound p began s) (is : IsOf s.memory (loaded o.element) v) where
+  abbrev changed : Object
+  changed = record o { values = slice_set o.values i v; phase = phase }
 
-  pub sound_set : Sound p began (record s { memory = slice_set s.memory n (record o { values = slice_set o.values i v }) })
-  sound_set = record {
-    typed = λ m q found. elim (get_set s.memory n m (record o { values = slice_set o.values i v }) q found) [
+  abbrev after : Memory
+  after = slice_set s.memory n changed
+
+  changed_later : Later s.memory after
+  changed_later = later_changed s.memory n o changed at refl refl goes_on (length-set o.values i v)
+
+  sound_changed : Sound p began (record s { memory = after })
+  sound_changed = record {
+    typed = λ m q found. elim (get_set s.memory n m changed q found) [
       | inl both ↦
-          subst (λ z. AllByRecursion (IsOf (slice_set s.memory n (record o { values = slice_set o.values i v })) (loaded z.element)) z.values) (sym both.1)
-          (all_set (slice_set s.memory n (record o { values = slice_set o.values i v })) (loaded o.element) o.values i v
-          (all_later s.memory (slice_set s.memory n (record o { values = slice_set o.values i v })) (later_set s.memory n i o v at) (loaded o.element) o.values (sound.typed n o at))
-          (of_later s.memory (slice_set s.memory n (record o { values = slice_set o.values i v })) (later_set s.memory n i o v at) (loaded o.element) v is))
-      | inr both ↦ all_later s.memory (slice_set s.memory n (record o { values = slice_set o.values i v })) (later_set s.memory n i o v at) (loaded q.element) q.values (sound.typed m q both.1)
+          subst (λ z. AllByRecursion (IsOf after (loaded z.element)) z.values) (sym both.1)
+          (all_set after (loaded o.element) o.values i v
+          (all_later s.memory after changed_later (loaded o.element) o.values (sound.typed n o at))
+          (of_later s.memory after changed_later (loaded o.element) v is))
+      | inr both ↦ all_later s.memory after changed_later (loaded q.element) q.values (sound.typed m q both.1)
     ];
-    differ = λ a b q r fa fb la lb same. (let x = old a q fa in let y = old b r fb in sound.differ a b x.0 y.0 x.1 y.1 (λ e. la (x.2 ∙ e)) (λ e. lb (y.2 ∙ e)) (sym x.3 ∙ same ∙ y.3));
-    declared = λ m q found. elim (get_set s.memory n m (record o { values = slice_set o.values i v }) q found) [
+    differ = λ a b q r fa fb la lb same. (let x = old a q fa in let y = old b r fb in sound.differ a b x.0 y.0 x.1 y.1 (λ e. la (x.2 e)) (λ e. lb (y.2 e)) (sym x.3 ∙ same ∙ y.3));
+    declared = λ m q found. elim (get_set s.memory n m changed q found) [
       | inl both ↦ subst (λ z. IsDeclared p z.owner z) (sym both.1) (declared_set o.owner (sound.declared n o at))
       | inr both ↦ sound.declared m q both.1
     ];
+    single = λ m q found young. elim (get_set s.memory n m changed q found) [
+      | inl both ↦
+          let before = still_initialising o.phase phase goes_on (sym (ap (λ z. z.phase) both.1) ∙ young) in
+          ap (λ z. length z.values) both.1 ∙ length-set o.values i v ∙ sound.single n o at before
+      | inr both ↦ sound.single m q both.1 young
+    ];
     bytes = sound.bytes;
     since = record {
-      later = later_trans began s.memory (slice_set s.memory n (record o { values = slice_set o.values i v })) sound.since.later (later_set s.memory n i o v at);
-      ends = λ m q found alive. (let x = old m q found in sound.since.ends m x.0 x.1 (λ e. alive (x.2 ∙ e)));
+      later = later_trans began s.memory after sound.since.later changed_later;
+      ends = λ m q found alive. (let x = old m q found in sound.since.ends m x.0 x.1 (λ e. alive (x.2 e)));
     };
   }
     where
-      old : (a : ℕ) (q : Object) → slice_get (slice_set s.memory n (record o { values = slice_set o.values i v })) a ≡ Some q → (z : Object) × (slice_get s.memory a ≡ Some z) × (q.phase ≡ z.phase) × (q.owner ≡ z.owner)
-      old a q found = elim (get_set s.memory n a (record o { values = slice_set o.values i v }) q found) [
-        | inl both ↦ (o, ap (slice_get s.memory) both.0 ∙ at, ap (λ z. z.phase) both.1, ap (λ z. z.owner) both.1)
-        | inr both ↦ (q, both.1, refl, refl)
+      old : (a : ℕ) (q : Object) → slice_get after a ≡ Some q → (z : Object) × (slice_get s.memory a ≡ Some z) × (z.phase ≡ Ended → q.phase ≡ Ended) × (q.owner ≡ z.owner)
+      old a q found = elim (get_set s.memory n a changed q found) [
+        | inl both ↦ (o, ap (slice_get s.memory) both.0 ∙ at, (λ e. ap (λ z. z.phase) both.1 ∙ goes_on.over e), ap (λ z. z.owner) both.1)
+        | inr both ↦ (q, both.1, (λ e. e), refl)
       ]
 
-      declared_set : (w : Owner) → IsDeclared p w o → IsDeclared p w (record o { values = slice_set o.values i v })
+      declared_set : (w : Owner) → IsDeclared p w o → IsDeclared p w changed
       declared_set (Static k) c = (c.0, c.1, c.2, length-set o.values i v ∙ c.3)
       declared_set (Literal k) c = (c.0, c.1, c.2, length-set o.values i v ∙ c.3)
       declared_set (Variable k d) c = (c.0, c.1, c.2, length-set o.values i v ∙ c.3)
+
+-- An element of an array takes a value.
+pub sound_set : (p : ProgramTree) (began : Memory) (s : State) (n i : ℕ) (o : Object) (v : Value) → slice_get s.memory n ≡ Some o → Sound p began s → IsOf s.memory (loaded o.element) v → Sound p began (record s { memory = slice_set s.memory n (record o { values = slice_set o.values i v }) })
+sound_set p began s n i o v at sound is = sound_changed p began s n i o v o.phase (onward o.phase o.phase refl) at sound is
+
+-- An object is written, and lives.
+pub sound_written : (p : ProgramTree) (began : Memory) (s : State) (n i : ℕ) (o : Object) (v : Value) → slice_get s.memory n ≡ Some o → o.phase ≢ Ended → Sound p began s → IsOf s.memory (loaded o.element) v
+    → Sound p began (record s { memory = slice_set s.memory n (record o { values = slice_set o.values i v; phase = Live }) })
+sound_written p began s n i o v at alive sound is = sound_changed p began s n i o v Live (live_open o.phase alive) at sound is

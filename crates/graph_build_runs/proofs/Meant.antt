@@ -1,7 +1,6 @@
 -- Names, reads, assignments, operators and tests come to values of their types.
 use Rattle.std.proofs.Common.{◌≡◌, ◌≢◌, ℕ, zero, suc, ◌+◌, ◌*◌, ◌/◌, ◌<◌, ◌≤◌, List, [], ◌∷◌, length, Option, Some, None, Bool, true, false, not, ◌&&◌, slice_get, slice_set, refl, sym, ap, ◌∙◌, subst, arith, ℤ, pos}
 use Rattle.std.specs.Prelude.{◌==◌, if◌then◌else◌, option_map, option_and_then}
-use Rattle.std.specs.Option.{option_map_or}
 use Rattle.std.specs.List.{AllByRecursion}
 use Rattle.word_base.specs.Owners.{Owner, Static, Literal, Variable}
 use Rattle.word_base.specs.Operations.{truth as truth_of}
@@ -28,9 +27,10 @@ use Rattle.c_type_laws.specs.Kinds.{is_of}
 use Rattle.c_type_laws.specs.Expressions.{kind_of}
 use Rattle.c_meaning_values.specs.declared.value.Value.{Value}
 use Rattle.c_meaning_values.specs.declared.value.Value.TheVariants as source
+use Rattle.c_meaning_values.specs.declared.value.Phase.TheVariants.{Live}
 use Rattle.c_meaning_steps.specs.declared.event.Ending.TheVariants.{Undefined}
 use Rattle.c_meaning_values.specs.Types.{element_of, count_of}
-use Rattle.c_meaning_values.specs.Memory.{Object, Memory, is_usable, is_begun, is_writable, index_at, object_of, read, value_in, write, written_in, set_value, with_value}
+use Rattle.c_meaning_values.specs.Memory.{Object, Memory, is_usable, is_begun, is_writable, index_at, object_of, read, value_in, write, written_in, set_value, begun}
 use Rattle.c_meaning_values.specs.Operations.{arithmetic, comparison, compared}
 use Rattle.c_meaning_steps.specs.States.{State, Evaluated, Gives, Leaves, Ends, given, with, usable, both, on_both, Tested, Holds, Fails, NoTest, tested, on_test}
 use Rattle.c_meaning.specs.Expressions.{Calls, evaluate, designate}
@@ -38,14 +38,14 @@ use Rattle.c_meaning_steps.specs.Steps.{named, load, store, stored, truth}
 use Rattle.graph_build_runs.specs.Typed.{PointsInto, IsPointerTo, IsOf}
 use Rattle.graph_build_runs.specs.Stops.{IsDeclared}
 use Rattle.graph_build_runs.proofs.Leads.{Setting, depth_in}
-use Rattle.graph_build_runs.proofs.Later.{Later, later_refl, later_set}
+use Rattle.graph_build_runs.proofs.Later.{Later, later_refl, later_written, written_is}
 use Rattle.graph_build_runs.proofs.Kept.{Sound}
 use Rattle.graph_build_runs.proofs.Leaves.{both_with}
-use Rattle.graph_build_runs.proofs.Objects.{Owned, owned_at}
+use Rattle.graph_build_runs.proofs.Objects.{Owned, owned_at, writable_open}
 use Rattle.graph_build_runs.proofs.Wholes.{stands_first}
 use Rattle.graph_build_runs.proofs.Typing.{HasKind, Gave, Left, Keeps, KeepsTest, keeps_tested, Typed, of_later, kind_later}
 use Rattle.graph_build_runs.proofs.Types.{kind_is_of}
-use Rattle.graph_build_runs.proofs.Meanings.{keeps_before, keeps_with, keeps_afterwards, keeps_given, all_at, sound_set}
+use Rattle.graph_build_runs.proofs.Meanings.{keeps_before, keeps_with, keeps_afterwards, keeps_given, all_at, sound_written}
 
 -- An lvalue is designated by a pointer to elements of its type.
 abbrev pub TypedPlace : Setting → Calls → LvalueTree → Type 0
@@ -117,21 +117,19 @@ pub store_typed : (p : ProgramTree) (began : Memory) (sc : Scalar) (ptr v : Valu
 store_typed p began sc (source.Number z) v s sound is typed = absurd is
 store_typed p began sc source.Null v s sound is typed = tt
 store_typed p began sc (source.Pointer n offset) v s sound c typed =
-    subst (λ q. Keeps p began s.memory (Of (loaded sc)) (stored (option_and_then (written_in s.memory n offset v) q) v s)) (sym c.is) (by_way (is_writable c.object offset))
+    subst (λ q. Keeps p began s.memory (Of (loaded sc)) (stored (option_and_then (written_in s.memory n offset v) q) v s)) (sym c.is) (by_way (is_writable c.object offset) refl)
   where
-    is_set : set_value s.memory n (index_at c.object offset) v ≡ slice_set s.memory n (record c.object { values = slice_set c.object.values (index_at c.object offset) v })
-    is_set = ap (λ q. option_map_or (λ o. slice_set s.memory n (with_value o (index_at c.object offset) v)) q s.memory) c.is
-
     typed_here : IsOf s.memory (loaded c.object.element) v
     typed_here = subst (λ q. IsOf s.memory (loaded q) v) (sym c.element_is) typed
 
-    by_way : (b : Bool) → Keeps p began s.memory (Of (loaded sc)) (stored (if b then Some (set_value s.memory n (index_at c.object offset) v) else None) v s)
-    by_way true =
-        let after = slice_set s.memory n (record c.object { values = slice_set c.object.values (index_at c.object offset) v }) in
-        let later = later_set s.memory n (index_at c.object offset) c.object v c.is in
-        subst (λ m. Gave p began s.memory (Of (loaded sc)) v (record s { memory = m })) (sym is_set)
-        (record { sound = sound_set p began s n (index_at c.object offset) c.object v c.is sound typed_here; later = later; is = of_later s.memory after later (loaded sc) v typed })
-    by_way false = tt
+    by_way : (b : Bool) → is_writable c.object offset ≡ b → Keeps p began s.memory (Of (loaded sc)) (stored (if b then Some (begun (set_value s.memory n (index_at c.object offset) v) n) else None) v s)
+    by_way true e =
+        let alive = writable_open c.object offset e in
+        let after = slice_set s.memory n (record c.object { values = slice_set c.object.values (index_at c.object offset) v; phase = Live }) in
+        let later = later_written s.memory n (index_at c.object offset) c.object v c.is alive in
+        subst (λ m. Gave p began s.memory (Of (loaded sc)) v (record s { memory = m })) (sym (written_is s.memory n (index_at c.object offset) c.object v c.is))
+        (record { sound = sound_written p began s n (index_at c.object offset) c.object v c.is alive sound typed_here; later = later; is = of_later s.memory after later (loaded sc) v typed })
+    by_way false e = tt
 
 pub assign_of : (x : Setting) (calls : Calls) (sc : Scalar) (l : LvalueTree) (e : RvalueTree) → kind_of x.program x.tree (Assign sc l e) ≡ Of (loaded sc) → object_type l ≡ of-object.Scalar sc → is_of (kind_of x.program x.tree e) (loaded sc) ≡ true → TypedPlace x calls l → Typed x calls e
     → Typed x calls (Assign sc l e)

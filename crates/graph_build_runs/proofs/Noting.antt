@@ -24,7 +24,7 @@ use Rattle.graph_build_names.specs.Names.{Names, names_of, scalar_of}
 use Rattle.graph_build_runs.specs.Typed.{OwnersDiffer}
 use Rattle.graph_build_runs.specs.Correspondence.{SameObject, SamePointer, points, ended, SameValue, SameValues, IsInMemory}
 use Rattle.graph_build_runs.proofs.Leads.{Setting, names_in, depth_in, Local, World, put_here, put_elsewhere, same_number}
-use Rattle.graph_build_runs.proofs.Later.{get_set, Onward, onward, Later, later_changed, OthersLater, others_refl, value_later, values_later}
+use Rattle.graph_build_runs.proofs.Later.{get_set, Onward, live_open, Later, later_changed, OthersLater, others_refl, value_later, values_later}
 use Rattle.graph_build_runs.proofs.Kept.{is_want, ScalarIs, ObjectIs, Own, Waits, Outer, Placed, ArePlaced, Fits}
 
 -- a value that corresponds to one of the source is known
@@ -185,7 +185,8 @@ module _ (x : Setting) (y k m : ℕ) (o : SourceObject) (v : source-value.Value)
       in_no_memory : IsInMemory x.program (Variable y (depth_in x)) → ⊥
       in_no_memory inside = let no = apart.outside y k inside.0 named inside.1 in let yes = inside.2 in cc
 
+-- The object is written, and lives.
 pub fits_noted : (x : Setting) (y k m : ℕ) (o : SourceObject) (v : source-value.Value) (s : State) (l : Local) (w : World) → ScalarsApart x → scalar_of (names_in x) y ≡ Some k → slice_get s.memory m ≡ Some o → o.owner ≡ Variable y (depth_in x) → o.phase ≢ Ended → length o.values ≡ 1 → OwnersDiffer s.memory
     → Fits x (Some k) s l w → SameValue x.program s.memory w.memory v (l.names k)
-    → Fits x None (record s { memory = slice_set s.memory m (record o { values = slice_set o.values 0 v }) }) (record l { shadows = put l.shadows k (Known (l.names k)) }) w
-fits_noted x y k m o v s l w apart named at owner begun one differ f same = fits_written x y k m o v o.phase (onward o.phase o.phase refl) s l w apart named at owner begun one differ f same
+    → Fits x None (record s { memory = slice_set s.memory m (record o { values = slice_set o.values 0 v; phase = Live }) }) (record l { shadows = put l.shadows k (Known (l.names k)) }) w
+fits_noted x y k m o v s l w apart named at owner alive one differ f same = fits_written x y k m o v Live (live_open o.phase alive) s l w apart named at owner alive one differ f same

@@ -1,6 +1,6 @@
 -- The objects of a program's run by their owners.
-use Rattle.std.proofs.Common.{◌≡◌, ◌≢◌, ℕ, zero, suc, ◌/◌, List, [], ◌∷◌, Option, Some, None, Bool, true, false, not, ◌&&◌, slice_get, refl, sym, ap, ◌∙◌}
-use Rattle.std.specs.Prelude.{◌==◌, if◌then◌else◌, option_map}
+use Rattle.std.proofs.Common.{◌≡◌, ◌≢◌, ℕ, zero, suc, ◌/◌, List, [], ◌∷◌, length, Option, Some, None, Bool, true, false, not, ◌&&◌, slice_get, refl, sym, ap, ◌∙◌}
+use Rattle.std.specs.Prelude.{◌==◌, if◌then◌else◌, nat_le, option_map}
 use Rattle.std.proofs.lemmas.Bool.{eqb-true}
 use Rattle.word_base.specs.Owners.{Owner, Static, Literal, Variable, is_same_owner}
 use Rattle.c_tree.specs.declared.types.IntegerType.{IntegerType}
@@ -9,8 +9,9 @@ use Rattle.c_tree.specs.declared.object_type.Scalar.{Scalar}
 use Rattle.c_meaning_values.specs.declared.value.Phase.{Phase}
 use Rattle.c_meaning_values.specs.declared.value.Phase.TheVariants.{Initialising, Live, Ended}
 use Rattle.c_meaning_values.specs.Types.{scalar_size, size_by_stars}
-use Rattle.c_meaning_values.specs.Memory.{Object, Memory, is_over, is_begun, is_owned, object_of}
+use Rattle.c_meaning_values.specs.Memory.{Object, Memory, is_over, is_begun, is_literal, is_writable, index_at, is_owned, object_of}
 use Rattle.graph_build_runs.proofs.Words.{both_true}
+use Rattle.base_laws.proofs.Booleans.{three_true}
 
 -- the first value of an object stands at its beginning
 by_stars : (base : IntegerType) (stars : ℕ) → 0 / size_by_stars base stars ≡ 0
@@ -45,6 +46,10 @@ open_phase : (phase : Phase) → not (is_over phase) ≡ true → phase ≢ Ende
 open_phase Initialising h = λ e. cc
 open_phase Live h = λ e. cc
 open_phase Ended h = cc
+
+-- an object that may be written has not ended
+pub writable_open : (o : Object) (offset : ℕ) → is_writable o offset ≡ true → o.phase ≢ Ended
+writable_open o offset h = let c = three_true (not (is_over o.phase)) (not (is_literal o.owner)) (not (nat_le (length o.values) (index_at o offset))) h in open_phase o.phase c.0
 
 -- An owner's object that has not ended.
 pub record Owned (owner : Owner) (memory : Memory) (n : ℕ) : Type 0 where

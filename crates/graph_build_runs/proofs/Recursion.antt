@@ -145,7 +145,7 @@ module _ (p : ProgramTree) (u : UnitForm) (all_are : FunctionsAre p u) where
             let s1 : State = record s { turns = left2 } in
             let held = holding_within left f tree is_f fn first ws objects frames place began ready_now s sound n b fb 0 [] (any_waiting left f tree is_f fn first ws objects frames place began) left refl refl refl in
             let bound = fb.binds 0 (any_waiting left f tree is_f fn first ws objects frames place began ∷ ws) [] (record { function = f; place = place } ∷ frames) left vs s1
-            (let now = sound_now p began s sound in record { typed = now.typed; differ = now.differ; declared = now.declared; bytes = now.bytes; since = now.since }) held are in
+            (let now = sound_now p began s sound in record { typed = now.typed; differ = now.differ; declared = now.declared; single = now.single; bytes = now.bytes; since = now.since }) held are in
             let formed = fb.formed 0 (any_waiting left f tree is_f fn first ws objects frames place began ∷ ws) [] (record { function = f; place = place } ∷ frames) left (good n b is fb 0 (any_waiting left f tree is_f fn first ws objects frames place began) []) in
             let memory = bind (source_here n) (parameters_of b) vs s.memory in
             let low = b.first_variable + b.parameters in
@@ -174,7 +174,7 @@ module _ (p : ProgramTree) (u : UnitForm) (all_are : FunctionsAre p u) where
             let k = begins_in left f tree is_f fn first ws objects frames place began n b fb (length w.memory) a w.memory left in
             let s1 : State = record s { turns = left2 } in
             let held = holding_within left f tree is_f fn first ws objects frames place began ready_now s sound n b fb (length w.memory) w.memory a left refl refl refl in
-            let now : Sound p s.memory s1 = (let z = sound_now p began s sound in record { typed = z.typed; differ = z.differ; declared = z.declared; bytes = z.bytes; since = z.since }) in
+            let now : Sound p s.memory s1 = (let z = sound_now p began s sound in record { typed = z.typed; differ = z.differ; declared = z.declared; single = z.single; bytes = z.bytes; since = z.since }) in
             let fits1 : Fits x None s1 l w = record { own = fits.own; outer = fits.outer; placed = fits.placed; differ = fits.differ; above = fits.above; later = fits.later; statics = fits.statics; input = fits.input; events = fits.events } in
             let bound = fb.binds (length w.memory) (a ∷ ws) w.memory (record { function = f; place = place } ∷ frames) left vs s1 now held are in
             let deep : length ws + 1 + 1 + left ≡ 1024 = omega (arith, count) in

@@ -1,7 +1,6 @@
 -- Constants, scalars, and assignments to scalars.
 use Rattle.std.proofs.Common.{◌≡◌, ◌≢◌, ℕ, zero, suc, ◌+◌, ◌/◌, ◌<◌, ◌≤◌, List, [], ◌∷◌, length, Option, Some, None, Bool, true, false, not, ◌&&◌, ◌||◌, slice_get, slice_set, refl, sym, ap, ◌∙◌, subst, arith, ℤ}
 use Rattle.std.specs.Prelude.{◌==◌, if◌then◌else◌, option_map, option_and_then, nat_le}
-use Rattle.std.specs.Option.{option_map_or}
 use Rattle.std.specs.List.{AllByRecursion}
 use Rattle.std.proofs.lemmas.Bool.Decides.{nat_tests}
 use Rattle.word_base.specs.Owners.{Owner, Static, Literal, Variable}
@@ -18,7 +17,7 @@ use Rattle.c_meaning_values.specs.declared.value.Value as source-value
 use Rattle.c_meaning_values.specs.declared.value.Value.TheVariants as source
 use Rattle.c_meaning_values.specs.declared.value.Phase.TheVariants.{Live, Ended}
 use Rattle.c_meaning_steps.specs.declared.event.Ending.TheVariants as ending
-use Rattle.c_meaning_values.specs.Memory.{Object as SourceObject, Memory as SourceMemory, is_usable, is_begun, is_writable, object_of, read, value_in as value_at, write, written_in, index_at, set_value, with_value}
+use Rattle.c_meaning_values.specs.Memory.{Object as SourceObject, Memory as SourceMemory, is_usable, is_begun, is_writable, object_of, read, value_in as value_at, write, written_in, index_at, set_value, begun}
 use Rattle.c_meaning_steps.specs.States.{State, Evaluated, Gives, Leaves, Ends, given, with, usable, both, second, on_both}
 use Rattle.c_meaning.specs.Expressions.{Calls, evaluate}
 use Rattle.c_meaning_steps.specs.Steps.{load, store, stored}
@@ -44,7 +43,7 @@ use Rattle.graph_build_runs.specs.Stops.{IsDeclared}
 use Rattle.graph_build_runs.proofs.Words.{in_word, both_true}
 use Rattle.graph_build_runs.proofs.Tests.{HasWord}
 use Rattle.graph_build_runs.proofs.Leads.{Setting, names_in, size_in, depth_in, Local, World, at, stays, goes, put_elsewhere}
-use Rattle.graph_build_runs.proofs.Later.{Later, StillThere, later_set, others_refl, value_later}
+use Rattle.graph_build_runs.proofs.Later.{Later, StillThere, later_written, written_is, others_refl, value_later}
 use Rattle.graph_build_runs.proofs.Kept.{is_want, Sound, Fits, ScalarsFirst}
 use Rattle.graph_build_runs.proofs.Results.{Valued, Result, stuck_now, ended_result, result_after}
 use Rattle.graph_build_runs.proofs.Leaves.{leaf_done, with_then, second_with}
@@ -123,22 +122,22 @@ module _ (x : Setting) (calls : Calls) (apart : ScalarsApart x) (sc : Scalar) (v
     -- the object takes the value
     takes : (n : ℕ) (o : SourceObject) (u : source-value.Value) (s1 : State) (l1 : Local) (w1 : World) → Sound x.program x.begun s1 → Fits x (Some k) s1 l1 w1 → slice_get s1.memory n ≡ Some o → o.owner ≡ Variable v (depth_in x) → o.phase ≢ Ended
         → SameValue x.program s1.memory w1.memory u (l1.names k) → HasWord u → (b : Bool) → is_writable o 0 ≡ b
-        → Then t (λ y. false) (noted k g).ops (noted k g).end l1 w1 (stored (if b then Some (set_value s1.memory n (index_at o 0) u) else None) u s1)
+        → Then t (λ y. false) (noted k g).ops (noted k g).end l1 w1 (stored (if b then Some (begun (set_value s1.memory n (index_at o 0) u) n) else None) u s1)
     takes n o u s1 l1 w1 sound1 f1 is owner alive same word false eb = ended_result x g (Name k) t (λ y. false) (noted k g).ops (noted k g).end l1 w1 ending.Undefined s1 (stuck_now x (Some k) (noted k g).ops (noted k g).end s1 l1 w1 f1)
     takes n o u s1 l1 w1 sound1 f1 is owner alive same word true eb =
         let a = subst (λ q. IsDeclared x.program q o) owner (sound1.declared n o is) in
         let one : length o.values ≡ 1 = a.3 ∙ apart.single v k a.0 named_by a.1 in
         let l2 : Local = record l1 { shadows = put l1.shadows k (Known (l1.names k)) } in
-        let after : State = record s1 { memory = slice_set s1.memory n (record o { values = slice_set o.values 0 u }) } in
-        let written : set_value s1.memory n (index_at o 0) u ≡ slice_set s1.memory n (record o { values = slice_set o.values 0 u }) =
-        ap (λ q. option_map_or (λ p. slice_set s1.memory n (with_value p (index_at o 0) u)) q s1.memory) is ∙ ap (λ i. slice_set s1.memory n (with_value o i u)) (first_index o.element) in
+        let after : State = record s1 { memory = slice_set s1.memory n (record o { values = slice_set o.values 0 u; phase = Live }) } in
+        let written : begun (set_value s1.memory n (index_at o 0) u) n ≡ slice_set s1.memory n (record o { values = slice_set o.values 0 u; phase = Live }) =
+        ap (λ i. begun (set_value s1.memory n i u) n) (first_index o.element) ∙ written_is s1.memory n 0 o u is in
         let f2 : Fits x None after l2 w1 = fits_noted x v k n o u s1 l1 w1 apart named_by is owner alive one sound1.differ f1 same in
         let noting : step x.unit (at x (noted k g).ops (noted k g).end l1 w1) ≡ Goes (at x (leaf g (Name k)).ops (leaf g (Name k)).end l2 w1) =
         ap (λ b. if b then Wild else Goes (at x (leaf g (Name k)).ops (leaf g (Name k)).end l2 w1)) (known_value x.program s1.memory w1.memory u (l1.names k) same) in
         subst (λ m. Then t (λ y. false) (noted k g).ops (noted k g).end l1 w1 (Gives u (record s1 { memory = m }))) (sym written)
         (result_after x t t (λ y. false) (λ y. false) (noted k g).ops (leaf g (Name k)).ops (noted k g).end (leaf g (Name k)).end l1 l2 w1 w1 (goes noting stays) (λ y lt nf. (lt, nf, refl)) (others_refl w1.memory) g (Name k) (Gives u after)
         (leaf_done x g (Name k) t (λ y. false) u after l2 w1 f2
-        (value_later x.program s1.memory after.memory w1.memory w1.memory (later_set s1.memory n 0 o u is) (others_refl w1.memory) u (l1.names k) same) word))
+        (value_later x.program s1.memory after.memory w1.memory w1.memory (later_written s1.memory n 0 o u is alive) (others_refl w1.memory) u (l1.names k) same) word))
 
     written_in_name : (y : ℕ) → is_that y (Some k) || false || writes (names_in x) y e ≡ false → (is_want (Some k) y ≡ false) × (writes (names_in x) y e ≡ false) × (false ≡ false)
     written_in_name y h = let both = or_false (k == y || false) (writes (names_in x) y e) h in (turned y (or_false (k == y) false both.0).0, both.1, refl)

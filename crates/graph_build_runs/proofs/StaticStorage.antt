@@ -11,6 +11,7 @@ use Rattle.c_type_rules.specs.Integers.{integer}
 use Rattle.c_type_rules.specs.Types.{loaded}
 use Rattle.c_places.specs.Places.{numbers_from}
 use Rattle.c_meaning_values.specs.declared.value.Value.TheVariants as source
+use Rattle.c_meaning_values.specs.declared.value.Phase.TheVariants.{Live}
 use Rattle.c_meaning_values.specs.Types.{element_of, count_of, scalar_size}
 use Rattle.c_meaning_values.specs.Memory.{Object as SourceObject, Memory as SourceMemory}
 use Rattle.c_meaning_steps.specs.States.{State}
@@ -24,7 +25,7 @@ use Rattle.graph_build_runs.specs.Typed.{IsOf}
 use Rattle.graph_build_runs.specs.Correspondence.{owner_of, SameValues, AreBytes}
 use Rattle.graph_build_runs.specs.Stops.{IsDeclared}
 use Rattle.graph_build_runs.proofs.Wrapping.{wrapped_holds}
-use Rattle.graph_build_runs.proofs.Later.{later_refl}
+use Rattle.graph_build_runs.proofs.Later.{not_initialising, later_refl}
 use Rattle.graph_build_runs.proofs.Kept.{Sound, Placed}
 use Rattle.graph_build_runs.proofs.Entry.{Awaits}
 use Rattle.graph_build_runs.proofs.StaticObjects.{static_of, literal_of, statics_of, unit_object, unit_found, unit_length, count_same, first_found, unit_static, unit_literal}
@@ -95,6 +96,12 @@ module _ (p : ProgramTree) (fit : StaticsFit p) where
     | inr found ↦ let l = found.1 in subst (λ z. IsDeclared p z.owner z) (sym found.4) (l, found.3, refl, length-map l.bytes (λ byte. source.Number (pos byte)))
   ]
 
+  live_first : (n : ℕ) (o : SourceObject) → slice_get (first_memory p) n ≡ Some o → o.phase ≡ Live
+  live_first n o is = elim (first_found p n o is) [
+    | inl found ↦ ap (λ z. z.phase) found.2
+    | inr found ↦ ap (λ z. z.phase) found.4
+  ]
+
   typed_first : (n : ℕ) (o : SourceObject) → slice_get (first_memory p) n ≡ Some o → AllByRecursion (IsOf (first_memory p) (loaded o.element)) o.values
   typed_first n o is = elim (first_found p n o is) [
     | inl found ↦ subst (λ z. AllByRecursion (IsOf (first_memory p) (loaded z.element)) z.values) (sym found.2) (static_values p found.0 (fit.statics n found.0 found.1) (count_of found.0.of) 0).1
@@ -116,6 +123,7 @@ module _ (p : ProgramTree) (fit : StaticsFit p) where
     typed = typed_first;
     differ = λ m n o q at_m at_n open_m open_n owners. owner_differs (sym (static_is m o at_m) ∙ ap (owner_of p) owners ∙ static_is n q at_n);
     declared = declared_first;
+    single = λ n o is young. not_initialising (sym (live_first n o is) ∙ young);
     bytes = bytes;
     since = record { later = later_refl (first_memory p); ends = λ n o is alive. slice_get_within (first_memory p) n o is };
   })

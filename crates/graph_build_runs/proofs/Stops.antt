@@ -182,7 +182,7 @@ place_begins k law scope spot m is here low high brought w go inside c es place 
         let e = Stop (frame to.here ∷ map frame k.setting.waiting) u.memory in
         let stops : step k.setting.unit (before_in k place (Marker (place_at k spot.at) ∷ m.ops) m.end l u) ≡ Shows e to = ap (λ b. if b then Goes to else Shows e to) here.stops in
         inside c es l (record u { seen = u.seen ++ e ∷ [] }) (stopped (here_in k) spot.at (record s { turns = left })) (then_leads (comes (block_at k spot.at m) is) (shows stops stays))
-        (record { typed = sound.typed; differ = sound.differ; declared = sound.declared; bytes = sound.bytes; since = sound.since })
+        (record { typed = sound.typed; differ = sound.differ; declared = sound.declared; single = sound.single; bytes = sound.bytes; since = sound.since })
         (record {
           own = fits.own;
           outer = fits.outer;

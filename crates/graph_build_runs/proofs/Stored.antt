@@ -8,14 +8,14 @@ use Rattle.debug_records.specs.declared.source.Spot.{Spot}
 use Rattle.word_base.specs.Owners.{Variable}
 use Rattle.c_tree.specs.TypedExpressions.{RvalueTree}
 use Rattle.c_tree.specs.TypedStatements.{Zero, Scalar as scalar-initial}
-use Rattle.c_tree.specs.Programs.{AutomaticTree, ProgramTree}
+use Rattle.c_tree.specs.Programs.{AutomaticTree}
 use Rattle.c_type_rules.specs.Types.{loaded}
 use Rattle.c_type_laws.specs.Kinds.{is_of}
 use Rattle.c_type_laws.specs.Expressions.{kind_of}
 use Rattle.c_meaning_values.specs.declared.value.Value as source-value
 use Rattle.c_meaning_values.specs.declared.value.Phase.TheVariants.{Initialising, Live, Ended}
 use Rattle.c_meaning_values.specs.Types.{element_of, count_of, scalar_size, zero_of}
-use Rattle.c_meaning_values.specs.Memory.{Object as SourceObject, Memory as SourceMemory, new_object, set_value, begun as begun_in}
+use Rattle.c_meaning_values.specs.Memory.{Object as SourceObject, new_object, set_value, begun as begun_in}
 use Rattle.c_meaning_steps.specs.States.{State, Outcome, Next, on_value}
 use Rattle.c_meaning.specs.Activations as activations
 use Rattle.c_meaning.specs.Statements.{value_at, declare_with}
@@ -34,30 +34,23 @@ use Rattle.graph_build_steps.specs.Rules as rule
 use Rattle.graph_build_steps.specs.Drafts.{To, before}
 use Rattle.graph_build_statements.specs.Coding.{begun, going, coded}
 use Rattle.graph_build_runs.specs.Typed.{IsOf}
-use Rattle.graph_build_runs.specs.Correspondence.{owner_of, SameObject, SameValue, SameValues, IsInMemory}
+use Rattle.graph_build_runs.specs.Correspondence.{owner_of, SameObject, SameValue, IsInMemory}
 use Rattle.graph_build_runs.proofs.Leads.{names_in, depth_in, Local, World, Leads, goes, stays, then_leads}
+use Rattle.graph_build_runs.proofs.Later.{live_open}
 use Rattle.graph_build_runs.proofs.Kept.{Sound, ObjectIs, Placed, Fits}
 use Rattle.graph_build_runs.proofs.Noting.{known_value}
 use Rattle.graph_build_runs.proofs.Types.{kind_is_of}
 use Rattle.graph_build_runs.proofs.Places.{pointed_in}
 use Rattle.graph_build_runs.proofs.Elements.{reaches, element_keeps}
-use Rattle.graph_build_runs.proofs.Storing.{fits_both_set}
+use Rattle.graph_build_runs.proofs.Storing.{one_same, fits_both_set}
 use Rattle.graph_build_runs.proofs.Writing.{store_step}
 use Rattle.graph_build_runs.proofs.Activities.{Activity, coding_in, here_in, place_at, placed, before_in, fits_placed, fits_anywhere}
 use Rattle.graph_build_runs.proofs.Living.{frames_length}
 use Rattle.graph_build_runs.proofs.Outcomes.{Arrives, Runs, GoesOn, runs_since}
 use Rattle.graph_build_runs.proofs.Stops.{Lawful, place_begins}
 use Rattle.graph_build_runs.proofs.AtPlaces.{Works, Begins, begun_above, going_comes, value_runs}
-use Rattle.graph_build_runs.proofs.Making.{last_is, zero_typed, live_open, new_in, with_new, made_is, grown_made, ready_made, sound_made, fits_made}
+use Rattle.graph_build_runs.proofs.Making.{last_is, zero_typed, new_in, with_new, made_is, grown_made, ready_made, sound_made, fits_made}
 use Rattle.graph_build_runs.proofs.Declared.{after, begun_after, grown_after, lives_after, sound_after, set_last, same_first, zero_same}
-
--- one value in one place
-one_same : (p : ProgramTree) (memory : SourceMemory) (others : Memory) (vs : List source-value.Value) (ws : List Value) (v : source-value.Value) (w : Value) → length vs ≡ 1 → length ws ≡ 1 → SameValue p memory others v w → SameValues p memory others (slice_set vs 0 v) (slice_set ws 0 w)
-one_same p memory others [] ws v w e f same = absurd (omega (arith, e))
-one_same p memory others (x ∷ vs) [] v w e f same = absurd (omega (arith, f))
-one_same p memory others (x ∷ []) (y ∷ []) v w e f same = (same, tt)
-one_same p memory others (x ∷ []) (y ∷ z ∷ ws) v w e f same = absurd (omega (arith, f))
-one_same p memory others (x ∷ z ∷ vs) (y ∷ ws) v w e f same = absurd (omega (arith, e))
 
 at_beginning : (m bytes : ℕ) → pointer_at m bytes 0 ≡ Pointer m bytes 0
 at_beginning m bytes = ap (λ b. if b then Pointer m bytes 0 else Odd) (least bytes)
@@ -126,7 +119,7 @@ module _ (k : Activity) (law : Lawful k) (v j : ℕ) (a : AutomaticTree) (is : s
           sound = sound_after k v s n o at owner alive u sound typed;
           fits =
               fits_anywhere k place s.memory None (record s { memory = after k v s n o at owner alive u sound typed }) l w2
-              (fits_both_set (placed k place s.memory) None s l w n o m q.object (slice_set o.values 0 u) (slice_set q.object.values 0 given) (length-set o.values 0 u) (length-set q.object.values 0 given) Live (live_open o.phase alive) sound (fits_placed k place s.memory None s l w fits) at alive
+              (fits_both_set (placed k place s.memory) None s l w n o m q.object (slice_set o.values 0 u) (slice_set q.object.values 0 given) (length-set o.values 0 u) (length-set q.object.values 0 given) Live (live_open o.phase alive) sound.differ sound.declared (fits_placed k place s.memory None s l w fits) at alive
               (subst (IsInMemory p) (sym owner) in_memory) q.is so (λ live. one_same p s.memory w.memory o.values q.object.values u given (count ∙ single) one same));
           grown = grown_after k v s n o at owner alive u sound typed low high;
           brings = (lives_after k v s n o at owner alive u sound typed, tt);
@@ -150,7 +143,7 @@ module _ (k : Activity) (law : Lawful k) (v j : ℕ) (a : AutomaticTree) (is : s
         let above = begun_above k b.free b.size in
         subst (λ z. Runs k c es low (v + 1) (v ∷ []) s.memory w (on_value (value_at k.calls (here_in k) spot e z) next)) (sym (made_is k v a is Initialising s frames))
         (runs_since k c es low (v + 1) low (v + 1) (v ∷ []) s.memory memory w (on_value (value_at k.calls (here_in k) spot e s1) next) (omega arith) (omega arith) (grown_made k v a is Initialising s.memory low le)
-        (value_runs k spot.at e works c es l u s1 (sound_made k v a is Initialising s low le h.under sound) (fits_made k v a s l u fits (λ inside_it. placed_new s l u fits)) (ready_made k v a is Initialising (place_at k spot.at) s.memory ready)
+        (value_runs k spot.at e works c es l u s1 (sound_made k v a is Initialising (λ young. single) s low le h.under sound) (fits_made k v a s l u fits (λ inside_it. placed_new s l u fits)) (ready_made k v a is Initialising (place_at k spot.at) s.memory ready)
         t above low (v + 1) (v ∷ []) w None m next b.stands tt leads
         (λ val s2 l2 u2 leads2 sound2 fits2 since same kind.
         (let o = since.later (length s.memory) (new_in k v a is Initialising) (last_is s.memory (new_in k v a is Initialising)) in
@@ -175,7 +168,7 @@ module _ (k : Activity) (law : Lawful k) (v j : ℕ) (a : AutomaticTree) (is : s
         let s1 : State = record s { memory = memory } in
         let frames = frames_length k.setting.program k.setting.unit s.memory k.frames k.setting.waiting h.frames in
         let zero_is = zero_of (element_of a.of) in
-        let sound1 = sound_made k v a is Initialising s low le h.under sound in
+        let sound1 = sound_made k v a is Initialising (λ young. single) s low le h.under sound in
         let fits1 = fits_made k v a s l u fits (λ inside_it. placed_new s l u fits) in
         let same = zero_same k.setting.program memory u.memory (element_of a.of).stars in
         let typed = zero_typed memory (element_of a.of).base (element_of a.of).stars in

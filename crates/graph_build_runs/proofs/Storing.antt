@@ -10,7 +10,7 @@ use Rattle.graph_core.specs.Runs.{Activation}
 use Rattle.c_type_rules.specs.Types.{loaded}
 use Rattle.c_meaning_values.specs.declared.value.Value as source-value
 use Rattle.c_meaning_values.specs.declared.value.Phase.{Phase}
-use Rattle.c_meaning_values.specs.declared.value.Phase.TheVariants.{Live, Ended}
+use Rattle.c_meaning_values.specs.declared.value.Phase.TheVariants.{Initialising, Live, Ended}
 use Rattle.c_meaning_values.specs.Memory.{Object as SourceObject, Memory as SourceMemory}
 use Rattle.c_meaning_steps.specs.States.{State}
 use Rattle.graph_core.specs.declared.value.Value.{Value}
@@ -25,7 +25,7 @@ use Rattle.graph_build_runs.specs.Typed.{IsOf, OwnersDiffer}
 use Rattle.graph_build_runs.specs.Correspondence.{variable_of, owner_of, IsInMemory, SameObject, SameValue, SameValues}
 use Rattle.graph_build_runs.specs.Stops.{IsDeclared, AreDeclared}
 use Rattle.graph_build_runs.proofs.Leads.{Setting, names_in, depth_in, Local, World}
-use Rattle.graph_build_runs.proofs.Later.{some_same, get_set, set_here, set_elsewhere, Onward, onward, Later, later_changed, OthersLater, others_trans, others_changed, value_later, values_later}
+use Rattle.graph_build_runs.proofs.Later.{some_same, get_set, set_here, set_elsewhere, Onward, onward, live_open, Later, later_changed, OthersLater, others_trans, others_changed, value_later, values_later}
 use Rattle.graph_build_runs.proofs.Kept.{Sound, Own, Waits, Outer, Placed, StaticIs, Fits}
 use Rattle.graph_build_runs.proofs.Noting.{own_later}
 use Rattle.graph_build_runs.proofs.Homes.{scalar_outside}
@@ -38,6 +38,14 @@ values_set p memory others [] (z ∷ ws) k v w same h = absurd same
 values_set p memory others (u ∷ vs) [] k v w same h = absurd same
 values_set p memory others (u ∷ vs) (z ∷ ws) zero v w same h = (h, same.1)
 values_set p memory others (u ∷ vs) (z ∷ ws) (suc k) v w same h = (same.0, values_set p memory others vs ws k v w same.1 h)
+
+-- one value in one place
+pub one_same : (p : ProgramTree) (memory : SourceMemory) (others : Memory) (vs : List source-value.Value) (ws : List Value) (v : source-value.Value) (w : Value) → length vs ≡ 1 → length ws ≡ 1 → SameValue p memory others v w → SameValues p memory others (slice_set vs 0 v) (slice_set ws 0 w)
+one_same p memory others [] ws v w e f same = absurd (omega (arith, e))
+one_same p memory others (x ∷ vs) [] v w e f same = absurd (omega (arith, f))
+one_same p memory others (x ∷ []) (y ∷ []) v w e f same = (same, tt)
+one_same p memory others (x ∷ []) (y ∷ z ∷ ws) v w e f same = absurd (omega (arith, f))
+one_same p memory others (x ∷ z ∷ vs) (y ∷ ws) v w e f same = absurd (omega (arith, e))
 
 -- Owners of declared objects that are one in the unit are one.
 pub owners_one : (p : ProgramTree) (a b : Owner) (o q : SourceObject) → IsDeclared p a o → IsDeclared p b q → owner_of p a ≡ owner_of p b → a ≡ b
@@ -59,7 +67,7 @@ owners_one p (Variable n c) (Variable m d) o q da db e =
     ap (λ k. Variable k c) numbers ∙ ap (Variable m) depths
 
 -- An object in memory, and the unit's, take values that are the same. The object may come to live.
-module _ (x : Setting) (want : Option ℕ) (s : State) (l : Local) (w : World) (n : ℕ) (o : SourceObject) (m : ℕ) (q : Object) (vs : List source-value.Value) (ws : List Value) (count : length vs ≡ length o.values) (unit_count : length ws ≡ length q.values) (phase : Phase) (goes_on : Onward o.phase phase) (sound : Sound x.program x.begun s) (f : Fits x want s l w) (at : slice_get s.memory n ≡ Some o) (alive : o.phase ≢ Ended)
+module _ (x : Setting) (want : Option ℕ) (s : State) (l : Local) (w : World) (n : ℕ) (o : SourceObject) (m : ℕ) (q : Object) (vs : List source-value.Value) (ws : List Value) (count : length vs ≡ length o.values) (unit_count : length ws ≡ length q.values) (phase : Phase) (goes_on : Onward o.phase phase) (differ : OwnersDiffer s.memory) (declared : AreDeclared x.program s.memory) (f : Fits x want s l w) (at : slice_get s.memory n ≡ Some o) (alive : o.phase ≢ Ended)
     (inside : IsInMemory x.program o.owner) (at_unit : slice_get w.memory m ≡ Some q) (same : SameObject x.program o q) (values : phase ≡ Live → SameValues x.program s.memory w.memory vs ws) where
   abbrev pub source_after : SourceMemory
   source_after = slice_set s.memory n (record o { values = vs; phase = phase })
@@ -111,7 +119,7 @@ module _ (x : Setting) (want : Option ℕ) (s : State) (l : Local) (w : World) (
         })
     | inr both ↦
         let c = f.placed i z both.1 open_z inside_z in
-        let ne : c.number ≢ m = λ e. both.0 (sound.differ i n z o both.1 at open_z alive (owners_one x.program z.owner o.owner z o (sound.declared i z both.1) (sound.declared n o at)
+        let ne : c.number ≢ m = λ e. both.0 (differ i n z o both.1 at open_z alive (owners_one x.program z.owner o.owner z o (declared i z both.1) (declared n o at)
         (sym c.same.owner ∙ ap (λ b. b.owner) (some_same (sym c.is ∙ ap (slice_get w.memory) e ∙ at_unit)) ∙ same.owner))) in
         record {
           number = c.number;
@@ -145,8 +153,24 @@ module _ (x : Setting) (want : Option ℕ) (s : State) (l : Local) (w : World) (
     events = f.events;
   }
 
+-- An element of an array takes a value.
 pub fits_stored : (x : Setting) (want : Option ℕ) (s : State) (l : Local) (w : World) (n k : ℕ) (o : SourceObject) (m : ℕ) (q : Object) (v : source-value.Value) (u : Value) → Sound x.program x.begun s → Fits x want s l w → slice_get s.memory n ≡ Some o → o.phase ≢ Ended → IsInMemory x.program o.owner
     → slice_get w.memory m ≡ Some q → SameObject x.program o q → (o.phase ≡ Live → SameValues x.program s.memory w.memory o.values q.values) → SameValue x.program s.memory w.memory v u
     → Fits x want (record s { memory = slice_set s.memory n (record o { values = slice_set o.values k v }) }) l (record w { memory = slice_set w.memory m (record q { values = slice_set q.values k u }) })
 fits_stored x want s l w n k o m q v u sound f at alive inside at_unit same values value =
-    fits_both_set x want s l w n o m q (slice_set o.values k v) (slice_set q.values k u) (length-set o.values k v) (length-set q.values k u) o.phase (onward o.phase o.phase refl) sound f at alive inside at_unit same (λ live. values_set x.program s.memory w.memory o.values q.values k v u (values live) value)
+    fits_both_set x want s l w n o m q (slice_set o.values k v) (slice_set q.values k u) (length-set o.values k v) (length-set q.values k u) o.phase (onward o.phase o.phase refl) sound.differ sound.declared f at alive inside at_unit same (λ live. values_set x.program s.memory w.memory o.values q.values k v u (values live) value)
+
+-- An object is written, and lives: one that is being initialised has one value.
+pub fits_assigned : (x : Setting) (want : Option ℕ) (s : State) (l : Local) (w : World) (n k : ℕ) (o : SourceObject) (m : ℕ) (q : Object) (v : source-value.Value) (u : Value) → Sound x.program x.begun s → Fits x want s l w → slice_get s.memory n ≡ Some o → o.phase ≢ Ended → k < length o.values → IsInMemory x.program o.owner
+    → slice_get w.memory m ≡ Some q → SameObject x.program o q → (o.phase ≡ Live → SameValues x.program s.memory w.memory o.values q.values) → SameValue x.program s.memory w.memory v u
+    → Fits x want (record s { memory = slice_set s.memory n (record o { values = slice_set o.values k v; phase = Live }) }) l (record w { memory = slice_set w.memory m (record q { values = slice_set q.values k u }) })
+fits_assigned x want s l w n k o m q v u sound f at alive less inside at_unit same values value =
+    fits_both_set x want s l w n o m q (slice_set o.values k v) (slice_set q.values k u) (length-set o.values k v) (length-set q.values k u) Live (live_open o.phase alive) sound.differ sound.declared f at alive inside at_unit same (λ live. by_phase o.phase refl)
+  where
+    by_phase : (phase : Phase) → o.phase ≡ phase → SameValues x.program s.memory w.memory (slice_set o.values k v) (slice_set q.values k u)
+    by_phase Initialising e =
+        let one : length o.values ≡ 1 = sound.single n o at e in
+        let first : 0 ≡ k = omega (arith, less, one) in
+        subst (λ i. SameValues x.program s.memory w.memory (slice_set o.values i v) (slice_set q.values i u)) first (one_same x.program s.memory w.memory o.values q.values v u one (same.count ∙ one) value)
+    by_phase Live e = values_set x.program s.memory w.memory o.values q.values k v u (values e) value
+    by_phase Ended e = absurd (alive e)

@@ -1,7 +1,6 @@
 -- Writes where a pointer points: the unit's store does what the source's does.
 use Rattle.std.proofs.Common.{◌≡◌, ◌≢◌, ℕ, ◌<◌, List, ◌∷◌, length, Option, Some, None, Bool, true, false, not, slice_set, refl, sym, ap, ◌∙◌, subst, arith}
 use Rattle.std.specs.Prelude.{if◌then◌else◌, nat_le, option_map, option_and_then}
-use Rattle.std.specs.Option.{option_map_or}
 use Rattle.std.proofs.lemmas.Bool.Decides.{nat_tests}
 use Rattle.c_tree.specs.declared.object_type.Scalar.{Scalar}
 use Rattle.c_tree.specs.declared.object_type.ObjectType.TheVariants as of-object
@@ -11,7 +10,7 @@ use Rattle.c_meaning_values.specs.declared.value.Value.TheVariants as source
 use Rattle.c_meaning_values.specs.declared.value.Phase.{Phase}
 use Rattle.c_meaning_values.specs.declared.value.Phase.TheVariants.{Initialising, Live, Ended}
 use Rattle.c_meaning_steps.specs.declared.event.Ending.TheVariants as ending
-use Rattle.c_meaning_values.specs.Memory.{Object as SourceObject, Memory as SourceMemory, is_over, is_literal, is_writable, index_at, set_value, with_value, written_in as written_there}
+use Rattle.c_meaning_values.specs.Memory.{Object as SourceObject, Memory as SourceMemory, is_over, is_literal, is_writable, index_at, set_value, begun, written_in as written_there}
 use Rattle.c_meaning_steps.specs.States.{State, Evaluated, Gives, Ends, given}
 use Rattle.c_meaning_steps.specs.Steps.{store, stored as kept_in}
 use Rattle.graph_core.specs.declared.value.Value.{Value}
@@ -27,14 +26,14 @@ use Rattle.graph_build_runs.specs.Typed.{PointsInto, IsOf, IsPointerTo}
 use Rattle.graph_build_runs.specs.Correspondence.{SamePointer, SameValue}
 use Rattle.graph_build_runs.proofs.Tests.{HasWord}
 use Rattle.graph_build_runs.proofs.Leads.{Setting, Local, World, here_at, at, stays, goes}
-use Rattle.graph_build_runs.proofs.Later.{Later, later_set, OthersLater, others_set, value_later}
+use Rattle.graph_build_runs.proofs.Later.{Later, later_written, written_is, OthersLater, others_set, value_later}
 use Rattle.graph_build_runs.proofs.Kept.{Sound, Fits}
 use Rattle.graph_build_runs.proofs.Results.{operand_in, Result, result_after}
 use Rattle.graph_build_runs.proofs.Leaves.{leaf_done}
 use Rattle.graph_build_runs.proofs.Noting.{known_value}
 use Rattle.graph_build_runs.proofs.Elements.{reaches, element_keeps}
 use Rattle.graph_build_runs.proofs.Access.{leads_to, index_is}
-use Rattle.graph_build_runs.proofs.Storing.{fits_stored}
+use Rattle.graph_build_runs.proofs.Storing.{fits_assigned}
 use Rattle.graph_build_runs.proofs.Places.{pointed_in}
 use Rattle.graph_build_runs.proofs.Loading.{pointed_same}
 use Rattle.base_laws.proofs.Booleans.{three_true}
@@ -64,7 +63,7 @@ pub record StoredAs (x : Setting) (want : Option ℕ) (s : State) (l : Local) (w
 module _ (x : Setting) (want : Option ℕ) (s : State) (l : Local) (w : World) (sc : Scalar) (n offset : ℕ) (given : Value) (v : source-value.Value) (u : Value) (sound : Sound x.program x.begun s) (f : Fits x want s l w) (c : PointsInto s.memory (of-object.Scalar sc) n offset)
     (pointer : SamePointer x.program s.memory w.memory n offset given) (typed : IsOf s.memory (loaded sc) v) (same : SameValue x.program s.memory w.memory v u) where
   abbrev after_in : SourceMemory
-  after_in = slice_set s.memory n (record c.object { values = slice_set c.object.values (index_at c.object offset) v })
+  after_in = slice_set s.memory n (record c.object { values = slice_set c.object.values (index_at c.object offset) v; phase = Live })
 
   -- The unit writes where the source does.
   pub write_same : is_writable c.object offset ≡ true → StoredAs x want s l w sc given v u after_in
@@ -72,24 +71,25 @@ module _ (x : Setting) (want : Option ℕ) (s : State) (l : Local) (w : World) (
       let there = writable_there c.object offset can in
       let q = leads_to x want s l w n offset c.object given f c.is there.0 pointer in
       let index = index_is s.memory sc n offset c in
-      let less : c.index < length q.object.values = subst (λ k. c.index < k) (sym q.same.count) (subst (λ k. k < length c.object.values) index there.1) in
+      let own : c.index < length c.object.values = subst (λ k. k < length c.object.values) index there.1 in
+      let less : c.index < length q.object.values = subst (λ k. c.index < k) (sym q.same.count) own in
       let element : q.object.element ≡ rule.element_of sc = q.same.element ∙ ap rule.element_of c.element_is in
       let reach = reaches sc q.object c.index offset q.same.lives element c.at less in
       let keeps : as_element q.object.element u ≡ u = ap (λ e. as_element e u) element ∙ element_keeps x.program s.memory w.memory sc v u typed same in
       let others = slice_set w.memory q.number (record q.object { values = slice_set q.object.values c.index u }) in
-      let source_later = later_set s.memory n c.index c.object v c.is in
+      let source_later = later_written s.memory n c.index c.object v c.is there.0 in
       let unit_later = others_set w.memory q.number c.index q.object u q.is in
       let writes : write w.memory (rule.element_of sc) given u ≡ Some others =
       ap (λ p. write w.memory (rule.element_of sc) p u) q.given_is ∙ ap (option_and_then (write_in w.memory q.number (rule.element_of sc) offset u)) q.is
       ∙ ap (option_map (written_in w.memory q.number u q.object)) reach ∙ ap (λ z. Some (slice_set w.memory q.number (record q.object { values = slice_set q.object.values c.index z }))) keeps in
-      subst (λ i. StoredAs x want s l w sc given v u (slice_set s.memory n (record c.object { values = slice_set c.object.values i v }))) (sym index)
+      subst (λ i. StoredAs x want s l w sc given v u (slice_set s.memory n (record c.object { values = slice_set c.object.values i v; phase = Live }))) (sym index)
       (record {
         memory = others;
         writes = writes;
-        fits = fits_stored x want s l w n c.index c.object q.number q.object v u sound f c.is there.0 q.inside q.is q.same q.values same;
+        fits = fits_assigned x want s l w n c.index c.object q.number q.object v u sound f c.is there.0 own q.inside q.is q.same q.values same;
         later = source_later;
         others_later = unit_later;
-        same = value_later x.program s.memory (slice_set s.memory n (record c.object { values = slice_set c.object.values c.index v })) w.memory others source_later unit_later v u same;
+        same = value_later x.program s.memory (slice_set s.memory n (record c.object { values = slice_set c.object.values c.index v; phase = Live })) w.memory others source_later unit_later v u same;
       })
 
 -- A value is stored where a pointer points: nothing is defined, or both memories take it.
@@ -101,13 +101,13 @@ store_cases x want s l w sc source.Null given v u sound f is pointer typed same 
 store_cases x want s l w sc (source.Pointer n offset) given v u sound f c pointer typed same R undefined next =
     subst (λ q. R (kept_in (option_and_then (written_there s.memory n offset v) q) v s)) (sym c.is) (by_way (is_writable c.object offset) refl)
   where
-    is_set : set_value s.memory n (index_at c.object offset) v ≡ slice_set s.memory n (record c.object { values = slice_set c.object.values (index_at c.object offset) v })
-    is_set = ap (λ q. option_map_or (λ o. slice_set s.memory n (with_value o (index_at c.object offset) v)) q s.memory) c.is
+    is_set : begun (set_value s.memory n (index_at c.object offset) v) n ≡ slice_set s.memory n (record c.object { values = slice_set c.object.values (index_at c.object offset) v; phase = Live })
+    is_set = written_is s.memory n (index_at c.object offset) c.object v c.is
 
-    by_way : (b : Bool) → is_writable c.object offset ≡ b → R (kept_in (if b then Some (set_value s.memory n (index_at c.object offset) v) else None) v s)
+    by_way : (b : Bool) → is_writable c.object offset ≡ b → R (kept_in (if b then Some (begun (set_value s.memory n (index_at c.object offset) v) n) else None) v s)
     by_way true e =
         subst (λ m. R (Gives v (record s { memory = m }))) (sym is_set)
-        (next (slice_set s.memory n (record c.object { values = slice_set c.object.values (index_at c.object offset) v })) (write_same x want s l w sc n offset given v u sound f c pointer typed same e))
+        (next (slice_set s.memory n (record c.object { values = slice_set c.object.values (index_at c.object offset) v; phase = Live })) (write_same x want s l w sc n offset given v u sound f c pointer typed same e))
     by_way false e = undefined
 
 -- the name that a goal wants written

@@ -52,8 +52,8 @@ statements::execute-returns-after-value-3 t c =
           ap (λ o. outcome_view o (state_view c.match-value-3.state)) same ∙ ap (λ t. outcome_view c.in-Ok-begin_loop.value (state_view t)) w.state-is
           ∙ leaves c.in-Ok-begin_loop.value went go not_next ∙ ap (λ o. then_do o go) begun
     ] in
-    let count : vec_len c.args.state.now.memory ≡ length c.args.state.now.memory.items = omega arith in
-    let first : c.len-first-in-For.result ≡ length s.memory = c.len-first-in-For.ensures ∙ count ∙ sym (length-map c.args.state.now.memory.items object_view) in
+    let count : vec_len c.args.state.now.memory.all ≡ length c.args.state.now.memory.all.items = omega arith in
+    let first : c.len-first-in-For.result ≡ length s.memory = c.len-first-in-For.ensures ∙ count ∙ sym (length-map c.args.state.now.memory.all.items object_view) in
     let ended : outcome_view c.match-value-3.outcome (state_view c.close-in-For.new.state) ≡ closed c.len-first-in-For.result (outcome_view c.match-value-3.outcome (state_view c.match-value-3.state)) = c.close-in-For.ensures in
     ended ∙ ap (closed c.len-first-in-For.result) inner ∙ ap (λ n. closed n (then_do (begins c.args.here.now (start_view c.in-For.start) s) go)) first
     ∙ ap (λ (a : TypedStatement). closed (length s.memory) (then_do (begins c.args.here.now (start_view c.in-For.start) s) (loop (round_of c.args.here.now (statement_view a))))) c.in-For.is

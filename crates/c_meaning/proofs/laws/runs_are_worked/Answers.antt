@@ -9,5 +9,7 @@ returns c = record {
   falls_through_runs = record { places_are = refl; bytes_are = refl; ends = refl };
   overflows_runs = record { places_are = refl; bytes_are = refl; ends = refl };
   points_back_runs = record { places_are = refl; bytes_are = refl; ends = refl };
+  stores_first_runs = record { places_are = refl; bytes_are = refl; ends = refl };
+  reads_first_runs = record { places_are = refl; bytes_are = refl; ends = refl };
   goes_on_runs = record { places_are = refl; bytes_are = refl; ends = refl };
 }

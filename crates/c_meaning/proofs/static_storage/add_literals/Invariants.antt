@@ -6,4 +6,4 @@ use Rattle.c_meaning.proofs.static_storage.add_literals.Given as goal
 
 abbrev pub invariant-loop-number : goal.invariant-loop-number
 invariant-loop-number l =
-    map object_view l.memory.items ≡ map object_view l.fn.memory.items ++ literal_objects 0 (take l.number (map literal_view l.literals))
+    map object_view l.memory.all.items ≡ map object_view l.fn.memory.all.items ++ literal_objects 0 (take l.number (map literal_view l.literals))

@@ -1,7 +1,7 @@
 use Rattle.std.proofs.Common.{arith, refl}
 use Rattle.c_meaning_values.specs.declared.value.Phase.TheVariants.{Live}
 use Rattle.c_meaning_values.specs.Memory.{in_phase}
-use Rattle.c_meaning_values.proofs.Objects.{changes_one}
+use Rattle.c_meaning_values.proofs.ByNumber.{changes_one}
 use Rattle.c_meaning_values.proofs.memory.begin.Goals as goal
 
 pub returns-then-object-len : goal.returns-then-object-len

@@ -1,7 +1,7 @@
 use Rattle.std.proofs.Common.{◌≡◌, Some, ◌+◌, ◌∙◌, sym, ap, arith}
 use Rattle.std.specs.Prelude.{option_map}
 use Rattle.c_meaning_values.specs.Views.{owner_view}
-use Rattle.c_meaning_values.proofs.Objects.{owned_here, owned_later, one_further}
+use Rattle.c_meaning_values.proofs.ByNumber.{owned_here, owned_later, one_further}
 use Rattle.c_meaning_values.proofs.memory.object_of.Goals as goal
 
 pub returns-then-is_owned : goal.returns-then-is_owned

@@ -1,6 +1,6 @@
 use Rattle.std.proofs.Common.{arith}
 use Rattle.c_meaning_values.specs.Memory.{with_value}
-use Rattle.c_meaning_values.proofs.Objects.{changes_one}
+use Rattle.c_meaning_values.proofs.ByNumber.{changes_one}
 use Rattle.c_meaning_values.proofs.memory.set_value.Goals as goal
 
 pub returns-then-object-len : goal.returns-then-object-len

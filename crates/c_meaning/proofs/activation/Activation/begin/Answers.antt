@@ -10,8 +10,8 @@ stop-requires c =
     let here = activation_view c.args.self.now in
     let events = c.args.state.now.seen.log.events in
     record {
-      stop = stop_at here c.args.spot.at (map object_view c.args.state.now.memory.items);
+      stop = stop_at here c.args.spot.at (map object_view c.args.state.now.memory.all.items);
       adds = c.with_stop-log.ensures ∙ ap (λ (m : List Object). events ++ stop_at here c.args.spot.at (map object_view m) ∷ []) c.as_slice.ensures.value;
-      stands = c.standing-standing.ensures (map object_view c.args.state.now.memory.items);
+      stands = c.standing-standing.ensures (map object_view c.args.state.now.memory.all.items);
       is_made = subst (λ (m : List Object). IfSome c.in_ok-made.made (λ s. stop_view s ≡ stop_at here c.args.spot.at (map object_view m))) c.deref.ensures.value c.in_ok-made.ensures;
     }
