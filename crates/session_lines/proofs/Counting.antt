@@ -1,24 +1,15 @@
 -- How a run is stepped to its end.
-use Rattle.std.proofs.Common.{◌≡◌, ℕ, zero, suc, ◌+◌, ◌<◌, ◌≤◌, refl, sym, ap, ◌∙◌, subst, arith, List, [], ◌∷◌, ◌++◌, length, drop, map, get_or}
+use Rattle.std.proofs.Common.{◌≡◌, ℕ, suc, ◌≤◌, refl, sym, ap, ◌∙◌, subst, arith, List, [], ◌∷◌}
 use Rattle.std.specs.Prelude.{Bool, true, false, if◌then◌else◌, Option, Some, None, option_map}
 use Rattle.image_form.specs.Form.{Form}
 use Rattle.rv_machine.specs.State.{State}
-use Rattle.rv_machine.specs.Table.{effect}
-use Rattle.rv_machine.specs.Run.{MachineEvent, Byte, Arrival, Exit, TooDeep, Faulted, arrival, goes_on, is_stop, run}
-use Rattle.rv_machine.specs.declared.event.Event.{Event}
-use Rattle.rv_machine.specs.declared.event.Event.TheVariants.{Went, Out, Exited, Depth, Fault}
-use Rattle.stop_engine.specs.AtStop.{locals_at}
+use Rattle.rv_machine.specs.Run.{MachineEvent, Byte, Arrival, Exit, TooDeep, Faulted}
 use Rattle.stop_engine.specs.Halting.{halt_at, halt_of}
-use Rattle.stop_engine.specs.Transcript.{AnyStop, Ending, Exits, NestsTooDeep, Faults, Limit, Position, Fresh, Standing, Over, Reach, is_aim, ran, reached}
-use Rattle.stop_engine.specs.Visible.{visible_of}
+use Rattle.stop_engine.specs.Transcript.{AnyStop, Ending, Exits, NestsTooDeep, Faults, Limit, Position, Fresh, Standing, Over, is_aim, ran, reached}
 use Rattle.stop_engine.specs.declared.halt.Halt.{Halt}
 use Rattle.stop_engine.specs.declared.halt.Halt.TheVariants as halt
-use Rattle.stop_engine.specs.declared.locals.Local.{Local}
-use Rattle.stop_engine_texts.specs.Sight.{sight_of}
 use Rattle.stop_engine_view.specs.Reading.{depth, place_at}
-use Rattle.session_lines.specs.declared.lines.PairCounts.{PairCounts}
-use Rattle.session_lines.specs.declared.summary.Counts.{Counts}
-use Rattle.session_lines.specs.Summary.{IsStop, counted, counted_all, counted_here, counted_stop}
+use Rattle.session_lines.specs.Summary.{IsStop}
 
 -- how often a run arrives at a stop
 abbrev pub arrivals : List MachineEvent → ℕ
@@ -28,22 +19,6 @@ arrivals (Arrival s ∷ events) = suc (arrivals events)
 arrivals (Exit v ∷ events) = arrivals events
 arrivals (TooDeep ∷ events) = arrivals events
 arrivals (Faulted a ∷ events) = arrivals events
-
-one_at_most : (b : Bool) (s : State) (rest : List MachineEvent) → arrivals ((if b then Arrival s ∷ [] else []) ++ rest) ≤ suc (arrivals rest)
-one_at_most true s rest = omega arith
-one_at_most false s rest = omega arith
-
-arrivals_goes_on : (stops : List ℕ) (e : Event) (s : State) (rest : State → List MachineEvent) (n : ℕ) → arrivals (rest s) ≤ n → arrivals (goes_on stops e s rest) ≤ suc n
-arrivals_goes_on stops Went s rest n le = (let h = one_at_most (is_stop stops s.pc) s (rest s) in omega (arith, h, le))
-arrivals_goes_on stops (Out b) s rest n le = (let h = one_at_most (is_stop stops s.pc) s (rest s) in omega (arith, h, le))
-arrivals_goes_on stops (Exited v) s rest n le = omega arith
-arrivals_goes_on stops Depth s rest n le = omega arith
-arrivals_goes_on stops (Fault a) s rest n le = omega arith
-
--- no more often than it has instructions
-pub arrivals_run : (stops : List ℕ) (n : ℕ) (s : State) → arrivals (run stops n s) ≤ n
-arrivals_run stops zero s = omega arith
-arrivals_run stops (suc n) s = arrivals_goes_on stops (effect s).event (effect s).after (run stops n) n (arrivals_run stops n (effect s).after)
 
 -- a session stands at a stop
 abbrev pub Stands : Position → Type 0

@@ -4,14 +4,13 @@ use Rattle.image_form.specs.Form.{Form}
 use Rattle.session_lines.specs.declared.lines.PairCounts.{PairCounts}
 use Rattle.rv_machine.specs.Run.{MachineEvent}
 use Rattle.stop_engine.specs.AtStop.{locals_at}
-use Rattle.stop_engine.specs.EngineState.{HasRun, RunState}
+use Rattle.stop_engine.specs.EngineState.{HasRun, RunState, fresh_run}
 use Rattle.stop_engine.specs.Halting.{halt_at, halt_of}
 use Rattle.stop_engine.specs.Transcript.{AnyStop, Ending, Position, Fresh, Standing, Over, Reach, ran}
 use Rattle.stop_engine.specs.Visible.{Visible}
 use Rattle.stop_engine.specs.declared.halt.Halt.{Halt}
 use Rattle.stop_engine.specs.declared.halt.Halt.TheVariants as halt
 use Rattle.stop_engine_texts.specs.Sight.{Sight, NoStop, NoName, Value, Recovered, Noncurrent, Nonresident}
-use Rattle.stop_engine_view.specs.Run.{image_run}
 use Rattle.session_lines.specs.declared.summary.Counts.{Counts}
 use Rattle.session_lines.specs.declared.summary.Summary.{Summary}
 
@@ -72,8 +71,12 @@ pub data IsStepped (m : Form) : Position → List MachineEvent → (before behin
   over : {e : Ending} {events : List MachineEvent} {c : Counts} → IsStepped m (Over e) events c c e
   step : {p : Position} {events : List MachineEvent} {r : Reach} {c d : Counts} {e : Ending} → ran m AnyStop p events ≡ r → IsStepped m r.position r.rest (counted_reach m r c) d e → IsStepped m p events c d e
 
--- The summary of the run of an image on an input, of at most so many instructions, is what stepping it to its end from its start comes to.
-pub record IsSummed (m : Form) (input : List ℕ) (limit : ℕ) (summary : Summary) : Type 0 where
+-- The summary of a run is what stepping it to its end, from where it stands, comes to.
+pub record IsSummaryOf (run : RunState) (summary : Summary) : Type 0 where
   pub ending : Ending
-  pub stepped : IsStepped m Fresh (image_run m input limit) nothing summary.counts ending
+  pub stepped : IsStepped run.form run.position run.events nothing summary.counts ending
   pub ending_is : summary.ending ≡ halt_of ending
+
+-- The summary is that of the run of an image on an input, of at most so many instructions, from its start.
+pub record IsSummed (m : Form) (input : List ℕ) (limit : ℕ) (summary : Summary) : Type 0 where
+  pub whole : IsSummaryOf (fresh_run m input limit) summary

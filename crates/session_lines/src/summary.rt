@@ -2,11 +2,12 @@
 
 ghost use Rattle.std.specs.Prelude.{◌≡◌, ◌↔◌, IfOk, IsTrue, OnOk, map};
 ghost use Rattle.stop_engine.specs.AtStop.{locals_at};
+ghost use Rattle.stop_engine.specs.EngineState.{HasExecuted};
 ghost use Rattle.image_form.specs.Form.{form};
 ghost use Rattle.image_form.specs.Rules.{IsImage};
 ghost use Rattle.stop_engine.specs.Visible.{visible_of};
 ghost use Rattle.stop_engine_texts.specs.Sight.{sight_of};
-ghost use Rattle.session_lines.specs.Summary.{IsOneStep, IsStop, IsSummed, counted, counted_all, counted_here, nothing};
+ghost use Rattle.session_lines.specs.Summary.{IsOneStep, IsStop, IsSummaryOf, IsSummed, counted, counted_all, counted_here, nothing};
 
 use crate::lines::PairCounts;
 use image_form::Image;
@@ -103,7 +104,8 @@ fn count_step(
     engine: &mut Engine<'_>,
     counts: &mut Counts,
 ) -> Result<Halt, AllocError>
-    ensures { IfOk result (λ halt. IsOneStep engine.old.run engine.new.run counts.old counts.new halt) }
+    ensures step { IfOk result (λ halt. IsOneStep engine.old.run engine.new.run counts.old counts.new halt) }
+    ensures executed { HasExecuted engine.old.run engine.new.run }
 {
     let halt = engine.run_to(&Stops::Any)?;
     counts.out = counts.out.saturating_add(engine.taken().len() as u64);
@@ -111,6 +113,21 @@ fn count_step(
         count_stop(alloc, engine, counts)?;
     }
     Ok(halt)
+}
+
+/// Steps the run of an engine to its end, from where it stands, and counts each step. `AllocError` where memory for its output or for what
+/// is shown was refused.
+fn count_steps(alloc: Global, engine: &mut Engine<'_>) -> Result<Summary, AllocError>
+    ensures summary { IfOk result (IsSummaryOf engine.old.run) }
+    ensures executed { HasExecuted engine.old.run engine.new.run }
+{
+    let mut counts = nothing();
+    loop {
+        let ending = count_step(alloc, engine, &mut counts)?;
+        if !is_stop(ending) {
+            return Ok(Summary { counts, ending });
+        }
+    }
 }
 
 /// Steps the run of an image on an input, of at most so many instructions, from stop to stop to its end. `AllocError` where memory for the run or for what
@@ -125,12 +142,5 @@ pub fn summarize(
     ensures { IfOk result (λ summary. IsSummed (form image.now) input.now limit summary) }
 {
     let mut engine = Engine::new(alloc, image, input, u64::from(limit))?;
-    let mut counts = nothing();
-    for _ in 0..u64::from(limit) + 1 {
-        let ending = count_step(alloc, &mut engine, &mut counts)?;
-        if !is_stop(ending) {
-            return Ok(Summary { counts, ending });
-        }
-    }
-    unreachable!()
+    Ok(count_steps(alloc, &mut engine)?)
 }

@@ -4,6 +4,7 @@ mod Called
 mod MarkBounds
 mod MarkLaws
 mod Stepping
+pub mod Executions
 mod StopTables
 mod ActivationLaws
 mod VisibleLaws

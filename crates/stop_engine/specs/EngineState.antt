@@ -3,10 +3,12 @@ use Rattle.std.specs.Prelude.{◌≡◌, ℕ, ◌≤◌, ◌⊎◌, Bool, false,
 use Rattle.image_form.specs.Form.{Form}
 use Rattle.rv_machine.specs.State.{State}
 use Rattle.rv_machine.specs.Run.{MachineEvent, run}
+use Rattle.rv_machine.specs.Table.{started}
 use Rattle.stop_engine.specs.declared.course.TheConstants.{ROOM}
 use Rattle.stop_engine.specs.declared.halt.Standing.{Standing}
 use Rattle.stop_engine.specs.Halting.{byte_events}
 use Rattle.stop_engine.specs.Breaks.{break_places}
+use Rattle.stop_engine.specs.Executing.{Executes}
 use Rattle.stop_engine.specs.Passing.{PassesBy}
 use Rattle.stop_engine.specs.Standing.{position_of, unanswered}
 use Rattle.script_form.specs.Script.{Mark, Order}
@@ -18,6 +20,10 @@ pub record RunState : Type 0 where
   pub form : Form
   -- how many instructions the run may have
   pub limit : ℕ
+  -- how many of these it has not executed yet
+  pub left : ℕ
+  -- its machine, in the state behind those that it has executed
+  pub machine : State
   -- where it stands
   pub position : Position
   -- the events that no call has answered yet
@@ -30,6 +36,8 @@ abbrev pub run_state : Form → (limit left : ℕ) → Standing → State → (o
 run_state m limit left standing s output = record {
   form = m;
   limit = limit;
+  left = left;
+  machine = s;
   position = position_of standing s;
   events = unanswered standing output (run (stop_addresses m) left s);
   output = output;
@@ -37,13 +45,26 @@ run_state m limit left standing s output = record {
 
 -- The run of an image before its first instruction, on this input, of at most so many instructions.
 abbrev pub fresh_run : Form → (input : List ℕ) → (limit : ℕ) → RunState
-fresh_run m input limit = record { form = m; limit = limit; position = Fresh; events = image_run m input limit; output = [] }
+fresh_run m input limit = record {
+  form = m;
+  limit = limit;
+  left = limit;
+  machine = started m.code m.initial input;
+  position = Fresh;
+  events = image_run m input limit;
+  output = [];
+}
 
 -- One run went on to the next stop of the aim or to the ending, and is then the other.
 pub record HasRun (aim : Aim) (old new : RunState) : Type 0 where
   pub image : new.form ≡ old.form
   pub limit : new.limit ≡ old.limit
   pub reach : ran old.form aim old.position old.events ≡ record { output = new.output; position = new.position; rest = new.events }
+
+-- One run executed some of the instructions that it had left, or none, and is then the other: its machine stands as many instructions
+-- further on as are now fewer left. So no more were executed than were left.
+abbrev pub HasExecuted : (old new : RunState) → Type 0
+HasExecuted old new = Executes old.left old.machine new.left new.machine
 
 -- A call has not moved the run.
 pub record IsUnmoved (old new : RunState) : Type 0 where

@@ -4,6 +4,7 @@ pub mod MarkTable
 pub mod Marking
 pub mod Passing
 pub mod Stopping
+pub mod Executing
 pub mod Halting
 pub mod Standing
 pub mod StopTable

@@ -2,6 +2,8 @@
 
 ghost use Rattle.std.specs.Prelude.{◌≡◌, ℕ, suc, ◌<◌, ◌≤◌, ◌++◌, List, Some, IfOk, IfSome, OnOk, OnErr, length, vec_len, vec_capacity};
 ghost use Rattle.rv_machine.specs.Run.{MachineEvent, arrival, run};
+ghost use Rattle.rv_machine.specs.Table.{effect};
+ghost use Rattle.stop_engine.specs.Executing.{Executes};
 ghost use Rattle.stop_engine.specs.Halting.{from_halt, from_here, halt_at, halted_at};
 ghost use Rattle.stop_engine.specs.Marking.{aim_of};
 ghost use Rattle.stop_engine.specs.Passing.{IsAimed, PassesBy};
@@ -47,6 +49,7 @@ fn carry_out(
     ensures halted { IfSome result (λ halt. halt_at table.now (halted_at halt machine.new) ≡ Some halt) }
     ensures aimed { IfSome result (λ halt. IsAimed table.now (aim_of aim.now) halt machine.new) }
     ensures room { vec_capacity output.new ≡ vec_capacity output.old }
+    ensures moved { machine.new ≡ (effect machine.old).after }
 {
     match machine.step() {
         Event::Went => arrived(table, aim, machine),
@@ -93,6 +96,7 @@ pub fn run_on(
         → PassesBy table.now (aim_of aim.now) events output.old.items (run (stop_addresses table.now) left.old machine.old)
         → PassesBy table.now (aim_of aim.now) events output.new.items (run (stop_addresses table.now) left.new machine.new)) }
     ensures full { OnErr result (ROOM ≤ length output.new.items) }
+    ensures executed { Executes left.old machine.old left.new machine.new }
 {
     while *left > 0 {
         make_room(output)?;

@@ -8,7 +8,7 @@ ghost use Rattle.line_form.specs.Lines.{no_stop_line};
 ghost use Rattle.stop_engine.specs.Activations.{activation_of};
 ghost use Rattle.stop_engine.specs.AtStop.{frames_at, locals_at};
 ghost use Rattle.stop_engine.specs.Breaks.{break_places};
-ghost use Rattle.stop_engine.specs.EngineState.{Answers, HasMarked, HasRun, LeavesOff, Wants, fresh_engine};
+ghost use Rattle.stop_engine.specs.EngineState.{Answers, HasExecuted, HasMarked, HasRun, LeavesOff, Wants, fresh_engine};
 ghost use Rattle.stop_engine.specs.Halting.{halt_at};
 ghost use Rattle.stop_engine.specs.Marking.{aim_of};
 ghost use Rattle.stop_engine.specs.Shown.{locals_lines, where_lines};
@@ -88,6 +88,7 @@ impl<'a> Engine<'a> {
         ensures ran { OnOk result (HasRun (aim_of stops.now) self.old.run self.new.run) }
         ensures halt { IfOk result (λ halt. halt_at self.new.run.form self.new.run.position ≡ Some halt) }
         ensures wanting { OnErr result (Wants (aim_of stops.now) self.old.run self.new.run) }
+        ensures executed { HasExecuted self.old.run self.new.run }
         ensures marks { self.new.marks ≡ self.old.marks }
         ensures quit { self.new.has_quit ≡ self.old.has_quit }
     {
@@ -146,6 +147,7 @@ impl<'a> Engine<'a> {
     pub fn answer(&mut self, alloc: Global, command: &Command) -> Result<Vec<Vec<u8>>, AllocError>
         ensures answered { IfOk result (λ lines. Answers self.old self.new (order_of command.now) (map (λ line. line.items) lines.items)) }
         ensures wanting { OnErr result (LeavesOff self.old self.new) }
+        ensures executed { HasExecuted self.old.run self.new.run }
     {
         if self.has_quit {
             return Ok(Vec::new(alloc));
@@ -174,6 +176,7 @@ impl<'a> Engine<'a> {
         ensures marked { OnOk result (HasMarked (mark target.now) self.old self.new) }
         ensures lines { IfOk result (λ lines. map (λ line. line.items) lines.items ≡ marked_line (mark target.now) (break_places self.old.run.form (mark target.now)) ∷ []) }
         ensures kept { OnErr result (self.new ≡ self.old) }
+        ensures run { self.new.run ≡ self.old.run }
     {
         let places = break_places(alloc, self.run.table(), &self.functions, target)?;
         let line = marked_line(alloc, target, &places)?;
@@ -237,6 +240,7 @@ fn run_lines(
     ensures lines { IfOk result (λ lines. map (λ line. line.items) lines.items
         ≡ run_lines run.old.form run.old.limit (ran run.old.form (aim_of stops.now) run.old.position run.old.events)) }
     ensures wanting { OnErr result (Wants (aim_of stops.now) run.old run.new ⊎ HasRun (aim_of stops.now) run.old run.new) }
+    ensures executed { HasExecuted run.old run.new }
 {
     let halt = run.run_to(stops)?;
     let mut lines = out_lines(alloc, run.taken())?;

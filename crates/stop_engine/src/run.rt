@@ -4,7 +4,7 @@ ghost use Rattle.std.specs.Prelude.{◌≡◌, ◌≤◌, ◌^◌, ◌<◌, ◌+
 ghost use Rattle.image_form.specs.Form.{form};
 ghost use Rattle.image_form.specs.Rules.{IsImage};
 ghost use Rattle.rv_machine.specs.Run.{MachineEvent};
-ghost use Rattle.stop_engine.specs.EngineState.{HasRun, RunState, Wants, fresh_run};
+ghost use Rattle.stop_engine.specs.EngineState.{HasExecuted, HasRun, RunState, Wants, fresh_run};
 ghost use Rattle.stop_engine.specs.Halting.{halt_at};
 ghost use Rattle.stop_engine.specs.Marking.{aim_of};
 ghost use Rattle.stop_engine.specs.Standing.{ending_of, not_answered, place_of};
@@ -81,6 +81,7 @@ impl<'a> Run<'a> {
         ensures ran { OnOk result (HasRun (aim_of stops.now) self.old self.new) }
         ensures halt { IfOk result (λ halt. halt_at self.new.form self.new.position ≡ Some halt) }
         ensures wanting { OnErr result (Wants (aim_of stops.now) self.old self.new) }
+        ensures executed { HasExecuted self.old self.new }
     {
         forget_answered(self.standing, &mut self.output);
         if let Some(ending) = ending_of(self.standing) {

@@ -1,10 +1,14 @@
-use Rattle.std.proofs.Common.{◌≡◌, ◌≤◌, suc, ◌-◌, sym, subst, arith, vec_capacity}
+use Rattle.std.proofs.Common.{◌≡◌, ◌<◌, ◌≤◌, suc, ◌-◌, sym, subst, arith, vec_capacity}
 use Rattle.rv_machine.specs.Run.{run}
 use Rattle.stop_engine.specs.declared.course.TheConstants.{ROOM}
 use Rattle.stop_engine.specs.Marking.{aim_of}
 use Rattle.stop_engine.specs.Passing.{PassesBy}
 use Rattle.stop_engine_view.specs.Run.{stop_addresses}
+use Rattle.stop_engine.proofs.Executions.{executes-none, executes-one, executes-then}
 use Rattle.stop_engine.proofs.course.run_on.Goals as goal
+
+pub loop-left-init : goal.loop-left-init
+loop-left-init c = (c.requires, λ events p. p, executes-none c.args.left.now c.args.machine.now)
 
 pub returns-in-Some-clause-passes : goal.returns-in-Some-clause-passes
 returns-in-Some-clause-passes c = λ events p.
@@ -15,6 +19,12 @@ returns-in-Some-clause-passes c = λ events p.
     let here = subst (λ n. PassesBy m aim events c.loop-left.output.items (run stops n c.loop-left.machine)) some (c.loop-left.invariant.1 events p) in
     let roomy = subst (λ o. PassesBy m aim events o (run stops (suc (c.loop-left.left - 1)) c.loop-left.machine)) (sym c.make_room.ensures.items) here in
     c.in-Some.ensures.passes events (c.loop-left.left - 1) roomy
+
+pub returns-in-Some-clause-executed : goal.returns-in-Some-clause-executed
+returns-in-Some-clause-executed c =
+    let some : 0 < c.loop-left.left = omega arith in
+    executes-then c.args.left.now c.loop-left.left (c.loop-left.left - 1) c.args.machine.now c.loop-left.machine c.carry_out.new.machine c.loop-left.invariant.2
+    (executes-one c.loop-left.left c.loop-left.machine c.carry_out.new.machine some c.carry_out.ensures.moved)
 
 pub loop-left-preserved : goal.loop-left-preserved
 loop-left-preserved c =
@@ -30,4 +40,6 @@ loop-left-preserved c =
           let here = subst (λ n. PassesBy m aim events c.loop-left.output.items (run stops n c.loop-left.machine)) some (c.loop-left.invariant.1 events p) in
           let roomy = subst (λ o. PassesBy m aim events o (run stops (suc (c.loop-left.left - 1)) c.loop-left.machine)) (sym c.make_room.ensures.items) here in
           c.in-None.ensures.passes events (c.loop-left.left - 1) roomy,
+      executes-then c.args.left.now c.loop-left.left (c.loop-left.left - 1) c.args.machine.now c.loop-left.machine c.carry_out.new.machine c.loop-left.invariant.2
+          (executes-one c.loop-left.left c.loop-left.machine c.carry_out.new.machine (omega arith) c.carry_out.ensures.moved),
     )

@@ -2,6 +2,7 @@ use Rattle.std.proofs.Common.{refl, ◌∙◌}
 use Rattle.rv_machine.specs.Run.{run}
 use Rattle.stop_engine.specs.Marking.{aim_of}
 use Rattle.stop_engine_view.specs.Run.{stop_addresses}
+use Rattle.stop_engine.proofs.Executions.{executes-none}
 use Rattle.stop_engine.proofs.Stepping.{on_err-always, passes-unanswered, ran-to_halt, wants-before_moving, wants-on_its_way}
 use Rattle.stop_engine.proofs.run.Run.run_to.Goals as goal
 
@@ -30,3 +31,15 @@ returns-clause-ran c =
       limit = refl;
       reach = ran-to_halt r.table aim r.standing r.machine c.run_on.new.machine r.output.items c.run_on.new.output.items (run (stop_addresses r.table) r.left r.machine) (run (stop_addresses r.table) c.run_on.new.left c.run_on.new.machine) c.in_ok-halt.halt (cc) (c.in_ok-halt.ensures.passes _ start) c.in_ok-halt.ensures.aimed;
     })
+
+pub returns-in-Some-clause-executed : goal.returns-in-Some-clause-executed
+returns-in-Some-clause-executed c = rw (← c.self.view_is) (executes-none c.self.inside.left c.self.inside.machine)
+
+pub returns-in_err-reserve-clause-executed : goal.returns-in_err-reserve-clause-executed
+returns-in_err-reserve-clause-executed c = rw (← c.self.view_is) (executes-none c.self.inside.left c.self.inside.machine)
+
+pub returns-in_err-halt-clause-executed : goal.returns-in_err-halt-clause-executed
+returns-in_err-halt-clause-executed c = rw (← c.self.view_is) c.run_on.ensures.executed
+
+pub returns-clause-executed : goal.returns-clause-executed
+returns-clause-executed c = rw (← c.self.view_is) c.run_on.ensures.executed
