@@ -18,8 +18,8 @@ use Rattle.graph_core.specs.WellMarked.{IsVariable}
 use Rattle.currency_notes.specs.Homes.{home_in}
 use Rattle.currency_notes.proofs.Lists.{get_among, each_all, each_more}
 use Rattle.currency_shown.specs.declared.found.Unshown as declared-unshown
-use Rattle.currency_shown.specs.Found.{entries_of, IsPlaceOf}
-use Rattle.currency_shown.specs.Shown.{AreDifferent, AreDistinct, AreHidden, AreLeast, AreOther, AreOwn, ArePlaced, AreRecipes, AreTheirs, IsHiddenAt, IsLeastAt, IsOther}
+use Rattle.currency_shown.specs.Found.{entries_of, IsPlaceOf, IsPlaceReached}
+use Rattle.currency_shown.specs.Shown.{AreDifferent, AreDistinct, AreHidden, AreLeast, AreOther, AreOwn, ArePlaced, AreReached, AreRecipes, AreTheirs, IsHiddenAt, IsLeastAt, IsOther}
 use Rattle.currency.specs.declared.telling.Told as declared-told
 use Rattle.currency.specs.declared.telling.Told.TheVariants as told
 use Rattle.currency.specs.declared.telling.ToldVariable as declared-variable
@@ -119,7 +119,7 @@ find_entry (v ∷ entries) p = elim (eqb_tells v.place.0 p) [
 
 -- What is told of a function.
 module _ (log : List Logged) (g : declared-graph.Graph) (homes : List Home) (number : ℕ) (table : declared-table.PlaceTable) (old new : declared-places.ToldPlaces) (found : List (Vec declared-unshown.Unshown)) (placed : ArePlaced (graph_view g) number table)
-    (theirs : AreTheirs found number table) (different : AreDifferent (graph_view g)) (own : AreOwn (home_in homes) (graph_view g) table found) (recipes : AreRecipes (home_in homes) (graph_view g) found) (other : AreOther (graph_view g) found) (hidden : AreDistinct homes → AreHidden (home_in homes) (graph_view g) found) (least : AreLeast log (graph_view g) found) (all : AreToldAll old new g.scalars.items found) where
+    (theirs : AreTheirs found number table) (different : AreDifferent (graph_view g)) (own : AreOwn (home_in homes) (graph_view g) table found) (recipes : AreRecipes (home_in homes) (graph_view g) found) (other : AreOther (graph_view g) found) (hidden : AreDistinct homes → AreHidden (home_in homes) (graph_view g) found) (least : AreLeast log (graph_view g) found) (reached : AreReached (graph_view g) found) (all : AreToldAll old new g.scalars.items found) where
   -- the scalar of a variable
   variable_at : (x : ℕ) (s : declared-scalar.Scalar) → slice_get g.scalars.items x ≡ Some s → option_map (λ (z : Scalar). z.variable) (slice_get (graph_view g).scalars x) ≡ Some s.var.0
   variable_at x s e = ap (λ q. option_map (λ (z : Scalar). z.variable) q) (slice_get-map scalar_view g.scalars.items x ∙ ap (λ o. option_map scalar_view o) e)
@@ -156,6 +156,10 @@ module _ (log : List Logged) (g : declared-graph.Graph) (homes : List Home) (num
     only = λ p t there. elim (all.only p t there) [
       | inl a ↦ inl a
       | inr b ↦ inr (subst (λ q. IsPlaceOf table number q) b.of.place (theirs b.x b.of.entry b.of.among), is_right p t b t.told b.of.recipe)
+    ];
+    reached = λ p t there. elim (all.only p t there) [
+      | inl a ↦ inl a
+      | inr b ↦ inr (subst (IsPlaceReached (graph_view g)) b.of.place (reached b.x b.of.entry b.of.among))
     ];
     own = λ p x variable is visible. elim (find_entry (entries_of found x) p) [
       | inl f ↦ inr (something p x variable is f.0 f.1 f.2)

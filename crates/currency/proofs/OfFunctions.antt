@@ -49,6 +49,7 @@ module _ (u : HomedForm) (table : declared-table.PlaceTable) where
     own = λ f g p x variable lt at. absurd (omega (arith, lt));
     right = λ p t f g among lt. absurd (omega (arith, lt));
     of = λ p t among. absurd (nothing t (subst (λ l. Among t l) (none p) among));
+    reached = λ p t among. absurd (nothing t (subst (λ l. Among t l) (none p) among));
   }
     where
       nothing : (t : declared-variable.ToldVariable) → Among t [] → ⊥
@@ -87,6 +88,10 @@ module _ (u : HomedForm) (table : declared-table.PlaceTable) where
     of = λ p t among. elim (next.only p t among) [
       | inl a ↦ (let o = before.of p t a in (o.0, omega (arith, o.1), o.2))
       | inr b ↦ (count, omega arith, b.0)
+    ];
+    reached = λ p t among. elim (next.reached p t among) [
+      | inl a ↦ before.reached p t a
+      | inr b ↦ record { function = count; graph = g; is = at; reached = b }
     ];
   }
     where

@@ -28,7 +28,7 @@ use Rattle.currency.specs.declared.verdict.Verdict.TheVariants as verdict
 use Rattle.currency.specs.declared.verdict.PlaceVerdict as declared-row
 use Rattle.currency.specs.Telling.{told_at, AreRowsTold, AreSlotted, AreTold, IsNoneTold, IsRowTold, IsToldOf, IsToldRight, IsVerdictOf, IsVerdictOn}
 use Rattle.currency.proofs.Distinct.{distinct_homes}
-use Rattle.currency.specs.Sound.{AreApart, AreHidden, AreHome, AreLeast, AreOnly, AreRecovered, AreSo, IsHidden}
+use Rattle.currency.specs.Sound.{AreApart, AreHidden, AreHome, AreLeast, AreOnly, AreReached, AreRecovered, AreSo, IsHidden, IsReached}
 use Rattle.base_laws.proofs.Lists.{append_nil as more_none, take_none}
 
 -- where a verdict hides a variable, nothing is told that shows it
@@ -189,6 +189,16 @@ module _ (u : HomedForm) (table : declared-table.PlaceTable) (found : declared-p
 
   pub are_apart : AreApart u rows
   are_apart w r c among is f x g at variable h n rest e way own = (is_given w r c among is f x g at variable).1 h n rest e way (sym (are_only w r c among is f x g at variable h n rest e way (Of (Name x)) own))
+
+  pub are_reached : AreReached u rows
+  are_reached w among other = at_what row.what row.is row.verdict
+    where
+      row : IsRowTold (told_at found w.place.0) w
+      row = (each w among).1
+
+      at_what : (o : Option declared-variable.ToldVariable) → MatchOption o (IsNoneTold (told_at found w.place.0) w.var) (λ t. IsToldOf (told_at found w.place.0) w.var t) → IsVerdictOn o w.verdict → IsReached u w.place.0
+      at_what None none v = absurd (other v)
+      at_what (Some t) of v = so.reached w.place.0 t of.0
 
   pub are_hidden : AreHidden u rows
   are_hidden w among hid homed f x g at some few variable = at_what row.what row.is row.verdict

@@ -1,5 +1,5 @@
 -- What verdicts say on all paths.
-use Rattle.std.specs.Prelude.{◌≡◌, ℕ, ◌<◌, ◌≤◌, ◌⊎◌, Some, List, ◌∷◌, length, slice_get}
+use Rattle.std.specs.Prelude.{◌≡◌, ◌≢◌, ℕ, ◌<◌, ◌≤◌, ◌⊎◌, Some, List, ◌∷◌, length, slice_get}
 use Rattle.places.specs.declared.table.PlaceTable as declared-table
 use Rattle.graph_homes.specs.Homes.{HoldsOnAllPaths}
 use Rattle.graph_core.specs.declared.recipe.Recipe as declared-recipe
@@ -7,7 +7,7 @@ use Rattle.graph_core.specs.Graphs.{Instruction, Marker, End, Graph, Recipe, Of,
 use Rattle.graph_core.specs.Paths.{Among, History, Path}
 use Rattle.graph_core.specs.WellMarked.{IsVariable}
 use Rattle.graph_homes.specs.Homed.{HomedForm, HaveHomes, home_of, homes_in}
-use Rattle.currency_shown.specs.Found.{IsPlaceOf}
+use Rattle.currency_shown.specs.Found.{IsPlaceOf, IsPlaceReached}
 use Rattle.currency_shown.specs.Shown.{ArePlaced, IsHiddenAt, IsLeastAt, IsVisible}
 use Rattle.currency.specs.declared.telling.ToldVariable as declared-variable
 use Rattle.currency.specs.declared.told.ToldPlaces as declared-places
@@ -24,12 +24,20 @@ IsHidden (verdict.Noncurrent c start w) = Unit {0}
 IsHidden (verdict.Nonresident c start w) = Unit {0}
 
 module _ (u : HomedForm) where
+  -- A path of some function of a unit reaches a place.
+  pub record IsReached (p : ℕ) : Type 0 where
+    pub function : ℕ
+    pub graph : Graph
+    pub is : slice_get u.unit.graphs function ≡ Some graph
+    pub reached : IsPlaceReached graph p
+
   -- What is told of the first functions of a unit.
   pub record AreFunctionsTold (table : declared-table.PlaceTable) (count : ℕ) (told : declared-places.ToldPlaces) : Type 0 where
     pub placed : (f : ℕ) (g : Graph) → f < count → slice_get u.unit.graphs f ≡ Some g → ArePlaced g f table
     pub own : (f : ℕ) (g : Graph) (p x variable : ℕ) → f < count → slice_get u.unit.graphs f ≡ Some g → IsVariable g x variable → IsVisible table p variable → HoldsOnAllPaths (home_of u f) g p x (Of (Name x)) ⊎ IsSomethingTold told p variable
     pub right : (p : ℕ) (t : declared-variable.ToldVariable) (f : ℕ) (g : Graph) → Among t (told_at told p) → f < count → slice_get u.unit.graphs f ≡ Some g → IsToldRight u.unit.log (homes_in u f) g p t t.told
     pub of : (p : ℕ) (t : declared-variable.ToldVariable) → Among t (told_at told p) → (f : ℕ) × (f < count) × IsPlaceOf table f p
+    pub reached : (p : ℕ) (t : declared-variable.ToldVariable) → Among t (told_at told p) → IsReached p
 
   -- What is told of all its functions.
   abbrev pub AreSo : declared-table.PlaceTable → declared-places.ToldPlaces → Type 0
@@ -72,3 +80,7 @@ module _ (u : HomedForm) where
   AreHidden rows =
       (w : declared-row.PlaceVerdict) → Among w rows → IsHidden w.verdict → HaveHomes u → (f x : ℕ) (g : Graph) → slice_get u.unit.graphs f ≡ Some g → 1 ≤ g.name_count → g.name_count ≤ 4294967264 → IsVariable g x w.var.0
       → IsHiddenAt (home_of u f) g w.place.0 x
+
+  -- Where a verdict says anything but that its home shows a variable, some path reaches the place: at a place that no path reaches each variable is said to be shown by its home.
+  abbrev pub AreReached : List declared-row.PlaceVerdict → Type 0
+  AreReached rows = (w : declared-row.PlaceVerdict) → Among w rows → w.verdict ≢ verdict.Home → IsReached w.place.0

@@ -13,7 +13,7 @@ use Rattle.graph_core.specs.WellMarked.{IsVariable}
 use Rattle.currency_notes.specs.Homes.{home_in}
 use Rattle.currency_shown.specs.declared.found.LastNote as declared-last
 use Rattle.currency_shown.specs.declared.found.Unshown as declared-unshown
-use Rattle.currency_shown.specs.Found.{entries_of, IsPlaceOf}
+use Rattle.currency_shown.specs.Found.{entries_of, IsPlaceOf, IsPlaceReached}
 use Rattle.currency_shown.specs.Shown.{AreDistinct, ArePlaced, IsHiddenAt, IsLeastAt, IsOther, IsVisible}
 use Rattle.currency_hiding.specs.declared.causes.Cause as declared-cause
 use Rattle.currency_hiding.specs.declared.causes.Cause.TheVariants as cause
@@ -100,11 +100,12 @@ IsToldRight log homes g p t (told.Recovered r c) =
     (x : ℕ) → IsVariable g x t.var.0 → HoldsOnAllPaths (home_in homes) g p x (recipe_view r.now) × IsOther g p x (recipe_view r.now) × IsLeastAt log g p x (Some c)
 IsToldRight log homes g p t (told.Hidden cause) = AreDistinct homes → (x : ℕ) → IsVariable g x t.var.0 → IsHiddenAt (home_in homes) g p x
 
--- What is told of a function: of each scalar that is visible at a place, its own value holds on all paths, or something is told of it; and what is told is right.
+-- What is told of a function: of each scalar that is visible at a place, its own value holds on all paths, or something is told of it; and what is told is right, at places that paths reach.
 pub record IsFunctionTold (log : List Logged) (homes : List Home) (g : Graph) (number : ℕ) (table : declared-table.PlaceTable) (old new : declared-places.ToldPlaces) : Type 0 where
   pub placed : ArePlaced g number table
   pub kept : (p : ℕ) (t : declared-variable.ToldVariable) → Among t (told_at old p) → Among t (told_at new p)
   pub only : (p : ℕ) (t : declared-variable.ToldVariable) → Among t (told_at new p) → Among t (told_at old p) ⊎ (IsPlaceOf table number p × IsToldRight log homes g p t t.told)
+  pub reached : (p : ℕ) (t : declared-variable.ToldVariable) → Among t (told_at new p) → Among t (told_at old p) ⊎ IsPlaceReached g p
   pub own : (p x variable : ℕ) → IsVariable g x variable → IsVisible table p variable → HoldsOnAllPaths (home_in homes) g p x (Of (Name x)) ⊎ IsSomethingTold new p variable
 
 -- of a variable nothing is told

@@ -5,7 +5,7 @@ ghost use Rattle.graph_homes.specs.Homed.{homed_view};
 ghost use Rattle.dead_pass_writes.specs.RemovedChangesTelling.{AreToldOf as AreRemovalsTold};
 ghost use Rattle.currency.specs.Telling.{AreRowsTold, AreSlotted, AreTold, IsNoneTold, IsToldOf, IsVerdictOn, told_at};
 ghost use Rattle.currency.specs.Named.{AreNamed};
-ghost use Rattle.currency.specs.Sound.{AreApart, AreHidden, AreHome, AreLeast, AreOnly, AreRecovered, AreSo};
+ghost use Rattle.currency.specs.Sound.{AreApart, AreHidden, AreHome, AreLeast, AreOnly, AreReached, AreRecovered, AreSo};
 ghost use Rattle.currency.specs.Written.{AreWritten};
 ghost use Rattle.currency.specs.Evident.{AreEvident, AreToldEvident};
 ghost use Rattle.currency.specs.Visible.{sight, sights_at, sights_from};
@@ -201,6 +201,7 @@ pub fn verdicts(
     ensures only { IfOk result (λ o. IfSome o (λ v. AreOnly (homed_view homed.now) v.items)) }
     ensures least { IfOk result (λ o. IfSome o (λ v. AreLeast (homed_view homed.now) v.items)) }
     ensures hidden { IfOk result (λ o. IfSome o (λ v. AreHidden (homed_view homed.now) v.items)) }
+    ensures reached { IfOk result (λ o. IfSome o (λ v. AreReached (homed_view homed.now) v.items)) }
     ensures named { IfOk result (λ o. IfSome o (λ v. AreNamed (homed_view homed.now).unit.log v.items)) }
     ensures written { IfOk result (λ o. IfSome o (λ v. AreWritten (homed_view homed.now) v.items)) }
     ensures evident { IfOk result (λ o. IfSome o (λ v. AreEvident (homed_view homed.now).unit.log flow.now (homed_view homed.now) v.items)) }

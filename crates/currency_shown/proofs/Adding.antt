@@ -5,7 +5,7 @@ use Rattle.std.specs.Prelude.{slice_get, slice_set, ◌⊎◌}
 use Rattle.std.specs.Global.{Vec}
 use Rattle.std.proofs.lemmas.Bool.Decides.{eqb_tells}
 use Rattle.std.proofs.lemmas.List.{get_or-set_same, get_or-set_other}
-use Rattle.places.specs.declared.table.PlaceTable as declared-table
+use Rattle.graph_core.specs.Graphs.{graph_view}
 use Rattle.graph_core.specs.Paths.{Among, front}
 use Rattle.std.specs.Option.{option_map_or}
 use Rattle.currency_notes.proofs.Lists.{among_left, among_one, among_parts, among_right, get_put_other, get_put_same}
@@ -14,15 +14,15 @@ use Rattle.currency_notes.specs.declared.state.State as declared-state
 use Rattle.currency_shown.specs.declared.found.Unshown as declared-unshown
 use Rattle.currency_shown.specs.declared.found.Found as declared-found
 use Rattle.currency_shown.specs.declared.survey.Survey as declared-survey
-use Rattle.currency_shown.specs.Found.{entries_of, is_met, IsPlaceOf, IsShownBy, IsTold, IsAdded, IsNewPlace, Shows}
+use Rattle.currency_shown.specs.Found.{entries_of, is_met, IsPlaceOf, IsPlaceReached, IsShownBy, IsTold, IsAdded, IsNewPlace, Shows}
 use Rattle.currency_shown.specs.Survey.{AreMet, IsExtended, IsFound}
 use Rattle.base_laws.proofs.Booleans.{by_bool}
 
-pub extended_same : (table : declared-table.PlaceTable) (number : ℕ) (f : declared-found.Found) → AreMet table number f → IsExtended table number f f
-extended_same table number f all = record { met = λ p e. e; kept = λ x u there. there; only = λ x u there. inl there; all = all }
+pub extended_same : (v : declared-survey.Survey) (f : declared-found.Found) → AreMet v f → IsExtended v f f
+extended_same v f all = record { met = λ p e. e; kept = λ x u there. there; only = λ x u there. inl there; all = all }
 
-pub extended_on : (table : declared-table.PlaceTable) (number : ℕ) (f g h : declared-found.Found) → IsExtended table number f g → IsExtended table number g h → IsExtended table number f h
-extended_on table number f g h one two = record {
+pub extended_on : (v : declared-survey.Survey) (f g h : declared-found.Found) → IsExtended v f g → IsExtended v g h → IsExtended v f h
+extended_on v f g h one two = record {
   met = λ p e. two.met p (one.met p e);
   kept = λ x u there. two.kept x u (one.kept x u there);
   only = λ x u there. elim (two.only x u there) [
@@ -33,7 +33,7 @@ extended_on table number f g h one two = record {
 }
 
 -- what is found at a place stays
-pub found_on : (v : declared-survey.Survey) (f g : declared-found.Found) (s : declared-state.State) (p : ℕ) → IsExtended v.table.now v.number f g → IsFound v f s p → IsFound v g s p
+pub found_on : (v : declared-survey.Survey) (f g : declared-found.Found) (s : declared-state.State) (p : ℕ) → IsExtended v f g → IsFound v f s p → IsFound v g s p
 found_on v f g s p more here = record {
   row = here.row;
   some = here.some;
@@ -52,7 +52,7 @@ found_on v f g s p more here = record {
 }
 
 -- a place that is new
-module _ (v : declared-survey.Survey) (f g : declared-found.Found) (s : declared-state.State) (p : ℕ) (new : IsNewPlace v.function.now.homes s v.numbering v.table.now v.number p f g) (all : AreMet v.table.now v.number f) where
+module _ (v : declared-survey.Survey) (f g : declared-found.Found) (s : declared-state.State) (p : ℕ) (new : IsNewPlace v.function.now.homes s v.numbering v.table.now v.number p f g) (all : AreMet v f) (reached : IsPlaceReached (graph_view v.function.now.graph.now) p) where
   met_more : (q : ℕ) → is_met f q ≡ true → is_met g q ≡ true
   met_more q e = ap (λ xs. get_or xs q false) new.met ∙ elim (eqb_tells q p) [
     | inl a ↦ ap (λ n. get_or (slice_set f.met.items p true) n false) a.1 ∙ get_or-set_same f.met.items p true false new.room
@@ -62,14 +62,18 @@ module _ (v : declared-survey.Survey) (f g : declared-found.Found) (s : declared
   met_here : is_met g p ≡ true
   met_here = ap (λ xs. get_or xs p false) new.met ∙ get_or-set_same f.met.items p true false new.room
 
-  pub extended_new : IsExtended v.table.now v.number f g
+  pub extended_new : IsExtended v f g
   extended_new = record {
     met = met_more;
     kept = new.added.kept;
     only = λ x u there. elim (new.added.only x u there) [ inl a ↦ inl a | inr b ↦ inr (ap (λ q. is_met f q) b.0 ∙ new.fresh) ];
     all = λ x u there. elim (new.added.only x u there) [
-      | inl a ↦ (met_more u.place.0 (all x u a).0, (all x u a).1)
-      | inr b ↦ (ap (λ q. is_met g q) b.0 ∙ met_here, subst (λ q. IsPlaceOf v.table.now v.number q) (sym b.0) (record { row = new.row; some = new.some; is = new.is; of = new.of }))
+      | inl a ↦ (met_more u.place.0 (all x u a).0, (all x u a).1, (all x u a).2)
+      | inr b ↦ (
+        ap (λ q. is_met g q) b.0 ∙ met_here,
+        subst (λ q. IsPlaceOf v.table.now v.number q) (sym b.0) (record { row = new.row; some = new.some; is = new.is; of = new.of }),
+        subst (λ q. IsPlaceReached (graph_view v.function.now.graph.now) q) (sym b.0) reached,
+      )
     ];
   }
 

@@ -9,6 +9,7 @@ use Rattle.graph_core.specs.declared.block.Block as declared-block
 use Rattle.graph_core.specs.Graphs.{Instruction, Block, End, Jump, block_view, end_view, graph_view}
 use Rattle.graph_core.specs.Paths.{Among, front}
 use Rattle.graph_core.specs.Uses.{targets_of}
+use Rattle.graph_paths.proofs.Points.{reached_next}
 use Rattle.currency_notes.specs.declared.function.Function as declared-function
 use Rattle.currency_notes.specs.declared.state.State as declared-state
 use Rattle.currency_notes.specs.Full.{IsEqual}
@@ -66,18 +67,21 @@ module _ (f : declared-function.Function) where
   -- what is whole is so of an equal state, of what two states leave, and in a block to which one leads
   pub whole_equal : (n : ℕ) (rest : List Instruction) (e : End) (s t : declared-state.State) → IsEqual s t → IsWholeAt f t n rest e → IsWholeAt f s n rest e
   whole_equal n rest e s t equal whole = record {
+    reached = whole.reached;
     full = λ exact. full_equal f.homes (graph_view f.graph.now) n rest e s t equal (whole.full exact);
     attained = λ log told. attained_equal log (graph_view f.graph.now) n rest e s t equal (whole.attained log told);
   }
 
   pub whole_joined : (n : ℕ) (rest : List Instruction) (e : End) (one other both : declared-state.State) → IsJoined one other both → IsWholeAt f one n rest e → IsWholeAt f other n rest e → IsWholeAt f both n rest e
   whole_joined n rest e one other both joined a b = record {
+    reached = a.reached;
     full = λ exact. full_joined f.homes (graph_view f.graph.now) n rest e one other both joined (a.full exact) (b.full exact);
     attained = λ log told. attained_joined log (graph_view f.graph.now) n rest e one other both joined (a.attained log told) (b.attained log told);
   }
 
   pub whole_next : (n l : ℕ) (e : End) (c : Block) (s : declared-state.State) → Among l (targets_of e) → slice_get (graph_view f.graph.now).blocks l ≡ Some c → IsWholeAt f s n [] e → IsWholeAt f s l c.instructions c.end
   whole_next n l e c s among is whole = record {
+    reached = reached_next whole.reached among c is;
     full = λ exact. full_next f.homes (graph_view f.graph.now) n l e c s among is (whole.full exact);
     attained = λ log told. attained_next log (graph_view f.graph.now) n l e c s among is (whole.attained log told);
   }

@@ -5,3 +5,4 @@ mod Carried
 mod HiddenPlaces
 mod LeastPlaces
 mod Chaining
+mod Reaching

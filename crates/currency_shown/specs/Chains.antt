@@ -4,6 +4,7 @@ use Rattle.std.specs.Global.{Vec}
 use Rattle.graph_core.specs.declared.block.Block as declared-block
 use Rattle.graph_core.specs.Graphs.{Instruction, Block, End, Jump, Logged, end_view, graph_view}
 use Rattle.graph_core.specs.Paths.{Among}
+use Rattle.graph_paths.specs.Reached.{IsReached}
 use Rattle.currency_notes.specs.declared.function.Function as declared-function
 use Rattle.currency_notes.specs.declared.state.State as declared-state
 use Rattle.currency_notes.specs.Notes.{IsJoined}
@@ -41,8 +42,9 @@ IsComeTo None s (Some t) = IsEqual t s
 IsComeTo (Some q) s (Some t) = IsJoined q s t
 
 module _ (f : declared-function.Function) where
-  -- In a state all is so that is so on all paths to a point, if homes are numbered and told apart; and each change that is told is that of a note on some path to it.
+  -- Some path comes to a point, and in a state all is so that is so on all paths to it, if homes are numbered and told apart; and each change that is told is that of a note on some path to it.
   pub record IsWholeAt (s : declared-state.State) (n : ℕ) (rest : List Instruction) (e : End) : Type 0 where
+    pub reached : IsReached (graph_view f.graph.now) n rest e
     pub full : AreExact f → IsFullAt f s n rest e
     pub attained : (log : List Logged) → AreToldOf log f.removed.now → IsAttained log (graph_view f.graph.now) s n rest e
 

@@ -1,11 +1,12 @@
 -- What is found at places.
-use Rattle.std.specs.Prelude.{◌≡◌, ◌≢◌, ℕ, ◌-◌, ◌≤◌, ◌<◌, ◌⊎◌, Bool, true, false, Option, Some, None, List, [], length, slice_get, slice_set, get_or}
+use Rattle.std.specs.Prelude.{◌≡◌, ◌≢◌, ℕ, ◌-◌, ◌≤◌, ◌<◌, ◌⊎◌, Bool, true, false, Option, Some, None, List, [], ◌∷◌, length, slice_get, slice_set, get_or}
 use Rattle.std.specs.Option.{option_map_or}
 use Rattle.debug_records.specs.declared.change.Var as declared-var
 use Rattle.places.specs.declared.table.PlaceRow as declared-row
 use Rattle.places.specs.declared.table.PlaceTable as declared-table
 use Rattle.std.specs.Global.{Vec}
-use Rattle.graph_core.specs.Graphs.{Recipe, Of, Name, recipe_view}
+use Rattle.graph_core.specs.Graphs.{End, Graph, Instruction, Marker, Recipe, Of, Name, recipe_view}
+use Rattle.graph_paths.specs.Reached.{IsReached}
 use Rattle.graph_core.specs.Paths.{Among}
 use Rattle.currency_notes.specs.declared.homes.Homes as declared-homes
 use Rattle.currency_notes.specs.declared.state.State as declared-state
@@ -30,6 +31,13 @@ pub record IsPlaceOf (table : declared-table.PlaceTable) (number p : ℕ) : Type
   pub some : 1 ≤ p
   pub is : slice_get table.rows.items (p - 1) ≡ Some row
   pub of : row.function ≡ number
+
+-- A path of a graph reaches the marker of a place.
+pub record IsPlaceReached (g : Graph) (p : ℕ) : Type 0 where
+  pub block : ℕ
+  pub rest : List Instruction
+  pub end : End
+  pub reached : IsReached g block (Marker p ∷ rest) end
 
 module _ (m : declared-homes.Homes) (s : declared-state.State) where
   -- its home shows a scalar

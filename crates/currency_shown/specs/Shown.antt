@@ -13,7 +13,7 @@ use Rattle.currency_notes.specs.Homes.{home_in, number_at}
 use Rattle.currency_notes.specs.Sources.{IsSource}
 use Rattle.currency_shown.specs.declared.found.LastNote as declared-last
 use Rattle.currency_shown.specs.declared.found.Unshown as declared-unshown
-use Rattle.currency_shown.specs.Found.{entries_of, IsPlaceOf}
+use Rattle.currency_shown.specs.Found.{entries_of, IsPlaceOf, IsPlaceReached}
 
 -- Each place whose marker some path reaches is one of the function.
 abbrev pub ArePlaced : Graph → (number : ℕ) → declared-table.PlaceTable → Type 0
@@ -31,6 +31,10 @@ pub record IsVisible (table : declared-table.PlaceTable) (p variable : ℕ) : Ty
 -- Each place that is told of is one of the function.
 abbrev pub AreTheirs : List (Vec declared-unshown.Unshown) → (number : ℕ) → declared-table.PlaceTable → Type 0
 AreTheirs found number table = (x : ℕ) (u : declared-unshown.Unshown) → Among u (entries_of found x) → IsPlaceOf table number u.place.0
+
+-- Each place that is told of is one that a path reaches.
+abbrev pub AreReached : Graph → List (Vec declared-unshown.Unshown) → Type 0
+AreReached g found = (x : ℕ) (u : declared-unshown.Unshown) → Among u (entries_of found x) → IsPlaceReached g u.place.0
 
 -- No two scalars are one variable.
 abbrev pub AreDifferent : Graph → Type 0

@@ -3,9 +3,9 @@ use Rattle.std.specs.Prelude.{◌≡◌, ℕ, ◌-◌, ◌≤◌, ◌⊎◌, Boo
 use Rattle.std.specs.Option.{option_map_or}
 use Rattle.std.specs.Global.{Vec}
 use Rattle.places.specs.declared.table.PlaceRow as declared-row
-use Rattle.places.specs.declared.table.PlaceTable as declared-table
 use Rattle.graph_core.specs.declared.block.Block as declared-block
-use Rattle.graph_core.specs.Graphs.{Instruction, Marker, Binding, End, Jump, instruction_view, end_view}
+use Rattle.graph_core.specs.Graphs.{Instruction, Marker, Binding, Block, End, Graph, Jump, instruction_view, end_view}
+use Rattle.graph_paths.specs.Reached.{IsReached}
 use Rattle.graph_core.specs.Uses.{targets_of}
 use Rattle.graph_core.specs.Paths.{Among, History, Passed}
 use Rattle.graph_core.specs.Graphs.{Logged, graph_view}
@@ -20,7 +20,7 @@ use Rattle.currency_shown.specs.declared.found.Unshown as declared-unshown
 use Rattle.currency_shown.specs.declared.found.Found as declared-found
 use Rattle.currency_shown.specs.declared.states.States as declared-states
 use Rattle.currency_shown.specs.declared.survey.Survey as declared-survey
-use Rattle.currency_shown.specs.Found.{entries_of, is_met, AreVisibleTold, IsPlaceOf, IsShownBy, Shows}
+use Rattle.currency_shown.specs.Found.{entries_of, is_met, AreVisibleTold, IsPlaceOf, IsPlaceReached, IsShownBy, Shows}
 
 -- what is so where a chain begins with a block that a path comes to
 abbrev pub comes_to : declared-states.States → (block : ℕ) → Option declared-state.State
@@ -46,10 +46,24 @@ BeginsWith chain l = (more : List ℕ) × (chain ≡ l ∷ more)
 abbrev pub AreFirst : List (Vec ℕ) → List Bool → Type 0
 AreFirst chains first = (l : ℕ) → get_or first l false ≡ true → (c : Vec ℕ) × (more : List ℕ) × Among c chains × (c.items ≡ l ∷ more)
 
-module _ (table : declared-table.PlaceTable) (number : ℕ) where
-  -- each place that is told of was met, and is one of the function
+-- a path comes to a block
+abbrev pub IsBlockReached : Graph → (l : ℕ) → Type 0
+IsBlockReached g l = (b : Block) → slice_get g.blocks l ≡ Some b → IsReached g l b.instructions b.end
+
+-- a path comes to what instructions and an end are left of, in some block
+abbrev pub IsSomewhere : Graph → List Instruction → End → Type 0
+IsSomewhere g rest e = (n : ℕ) × IsReached g n rest e
+
+-- A path comes to the blocks where chains begin to which some state came.
+abbrev pub AreReachedStarts : Graph → declared-states.States → Type 0
+AreReachedStarts g states = (l : ℕ) (t : declared-state.State) → comes_to states l ≡ Some t → IsBlockReached g l
+
+module _ (v : declared-survey.Survey) where
+  -- each place that is told of was met, is one of the function, and is reached by a path
   abbrev pub AreMet : declared-found.Found → Type 0
-  AreMet found = (x : ℕ) (u : declared-unshown.Unshown) → Among u (entries_of found.unshown.items x) → (is_met found u.place.0 ≡ true) × IsPlaceOf table number u.place.0
+  AreMet found =
+      (x : ℕ) (u : declared-unshown.Unshown) → Among u (entries_of found.unshown.items x)
+      → (is_met found u.place.0 ≡ true) × IsPlaceOf v.table.now v.number u.place.0 × IsPlaceReached (graph_view v.function.now.graph.now) u.place.0
 
   -- More is met and told, and nothing more of places that were met.
   pub record IsExtended (old new : declared-found.Found) : Type 0 where

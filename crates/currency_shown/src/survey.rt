@@ -2,7 +2,10 @@
 
 ghost use Rattle.std.specs.Prelude.{◌≡◌, ◌⊎◌, ℕ, IfOk, Some, false, get_or, map, slice_get, true};
 ghost use Rattle.graph_core.specs.Graphs.{Jump, Marker, block_view, end_view, graph_view, instruction_view};
-ghost use Rattle.currency_shown.specs.Survey.{AreChainsSound, AreFirst, AreMet, BeginsWith, IsChainSound, IsExtended, IsFound, IsReachedSound, IsSound, IsStartWithin, IsWithinNext};
+ghost use Rattle.graph_core.specs.Paths.{Among};
+ghost use Rattle.graph_core.specs.Uses.{targets_of};
+ghost use Rattle.currency_shown.specs.Survey.{AreChainsSound, AreFirst, AreMet, AreReachedStarts, BeginsWith, IsBlockReached, IsChainSound, IsExtended, IsFound, IsReachedSound, IsSomewhere, IsSound, IsStartWithin, IsWithinNext};
+ghost use Rattle.currency_shown.specs.Found.{IsPlaceReached};
 ghost use Rattle.currency_shown.specs.declared.found.Found as declared-found;
 
 use crate::found::Found;
@@ -91,8 +94,10 @@ impl<'a> Survey<'a, '_> {
         state: &State<'a>,
         found: &mut Found<'a>,
     ) -> Result<bool, AllocError>
-        requires met { AreMet self.now.table.now self.now.number found.old }
-        ensures extended { IfOk result (λ b. b ≡ true → IsExtended self.now.table.now self.now.number found.old found.new) }
+        requires met { AreMet self.now found.old }
+        requires reached { (p : ℕ) → instruction_view instruction.now ≡ Marker p
+            → IsPlaceReached (graph_view self.now.function.now.graph.now) p }
+        ensures extended { IfOk result (λ b. b ≡ true → IsExtended self.now found.old found.new) }
         ensures found { IfOk result (λ b. b ≡ true → (p : ℕ) → instruction_view instruction.now ≡ Marker p → IsFound self.now found.new state.now p) }
     {
         match instruction.marker() {
@@ -115,9 +120,14 @@ impl<'a> Survey<'a, '_> {
         state: &mut State<'a>,
         found: &mut Found<'a>,
     ) -> Result<bool, AllocError>
-        requires met { AreMet self.now.table.now self.now.number found.old }
-        ensures extended { IfOk result (λ b. b ≡ true → IsExtended self.now.table.now self.now.number found.old found.new) }
-        ensures sound { IfOk result (λ b. b ≡ true → (later : declared-found.Found) (n : ℕ) → IsExtended self.now.table.now self.now.number found.new later → slice_get (graph_view self.now.function.now.graph.now).blocks n ≡ Some (block_view block.now) → IsSound self.now later n (map instruction_view block.now.instructions.items) state.old state.new) }
+        requires met { AreMet self.now found.old }
+        requires reached { IsSomewhere (graph_view self.now.function.now.graph.now)
+            (map instruction_view block.now.instructions.items) (end_view block.now.end) }
+        ensures extended { IfOk result (λ b. b ≡ true → IsExtended self.now found.old found.new) }
+        ensures sound { IfOk result (λ b. b ≡ true → (later : declared-found.Found) (n : ℕ)
+            → IsExtended self.now found.new later
+            → slice_get (graph_view self.now.function.now.graph.now).blocks n ≡ Some (block_view block.now)
+            → IsSound self.now later n (map instruction_view block.now.instructions.items) state.old state.new) }
     {
         let mut place = block.place;
         for instruction in &block.instructions {
@@ -138,9 +148,12 @@ impl<'a> Survey<'a, '_> {
         state: &mut State<'a>,
         found: &mut Found<'a>,
     ) -> Result<bool, AllocError>
-        requires met { AreMet self.now.table.now self.now.number found.old }
-        ensures extended { IfOk result (λ b. b ≡ true → IsExtended self.now.table.now self.now.number found.old found.new) }
-        ensures sound { IfOk result (λ b. b ≡ true → (later : declared-found.Found) → IsExtended self.now.table.now self.now.number found.new later → IsChainSound self.now later chain.now (end_view end) state.old) }
+        requires met { AreMet self.now found.old }
+        requires reached { (l : ℕ) → Among l (targets_of (end_view end))
+            → IsBlockReached (graph_view self.now.function.now.graph.now) l }
+        ensures extended { IfOk result (λ b. b ≡ true → IsExtended self.now found.old found.new) }
+        ensures sound { IfOk result (λ b. b ≡ true → (later : declared-found.Found)
+            → IsExtended self.now found.new later → IsChainSound self.now later chain.now (end_view end) state.old) }
     {
         for number in chain {
             if !leads_to(&end, *number) || *number as usize >= self.function.graph.blocks.len() {
@@ -162,9 +175,11 @@ impl<'a> Survey<'a, '_> {
         chain: &[u32],
         found: &mut Found<'a>,
     ) -> Result<bool, AllocError>
-        requires met { AreMet self.now.table.now self.now.number found.old }
-        ensures extended { IfOk result (λ b. b ≡ true → IsExtended self.now.table.now self.now.number found.old found.new) }
-        ensures sound { IfOk result (λ b. b ≡ true → (later : declared-found.Found) → IsExtended self.now.table.now self.now.number found.new later → IsReachedSound self.now later chain.now) }
+        requires met { AreMet self.now found.old }
+        requires reached { AreReachedStarts (graph_view self.now.function.now.graph.now) self.now.states }
+        ensures extended { IfOk result (λ b. b ≡ true → IsExtended self.now found.old found.new) }
+        ensures sound { IfOk result (λ b. b ≡ true → (later : declared-found.Found)
+            → IsExtended self.now found.new later → IsReachedSound self.now later chain.now) }
     {
         if chain.is_empty() {
             return Ok(true);
@@ -184,9 +199,11 @@ impl<'a> Survey<'a, '_> {
         chains: &[Vec<u32>],
         found: &mut Found<'a>,
     ) -> Result<bool, AllocError>
-        requires met { AreMet self.now.table.now self.now.number found.old }
-        ensures extended { IfOk result (λ b. b ≡ true → IsExtended self.now.table.now self.now.number found.old found.new) }
-        ensures sound { IfOk result (λ b. b ≡ true → (later : declared-found.Found) → IsExtended self.now.table.now self.now.number found.new later → AreChainsSound self.now later chains.now) }
+        requires met { AreMet self.now found.old }
+        requires reached { AreReachedStarts (graph_view self.now.function.now.graph.now) self.now.states }
+        ensures extended { IfOk result (λ b. b ≡ true → IsExtended self.now found.old found.new) }
+        ensures sound { IfOk result (λ b. b ≡ true → (later : declared-found.Found)
+            → IsExtended self.now found.new later → AreChainsSound self.now later chains.now) }
     {
         for chain in chains {
             if !self.add_reached(alloc, chain, found)? {

@@ -6,11 +6,11 @@ ghost use Rattle.currency_notes.specs.Full.{AreExact};
 ghost use Rattle.currency_notes.specs.Homes.{home_by, home_in, number_at};
 ghost use Rattle.currency_notes.specs.Notes.{IsSo};
 ghost use Rattle.currency_shown.specs.Numbering.{AreNumbered};
-ghost use Rattle.currency_shown.specs.Survey.{AreFirst};
+ghost use Rattle.currency_shown.specs.Survey.{AreFirst, AreReachedStarts};
 ghost use Rattle.currency_shown.specs.Found.{entries_of};
 ghost use Rattle.currency_shown.specs.Chains.{AreFull};
 ghost use Rattle.dead_pass_writes.specs.RemovedChangesTelling.{AreToldOf};
-ghost use Rattle.currency_shown.specs.Shown.{AreDifferent, AreDistinct, AreHidden, AreLeast, AreOther, AreOwn, ArePlaced, AreRecipes, AreTheirs};
+ghost use Rattle.currency_shown.specs.Shown.{AreDifferent, AreDistinct, AreHidden, AreLeast, AreOther, AreOwn, ArePlaced, AreReached, AreRecipes, AreTheirs};
 
 use crate::chains::chains_of;
 use crate::found::{Found, Unshown};
@@ -51,8 +51,11 @@ fn borne_out<'a>(
     requires numbered { AreNumbered survey.now.numbering survey.now.function.now.graph.now.scalars.items }
     requires so { IsSo survey.now.function.now.homes (map binding_view survey.now.function.now.graph.now.parameters.items) entered.now [] }
     requires none { (x : ℕ) → entries_of found.old.unshown.items x ≡ [] }
+    requires reached { AreReachedStarts (graph_view survey.now.function.now.graph.now) survey.now.states }
     ensures placed { IfOk result (λ b. b ≡ true → ArePlaced (graph_view survey.now.function.now.graph.now) survey.now.number survey.now.table.now) }
     ensures theirs { IfOk result (λ b. b ≡ true → AreTheirs found.new.unshown.items survey.now.number survey.now.table.now) }
+    ensures reached { IfOk result (λ b.
+        b ≡ true → AreReached (graph_view survey.now.function.now.graph.now) found.new.unshown.items) }
     ensures different { IfOk result (λ b. b ≡ true → AreDifferent (graph_view survey.now.function.now.graph.now)) }
     ensures own { IfOk result (λ b. b ≡ true → AreOwn (home_by survey.now.function.now.homes) (graph_view survey.now.function.now.graph.now) survey.now.table.now found.new.unshown.items) }
     ensures recipe { IfOk result (λ b. b ≡ true → AreRecipes (home_by survey.now.function.now.homes) (graph_view survey.now.function.now.graph.now) found.new.unshown.items) }
@@ -84,6 +87,7 @@ pub fn not_shown<'a>(
 ) -> Result<Option<Vec<Vec<Unshown<'a>>>>, AllocError>
     ensures placed { IfOk result (λ o. IfSome o (λ found. ArePlaced (graph_view graph.now) number places.now)) }
     ensures theirs { IfOk result (λ o. IfSome o (λ found. AreTheirs found.items number places.now)) }
+    ensures reached { IfOk result (λ o. IfSome o (λ found. AreReached (graph_view graph.now) found.items)) }
     ensures different { IfOk result (λ o. IfSome o (λ found. AreDifferent (graph_view graph.now))) }
     ensures own { IfOk result (λ o. IfSome o (λ found. AreOwn (home_in homes.now) (graph_view graph.now) places.now found.items)) }
     ensures recipe { IfOk result (λ o. IfSome o (λ found. AreRecipes (home_in homes.now) (graph_view graph.now) found.items)) }

@@ -8,7 +8,7 @@ use Rattle.dead_pass_writes.specs.RemovedChangesTelling.{AreToldOf}
 use Rattle.currency.specs.Telling.{AreRowsTold}
 use Rattle.currency.specs.Sound.{AreSo}
 use Rattle.currency.specs.Evident.{AreToldEvident}
-use Rattle.currency.proofs.OnRows.{are_apart, are_hidden, are_home, are_least, are_only, are_recovered}
+use Rattle.currency.proofs.OnRows.{are_apart, are_hidden, are_home, are_least, are_only, are_reached, are_recovered}
 use Rattle.currency.proofs.OfUnits.{are_evident}
 use Rattle.currency.proofs.rows.verdicts.Goals as goal
 
@@ -61,3 +61,9 @@ returns-clause-hidden c =
     let u = homed_view c.args.homed.now in
     let table = c.args.places.now in
     are_hidden u table c.in-Some-2.told c.in-Some-3.rows.items (subst (λ o. IfSome o (λ t. AreSo u table t)) c.in-Some-2.is c.in_ok-told.ensures.so) (subst (λ o. IfSome o (λ v. AreRowsTold table c.in-Some-2.told v.items)) c.in-Some-3.is c.in_ok-rows.ensures.told)
+
+pub returns-clause-reached : goal.returns-clause-reached
+returns-clause-reached c =
+    let u = homed_view c.args.homed.now in
+    let table = c.args.places.now in
+    are_reached u table c.in-Some-2.told c.in-Some-3.rows.items (subst (λ o. IfSome o (λ t. AreSo u table t)) c.in-Some-2.is c.in_ok-told.ensures.so) (subst (λ o. IfSome o (λ v. AreRowsTold table c.in-Some-2.told v.items)) c.in-Some-3.is c.in_ok-rows.ensures.told)

@@ -14,11 +14,19 @@ use Rattle.currency_shown.proofs.unshown.not_shown.Goals as goal
 pub borne_out-requires-clause-first : goal.borne_out-requires-clause-first
 borne_out-requires-clause-first c = subst (λ (chains : List (Vec ℕ)). AreFirst chains c.in_ok-first_of_chains.field-0.items) (c.deref-3.ensures.value ∙ sym c.deref-5.ensures.value) c.in_ok-first_of_chains.ensures
 
+pub borne_out-requires-clause-reached : goal.borne_out-requires-clause-reached
+borne_out-requires-clause-reached c =
+    let linked = subst (λ (chains : List (Vec ℕ)). AreLinked c.args.graph.now.blocks.items chains) (sym c.deref-4.ensures.value) (subst (λ (blocks : List declared-block.Block). AreLinked blocks c.in_ok-chains.chains.items) c.deref-2.ensures.value c.in_ok-chains.ensures) in
+    λ l t comes b at. (c.in_ok-new-2.ensures linked l t comes b at).reached
+
 pub returns-clause-placed : goal.returns-clause-placed
 returns-clause-placed c = c.in_ok-borne_out.ensures.placed c.if-not-branch.false
 
 pub returns-clause-theirs : goal.returns-clause-theirs
 returns-clause-theirs c = c.in_ok-borne_out.ensures.theirs c.if-not-branch.false
+
+pub returns-clause-reached : goal.returns-clause-reached
+returns-clause-reached c = c.in_ok-borne_out.ensures.reached c.if-not-branch.false
 
 pub returns-clause-different : goal.returns-clause-different
 returns-clause-different c = c.in_ok-borne_out.ensures.different c.if-not-branch.false

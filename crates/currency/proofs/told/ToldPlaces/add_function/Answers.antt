@@ -6,7 +6,7 @@ use Rattle.graph_core.specs.Graphs.{Logged, graph_view}
 use Rattle.dead_pass_writes.specs.RemovedChangesTelling.{AreToldOf}
 use Rattle.currency_notes.specs.Homes.{home_in}
 use Rattle.currency_shown.specs.declared.found.Unshown as declared-unshown
-use Rattle.currency_shown.specs.Shown.{AreDifferent, AreDistinct, AreHidden, AreLeast, AreOther, AreOwn, ArePlaced, AreRecipes, AreTheirs}
+use Rattle.currency_shown.specs.Shown.{AreDifferent, AreDistinct, AreHidden, AreLeast, AreOther, AreOwn, ArePlaced, AreReached, AreRecipes, AreTheirs}
 use Rattle.currency.specs.Telling.{AreToldAll}
 use Rattle.currency_hiding.specs.declared.function.Function as declared-function
 use Rattle.currency.specs.Evident.{AreNew, IsHidingScalar}
@@ -31,7 +31,8 @@ returns-clause-told c = λ e log told.
     (subst (λ o. IfSome o (λ f. AreOwn home (graph_view g) table f.items)) c.in-Some.is said.own) (subst (λ o. IfSome o (λ f. AreRecipes home (graph_view g) f.items)) c.in-Some.is said.recipe)
     (subst (λ o. IfSome o (λ f. AreOther (graph_view g) f.items)) c.in-Some.is said.other)
     (subst (λ o. IfSome o (λ f. AreDistinct c.args.homes.now → AreHidden home (graph_view g) f.items)) c.in-Some.is said.hidden)
-    (subst (λ o. IfSome o (λ f. (all : List Logged) → AreToldOf all c.args.unit.now.removed.now → AreLeast all (graph_view g) f.items)) c.in-Some.is said.least log told) all)
+    (subst (λ o. IfSome o (λ f. (all : List Logged) → AreToldOf all c.args.unit.now.removed.now → AreLeast all (graph_view g) f.items)) c.in-Some.is said.least log told)
+    (subst (λ o. IfSome o (λ f. AreReached (graph_view g) f.items)) c.in-Some.is said.reached) all)
 
 pub returns-clause-hiding : goal.returns-clause-hiding
 returns-clause-hiding c = λ e.

@@ -1,12 +1,13 @@
 use Rattle.std.proofs.Common.{◌≡◌, ◌+◌, ◌<◌, ◌≤◌, List, [], ◌∷◌, Option, ℕ, arith, ap, drop, get_or, length, map, option_map, refl, sym, subst, ◌∙◌}
 use Rattle.debug_records.specs.declared.change.Place as declared-place
 use Rattle.graph_core.specs.declared.instruction.Instr as declared-instr
-use Rattle.graph_core.specs.Graphs.{block_view, graph_view, instruction_view}
+use Rattle.graph_core.specs.Graphs.{block_view, end_view, graph_view, instruction_view}
 use Rattle.graph_core.specs.Validity.{place_behind}
 use Rattle.currency_notes.specs.Sources.{IsToldBy}
 use Rattle.currency_notes.proofs.Lists.{drop_more}
 use Rattle.currency_notes.proofs.Sourcing.{place_behind_first, place_next, place_there}
 use Rattle.currency_shown.proofs.Adding.{extended_on, found_on}
+use Rattle.currency_shown.proofs.Reaching.{later_reached, marker_reached}
 use Rattle.currency_shown.proofs.Walking.{sound_before, sound_end}
 use Rattle.currency_shown.proofs.survey.Survey.add_block.Goals as goal
 
@@ -28,16 +29,27 @@ loop-instruction-preserved c =
     c.place_behind-place.ensures ∙ ap (λ o. place_behind (instruction_view item ∷ []) o) inv.place ∙ ap (λ a. place_behind (instruction_view a ∷ []) (place_behind_first instruction_view items begun i)) this ∙ sym (place_next instruction_view items begun i item lt) in
     let looked = c.in_ok-look_at.ensures.extended c.if-not-branch.false in
     record {
-      extended = extended_on v.table.now v.number c.args.found.now c.loop-instruction.found c.look_at.new.found inv.extended looked;
+      extended = extended_on v c.args.found.now c.loop-instruction.found c.look_at.new.found inv.extended looked;
+      reached = later_reached g items i item lt this (end_view c.args.block.now.end) inv.reached;
       place = place;
       sound = λ later last n more is rest.
           (let there = place_there instruction_view items begun g n (i + 1) (block_view c.args.block.now) is refl refl le in
-          inv.sound later last n (extended_on v.table.now v.number c.loop-instruction.found c.look_at.new.found later looked more) is
+          inv.sound later last n (extended_on v c.loop-instruction.found c.look_at.new.found later looked more) is
           (sound_before v later n (instruction_view item) (map instruction_view (drop (i + 1) items)) (map instruction_view (drop i items)) s c.step.new.self last
           (ap (λ l. map instruction_view l) (drop_more items i item lt this))
           (λ p q. found_on v c.look_at.new.found later s p more (c.in_ok-look_at.ensures.found c.if-not-branch.false p q))
           (record { so = c.step.ensures.so; kept = c.step.ensures.kept; told = λ log told. subst (λ (o : Option ℕ). IsToldBy log g (instruction_view item) o s c.step.new.self) (place ∙ sym there) (c.step.ensures.told log told) }) rest));
     }
+
+pub look_at-requires-clause-reached : goal.look_at-requires-clause-reached
+look_at-requires-clause-reached c =
+    let items = c.args.block.now.instructions.items in
+    let i = c.loop-instruction.instruction-index in
+    let item = c.instruction-item.result in
+    let same = c.deref-instruction-items.ensures.value in
+    let lt : i < length items = subst (λ (is : List declared-instr.Instr). i < length is) same c.loop-instruction-test.true in
+    let this : item ≡ get_or items i item = subst (λ (is : List declared-instr.Instr). item ≡ get_or is i item) same c.instruction-item.is in
+    marker_reached (graph_view c.args.self.now.function.now.graph.now) items i item lt this (end_view c.args.block.now.end) c.loop-instruction.invariant.reached
 
 pub returns-clause-sound : goal.returns-clause-sound
 returns-clause-sound c = λ e later n more is.

@@ -1,17 +1,18 @@
 use Rattle.std.proofs.Common.{◌≡◌, ℕ, Some, map, drop, option_map}
 use Rattle.std.specs.Prelude.{slice_get}
 use Rattle.debug_records.specs.declared.change.Place as declared-place
-use Rattle.graph_core.specs.Graphs.{block_view, graph_view, instruction_view}
+use Rattle.graph_core.specs.Graphs.{block_view, end_view, graph_view, instruction_view}
 use Rattle.currency_notes.specs.declared.state.State as declared-state
 use Rattle.currency_notes.proofs.Sourcing.{place_behind_first}
 use Rattle.currency_shown.specs.declared.found.Found as declared-found
-use Rattle.currency_shown.specs.Survey.{IsExtended, IsSound}
+use Rattle.currency_shown.specs.Survey.{IsExtended, IsSomewhere, IsSound}
 use Rattle.currency_shown.proofs.survey.Survey.add_block.Given as goal
 
 abbrev pub invariant-loop-instruction : goal.invariant-loop-instruction
 invariant-loop-instruction l = record {
-  extended : IsExtended l.self.table.now l.self.number l.fn.found l.found;
+  extended : IsExtended l.self l.fn.found l.found;
+  reached : IsSomewhere (graph_view l.self.function.now.graph.now) (map instruction_view (drop l.instruction-index l.block.instructions.items)) (end_view l.block.end);
   place : option_map (λ (p : declared-place.Place). p.0) l.place ≡ place_behind_first instruction_view l.block.instructions.items (option_map (λ (p : declared-place.Place). p.0) l.block.place) l.instruction-index;
-  sound : (later : declared-found.Found) (last : declared-state.State) (n : ℕ) → IsExtended l.self.table.now l.self.number l.found later → slice_get (graph_view l.self.function.now.graph.now).blocks n ≡ Some (block_view l.block)
+  sound : (later : declared-found.Found) (last : declared-state.State) (n : ℕ) → IsExtended l.self l.found later → slice_get (graph_view l.self.function.now.graph.now).blocks n ≡ Some (block_view l.block)
       → IsSound l.self later n (map instruction_view (drop l.instruction-index l.block.instructions.items)) l.state last → IsSound l.self later n (map instruction_view l.block.instructions.items) l.fn.state last;
 }

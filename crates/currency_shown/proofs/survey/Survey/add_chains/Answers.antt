@@ -12,10 +12,10 @@ loop-chain-preserved c =
     let chain : c.deref.result.now ≡ one.items = c.deref.ensures.value in
     let walked = c.in_ok-add_reached.ensures.extended c.if-not-branch.false in
     record {
-      extended = extended_on v.table.now v.number c.args.found.now c.loop-chain.found c.add_reached.new.found inv.extended walked;
+      extended = extended_on v c.args.found.now c.loop-chain.found c.add_reached.new.found inv.extended walked;
       sound = λ later more.
           each_more (λ k. IsReachedSound v later k.items) c.args.chains.now c.loop-chain.chain-index one c.loop-chain-test.true c.chain-item.is
-          (inv.sound later (extended_on v.table.now v.number c.loop-chain.found c.add_reached.new.found later walked more)) (subst (λ ls. IsReachedSound v later ls) chain (c.in_ok-add_reached.ensures.sound c.if-not-branch.false later more));
+          (inv.sound later (extended_on v c.loop-chain.found c.add_reached.new.found later walked more)) (subst (λ ls. IsReachedSound v later ls) chain (c.in_ok-add_reached.ensures.sound c.if-not-branch.false later more));
     }
 
 pub returns-clause-sound : goal.returns-clause-sound
