@@ -10,6 +10,7 @@ mod Ordered
 mod Owned
 pub mod Rules
 pub mod ImageEvidenceRows
+pub mod Explained
 mod Words
 pub mod Elements
 pub mod MadeAgain

@@ -12,7 +12,6 @@ use Rattle.graph_core.specs.Graphs.{Graph, Logged, UnitForm}
 use Rattle.graph_core.specs.Paths.{Among, front, behind}
 use Rattle.graph_core.specs.Validity.{IsValid}
 use Rattle.graph_core.specs.WellMarked.{AreWellMarked}
-use Rattle.graph_homes.specs.declared.home.Home.{Home}
 use Rattle.graph_homes.specs.declared.home.Home.TheVariants.{Register, Slot}
 use Rattle.graph_homes.specs.Homed.{HomedForm, home_of}
 use Rattle.home_assign.specs.Sharing.{change_of}

@@ -24,7 +24,7 @@ use Rattle.currency.specs.declared.verdict.Verdict.TheVariants as verdict
 use Rattle.currency.specs.declared.verdict.PlaceVerdict as declared-row
 use Rattle.currency.specs.Evident.{AreEvident, IsEvident}
 use Rattle.currency.specs.Named.{AreNamed, IsNamed}
-use Rattle.currency.specs.Sound.{AreApart, AreHidden, AreHome, AreLeast, AreOnly, AreRecovered, IsHidden}
+use Rattle.currency.specs.Sound.{AreApart, AreHidden, AreHome, AreLeast, AreOnly, AreReached, AreRecovered, IsHidden}
 use Rattle.currency.specs.Visible.{Sight, next, sight, sights_at, sights_from}
 use Rattle.currency.specs.Written.{AreWritten, IsWritten}
 use Rattle.image_build.specs.Shown.{AreShown}
@@ -151,6 +151,9 @@ module _ (rows : List declared-row.PlaceVerdict) (shown : AreShown rows) where
 
   pub shown_hidden : (h : HomedForm) → AreHidden h rows
   shown_hidden h w among hidden homes f x g at some few variable history n rest e way r holds = subst IsHidden (shown w among) hidden
+
+  pub shown_reached : (h : HomedForm) → AreReached h rows
+  shown_reached h w among other = absurd (other (shown w among))
 
   pub shown_named : (log : List Logged) → AreNamed log rows
   shown_named log w among = subst (λ (v : declared-verdict.Verdict). IsNamed log w.var.0 v) (sym (shown w among)) tt

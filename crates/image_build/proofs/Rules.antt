@@ -10,11 +10,9 @@ use Rattle.c_tree.specs.Programs.{ProgramTree}
 use Rattle.c_type_laws.specs.Laws.{IsWellFormed}
 use Rattle.c_places.specs.Places.{Place, places_of_program, visible}
 use Rattle.c_flow.specs.Rows.{Row, row_of, row_view, rows_of_program}
-use Rattle.graph_core.specs.declared.recipe.Recipe as declared-recipe
 use Rattle.graph_core.specs.Paths.{Among, front, behind}
 use Rattle.currency.specs.declared.verdict.PlaceVerdict.{PlaceVerdict}
 use Rattle.currency.specs.declared.verdict.Verdict as told-verdict
-use Rattle.currency.specs.declared.verdict.Verdict.TheVariants as told
 use Rattle.currency.specs.Visible.{Sight, next, sight, sights_at, sights_from}
 use Rattle.image_build_tables.specs.Variables.{owner, owners_of}
 use Rattle.image_form.specs.Form.{Form, numbered}
@@ -28,7 +26,7 @@ use Rattle.image_form.specs.declared.variables.Variable.{Variable}
 use Rattle.image_form.specs.declared.verdicts.Verdict.{Verdict}
 use Rattle.image_form.specs.declared.verdicts.Verdict.TheVariants as verdict
 use Rattle.image_form.specs.declared.verdicts.VisibleRow.{VisibleRow}
-use Rattle.image_build_tables.specs.Rows.{AreNodesOf, AreRowsOf, IsNodeToldBy, IsRowOf, IsVerdictOf, Telling}
+use Rattle.image_build_tables.specs.Rows.{AreRowsOf, IsRowOf, IsVerdictOf, Telling}
 use Rattle.image_build_tables.specs.Tables.{spot, spot_of_row}
 use Rattle.image_build.specs.Shown.{AreShown}
 use Rattle.image_build.proofs.Rows.{IsSeen, seen_from}

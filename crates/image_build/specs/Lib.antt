@@ -1,8 +1,8 @@
 pub mod Shown
 pub mod Evidence
+pub mod Explained
 pub mod Tables
 pub mod Made
-pub mod Compiled
 pub mod ProgramImageShown
 pub mod Behind
 pub mod Sources

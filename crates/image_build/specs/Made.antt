@@ -15,7 +15,7 @@ use Rattle.rv_emit.specs.Emits.{Emits}
 use Rattle.currency.specs.declared.verdict.PlaceVerdict.{PlaceVerdict}
 use Rattle.currency.specs.Evident.{AreEvident}
 use Rattle.currency.specs.Named.{AreNamed}
-use Rattle.currency.specs.Sound.{AreApart, AreHidden, AreHome, AreLeast, AreOnly, AreRecovered}
+use Rattle.currency.specs.Sound.{AreApart, AreHidden, AreHome, AreLeast, AreOnly, AreReached, AreRecovered}
 use Rattle.currency.specs.Written.{AreWritten}
 use Rattle.image_form.specs.Form.{Form}
 use Rattle.image_form.specs.Numbers.{row_numbers}
@@ -25,12 +25,12 @@ use Rattle.image_build_tables.specs.Storages.{storages_of}
 use Rattle.image_build_tables.specs.Variables.{declared_names, pass_names, storage}
 use Rattle.image_build_tables.specs.Places.{address, addresses_of}
 use Rattle.image_build_tables.specs.Rows.{AreNodesOf, AreRowsOf, telling_of}
-use Rattle.image_build_tables.specs.Tables.{change_record}
+use Rattle.image_build_tables.specs.Tables.{assigned_pair, change_record, flow_pair}
 use Rattle.image_build.specs.Evidence.{AreEvidentIn}
 
 -- Verdicts are borne out by a unit with homes: where one says that a home shows a variable, or gives a recipe for it, that is so on all paths. A recipe is given only where the home does not show
--- the variable and no other recipe holds, and beside it stands the least change that removed its assignment; a variable is hidden only where no recipe holds. The change that one names is in the
--- log, and what one says to write a home does so, and hides the variable.
+-- the variable and no other recipe holds, and beside it stands the least change that removed its assignment; a variable is hidden only where no recipe holds. At a place that no path reaches each
+-- is said to be shown by its home. The change that one names is in the log, and what one says to write a home does so, and hides the variable.
 pub record AreBorneOut (h : HomedForm) (told : List PlaceVerdict) : Type 0 where
   pub flow : FlowTable
   pub steps : flow.steps.items ≡ h.unit.steps
@@ -41,6 +41,7 @@ pub record AreBorneOut (h : HomedForm) (told : List PlaceVerdict) : Type 0 where
   pub only : AreOnly h told
   pub least : AreLeast h told
   pub hidden : AreHidden h told
+  pub reached : AreReached h told
   pub named : AreNamed h.unit.log told
   pub written : AreWritten h told
   pub evident : AreEvident h.unit.log flow h told
@@ -65,7 +66,7 @@ pub record IsHomed (mode : Mode) (h : HomedForm) : Type 0 where
   pub apart : HaveHomesApart h
 
 -- AN IMAGE IS MADE OF A UNIT WITH HOMES, of a program. Its words with their owners, and its initial bytes, are the code of the unit, which does what the unit does over its homes; each function lies where its code does, with its
--- frame; each variable is kept where the code has it; each place has the address of its stop, and an entry that of its function; the changes are the unit's, and the names those of the program
+-- frame; each variable is kept where the code has it; each place has the address of its stop, and an entry that of its function; the changes, the flow and the assignments are the unit's, and the names those of the program
 -- and of the passes of the changes; the rows say what is borne out by the unit; and what a row says to hide a variable is evident in the words of the code, where 32 bits count the instructions of functions.
 pub record IsMadeOf (p : ProgramTree) (h : HomedForm) (m : Form) : Type 0 where
   pub emitted : EmittedForm
@@ -80,6 +81,8 @@ pub record IsMadeOf (p : ProgramTree) (h : HomedForm) (m : Form) : Type 0 where
   pub places_are : map row_view places ≡ rows_of_program p
   pub addresses : map address m.places ≡ addresses_of emitted.functions emitted.stops places
   pub changes : m.changes ≡ map change_record h.unit.log
+  pub flow : m.flow ≡ map flow_pair h.unit.steps
+  pub assigned : m.assigned ≡ map assigned_pair h.unit.assignments
   pub names : m.names ≡ declared_names p ++ pass_names h.unit.log
   pub rows : HasRowsOf h emitted places m
   pub evident : AreCountable h → AreEvidentIn h emits.code.arrangement emitted rows.borne_out.flow rows.rows

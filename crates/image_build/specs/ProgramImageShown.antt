@@ -3,7 +3,6 @@ use Rattle.std.specs.Prelude.{◌≡◌, List, [], map}
 use Rattle.std.specs.List.{AllByRecursion}
 use Rattle.places.specs.declared.table.PlaceTable.{PlaceTable}
 use Rattle.c_tree.specs.Programs.{ProgramTree}
-use Rattle.graph_core.specs.Graphs.{UnitForm}
 use Rattle.graph_homes.specs.Homed.{HomedForm}
 use Rattle.home_assign.specs.Rule.{HaveSlots}
 use Rattle.graph_build_laws.specs.Built.{IsBuilt}

@@ -1,6 +1,6 @@
 use Rattle.std.proofs.Common.{refl}
 use Rattle.graph_homes.specs.Homed.{homed_view}
-use Rattle.image_build.proofs.Rows.{shown_apart, shown_evident, shown_hidden, shown_least, shown_named, shown_only, shown_recovered, shown_written}
+use Rattle.image_build.proofs.Rows.{shown_apart, shown_evident, shown_hidden, shown_least, shown_named, shown_only, shown_reached, shown_recovered, shown_written}
 use Rattle.image_build.proofs.Borne.{borne_out_by}
 use Rattle.image_build.proofs.telling.verdicts_on.Goals as goal
 
@@ -19,6 +19,7 @@ returns-then-is_plain-clause-borne_out c =
       only = shown_only rows told.shown h;
       least = shown_least rows told.shown h;
       hidden = shown_hidden rows told.shown h;
+      reached = shown_reached rows told.shown h;
       named = shown_named rows told.shown h.unit.log;
       written = shown_written rows told.shown h;
       evident = shown_evident rows told.shown h.unit.log c.args.homed.now.unit.flow h;
@@ -28,4 +29,4 @@ pub returns-clause-borne_out : goal.returns-clause-borne_out
 returns-clause-borne_out c =
     let told = c.verdicts.ensures in
     borne_out_by (homed_view c.args.homed.now) c.args.homed.now.unit.flow refl refl c.verdicts.result told.home told.recovered told.apart told.only told.least told.hidden
-    told.named told.written told.evident
+    told.reached told.named told.written told.evident

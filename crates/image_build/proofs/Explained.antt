@@ -1,0 +1,198 @@
+-- What is evident in the words of the code is explained by the image alone.
+use Rattle.std.proofs.Common.{◌≡◌, ℕ, zero, suc, ◌-◌, ◌/◌, ◌%◌, ◌<◌, ◌^◌, ◌&&◌, true, Option, Some, None, List, [], ◌∷◌, length, map, slice_get, refl, sym, ap, ◌∙◌, subst, arith}
+use Rattle.std.specs.Prelude.{◌==◌, nat_le, slice_index, unwrap_or, if◌then◌else◌, IsSomeAnd}
+use Rattle.std.specs.Option.{option_map_or}
+use Rattle.std.proofs.lemmas.Bool.{le-leb, eq-eqb, and_from}
+use Rattle.std.proofs.lemmas.List.{length-map}
+use Rattle.debug_records.specs.declared.change.Kind.{Kind}
+use Rattle.debug_records.specs.declared.change.Kind.TheVariants.{Moved, Removed, Reused}
+use Rattle.places.specs.declared.flow.Assignment.{Assignment}
+use Rattle.places.specs.declared.flow.FlowStep.{FlowStep}
+use Rattle.places.specs.declared.flow.FlowTable.{FlowTable}
+use Rattle.places.specs.Flow.{assigns}
+use Rattle.places.specs.Path.{IsLeastRoute, IsRoute, Quest}
+use Rattle.places.proofs.LeastByPlaces.{route_there}
+use Rattle.c_tree.specs.Programs.{ProgramTree}
+use Rattle.graph_core.specs.Graphs.{Logged}
+use Rattle.graph_core.proofs.Among.{among_at, at_among}
+use Rattle.graph_homes.specs.Homed.{HomedForm}
+use Rattle.base_laws.proofs.Lists.{all_at, from_map, map_at}
+use Rattle.rv_emit_steps.specs.Programs.{address_of}
+use Rattle.rv_emit_runs.specs.Told.{AreCountable}
+use Rattle.currency.specs.Named.{IsNumbered}
+use Rattle.image_form.specs.Form.{Form, numbered}
+use Rattle.image_form.specs.Numbers.{row_numbers, verdict_numbers}
+use Rattle.image_form.specs.Rules.{IsImage}
+use Rattle.image_form.specs.Spelling.{size}
+use Rattle.image_form.specs.RulesOfFunctions.{code_start}
+use Rattle.image_form.specs.RulesOfRows.{IsEvidence, IsVerdict, IsWriter}
+use Rattle.image_form.specs.declared.tables.Change.{Change}
+use Rattle.image_form.specs.declared.verdicts.Verdict.{Verdict}
+use Rattle.image_form.specs.declared.verdicts.Verdict.TheVariants as verdict
+use Rattle.image_form.specs.declared.verdicts.VisibleRow.{VisibleRow}
+use Rattle.image_build_tables.specs.Tables.{assigned_pair, change_record, flow_pair}
+use Rattle.stop_engine_view.specs.Evidence.{assignment_of, row_path, row_quest, step_of, via_of}
+use Rattle.stop_engine_view.specs.Reading.{owner_of}
+use Rattle.stop_engine_view.proofs.FlowOrder.{steps_in_order}
+use Rattle.image_build.specs.Evidence.{IsEvidentIn, WasRemoved, WasWritten}
+use Rattle.image_build.specs.Explained.{ExplainsAll, IsExplained, IsExplainedBy}
+use Rattle.image_build.specs.Made.{IsMadeOf}
+use Rattle.image_build.proofs.Told.{first_same, rest_same}
+
+-- steps and assignments are what the tables of an image have of them
+steps_back : (all : List FlowStep) → map step_of (map flow_pair all) ≡ all
+steps_back [] = refl
+steps_back (s ∷ all) = ap (λ l. s ∷ l) (steps_back all)
+
+assignments_back : (all : List Assignment) → map assignment_of (map assigned_pair all) ≡ all
+assignments_back [] = refl
+assignments_back (a ∷ all) = ap (λ l. a ∷ l) (assignments_back all)
+
+-- the word at an address is of its place
+owner_at : (m : Form) (index : ℕ) → owner_of m (address_of index) ≡ slice_index m.owners index
+owner_at m index =
+    let even : address_of index % 4 ≡ 0 = omega arith in
+    let test : (address_of index % 4 == 0 && nat_le 65536 (address_of index)) ≡ true = and_from (address_of index % 4 == 0) (nat_le 65536 (address_of index)) (eq-eqb (address_of index % 4) 0 even) (le-leb 65536 (address_of index) (omega arith)) in
+    let number : (address_of index - 65536) / 4 ≡ index = omega arith in
+    ap (λ b. if b then slice_index m.owners ((address_of index - 65536) / 4) else 0) test ∙ ap (slice_index m.owners) number
+
+-- the change of a number in a log is that of the table
+change_at : (log : List Logged) (changes : List Change) (number : ℕ) (logged : Logged) → changes ≡ map change_record log → IsNumbered log number logged → numbered changes number ≡ Some (change_record logged)
+change_at log changes zero logged are is = absurd (let some = is.some in omega (arith, some))
+change_at log changes (suc k) logged are is =
+    let same : suc k - 1 ≡ k = omega arith in
+    ap (λ l. slice_get l k) are ∙ map_at change_record log k logged (ap (slice_get log) (sym same) ∙ is.is)
+
+-- an image has few steps of flow
+few_steps : (m : Form) → size m < 2 ^ 32 → length m.flow < 2 ^ 32
+unfolding size
+few_steps m whole = omega (arith, whole)
+
+-- ---- By a unit of which the image is made
+
+module _ (p : ProgramTree) (h : HomedForm) (m : Form) (made : IsMadeOf p h m) (image : IsImage m) where
+  abbrev flow : FlowTable
+  flow = made.rows.borne_out.flow
+
+  same_steps : map step_of m.flow ≡ flow.steps.items
+  same_steps = ap (map step_of) made.flow ∙ steps_back h.unit.steps ∙ sym made.rows.borne_out.steps
+
+  same_assignments : map assignment_of m.assigned ≡ flow.assignments.items
+  same_assignments = ap (map assignment_of) made.assigned ∙ assignments_back h.unit.assignments ∙ sym made.rows.borne_out.assignments
+
+  -- By a path by the flow of the unit there is one by that of the image, so the path that is printed is one.
+  printed_by : (variable change start stop via : ℕ) (writer : Option ℕ) (path : List ℕ) → via_of m change writer ≡ via
+      → IsRoute (record { steps = flow.steps.items; assignments = flow.assignments.items; var = variable; start = start; via = via; stop = stop }) path
+      → IsLeastRoute (row_quest m variable change start writer stop) (row_path m variable change start writer stop)
+  printed_by variable change start stop via writer path at route =
+      let quest : Quest = row_quest m variable change start writer stop in
+      let there : IsRoute quest path =
+      subst (λ v. IsRoute (record { steps = map step_of m.flow; assignments = map assignment_of m.assigned; var = variable; start = start; via = v; stop = stop }) path) (sym at)
+      (subst (λ all. IsRoute (record { steps = map step_of m.flow; assignments = all; var = variable; start = start; via = via; stop = stop }) path) (sym same_assignments)
+      (subst (λ ss. IsRoute (record { steps = ss; assignments = flow.assignments.items; var = variable; start = start; via = via; stop = stop }) path) (sym same_steps) route)) in
+      let many : length (map step_of m.flow) ≡ length m.flow = length-map m.flow step_of in
+      let few = few_steps m image.sizes.whole in
+      let found = route_there quest path (steps_in_order m.flow image.flow.ascend) (omega (arith, many, few)) there in
+      subst (λ o. IsLeastRoute quest (unwrap_or o [])) (sym found.1) found.2
+
+  assigned_by : (start variable : ℕ) → assigns flow.assignments.items start variable ≡ true → assigns (map assignment_of m.assigned) start variable ≡ true
+  assigned_by start variable is = ap (λ all. assigns all start variable) same_assignments ∙ is
+
+  removed : (v stop change start : ℕ) → WasRemoved h made.emits.code.arrangement made.emitted flow v stop change start → IsExplained m stop v Removed change start None
+  removed v stop change start was =
+      let r = was.removed in
+      let logged : numbered m.changes change ≡ Some (change_record r.change) = change_at h.unit.log m.changes change r.change made.changes r.is in
+      record {
+        logged = change_record r.change;
+        change_is = logged;
+        kind_is = r.kind;
+        concerns = r.of;
+        assigned = assigned_by start v was.assigned;
+        path = printed_by v change start stop start None was.path.path (ap (λ o. via_by o) logged ∙ r.at) was.path.route;
+      }
+    where
+      via_by : Option Change → ℕ
+      via_by o = option_map_or (λ (c : Change). c.place) o 0
+
+  written : (kind : Kind) (v stop change start address : ℕ) → WasWritten h made.emits.code.arrangement made.emitted flow kind v stop change start address → IsExplained m stop v kind change start (Some address)
+  written kind v stop change start address was =
+      let l = was.logged in
+      let w = was.word in
+      let owner : owner_of m address ≡ was.via = ap (owner_of m) w.is ∙ owner_at m w.index ∙ ap (λ os. slice_index os w.index) made.owners ∙ w.owner in
+      record {
+        logged = change_record l.change;
+        change_is = change_at h.unit.log m.changes change l.change made.changes l.is;
+        kind_is = l.kind;
+        concerns = l.of;
+        assigned = assigned_by start v was.assigned;
+        path = printed_by v change start stop was.via (Some address) was.path.path owner was.path.route;
+      }
+
+  -- what is evident is explained
+  by_evidence : (stop v : ℕ) (w : Verdict) → IsEvidentIn h made.emits.code.arrangement made.emitted flow v stop w → IsExplainedBy m stop v w
+  by_evidence stop v verdict.Home is = tt
+  by_evidence stop v (verdict.Recovered change node) is = tt
+  by_evidence stop v (verdict.Noncurrent change start None) is = removed v stop change start is
+  by_evidence stop v (verdict.Noncurrent change start (Some address)) is = written Moved v stop change start address is
+  by_evidence stop v (verdict.Nonresident change start None) is = absurd is
+  by_evidence stop v (verdict.Nonresident change start (Some address)) is = written Reused v stop change start address is
+
+  -- a word of code stands behind the beginning of the code, so its address is not 0
+  some_address : (kind : Kind) (v stop change start address : ℕ) → WasWritten h made.emits.code.arrangement made.emitted flow kind v stop change start address → address ≡ 0 → ⊥
+  some_address kind v stop change start address was none = let is = was.word.is in omega (arith, is, none)
+
+  -- what may stand for nothing that writes does not stand for a word of code
+  no_writer : (v change start : ℕ) → IsEvidence m v change start (Some 0) → ⊥
+  unfolding code_start
+  no_writer v change start is = by (numbered m.changes change) is.0
+    where
+      by : (o : Option Change) → IsSomeAnd o (λ (c : Change). (c.variable ≡ v) × IsWriter m c.kind (Some 0)) → ⊥
+      by None none = none
+      by (Some c) has = let low = has.1.1.1 in omega (arith, low)
+
+  -- Verdicts of the same numbers are explained by the same: 0 stands for no address, and no word of code has that.
+  by_numbers : (stop v : ℕ) (w x : Verdict) → verdict_numbers w ≡ verdict_numbers x → IsVerdict m v x → IsEvidentIn h made.emits.code.arrangement made.emitted flow v stop w → IsExplainedBy m stop v x
+  by_numbers stop v w verdict.Home e rule is = tt
+  by_numbers stop v w (verdict.Recovered change node) e rule is = tt
+  by_numbers stop v verdict.Home (verdict.Noncurrent c s a) e rule is = absurd (let f = first_same _ _ _ _ e in omega (arith, f))
+  by_numbers stop v (verdict.Recovered change node) (verdict.Noncurrent c s a) e rule is = absurd (let f = first_same _ _ _ _ e in omega (arith, f))
+  by_numbers stop v (verdict.Nonresident change start b) (verdict.Noncurrent c s a) e rule is = absurd (let f = first_same _ _ _ _ e in omega (arith, f))
+  by_numbers stop v (verdict.Noncurrent change start None) (verdict.Noncurrent c s None) e rule is =
+      let same : verdict.Noncurrent change start None ≡ verdict.Noncurrent c s None = cc in
+      subst (IsExplainedBy m stop v) same (by_evidence stop v (verdict.Noncurrent change start None) is)
+  by_numbers stop v (verdict.Noncurrent change start None) (verdict.Noncurrent c s (Some a)) e rule is =
+      let none : a ≡ 0 = cc in
+      absurd (no_writer v c s (subst (λ n. IsEvidence m v c s (Some n)) none rule))
+  by_numbers stop v (verdict.Noncurrent change start (Some b)) (verdict.Noncurrent c s None) e rule is =
+      let none : b ≡ 0 = cc in
+      absurd (some_address Moved v stop change start b is none)
+  by_numbers stop v (verdict.Noncurrent change start (Some b)) (verdict.Noncurrent c s (Some a)) e rule is =
+      let same : verdict.Noncurrent change start (Some b) ≡ verdict.Noncurrent c s (Some a) = cc in
+      subst (IsExplainedBy m stop v) same (by_evidence stop v (verdict.Noncurrent change start (Some b)) is)
+  by_numbers stop v verdict.Home (verdict.Nonresident c s a) e rule is = absurd (let f = first_same _ _ _ _ e in omega (arith, f))
+  by_numbers stop v (verdict.Recovered change node) (verdict.Nonresident c s a) e rule is = absurd (let f = first_same _ _ _ _ e in omega (arith, f))
+  by_numbers stop v (verdict.Noncurrent change start b) (verdict.Nonresident c s a) e rule is = absurd (let f = first_same _ _ _ _ e in omega (arith, f))
+  by_numbers stop v (verdict.Nonresident change start None) (verdict.Nonresident c s a) e rule is = absurd is
+  by_numbers stop v (verdict.Nonresident change start (Some b)) (verdict.Nonresident c s None) e rule is =
+      let none : b ≡ 0 = cc in
+      absurd (some_address Reused v stop change start b is none)
+  by_numbers stop v (verdict.Nonresident change start (Some b)) (verdict.Nonresident c s (Some a)) e rule is =
+      let same : verdict.Nonresident change start (Some b) ≡ verdict.Nonresident c s (Some a) = cc in
+      subst (IsExplainedBy m stop v) same (by_evidence stop v (verdict.Nonresident change start (Some b)) is)
+
+  -- AN IMAGE THAT IS MADE OF A UNIT EXPLAINS what its rows say to hide variables.
+  pub explains_all : AreCountable h → ExplainsAll m
+  explains_all countable r among =
+      let at = among_at m.rows r among in
+      let k : ℕ = at.0 in
+      let q = from_map row_numbers made.rows.rows k (row_numbers r) (ap (λ l. slice_get l k) (sym made.rows.same) ∙ map_at row_numbers m.rows k r at.1) in
+      let row : VisibleRow = q.0 in
+      let numbers : row.place ∷ row.variable ∷ verdict_numbers row.verdict ≡ r.place ∷ r.variable ∷ verdict_numbers r.verdict = q.2 in
+      let place : row.place ≡ r.place = first_same row.place r.place (row.variable ∷ verdict_numbers row.verdict) (r.variable ∷ verdict_numbers r.verdict) numbers in
+      let rest : row.variable ∷ verdict_numbers row.verdict ≡ r.variable ∷ verdict_numbers r.verdict = rest_same row.place r.place (row.variable ∷ verdict_numbers row.verdict) (r.variable ∷ verdict_numbers r.verdict) numbers in
+      let var : row.variable ≡ r.variable = first_same row.variable r.variable (verdict_numbers row.verdict) (verdict_numbers r.verdict) rest in
+      let evident = made.evident countable row (at_among made.rows.rows k row q.1) in
+      by_numbers r.place r.variable row.verdict r.verdict (rest_same row.variable r.variable (verdict_numbers row.verdict) (verdict_numbers r.verdict) rest)
+      (all_at (λ (x : VisibleRow). IsVerdict m x.variable x.verdict) m.rows k r image.rows.verdicts at.1)
+      (subst (λ n. IsEvidentIn h made.emits.code.arrangement made.emitted flow r.variable n row.verdict) place
+      (subst (λ n. IsEvidentIn h made.emits.code.arrangement made.emitted flow n row.place row.verdict) var evident))
