@@ -1,2 +1,18 @@
 mod Made
 pub mod Lawful
+mod Functions
+mod LoggedCases
+mod CopiesEarned
+mod Unassigned
+mod Lagging
+mod DeadEarned
+mod NoDead
+mod DownSafe
+mod Widening
+mod Insertions
+mod MotionEarned
+mod NoCopies
+mod NoDeadCounts
+mod LeftForBounds
+mod NeverGrow
+mod WorkedLeft

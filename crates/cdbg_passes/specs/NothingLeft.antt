@@ -1,0 +1,18 @@
+-- That a pass leaves nothing that it could still do, said of what it made.
+use Rattle.std.specs.Prelude.{◌≡◌, ℕ, Some, List, ◌∷◌}
+use Rattle.graph_core.specs.Graphs.{Instruction, End, Graph}
+use Rattle.graph_core.specs.Uses.{target_of}
+use Rattle.graph_core.specs.Paths.{Among}
+use Rattle.graph_core.specs.Points.{IsUnread, StandsWith, reads_at}
+use Rattle.graph_paths.specs.Reached.{IsReached}
+use Rattle.copy_pass_rule.specs.Copying.{IsCopied}
+use Rattle.dead_pass_rule.specs.Idle.{MayGo}
+
+-- NO COPY REACHES A READ: at no point that a path comes to is a scalar read to which one instruction copied another scalar of its type on every path, with neither written since.
+abbrev pub HasNoCopies : Graph → Type 0
+HasNoCopies h = (n : ℕ) (rest : List Instruction) (e : End) (x y : ℕ) → IsReached h n rest e → Among x (reads_at rest e) → IsCopied h x y n rest e → ⊥
+
+-- NO WRITE IS DEAD: where a path comes to a write of a temporary, or of a scalar that its place assigns once, with the binding of a parameter counted, some way from there reads the name before it is written again.
+abbrev pub HasNoDead : Graph → Type 0
+HasNoDead h =
+    (n p x : ℕ) (i : Instruction) (rest : List Instruction) (e : End) → IsReached h n (i ∷ rest) e → StandsWith h p n (i ∷ rest) e → target_of i ≡ Some x → MayGo h p x → IsUnread h x n rest e → ⊥

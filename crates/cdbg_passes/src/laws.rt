@@ -1,0 +1,38 @@
+//! Laws of what the passes make.
+
+ghost use Rattle.std.specs.List.{AllByRecursion};
+ghost use Rattle.graph_core.specs.Graphs.{UnitForm};
+ghost use Rattle.graph_core.specs.WellMarked.{AreWellMarked};
+ghost use Rattle.pass_law.specs.Kept.{EachFunction};
+ghost use Rattle.cdbg_passes.specs.Bounds.{AreLeftForBounds, NeverGrows};
+ghost use Rattle.cdbg_passes.specs.Earned.{AreEarned};
+ghost use Rattle.cdbg_passes.specs.NothingLeft.{HasNoCopies, HasNoDead};
+ghost use Rattle.cdbg_passes.specs.Steps.{MovesCode, PropagatesCopies, RemovesDead};
+ghost use Rattle.cdbg_passes.specs.Worked.{AreRefused};
+
+/// A law: each change that a step of copy propagation logs is earned, whatever the homes; so is each that lazy code
+/// motion or the removal of dead assignments logs of a well marked unit.
+pub fn changes_are_earned()
+    ensures copy { (u v : UnitForm) → PropagatesCopies u v → AreEarned u v }
+    ensures motion { (u v : UnitForm) → AreWellMarked u → MovesCode u v → AreEarned u v }
+    ensures dead { (u v : UnitForm) → AreWellMarked u → RemovesDead u v → AreEarned u v }
+{}
+
+/// A law: no pass is idle. Copy propagation leaves no read that a copy reaches on every path, and the removal of dead
+/// assignments no write that may go and that nothing reads. Code motion leaves a function as it was for a bound alone.
+pub fn no_pass_is_idle()
+    ensures copy { (u v : UnitForm) → PropagatesCopies u v → AllByRecursion HasNoCopies v.graphs }
+    ensures dead { (u v : UnitForm) → RemovesDead u v → AllByRecursion HasNoDead v.graphs }
+    ensures left { (u v : UnitForm) → AreWellMarked u → MovesCode u v → AreLeftForBounds u.graphs v.graphs }
+{}
+
+/// A law: no function grows by copy propagation or by the removal of dead assignments.
+pub fn functions_never_grow()
+    ensures copy { (u v : UnitForm) → PropagatesCopies u v → EachFunction NeverGrows u.graphs v.graphs }
+    ensures dead { (u v : UnitForm) → RemovesDead u v → EachFunction NeverGrows u.graphs v.graphs }
+{}
+
+/// A law: the definitions of what is left refuse a graph with a copy that reaches a read, and one with a dead write.
+pub fn what_is_left_is_refused()
+    ensures { AreRefused }
+{}
