@@ -2,15 +2,16 @@
 use Rattle.std.proofs.Common.{◌≡◌, ◌⊎◌, inl, inr, refl, sym, subst, List, ℕ}
 use Rattle.std.specs.Prelude.{Option, Some, None, Result, Ok, Err, IfNone, IfSome}
 use Rattle.debug_records.specs.declared.change.PassName.{PassName}
+use Rattle.graph_core.specs.Graphs.{UnitForm}
 use Rattle.line_form.specs.declared.status.Status.{Status}
 use Rattle.line_form.specs.declared.status.Status.TheVariants.{Done, Usage, SourceRefused, ScriptRefused, ReadFault, WriteFault, NoMemory, ImageRefused, TooLong}
 use Rattle.command_line.specs.Grammar.{IsJob, IsNoJob}
-use Rattle.command_line.specs.Job.{JobGiven, job_given}
+use Rattle.command_line.specs.Job.{AttachGiven, JobGiven, attach, job_given}
 use Rattle.command_line.specs.declared.job.Job.{Job}
 use Rattle.command_line.proofs.GrammarLemmas.{one_job}
 use Rattle.pass_law.specs.HandedIn.{AreHandedIn}
 use Rattle.session.specs.Served.{AreNotServed, AreServed, needed}
-use Rattle.session.specs.Ending.{Ends, World}
+use Rattle.session.specs.Ending.{Ends, EndsWithoutPasses, World}
 use Rattle.session.specs.Stages.{AskEnds, CheckEnds}
 
 module _ {P : Type 0} (named : P → PassName) (passes : List P) (words : List (List ℕ)) where
@@ -50,6 +51,19 @@ module _ {P : Type 0} (named : P → PassName) (passes : List P) (words : List (
   refused_is_complete Else (ImageRefused code offset) a h s = absurd h
   refused_is_complete Else (TooLong name) a h s = absurd h
 
--- how a job ends is how the same job ends
-pub same_ends : (a b : JobGiven) (old : World) (status : Status) (new : World) → a ≡ b → Ends a old status new → Ends b old status new
-same_ends a b old status new same ends = subst (λ j. Ends j old status new) same ends
+module _ {P : Type 0} {named : P → PassName} {steps : P → UnitForm → UnitForm → Type 0} {handed_in : List P} where
+  -- how a job ends is how the same job ends
+  pub same_ends : (a b : JobGiven) (old : World) (status : Status) (new : World) → a ≡ b → Ends named steps handed_in a old status new → Ends named steps handed_in b old status new
+  same_ends a b old status new same ends = subst (λ j. Ends named steps handed_in j old status new) same ends
+
+  -- an `attach` ends with any passes as without: it prints of none
+  pub attach_ends : (given : AttachGiven) (old : World) (status : Status) (new : World) → EndsWithoutPasses (attach given) old status new → Ends named steps handed_in (attach given) old status new
+  attach_ends given old status new ends = record {
+    caused = ends.caused;
+    stays = ends.stays;
+    image = record { saved = ends.image.saved; whole = ends.image.whole; left = ends.image.left };
+    transcript = record {
+      part = λ cut told told_sink. elim (ends.transcript.part cut told told_sink) [ inl same ↦ inl same | inr off ↦ inr (record { printed = off.printed; prints = off.prints; part = off.part }) ];
+      done = λ is told told_sink. (let done = ends.transcript.done is told told_sink in record { printed = done.printed; prints = done.prints; whole = done.whole });
+    };
+  }

@@ -7,6 +7,7 @@ use Rattle.debug_records.specs.declared.mode.Mode.TheVariants.{Slots}
 use Rattle.image_build.specs.Truthful.{RunsTrue}
 use Rattle.image_build.specs.ProgramImageShown.{ShowsAll}
 use Rattle.image_build.specs.Tables.{HasTablesOf}
+use Rattle.session.specs.Behind.{ComesOfProgram}
 use Rattle.session.specs.Prepared.{IsMade}
 use Rattle.session.specs.Truth.{IsTruthfulTo}
 use Rattle.session.specs.declared.preparing.Made.{Made}
@@ -14,12 +15,10 @@ use Rattle.debug_records.specs.Change.{letters}
 use Rattle.debug_records.specs.declared.change.PassName.{PassName}
 use Rattle.debug_records.specs.declared.mode.Mode.{Mode}
 use Rattle.c_tree.specs.Programs.{ProgramTree}
-use Rattle.graph_homes.specs.Homed.{HomedForm}
+use Rattle.graph_core.specs.Graphs.{UnitForm}
 use Rattle.image_form.specs.Form.{Form, form}
 use Rattle.image_form.specs.Rules.{IsImage}
 use Rattle.image_form.specs.Spelling.{spelling}
-use Rattle.image_build.specs.Compiled.{IsCompiledImage}
-use Rattle.image_build.specs.Made.{IsHomed, IsMadeOf}
 
 -- passes of no names are none
 pub none_named : (names : List PassName) → map letters names ≡ [] → names ≡ []
@@ -30,32 +29,33 @@ none_named (name ∷ names) none = cc
 one_program : (source : List ℕ) (p q : ProgramTree) → program_of_source source ≡ Ok p → program_of_source source ≡ Ok q → p ≡ q
 one_program source p q one other = cc
 
--- WHAT IS SO OF THE IMAGE OF A SOURCE'S PROGRAM IS SO OF THE SOURCE
-pub truthful_by : (source : List ℕ) (names : List Text) (mode : Mode) (p : ProgramTree) (m : Form) → program_of_source source ≡ Ok p → RunsTrue p m → (names ≡ [] → mode ≡ Slots → ShowsAll m) → HasTablesOf p m → IsCompiledImage p mode m
-    → IsTruthfulTo source names mode m
-truthful_by source names mode p m is runs shows tables compiled = record {
-  runs = λ q other. subst (λ (r : ProgramTree). RunsTrue r m) (one_program source p q is other) runs;
-  shows = shows;
-  tables = λ q other. subst (λ (r : ProgramTree). HasTablesOf r m) (one_program source p q is other) tables;
-  compiled = λ q other. subst (λ (r : ProgramTree). IsCompiledImage r mode m) (one_program source p q is other) compiled;
-}
+module _ {P : Type 0} {named : P → PassName} {steps : P → UnitForm → UnitForm → Type 0} {handed_in : List P} where
+  -- WHAT IS SO OF THE IMAGE OF A SOURCE'S PROGRAM IS SO OF THE SOURCE
+  pub truthful_by : (source : List ℕ) (names : List Text) (mode : Mode) (p : ProgramTree) (m : Form) → program_of_source source ≡ Ok p → RunsTrue p m → (names ≡ [] → mode ≡ Slots → ShowsAll m) → HasTablesOf p m → ComesOfProgram named steps handed_in p names mode m
+      → IsTruthfulTo named steps handed_in source names mode m
+  truthful_by source names mode p m is runs shows tables comes = record {
+    runs = λ q other. subst (λ (r : ProgramTree). RunsTrue r m) (one_program source p q is other) runs;
+    shows = shows;
+    tables = λ q other. subst (λ (r : ProgramTree). HasTablesOf r m) (one_program source p q is other) tables;
+    comes = λ q other. subst (λ (r : ProgramTree). ComesOfProgram named steps handed_in r names mode m) (one_program source p q is other) comes;
+  }
 
--- An image that is made of the program of a source is one of the source.
-pub made_of : {E : Type 0} (source : List ℕ) (names : List Text) (mode : Mode) (p : ProgramTree) (result : Result (Option Made) E) (made : Made) → result ≡ Ok (Some made) → HasProgram source → program_of_source source ≡ Ok p
-    → IfOk result (λ o. IfSome o (λ (m : Made). IsImage (form m.image))) → IfOk result (λ o. IfSome o (λ (m : Made). m.bytes.items ≡ spelling (form m.image)))
-    → IfOk result (λ o. IfSome o (λ (m : Made). RunsTrue p (form m.image))) → (names ≡ [] → mode ≡ Slots → IfOk result (λ o. IfSome o (λ (m : Made). ShowsAll (form m.image))))
-    → IfOk result (λ o. IfSome o (λ (m : Made). HasTablesOf p (form m.image))) → IfOk result (λ o. IfSome o (λ (m : Made). IsCompiledImage p mode (form m.image))) → IsMade source names mode made
-made_of source names mode p result made is understood program image bytes runs shows tables compiled =
-    let image_is = subst (λ r. IfOk r (λ o. IfSome o (λ (m : Made). IsImage (form m.image)))) is image in
-    let bytes_are = subst (λ r. IfOk r (λ o. IfSome o (λ (m : Made). m.bytes.items ≡ spelling (form m.image)))) is bytes in
-    record {
-      image = record {
-        understood = understood;
-        image = image_is;
-        truthful = truthful_by source names mode p (form made.image) program (subst (λ r. IfOk r (λ o. IfSome o (λ (m : Made). RunsTrue p (form m.image)))) is runs)
-            (λ none slots. subst (λ r. IfOk r (λ o. IfSome o (λ (m : Made). ShowsAll (form m.image)))) is (shows none slots))
-            (subst (λ r. IfOk r (λ o. IfSome o (λ (m : Made). HasTablesOf p (form m.image)))) is tables)
-            (subst (λ r. IfOk r (λ o. IfSome o (λ (m : Made). IsCompiledImage p mode (form m.image)))) is compiled);
-      };
-      bytes = bytes_are;
-    }
+  -- An image that is made of the program of a source is one of the source.
+  pub made_of : {E : Type 0} (source : List ℕ) (names : List Text) (mode : Mode) (p : ProgramTree) (result : Result (Option Made) E) (made : Made) → result ≡ Ok (Some made) → HasProgram source → program_of_source source ≡ Ok p
+      → IfOk result (λ o. IfSome o (λ (m : Made). IsImage (form m.image))) → IfOk result (λ o. IfSome o (λ (m : Made). m.bytes.items ≡ spelling (form m.image)))
+      → IfOk result (λ o. IfSome o (λ (m : Made). RunsTrue p (form m.image))) → (names ≡ [] → mode ≡ Slots → IfOk result (λ o. IfSome o (λ (m : Made). ShowsAll (form m.image))))
+      → IfOk result (λ o. IfSome o (λ (m : Made). HasTablesOf p (form m.image))) → IfOk result (λ o. IfSome o (λ (m : Made). ComesOfProgram named steps handed_in p names mode (form m.image))) → IsMade named steps handed_in source names mode made
+  made_of source names mode p result made is understood program image bytes runs shows tables comes =
+      let image_is = subst (λ r. IfOk r (λ o. IfSome o (λ (m : Made). IsImage (form m.image)))) is image in
+      let bytes_are = subst (λ r. IfOk r (λ o. IfSome o (λ (m : Made). m.bytes.items ≡ spelling (form m.image)))) is bytes in
+      record {
+        image = record {
+          understood = understood;
+          image = image_is;
+          truthful = truthful_by source names mode p (form made.image) program (subst (λ r. IfOk r (λ o. IfSome o (λ (m : Made). RunsTrue p (form m.image)))) is runs)
+              (λ none slots. subst (λ r. IfOk r (λ o. IfSome o (λ (m : Made). ShowsAll (form m.image)))) is (shows none slots))
+              (subst (λ r. IfOk r (λ o. IfSome o (λ (m : Made). HasTablesOf p (form m.image)))) is tables)
+              (subst (λ r. IfOk r (λ o. IfSome o (λ (m : Made). ComesOfProgram named steps handed_in p names mode (form m.image)))) is comes);
+        };
+        bytes = bytes_are;
+      }

@@ -1,11 +1,9 @@
 -- What a sink has taken of a text that is put piece by piece.
-use Rattle.std.proofs.Common.{◌≡◌, ℕ, zero, suc, ◌+◌, ◌<◌, ◌≤◌, sym, ap, ◌∙◌, arith, refl, List, [], ◌∷◌, ◌++◌, length, drop, map, get_or, append_assoc, append-nil}
+use Rattle.std.proofs.Common.{◌≡◌, ℕ, zero, suc, ◌+◌, ◌<◌, sym, ap, ◌∙◌, arith, List, [], ◌∷◌, ◌++◌, length, drop, map, get_or, append_assoc}
 use Rattle.std.specs.Prelude.{Result, Ok, Err, OnErr, Vec}
 use Rattle.std.specs.Global.{Global}
 use Rattle.line_form.specs.Lines.{line}
 use Rattle.std.specs.List.{flat_map}
-use Rattle.std.proofs.Math.Seq.{drop-cons}
-use Rattle.std.proofs.lemmas.List.{drop_all}
 use Rattle.outside.specs.Taken.{TakesPart}
 
 -- a front of the whole was taken, and the rest is still to come

@@ -1,12 +1,12 @@
 -- Why a source is refused.
-use Rattle.std.proofs.Common.{◌≡◌, ℕ, ◌≤◌, inl, inr, ⊎_elim, sym, ap, ◌∙◌, subst, arith, refl, List, length, take}
-use Rattle.std.specs.Prelude.{Bool, true, false, nat_lt, Option, Some, None, Err}
+use Rattle.std.proofs.Common.{◌≡◌, ℕ, ◌≤◌, inl, ⊎_elim, sym, ap, ◌∙◌, subst, arith, refl, List, length, take}
+use Rattle.std.specs.Prelude.{Bool, true, false, nat_lt, Option, Some, None}
 use Rattle.std.proofs.lemmas.Bool.Decides.{nat_tests}
 use Rattle.std.proofs.lemmas.List.{take_all, length-take}
 use Rattle.debug_records.specs.declared.code.Code.{Code}
 use Rattle.debug_records.specs.declared.code.TheConstants.Code.{TEXT_SIZE}
 use Rattle.outside.specs.Held.{Loads}
-use Rattle.c_source.specs.Sources.{HasProgram, program_of_source}
+use Rattle.c_source.specs.Sources.{HasProgram}
 use Rattle.c_source.proofs.Sources.{long_has_no_program, unbroken}
 use Rattle.session.specs.Limits.{Holds}
 use Rattle.session.specs.Front.{IsNotCompiled, IsRefusedSource}

@@ -1,10 +1,12 @@
 -- How a job ends: one record of what its status says, what stays, and what it leaves. The top call says each part of it of the job that its words ask for.
-use Rattle.std.specs.Prelude.{◌≡◌, ◌≢◌, ◌⊎◌, ℕ, Bool, true, List, String, string_bytes}
+use Rattle.std.specs.Prelude.{◌≡◌, ◌≢◌, ◌⊎◌, ℕ, Bool, true, List, [], String, string_bytes}
 use Rattle.std.specs.Global.{Global}
 use Rattle.outside.specs.Counts.{RoseOrStands}
 use Rattle.line_form.specs.declared.status.Status.{Status}
 use Rattle.line_form.specs.declared.status.Status.TheVariants.{Done, Usage, SourceRefused, ScriptRefused, ReadFault, WriteFault, ImageRefused, TooLong}
 use Rattle.debug_records.specs.declared.code.Code.{Code}
+use Rattle.debug_records.specs.declared.change.PassName.{PassName}
+use Rattle.graph_core.specs.Graphs.{UnitForm}
 use Rattle.command_line.specs.Job.{JobGiven}
 use Rattle.session.specs.Served.{SavesTo}
 use Rattle.session.specs.Limits.{Held, AreWithin, IsTooLong}
@@ -41,20 +43,25 @@ pub record Stays (job : JobGiven) (old : World) (result : Status) (new : World) 
   pub nothing : IsEarly result → old.sink_tells ≡ true → new.taken ≡ old.taken
   pub others : old.shelf_tells ≡ true → (n : List ℕ) → ¬ SavesTo job n → new.held n ≡ old.held n
 
--- what stands under the name of the image in the end
-pub record LeavesImage (job : JobGiven) (old : World) (result : Status) (new : World) : Type 0 where
-  pub saved : result ≡ Done → old.shelf_tells ≡ true → HasSaved old.held new.held job
-  pub whole : result ≡ WriteFault → ¬ RoseOrStands old.saves new.saves → old.shelf_tells ≡ true → HasSaved old.held new.held job
-  pub left : IsCut result → old.shelf_tells ≡ true → HasLeft old.held new.held job
+module _ {P : Type 0} (named : P → PassName) (steps : P → UnitForm → UnitForm → Type 0) (handed_in : List P) where
+  -- what stands under the name of the image in the end
+  pub record LeavesImage (job : JobGiven) (old : World) (result : Status) (new : World) : Type 0 where
+    pub saved : result ≡ Done → old.shelf_tells ≡ true → HasSaved named steps handed_in old.held new.held job
+    pub whole : result ≡ WriteFault → ¬ RoseOrStands old.saves new.saves → old.shelf_tells ≡ true → HasSaved named steps handed_in old.held new.held job
+    pub left : IsCut result → old.shelf_tells ≡ true → HasLeft named steps handed_in old.held new.held job
 
--- what the sink took in the end
-pub record LeavesTranscript (job : JobGiven) (old : World) (result : Status) (new : World) : Type 0 where
-  pub part : IsCut result → old.shelf_tells ≡ true → old.sink_tells ≡ true → TookPart old.held new.held job old.taken new.taken
-  pub done : result ≡ Done → old.shelf_tells ≡ true → old.sink_tells ≡ true → IsDone old.held new.held job old.taken new.taken
+  -- what the sink took in the end
+  pub record LeavesTranscript (job : JobGiven) (old : World) (result : Status) (new : World) : Type 0 where
+    pub part : IsCut result → old.shelf_tells ≡ true → old.sink_tells ≡ true → TookPart named steps handed_in old.held new.held job old.taken new.taken
+    pub done : result ≡ Done → old.shelf_tells ≡ true → old.sink_tells ≡ true → IsDone named steps handed_in old.held new.held job old.taken new.taken
 
--- how a job ends
-pub record Ends (job : JobGiven) (old : World) (result : Status) (new : World) : Type 0 where
-  pub caused : IsCaused job old result new
-  pub stays : Stays job old result new
-  pub image : LeavesImage job old result new
-  pub transcript : LeavesTranscript job old result new
+  -- how a job ends where these passes were handed in
+  pub record Ends (job : JobGiven) (old : World) (result : Status) (new : World) : Type 0 where
+    pub caused : IsCaused job old result new
+    pub stays : Stays job old result new
+    pub image : LeavesImage job old result new
+    pub transcript : LeavesTranscript job old result new
+
+-- how a job ends that runs no pass
+abbrev pub EndsWithoutPasses : JobGiven → World → Status → World → Type 0
+EndsWithoutPasses = Ends {P = PassName} (λ name. name) (λ name u v. ⊥) []

@@ -7,7 +7,7 @@ use Rattle.debug_records.specs.declared.change.PassName.{PassName}
 use Rattle.debug_records.specs.declared.mode.Mode.{Mode}
 use Rattle.pass_law.specs.HandedIn.{AreHandedIn}
 
--- the names of the passes that a `sweep` needs, which are those of the default list; no clause says that it runs them
+-- the names of the passes that a `sweep` needs and runs, which are those of the default list
 abbrev pub default_names : List Text
 default_names = codes "copy" ∷ codes "motion" ∷ codes "dead" ∷ []
 

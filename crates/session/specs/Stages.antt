@@ -18,6 +18,7 @@ use Rattle.script_form.specs.declared.command.Command.{Command}
 use Rattle.command_line.specs.Words.{Text}
 use Rattle.debug_records.specs.declared.mode.Mode.{Mode}
 use Rattle.debug_records.specs.declared.change.PassName.{PassName}
+use Rattle.graph_core.specs.Graphs.{UnitForm}
 use Rattle.pass_law.specs.HandedIn.{AreHandedIn}
 use Rattle.session.specs.Causes.{AreNoImage}
 use Rattle.c_source.specs.Sources.{HasProgram, program_of_source}
@@ -72,30 +73,17 @@ FrontEnds (Err (SourceRefused code line)) source = program_of_source source ≡ 
 FrontEnds (Err NoMemory) source = Unit {0}
 FrontEnds (Err _) source = ⊥
 
--- the source is of a program and its image is made, or it is refused, or memory was wanting
-abbrev pub MakeEnds : Result Made Status → (source : List ℕ) → (names : List Text) → Mode → Type 0
-MakeEnds (Ok made) source names mode = IsMade source names mode made
-MakeEnds (Err (SourceRefused code line)) source names mode = IsRefusedSource (IsPlain names mode) source code line
-MakeEnds (Err NoMemory) source names mode = Unit {0}
-MakeEnds (Err _) source names mode = ⊥
-
--- the summary of the run of an image of the generated source, or that source is refused, or memory was wanting
-abbrev pub SweepEnds : Result Summary Status → SweepGiven → Type 0
-SweepEnds (Ok summary) given = (m : Form) × IsImageFor (generated given.seed given.size) default_names Registers m × IsSummed m [] sweep_limit summary
-SweepEnds (Err (SourceRefused code line)) given = IsRefusedSource ⊥ (generated given.seed given.size) code line
-SweepEnds (Err NoMemory) given = Unit {0}
-SweepEnds (Err _) given = ⊥
+-- a source of which an image is to be made is refused, or memory was wanting
+abbrev pub MakeFails : Status → (source : List ℕ) → (names : List Text) → Mode → Type 0
+MakeFails (SourceRefused code line) source names mode = IsRefusedSource (IsPlain names mode) source code line
+MakeFails NoMemory source names mode = Unit {0}
+MakeFails _ source names mode = ⊥
 
 -- a source whose changes are listed is refused, or memory was wanting
 abbrev pub ListFails : Status → (source : List ℕ) → Type 0
 ListFails (SourceRefused code line) source = IsRefusedSource ⊥ source code line
 ListFails NoMemory source = Unit {0}
 ListFails _ source = ⊥
-
--- the lines of the changes that passes of these names make in the source, or the list fails
-abbrev pub ListEnds : Result (Vec (Vec ℕ Global) Global) Status → (source : List ℕ) → (names : List Text) → Type 0
-ListEnds (Ok lines) source names = AreLinesFor source names (map (λ (l : Vec ℕ Global). l.items) lines.items)
-ListEnds (Err status) source names = ListFails status source
 
 -- the script asks for the commands, or is refused for its first line that breaks a rule, or memory was wanting
 abbrev pub ScriptEnds : Result (Vec Command Global) Status → (script : List ℕ) → Type 0
@@ -110,3 +98,21 @@ ImageEnds (Ok image) bytes = IsImage (form image) × (bytes ≡ spelling (form i
 ImageEnds (Err (ImageRefused code offset)) bytes = AreNoImage code offset bytes
 ImageEnds (Err NoMemory) bytes = Unit {0}
 ImageEnds (Err _) bytes = ⊥
+
+module _ {P : Type 0} (named : P → PassName) (steps : P → UnitForm → UnitForm → Type 0) (handed_in : List P) where
+  -- the source is of a program and its image is made, or that fails
+  abbrev pub MakeEnds : Result Made Status → (source : List ℕ) → (names : List Text) → Mode → Type 0
+  MakeEnds (Ok made) source names mode = IsMade named steps handed_in source names mode made
+  MakeEnds (Err status) source names mode = MakeFails status source names mode
+
+  -- the summary of the run of an image of the generated source, or that source is refused, or memory was wanting
+  abbrev pub SweepEnds : Result Summary Status → SweepGiven → Type 0
+  SweepEnds (Ok summary) given = (m : Form) × IsImageFor named steps handed_in (generated given.seed given.size) default_names Registers m × IsSummed m [] sweep_limit summary
+  SweepEnds (Err (SourceRefused code line)) given = IsRefusedSource ⊥ (generated given.seed given.size) code line
+  SweepEnds (Err NoMemory) given = Unit {0}
+  SweepEnds (Err _) given = ⊥
+
+  -- the lines of the changes that passes of these names make in the source, or the list fails
+  abbrev pub ListEnds : Result (Vec (Vec ℕ Global) Global) Status → (source : List ℕ) → (names : List Text) → Type 0
+  ListEnds (Ok lines) source names = AreLinesFor named steps handed_in source names (map (λ (l : Vec ℕ Global). l.items) lines.items)
+  ListEnds (Err status) source names = ListFails status source

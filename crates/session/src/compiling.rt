@@ -1,11 +1,7 @@
 //! The compilation of a source.
 
-ghost use Rattle.std.specs.Prelude.{◌≡◌, ℕ, Bool, IfOk, List, true};
-ghost use Rattle.outside.specs.Counts.{RoseOrStands};
-ghost use Rattle.image_form.specs.Form.{form};
-ghost use Rattle.line_form.specs.declared.status.Status.TheVariants.{Done, WriteFault};
+ghost use Rattle.std.specs.Prelude.{ℕ, Bool, List};
 ghost use Rattle.command_line.specs.Job as given;
-ghost use Rattle.session.specs.Behind.{ComesOfSource, HasSavedComing};
 ghost use Rattle.session.specs.Ending.{Ends};
 ghost use Rattle.session.specs.Stages.{MakeEnds};
 
@@ -25,8 +21,8 @@ fn make(
     passes: &[Box<dyn UnitPass>],
     job: &Compile,
 ) -> Result<Made, Status>
-    ensures ends { MakeEnds result source.now (given.compile_given job.now).passes job.now.mode }
-    ensures comes { IfOk result (λ made. ComesOfSource (λ p. named p) (λ p. steps p) passes.now source.now (given.compile_given job.now).passes job.now.mode (form made.image)) }
+    ensures { MakeEnds (λ p. named p) (λ p. steps p) passes.now result source.now (given.compile_given job.now).passes
+        job.now.mode }
 {
     preparing::make(alloc, source, passes, &job.passes, job.mode)
 }
@@ -38,9 +34,27 @@ pub fn compile<S: Shelf>(
     passes: &[Box<dyn UnitPass>],
     shelf: &mut S,
 ) -> Status
-    ensures ends { (puts : ℕ) (sink_tells : Bool) (taken : List ℕ) → Ends (given.compile (given.compile_given job.now)) (record { loads = S.load_count shelf.old; saves = S.save_count shelf.old; puts = puts; shelf_tells = S.tells shelf.old; held = S.held shelf.old; sink_tells = sink_tells; taken = taken }) result (record { loads = S.load_count shelf.new; saves = S.save_count shelf.new; puts = puts; shelf_tells = S.tells shelf.new; held = S.held shelf.new; sink_tells = sink_tells; taken = taken }) }
-    ensures behind { result ≡ Done → S.tells shelf.old ≡ true → HasSavedComing (λ p. named p) (λ p. steps p) passes.now (S.held shelf.old) (S.held shelf.new) (given.compile (given.compile_given job.now)) }
-    ensures behind_whole { result ≡ WriteFault → ¬ RoseOrStands (S.save_count shelf.old) (S.save_count shelf.new) → S.tells shelf.old ≡ true → HasSavedComing (λ p. named p) (λ p. steps p) passes.now (S.held shelf.old) (S.held shelf.new) (given.compile (given.compile_given job.now)) }
+    ensures { (puts : ℕ) (sink_tells : Bool) (taken : List ℕ) →
+        Ends (λ p. named p) (λ p. steps p) passes.now (given.compile (given.compile_given job.now))
+        (record {
+          loads = S.load_count shelf.old;
+          saves = S.save_count shelf.old;
+          puts = puts;
+          shelf_tells = S.tells shelf.old;
+          held = S.held shelf.old;
+          sink_tells = sink_tells;
+          taken = taken;
+        })
+        result
+        (record {
+          loads = S.load_count shelf.new;
+          saves = S.save_count shelf.new;
+          puts = puts;
+          shelf_tells = S.tells shelf.new;
+          held = S.held shelf.new;
+          sink_tells = sink_tells;
+          taken = taken;
+        }) }
 {
     let source = match load_source(alloc, shelf, job.source.as_str()) {
         Ok(source) => source,

@@ -1,11 +1,6 @@
 //! The session of a source.
 
-ghost use Rattle.std.specs.Prelude.{◌≡◌, IfOk, true};
-ghost use Rattle.outside.specs.Counts.{RoseOrStands};
-ghost use Rattle.image_form.specs.Form.{form};
-ghost use Rattle.line_form.specs.declared.status.Status.TheVariants.{Done, WriteFault};
 ghost use Rattle.command_line.specs.Job as given;
-ghost use Rattle.session.specs.Behind.{ComesOfSource, HasSavedComing};
 ghost use Rattle.session.specs.Ending.{Ends};
 ghost use Rattle.session.specs.Stages.{MakeEnds};
 
@@ -26,8 +21,8 @@ fn make(
     passes: &[Box<dyn UnitPass>],
     job: &Debug,
 ) -> Result<Made, Status>
-    ensures ends { MakeEnds result source.now (given.debug_given job.now).passes job.now.mode }
-    ensures comes { IfOk result (λ made. ComesOfSource (λ p. named p) (λ p. steps p) passes.now source.now (given.debug_given job.now).passes job.now.mode (form made.image)) }
+    ensures { MakeEnds (λ p. named p) (λ p. steps p) passes.now result source.now (given.debug_given job.now).passes
+        job.now.mode }
 {
     preparing::make(alloc, source, passes, &job.passes, job.mode)
 }
@@ -40,9 +35,26 @@ pub fn debug<S: Shelf, K: Sink>(
     shelf: &mut S,
     sink: &mut K,
 ) -> Status
-    ensures ends { Ends (given.debug (given.debug_given job.now)) (record { loads = S.load_count shelf.old; saves = S.save_count shelf.old; puts = K.fault_count sink.old; shelf_tells = S.tells shelf.old; held = S.held shelf.old; sink_tells = K.tells sink.old; taken = K.taken sink.old }) result (record { loads = S.load_count shelf.new; saves = S.save_count shelf.new; puts = K.fault_count sink.new; shelf_tells = S.tells shelf.new; held = S.held shelf.new; sink_tells = K.tells sink.new; taken = K.taken sink.new }) }
-    ensures behind { result ≡ Done → S.tells shelf.old ≡ true → HasSavedComing (λ p. named p) (λ p. steps p) passes.now (S.held shelf.old) (S.held shelf.new) (given.debug (given.debug_given job.now)) }
-    ensures behind_whole { result ≡ WriteFault → ¬ RoseOrStands (S.save_count shelf.old) (S.save_count shelf.new) → S.tells shelf.old ≡ true → HasSavedComing (λ p. named p) (λ p. steps p) passes.now (S.held shelf.old) (S.held shelf.new) (given.debug (given.debug_given job.now)) }
+    ensures { Ends (λ p. named p) (λ p. steps p) passes.now (given.debug (given.debug_given job.now))
+        (record {
+          loads = S.load_count shelf.old;
+          saves = S.save_count shelf.old;
+          puts = K.fault_count sink.old;
+          shelf_tells = S.tells shelf.old;
+          held = S.held shelf.old;
+          sink_tells = K.tells sink.old;
+          taken = K.taken sink.old;
+        })
+        result
+        (record {
+          loads = S.load_count shelf.new;
+          saves = S.save_count shelf.new;
+          puts = K.fault_count sink.new;
+          shelf_tells = S.tells shelf.new;
+          held = S.held shelf.new;
+          sink_tells = K.tells sink.new;
+          taken = K.taken sink.new;
+        }) }
 {
     let texts = match load_texts(alloc, shelf, job) {
         Ok(texts) => texts,

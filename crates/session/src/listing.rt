@@ -1,9 +1,6 @@
 //! The changes that passes make in a source.
 
-ghost use Rattle.std.specs.Prelude.{◌≡◌, true};
 ghost use Rattle.command_line.specs.Job as given;
-ghost use Rattle.line_form.specs.declared.status.Status.TheVariants.{Done};
-ghost use Rattle.session.specs.Behind.{ListsBehind};
 ghost use Rattle.session.specs.Ending.{Ends};
 
 use crate::loading::load_source;
@@ -23,8 +20,26 @@ pub fn list_changes<S: Shelf, K: Sink>(
     shelf: &mut S,
     sink: &mut K,
 ) -> Status
-    ensures ends { Ends (given.passes (given.passes_given job.now)) (record { loads = S.load_count shelf.old; saves = S.save_count shelf.old; puts = K.fault_count sink.old; shelf_tells = S.tells shelf.old; held = S.held shelf.old; sink_tells = K.tells sink.old; taken = K.taken sink.old }) result (record { loads = S.load_count shelf.new; saves = S.save_count shelf.new; puts = K.fault_count sink.new; shelf_tells = S.tells shelf.new; held = S.held shelf.new; sink_tells = K.tells sink.new; taken = K.taken sink.new }) }
-    ensures behind { result ≡ Done → S.tells shelf.old ≡ true → K.tells sink.old ≡ true → ListsBehind (λ p. named p) (λ p. steps p) passes.now (S.held shelf.old) (given.passes_given job.now) (K.taken sink.old) (K.taken sink.new) }
+    ensures { Ends (λ p. named p) (λ p. steps p) passes.now (given.passes (given.passes_given job.now))
+        (record {
+          loads = S.load_count shelf.old;
+          saves = S.save_count shelf.old;
+          puts = K.fault_count sink.old;
+          shelf_tells = S.tells shelf.old;
+          held = S.held shelf.old;
+          sink_tells = K.tells sink.old;
+          taken = K.taken sink.old;
+        })
+        result
+        (record {
+          loads = S.load_count shelf.new;
+          saves = S.save_count shelf.new;
+          puts = K.fault_count sink.new;
+          shelf_tells = S.tells shelf.new;
+          held = S.held shelf.new;
+          sink_tells = K.tells sink.new;
+          taken = K.taken sink.new;
+        }) }
 {
     let source = match load_source(alloc, shelf, job.source.as_str()) {
         Ok(source) => source,

@@ -91,7 +91,8 @@ fn load_whole<S: Shelf>(
     limit: u32,
 ) -> Result<Vec<u8>, Status>
     requires { limit < 4294967295 }
-    ensures ends { LoadEnds result (S.load_count shelf.old) (S.load_count shelf.new) (λ said. (said ≡ name.now) × (S.tells shelf.old ≡ true → IsBeyond limit (S.held shelf.old name.now))) }
+    ensures ends { LoadEnds result (S.load_count shelf.old) (S.load_count shelf.new) (λ said.
+        (said ≡ name.now) × (S.tells shelf.old ≡ true → IsBeyond limit (S.held shelf.old name.now))) }
     ensures saves { S.save_count shelf.new ≡ S.save_count shelf.old }
     ensures telling { S.tells shelf.new ≡ S.tells shelf.old }
     ensures same { (n : List ℕ) → S.tells shelf.old ≡ true → S.held shelf.new n ≡ S.held shelf.old n }
@@ -107,14 +108,19 @@ fn load_whole<S: Shelf>(
 
 /// Loads the source, the script and the input, in this order. The script and the input are refused directly where they are too long.
 pub fn load_texts<S: Shelf>(alloc: Global, shelf: &mut S, job: &Debug) -> Result<Texts, Status>
-    ensures ends { LoadEnds result (S.load_count shelf.old) (S.load_count shelf.new) (λ said. S.tells shelf.old ≡ true → IsTooLong (S.held shelf.old) (debug (debug_given job.now)) said) }
+    ensures ends { LoadEnds result (S.load_count shelf.old) (S.load_count shelf.new) (λ said.
+        S.tells shelf.old ≡ true → IsTooLong (S.held shelf.old) (debug (debug_given job.now)) said) }
     ensures saves { S.save_count shelf.new ≡ S.save_count shelf.old }
     ensures telling { S.tells shelf.new ≡ S.tells shelf.old }
     ensures same { (n : List ℕ) → S.tells shelf.old ≡ true → S.held shelf.new n ≡ S.held shelf.old n }
-    ensures source { IfOk result (λ t. S.tells shelf.old ≡ true → Loads (S.held shelf.old (debug_given job.now).source) 1048576 t.source.items) }
-    ensures there { IfOk result (λ t. S.tells shelf.old ≡ true → IsThere (S.held shelf.old (debug_given job.now).source)) }
-    ensures script { IfOk result (λ t. S.tells shelf.old ≡ true → S.held shelf.old (debug_given job.now).script ≡ Some t.script.items) }
-    ensures input { IfOk result (λ t. S.tells shelf.old ≡ true → S.held shelf.old (debug_given job.now).input ≡ Some t.input.items) }
+    ensures source { IfOk result (λ t.
+        S.tells shelf.old ≡ true → Loads (S.held shelf.old (debug_given job.now).source) 1048576 t.source.items) }
+    ensures there { IfOk result (λ t. S.tells shelf.old ≡ true
+        → IsThere (S.held shelf.old (debug_given job.now).source)) }
+    ensures script { IfOk result (λ t.
+        S.tells shelf.old ≡ true → S.held shelf.old (debug_given job.now).script ≡ Some t.script.items) }
+    ensures input { IfOk result (λ t. S.tells shelf.old ≡ true
+        → S.held shelf.old (debug_given job.now).input ≡ Some t.input.items) }
     ensures script_within { IfOk result (λ t. length t.script.items ≤ 1048576) }
     ensures input_within { IfOk result (λ t. length t.input.items ≤ input_limit) }
 {
@@ -142,13 +148,17 @@ pub fn load_attached<S: Shelf>(
     shelf: &mut S,
     job: &Attach,
 ) -> Result<Attached, Status>
-    ensures ends { LoadEnds result (S.load_count shelf.old) (S.load_count shelf.new) (λ said. S.tells shelf.old ≡ true → IsTooLong (S.held shelf.old) (attach (attach_given job.now)) said) }
+    ensures ends { LoadEnds result (S.load_count shelf.old) (S.load_count shelf.new) (λ said.
+        S.tells shelf.old ≡ true → IsTooLong (S.held shelf.old) (attach (attach_given job.now)) said) }
     ensures saves { S.save_count shelf.new ≡ S.save_count shelf.old }
     ensures telling { S.tells shelf.new ≡ S.tells shelf.old }
     ensures same { (n : List ℕ) → S.tells shelf.old ≡ true → S.held shelf.new n ≡ S.held shelf.old n }
-    ensures image { IfOk result (λ t. S.tells shelf.old ≡ true → S.held shelf.old (attach_given job.now).image ≡ Some t.image.items) }
-    ensures script { IfOk result (λ t. S.tells shelf.old ≡ true → S.held shelf.old (attach_given job.now).script ≡ Some t.script.items) }
-    ensures input { IfOk result (λ t. S.tells shelf.old ≡ true → S.held shelf.old (attach_given job.now).input ≡ Some t.input.items) }
+    ensures image { IfOk result (λ t. S.tells shelf.old ≡ true
+        → S.held shelf.old (attach_given job.now).image ≡ Some t.image.items) }
+    ensures script { IfOk result (λ t.
+        S.tells shelf.old ≡ true → S.held shelf.old (attach_given job.now).script ≡ Some t.script.items) }
+    ensures input { IfOk result (λ t. S.tells shelf.old ≡ true
+        → S.held shelf.old (attach_given job.now).input ≡ Some t.input.items) }
     ensures image_within { IfOk result (λ t. length t.image.items ≤ image_limit) }
     ensures script_within { IfOk result (λ t. length t.script.items ≤ 1048576) }
     ensures input_within { IfOk result (λ t. length t.input.items ≤ input_limit) }
@@ -175,7 +185,8 @@ pub fn save_image<S: Shelf>(
     ensures telling { S.tells shelf.new ≡ S.tells shelf.old }
     ensures others { (n : List ℕ) → n ≢ name.now → S.tells shelf.old ≡ true → S.held shelf.new n ≡ S.held shelf.old n }
     ensures saved { OnOk result (S.tells shelf.old ≡ true → S.held shelf.new name.now ≡ Some bytes.now) }
-    ensures part { OnErr result (S.tells shelf.old ≡ true → IsKeptOrCut bytes.now (S.held shelf.old name.now) (S.held shelf.new name.now)) }
+    ensures part { OnErr result
+        (S.tells shelf.old ≡ true → IsKeptOrCut bytes.now (S.held shelf.old name.now) (S.held shelf.new name.now)) }
 {
     match shelf.save(alloc, name, bytes) {
         Ok(()) => Ok(()),

@@ -1,7 +1,7 @@
 //! The run of a script, whose lines are put out.
 
-ghost use Rattle.std.specs.Prelude.{◌≡◌, ℕ, true, List, ◌++◌, IfOk, OnOk, OnErr, map};
-ghost use Rattle.std.specs.List.{flat_map};
+ghost use Rattle.std.specs.Prelude.{◌≡◌, ◌<◌, ℕ, true, List, ◌++◌, IfOk, OnOk, OnErr, map};
+ghost use Rattle.std.specs.List.{AllByRecursion, flat_map};
 ghost use Rattle.outside.specs.Taken.{TakesPart};
 ghost use Rattle.line_form.specs.Lines.{line};
 ghost use Rattle.script_form.specs.Script.{orders};
@@ -22,8 +22,10 @@ use stop_engine::Engine;
 fn put_line<K: Sink>(alloc: Global, text: &[u8], sink: &mut K) -> Result<(), Status>
     ensures ends { WriteEnds result (K.fault_count sink.old) (K.fault_count sink.new) }
     ensures telling { K.tells sink.new ≡ K.tells sink.old }
-    ensures whole { OnOk result (K.tells sink.old ≡ true → K.taken sink.new ≡ K.taken sink.old ++ line text.now) }
-    ensures part { OnErr result (K.tells sink.old ≡ true → TakesPart (line text.now) (K.taken sink.old) (K.taken sink.new)) }
+    ensures whole { OnOk result (K.tells sink.old ≡ true
+        → K.taken sink.new ≡ K.taken sink.old ++ line text.now) }
+    ensures part { OnErr result
+        (K.tells sink.old ≡ true → TakesPart (line text.now) (K.taken sink.old) (K.taken sink.new)) }
 {
     let Ok(mut piece) = text.to_vec(alloc) else {
         return Err(Status::NoMemory);
@@ -42,8 +44,12 @@ fn put_line<K: Sink>(alloc: Global, text: &[u8], sink: &mut K) -> Result<(), Sta
 pub fn put_lines<K: Sink>(alloc: Global, lines: &[Vec<u8>], sink: &mut K) -> Result<(), Status>
     ensures ends { WriteEnds result (K.fault_count sink.old) (K.fault_count sink.new) }
     ensures telling { K.tells sink.new ≡ K.tells sink.old }
-    ensures whole { OnOk result (K.tells sink.old ≡ true → K.taken sink.new ≡ K.taken sink.old ++ flat_map line (map (λ l. l.items) lines.now)) }
-    ensures part { OnErr result (K.tells sink.old ≡ true → TakesPart (flat_map line (map (λ l. l.items) lines.now)) (K.taken sink.old) (K.taken sink.new)) }
+    ensures whole { OnOk result
+        (K.tells sink.old ≡ true
+        → K.taken sink.new ≡ K.taken sink.old ++ flat_map line (map (λ l. l.items) lines.now)) }
+    ensures part { OnErr result
+        (K.tells sink.old ≡ true
+        → TakesPart (flat_map line (map (λ l. l.items) lines.now)) (K.taken sink.old) (K.taken sink.new)) }
 {
     for text in lines {
         put_line(alloc, text, sink)?;
@@ -60,8 +66,12 @@ fn carry_out<K: Sink>(
 ) -> Result<(), Status>
     ensures ends { WriteEnds result (K.fault_count sink.old) (K.fault_count sink.new) }
     ensures telling { K.tells sink.new ≡ K.tells sink.old }
-    ensures whole { OnOk result (K.tells sink.old ≡ true → K.taken sink.new ≡ K.taken sink.old ++ flat_map line (lines_of engine.old (orders commands.now))) }
-    ensures part { OnErr result (K.tells sink.old ≡ true → TakesPart (flat_map line (lines_of engine.old (orders commands.now))) (K.taken sink.old) (K.taken sink.new)) }
+    ensures whole { OnOk result
+        (K.tells sink.old ≡ true
+        → K.taken sink.new ≡ K.taken sink.old ++ flat_map line (lines_of engine.old (orders commands.now))) }
+    ensures part { OnErr result
+        (K.tells sink.old ≡ true
+        → TakesPart (flat_map line (lines_of engine.old (orders commands.now))) (K.taken sink.old) (K.taken sink.new)) }
 {
     for command in commands {
         let Ok(lines) = engine.answer(alloc, command) else {
@@ -72,7 +82,8 @@ fn carry_out<K: Sink>(
     Ok(())
 }
 
-/// Plays a script on an image: puts each line of its transcript, with this input and at most so many instructions.
+/// Plays a script on an image: puts each line of its transcript, with this input, which is of bytes, and at most so many
+/// instructions.
 pub fn play<K: Sink>(
     alloc: Global,
     image: &Image,
@@ -82,10 +93,17 @@ pub fn play<K: Sink>(
     sink: &mut K,
 ) -> Result<(), Status>
     requires { IsImage (form image.now) }
+    ensures bytes { AllByRecursion (λ b. b < 256) input.now }
     ensures ends { WriteEnds result (K.fault_count sink.old) (K.fault_count sink.new) }
     ensures telling { K.tells sink.new ≡ K.tells sink.old }
-    ensures whole { OnOk result (K.tells sink.old ≡ true → K.taken sink.new ≡ K.taken sink.old ++ transcript_bytes (form image.now) (orders commands.now) input.now limit) }
-    ensures part { OnErr result (K.tells sink.old ≡ true → TakesPart (transcript_bytes (form image.now) (orders commands.now) input.now limit) (K.taken sink.old) (K.taken sink.new)) }
+    ensures whole { OnOk result
+        (K.tells sink.old ≡ true
+        → K.taken sink.new ≡ K.taken sink.old
+        ++ transcript_bytes (form image.now) (orders commands.now) input.now limit) }
+    ensures part { OnErr result
+        (K.tells sink.old ≡ true
+        → TakesPart (transcript_bytes (form image.now) (orders commands.now) input.now limit)
+        (K.taken sink.old) (K.taken sink.new)) }
 {
     let Ok(mut engine) = Engine::new(alloc, image, input, limit) else {
         return Err(Status::NoMemory);

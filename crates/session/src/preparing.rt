@@ -13,10 +13,9 @@ ghost use Rattle.image_form.specs.Form.{form};
 ghost use Rattle.image_form.specs.Rules.{IsImage};
 ghost use Rattle.image_form.specs.Spelling.{spelling};
 ghost use Rattle.image_build.specs.Truthful.{RunsTrue};
-ghost use Rattle.image_build.specs.Compiled.{IsCompiledImage};
 ghost use Rattle.image_build.specs.ProgramImageShown.{ShowsAll};
 ghost use Rattle.image_build.specs.Tables.{HasTablesOf};
-ghost use Rattle.session.specs.Behind.{AreLinesBehind, ComeOfProgram, ComesOfProgram, ComesOfSource};
+ghost use Rattle.session.specs.Behind.{ComesOfProgram};
 ghost use Rattle.session.specs.Front.{IsPlain};
 ghost use Rattle.session.specs.Listed.{AreLinesOf};
 ghost use Rattle.session.specs.Stages.{FrontEnds, ImageEnds, ListEnds, MakeEnds, ScriptEnds};
@@ -53,10 +52,12 @@ fn image_for(
     ensures image { IfOk result (λ o. IfSome o (λ made. IsImage (form made.image))) }
     ensures bytes { IfOk result (λ o. IfSome o (λ made. made.bytes.items ≡ spelling (form made.image))) }
     ensures runs { IfOk result (λ o. IfSome o (λ made. RunsTrue (program_view program) (form made.image))) }
-    ensures shows { map letters names.now ≡ [] → mode ≡ Slots → IfOk result (λ o. IfSome o (λ made. ShowsAll (form made.image))) }
+    ensures shows { map letters names.now ≡ [] → mode ≡ Slots
+        → IfOk result (λ o. IfSome o (λ made. ShowsAll (form made.image))) }
     ensures tables { IfOk result (λ o. IfSome o (λ made. HasTablesOf (program_view program) (form made.image))) }
-    ensures compiled { IfOk result (λ o. IfSome o (λ made. IsCompiledImage (program_view program) mode (form made.image))) }
-    ensures comes { IfOk result (λ o. IfSome o (λ made. ComesOfProgram (λ p. named p) (λ p. steps p) passes.now (program_view program) (map letters names.now) mode (form made.image))) }
+    ensures comes { IfOk result (λ o. IfSome o (λ made.
+        ComesOfProgram (λ p. named p) (λ p. steps p) passes.now (program_view program) (map letters names.now) mode
+        (form made.image))) }
     ensures left_out { IfOk result (λ o. IfNone o (¬ IsPlain (map letters names.now) mode)) }
 {
     match image_of_program(alloc, program, passes, names, mode)? {
@@ -93,8 +94,7 @@ pub fn make(
     names: &[PassName],
     mode: Mode,
 ) -> Result<Made, Status>
-    ensures ends { MakeEnds result source.now (map letters names.now) mode }
-    ensures comes { IfOk result (λ made. ComesOfSource (λ p. named p) (λ p. steps p) passes.now source.now (map letters names.now) mode (form made.image)) }
+    ensures { MakeEnds (λ p. named p) (λ p. steps p) passes.now result source.now (map letters names.now) mode }
 {
     let program = understood(alloc, source)?;
     match image_for(alloc, program, passes, names, mode) {
@@ -104,7 +104,7 @@ pub fn make(
     }
 }
 
-/// The lines of the changes that the passes of these names make in a program. None where a pass makes no unit.
+/// The lines of all changes that the passes of these names make in a program. None where a pass makes no unit.
 fn lines_for(
     alloc: Global,
     program: &Program,
@@ -113,8 +113,9 @@ fn lines_for(
 ) -> Result<Option<Vec<Vec<u8>>>, AllocError>
     requires laws { IsWellFormed (program_view program.now) }
     requires fits { Fits32 (program_view program.now) }
-    ensures lines { IfOk result (λ o. IfSome o (λ lines. AreLinesOf (program_view program.now) (map letters names.now) (map (λ line. line.items) lines.items))) }
-    ensures behind { IfOk result (λ o. IfSome o (λ lines. ComeOfProgram (λ p. named p) (λ p. steps p) passes.now (program_view program.now) (map letters names.now) (map (λ line. line.items) lines.items))) }
+    ensures { IfOk result (λ o. IfSome o (λ lines.
+        AreLinesOf (λ p. named p) (λ p. steps p) passes.now (program_view program.now) (map letters names.now)
+        (map (λ line. line.items) lines.items))) }
 {
     let Some(unit) = unit_of(alloc, program, passes, names)? else {
         return Ok(None);
@@ -130,8 +131,7 @@ pub fn list(
     passes: &[Box<dyn UnitPass>],
     names: &[PassName],
 ) -> Result<Vec<Vec<u8>>, Status>
-    ensures ends { ListEnds result source.now (map letters names.now) }
-    ensures behind { IfOk result (λ lines. AreLinesBehind (λ p. named p) (λ p. steps p) passes.now source.now (map letters names.now) (map (λ line. line.items) lines.items)) }
+    ensures { ListEnds (λ p. named p) (λ p. steps p) passes.now result source.now (map letters names.now) }
 {
     let program = understood(alloc, source)?;
     match lines_for(alloc, &program, passes, names) {

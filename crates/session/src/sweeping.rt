@@ -42,7 +42,8 @@ fn ending_line(alloc: Global, halt: Halt) -> Result<Vec<u8>, AllocError>
 
 /// The five lines of a summary.
 fn summary_lines(alloc: Global, job: &Sweep, summary: &Summary) -> Result<Vec<Vec<u8>>, AllocError>
-    ensures { IfOk result (λ lines. map (λ line. line.items) lines.items ≡ summary_lines job.now.seed job.now.size summary.now) }
+    ensures { IfOk result (λ lines.
+        map (λ line. line.items) lines.items ≡ summary_lines job.now.seed job.now.size summary.now) }
 {
     let counts = summary.counts;
     let mut lines = Vec::new(alloc);
@@ -56,7 +57,7 @@ fn summary_lines(alloc: Global, job: &Sweep, summary: &Summary) -> Result<Vec<Ve
 
 /// The summary of the run of the generated program, with the passes and the homes that are the default.
 fn swept(alloc: Global, job: &Sweep, passes: &[Box<dyn UnitPass>]) -> Result<Summary, Status>
-    ensures { SweepEnds result (given.sweep_given job.now) }
+    ensures { SweepEnds (λ p. named p) (λ p. steps p) passes.now result (given.sweep_given job.now) }
 {
     let Ok(text) = source(alloc, job.seed, job.size) else {
         return Err(Status::NoMemory);
@@ -78,7 +79,27 @@ pub fn sweep<K: Sink>(
     passes: &[Box<dyn UnitPass>],
     sink: &mut K,
 ) -> Status
-    ensures { (loads saves : ℕ) (shelf_tells : Bool) (held : List ℕ → Option (List ℕ)) → Ends (given.sweep (given.sweep_given job.now)) (record { loads = loads; saves = saves; puts = K.fault_count sink.old; shelf_tells = shelf_tells; held = held; sink_tells = K.tells sink.old; taken = K.taken sink.old }) result (record { loads = loads; saves = saves; puts = K.fault_count sink.new; shelf_tells = shelf_tells; held = held; sink_tells = K.tells sink.new; taken = K.taken sink.new }) }
+    ensures { (loads saves : ℕ) (shelf_tells : Bool) (held : List ℕ → Option (List ℕ)) →
+        Ends (λ p. named p) (λ p. steps p) passes.now (given.sweep (given.sweep_given job.now))
+        (record {
+          loads = loads;
+          saves = saves;
+          puts = K.fault_count sink.old;
+          shelf_tells = shelf_tells;
+          held = held;
+          sink_tells = K.tells sink.old;
+          taken = K.taken sink.old;
+        })
+        result
+        (record {
+          loads = loads;
+          saves = saves;
+          puts = K.fault_count sink.new;
+          shelf_tells = shelf_tells;
+          held = held;
+          sink_tells = K.tells sink.new;
+          taken = K.taken sink.new;
+        }) }
 {
     let summary = match swept(alloc, job, passes) {
         Ok(summary) => summary,

@@ -6,7 +6,6 @@ ghost use Rattle.outside.specs.Counts.{RoseOrStands};
 ghost use Rattle.line_form.specs.declared.status.Status.TheVariants.{Done, Usage, SourceRefused, ScriptRefused, ReadFault, WriteFault, NoMemory, ImageRefused, TooLong};
 ghost use Rattle.debug_records.specs.declared.code.Code.{Code};
 ghost use Rattle.command_line.specs.Job.{JobGiven, job_given};
-ghost use Rattle.session.specs.Behind.{HasListed, HasSavedComing};
 ghost use Rattle.session.specs.Served.{AreNotServed, AreServed, SavesTo};
 ghost use Rattle.session.specs.Limits.{AreWithin, IsTooLong};
 ghost use Rattle.session.specs.Causes.{SourceIsRefused, ImageIsRefused, ScriptIsRefused, AreAccepted, HasLoaded, IsEarly, IsCut, IsLeftOut};
@@ -33,10 +32,26 @@ fn serve<S: Shelf, K: Sink>(
     shelf: &mut S,
     sink: &mut K,
 ) -> Status
-    ensures ends { Ends (job_given job.now) (record { loads = S.load_count shelf.old; saves = S.save_count shelf.old; puts = K.fault_count sink.old; shelf_tells = S.tells shelf.old; held = S.held shelf.old; sink_tells = K.tells sink.old; taken = K.taken sink.old }) result (record { loads = S.load_count shelf.new; saves = S.save_count shelf.new; puts = K.fault_count sink.new; shelf_tells = S.tells shelf.new; held = S.held shelf.new; sink_tells = K.tells sink.new; taken = K.taken sink.new }) }
-    ensures behind { result ≡ Done → S.tells shelf.old ≡ true → HasSavedComing (λ p. named p) (λ p. steps p) passes.now (S.held shelf.old) (S.held shelf.new) (job_given job.now) }
-    ensures behind_whole { result ≡ WriteFault → ¬ RoseOrStands (S.save_count shelf.old) (S.save_count shelf.new) → S.tells shelf.old ≡ true → HasSavedComing (λ p. named p) (λ p. steps p) passes.now (S.held shelf.old) (S.held shelf.new) (job_given job.now) }
-    ensures listed { result ≡ Done → S.tells shelf.old ≡ true → K.tells sink.old ≡ true → HasListed (λ p. named p) (λ p. steps p) passes.now (S.held shelf.old) (job_given job.now) (K.taken sink.old) (K.taken sink.new) }
+    ensures { Ends (λ p. named p) (λ p. steps p) passes.now (job_given job.now)
+        (record {
+          loads = S.load_count shelf.old;
+          saves = S.save_count shelf.old;
+          puts = K.fault_count sink.old;
+          shelf_tells = S.tells shelf.old;
+          held = S.held shelf.old;
+          sink_tells = K.tells sink.old;
+          taken = K.taken sink.old;
+        })
+        result
+        (record {
+          loads = S.load_count shelf.new;
+          saves = S.save_count shelf.new;
+          puts = K.fault_count sink.new;
+          shelf_tells = S.tells shelf.new;
+          held = S.held shelf.new;
+          sink_tells = K.tells sink.new;
+          taken = K.taken sink.new;
+        }) }
 {
     match job {
         Job::Debug(job) => debug(alloc, job, passes, shelf, sink),
@@ -70,42 +85,75 @@ pub fn session<S: Shelf, K: Sink>(
 ) -> Status
     // Each fault comes exactly where its cause holds, in the order of the stages.
     ensures usage { result ≡ Usage → AreNotServed (λ p. named p) passes.now (map string_bytes words.now) }
-    ensures usage_only { AreNotServed (λ p. named p) passes.now (map string_bytes words.now) → (result ≡ Usage) ⊎ (result ≡ NoMemory) }
+    ensures usage_only { AreNotServed (λ p. named p) passes.now (map string_bytes words.now)
+        → (result ≡ Usage) ⊎ (result ≡ NoMemory) }
     ensures read { result ≡ ReadFault → RoseOrStands (S.load_count shelf.old) (S.load_count shelf.new) }
     ensures read_only { result ≢ ReadFault → S.load_count shelf.new ≡ S.load_count shelf.old }
-    ensures too_long { (asked : JobGiven) (name : String Global) → AreServed (λ p. named p) passes.now (map string_bytes words.now) asked → result ≡ TooLong name → S.tells shelf.old ≡ true → IsTooLong (S.held shelf.old) asked (string_bytes name) }
-    ensures within { (asked : JobGiven) → AreServed (λ p. named p) passes.now (map string_bytes words.now) asked → HasLoaded result → S.tells shelf.old ≡ true → AreWithin (S.held shelf.old) asked }
-    ensures image { (asked : JobGiven) (code : Code) (offset : ℕ) → AreServed (λ p. named p) passes.now (map string_bytes words.now) asked → result ≡ ImageRefused code offset → S.tells shelf.old ≡ true → ImageIsRefused (S.held shelf.old) asked code offset }
-    ensures source { (asked : JobGiven) (code : Code) (line : ℕ) → AreServed (λ p. named p) passes.now (map string_bytes words.now) asked → result ≡ SourceRefused code line → S.tells shelf.old ≡ true → SourceIsRefused (S.held shelf.old) asked code line }
-    ensures script { (asked : JobGiven) (code : Code) (line : ℕ) → AreServed (λ p. named p) passes.now (map string_bytes words.now) asked → result ≡ ScriptRefused code line → S.tells shelf.old ≡ true → ScriptIsRefused (S.held shelf.old) asked code line }
-    ensures accepted { (asked : JobGiven) → AreServed (λ p. named p) passes.now (map string_bytes words.now) asked → (result ≡ Done) ⊎ (result ≡ WriteFault) → S.tells shelf.old ≡ true → AreAccepted (S.held shelf.old) asked }
-    ensures write { result ≡ WriteFault → RoseOrStands (S.save_count shelf.old) (S.save_count shelf.new) ⊎ RoseOrStands (K.fault_count sink.old) (K.fault_count sink.new) }
-    ensures write_only { result ≢ WriteFault → (S.save_count shelf.new ≡ S.save_count shelf.old) × (K.fault_count sink.new ≡ K.fault_count sink.old) }
-    ensures complete { (asked : JobGiven) → AreServed (λ p. named p) passes.now (map string_bytes words.now) asked → S.tells shelf.old ≡ true → AreWithin (S.held shelf.old) asked → AreAccepted (S.held shelf.old) asked
-        → ¬ RoseOrStands (S.load_count shelf.old) (S.load_count shelf.new) → ¬ RoseOrStands (S.save_count shelf.old) (S.save_count shelf.new) → ¬ RoseOrStands (K.fault_count sink.old) (K.fault_count sink.new) → (result ≡ Done) ⊎ ((result ≡ NoMemory) ⊎ IsLeftOut (S.held shelf.old) asked result) }
+    ensures too_long { (asked : JobGiven) (name : String Global)
+        → AreServed (λ p. named p) passes.now (map string_bytes words.now) asked → result ≡ TooLong name
+        → S.tells shelf.old ≡ true → IsTooLong (S.held shelf.old) asked (string_bytes name) }
+    ensures within { (asked : JobGiven) → AreServed (λ p. named p) passes.now (map string_bytes words.now) asked
+        → HasLoaded result → S.tells shelf.old ≡ true → AreWithin (S.held shelf.old) asked }
+    ensures image { (asked : JobGiven) (code : Code) (offset : ℕ)
+        → AreServed (λ p. named p) passes.now (map string_bytes words.now) asked → result ≡ ImageRefused code offset
+        → S.tells shelf.old ≡ true → ImageIsRefused (S.held shelf.old) asked code offset }
+    ensures source { (asked : JobGiven) (code : Code) (line : ℕ)
+        → AreServed (λ p. named p) passes.now (map string_bytes words.now) asked → result ≡ SourceRefused code line
+        → S.tells shelf.old ≡ true → SourceIsRefused (S.held shelf.old) asked code line }
+    ensures script { (asked : JobGiven) (code : Code) (line : ℕ)
+        → AreServed (λ p. named p) passes.now (map string_bytes words.now) asked → result ≡ ScriptRefused code line
+        → S.tells shelf.old ≡ true → ScriptIsRefused (S.held shelf.old) asked code line }
+    ensures accepted { (asked : JobGiven) → AreServed (λ p. named p) passes.now (map string_bytes words.now) asked
+        → (result ≡ Done) ⊎ (result ≡ WriteFault) → S.tells shelf.old ≡ true → AreAccepted (S.held shelf.old) asked }
+    ensures write { result ≡ WriteFault
+        → RoseOrStands (S.save_count shelf.old) (S.save_count shelf.new)
+        ⊎ RoseOrStands (K.fault_count sink.old) (K.fault_count sink.new) }
+    ensures write_only { result ≢ WriteFault
+        → (S.save_count shelf.new ≡ S.save_count shelf.old) × (K.fault_count sink.new ≡ K.fault_count sink.old) }
+    ensures complete { (asked : JobGiven) → AreServed (λ p. named p) passes.now (map string_bytes words.now) asked
+        → S.tells shelf.old ≡ true → AreWithin (S.held shelf.old) asked → AreAccepted (S.held shelf.old) asked
+        → ¬ RoseOrStands (S.load_count shelf.old) (S.load_count shelf.new)
+        → ¬ RoseOrStands (S.save_count shelf.old) (S.save_count shelf.new)
+        → ¬ RoseOrStands (K.fault_count sink.old) (K.fault_count sink.new)
+        → (result ≡ Done) ⊎ ((result ≡ NoMemory) ⊎ IsLeftOut (S.held shelf.old) asked result) }
 
-    // What stays: before anything was saved or put out nothing changes, and only the image's name of a `debug` or a `compile` ever does.
+    // What stays: before anything was saved or put out nothing changes, and only the image's name of a `debug` or a
+    // `compile` ever does.
     ensures kept { IsEarly result → S.tells shelf.old ≡ true → (n : List ℕ) → S.held shelf.new n ≡ S.held shelf.old n }
     ensures nothing { IsEarly result → K.tells sink.old ≡ true → K.taken sink.new ≡ K.taken sink.old }
-    ensures others { (asked : JobGiven) → AreServed (λ p. named p) passes.now (map string_bytes words.now) asked → S.tells shelf.old ≡ true → (n : List ℕ) → ¬ SavesTo asked n → S.held shelf.new n ≡ S.held shelf.old n }
-    ensures unasked { AreNotServed (λ p. named p) passes.now (map string_bytes words.now) → S.tells shelf.old ≡ true → (n : List ℕ) → S.held shelf.new n ≡ S.held shelf.old n }
-    ensures silent { AreNotServed (λ p. named p) passes.now (map string_bytes words.now) → K.tells sink.old ≡ true → K.taken sink.new ≡ K.taken sink.old }
+    ensures others { (asked : JobGiven) → AreServed (λ p. named p) passes.now (map string_bytes words.now) asked
+        → S.tells shelf.old ≡ true → (n : List ℕ) → ¬ SavesTo asked n → S.held shelf.new n ≡ S.held shelf.old n }
+    ensures unasked { AreNotServed (λ p. named p) passes.now (map string_bytes words.now)
+        → S.tells shelf.old ≡ true → (n : List ℕ) → S.held shelf.new n ≡ S.held shelf.old n }
+    ensures silent { AreNotServed (λ p. named p) passes.now (map string_bytes words.now) → K.tells sink.old ≡ true
+        → K.taken sink.new ≡ K.taken sink.old }
 
-    // Under the name of the image a `debug` or a `compile` that is done, or that failed at a line and not at the save, leaves an image that is
-    // truthful to the source, whatever the list of passes and the mode, and one that is cut off the first part of such an image, or what stood there.
-    ensures saved { (asked : JobGiven) → AreServed (λ p. named p) passes.now (map string_bytes words.now) asked → result ≡ Done → S.tells shelf.old ≡ true → HasSaved (S.held shelf.old) (S.held shelf.new) asked }
-    ensures whole { (asked : JobGiven) → AreServed (λ p. named p) passes.now (map string_bytes words.now) asked → result ≡ WriteFault → ¬ RoseOrStands (S.save_count shelf.old) (S.save_count shelf.new) → S.tells shelf.old ≡ true → HasSaved (S.held shelf.old) (S.held shelf.new) asked }
-    ensures left { (asked : JobGiven) → AreServed (λ p. named p) passes.now (map string_bytes words.now) asked → IsCut result → S.tells shelf.old ≡ true → HasLeft (S.held shelf.old) (S.held shelf.new) asked }
+    // Under the name of the image a `debug` or a `compile` that is done, or that failed at a line and not at the save,
+    // leaves an image that is truthful to the source and comes of it behind just the passes that the words name, each
+    // in its turn by one step; and one that is cut off the first part of such an image, or what stood there.
+    ensures saved { (asked : JobGiven) → AreServed (λ p. named p) passes.now (map string_bytes words.now) asked
+        → result ≡ Done → S.tells shelf.old ≡ true
+        → HasSaved (λ p. named p) (λ p. steps p) passes.now (S.held shelf.old) (S.held shelf.new) asked }
+    ensures whole { (asked : JobGiven) → AreServed (λ p. named p) passes.now (map string_bytes words.now) asked
+        → result ≡ WriteFault → ¬ RoseOrStands (S.save_count shelf.old) (S.save_count shelf.new)
+        → S.tells shelf.old ≡ true
+        → HasSaved (λ p. named p) (λ p. steps p) passes.now (S.held shelf.old) (S.held shelf.new) asked }
+    ensures left { (asked : JobGiven) → AreServed (λ p. named p) passes.now (map string_bytes words.now) asked
+        → IsCut result → S.tells shelf.old ≡ true
+        → HasLeft (λ p. named p) (λ p. steps p) passes.now (S.held shelf.old) (S.held shelf.new) asked }
 
-    // A session that is cut off has put out the first part of the transcript; one that is done has put out the whole transcript of the
-    // image, and the image that a `debug` saved is truthful to the source.
-    ensures part { (asked : JobGiven) → AreServed (λ p. named p) passes.now (map string_bytes words.now) asked → IsCut result → S.tells shelf.old ≡ true → K.tells sink.old ≡ true → TookPart (S.held shelf.old) (S.held shelf.new) asked (K.taken sink.old) (K.taken sink.new) }
-    ensures done { (asked : JobGiven) → AreServed (λ p. named p) passes.now (map string_bytes words.now) asked → result ≡ Done → S.tells shelf.old ≡ true → K.tells sink.old ≡ true → IsDone (S.held shelf.old) (S.held shelf.new) asked (K.taken sink.old) (K.taken sink.new) }
-
-    // What was saved, and what `passes` puts out, comes of the source behind just the passes that the words name, each in its turn by one step.
-    ensures behind { (asked : JobGiven) → AreServed (λ p. named p) passes.now (map string_bytes words.now) asked → result ≡ Done → S.tells shelf.old ≡ true → HasSavedComing (λ p. named p) (λ p. steps p) passes.now (S.held shelf.old) (S.held shelf.new) asked }
-    ensures behind_whole { (asked : JobGiven) → AreServed (λ p. named p) passes.now (map string_bytes words.now) asked → result ≡ WriteFault → ¬ RoseOrStands (S.save_count shelf.old) (S.save_count shelf.new) → S.tells shelf.old ≡ true → HasSavedComing (λ p. named p) (λ p. steps p) passes.now (S.held shelf.old) (S.held shelf.new) asked }
-    ensures listed { (asked : JobGiven) → AreServed (λ p. named p) passes.now (map string_bytes words.now) asked → result ≡ Done → S.tells shelf.old ≡ true → K.tells sink.old ≡ true → HasListed (λ p. named p) (λ p. steps p) passes.now (S.held shelf.old) asked (K.taken sink.old) (K.taken sink.new) }
+    // A session that is cut off has put out the first part of what its job prints; one that is done all of it: the
+    // transcript of the image, which is the one that a `debug` saved; the lines of all changes that the passes of a
+    // `passes` make, each in its turn by one step; the summary of an image of the generated source behind the default
+    // passes.
+    ensures part { (asked : JobGiven) → AreServed (λ p. named p) passes.now (map string_bytes words.now) asked
+        → IsCut result → S.tells shelf.old ≡ true → K.tells sink.old ≡ true
+        → TookPart (λ p. named p) (λ p. steps p) passes.now (S.held shelf.old) (S.held shelf.new) asked
+        (K.taken sink.old) (K.taken sink.new) }
+    ensures done { (asked : JobGiven) → AreServed (λ p. named p) passes.now (map string_bytes words.now) asked
+        → result ≡ Done → S.tells shelf.old ≡ true → K.tells sink.old ≡ true
+        → IsDone (λ p. named p) (λ p. steps p) passes.now (S.held shelf.old) (S.held shelf.new) asked
+        (K.taken sink.old) (K.taken sink.new) }
 {
     match asked(alloc, words, passes) {
         Ok(job) => serve(alloc, &job, passes, shelf, sink),

@@ -2,15 +2,14 @@ use Rattle.std.proofs.Common.{◌≡◌, sym, subst, ◌∙◌, refl, [], append
 use Rattle.outside.specs.Held.{Loads}
 use Rattle.command_line.specs.Job.{CompileGiven, compile, compile_given}
 use Rattle.session.specs.Served.{Saving}
-use Rattle.session.proofs.Behind.{coming_saved}
 use Rattle.session.proofs.Sessions.{source_refused, source_alone_accepted, image_made, nothing_left, part_left, whole_saved}
 use Rattle.session.proofs.compiling.compile.Goals as goal
 
 abbrev saving : CompileGiven → Saving
 saving given = record { source = given.source; passes = given.passes; mode = given.mode; image = given.image }
 
-pub returns-in-Err-make-clause-ends : goal.returns-in-Err-make-clause-ends
-returns-in-Err-make-clause-ends g c = λ puts tells taken. record {
+pub returns-in-Err-make : goal.returns-in-Err-make
+returns-in-Err-make g c = λ puts tells taken. record {
   caused = record {
     usage = search rules;
     read = search rules;
@@ -21,7 +20,7 @@ returns-in-Err-make-clause-ends g c = λ puts tells taken. record {
     source = λ code at e told.
         let name : c.as_str.result.now ≡ (compile_given c.args.job.now).source = search rules in
         let loads = subst (λ n. Loads (g.S.Shelf.held c.args.shelf.now n) 1048576 c.deref.result.now) name (subst (Loads (g.S.Shelf.held c.args.shelf.now c.as_str.result.now) 1048576) (sym c.deref.ensures.value) (c.in-Ok.ensures.value told)) in
-        source_refused c.in-Err-make.status code at c.deref.result.now (compile_given c.args.job.now).passes (compile_given c.args.job.now).mode (g.S.Shelf.held c.args.shelf.now (compile_given c.args.job.now).source) e c.in-Err-make.ensures.ends loads;
+        source_refused c.in-Err-make.status code at c.deref.result.now (compile_given c.args.job.now).passes (compile_given c.args.job.now).mode (g.S.Shelf.held c.args.shelf.now (compile_given c.args.job.now).source) e c.in-Err-make.ensures loads;
     script = search rules;
     accepted = search rules;
     write = search rules;
@@ -31,13 +30,13 @@ returns-in-Err-make-clause-ends g c = λ puts tells taken. record {
   image = record {
     saved = search rules;
     whole = search rules;
-    left = λ cut told. nothing_left (g.S.Shelf.held c.args.shelf.now) (g.S.Shelf.held c.load_source.new.shelf) (compile (compile_given c.args.job.now)) (λ n. c.load_source.ensures.same n told);
+    left = λ cut told. nothing_left (λ p. (goal.UnitPass-dyn g (p.vtable, p.value)).named p.value) (λ p. (goal.UnitPass-dyn g (p.vtable, p.value)).steps p.value) c.args.passes.now (g.S.Shelf.held c.args.shelf.now) (g.S.Shelf.held c.load_source.new.shelf) (compile (compile_given c.args.job.now)) (λ n. c.load_source.ensures.same n told);
   };
   transcript = search rules;
 }
 
-pub returns-in-Ok-save_image-clause-ends : goal.returns-in-Ok-save_image-clause-ends
-returns-in-Ok-save_image-clause-ends g c = λ puts tells taken. record {
+pub returns-in-Ok-save_image : goal.returns-in-Ok-save_image
+returns-in-Ok-save_image g c = λ puts tells taken. record {
   caused = record {
     usage = search rules;
     read = search rules;
@@ -50,7 +49,7 @@ returns-in-Ok-save_image-clause-ends g c = λ puts tells taken. record {
     accepted = λ e told.
         let name : c.as_str.result.now ≡ (compile_given c.args.job.now).source = search rules in
         let loads = subst (λ n. Loads (g.S.Shelf.held c.args.shelf.now n) 1048576 c.deref.result.now) name (subst (Loads (g.S.Shelf.held c.args.shelf.now c.as_str.result.now) 1048576) (sym c.deref.ensures.value) (c.in-Ok.ensures.value told)) in
-        source_alone_accepted c.deref.result.now c.in-Ok-make.made (g.S.Shelf.held c.args.shelf.now) (compile_given c.args.job.now) c.in-Ok-make.ensures.ends loads;
+        source_alone_accepted c.deref.result.now c.in-Ok-make.made (g.S.Shelf.held c.args.shelf.now) (compile_given c.args.job.now) c.in-Ok-make.ensures loads;
     write = search rules;
     write_only = search rules;
   };
@@ -60,7 +59,7 @@ returns-in-Ok-save_image-clause-ends g c = λ puts tells taken. record {
         let name : c.as_str.result.now ≡ (compile_given c.args.job.now).source = search rules in
         let loads = subst (λ n. Loads (g.S.Shelf.held c.args.shelf.now n) 1048576 c.deref.result.now) name (subst (Loads (g.S.Shelf.held c.args.shelf.now c.as_str.result.now) 1048576) (sym c.deref.ensures.value) (c.in-Ok.ensures.value told)) in
         let image : c.as_str-2.result.now ≡ (compile_given c.args.job.now).image = search rules in
-        let made = image_made (g.S.Shelf.held c.args.shelf.now) (saving (compile_given c.args.job.now)) c.deref.result.now c.deref-2.result.now c.in-Ok-make.made loads c.in-Ok-make.ensures.ends c.deref-2.ensures.value in
+        let made = image_made (g.S.Shelf.held c.args.shelf.now) (saving (compile_given c.args.job.now)) c.deref.result.now c.deref-2.result.now c.in-Ok-make.made loads c.in-Ok-make.ensures c.deref-2.ensures.value in
         whole_saved (g.S.Shelf.held c.args.shelf.now) (g.S.Shelf.held c.save_image.new.shelf) (saving (compile_given c.args.job.now)) c.as_str-2.result.now c.deref-2.result.now made image (c.in-Ok-save_image.ensures.saved (c.in-Ok.ensures.telling ∙ told));
     whole = search rules;
     left = search rules;
@@ -71,8 +70,8 @@ returns-in-Ok-save_image-clause-ends g c = λ puts tells taken. record {
   };
 }
 
-pub returns-clause-ends : goal.returns-clause-ends
-returns-clause-ends g c = λ puts tells taken. record {
+pub returns : goal.returns
+returns g c = λ puts tells taken. record {
   caused = record {
     usage = search rules;
     read = search rules;
@@ -85,7 +84,7 @@ returns-clause-ends g c = λ puts tells taken. record {
     accepted = λ e told.
         let name : c.as_str.result.now ≡ (compile_given c.args.job.now).source = search rules in
         let loads = subst (λ n. Loads (g.S.Shelf.held c.args.shelf.now n) 1048576 c.deref.result.now) name (subst (Loads (g.S.Shelf.held c.args.shelf.now c.as_str.result.now) 1048576) (sym c.deref.ensures.value) (c.in-Ok.ensures.value told)) in
-        source_alone_accepted c.deref.result.now c.in-Ok-make.made (g.S.Shelf.held c.args.shelf.now) (compile_given c.args.job.now) c.in-Ok-make.ensures.ends loads;
+        source_alone_accepted c.deref.result.now c.in-Ok-make.made (g.S.Shelf.held c.args.shelf.now) (compile_given c.args.job.now) c.in-Ok-make.ensures loads;
     write = search rules;
     write_only = search rules;
   };
@@ -97,17 +96,9 @@ returns-clause-ends g c = λ puts tells taken. record {
         let name : c.as_str.result.now ≡ (compile_given c.args.job.now).source = search rules in
         let loads = subst (λ n. Loads (g.S.Shelf.held c.args.shelf.now n) 1048576 c.deref.result.now) name (subst (Loads (g.S.Shelf.held c.args.shelf.now c.as_str.result.now) 1048576) (sym c.deref.ensures.value) (c.in-Ok.ensures.value told)) in
         let image : c.as_str-2.result.now ≡ (compile_given c.args.job.now).image = search rules in
-        let made = image_made (g.S.Shelf.held c.args.shelf.now) (saving (compile_given c.args.job.now)) c.deref.result.now c.deref-2.result.now c.in-Ok-make.made loads c.in-Ok-make.ensures.ends c.deref-2.ensures.value in
+        let made = image_made (g.S.Shelf.held c.args.shelf.now) (saving (compile_given c.args.job.now)) c.deref.result.now c.deref-2.result.now c.in-Ok-make.made loads c.in-Ok-make.ensures c.deref-2.ensures.value in
         part_left (g.S.Shelf.held c.args.shelf.now) (g.S.Shelf.held c.load_source.new.shelf) (g.S.Shelf.held c.save_image.new.shelf) (saving (compile_given c.args.job.now)) c.as_str-2.result.now c.deref-2.result.now
         made (c.load_source.ensures.same c.as_str-2.result.now told) image (c.in-Err-save_image.ensures.part (c.in-Ok.ensures.telling ∙ told));
   };
   transcript = search rules;
 }
-
-pub returns-in-Ok-save_image-clause-behind : goal.returns-in-Ok-save_image-clause-behind
-returns-in-Ok-save_image-clause-behind g c = λ e told.
-    let name : c.as_str.result.now ≡ (compile_given c.args.job.now).source = search rules in
-    let loads = subst (λ n. Loads (g.S.Shelf.held c.args.shelf.now n) 1048576 c.deref.result.now) name (subst (Loads (g.S.Shelf.held c.args.shelf.now c.as_str.result.now) 1048576) (sym c.deref.ensures.value) (c.in-Ok.ensures.value told)) in
-    let image : c.as_str-2.result.now ≡ (compile_given c.args.job.now).image = search rules in
-    coming_saved (λ p. (goal.UnitPass-dyn g (p.vtable, p.value)).named p.value) (λ p. (goal.UnitPass-dyn g (p.vtable, p.value)).steps p.value) c.args.passes.now (g.S.Shelf.held c.args.shelf.now) (g.S.Shelf.held c.save_image.new.shelf) (saving (compile_given c.args.job.now)) c.deref.result.now c.as_str-2.result.now c.deref-2.result.now c.in-Ok-make.made
-    loads c.in-Ok-make.ensures.ends c.in-Ok-make.ensures.comes image c.deref-2.ensures.value (c.in-Ok-save_image.ensures.saved (c.in-Ok.ensures.telling ∙ told))

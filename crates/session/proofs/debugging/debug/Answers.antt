@@ -1,4 +1,5 @@
-use Rattle.std.proofs.Common.{◌≡◌, ◌++◌, inr, sym, ap, ◌∙◌, subst, Some, rules}
+use Rattle.std.proofs.Common.{◌≡◌, ◌<◌, ◌++◌, inr, sym, ap, ◌∙◌, subst, Some, rules}
+use Rattle.std.specs.List.{AllByRecursion}
 use Rattle.image_form.specs.Form.{form}
 use Rattle.outside.specs.Held.{Loads}
 use Rattle.outside.specs.Taken.{TakesPart}
@@ -6,27 +7,26 @@ use Rattle.script_form.specs.Script.{orders}
 use Rattle.stop_engine.specs.Transcript.{transcript_bytes}
 use Rattle.command_line.specs.Job.{DebugGiven, debug, debug_given}
 use Rattle.session.specs.Served.{Saving}
-use Rattle.session.proofs.Behind.{coming_saved}
 use Rattle.session.proofs.Sessions.{source_refused, script_refused, both_accepted, debugged, image_made, nothing_left, part_left, whole_left, whole_saved, played_same}
 use Rattle.session.proofs.debugging.debug.Goals as goal
 
 abbrev saving : DebugGiven → Saving
 saving given = record { source = given.source; passes = given.passes; mode = given.mode; image = given.image }
 
-pub returns-in-Err-clause-ends : goal.returns-in-Err-clause-ends
-returns-in-Err-clause-ends g c = record {
+pub returns-in-Err : goal.returns-in-Err
+returns-in-Err g c = record {
   caused = search rules;
   stays = search rules;
   image = record {
     saved = search rules;
     whole = search rules;
-    left = λ cut told. nothing_left (g.S.Shelf.held c.args.shelf.now) (g.S.Shelf.held c.load_texts.new.shelf) (debug (debug_given c.args.job.now)) (λ n. c.load_texts.ensures.same n told);
+    left = λ cut told. nothing_left (λ p. (goal.UnitPass-dyn g (p.vtable, p.value)).named p.value) (λ p. (goal.UnitPass-dyn g (p.vtable, p.value)).steps p.value) c.args.passes.now (g.S.Shelf.held c.args.shelf.now) (g.S.Shelf.held c.load_texts.new.shelf) (debug (debug_given c.args.job.now)) (λ n. c.load_texts.ensures.same n told);
   };
   transcript = search rules;
 }
 
-pub returns-in-Err-make-clause-ends : goal.returns-in-Err-make-clause-ends
-returns-in-Err-make-clause-ends g c = record {
+pub returns-in-Err-make : goal.returns-in-Err-make
+returns-in-Err-make g c = record {
   caused = record {
     usage = search rules;
     read = search rules;
@@ -35,7 +35,7 @@ returns-in-Err-make-clause-ends g c = record {
     within = search rules;
     image = search rules;
     source = λ code at e told.
-        source_refused c.in-Err-make.status code at c.deref.result.now (debug_given c.args.job.now).passes (debug_given c.args.job.now).mode (g.S.Shelf.held c.args.shelf.now (debug_given c.args.job.now).source) e c.in-Err-make.ensures.ends
+        source_refused c.in-Err-make.status code at c.deref.result.now (debug_given c.args.job.now).passes (debug_given c.args.job.now).mode (g.S.Shelf.held c.args.shelf.now (debug_given c.args.job.now).source) e c.in-Err-make.ensures
         (subst (Loads (g.S.Shelf.held c.args.shelf.now (debug_given c.args.job.now).source) 1048576) (sym c.deref.ensures.value) (c.in-Ok.ensures.source told));
     script = search rules;
     accepted = search rules;
@@ -46,13 +46,13 @@ returns-in-Err-make-clause-ends g c = record {
   image = record {
     saved = search rules;
     whole = search rules;
-    left = λ cut told. nothing_left (g.S.Shelf.held c.args.shelf.now) (g.S.Shelf.held c.load_texts.new.shelf) (debug (debug_given c.args.job.now)) (λ n. c.load_texts.ensures.same n told);
+    left = λ cut told. nothing_left (λ p. (goal.UnitPass-dyn g (p.vtable, p.value)).named p.value) (λ p. (goal.UnitPass-dyn g (p.vtable, p.value)).steps p.value) c.args.passes.now (g.S.Shelf.held c.args.shelf.now) (g.S.Shelf.held c.load_texts.new.shelf) (debug (debug_given c.args.job.now)) (λ n. c.load_texts.ensures.same n told);
   };
   transcript = search rules;
 }
 
-pub returns-in-Err-read_script-clause-ends : goal.returns-in-Err-read_script-clause-ends
-returns-in-Err-read_script-clause-ends g c = record {
+pub returns-in-Err-read_script : goal.returns-in-Err-read_script
+returns-in-Err-read_script g c = record {
   caused = record {
     usage = search rules;
     read = search rules;
@@ -62,7 +62,7 @@ returns-in-Err-read_script-clause-ends g c = record {
     image = search rules;
     source = search rules;
     script = λ code at e told.
-        script_refused c.in-Err-read_script.status code at c.deref.result.now c.deref-2.result.now c.in-Ok-make.made (g.S.Shelf.held c.args.shelf.now) (debug_given c.args.job.now) e c.in-Ok-make.ensures.ends c.in-Err-read_script.ensures
+        script_refused c.in-Err-read_script.status code at c.deref.result.now c.deref-2.result.now c.in-Ok-make.made (g.S.Shelf.held c.args.shelf.now) (debug_given c.args.job.now) e c.in-Ok-make.ensures c.in-Err-read_script.ensures
         (subst (Loads (g.S.Shelf.held c.args.shelf.now (debug_given c.args.job.now).source) 1048576) (sym c.deref.ensures.value) (c.in-Ok.ensures.source told))
         (c.in-Ok.ensures.script told ∙ ap Some (sym c.deref-2.ensures.value));
     accepted = search rules;
@@ -73,13 +73,13 @@ returns-in-Err-read_script-clause-ends g c = record {
   image = record {
     saved = search rules;
     whole = search rules;
-    left = λ cut told. nothing_left (g.S.Shelf.held c.args.shelf.now) (g.S.Shelf.held c.load_texts.new.shelf) (debug (debug_given c.args.job.now)) (λ n. c.load_texts.ensures.same n told);
+    left = λ cut told. nothing_left (λ p. (goal.UnitPass-dyn g (p.vtable, p.value)).named p.value) (λ p. (goal.UnitPass-dyn g (p.vtable, p.value)).steps p.value) c.args.passes.now (g.S.Shelf.held c.args.shelf.now) (g.S.Shelf.held c.load_texts.new.shelf) (debug (debug_given c.args.job.now)) (λ n. c.load_texts.ensures.same n told);
   };
   transcript = search rules;
 }
 
-pub returns-in-Err-save_image-clause-ends : goal.returns-in-Err-save_image-clause-ends
-returns-in-Err-save_image-clause-ends g c = record {
+pub returns-in-Err-save_image : goal.returns-in-Err-save_image
+returns-in-Err-save_image g c = record {
   caused = record {
     usage = search rules;
     read = search rules;
@@ -90,7 +90,7 @@ returns-in-Err-save_image-clause-ends g c = record {
     source = search rules;
     script = search rules;
     accepted = λ e told.
-        both_accepted c.deref.result.now c.deref-2.result.now c.in-Ok-make.made c.in-Ok-read_script.commands (g.S.Shelf.held c.args.shelf.now) (debug_given c.args.job.now) c.in-Ok-make.ensures.ends c.in-Ok-read_script.ensures
+        both_accepted c.deref.result.now c.deref-2.result.now c.in-Ok-make.made c.in-Ok-read_script.commands (g.S.Shelf.held c.args.shelf.now) (debug_given c.args.job.now) c.in-Ok-make.ensures c.in-Ok-read_script.ensures
         (subst (Loads (g.S.Shelf.held c.args.shelf.now (debug_given c.args.job.now).source) 1048576) (sym c.deref.ensures.value) (c.in-Ok.ensures.source told))
         (c.in-Ok.ensures.script told ∙ ap Some (sym c.deref-2.ensures.value));
     write = search rules;
@@ -104,15 +104,15 @@ returns-in-Err-save_image-clause-ends g c = record {
         let image : c.as_str.result.now ≡ (debug_given c.args.job.now).image = search rules in
         let made = image_made (g.S.Shelf.held c.args.shelf.now) (saving (debug_given c.args.job.now)) c.deref.result.now c.deref-3.result.now c.in-Ok-make.made
         (subst (Loads (g.S.Shelf.held c.args.shelf.now (debug_given c.args.job.now).source) 1048576) (sym c.deref.ensures.value) (c.in-Ok.ensures.source told))
-        c.in-Ok-make.ensures.ends c.deref-3.ensures.value in
+        c.in-Ok-make.ensures c.deref-3.ensures.value in
         part_left (g.S.Shelf.held c.args.shelf.now) (g.S.Shelf.held c.load_texts.new.shelf) (g.S.Shelf.held c.save_image.new.shelf) (saving (debug_given c.args.job.now)) c.as_str.result.now c.deref-3.result.now
         made (c.load_texts.ensures.same c.as_str.result.now told) image (c.in-Err-save_image.ensures.part (c.in-Ok.ensures.telling ∙ told));
   };
   transcript = search rules;
 }
 
-pub returns-in-Ok-play-clause-ends : goal.returns-in-Ok-play-clause-ends
-returns-in-Ok-play-clause-ends g c = record {
+pub returns-in-Ok-play : goal.returns-in-Ok-play
+returns-in-Ok-play g c = record {
   caused = record {
     usage = search rules;
     read = search rules;
@@ -123,7 +123,7 @@ returns-in-Ok-play-clause-ends g c = record {
     source = search rules;
     script = search rules;
     accepted = λ e told.
-        both_accepted c.deref.result.now c.deref-2.result.now c.in-Ok-make.made c.in-Ok-read_script.commands (g.S.Shelf.held c.args.shelf.now) (debug_given c.args.job.now) c.in-Ok-make.ensures.ends c.in-Ok-read_script.ensures
+        both_accepted c.deref.result.now c.deref-2.result.now c.in-Ok-make.made c.in-Ok-read_script.commands (g.S.Shelf.held c.args.shelf.now) (debug_given c.args.job.now) c.in-Ok-make.ensures c.in-Ok-read_script.ensures
         (subst (Loads (g.S.Shelf.held c.args.shelf.now (debug_given c.args.job.now).source) 1048576) (sym c.deref.ensures.value) (c.in-Ok.ensures.source told))
         (c.in-Ok.ensures.script told ∙ ap Some (sym c.deref-2.ensures.value));
     write = search rules;
@@ -135,7 +135,7 @@ returns-in-Ok-play-clause-ends g c = record {
         let image : c.as_str.result.now ≡ (debug_given c.args.job.now).image = search rules in
         let made = image_made (g.S.Shelf.held c.args.shelf.now) (saving (debug_given c.args.job.now)) c.deref.result.now c.deref-3.result.now c.in-Ok-make.made
         (subst (Loads (g.S.Shelf.held c.args.shelf.now (debug_given c.args.job.now).source) 1048576) (sym c.deref.ensures.value) (c.in-Ok.ensures.source told))
-        c.in-Ok-make.ensures.ends c.deref-3.ensures.value in
+        c.in-Ok-make.ensures c.deref-3.ensures.value in
         whole_saved (g.S.Shelf.held c.args.shelf.now) (g.S.Shelf.held c.save_image.new.shelf) (saving (debug_given c.args.job.now)) c.as_str.result.now c.deref-3.result.now made image (c.in-Ok-save_image.ensures.saved (c.in-Ok.ensures.telling ∙ told));
     whole = search rules;
     left = search rules;
@@ -148,7 +148,7 @@ returns-in-Ok-play-clause-ends g c = record {
         let prints = debugged (g.S.Shelf.held c.args.shelf.now) (g.S.Shelf.held c.save_image.new.shelf) (debug_given c.args.job.now) c.deref.result.now c.deref-2.result.now c.in-Ok.texts.input.items c.in-Ok-make.made c.in-Ok-read_script.commands
         (subst (Loads (g.S.Shelf.held c.args.shelf.now (debug_given c.args.job.now).source) 1048576) (sym c.deref.ensures.value) (c.in-Ok.ensures.source told))
         (c.in-Ok.ensures.script told ∙ ap Some (sym c.deref-2.ensures.value))
-        (c.in-Ok.ensures.input told) c.in-Ok-make.ensures.ends c.in-Ok-read_script.ensures
+        (c.in-Ok.ensures.input told) (subst (AllByRecursion (λ b. b < 256)) c.deref-5.ensures.value c.in-Ok-play.ensures.bytes) c.in-Ok-make.ensures c.in-Ok-read_script.ensures
         (ap (g.S.Shelf.held c.save_image.new.shelf) (sym image) ∙ c.in-Ok-save_image.ensures.saved (c.in-Ok.ensures.telling ∙ told) ∙ ap Some c.deref-3.ensures.value) in
         let same = played_same (form c.in-Ok-make.made.image) c.deref-4.result.now c.in-Ok-read_script.commands.items c.in-Ok.texts.input.items c.deref-5.result.now c.from-limit.result (debug_given c.args.job.now).limit c.deref-4.ensures.value c.deref-5.ensures.value limit in
         record {
@@ -159,8 +159,8 @@ returns-in-Ok-play-clause-ends g c = record {
   };
 }
 
-pub returns-clause-ends : goal.returns-clause-ends
-returns-clause-ends g c = record {
+pub returns : goal.returns
+returns g c = record {
   caused = record {
     usage = search rules;
     read = search rules;
@@ -171,7 +171,7 @@ returns-clause-ends g c = record {
     source = search rules;
     script = search rules;
     accepted = λ e told.
-        both_accepted c.deref.result.now c.deref-2.result.now c.in-Ok-make.made c.in-Ok-read_script.commands (g.S.Shelf.held c.args.shelf.now) (debug_given c.args.job.now) c.in-Ok-make.ensures.ends c.in-Ok-read_script.ensures
+        both_accepted c.deref.result.now c.deref-2.result.now c.in-Ok-make.made c.in-Ok-read_script.commands (g.S.Shelf.held c.args.shelf.now) (debug_given c.args.job.now) c.in-Ok-make.ensures c.in-Ok-read_script.ensures
         (subst (Loads (g.S.Shelf.held c.args.shelf.now (debug_given c.args.job.now).source) 1048576) (sym c.deref.ensures.value) (c.in-Ok.ensures.source told))
         (c.in-Ok.ensures.script told ∙ ap Some (sym c.deref-2.ensures.value));
     write = search rules;
@@ -184,13 +184,13 @@ returns-clause-ends g c = record {
         let image : c.as_str.result.now ≡ (debug_given c.args.job.now).image = search rules in
         let made = image_made (g.S.Shelf.held c.args.shelf.now) (saving (debug_given c.args.job.now)) c.deref.result.now c.deref-3.result.now c.in-Ok-make.made
         (subst (Loads (g.S.Shelf.held c.args.shelf.now (debug_given c.args.job.now).source) 1048576) (sym c.deref.ensures.value) (c.in-Ok.ensures.source told))
-        c.in-Ok-make.ensures.ends c.deref-3.ensures.value in
+        c.in-Ok-make.ensures c.deref-3.ensures.value in
         whole_saved (g.S.Shelf.held c.args.shelf.now) (g.S.Shelf.held c.save_image.new.shelf) (saving (debug_given c.args.job.now)) c.as_str.result.now c.deref-3.result.now made image (c.in-Ok-save_image.ensures.saved (c.in-Ok.ensures.telling ∙ told));
     left = λ cut told.
         let image : c.as_str.result.now ≡ (debug_given c.args.job.now).image = search rules in
         let made = image_made (g.S.Shelf.held c.args.shelf.now) (saving (debug_given c.args.job.now)) c.deref.result.now c.deref-3.result.now c.in-Ok-make.made
         (subst (Loads (g.S.Shelf.held c.args.shelf.now (debug_given c.args.job.now).source) 1048576) (sym c.deref.ensures.value) (c.in-Ok.ensures.source told))
-        c.in-Ok-make.ensures.ends c.deref-3.ensures.value in
+        c.in-Ok-make.ensures c.deref-3.ensures.value in
         whole_left (g.S.Shelf.held c.args.shelf.now) (g.S.Shelf.held c.save_image.new.shelf) (saving (debug_given c.args.job.now)) c.as_str.result.now c.deref-3.result.now made image (c.in-Ok-save_image.ensures.saved (c.in-Ok.ensures.telling ∙ told));
   };
   transcript = record {
@@ -200,7 +200,7 @@ returns-clause-ends g c = record {
         let prints = debugged (g.S.Shelf.held c.args.shelf.now) (g.S.Shelf.held c.save_image.new.shelf) (debug_given c.args.job.now) c.deref.result.now c.deref-2.result.now c.in-Ok.texts.input.items c.in-Ok-make.made c.in-Ok-read_script.commands
         (subst (Loads (g.S.Shelf.held c.args.shelf.now (debug_given c.args.job.now).source) 1048576) (sym c.deref.ensures.value) (c.in-Ok.ensures.source told))
         (c.in-Ok.ensures.script told ∙ ap Some (sym c.deref-2.ensures.value))
-        (c.in-Ok.ensures.input told) c.in-Ok-make.ensures.ends c.in-Ok-read_script.ensures
+        (c.in-Ok.ensures.input told) (subst (AllByRecursion (λ b. b < 256)) c.deref-5.ensures.value c.in-Err-play.ensures.bytes) c.in-Ok-make.ensures c.in-Ok-read_script.ensures
         (ap (g.S.Shelf.held c.save_image.new.shelf) (sym image) ∙ c.in-Ok-save_image.ensures.saved (c.in-Ok.ensures.telling ∙ told) ∙ ap Some c.deref-3.ensures.value) in
         let same = played_same (form c.in-Ok-make.made.image) c.deref-4.result.now c.in-Ok-read_script.commands.items c.in-Ok.texts.input.items c.deref-5.result.now c.from-limit.result (debug_given c.args.job.now).limit c.deref-4.ensures.value c.deref-5.ensures.value limit in
         inr (record {
@@ -211,17 +211,3 @@ returns-clause-ends g c = record {
     done = search rules;
   };
 }
-
-pub returns-in-Ok-play-clause-behind : goal.returns-in-Ok-play-clause-behind
-returns-in-Ok-play-clause-behind g c = λ e told.
-    let image : c.as_str.result.now ≡ (debug_given c.args.job.now).image = search rules in
-    coming_saved (λ p. (goal.UnitPass-dyn g (p.vtable, p.value)).named p.value) (λ p. (goal.UnitPass-dyn g (p.vtable, p.value)).steps p.value) c.args.passes.now (g.S.Shelf.held c.args.shelf.now) (g.S.Shelf.held c.save_image.new.shelf) (saving (debug_given c.args.job.now)) c.deref.result.now c.as_str.result.now c.deref-3.result.now c.in-Ok-make.made
-    (subst (Loads (g.S.Shelf.held c.args.shelf.now (debug_given c.args.job.now).source) 1048576) (sym c.deref.ensures.value) (c.in-Ok.ensures.source told))
-    c.in-Ok-make.ensures.ends c.in-Ok-make.ensures.comes image c.deref-3.ensures.value (c.in-Ok-save_image.ensures.saved (c.in-Ok.ensures.telling ∙ told))
-
-pub returns-clause-behind_whole : goal.returns-clause-behind_whole
-returns-clause-behind_whole g c = λ e saves told.
-    let image : c.as_str.result.now ≡ (debug_given c.args.job.now).image = search rules in
-    coming_saved (λ p. (goal.UnitPass-dyn g (p.vtable, p.value)).named p.value) (λ p. (goal.UnitPass-dyn g (p.vtable, p.value)).steps p.value) c.args.passes.now (g.S.Shelf.held c.args.shelf.now) (g.S.Shelf.held c.save_image.new.shelf) (saving (debug_given c.args.job.now)) c.deref.result.now c.as_str.result.now c.deref-3.result.now c.in-Ok-make.made
-    (subst (Loads (g.S.Shelf.held c.args.shelf.now (debug_given c.args.job.now).source) 1048576) (sym c.deref.ensures.value) (c.in-Ok.ensures.source told))
-    c.in-Ok-make.ensures.ends c.in-Ok-make.ensures.comes image c.deref-3.ensures.value (c.in-Ok-save_image.ensures.saved (c.in-Ok.ensures.telling ∙ told))

@@ -6,13 +6,11 @@ use Rattle.command_line.specs.Job.{passes_given}
 use Rattle.session.specs.Limits.{IsThere}
 use Rattle.debug_records.specs.Change.{letters}
 use Rattle.session.specs.Listed.{AreLinesFor}
-use Rattle.session.specs.Behind.{AreLinesBehind}
-use Rattle.session.proofs.Behind.{behind_listed}
 use Rattle.session.proofs.Lines.{changes_listed, list_accepted, list_refused, list_within}
 use Rattle.session.proofs.listing.list_changes.Goals as goal
 
-pub returns-in-Err-list-clause-ends : goal.returns-in-Err-list-clause-ends
-returns-in-Err-list-clause-ends g c = record {
+pub returns-in-Err-list : goal.returns-in-Err-list
+returns-in-Err-list g c = record {
   caused = record {
     usage = search rules;
     read = search rules;
@@ -25,7 +23,7 @@ returns-in-Err-list-clause-ends g c = record {
     source = λ code at e told.
         let name : c.as_str.result.now ≡ (passes_given c.args.job.now).source = search rules in
         let loads = subst (λ n. Loads (g.S.Shelf.held c.args.shelf.now n) 1048576 c.deref.result.now) name (subst (Loads (g.S.Shelf.held c.args.shelf.now c.as_str.result.now) 1048576) (sym c.deref.ensures.value) (c.in-Ok.ensures.value told)) in
-        list_refused c.in-Err-list.status code at c.deref.result.now (g.S.Shelf.held c.args.shelf.now) (passes_given c.args.job.now) e c.in-Err-list.ensures.ends loads;
+        list_refused c.in-Err-list.status code at c.deref.result.now (g.S.Shelf.held c.args.shelf.now) (passes_given c.args.job.now) e c.in-Err-list.ensures loads;
     script = search rules;
     accepted = search rules;
     write = search rules;
@@ -36,8 +34,8 @@ returns-in-Err-list-clause-ends g c = record {
   transcript = search rules;
 }
 
-pub returns-in-Ok-put_lines-clause-ends : goal.returns-in-Ok-put_lines-clause-ends
-returns-in-Ok-put_lines-clause-ends g c = record {
+pub returns-in-Ok-put_lines : goal.returns-in-Ok-put_lines
+returns-in-Ok-put_lines g c = record {
   caused = record {
     usage = search rules;
     read = search rules;
@@ -52,7 +50,7 @@ returns-in-Ok-put_lines-clause-ends g c = record {
     accepted = λ e told.
         let name : c.as_str.result.now ≡ (passes_given c.args.job.now).source = search rules in
         let loads = subst (λ n. Loads (g.S.Shelf.held c.args.shelf.now n) 1048576 c.deref.result.now) name (subst (Loads (g.S.Shelf.held c.args.shelf.now c.as_str.result.now) 1048576) (sym c.deref.ensures.value) (c.in-Ok.ensures.value told)) in
-        list_accepted c.deref.result.now (g.S.Shelf.held c.args.shelf.now) (passes_given c.args.job.now) c.in-Ok-list.ensures.ends.understood loads;
+        list_accepted c.deref.result.now (g.S.Shelf.held c.args.shelf.now) (passes_given c.args.job.now) c.in-Ok-list.ensures.understood loads;
     write = search rules;
     write_only = search rules;
   };
@@ -65,15 +63,15 @@ returns-in-Ok-put_lines-clause-ends g c = record {
         let loads = subst (λ n. Loads (g.S.Shelf.held c.args.shelf.now n) 1048576 c.deref.result.now) name (subst (Loads (g.S.Shelf.held c.args.shelf.now c.as_str.result.now) 1048576) (sym c.deref.ensures.value) (c.in-Ok.ensures.value told)) in
         record {
           printed = flat_map line (map (λ l. l.items) c.deref-3.result.now);
-          prints = changes_listed c.deref.result.now (g.S.Shelf.held c.args.shelf.now) (passes_given c.args.job.now) (map (λ l. l.items) c.deref-3.result.now) (subst (λ ls. AreLinesFor c.deref.result.now (passes_given c.args.job.now).passes (map (λ l. l.items) ls)) (sym c.deref-3.ensures.value)
-              (subst (λ ps. AreLinesFor c.deref.result.now (map letters ps) (map (λ l. l.items) c.in-Ok-list.lines.items)) c.deref-2.ensures.value c.in-Ok-list.ensures.ends)) loads;
+          prints = changes_listed c.deref.result.now (g.S.Shelf.held c.args.shelf.now) (passes_given c.args.job.now) (map (λ l. l.items) c.deref-3.result.now) (subst (λ ls. AreLinesFor (λ p. (goal.UnitPass-dyn g (p.vtable, p.value)).named p.value) (λ p. (goal.UnitPass-dyn g (p.vtable, p.value)).steps p.value) c.args.passes.now c.deref.result.now (passes_given c.args.job.now).passes (map (λ l. l.items) ls)) (sym c.deref-3.ensures.value)
+              (subst (λ ps. AreLinesFor (λ p. (goal.UnitPass-dyn g (p.vtable, p.value)).named p.value) (λ p. (goal.UnitPass-dyn g (p.vtable, p.value)).steps p.value) c.args.passes.now c.deref.result.now (map letters ps) (map (λ l. l.items) c.in-Ok-list.lines.items)) c.deref-2.ensures.value c.in-Ok-list.ensures)) loads;
           whole = c.in-Ok-put_lines.ensures.whole told_sink;
         };
   };
 }
 
-pub returns-clause-ends : goal.returns-clause-ends
-returns-clause-ends g c = record {
+pub returns : goal.returns
+returns g c = record {
   caused = record {
     usage = search rules;
     read = search rules;
@@ -88,7 +86,7 @@ returns-clause-ends g c = record {
     accepted = λ e told.
         let name : c.as_str.result.now ≡ (passes_given c.args.job.now).source = search rules in
         let loads = subst (λ n. Loads (g.S.Shelf.held c.args.shelf.now n) 1048576 c.deref.result.now) name (subst (Loads (g.S.Shelf.held c.args.shelf.now c.as_str.result.now) 1048576) (sym c.deref.ensures.value) (c.in-Ok.ensures.value told)) in
-        list_accepted c.deref.result.now (g.S.Shelf.held c.args.shelf.now) (passes_given c.args.job.now) c.in-Ok-list.ensures.ends.understood loads;
+        list_accepted c.deref.result.now (g.S.Shelf.held c.args.shelf.now) (passes_given c.args.job.now) c.in-Ok-list.ensures.understood loads;
     write = search rules;
     write_only = search rules;
   };
@@ -100,19 +98,10 @@ returns-clause-ends g c = record {
         let loads = subst (λ n. Loads (g.S.Shelf.held c.args.shelf.now n) 1048576 c.deref.result.now) name (subst (Loads (g.S.Shelf.held c.args.shelf.now c.as_str.result.now) 1048576) (sym c.deref.ensures.value) (c.in-Ok.ensures.value told)) in
         inr (record {
           printed = flat_map line (map (λ l. l.items) c.deref-3.result.now);
-          prints = changes_listed c.deref.result.now (g.S.Shelf.held c.args.shelf.now) (passes_given c.args.job.now) (map (λ l. l.items) c.deref-3.result.now) (subst (λ ls. AreLinesFor c.deref.result.now (passes_given c.args.job.now).passes (map (λ l. l.items) ls)) (sym c.deref-3.ensures.value)
-              (subst (λ ps. AreLinesFor c.deref.result.now (map letters ps) (map (λ l. l.items) c.in-Ok-list.lines.items)) c.deref-2.ensures.value c.in-Ok-list.ensures.ends)) loads;
+          prints = changes_listed c.deref.result.now (g.S.Shelf.held c.args.shelf.now) (passes_given c.args.job.now) (map (λ l. l.items) c.deref-3.result.now) (subst (λ ls. AreLinesFor (λ p. (goal.UnitPass-dyn g (p.vtable, p.value)).named p.value) (λ p. (goal.UnitPass-dyn g (p.vtable, p.value)).steps p.value) c.args.passes.now c.deref.result.now (passes_given c.args.job.now).passes (map (λ l. l.items) ls)) (sym c.deref-3.ensures.value)
+              (subst (λ ps. AreLinesFor (λ p. (goal.UnitPass-dyn g (p.vtable, p.value)).named p.value) (λ p. (goal.UnitPass-dyn g (p.vtable, p.value)).steps p.value) c.args.passes.now c.deref.result.now (map letters ps) (map (λ l. l.items) c.in-Ok-list.lines.items)) c.deref-2.ensures.value c.in-Ok-list.ensures)) loads;
           part = c.in-Err-put_lines.ensures.part told_sink;
         });
     done = search rules;
   };
 }
-
-pub returns-in-Ok-put_lines-clause-behind : goal.returns-in-Ok-put_lines-clause-behind
-returns-in-Ok-put_lines-clause-behind g c = λ e told told_sink.
-    let name : c.as_str.result.now ≡ (passes_given c.args.job.now).source = search rules in
-    let loads = subst (λ n. Loads (g.S.Shelf.held c.args.shelf.now n) 1048576 c.deref.result.now) name (subst (Loads (g.S.Shelf.held c.args.shelf.now c.as_str.result.now) 1048576) (sym c.deref.ensures.value) (c.in-Ok.ensures.value told)) in
-    behind_listed (λ p. (goal.UnitPass-dyn g (p.vtable, p.value)).named p.value) (λ p. (goal.UnitPass-dyn g (p.vtable, p.value)).steps p.value) c.args.passes.now (g.S.Shelf.held c.args.shelf.now) (passes_given c.args.job.now) c.deref.result.now (map (λ l. l.items) c.deref-3.result.now) _ _ loads c.in-Ok-list.ensures.ends.understood
-    (subst (λ ls. AreLinesBehind (λ p. (goal.UnitPass-dyn g (p.vtable, p.value)).named p.value) (λ p. (goal.UnitPass-dyn g (p.vtable, p.value)).steps p.value) c.args.passes.now c.deref.result.now (passes_given c.args.job.now).passes (map (λ l. l.items) ls)) (sym c.deref-3.ensures.value)
-    (subst (λ ps. AreLinesBehind (λ p. (goal.UnitPass-dyn g (p.vtable, p.value)).named p.value) (λ p. (goal.UnitPass-dyn g (p.vtable, p.value)).steps p.value) c.args.passes.now c.deref.result.now (map letters ps) (map (λ l. l.items) c.in-Ok-list.lines.items)) c.deref-2.ensures.value c.in-Ok-list.ensures.behind))
-    (c.in-Ok-put_lines.ensures.whole told_sink)

@@ -9,6 +9,7 @@ use Rattle.image_build.specs.Behind.{ComesHomed}
 use Rattle.image_build.specs.Made.{IsHomed, IsMadeOf}
 use Rattle.image_build.specs.ProgramImageShown.{ShowsAll}
 use Rattle.image_build.specs.Tables.{HasTablesOf}
+use Rattle.image_build.proofs.Explained.{explains_all}
 use Rattle.image_build.proofs.Truth.{runs_true}
 use Rattle.session.proofs.Behind.{kept_behind}
 use Rattle.session.proofs.Compiled.{none_named}
@@ -26,28 +27,21 @@ image_of_program-requires-clause-names g c = c.requires.names
 pub image_of_program-requires-clause-spots : goal.image_of_program-requires-clause-spots
 image_of_program-requires-clause-spots g c = c.requires.spots
 
-pub returns-in-Some-clause-compiled : goal.returns-in-Some-clause-compiled
-returns-in-Some-clause-compiled g c =
-    let p = program_view c.args.program in
-    let is = c.in_ok-build.ensures in
-    record {
-      homed = homed_view c.in-Some.build.homed;
-      homes = subst (λ o. IfSome o (λ b. IsHomed c.args.mode (homed_view b.homed))) c.in-Some.is is.homed;
-      made = subst (λ o. IfSome o (λ b. IsMadeOf p (homed_view b.homed) (form b.image))) c.in-Some.is is.made;
-    }
-
 pub returns-in-Some-clause-shows : goal.returns-in-Some-clause-shows
 returns-in-Some-clause-shows g c = λ none slots. subst (λ o. IfSome o (λ b. ShowsAll (form b.image))) c.in-Some.is (c.in_ok-build.ensures.shows (none_named c.args.names.now none) slots)
 
 pub returns-in-Some-clause-comes : goal.returns-in-Some-clause-comes
 returns-in-Some-clause-comes g c =
     let p = program_view c.args.program in
+    let h = homed_view c.in-Some.build.homed in
     let is = c.in_ok-build.ensures in
+    let made : IsMadeOf p h (form c.in-Some.build.image) = subst (λ o. IfSome o (λ b. IsMadeOf p (homed_view b.homed) (form b.image))) c.in-Some.is is.made in
     record {
-      homed = homed_view c.in-Some.build.homed;
+      homed = h;
       homes = subst (λ o. IfSome o (λ b. IsHomed c.args.mode (homed_view b.homed))) c.in-Some.is is.homed;
-      made = subst (λ o. IfSome o (λ b. IsMadeOf p (homed_view b.homed) (form b.image))) c.in-Some.is is.made;
+      made = made;
       comes = subst (λ o. IfSome o (λ b. ComesHomed (λ p. (goal.UnitPass-dyn g (p.vtable, p.value)).named p.value) (λ p. (goal.UnitPass-dyn g (p.vtable, p.value)).steps p.value) c.args.passes.now (map letters c.args.names.now) p (homed_view b.homed))) c.in-Some.is is.comes;
+      explains = explains_all p h (form c.in-Some.build.image) made (subst (λ o. IfSome o (λ b. IsImage (form b.image))) c.in-Some.is is.image);
     }
 
 pub returns-in-Some-clause-runs : goal.returns-in-Some-clause-runs

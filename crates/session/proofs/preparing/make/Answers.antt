@@ -1,7 +1,6 @@
 use Rattle.std.proofs.Common.{map, ap, ◌∙◌, Ok}
 use Rattle.c_tree.specs.Programs.{program_view}
 use Rattle.debug_records.specs.Change.{letters}
-use Rattle.session.proofs.Behind.{made_behind}
 use Rattle.session.proofs.Compiled.{made_of}
 use Rattle.session.proofs.preparing.make.Goals as goal
 
@@ -17,12 +16,7 @@ image_for-requires-clause-names g c = c.in_ok-program.ensures.names
 pub image_for-requires-clause-spots : goal.image_for-requires-clause-spots
 image_for-requires-clause-spots g c = c.in_ok-program.ensures.spots
 
-pub returns-in-Ok-Some-clause-ends : goal.returns-in-Ok-Some-clause-ends
-returns-in-Ok-Some-clause-ends g c =
+pub returns-in-Ok-Some : goal.returns-in-Ok-Some
+returns-in-Ok-Some g c =
     let is = c.image_for.ensures in
-    made_of c.args.source.now (map letters c.args.names.now) c.args.mode (program_view c.in_ok-program.program) c.image_for.result c.in-Ok-Some.made (c.in-Ok-Some.is ∙ ap Ok c.in-Ok-Some.field-0-is) c.in_ok-program.ensures.ends c.in_ok-program.ensures.program is.image is.bytes is.runs is.shows is.tables is.compiled
-
-pub returns-in-Ok-Some-clause-comes : goal.returns-in-Ok-Some-clause-comes
-returns-in-Ok-Some-clause-comes g c =
-    made_behind (λ p. (goal.UnitPass-dyn g (p.vtable, p.value)).named p.value) (λ p. (goal.UnitPass-dyn g (p.vtable, p.value)).steps p.value) c.args.passes.now c.args.source.now (map letters c.args.names.now) c.args.mode (program_view c.in_ok-program.program) c.image_for.result c.in-Ok-Some.made (c.in-Ok-Some.is ∙ ap Ok c.in-Ok-Some.field-0-is)
-    c.in_ok-program.ensures.program c.image_for.ensures.comes
+    made_of c.args.source.now (map letters c.args.names.now) c.args.mode (program_view c.in_ok-program.program) c.image_for.result c.in-Ok-Some.made (c.in-Ok-Some.is ∙ ap Ok c.in-Ok-Some.field-0-is) c.in_ok-program.ensures.ends c.in_ok-program.ensures.program is.image is.bytes is.runs is.shows is.tables is.comes

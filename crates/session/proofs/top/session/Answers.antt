@@ -1,7 +1,6 @@
 use Rattle.std.proofs.Common.{◌≡◌, ◌⊎◌, refl, sym, subst, map, string_bytes}
 use Rattle.line_form.specs.declared.status.Status.TheVariants.{Done, NoMemory}
 use Rattle.command_line.specs.Job.{JobGiven, job_given}
-use Rattle.session.specs.Behind.{HasListed, HasSavedComing}
 use Rattle.session.specs.Served.{SavesTo}
 use Rattle.session.specs.Limits.{AreWithin, IsTooLong}
 use Rattle.session.specs.Causes.{ImageIsRefused, SourceIsRefused, ScriptIsRefused, AreAccepted, IsLeftOut}
@@ -13,32 +12,32 @@ use Rattle.session.proofs.top.session.Goals as goal
 
 pub returns-in-Ok-clause-too_long : goal.returns-in-Ok-clause-too_long
 returns-in-Ok-clause-too_long g c = λ asked name served e told.
-    subst (λ a. IsTooLong (g.S.Shelf.held c.args.shelf.now) a (string_bytes name)) (one_asked (λ p. (goal.UnitPass-dyn g (p.vtable, p.value)).named p.value) c.args.passes.now (map string_bytes c.args.words.now) (job_given c.in-Ok.job) asked c.in-Ok.ensures served) (c.serve.ensures.ends.caused.too_long name e told)
+    subst (λ a. IsTooLong (g.S.Shelf.held c.args.shelf.now) a (string_bytes name)) (one_asked (λ p. (goal.UnitPass-dyn g (p.vtable, p.value)).named p.value) c.args.passes.now (map string_bytes c.args.words.now) (job_given c.in-Ok.job) asked c.in-Ok.ensures served) (c.serve.ensures.caused.too_long name e told)
 
 pub returns-in-Ok-clause-within : goal.returns-in-Ok-clause-within
 returns-in-Ok-clause-within g c = λ asked served loaded told.
-    subst (λ a. AreWithin (g.S.Shelf.held c.args.shelf.now) a) (one_asked (λ p. (goal.UnitPass-dyn g (p.vtable, p.value)).named p.value) c.args.passes.now (map string_bytes c.args.words.now) (job_given c.in-Ok.job) asked c.in-Ok.ensures served) (c.serve.ensures.ends.caused.within loaded told)
+    subst (λ a. AreWithin (g.S.Shelf.held c.args.shelf.now) a) (one_asked (λ p. (goal.UnitPass-dyn g (p.vtable, p.value)).named p.value) c.args.passes.now (map string_bytes c.args.words.now) (job_given c.in-Ok.job) asked c.in-Ok.ensures served) (c.serve.ensures.caused.within loaded told)
 
 pub returns-in-Ok-clause-source : goal.returns-in-Ok-clause-source
 returns-in-Ok-clause-source g c = λ asked code line served e told.
-    subst (λ (a : JobGiven). SourceIsRefused (g.S.Shelf.held c.args.shelf.now) a code line) (one_asked (λ p. (goal.UnitPass-dyn g (p.vtable, p.value)).named p.value) c.args.passes.now (map string_bytes c.args.words.now) (job_given c.in-Ok.job) asked c.in-Ok.ensures served) (c.serve.ensures.ends.caused.source code line e told)
+    subst (λ (a : JobGiven). SourceIsRefused (g.S.Shelf.held c.args.shelf.now) a code line) (one_asked (λ p. (goal.UnitPass-dyn g (p.vtable, p.value)).named p.value) c.args.passes.now (map string_bytes c.args.words.now) (job_given c.in-Ok.job) asked c.in-Ok.ensures served) (c.serve.ensures.caused.source code line e told)
 
 pub returns-in-Ok-clause-image : goal.returns-in-Ok-clause-image
 returns-in-Ok-clause-image g c = λ asked code offset served e told.
-    subst (λ (a : JobGiven). ImageIsRefused (g.S.Shelf.held c.args.shelf.now) a code offset) (one_asked (λ p. (goal.UnitPass-dyn g (p.vtable, p.value)).named p.value) c.args.passes.now (map string_bytes c.args.words.now) (job_given c.in-Ok.job) asked c.in-Ok.ensures served) (c.serve.ensures.ends.caused.image code offset e told)
+    subst (λ (a : JobGiven). ImageIsRefused (g.S.Shelf.held c.args.shelf.now) a code offset) (one_asked (λ p. (goal.UnitPass-dyn g (p.vtable, p.value)).named p.value) c.args.passes.now (map string_bytes c.args.words.now) (job_given c.in-Ok.job) asked c.in-Ok.ensures served) (c.serve.ensures.caused.image code offset e told)
 
 pub returns-in-Ok-clause-script : goal.returns-in-Ok-clause-script
 returns-in-Ok-clause-script g c = λ asked code line served e told.
-    subst (λ (a : JobGiven). ScriptIsRefused (g.S.Shelf.held c.args.shelf.now) a code line) (one_asked (λ p. (goal.UnitPass-dyn g (p.vtable, p.value)).named p.value) c.args.passes.now (map string_bytes c.args.words.now) (job_given c.in-Ok.job) asked c.in-Ok.ensures served) (c.serve.ensures.ends.caused.script code line e told)
+    subst (λ (a : JobGiven). ScriptIsRefused (g.S.Shelf.held c.args.shelf.now) a code line) (one_asked (λ p. (goal.UnitPass-dyn g (p.vtable, p.value)).named p.value) c.args.passes.now (map string_bytes c.args.words.now) (job_given c.in-Ok.job) asked c.in-Ok.ensures served) (c.serve.ensures.caused.script code line e told)
 
 pub returns-in-Ok-clause-accepted : goal.returns-in-Ok-clause-accepted
 returns-in-Ok-clause-accepted g c = λ asked served e told.
-    subst (λ (a : JobGiven). AreAccepted (g.S.Shelf.held c.args.shelf.now) a) (one_asked (λ p. (goal.UnitPass-dyn g (p.vtable, p.value)).named p.value) c.args.passes.now (map string_bytes c.args.words.now) (job_given c.in-Ok.job) asked c.in-Ok.ensures served) (c.serve.ensures.ends.caused.accepted e told)
+    subst (λ (a : JobGiven). AreAccepted (g.S.Shelf.held c.args.shelf.now) a) (one_asked (λ p. (goal.UnitPass-dyn g (p.vtable, p.value)).named p.value) c.args.passes.now (map string_bytes c.args.words.now) (job_given c.in-Ok.job) asked c.in-Ok.ensures served) (c.serve.ensures.caused.accepted e told)
 
 pub returns-in-Ok-clause-others : goal.returns-in-Ok-clause-others
 returns-in-Ok-clause-others g c = λ asked served told n other.
     let same = one_asked (λ p. (goal.UnitPass-dyn g (p.vtable, p.value)).named p.value) c.args.passes.now (map string_bytes c.args.words.now) (job_given c.in-Ok.job) asked c.in-Ok.ensures served in
-    c.serve.ensures.ends.stays.others told n (λ saves. other (subst (λ a. SavesTo a n) same saves))
+    c.serve.ensures.stays.others told n (λ saves. other (subst (λ a. SavesTo a n) same saves))
 
 pub returns-in-Ok-clause-unasked : goal.returns-in-Ok-clause-unasked
 returns-in-Ok-clause-unasked g c = λ none told n. absurd (none (job_given c.in-Ok.job) c.in-Ok.ensures)
@@ -48,33 +47,33 @@ returns-in-Ok-clause-silent g c = λ none told. absurd (none (job_given c.in-Ok.
 
 pub returns-in-Ok-clause-saved : goal.returns-in-Ok-clause-saved
 returns-in-Ok-clause-saved g c = λ asked served e told.
-    subst (λ (a : JobGiven). HasSaved (g.S.Shelf.held c.args.shelf.now) (g.S.Shelf.held c.serve.new.shelf) a) (one_asked (λ p. (goal.UnitPass-dyn g (p.vtable, p.value)).named p.value) c.args.passes.now (map string_bytes c.args.words.now) (job_given c.in-Ok.job) asked c.in-Ok.ensures served) (c.serve.ensures.ends.image.saved e told)
+    subst (λ (a : JobGiven). HasSaved (λ p. (goal.UnitPass-dyn g (p.vtable, p.value)).named p.value) (λ p. (goal.UnitPass-dyn g (p.vtable, p.value)).steps p.value) c.args.passes.now (g.S.Shelf.held c.args.shelf.now) (g.S.Shelf.held c.serve.new.shelf) a) (one_asked (λ p. (goal.UnitPass-dyn g (p.vtable, p.value)).named p.value) c.args.passes.now (map string_bytes c.args.words.now) (job_given c.in-Ok.job) asked c.in-Ok.ensures served) (c.serve.ensures.image.saved e told)
 
 pub returns-in-Ok-clause-whole : goal.returns-in-Ok-clause-whole
 returns-in-Ok-clause-whole g c = λ asked served e saves told.
-    subst (λ (a : JobGiven). HasSaved (g.S.Shelf.held c.args.shelf.now) (g.S.Shelf.held c.serve.new.shelf) a) (one_asked (λ p. (goal.UnitPass-dyn g (p.vtable, p.value)).named p.value) c.args.passes.now (map string_bytes c.args.words.now) (job_given c.in-Ok.job) asked c.in-Ok.ensures served) (c.serve.ensures.ends.image.whole e saves told)
+    subst (λ (a : JobGiven). HasSaved (λ p. (goal.UnitPass-dyn g (p.vtable, p.value)).named p.value) (λ p. (goal.UnitPass-dyn g (p.vtable, p.value)).steps p.value) c.args.passes.now (g.S.Shelf.held c.args.shelf.now) (g.S.Shelf.held c.serve.new.shelf) a) (one_asked (λ p. (goal.UnitPass-dyn g (p.vtable, p.value)).named p.value) c.args.passes.now (map string_bytes c.args.words.now) (job_given c.in-Ok.job) asked c.in-Ok.ensures served) (c.serve.ensures.image.whole e saves told)
 
 pub returns-in-Ok-clause-left : goal.returns-in-Ok-clause-left
 returns-in-Ok-clause-left g c = λ asked served cut told.
-    subst (λ (a : JobGiven). HasLeft (g.S.Shelf.held c.args.shelf.now) (g.S.Shelf.held c.serve.new.shelf) a) (one_asked (λ p. (goal.UnitPass-dyn g (p.vtable, p.value)).named p.value) c.args.passes.now (map string_bytes c.args.words.now) (job_given c.in-Ok.job) asked c.in-Ok.ensures served) (c.serve.ensures.ends.image.left cut told)
+    subst (λ (a : JobGiven). HasLeft (λ p. (goal.UnitPass-dyn g (p.vtable, p.value)).named p.value) (λ p. (goal.UnitPass-dyn g (p.vtable, p.value)).steps p.value) c.args.passes.now (g.S.Shelf.held c.args.shelf.now) (g.S.Shelf.held c.serve.new.shelf) a) (one_asked (λ p. (goal.UnitPass-dyn g (p.vtable, p.value)).named p.value) c.args.passes.now (map string_bytes c.args.words.now) (job_given c.in-Ok.job) asked c.in-Ok.ensures served) (c.serve.ensures.image.left cut told)
 
 pub returns-in-Err-clause-left : goal.returns-in-Err-clause-left
-returns-in-Err-clause-left g c = λ asked served cut told. nothing_left (g.S.Shelf.held c.args.shelf.now) (g.S.Shelf.held c.args.shelf.now) asked (λ n. refl)
+returns-in-Err-clause-left g c = λ asked served cut told. nothing_left (λ p. (goal.UnitPass-dyn g (p.vtable, p.value)).named p.value) (λ p. (goal.UnitPass-dyn g (p.vtable, p.value)).steps p.value) c.args.passes.now (g.S.Shelf.held c.args.shelf.now) (g.S.Shelf.held c.args.shelf.now) asked (λ n. refl)
 
 pub returns-in-Ok-clause-part : goal.returns-in-Ok-clause-part
 returns-in-Ok-clause-part g c = λ asked served cut told told_sink.
-    subst (λ (a : JobGiven). TookPart (g.S.Shelf.held c.args.shelf.now) (g.S.Shelf.held c.serve.new.shelf) a (g.K.Sink.taken c.args.sink.now) (g.K.Sink.taken c.serve.new.sink)) (one_asked (λ p. (goal.UnitPass-dyn g (p.vtable, p.value)).named p.value) c.args.passes.now (map string_bytes c.args.words.now) (job_given c.in-Ok.job) asked c.in-Ok.ensures served) (c.serve.ensures.ends.transcript.part cut told told_sink)
+    subst (λ (a : JobGiven). TookPart (λ p. (goal.UnitPass-dyn g (p.vtable, p.value)).named p.value) (λ p. (goal.UnitPass-dyn g (p.vtable, p.value)).steps p.value) c.args.passes.now (g.S.Shelf.held c.args.shelf.now) (g.S.Shelf.held c.serve.new.shelf) a (g.K.Sink.taken c.args.sink.now) (g.K.Sink.taken c.serve.new.sink)) (one_asked (λ p. (goal.UnitPass-dyn g (p.vtable, p.value)).named p.value) c.args.passes.now (map string_bytes c.args.words.now) (job_given c.in-Ok.job) asked c.in-Ok.ensures served) (c.serve.ensures.transcript.part cut told told_sink)
 
 pub returns-in-Ok-clause-done : goal.returns-in-Ok-clause-done
 returns-in-Ok-clause-done g c = λ asked served e told told_sink.
-    subst (λ (a : JobGiven). IsDone (g.S.Shelf.held c.args.shelf.now) (g.S.Shelf.held c.serve.new.shelf) a (g.K.Sink.taken c.args.sink.now) (g.K.Sink.taken c.serve.new.sink)) (one_asked (λ p. (goal.UnitPass-dyn g (p.vtable, p.value)).named p.value) c.args.passes.now (map string_bytes c.args.words.now) (job_given c.in-Ok.job) asked c.in-Ok.ensures served) (c.serve.ensures.ends.transcript.done e told told_sink)
+    subst (λ (a : JobGiven). IsDone (λ p. (goal.UnitPass-dyn g (p.vtable, p.value)).named p.value) (λ p. (goal.UnitPass-dyn g (p.vtable, p.value)).steps p.value) c.args.passes.now (g.S.Shelf.held c.args.shelf.now) (g.S.Shelf.held c.serve.new.shelf) a (g.K.Sink.taken c.args.sink.now) (g.K.Sink.taken c.serve.new.sink)) (one_asked (λ p. (goal.UnitPass-dyn g (p.vtable, p.value)).named p.value) c.args.passes.now (map string_bytes c.args.words.now) (job_given c.in-Ok.job) asked c.in-Ok.ensures served) (c.serve.ensures.transcript.done e told told_sink)
 
 pub returns-in-Ok-clause-complete : goal.returns-in-Ok-clause-complete
 returns-in-Ok-clause-complete g c = λ asked served told within accepted no_load no_save no_line.
     let same = one_asked (λ p. (goal.UnitPass-dyn g (p.vtable, p.value)).named p.value) c.args.passes.now (map string_bytes c.args.words.now) (job_given c.in-Ok.job) asked c.in-Ok.ensures served in
     subst (λ (a : JobGiven). (c.serve.result ≡ Done) ⊎ ((c.serve.result ≡ NoMemory) ⊎ IsLeftOut (g.S.Shelf.held c.args.shelf.now) a c.serve.result)) same
     (complete (job_given c.in-Ok.job) _ c.serve.result _
-    c.serve.ensures.ends.caused told
+    c.serve.ensures.caused told
     (subst (λ (a : JobGiven). AreWithin (g.S.Shelf.held c.args.shelf.now) a) (sym same) within)
     (subst (λ (a : JobGiven). AreAccepted (g.S.Shelf.held c.args.shelf.now) a) (sym same) accepted)
     no_load no_save no_line)
@@ -84,15 +83,3 @@ returns-in-Err-clause-complete g c = λ asked served told within accepted no_loa
 
 pub returns-in-Ok-clause-usage_only : goal.returns-in-Ok-clause-usage_only
 returns-in-Ok-clause-usage_only g c = λ none. absurd (none (job_given c.in-Ok.job) c.in-Ok.ensures)
-
-pub returns-in-Ok-clause-behind : goal.returns-in-Ok-clause-behind
-returns-in-Ok-clause-behind g c = λ asked served e told.
-    subst (λ (a : JobGiven). HasSavedComing (λ p. (goal.UnitPass-dyn g (p.vtable, p.value)).named p.value) (λ p. (goal.UnitPass-dyn g (p.vtable, p.value)).steps p.value) c.args.passes.now (g.S.Shelf.held c.args.shelf.now) (g.S.Shelf.held c.serve.new.shelf) a) (one_asked (λ p. (goal.UnitPass-dyn g (p.vtable, p.value)).named p.value) c.args.passes.now (map string_bytes c.args.words.now) (job_given c.in-Ok.job) asked c.in-Ok.ensures served) (c.serve.ensures.behind e told)
-
-pub returns-in-Ok-clause-behind_whole : goal.returns-in-Ok-clause-behind_whole
-returns-in-Ok-clause-behind_whole g c = λ asked served e saves told.
-    subst (λ (a : JobGiven). HasSavedComing (λ p. (goal.UnitPass-dyn g (p.vtable, p.value)).named p.value) (λ p. (goal.UnitPass-dyn g (p.vtable, p.value)).steps p.value) c.args.passes.now (g.S.Shelf.held c.args.shelf.now) (g.S.Shelf.held c.serve.new.shelf) a) (one_asked (λ p. (goal.UnitPass-dyn g (p.vtable, p.value)).named p.value) c.args.passes.now (map string_bytes c.args.words.now) (job_given c.in-Ok.job) asked c.in-Ok.ensures served) (c.serve.ensures.behind_whole e saves told)
-
-pub returns-in-Ok-clause-listed : goal.returns-in-Ok-clause-listed
-returns-in-Ok-clause-listed g c = λ asked served e told told_sink.
-    subst (λ (a : JobGiven). HasListed (λ p. (goal.UnitPass-dyn g (p.vtable, p.value)).named p.value) (λ p. (goal.UnitPass-dyn g (p.vtable, p.value)).steps p.value) c.args.passes.now (g.S.Shelf.held c.args.shelf.now) a (g.K.Sink.taken c.args.sink.now) (g.K.Sink.taken c.serve.new.sink)) (one_asked (λ p. (goal.UnitPass-dyn g (p.vtable, p.value)).named p.value) c.args.passes.now (map string_bytes c.args.words.now) (job_given c.in-Ok.job) asked c.in-Ok.ensures served) (c.serve.ensures.listed e told told_sink)
