@@ -4,6 +4,7 @@ ghost use Rattle.std.specs.Prelude.{◌<◌};
 
 mod altered;
 mod attaching;
+mod failing;
 mod handed_in;
 mod images;
 mod optimised;
@@ -15,7 +16,7 @@ use self::sessions::{Ending, IN_SLOTS, assert_refused, ended, prints};
 use crate::session_of;
 use debug_records::Code;
 use line_form::{Status, fault_text};
-use outside::{MemShelf, MemSink};
+use outside::{MemShelf, MemSink, Shelf};
 use std::alloc::{AllocError, Global};
 use std::process::Abort;
 use std::test::Fail;
@@ -52,7 +53,7 @@ fn shelf(
 }
 
 /// A session in memory. What its contract says is left out here, so that a test owes no proof of what it looks at.
-fn run(alloc: Global, words: &[String], shelf: &mut MemShelf, sink: &mut MemSink) -> Status {
+fn run<S: Shelf>(alloc: Global, words: &[String], shelf: &mut S, sink: &mut MemSink) -> Status {
     match session_of(alloc, words, shelf, sink) {
         Ok(status) => status,
         Err(_) => Status::NoMemory,
@@ -95,46 +96,6 @@ fn an_empty_script_saves_the_image_and_says_nothing(rt: HostRuntime) -> Result<(
 fn cut_off(alloc: Global, fails: &[u64]) -> Result<Ending, AllocError> {
     let mut shelf = shelf(alloc, PROGRAM, SCRIPT, [].as_slice())?;
     ended(alloc, IN_SLOTS, &mut shelf, fails)
-}
-
-#[test]
-fn a_sink_that_fails_at_its_second_line_has_taken_the_first(rt: HostRuntime) -> Result<(), Fail> {
-    let whole = cut_off(rt.alloc(), [].as_slice())?;
-    let part = cut_off(rt.alloc(), [2].as_slice())?;
-    assert!(rt; whole.status == Status::Done && part.status == Status::WriteFault);
-    assert!(rt; part.taken.as_slice() == b"at 2 line 2 main depth 1\n".as_slice());
-    assert!(rt; !part.image.is_empty() && part.image.as_slice() == whole.image.as_slice());
-    Ok(())
-}
-
-#[test]
-fn a_load_that_fails_ends_the_session(rt: HostRuntime) -> Result<(), Fail> {
-    let ended = session_ends(rt.alloc(), PROGRAM, SCRIPT, [2].as_slice())?;
-    assert!(rt; ended.status == Status::ReadFault);
-    assert!(rt; ended.taken.is_empty() && ended.image.is_empty());
-    Ok(())
-}
-
-#[test]
-fn a_save_that_fails_leaves_no_image_and_says_nothing(rt: HostRuntime) -> Result<(), Fail> {
-    let ended = session_ends(rt.alloc(), PROGRAM, SCRIPT, [4].as_slice())?;
-    assert!(rt; ended.status == Status::WriteFault);
-    assert!(rt; ended.taken.is_empty() && ended.image.is_empty());
-    Ok(())
-}
-
-#[test]
-fn an_unknown_command_refuses_the_script(rt: HostRuntime) -> Result<(), Fail> {
-    let ended = session_ends(rt.alloc(), PROGRAM, b"jump 3\n".as_slice(), [].as_slice())?;
-    assert!(rt; ended.status == Status::ScriptRefused(Code::UNKNOWN_COMMAND, 1));
-    assert_refused(
-        &rt,
-        rt.alloc(),
-        &ended,
-        4,
-        "cdbg: script refused S01 line 1",
-    )?;
-    Ok(())
 }
 
 #[test]
@@ -343,6 +304,36 @@ fn refused() -> &'static [(&'static [u8], Code, u32)] {
 fn a_source_is_refused_for_the_first_rule_that_it_breaks(rt: HostRuntime) -> Result<(), Fail> {
     for (source, code, line) in refused() {
         assert!(rt; status_of(rt.alloc(), *source)? == Status::SourceRefused(*code, *line));
+    }
+    Ok(())
+}
+
+/// Scripts that are refused, and what is said of each.
+static REFUSED_SCRIPTS: [(&[u8], &str); 8] = [
+    (b"jump 3\n", "cdbg: script refused S01 line 1"),
+    (b"step step\n", "cdbg: script refused S01 line 1"),
+    // Behind a `quit` too.
+    (b"quit\njump\n", "cdbg: script refused S01 line 2"),
+    (b"break 1234567890\n", "cdbg: script refused S02 line 1"),
+    (b"break 0\n", "cdbg: script refused S02 line 1"),
+    (b"break\n", "cdbg: script refused S03 line 1"),
+    (b"print 9x\n", "cdbg: script refused S03 line 1"),
+    // A line of 201 bytes.
+    (
+        b"step                                                                                                                                                                                                     \n",
+        "cdbg: script refused S04 line 1",
+    ),
+];
+
+fn refused_scripts() -> &'static [(&'static [u8], &'static str)] {
+    &REFUSED_SCRIPTS
+}
+
+#[test]
+fn a_script_is_refused_for_the_first_rule_that_it_breaks(rt: HostRuntime) -> Result<(), Fail> {
+    for (script, fault) in refused_scripts() {
+        let ended = session_ends(rt.alloc(), PROGRAM, *script, [].as_slice())?;
+        assert_refused(&rt, rt.alloc(), &ended, 4, *fault)?;
     }
     Ok(())
 }

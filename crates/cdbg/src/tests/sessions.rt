@@ -3,7 +3,7 @@
 use super::attaching::attach;
 use super::{run, split};
 use line_form::{Status, fault_text};
-use outside::{MemShelf, MemSink};
+use outside::{MemShelf, MemSink, Shelf};
 use std::alloc::{AllocError, Global};
 use std::process::Abort;
 
@@ -53,6 +53,20 @@ pub(super) fn image_of(alloc: Global, shelf: &MemShelf) -> Result<Vec<u8>, Alloc
     }
 }
 
+/// The status of the job of these words over a shelf, with a sink whose calls of these numbers fail, and what was put out.
+pub(super) fn outcome<S: Shelf>(
+    alloc: Global,
+    words: &str,
+    shelf: &mut S,
+    fails: &[u64],
+) -> Result<(Status, Vec<u8>), AllocError> {
+    let words = split(alloc, words)?;
+    let mut sink = MemSink::new(alloc, fails)?;
+    let status = run(alloc, &words, shelf, &mut sink);
+    let taken = sink.bytes().to_vec(alloc)?;
+    Ok((status, taken))
+}
+
 /// How the job of these words ends over a shelf, with a sink whose calls of these numbers fail.
 pub(super) fn ended(
     alloc: Global,
@@ -60,13 +74,12 @@ pub(super) fn ended(
     shelf: &mut MemShelf,
     fails: &[u64],
 ) -> Result<Ending, AllocError> {
-    let words = split(alloc, words)?;
-    let mut sink = MemSink::new(alloc, fails)?;
-    let status = run(alloc, &words, shelf, &mut sink);
+    let (status, taken) = outcome(alloc, words, shelf, fails)?;
+    let image = image_of(alloc, shelf)?;
     Ok(Ending {
         status,
-        taken: sink.bytes().to_vec(alloc)?,
-        image: image_of(alloc, shelf)?,
+        taken,
+        image,
     })
 }
 
