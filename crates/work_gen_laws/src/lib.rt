@@ -1,0 +1,2 @@
+//! Laws of generated programs.
+#![tactic(auto)]
