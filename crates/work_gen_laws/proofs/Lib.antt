@@ -4,3 +4,7 @@ pub mod Along
 pub mod Lines
 pub mod Included
 pub mod Tokens
+pub mod Expressions
+pub mod Assignments
+pub mod Grammar
+pub mod Treed

@@ -1,2 +1,6 @@
 //! Laws of generated programs.
 #![tactic(auto)]
+
+mod laws;
+
+pub use laws::{generated_has_a_tree, generated_has_tokens};
