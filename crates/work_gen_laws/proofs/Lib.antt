@@ -8,3 +8,9 @@ pub mod Expressions
 pub mod Assignments
 pub mod Grammar
 pub mod Treed
+pub mod Typing
+pub mod Scoping
+pub mod Blocks
+pub mod Functions
+pub mod Limits
+pub mod Accepted

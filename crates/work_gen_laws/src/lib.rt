@@ -3,4 +3,4 @@
 
 mod laws;
 
-pub use laws::{generated_has_a_tree, generated_has_tokens};
+pub use laws::{generated_has_a_tree, generated_has_tokens, generated_is_checked};
