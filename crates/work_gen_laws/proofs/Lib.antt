@@ -14,3 +14,4 @@ pub mod Blocks
 pub mod Functions
 pub mod Limits
 pub mod Accepted
+pub mod Whole

@@ -1,6 +1,6 @@
-//! Laws of generated programs.
+//! The law that generated programs are programs.
 #![tactic(auto)]
 
 mod laws;
 
-pub use laws::{generated_has_a_tree, generated_has_tokens, generated_is_checked};
+pub use laws::generated_is_a_program;
