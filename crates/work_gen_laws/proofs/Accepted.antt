@@ -1,13 +1,9 @@
 -- The check of the tree of a generated program gives a program.
-use Rattle.std.proofs.Common.{◌≡◌, ℕ, ◌≤◌, List, [], ◌∷◌, length, Bool, true, false, Option, Some, None, Result, Ok, Err, refl, sym, ap, ◌∙◌}
-use Rattle.std.specs.Prelude.{nat_lt}
+use Rattle.std.proofs.Common.{◌≡◌, ℕ, ◌≤◌, List, [], ◌∷◌, length, Option, None, Result, Ok, Err, refl, ap, ◌∙◌}
 use Rattle.std.specs.Option.{option_map_or}
 use Rattle.debug_records.specs.declared.code.Code.{Code}
-use Rattle.c_token.specs.Lexemes.{Lexeme}
 use Rattle.c_tree.specs.Programs.{AutomaticTree, TypedFunctionTree, ProgramTree}
-use Rattle.c_tree.specs.Trees.{ItemTree}
 use Rattle.c_type_bounds.specs.Bounds.{behind_functions, program_breach}
-use Rattle.c_type_expressions.specs.Findings.{FoundTree}
 use Rattle.c_type_declarations.specs.Progress.{ProgressTree, Met, means, closed}
 use Rattle.c_type.specs.Programs.{Refusal, names_refusal, unless_refused, within_function_limits, within_program_limits, program_of, accepted, checked}
 use Rattle.work_gen_laws.specs.Drawn.{Drawn}

@@ -1,6 +1,5 @@
 -- Tokens along the pieces of a text.
-use Rattle.std.proofs.Common.{◌≡◌, ℕ, zero, suc, ◌+◌, ◌<◌, ◌≤◌, List, [], ◌∷◌, ◌++◌, length, drop, Option, Some, None, Result, Ok, Err, refl, sym, ap, ◌∙◌, subst, arith, append_assoc, length-drop, drop-drop}
-use Rattle.debug_records.specs.declared.code.Code.{Code}
+use Rattle.std.proofs.Common.{◌≡◌, ℕ, ◌+◌, ◌<◌, ◌≤◌, List, [], ◌∷◌, ◌++◌, length, drop, Result, Ok, refl, sym, ap, ◌∙◌, subst, arith, append_assoc, length-drop, drop-drop}
 use Rattle.c_token.specs.declared.context.Context.{Context}
 use Rattle.c_token.specs.declared.fault.Fault.{Fault}
 use Rattle.c_token.specs.Includes.{start}

@@ -1,15 +1,15 @@
 -- The grammar of the statements of a generated program.
-use Rattle.std.proofs.Common.{◌≡◌, ℕ, zero, suc, ◌+◌, List, [], ◌∷◌, ◌++◌, true, Some, refl, sym, subst, append_assoc}
+use Rattle.std.proofs.Common.{◌≡◌, ℕ, ◌+◌, List, [], ◌∷◌, ◌++◌, true, refl, sym, subst, append_assoc}
 use Rattle.c_token.specs.Lexemes.{Lexeme}
-use Rattle.c_tree.specs.Statements.{StatementTrees, first}
+use Rattle.c_tree.specs.Statements.{StatementTrees}
 use Rattle.c_parse_tokens.specs.Operators.{binary_operator, assignment_operator}
 use Rattle.c_parse.specs.Expressions.{IsCast, IsLevel, IsConditional, IsAssignment, IsExpression}
 use Rattle.c_parse.specs.Expressions as grammar
 use Rattle.c_parse.specs.Statements.{IsStatement, AreStatements}
 use Rattle.c_parse.specs.Statements as statements
-use Rattle.work_gen_laws.specs.Drawn.{Letter, byte, Operator, Plus, Times, ExclusiveOr, Side, Only, Operation, Drawn}
-use Rattle.work_gen_laws.specs.Pieces.{Sized, end_of, tokens_along, variable, operator, equal, semicolon, feed, side_pieces, line_pieces, lines_pieces}
-use Rattle.work_gen_laws.specs.Trees.{spot, variable_at, binary_of, assigned_tree, line_tree, lines_before}
+use Rattle.work_gen_laws.specs.Drawn.{Letter, byte, Plus, Times, ExclusiveOr, Side, Only, Operation, Drawn}
+use Rattle.work_gen_laws.specs.Pieces.{Sized, end_of, tokens_along, variable, equal, semicolon, feed, side_pieces, line_pieces, lines_pieces}
+use Rattle.work_gen_laws.specs.Trees.{assigned_tree, lines_before}
 use Rattle.work_gen_laws.proofs.Expressions.{to_level, cast_assigns, level_one, level_two, level_seven, name_cast}
 
 -- the pieces of a statement

@@ -1,5 +1,5 @@
 -- What the loop and the statements behind it mean.
-use Rattle.std.proofs.Common.{◌≡◌, ℕ, zero, suc, ◌+◌, pos, List, [], ◌∷◌, ◌++◌, length, slice_get, Bool, true, false, Option, Some, None, refl, sym, ap, ◌∙◌, subst}
+use Rattle.std.proofs.Common.{◌≡◌, ℕ, pos, List, [], ◌∷◌, slice_get, Bool, Some, refl, ap, ◌∙◌}
 use Rattle.std.specs.Prelude.{codes}
 use Rattle.c_token.specs.Lexemes.{Lexeme}
 use Rattle.c_tree.specs.declared.types.IntegerType.TheVariants.{Int, UnsignedInt}
@@ -16,18 +16,17 @@ use Rattle.c_tree.specs.Statements.{StatementTree, StatementTrees}
 use Rattle.c_tree.specs.Statements as tree
 use Rattle.c_type_values.specs.Values.{to_integer}
 use Rattle.c_type_values.specs.Operations.{arithmetic_value}
-use Rattle.c_type_rules.specs.Integers.{residue}
-use Rattle.c_type_expressions.specs.declared.names.Meaning.TheVariants.{Variable, Function}
+use Rattle.c_type_expressions.specs.declared.names.Meaning.TheVariants.{Function}
 use Rattle.c_type_expressions.specs.Names.{Names, meaning_of}
-use Rattle.c_type_declarations.specs.Progress.{ProgressTree, Met, means, next_met, value_met, opened, closed}
+use Rattle.c_type_declarations.specs.Progress.{ProgressTree, means, next_met, value_met, opened, closed}
 use Rattle.c_type_statements.specs.declared.setting.Setting.{Setting}
 use Rattle.c_type_statements.specs.Settings.{in_loop}
 use Rattle.c_type_statements.specs.Switches.{unlabeled, bare}
 use Rattle.c_type_statements.specs.Statements.{statement_met, statements_met}
 use Rattle.c_type.specs.Headers.{library}
-use Rattle.work_gen_laws.specs.Drawn.{Letter, A, B, C, D, byte, Drawn}
+use Rattle.work_gen_laws.specs.Drawn.{A, B, C, D, byte, Drawn}
 use Rattle.work_gen_laws.specs.Trees.{spot, loop_tree, step_tree, output_tree, return_tree, lines_before}
-use Rattle.work_gen_laws.proofs.Typing.{int_scalar, unsigned_scalar, held, Declared, typed_before, first_met, lines_met}
+use Rattle.work_gen_laws.proofs.Typing.{int_scalar, held, Declared, typed_before, lines_met}
 use Rattle.work_gen_laws.proofs.Scoping.{meaning_entered, closed_opened}
 
 abbrev pub counter : LvalueTree

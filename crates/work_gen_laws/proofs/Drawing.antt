@@ -1,8 +1,7 @@
 -- The generated text is that of the statements that are drawn.
-use Rattle.std.proofs.Common.{◌≡◌, ℕ, zero, suc, ◌+◌, ◌/◌, ◌%◌, ◌<◌, ◌≤◌, List, [], ◌∷◌, ◌++◌, length, refl, sym, ap, ◌∙◌, append_assoc, arith, mod-lt}
-use Rattle.std.specs.Prelude.{◌==◌, if◌then◌else◌, codes}
+use Rattle.std.proofs.Common.{◌≡◌, ℕ, zero, suc, ◌+◌, ◌/◌, ◌%◌, ◌<◌, List, [], ◌∷◌, ◌++◌, length, refl, ap, append_assoc, arith}
 use Rattle.work_gen.specs.Generated.{letter, right_side, next, statement, statements, head, tail, text}
-use Rattle.work_gen_laws.specs.Drawn.{Letter, A, B, C, D, Operator, Side, Only, Operation, Drawn, byte, sign, side_text, line_text, lines_text, whole_text, letter_of, side_of, drawn, drawn_all}
+use Rattle.work_gen_laws.specs.Drawn.{Letter, byte, side_text, line_text, lines_text, whole_text, letter_of, side_of, drawn, drawn_all}
 
 letter_is : (k : ℕ) → k < 4 → 97 + k ≡ byte (letter_of k)
 letter_is zero h = refl

@@ -1,9 +1,9 @@
 -- Short ways up the grammar of expressions.
-use Rattle.std.proofs.Common.{◌≡◌, ℕ, zero, suc, List, [], ◌∷◌, Some, refl}
+use Rattle.std.proofs.Common.{◌≡◌, ℕ, zero, suc, List, ◌∷◌}
 use Rattle.c_token.specs.declared.token.Constant as token
 use Rattle.c_token.specs.Lexemes.{Lexeme}
 use Rattle.c_token.specs.Lexemes as word
-use Rattle.c_tree.specs.Expressions.{ExpressionTree, Name, Constant, Parenthesized}
+use Rattle.c_tree.specs.Expressions.{ExpressionTree, Name, Constant}
 use Rattle.c_parse_expressions.specs.Expressions.{constant_type}
 use Rattle.c_parse.specs.Expressions.{IsPrimary, IsPostfix, IsUnary, IsCast, IsLevel, IsConditional, IsAssignment, IsExpression}
 use Rattle.c_parse.specs.Expressions as grammar

@@ -1,5 +1,5 @@
 -- What the one function of a generated program means.
-use Rattle.std.proofs.Common.{◌≡◌, ℕ, zero, suc, ◌+◌, ◌-◌, pos, List, [], ◌∷◌, ◌++◌, length, slice_get, Bool, true, false, Option, Some, None, Result, Ok, Err, refl, sym, ap, ◌∙◌, subst}
+use Rattle.std.proofs.Common.{◌≡◌, ℕ, pos, List, [], ◌∷◌, false, Some, refl, ap, ◌∙◌}
 use Rattle.std.specs.Prelude.{codes}
 use Rattle.debug_records.specs.declared.source.Spot.{Spot}
 use Rattle.c_token.specs.Lexemes.{Lexeme}
@@ -18,11 +18,10 @@ use Rattle.c_tree.specs.Statements as tree
 use Rattle.c_tree.specs.Trees.{FunctionTree, ItemTree, Include, Defines}
 use Rattle.c_tree.specs.Programs.{AutomaticTree, TypedFunctionTree}
 use Rattle.c_type_values.specs.Values.{to_integer}
-use Rattle.c_type_values.specs.Operations.{arithmetic_value}
 use Rattle.c_type_bounds.specs.Counts.{capped}
 use Rattle.c_type_bounds.specs.Weights.{definition_weight}
-use Rattle.c_type_expressions.specs.declared.names.Meaning.TheVariants.{Variable, Function}
-use Rattle.c_type_expressions.specs.Names.{Names, SignatureTree, meaning_of}
+use Rattle.c_type_expressions.specs.declared.names.Meaning.TheVariants.{Variable}
+use Rattle.c_type_expressions.specs.Names.{SignatureTree, meaning_of}
 use Rattle.c_type_expressions.specs.Findings.{FoundTree}
 use Rattle.c_type_declarations.specs.Progress.{ProgressTree, Met, means, next_met, value_met, opened, closed}
 use Rattle.c_type_statements.specs.declared.setting.Setting.{Setting}

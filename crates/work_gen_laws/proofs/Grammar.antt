@@ -1,5 +1,5 @@
 -- The grammar of a generated program: its tokens spell its tree.
-use Rattle.std.proofs.Common.{◌≡◌, ℕ, zero, suc, ◌+◌, ◌-◌, ◌≤◌, max, Bool, true, false, List, [], ◌∷◌, ◌++◌, length, drop, Option, Some, None, Ok, refl, sym, ap, subst, arith}
+use Rattle.std.proofs.Common.{◌≡◌, ℕ, ◌-◌, true, false, List, [], ◌∷◌, ◌++◌, length, drop, Some, refl, sym, ap, arith}
 use Rattle.c_token.specs.declared.token.Punctuator.TheVariants as punctuator
 use Rattle.c_token.specs.Lexemes.{Lexeme}
 use Rattle.c_token.specs.Lexemes as word
@@ -9,14 +9,12 @@ use Rattle.c_tree.specs.Declarations as declaration
 use Rattle.c_tree.specs.Expressions.{ExpressionTree}
 use Rattle.c_tree.specs.Statements.{StatementTree, StatementTrees, none, first, chain}
 use Rattle.c_tree.specs.Trees.{Defines}
-use Rattle.c_parse_tokens.specs.declared.specifier.Place.{Place}
-use Rattle.c_parse_tokens.specs.declared.specifier.Place.TheVariants as place
 use Rattle.c_parse_tokens.specs.declared.specifier.Sign.TheVariants as sign
 use Rattle.c_parse_tokens.specs.declared.specifier.Width.TheVariants as width
 use Rattle.c_parse_tokens.specs.declared.specifier.SpecifierList.{SpecifierList}
 use Rattle.c_parse_tokens.specs.Front.{spot_at, last_before, extent_before}
 use Rattle.c_parse_tokens.specs.Operators.{binary_operator, assignment_operator}
-use Rattle.c_parse_tokens.specs.Specifiers.{no_specifiers, is_type, with_static, with_void, with_int, with_sign, with_width, with_char, with_word, integer_type, base_of}
+use Rattle.c_parse_tokens.specs.Specifiers.{is_type, with_int, with_sign, with_word, integer_type, base_of}
 use Rattle.c_parse.specs.Tokens.{Grammar, IsPunctuator}
 use Rattle.c_parse.specs.Types.{AreSpecifiers, Specify, AreStars, no_star, IsTypeName}
 use Rattle.c_parse.specs.Types as types
@@ -30,7 +28,7 @@ use Rattle.c_parse.specs.Files.{IsItem, Spells}
 use Rattle.c_parse.specs.Files as files
 use Rattle.work_gen_laws.specs.Drawn.{Drawn}
 use Rattle.work_gen_laws.specs.Pieces.{Sized, end_of, tokens_along, lines_pieces, main_line, variables_line, counter_line, loop_line, step_line, end_line, output_line, return_line, tail_pieces, whole_pieces}
-use Rattle.work_gen_laws.specs.Trees.{spot, unsigned_at, number_at, variables_tree, counter_tree, loop_tree, step_tree, sum_tree, remainder_tree, letter_tree, output_tree, return_tree, main_tree, step_tokens, loop_end_tokens, output_tokens, return_tokens, main_end_tokens, main_statements, lines_before, program_tree}
+use Rattle.work_gen_laws.specs.Trees.{variables_tree, counter_tree, loop_tree, step_tree, output_tree, return_tree, main_tree, step_tokens, loop_end_tokens, main_end_tokens, main_statements, lines_before, program_tree}
 use Rattle.work_gen_laws.proofs.Expressions.{from_primary, to_level, cast_assigns, level_one, level_two, level_four, name_cast, constant_cast}
 use Rattle.work_gen_laws.proofs.Assignments.{lines_parse}
 
@@ -87,9 +85,6 @@ unfolding binary_operator assignment_operator
 step_parse text at qs =
     statements.run (grammar.assignment (grammar.assigns (grammar.level (to_level 10 (name_cast refl))) refl refl
     (level_two (grammar.operation (to_level 2 (name_cast refl)) refl refl (to_level 1 (constant_cast refl)))))) refl
-
-int_type : {t : Lexeme} {rest : List Lexeme} (p : Place) → Specify p int_alone (t ∷ rest) rest → Specify p int_alone (t ∷ rest) rest
-int_type p s = s
 
 output_parse : (text : List ℕ) (at : ℕ) (qs : List Sized) → IsStatement (output_tree (tokens_along text at output_line)) (tokens_along text at (output_line ++ qs)) (tokens_along text (end_of at output_line) qs)
 unfolding binary_operator with_word with_int is_type integer_type

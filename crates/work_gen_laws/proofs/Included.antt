@@ -1,6 +1,6 @@
 -- The line that includes a header.
-use Rattle.std.proofs.Common.{◌≡◌, ℕ, ◌+◌, List, [], ◌∷◌, ◌++◌, Bool, true, false, ◌||◌, length, Option, Some, None, Ok, refl, sym, ap, ◌∙◌}
-use Rattle.std.specs.Prelude.{◌==◌, nat_le, slice_index, codes}
+use Rattle.std.proofs.Common.{◌≡◌, ℕ, List, ◌++◌, Bool, true, false, ◌||◌, length, Ok, refl}
+use Rattle.std.specs.Prelude.{nat_le, slice_index, codes}
 use Rattle.c_token.specs.declared.token.Header.TheVariants.{Stdio}
 use Rattle.c_token.specs.Bytes.{is_blank, is_word_byte, is_letter, is_digit, stands, is_replaced}
 use Rattle.c_token.specs.Blanks.{blank_at, blanks_end}

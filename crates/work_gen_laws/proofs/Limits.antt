@@ -1,27 +1,26 @@
 -- A program with at most 400 statements keeps the limits.
-use Rattle.std.proofs.Common.{◌≡◌, ℕ, zero, suc, ◌+◌, ◌-◌, ◌*◌, ◌^◌, ◌≤◌, ◌<◌, min, List, [], ◌∷◌, ◌++◌, length, Bool, true, false, Option, Some, None, Result, Ok, Err, refl, sym, ap, ◌∙◌, subst, arith}
-use Rattle.std.specs.Prelude.{if◌then◌else◌, nat_lt}
+use Rattle.std.proofs.Common.{◌≡◌, ℕ, ◌+◌, ◌*◌, ◌≤◌, List, [], ◌∷◌, length, false, Option, None, Result, Ok, Err, refl, sym, ap, ◌∙◌, arith}
+use Rattle.std.specs.Prelude.{nat_lt}
 use Rattle.c_token.specs.Lexemes.{Lexeme}
-use Rattle.c_tree.specs.Programs.{AutomaticTree, TypedFunctionTree, ProgramTree}
+use Rattle.c_tree.specs.Programs.{AutomaticTree, ProgramTree}
 use Rattle.debug_records.specs.declared.code.Code.{Code}
 use Rattle.c_tree.specs.Statements.{StatementTrees}
 use Rattle.c_tree.specs.Statements as tree
 use Rattle.c_tree.specs.TypedStatements.{TypedStatementTrees}
 use Rattle.c_tree.specs.TypedStatements as typed
-use Rattle.c_places.specs.Flow.{reaches_end}
 use Rattle.c_places.specs.Memory.{kept_by_all}
 use Rattle.c_type_bounds.specs.Counts.{capped}
 use Rattle.c_type_bounds.specs.Weights.{statement_weight, statements_weight, definition_weight, items_weight}
-use Rattle.c_type_bounds.specs.Visible.{visible_pairs, at_statements, at_function, at_functions, at_close, behind_statements, parameter_names}
-use Rattle.c_type_bounds.specs.Bounds.{kept_all, with_kept, function_breach, or_breach, behind_function, behind_functions, program_breach}
+use Rattle.c_type_bounds.specs.Visible.{visible_pairs, at_statements, at_functions}
+use Rattle.c_type_bounds.specs.Bounds.{kept_all, with_kept, function_breach, or_breach, behind_function, behind_functions}
 use Rattle.c_type_bounds.proofs.PlacesCounted.{pairs_counted}
 use Rattle.base_laws.proofs.Numbers.{not_before}
-use Rattle.work_gen_laws.specs.Drawn.{Letter, Side, Only, Operation, Plus, Times, ExclusiveOr, Drawn}
+use Rattle.work_gen_laws.specs.Drawn.{Letter, Side, Only, Operation, Drawn}
 use Rattle.work_gen_laws.specs.Pieces.{end_of, tokens_along, line_pieces}
-use Rattle.work_gen_laws.specs.Trees.{assigned_tree, line_tree, lines_before, step_tree}
-use Rattle.work_gen_laws.proofs.Typing.{side_value, typed_line, typed_before}
+use Rattle.work_gen_laws.specs.Trees.{assigned_tree, lines_before, step_tree}
+use Rattle.work_gen_laws.proofs.Typing.{typed_line, typed_before}
 use Rattle.work_gen_laws.proofs.Blocks.{typed_step}
-use Rattle.work_gen_laws.proofs.Functions.{Tokens, five, typed_block, typed_main, main_block, items_tree}
+use Rattle.work_gen_laws.proofs.Functions.{Tokens, five, typed_main, main_block, items_tree}
 
 -- ---- weights
 

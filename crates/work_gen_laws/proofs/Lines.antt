@@ -1,9 +1,9 @@
 -- The lines of a generated program, piece by piece.
-use Rattle.std.proofs.Common.{◌≡◌, ℕ, ◌+◌, List, [], ◌∷◌, ◌++◌, Ok, refl}
+use Rattle.std.proofs.Common.{ℕ, List, [], ◌∷◌, ◌++◌, refl}
 use Rattle.std.specs.Prelude.{codes}
 use Rattle.work_gen.specs.Generated.{line}
 use Rattle.work_gen_laws.specs.Drawn.{Letter, A, B, C, D, Operator, Plus, Times, ExclusiveOr, Side, Only, Operation, Drawn, byte, sign, side_text, line_text}
-use Rattle.work_gen_laws.specs.Pieces.{Sized, variable, operator, feed, equal, semicolon, side_pieces, line_pieces, main_line, variables_line, counter_line, loop_line, step_line, end_line, output_line, return_line}
+use Rattle.work_gen_laws.specs.Pieces.{variable, operator, feed, equal, semicolon, side_pieces, line_pieces, main_line, variables_line, counter_line, loop_line, step_line, end_line, output_line, return_line}
 use Rattle.work_gen_laws.proofs.Fronts.{opened}
 use Rattle.work_gen_laws.proofs.Along.{IsFront, Reads}
 

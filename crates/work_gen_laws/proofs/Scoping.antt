@@ -1,13 +1,9 @@
 -- A scope in which nothing is declared changes no name's meaning.
-use Rattle.std.proofs.Common.{◌≡◌, ℕ, zero, suc, ◌+◌, ◌-◌, List, [], ◌∷◌, ◌++◌, length, take, Option, Some, None, refl, sym, ap, ◌∙◌, arith, length-append, append-nil}
-use Rattle.std.proofs.lemmas.List.{take-append-le}
+use Rattle.std.proofs.Common.{◌≡◌, ℕ, zero, suc, ◌-◌, List, [], ◌∷◌, ◌++◌, length, take, Option, refl, ap, arith, length-append}
 use Rattle.c_type_expressions.specs.declared.names.Meaning.{Meaning}
 use Rattle.c_type_expressions.specs.Names.{Scope, Names, or_else, found_in, meaning_of}
-use Rattle.c_type_declarations.specs.Scopes.{empty_scope, entered, left}
+use Rattle.c_type_declarations.specs.Scopes.{empty_scope, entered}
 use Rattle.c_type_declarations.specs.Progress.{ProgressTree, opened, closed}
-
-or_none : (m : Option Meaning) → or_else None m ≡ m
-or_none m = refl
 
 found_entered : (scopes : List Scope) (name : List ℕ) → found_in (scopes ++ empty_scope ∷ []) name ≡ found_in scopes name
 found_entered [] name = refl

@@ -1,18 +1,17 @@
 -- The tokens of a generated program.
-use Rattle.std.proofs.Common.{◌≡◌, ℕ, ◌+◌, ◌*◌, ◌<◌, ◌≤◌, List, [], ◌∷◌, ◌++◌, length, drop, Ok, refl, sym, ap, ◌∙◌, subst, arith, append_assoc, append-nil, length-append, length-drop}
+use Rattle.std.proofs.Common.{◌≡◌, ℕ, ◌*◌, ◌≤◌, List, [], ◌∷◌, ◌++◌, length, drop, Ok, refl, sym, ap, subst, arith, append_assoc, append-nil, length-append, length-drop}
 use Rattle.std.specs.Prelude.{codes}
-use Rattle.c_token.specs.declared.context.Context.{Context}
 use Rattle.c_token.specs.declared.token.Header.TheVariants.{Stdio}
 use Rattle.c_token.specs.Includes.{start}
 use Rattle.c_token.specs.Items.{Token, behind}
 use Rattle.c_token.specs.Lexemes.{Lexeme, Include}
-use Rattle.c_token.specs.Spells.{Takes, SpellsFrom, nothing, piece, Spells}
-use Rattle.c_token.specs.Texts.{tokens_at, tokens_of}
+use Rattle.c_token.specs.Spells.{Takes, SpellsFrom, nothing, piece}
+use Rattle.c_token.specs.Texts.{tokens_of}
 use Rattle.c_token.proofs.Readings.{spells_reads}
-use Rattle.work_gen.specs.Generated.{line, head, tail}
+use Rattle.work_gen.specs.Generated.{line, tail}
 use Rattle.work_gen_laws.specs.Drawn.{Letter, Side, Only, Operation, Drawn, byte, side_text, line_text, lines_text, whole_text}
-use Rattle.work_gen_laws.specs.Pieces.{Sized, end_of, tokens_along, feed, line_pieces, lines_pieces, main_line, variables_line, counter_line, loop_line, step_line, end_line, output_line, return_line, tail_pieces, whole_pieces}
-use Rattle.work_gen_laws.proofs.Along.{IsFront, Reads, Goes, along, reads_on}
+use Rattle.work_gen_laws.specs.Pieces.{Sized, tokens_along, feed, line_pieces, lines_pieces, main_line, variables_line, counter_line, loop_line, step_line, end_line, output_line, return_line, tail_pieces, whole_pieces}
+use Rattle.work_gen_laws.proofs.Along.{Reads, Goes, along, reads_on}
 use Rattle.work_gen_laws.proofs.Lines.{feed_alone, main_line_read, variables_line_read, counter_line_read, loop_line_read, step_line_read, end_line_read, output_line_read, return_line_read, line_read}
 use Rattle.work_gen_laws.proofs.Included.{include_stands}
 

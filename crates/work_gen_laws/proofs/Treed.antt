@@ -1,5 +1,5 @@
 -- The tree of a generated program is the one that is read.
-use Rattle.std.proofs.Common.{◌≡◌, ℕ, zero, suc, ◌≤◌, max, List, [], ◌∷◌, Ok, arith}
+use Rattle.std.proofs.Common.{◌≡◌, ℕ, ◌≤◌, List, [], ◌∷◌, Ok, arith}
 use Rattle.c_tree.specs.Statements.{StatementTrees, none, first}
 use Rattle.c_parse.specs.Depths.{statement_depth, statements_depth, file_depth}
 use Rattle.c_parse.specs.Reading.{tree_of}
@@ -7,7 +7,7 @@ use Rattle.c_parse.proofs.Depths.{file_up}
 use Rattle.c_parse.proofs.CompleteFiles.{tree_read}
 use Rattle.work_gen_laws.specs.Drawn.{Letter, Side, Only, Operation, Drawn}
 use Rattle.work_gen_laws.specs.Pieces.{end_of, tokens_along, line_pieces, lines_pieces, whole_pieces}
-use Rattle.work_gen_laws.specs.Trees.{assigned_tree, line_tree, lines_before, step_tree, step_tokens, program_tree}
+use Rattle.work_gen_laws.specs.Trees.{assigned_tree, lines_before, step_tree, step_tokens, program_tree}
 use Rattle.work_gen_laws.proofs.Grammar.{spelled_tree}
 use Rattle.c_token.specs.Lexemes.{Lexeme}
 

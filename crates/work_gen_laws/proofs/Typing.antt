@@ -1,24 +1,20 @@
 -- The statements of a generated program are typed where its variables are declared, and change nothing.
-use Rattle.std.proofs.Common.{◌≡◌, ℕ, zero, suc, ◌+◌, ◌-◌, List, [], ◌∷◌, ◌++◌, length, take, slice_get, Bool, true, false, Option, Some, None, refl, sym, ap, ◌∙◌, subst, arith, length-append}
-use Rattle.std.specs.Prelude.{codes}
+use Rattle.std.proofs.Common.{◌≡◌, ℕ, List, [], ◌∷◌, Some, refl, ap, ◌∙◌}
 use Rattle.c_token.specs.Lexemes.{Lexeme}
 use Rattle.c_tree.specs.declared.types.IntegerType.TheVariants.{Int, UnsignedInt}
 use Rattle.c_tree.specs.declared.object_type.Scalar.{Scalar}
 use Rattle.c_tree.specs.declared.object_type.Object.TheVariants.{Automatic}
-use Rattle.c_tree.specs.declared.object_type.ObjectType.{ObjectType}
 use Rattle.c_tree.specs.declared.object_type.ObjectType.TheVariants as object
-use Rattle.c_tree.specs.declared.object_type.ValueType.TheVariants.{Integer}
 use Rattle.c_tree.specs.declared.typed_expression.Arithmetic as declared-arithmetic
 use Rattle.c_tree.specs.declared.typed_expression.Arithmetic.TheVariants as arithmetic
 use Rattle.c_tree.specs.TypedExpressions.{RvalueTree, LvalueTree, Load, Named, Arithmetic, Assign}
-use Rattle.c_tree.specs.TypedStatements.{TypedStatementTree, TypedStatementTrees, Run, none, first}
+use Rattle.c_tree.specs.TypedStatements.{TypedStatementTree, TypedStatementTrees, Run, first}
 use Rattle.c_tree.specs.Statements.{StatementTree, StatementTrees}
 use Rattle.c_tree.specs.Statements as tree
 use Rattle.c_type_values.specs.Values.{to_integer}
 use Rattle.c_type_values.specs.Operations.{arithmetic_value}
-use Rattle.c_type_expressions.specs.declared.names.Meaning.{Meaning}
 use Rattle.c_type_expressions.specs.declared.names.Meaning.TheVariants.{Variable}
-use Rattle.c_type_expressions.specs.Names.{Scope, Names, found_in, meaning_of}
+use Rattle.c_type_expressions.specs.Names.{Names, meaning_of}
 use Rattle.c_type_declarations.specs.Progress.{ProgressTree, Met, means, next_met, value_met}
 use Rattle.c_type_statements.specs.declared.setting.Setting.{Setting}
 use Rattle.c_type_statements.specs.Switches.{unlabeled, bare}

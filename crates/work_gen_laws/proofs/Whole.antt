@@ -1,14 +1,12 @@
 -- A generated text is of a program.
-use Rattle.std.proofs.Common.{◌≡◌, ℕ, ◌≤◌, List, length, Ok, refl, sym, ap, ◌∙◌, subst, arith}
+use Rattle.std.proofs.Common.{◌≡◌, ℕ, ◌≤◌, List, length, Ok, sym, ap, ◌∙◌, subst, arith}
 use Rattle.c_token.specs.Reading.{◌>>=◌}
-use Rattle.c_token.specs.Texts.{tokens_of}
 use Rattle.c_tree.specs.Programs.{ProgramTree}
 use Rattle.c_parse.specs.Reading.{tree_of}
 use Rattle.c_type.specs.Programs.{checked}
 use Rattle.c_source.specs.Sources.{program_of_source, HasProgram}
 use Rattle.work_gen.specs.Generated.{text}
 use Rattle.work_gen_laws.specs.Drawn.{Drawn, drawn_all, whole_text}
-use Rattle.work_gen_laws.specs.Pieces.{tokens_along, whole_pieces}
 use Rattle.work_gen_laws.specs.Trees.{program_tree}
 use Rattle.work_gen_laws.proofs.Drawing.{text_is, count_is}
 use Rattle.work_gen_laws.proofs.Tokens.{tokens_are}

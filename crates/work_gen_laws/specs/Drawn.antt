@@ -1,5 +1,5 @@
 -- The statements of a generated program, by what each of them assigns.
-use Rattle.std.specs.Prelude.{ℕ, zero, suc, ◌+◌, ◌/◌, ◌%◌, List, [], ◌∷◌, ◌++◌}
+use Rattle.std.specs.Prelude.{ℕ, zero, suc, ◌/◌, ◌%◌, List, [], ◌∷◌, ◌++◌}
 use Rattle.work_gen.specs.Generated.{next, head, tail}
 
 -- one of the variables a, b, c and d

@@ -1,5 +1,5 @@
 -- The tree of a generated program. A part of it takes the tokens of its line.
-use Rattle.std.specs.Prelude.{ℕ, ◌+◌, List, [], ◌∷◌, drop, Option, Some, None, codes}
+use Rattle.std.specs.Prelude.{ℕ, ◌+◌, List, [], ◌∷◌, drop, Some, codes}
 use Rattle.debug_records.specs.declared.source.Spot.{Spot}
 use Rattle.c_token.specs.Lexemes.{Lexeme}
 use Rattle.c_tree.specs.declared.declaration.Header.TheVariants.{Stdio}
@@ -12,11 +12,11 @@ use Rattle.c_tree.specs.declared.types.IntegerType.TheVariants.{Int, UnsignedInt
 use Rattle.c_tree.specs.Declarations.{Absent, InitializerTree, DeclaratorTree, DeclarationTree}
 use Rattle.c_tree.specs.Declarations as declaration
 use Rattle.c_tree.specs.Expressions.{NameTree, ExpressionTree, Name, Constant, Parenthesized, Call, Cast, Binary, Assignment, chain}
-use Rattle.c_tree.specs.Statements.{StatementTree, StatementTrees, BlockTree, Compound, Declare, Run, While, Return, none, first}
+use Rattle.c_tree.specs.Statements.{StatementTree, StatementTrees, Compound, Declare, Run, While, Return, none, first}
 use Rattle.c_tree.specs.Trees.{FunctionTree, ItemTree, Include, Defines}
 use Rattle.c_parse_tokens.specs.Front.{spot_at}
 use Rattle.work_gen_laws.specs.Drawn.{Letter, byte, Operator, Plus, Times, ExclusiveOr, Side, Only, Operation, Drawn}
-use Rattle.work_gen_laws.specs.Pieces.{Sized, end_of, tokens_along, line_pieces, lines_pieces, include_line, main_line, variables_line, counter_line, loop_line, step_line, end_line, output_line, return_line}
+use Rattle.work_gen_laws.specs.Pieces.{end_of, tokens_along, line_pieces, lines_pieces, include_line, main_line, variables_line, counter_line, loop_line, step_line, end_line, output_line, return_line}
 
 -- where the token of a number stands
 abbrev pub spot : List Lexeme → ℕ → Spot
@@ -30,16 +30,19 @@ extent ts k n = record { first = spot ts k; last = (spot ts n).at }
 abbrev pub name_at : List Lexeme → ℕ → List ℕ → NameTree
 name_at ts k name = record { name = name; spot = spot ts k }
 
--- the expression of a token that is a name of one byte, a constant, or one with a u behind it
+-- the expression of a token that is a name of one byte
 abbrev pub variable_at : List Lexeme → ℕ → ℕ → ExpressionTree
 variable_at ts k b = Name (name_at ts k (b ∷ []))
 
+-- of one that is a constant
 abbrev pub number_at : List Lexeme → ℕ → ℕ → ExpressionTree
 number_at ts k value = Constant (spot ts k) value Int
 
+-- of one that is a constant with a `u` behind it
 abbrev pub unsigned_at : List Lexeme → ℕ → ℕ → ExpressionTree
 unsigned_at ts k value = Constant (spot ts k) value UnsignedInt
 
+-- an operator, as trees have it
 abbrev pub binary_of : Operator → BinaryOperator
 binary_of Plus = binary.Add
 binary_of Times = binary.Multiply
@@ -51,6 +54,7 @@ assigned_tree ts t (Only l) = Run (Assignment Assign (variable_at ts 0 (byte t))
 assigned_tree ts t (Operation o l m) =
     Run (Assignment Assign (variable_at ts 0 (byte t)) (Binary (binary_of o) (variable_at ts 2 (byte l)) (variable_at ts 4 (byte m)))) (spot ts 5).at
 
+-- a drawn statement
 abbrev pub line_tree : List Lexeme → Drawn → StatementTree
 line_tree ts d = assigned_tree ts d.target d.side
 
@@ -81,16 +85,19 @@ loop_tree ts body ends = While (spot ts 0) (Binary binary.Less (variable_at ts 2
 abbrev pub step_tree : List Lexeme → StatementTree
 step_tree ts = Run (Assignment Assign (variable_at ts 0 105) (Binary binary.Add (variable_at ts 2 105) (number_at ts 4 1))) (spot ts 5).at
 
--- `putchar(65+(int)((a+b+c+d)%26u));`
+-- `a+b+c+d`, as it stands on the line of `putchar`
 abbrev pub sum_tree : List Lexeme → ExpressionTree
 sum_tree ts = Binary binary.Add (Binary binary.Add (Binary binary.Add (variable_at ts 9 97) (variable_at ts 11 98)) (variable_at ts 13 99)) (variable_at ts 15 100)
 
+-- `((a+b+c+d)%26u)`
 abbrev pub remainder_tree : List Lexeme → ExpressionTree
 remainder_tree ts = Parenthesized (extent ts 7 19) (Binary binary.Remainder (Parenthesized (extent ts 8 16) (sum_tree ts)) (unsigned_at ts 18 26))
 
+-- `65+(int)((a+b+c+d)%26u)`
 abbrev pub letter_tree : List Lexeme → ExpressionTree
 letter_tree ts = Binary binary.Add (number_at ts 2 65) (Cast (spot ts 4) (record { base = base.Integer Int; stars = 0 }) (remainder_tree ts))
 
+-- `putchar(65+(int)((a+b+c+d)%26u));`
 abbrev pub output_tree : List Lexeme → StatementTree
 output_tree ts = Run (Call (Name (name_at ts 0 (codes "putchar"))) (chain (letter_tree ts ∷ [])) (spot ts 20).at) (spot ts 21).at
 
@@ -103,20 +110,25 @@ abbrev pub main_tree : List Lexeme → List StatementTree → List Lexeme → Fu
 main_tree ts all ends =
     record { extent = extent ts 1 4; base = base.Integer Int; stars = 0; name = name_at ts 1 (codes "main"); parameters = []; body = Some (record { opening = spot ts 5; statements = all; closing = spot ends 0 }) }
 
--- The lines of a program by the offsets at which they begin: those before the statements, and those behind them.
+-- The tokens of the lines behind the statements, which end at an offset.
 module _ (text : List ℕ) (at : ℕ) where
+  -- `i=i+1;`
   abbrev pub step_tokens : List Lexeme
   step_tokens = tokens_along text at step_line
 
+  -- the end of the loop
   abbrev pub loop_end_tokens : List Lexeme
   loop_end_tokens = tokens_along text (end_of at step_line) end_line
 
+  -- `putchar(65+(int)((a+b+c+d)%26u));`
   abbrev pub output_tokens : List Lexeme
   output_tokens = tokens_along text (end_of (end_of at step_line) end_line) output_line
 
+  -- `return 0;`
   abbrev pub return_tokens : List Lexeme
   return_tokens = tokens_along text (end_of (end_of (end_of at step_line) end_line) output_line) return_line
 
+  -- the end of `main`
   abbrev pub main_end_tokens : List Lexeme
   main_end_tokens = tokens_along text (end_of (end_of (end_of (end_of at step_line) end_line) output_line) return_line) end_line
 
