@@ -15,3 +15,4 @@ pub mod Functions
 pub mod Limits
 pub mod Accepted
 pub mod Whole
+pub mod Swept

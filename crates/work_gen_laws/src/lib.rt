@@ -1,6 +1,6 @@
-//! The law that generated programs are programs.
+//! Laws of generated programs.
 #![tactic(auto)]
 
 mod laws;
 
-pub use laws::generated_is_a_program;
+pub use laws::{a_sweep_is_of_a_program, generated_is_a_program};
