@@ -22,3 +22,8 @@ pub mod Ahead
 pub mod Making
 pub mod Marked
 pub mod Moved
+pub mod Once
+pub mod Positions
+pub mod Following
+pub mod Again
+pub mod Accounts

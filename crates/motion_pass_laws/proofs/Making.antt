@@ -64,7 +64,7 @@ module _ (g : Graph) where
   reads_so (Call z f all) e x t is target fresh = absurd (none-some e is)
 
   -- What becomes of an instruction by the rule stays, or reads a temporary.
-  becomes_so : (treated : List Computation) (n : ℕ) (i j : Instruction) (rest : List Instruction) (end : End) → Becomes g.blocks g.name_count treated (within n (i ∷ rest) end) i j → StaysOrReads g i j
+  pub becomes_so : (treated : List Computation) (n : ℕ) (i j : Instruction) (rest : List Instruction) (end : End) → Becomes g.blocks g.name_count treated (within n (i ∷ rest) end) i j → StaysOrReads g i j
   becomes_so treated n i _ rest end (stays not) = made.stays
   becomes_so treated n i _ rest end (reads e k x read at target) = reads_so i e x (g.name_count + k) (it_does e i read.1.0) target (omega (arith))
 

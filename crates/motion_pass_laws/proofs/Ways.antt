@@ -16,7 +16,7 @@ use Rattle.motion_pass_laws.proofs.Lists.{each_among}
 use Rattle.motion_pass_laws.specs.Made.{StaysOrReads, IsDoing, IsNew, PassedSo, nothing, one_passed, new_passed, IsLedTo, directly, by_own, EndsSo, AreLeft, none_left, one_left, new_left, IsMadeOf, IsMade}
 
 -- There is a block where one is kept.
-kept_there : (place : Option ℕ) (o : Option Block) → IsKept place o → (b : Block) × (o ≡ Some b)
+pub kept_there : (place : Option ℕ) (o : Option Block) → IsKept place o → (b : Block) × (o ≡ Some b)
 kept_there place None kept = absurd kept
 kept_there place (Some b) kept = (b, refl)
 

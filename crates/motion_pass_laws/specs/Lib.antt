@@ -1,2 +1,3 @@
 pub mod MovedRuns
 pub mod Made
+pub mod Often
