@@ -27,7 +27,7 @@ module _ (blocks : List Block) where
   come_stands (goes come (enters b is)) = (b, is, refl)
 
 -- So no path comes to the first block again.
-not_entered : (u : UnitForm) (g : Graph) → IsWellMarked u g → IsEnteredAgain g.blocks → ⊥
+pub not_entered : (u : UnitForm) (g : Graph) → IsWellMarked u g → IsEnteredAgain g.blocks → ⊥
 not_entered u g marked again = (let s = come_stands g.blocks again.1 in marked.first again.0 s.0 s.1 s.2)
 
 -- A function that is left is left for a bound.

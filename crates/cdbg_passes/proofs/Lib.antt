@@ -14,5 +14,7 @@ mod MotionEarned
 mod NoCopies
 mod NoDeadCounts
 mod LeftForBounds
+mod ComputedOnce
 mod NeverGrow
+mod WorkedOften
 mod WorkedLeft

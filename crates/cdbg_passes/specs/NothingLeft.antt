@@ -1,5 +1,5 @@
 -- That a pass leaves nothing that it could still do, said of what it made.
-use Rattle.std.specs.Prelude.{◌≡◌, ℕ, Some, List, ◌∷◌}
+use Rattle.std.specs.Prelude.{◌≡◌, ◌⊎◌, ℕ, suc, Some, List, ◌∷◌, ◌++◌, slice_get, take, drop}
 use Rattle.graph_core.specs.Graphs.{Instruction, End, Graph}
 use Rattle.graph_core.specs.Uses.{target_of}
 use Rattle.graph_core.specs.Paths.{Among}
@@ -7,6 +7,9 @@ use Rattle.graph_core.specs.Points.{IsUnread, StandsWith, reads_at}
 use Rattle.graph_paths.specs.Reached.{IsReached}
 use Rattle.copy_pass_rule.specs.Copying.{IsCopied}
 use Rattle.dead_pass_rule.specs.Idle.{MayGo}
+use Rattle.motion_pass_placement.specs.Moves.{IsWithin}
+use Rattle.motion_pass_placement.specs.Moving.{IsMoved}
+use Rattle.motion_pass_laws.specs.Often.{HasNothingAgain}
 
 -- NO COPY REACHES A READ: at no point that a path comes to is a scalar read to which one instruction copied another scalar of its type on every path, with neither written since.
 abbrev pub HasNoCopies : Graph → Type 0
@@ -16,3 +19,14 @@ HasNoCopies h = (n : ℕ) (rest : List Instruction) (e : End) (x y : ℕ) → Is
 abbrev pub HasNoDead : Graph → Type 0
 HasNoDead h =
     (n p x : ℕ) (i : Instruction) (rest : List Instruction) (e : End) → IsReached h n (i ∷ rest) e → StandsWith h p n (i ∷ rest) e → target_of i ≡ Some x → MayGo h p x → IsUnread h x n rest e → ⊥
+
+-- What code motion would make of a function takes the unit beyond a bound, with the functions before it as they became and those behind it as they were.
+pub record IsBeyondBounds (before : List Graph) (g : Graph) (behind : List Graph) : Type 0 where
+  pub moved : Graph
+  pub is : IsMoved g moved
+  pub beyond : IsWithin moved (before ++ moved ∷ behind) → ⊥
+
+-- NOTHING IS COMPUTED AGAIN in any function behind code motion, but where it left the function as it was for a bound.
+abbrev pub ComputeNothingAgain : (gs hs : List Graph) → Type 0
+ComputeNothingAgain gs hs =
+    (k : ℕ) (g h : Graph) → slice_get gs k ≡ Some g → slice_get hs k ≡ Some h → HasNothingAgain h ⊎ ((h ≡ g) × IsBeyondBounds (take k hs) g (drop (suc k) gs))

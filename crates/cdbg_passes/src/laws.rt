@@ -3,10 +3,11 @@
 ghost use Rattle.std.specs.List.{AllByRecursion};
 ghost use Rattle.graph_core.specs.Graphs.{UnitForm};
 ghost use Rattle.graph_core.specs.WellMarked.{AreWellMarked};
+ghost use Rattle.motion_pass_laws.specs.Often.{DoesNoMore, IsOnceAhead};
 ghost use Rattle.pass_law.specs.Kept.{EachFunction};
 ghost use Rattle.cdbg_passes.specs.Bounds.{AreLeftForBounds, NeverGrows};
 ghost use Rattle.cdbg_passes.specs.Earned.{AreEarned};
-ghost use Rattle.cdbg_passes.specs.NothingLeft.{HasNoCopies, HasNoDead};
+ghost use Rattle.cdbg_passes.specs.NothingLeft.{ComputeNothingAgain, HasNoCopies, HasNoDead};
 ghost use Rattle.cdbg_passes.specs.Steps.{MovesCode, PropagatesCopies, RemovesDead};
 ghost use Rattle.cdbg_passes.specs.Worked.{AreRefused};
 
@@ -19,11 +20,16 @@ pub fn changes_are_earned()
 {}
 
 /// A law: no pass is idle. Copy propagation leaves no read that a copy reaches on every path, and the removal of dead
-/// assignments no write that may go and that nothing reads. Code motion leaves a function as it was for a bound alone.
+/// assignments no write that may go and that nothing reads. Code motion leaves a function as it was for a bound alone,
+/// and else nothing is computed where its value is had on every path. On no path from the entry to an end is anything
+/// computed more often than before, and on one that is cut short at most once more.
 pub fn no_pass_is_idle()
     ensures copy { (u v : UnitForm) → PropagatesCopies u v → AllByRecursion HasNoCopies v.graphs }
     ensures dead { (u v : UnitForm) → RemovesDead u v → AllByRecursion HasNoDead v.graphs }
     ensures left { (u v : UnitForm) → AreWellMarked u → MovesCode u v → AreLeftForBounds u.graphs v.graphs }
+    ensures again { (u v : UnitForm) → AreWellMarked u → MovesCode u v → ComputeNothingAgain u.graphs v.graphs }
+    ensures more { (u v : UnitForm) → AreWellMarked u → MovesCode u v → EachFunction DoesNoMore u.graphs v.graphs }
+    ensures ahead { (u v : UnitForm) → AreWellMarked u → MovesCode u v → EachFunction IsOnceAhead u.graphs v.graphs }
 {}
 
 /// A law: no function grows by copy propagation or by the removal of dead assignments.
@@ -32,7 +38,8 @@ pub fn functions_never_grow()
     ensures dead { (u v : UnitForm) → RemovesDead u v → EachFunction NeverGrows u.graphs v.graphs }
 {}
 
-/// A law: the definitions of what is left refuse a graph with a copy that reaches a read, and one with a dead write.
+/// A law: the definitions of what is left refuse a graph with a copy that reaches a read, one with a dead write, one
+/// that computes again what is had, and one that computes more often than the one before.
 pub fn what_is_left_is_refused()
     ensures { AreRefused }
 {}
