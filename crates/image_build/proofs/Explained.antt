@@ -18,7 +18,6 @@ use Rattle.graph_core.proofs.Among.{among_at, at_among}
 use Rattle.graph_homes.specs.Homed.{HomedForm}
 use Rattle.base_laws.proofs.Lists.{all_at, from_map, map_at}
 use Rattle.rv_emit_steps.specs.Programs.{address_of}
-use Rattle.rv_emit_runs.specs.Told.{AreCountable}
 use Rattle.currency.specs.Named.{IsNumbered}
 use Rattle.image_form.specs.Form.{Form, numbered}
 use Rattle.image_form.specs.Numbers.{row_numbers, verdict_numbers}
@@ -181,8 +180,8 @@ module _ (p : ProgramTree) (h : HomedForm) (m : Form) (made : IsMadeOf p h m) (i
       subst (IsExplainedBy m stop v) same (by_evidence stop v (verdict.Nonresident change start (Some b)) is)
 
   -- AN IMAGE THAT IS MADE OF A UNIT EXPLAINS what its rows say to hide variables.
-  pub explains_all : AreCountable h → ExplainsAll m
-  explains_all countable r among =
+  pub explains_all : ExplainsAll m
+  explains_all r among =
       let at = among_at m.rows r among in
       let k : ℕ = at.0 in
       let q = from_map row_numbers made.rows.rows k (row_numbers r) (ap (λ l. slice_get l k) (sym made.rows.same) ∙ map_at row_numbers m.rows k r at.1) in
@@ -191,7 +190,7 @@ module _ (p : ProgramTree) (h : HomedForm) (m : Form) (made : IsMadeOf p h m) (i
       let place : row.place ≡ r.place = first_same row.place r.place (row.variable ∷ verdict_numbers row.verdict) (r.variable ∷ verdict_numbers r.verdict) numbers in
       let rest : row.variable ∷ verdict_numbers row.verdict ≡ r.variable ∷ verdict_numbers r.verdict = rest_same row.place r.place (row.variable ∷ verdict_numbers row.verdict) (r.variable ∷ verdict_numbers r.verdict) numbers in
       let var : row.variable ≡ r.variable = first_same row.variable r.variable (verdict_numbers row.verdict) (verdict_numbers r.verdict) rest in
-      let evident = made.evident countable row (at_among made.rows.rows k row q.1) in
+      let evident = made.evident row (at_among made.rows.rows k row q.1) in
       by_numbers r.place r.variable row.verdict r.verdict (rest_same row.variable r.variable (verdict_numbers row.verdict) (verdict_numbers r.verdict) rest)
       (all_at (λ (x : VisibleRow). IsVerdict m x.variable x.verdict) m.rows k r image.rows.verdicts at.1)
       (subst (λ n. IsEvidentIn h made.emits.code.arrangement made.emitted flow r.variable n row.verdict) place

@@ -110,7 +110,7 @@ module _ (h : HomedForm) (valid : IsValid h.unit) (a : Arrangement) (e : Emitted
     where
       of_instruction : (l : ℕ) (i : Instruction) (rest : List Instruction) (b : Block) (before : List Instruction) → slice_get g.blocks l ≡ Some b → b.instructions ≡ before ++ (i ∷ rest) → place_behind before b.place ≡ Some place → target_of i ≡ Some y → IsToldAt place (home_of h f y) (writer.Instruction f l (length before))
       of_instruction l i rest b before at parts in_place target =
-          let one : IsToldWriter h a e code_told.code f l (instructions_before g.blocks l + length before) (place_behind before b.place) (home_of h f y) = writers countable f g code_told.code is code_told.is l b at before rest i y parts target in
+          let one : IsToldWriter h a e code_told.code f l (instructions_before g.blocks l + length before) (place_behind before b.place) (home_of h f y) = writers f g code_told.code is code_told.is l b at before rest i y parts target in
           let all = ap (λ (q : List Instruction). length q) parts ∙ length-append before (i ∷ rest) in
           let number : instruction_number g l (length before) ≡ instructions_before g.blocks l + length before = number_is g l (length before) b at (omega (arith, all)) (countable f g is) in
           record {

@@ -5,8 +5,6 @@ use Rattle.debug_records.specs.declared.change.Kind.TheVariants.{Removed, Moved,
 use Rattle.places.specs.Flow.{assigns}
 use Rattle.places.specs.Path.{IsLeastRoute}
 use Rattle.graph_core.specs.Paths.{Among}
-use Rattle.graph_homes.specs.Homed.{HomedForm}
-use Rattle.rv_emit_runs.specs.Told.{AreCountable}
 use Rattle.image_form.specs.Form.{Form, numbered}
 use Rattle.image_form.specs.declared.tables.Change.{Change}
 use Rattle.image_form.specs.declared.verdicts.Verdict.{Verdict}
@@ -36,7 +34,3 @@ IsExplainedBy m p v (verdict.Nonresident change start (Some address)) = IsExplai
 -- Whatever the rows of an image say to hide variables is explained by it.
 abbrev pub ExplainsAll : Form → Type 0
 ExplainsAll m = (r : VisibleRow) → Among r m.rows → IsExplainedBy m r.place r.variable r.verdict
-
--- An image that is made of a unit with homes does so, where 32 bits count the instructions of each function of the unit.
-abbrev pub Explains : HomedForm → Form → Type 0
-Explains h m = AreCountable h → ExplainsAll m

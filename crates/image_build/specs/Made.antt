@@ -10,7 +10,6 @@ use Rattle.graph_core.specs.Validity.{IsValid}
 use Rattle.graph_homes.specs.Homed.{HaveHomes, HomedForm}
 use Rattle.home_assign.specs.Rule.{HaveHomesApart, HaveRegisters, HaveSlots}
 use Rattle.rv_emit_tables.specs.Emitted.{EmittedForm}
-use Rattle.rv_emit_runs.specs.Told.{AreCountable}
 use Rattle.rv_emit.specs.Emits.{Emits}
 use Rattle.currency.specs.declared.verdict.PlaceVerdict.{PlaceVerdict}
 use Rattle.currency.specs.Evident.{AreEvident}
@@ -67,7 +66,7 @@ pub record IsHomed (mode : Mode) (h : HomedForm) : Type 0 where
 
 -- AN IMAGE IS MADE OF A UNIT WITH HOMES, of a program. Its words with their owners, and its initial bytes, are the code of the unit, which does what the unit does over its homes; each function lies where its code does, with its
 -- frame; each variable is kept where the code has it; each place has the address of its stop, and an entry that of its function; the changes, the flow and the assignments are the unit's, and the names those of the program
--- and of the passes of the changes; the rows say what is borne out by the unit; and what a row says to hide a variable is evident in the words of the code, where 32 bits count the instructions of functions.
+-- and of the passes of the changes; the rows say what is borne out by the unit; and what a row says to hide a variable is evident in the words of the code.
 pub record IsMadeOf (p : ProgramTree) (h : HomedForm) (m : Form) : Type 0 where
   pub emitted : EmittedForm
   pub emits : Emits h emitted
@@ -85,4 +84,4 @@ pub record IsMadeOf (p : ProgramTree) (h : HomedForm) (m : Form) : Type 0 where
   pub assigned : m.assigned ≡ map assigned_pair h.unit.assignments
   pub names : m.names ≡ declared_names p ++ pass_names h.unit.log
   pub rows : HasRowsOf h emitted places m
-  pub evident : AreCountable h → AreEvidentIn h emits.code.arrangement emitted rows.borne_out.flow rows.rows
+  pub evident : AreEvidentIn h emits.code.arrangement emitted rows.borne_out.flow rows.rows

@@ -13,9 +13,10 @@ use Rattle.rv_emit_runs.proofs.Whole.{agrees_throughout, comes_by_all}
 use Rattle.rv_emit_layout.specs.Laid.{IsEmittedOf}
 use Rattle.rv_emit_runs.proofs.Rooms.{apart_has_room}
 use Rattle.rv_emit_runs.proofs.EmitBoundWhole.{follows_in_time}
-use Rattle.rv_emit_runs.specs.Told.{TellBinders, TellWriters, Tells}
+use Rattle.rv_emit_runs.specs.Told.{AreCountable, IsCountable, TellBinders, TellWriters, Tells}
 use Rattle.rv_emit_runs.specs.Writing.{WritesNothingElse}
 use Rattle.rv_emit_runs.proofs.BinderTables.{tells_binders}
+use Rattle.rv_emit_runs.proofs.Lists.{all_at}
 use Rattle.rv_emit_runs.proofs.Binders.{code_binds}
 use Rattle.rv_emit_runs.proofs.EmitPlacedMarkers.{emitted_stops}
 use Rattle.rv_emit_runs.proofs.NothingElse.{nothing_else}
@@ -34,8 +35,12 @@ stops_apart h e code s t is_s is_t same =
     let index : one.0 ≡ two.0 = let here = one.1 in let there = two.1 in omega (arith, same, here, there) in
     sym one.2 ∙ ap (slice_index e.owners) index ∙ two.2
 
-pub emits_all : (h : HomedForm) → IsValid h.unit → HaveHomes h → (e : EmittedForm) → IsEmittedOf h e → length e.code ≤ 262144 → length e.owners ≡ length e.code → AllByRecursion IsInWords h.unit.graphs → Emits h e
-emits_all h valid homed e emitted short owners words =
+-- Where 32 bits can count the instructions of all graphs they can count those of each function.
+pub countable_each : (h : HomedForm) → AllByRecursion IsCountable h.unit.graphs → AreCountable h
+countable_each h all f g is = all_at IsCountable h.unit.graphs f g all is
+
+pub emits_all : (h : HomedForm) → IsValid h.unit → HaveHomes h → (e : EmittedForm) → IsEmittedOf h e → length e.code ≤ 262144 → length e.owners ≡ length e.code → AllByRecursion IsInWords h.unit.graphs → AreCountable h → Emits h e
+emits_all h valid homed e emitted short owners words countable =
     let code : IsCode h e = code_is h valid homed e emitted short emitted.addresses words emitted.initial emitted.bytes in
     let arranged = sym (arrangement_is h valid homed e emitted short emitted.addresses words emitted.initial emitted.bytes) in
     record {
@@ -49,7 +54,7 @@ emits_all h valid homed e emitted short owners words =
       writers = code_writes h e code;
       binders = code_binds h e code;
       nothing_else = subst (λ a. WritesNothingElse h a e) arranged (nothing_else h valid homed e emitted short words);
-      tables = subst (λ a. TellWriters h a e) arranged (tells_writers h valid homed e emitted short words);
+      tables = subst (λ a. TellWriters h a e) arranged (tells_writers h valid homed e emitted short words countable);
       bindings = subst (λ a. TellBinders h a e) arranged (tells_binders h valid homed e emitted short words);
       apart = stops_apart h e code;
       told = subst (λ a. Tells h a e) arranged (emitted_tells h valid homed e emitted);

@@ -36,7 +36,7 @@ pub record Emits (h : HomedForm) (e : EmittedForm) : Type 0 where
   pub binders : HaveBinders h code.arrangement e
   -- No other word of a place writes a home of its function.
   pub nothing_else : WritesNothingElse h code.arrangement e
-  -- The table of writers tells the address of the word that writes the home of each instruction's target, where 32 bits can count the instructions.
+  -- The table of writers tells the address of the word that writes the home of each instruction's target.
   pub tables : TellWriters h code.arrangement e
   -- The table of bindings tells that of the word that binds each parameter which is a scalar.
   pub bindings : TellBinders h code.arrangement e

@@ -6,15 +6,19 @@ ghost use Rattle.graph_homes.specs.Homed.{HaveHomes, homed_view};
 ghost use Rattle.rv_emit_tables.specs.Emitted.{emitted_view};
 ghost use Rattle.rv_emit_layout.specs.Laid.{IsEmittedOf};
 ghost use Rattle.rv_emit_layout.specs.Placed.{AreFirstAddresses};
+ghost use Rattle.rv_emit_runs.specs.Told.{AreCountable};
 ghost use Rattle.rv_emit.specs.Emits.{Emits};
 
 use crate::constants::graphs_have_words;
+use crate::counting::are_countable;
 use graph_homes::HomedUnit;
 use rv_emit_layout::assemble;
 use rv_emit_tables::Emitted;
 use std::alloc::{AllocError, Global};
 
-/// The code of a unit whose names have homes: the machine over it does what the unit over its homes does.
+/// The code of a unit whose names have homes: the machine over it does what the unit over its homes does. The only error
+/// is want of memory; it is told too where a function has 2^32 instructions or more, notes among them, which no memory
+/// is known to hold.
 pub fn emit(alloc: Global, homed: &HomedUnit) -> Result<Emitted, AllocError>
     requires valid { IsValid (homed_view homed.now).unit }
     requires homes { HaveHomes (homed_view homed.now) }
@@ -22,10 +26,14 @@ pub fn emit(alloc: Global, homed: &HomedUnit) -> Result<Emitted, AllocError>
     ensures owners { IfOk result (λ e. length e.owners.items ≡ length e.code.items) }
     ensures functions { IfOk result (λ e. length e.functions.items ≡ length homed.now.unit.graphs.items) }
     ensures statics { IfOk result (λ e. AreFirstAddresses (homed_view homed.now).unit e.statics.items) }
+    ensures countable { IfOk result (λ e. AreCountable (homed_view homed.now)) }
     ensures coded { IfOk result (λ e. IsEmittedOf (homed_view homed.now) (emitted_view e)) }
     ensures emits { IfOk result (λ e. Emits (homed_view homed.now) (emitted_view e)) }
 {
     graphs_have_words(&homed.unit.graphs);
+    if !are_countable(&homed.unit.graphs) {
+        return Err(AllocError);
+    }
     let emitted = assemble(alloc, homed)?;
     Ok(emitted)
 }

@@ -2,6 +2,7 @@
 #![tactic(auto)]
 
 mod constants;
+mod counting;
 mod emitting;
 
 pub use emitting::emit;

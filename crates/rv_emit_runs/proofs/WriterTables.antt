@@ -363,5 +363,5 @@ module _ (h : HomedForm) (valid : IsValid h.unit) (homed : HaveHomes h) (e : Emi
       subst (λ (q : Graph). IsToldWriter h a e code f l (instructions_before q.blocks l + length before) (place_behind before b.place) (home_of h f x)) same
       (writer f low code told l b (ap (λ (q : Graph). slice_get q.blocks l) same ∙ block) before more i x parts target)
 
-pub tells_writers : (h : HomedForm) → IsValid h.unit → HaveHomes h → (e : EmittedForm) → (emitted : IsEmittedOf h e) → length e.code ≤ 262144 → AllByRecursion IsInWords h.unit.graphs → TellWriters h (arranged emitted.coded) e
+pub tells_writers : (h : HomedForm) → IsValid h.unit → HaveHomes h → (e : EmittedForm) → (emitted : IsEmittedOf h e) → length e.code ≤ 262144 → AllByRecursion IsInWords h.unit.graphs → AreCountable h → TellWriters h (arranged emitted.coded) e
 tells_writers h valid homed e emitted short words_in countable f g code is told l b block before more i x parts target = emitted_writers h valid homed e emitted short words_in countable f g code is told l b block before more i x parts target

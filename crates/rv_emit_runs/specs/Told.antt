@@ -34,19 +34,23 @@ instructions_before [] l = 0
 instructions_before (b ∷ more) zero = 0
 instructions_before (b ∷ more) (suc l) = length b.instructions + instructions_before more l
 
+-- 32 bits can count the instructions of a graph, notes too.
+abbrev pub IsCountable : Graph → Type 0
+IsCountable g = instructions_before g.blocks (length g.blocks) ≤ 4294967295
+
 -- 32 bits can count the instructions of each function, notes too.
 abbrev pub AreCountable : HomedForm → Type 0
-AreCountable h = (f : ℕ) (g : Graph) → slice_get h.unit.graphs f ≡ Some g → instructions_before g.blocks (length g.blocks) ≤ 4294967295
+AreCountable h = (f : ℕ) (g : Graph) → slice_get h.unit.graphs f ≡ Some g → IsCountable g
 
 -- What is told for an instruction, block by block, is the address of a word that writes the home of its target.
 pub record IsToldWriter (h : HomedForm) (a : Arrangement) (e : EmittedForm) (code : TableCode) (f l number : ℕ) (place : Option ℕ) (home : Home) : Type 0 where
   pub writer : HasWriter h a e f l place home
   pub told : slice_get code.writers number ≡ Some (address_of writer.index)
 
--- THE TABLE OF WRITERS: for each instruction with a target the address is told of the word that writes the target's home, in the place that is in force before it, where 32 bits can count the instructions.
+-- THE TABLE OF WRITERS: for each instruction with a target the address is told of the word that writes the target's home, in the place that is in force before it.
 abbrev pub TellWriters : HomedForm → Arrangement → EmittedForm → Type 0
 TellWriters h a e =
-    AreCountable h → (f : ℕ) (g : Graph) (code : TableCode) → slice_get h.unit.graphs f ≡ Some g → slice_get e.functions f ≡ Some code → (l : ℕ) (b : Block) → slice_get g.blocks l ≡ Some b → (before behind : List Instruction) (i : Instruction) (x : ℕ) → b.instructions ≡ before ++ (i ∷ behind)
+    (f : ℕ) (g : Graph) (code : TableCode) → slice_get h.unit.graphs f ≡ Some g → slice_get e.functions f ≡ Some code → (l : ℕ) (b : Block) → slice_get g.blocks l ≡ Some b → (before behind : List Instruction) (i : Instruction) (x : ℕ) → b.instructions ≡ before ++ (i ∷ behind)
     → target_of i ≡ Some x → IsToldWriter h a e code f l (instructions_before g.blocks l + length before) (place_behind before b.place) (home_of h f x)
 
 -- What is told for a parameter is the address of a word that writes the home of its scalar.

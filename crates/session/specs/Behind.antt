@@ -9,18 +9,18 @@ use Rattle.graph_core.specs.Graphs.{UnitForm}
 use Rattle.graph_homes.specs.Homed.{HomedForm}
 use Rattle.image_form.specs.Form.{Form}
 use Rattle.image_build.specs.Behind.{ComesHomed}
-use Rattle.image_build.specs.Explained.{Explains}
+use Rattle.image_build.specs.Explained.{ExplainsAll}
 use Rattle.image_build.specs.Made.{IsHomed, IsMadeOf}
 
 module _ {P : Type 0} (named : P → PassName) (steps : P → UnitForm → UnitForm → Type 0) (handed_in : List P) where
   -- AN IMAGE COMES OF A PROGRAM behind passes of these names, with homes of the mode: it is made of a unit with such homes, and to that unit the passes lead, each in its turn by one step. Whatever its rows say to hide variables is
-  -- explained by its own tables, where 32 bits count the instructions of each function.
+  -- explained by its own tables.
   pub record ComesOfProgram (p : ProgramTree) (names : List Text) (mode : Mode) (form : Form) : Type 0 where
     pub homed : HomedForm
     pub homes : IsHomed mode homed
     pub made : IsMadeOf p homed form
     pub comes : ComesHomed named steps handed_in names p homed
-    pub explains : Explains homed form
+    pub explains : ExplainsAll form
 
   -- it comes of the program of a source
   abbrev pub ComesOfSource : (source : List ℕ) → (names : List Text) → Mode → Form → Type 0

@@ -68,7 +68,7 @@ returns-clause-made c =
         needed = subst (AreNodesOf (telling_of h rows emitted) image.nodes.items) c.deref.ensures.value (made.nodes few);
         same = refl;
       };
-      evident = λ countable. rows_evident h c.requires.valid emitted c.in_ok-emitted.ensures.emits countable borne_out.flow image.nodes.items rows c.in-Some.verdicts.items image.rows.items borne_out.named borne_out.evident say;
+      evident = rows_evident h c.requires.valid emitted c.in_ok-emitted.ensures.emits c.in_ok-emitted.ensures.countable borne_out.flow image.nodes.items rows c.in-Some.verdicts.items image.rows.items borne_out.named borne_out.evident say;
     }
 
 pub returns-clause-image : goal.returns-clause-image
