@@ -17,8 +17,7 @@ use rv_emit_tables::Emitted;
 use std::alloc::{AllocError, Global};
 
 /// The code of a unit whose names have homes: the machine over it does what the unit over its homes does. The only error
-/// is want of memory; it is told too where a function has 2^32 instructions or more, notes among them, which no memory
-/// is known to hold.
+/// is want of memory, which also answers a function of 2^32 instructions or more, notes among them; no text makes one.
 pub fn emit(alloc: Global, homed: &HomedUnit) -> Result<Emitted, AllocError>
     requires valid { IsValid (homed_view homed.now).unit }
     requires homes { HaveHomes (homed_view homed.now) }

@@ -1,12 +1,9 @@
-use Rattle.std.proofs.Common.{◌-◌, ◌^◌, ◌∙◌, ap, length, map, min, rules, tests}
-use Rattle.std.proofs.lemmas.List.{length-map}
+use Rattle.std.proofs.Common.{length, rules, tests}
 use Rattle.std.proofs.lemmas.Iterator.{YieldsList-from_slice}
+use Rattle.std.proofs.lemmas.List.{length-map}
 use Rattle.graph_core.specs.Graphs.{Block, block_view}
 use Rattle.graph_core.proofs.Lists.{adds_up}
-use Rattle.rv_emit.proofs.Counted.{all_before}
 use Rattle.rv_emit.proofs.counting.instruction_count.Goals as goal
 
 pub returns : goal.returns
-returns c =
-    adds_up (λ (b : Block). length b.instructions) block_view _ _ c.fold.ensures.ran (YieldsList-from_slice c.args.blocks.now cc) (λ a x b q k. search (rules, tests, length-map))
-    ∙ ap (λ n. min n (2 ^ 64 - 1)) (all_before (map block_view c.args.blocks.now))
+returns c = adds_up (λ (b : Block). length b.instructions) block_view _ _ c.fold.ensures.ran (YieldsList-from_slice c.args.blocks.now cc) (λ a x b q k. search (rules, tests, length-map))
