@@ -4,6 +4,7 @@ ghost use Rattle.std.specs.Prelude.{◌<◌};
 
 mod altered;
 mod attaching;
+mod branches;
 mod failing;
 mod handed_in;
 mod images;

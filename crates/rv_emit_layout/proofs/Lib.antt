@@ -1,3 +1,4 @@
+pub mod Longest
 pub mod Layouts
 pub mod Spelled
 pub mod StopsTold

@@ -1,5 +1,5 @@
 -- Where the pieces of a function stand, and the words that they become.
-use Rattle.std.specs.Prelude.{◌≡◌, ℕ, zero, suc, ◌+◌, ◌*◌, ◌%◌, ◌≤◌, not, Bool, true, false, if◌then◌else◌, Some, List, [], ◌∷◌, ◌++◌, length, map, slice_get, slice_index, get_or, drop, replicate}
+use Rattle.std.specs.Prelude.{◌≡◌, ℕ, zero, suc, ◌+◌, ◌*◌, ◌%◌, ◌≤◌, not, Bool, true, false, if◌then◌else◌, Some, List, [], ◌∷◌, ◌++◌, length, map, slice_get, slice_index, get_or, drop}
 use Rattle.word_base.specs.Arithmetic.{subtracted}
 use Rattle.rv_code.specs.declared.instruction.Instruction.{Instruction}
 use Rattle.rv_code.specs.declared.instruction.Instruction.TheVariants as instruction
@@ -11,7 +11,8 @@ use Rattle.rv_emit_code.specs.Ends.{opposite}
 use Rattle.rv_emit_sequence.specs.Sequences.{SequenceForm, counted}
 use Rattle.rv_emit_layout.specs.declared.layout.Layout as declared-layout
 use Rattle.rv_emit_layout.specs.declared.layout.OwnedWord.{OwnedWord}
-use Rattle.rv_emit_layout.specs.Spelling.{is_branch_distance, spelled}
+use Rattle.rv_emit_layout.specs.Longest.{is_near, longest}
+use Rattle.rv_emit_layout.specs.Spelling.{spelled}
 
 -- How many words stand before each piece, and behind that before the end; how many words all pieces have; and for each piece whether it is a branch of two words.
 pub record LayoutForm : Type 0 where
@@ -72,7 +73,7 @@ offsets_from far i n (p ∷ more) = n ∷ offsets_from far (counted (i + 1)) (co
 abbrev pub is_far : (labels offsets : List ℕ) → (from : ℕ) → Piece → Bool
 is_far labels offsets from (Word i) = false
 is_far labels offsets from (Jump to) = false
-is_far labels offsets from (Branch op l r to) = not (is_branch_distance (distance from (label_at labels offsets to.0)))
+is_far labels offsets from (Branch op l r to) = not (is_near from (label_at labels offsets to.0))
 is_far labels offsets from (Call f) = false
 
 -- Whether each piece is one, from one of this index on.
@@ -80,16 +81,13 @@ abbrev pub far_from : (labels offsets : List ℕ) → (index : ℕ) → List Pla
 far_from labels offsets i [] = []
 far_from labels offsets i (p ∷ more) = is_far labels offsets (slice_index offsets i) p.piece ∷ far_from labels offsets (counted (i + 1)) more
 
--- In the longest layout each branch has two words.
-abbrev pub longest : List PlacedPiece → List ℕ
-longest pieces = offsets_from (replicate (length pieces) true) 0 0 pieces
-
--- A branch has one word where the longest layout allows that.
+-- The layout in which these pieces are branches of two words.
 abbrev pub layout_by : (far : List Bool) → List PlacedPiece → LayoutForm
 layout_by far pieces = record { offsets = offsets_from far 0 0 pieces; words = slice_index (offsets_from far 0 0 pieces) (counted (length far)); far = far }
 
+-- A branch has one word where the longest layout allows that.
 abbrev pub layout_of : SequenceForm → LayoutForm
-layout_of s = layout_by (far_from s.labels (longest s.pieces) 0 s.pieces) s.pieces
+layout_of s = layout_by (far_from s.labels (longest s) 0 s.pieces) s.pieces
 
 -- ---- Words
 

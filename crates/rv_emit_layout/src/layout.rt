@@ -5,9 +5,11 @@ ghost use Rattle.rv_code.specs.declared.instruction.Instruction.TheVariants as i
 ghost use Rattle.rv_emit_words.specs.Words.{words_in, words_of_piece};
 ghost use Rattle.rv_emit_code.specs.Ends.{opposite};
 ghost use Rattle.rv_emit_sequence.specs.Sequences.{sequence_view};
+ghost use Rattle.rv_emit_layout.specs.Longest.{is_near};
 ghost use Rattle.rv_emit_layout.specs.Layouts.{branch_code, distance, far_from, function_words, is_far, label_at, layout_of, layout_view, lying, offsets_from, owned_words, piece_code, width, IsLayoutOf};
 
-use crate::spelling::{is_branch_distance, word_of};
+use crate::measuring::longest_offsets;
+use crate::spelling::word_of;
 use graph_core::Label;
 use rv_code::{BranchOperation, Instruction};
 use rv_emit_code::opposite;
@@ -48,14 +50,19 @@ fn label_at(labels: &[u32], offsets: &[u32], label: Label) -> u32
     at(offsets, at(labels, label.0))
 }
 
+/// Whether a branch alone leads from one word to another.
+fn is_near(from: u32, to: u32) -> bool
+    ensures { result ≡ is_near from to }
+{
+    from.saturating_sub(to) <= 1024 && to.saturating_sub(from) <= 1023 && from.max(to) < u32::MAX
+}
+
 /// Whether a piece is a branch that may be too far for one word.
 fn is_far(labels: &[u32], offsets: &[u32], from: u32, piece: Piece) -> bool
     ensures { result ≡ is_far labels.now offsets.now from piece }
 {
     match piece {
-        Piece::Branch { to, .. } => {
-            !is_branch_distance(distance(from, label_at(labels, offsets, to)))
-        }
+        Piece::Branch { to, .. } => !is_near(from, label_at(labels, offsets, to)),
         Piece::Word(_) | Piece::Jump(_) | Piece::Call(_) => false,
     }
 }
@@ -118,12 +125,11 @@ fn offsets_of(alloc: Global, pieces: &[PlacedPiece], far: &[bool]) -> Result<Vec
     Ok(offsets)
 }
 
-/// Where the pieces of a function stand: a branch has one word where the longest layout, in which each has two, allows that.
+/// Where the pieces of a function stand: a branch has one word where the longest layout allows that.
 fn shortened(alloc: Global, sequence: &Sequence) -> Result<Layout, AllocError>
     ensures { IfOk result (λ layout. layout_view layout ≡ layout_of (sequence_view sequence.now)) }
 {
-    let all = vec![in alloc; true; sequence.pieces.len()]?;
-    let longest = offsets_of(alloc, &sequence.pieces, &all)?;
+    let longest = longest_offsets(alloc, sequence)?;
     let far = far_branches(alloc, &sequence.pieces, &sequence.labels, &longest)?;
     let offsets = offsets_of(alloc, &sequence.pieces, &far)?;
     let words = at(&offsets, count(far.len()));

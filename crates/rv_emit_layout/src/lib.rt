@@ -5,6 +5,7 @@ mod assembling;
 mod base;
 mod laying;
 mod layout;
+mod measuring;
 mod spelling;
 mod telling;
 mod tracing;

@@ -7,7 +7,7 @@ ghost use Rattle.rv_emit_layout.specs.Spelling.{is_branch_distance, is_immediate
 use rv_code::{ImmediateOperation, Instruction, encode};
 
 /// The word of `addi x0, x0, 0`, which does nothing.
-const NOTHING: u32 = 19;
+pub const NOTHING: u32 = 19;
 
 /// Whether a word is that of a signed number of 12 bits.
 fn is_signed_12(n: u32) -> bool
@@ -18,7 +18,7 @@ fn is_signed_12(n: u32) -> bool
 }
 
 /// Whether a word is a distance that a branch has.
-pub fn is_branch_distance(n: u32) -> bool
+fn is_branch_distance(n: u32) -> bool
     ensures value { result ≡ is_branch_distance n }
     ensures form { result ≡ true → IsBranchDistance n }
 {
