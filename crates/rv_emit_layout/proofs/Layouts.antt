@@ -1,5 +1,5 @@
 -- A layout in which a branch has one word where the longest layout allows that: where pieces stand in it, and that these branches are near enough.
-use Rattle.std.proofs.Common.{◌≡◌, ℕ, zero, suc, ◌+◌, ◌-◌, ◌*◌, ◌%◌, ◌<◌, ◌≤◌, ◌⊎◌, inl, inr, ⊎_elim, if◌then◌else◌, Bool, true, false, Some, List, [], ◌∷◌, length, slice_get, slice_index, get_or, drop, refl, sym, ap, ◌∙◌, subst, arith}
+use Rattle.std.proofs.Common.{◌≡◌, ℕ, zero, suc, ◌+◌, ◌-◌, ◌*◌, ◌<◌, ◌≤◌, inl, inr, ⊎_elim, if◌then◌else◌, Bool, true, false, Some, List, [], ◌∷◌, length, slice_get, slice_index, get_or, drop, refl, sym, ap, ◌∙◌, subst, arith}
 use Rattle.std.proofs.lemmas.Bool.{cases_lt}
 use Rattle.std.proofs.lemmas.List.{drop-drop, get_or_past}
 use Rattle.rv_code.specs.InForm.{IsBranchDistance}

@@ -1,5 +1,5 @@
 -- The longest layout: where its pieces stand, step by step, and that no layout has more words between two of them.
-use Rattle.std.proofs.Common.{◌≡◌, ℕ, zero, suc, ◌+◌, ◌-◌, ◌<◌, ◌≤◌, ◌≢◌, ◌⊎◌, inl, inr, ⊎_elim, ◌==◌, eqb, ◌&&◌, nat_lt, nat_le, max, cond, Bool, true, false, Some, None, List, [], ◌∷◌, ◌++◌, length, map, replicate, take, drop, slice_get, slice_index, slice_set, get_or, count_by, refl, sym, ap, ◌∙◌, subst, arith}
+use Rattle.std.proofs.Common.{◌≡◌, ℕ, zero, suc, ◌+◌, ◌-◌, ◌<◌, ◌≤◌, ◌≢◌, ⊎_elim, ◌==◌, eqb, ◌&&◌, nat_lt, nat_le, max, cond, Bool, true, false, Some, List, [], ◌∷◌, ◌++◌, length, map, replicate, take, drop, slice_get, slice_index, slice_set, get_or, count_by, refl, sym, ap, ◌∙◌, subst, arith}
 use Rattle.std.proofs.lemmas.Bool.{and_parts, leb-true, ltb-true, cases_lt}
 use Rattle.std.proofs.lemmas.Bool.Decides.{eqb_tells, nat_tests}
 use Rattle.std.proofs.lemmas.List.FromFn.{get_or-map-range_with_len, length-map-range_with_len, map-range_with_len_more}

@@ -1,6 +1,6 @@
 -- The tests of instructions that words can spell answer that, and the word of one that is in form spells it.
-use Rattle.std.proofs.Common.{◌≡◌, ℕ, ◌%◌, ◌<◌, ◌≤◌, ◌⊎◌, inl, inr, ⊎_elim, ◌==◌, ◌&&◌, ◌||◌, nat_lt, nat_le, Bool, true, false, cond, refl, ap, ◌∙◌, subst, sym}
-use Rattle.std.proofs.lemmas.Bool.{and_from, and_parts, or_left, or_right, or_cases, lt-ltb, le-leb, eq-eqb, ltb-true, leb-true, eqb-true}
+use Rattle.std.proofs.Common.{◌≡◌, ℕ, ◌%◌, inl, inr, ◌==◌, ◌&&◌, nat_lt, nat_le, Bool, true, cond, refl, ap}
+use Rattle.std.proofs.lemmas.Bool.{and_from, or_left, or_right, lt-ltb, le-leb, eq-eqb}
 use Rattle.rv_code.specs.declared.instruction.ImmediateOperation.{ImmediateOperation}
 use Rattle.rv_code.specs.declared.instruction.ImmediateOperation.TheVariants.{Addi, Slti, Sltiu, Xori, Ori, Andi, Slli, Srli, Srai}
 use Rattle.rv_code.specs.declared.instruction.Instruction.{Instruction}

@@ -1,5 +1,5 @@
 -- Where the pieces of a function stand, and the words that they become.
-use Rattle.std.specs.Prelude.{◌≡◌, ℕ, zero, suc, ◌+◌, ◌*◌, ◌%◌, ◌≤◌, not, Bool, true, false, if◌then◌else◌, Some, List, [], ◌∷◌, ◌++◌, length, map, slice_get, slice_index, get_or, drop}
+use Rattle.std.specs.Prelude.{◌≡◌, ℕ, zero, suc, ◌+◌, ◌*◌, ◌%◌, ◌≤◌, not, Bool, false, if◌then◌else◌, Some, List, [], ◌∷◌, ◌++◌, length, map, slice_get, slice_index, get_or, drop}
 use Rattle.word_base.specs.Arithmetic.{subtracted}
 use Rattle.rv_code.specs.declared.instruction.Instruction.{Instruction}
 use Rattle.rv_code.specs.declared.instruction.Instruction.TheVariants as instruction

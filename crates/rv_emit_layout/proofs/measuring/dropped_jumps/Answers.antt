@@ -1,4 +1,4 @@
-use Rattle.std.proofs.Common.{◌≡◌, ◌+◌, List, ℕ, [], ◌∷◌, ◌++◌, length, replicate, slice_index, sym, ap, ◌∙◌, arith}
+use Rattle.std.proofs.Common.{◌≡◌, ◌+◌, List, ℕ, [], ◌∷◌, ◌++◌, length, replicate, slice_index, ap, ◌∙◌, arith}
 use Rattle.rv_emit_sequence.specs.Sequences.{counted, sequence_view}
 use Rattle.rv_emit_layout.specs.Longest.{is_dropped}
 use Rattle.rv_emit_layout.proofs.Longest.{added_jump, added_length, none_at, none_length}

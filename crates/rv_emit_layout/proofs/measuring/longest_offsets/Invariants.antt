@@ -1,4 +1,4 @@
-use Rattle.std.proofs.Common.{◌≡◌, ℕ, ◌+◌, ◌≤◌, cond, length, map}
+use Rattle.std.proofs.Common.{◌≡◌, ◌+◌, cond, map}
 use Rattle.std.specs.List.{range_with_len}
 use Rattle.rv_emit_sequence.specs.Sequences.{counted, sequence_view}
 use Rattle.rv_emit_layout.specs.Longest.{dropped_at, has_word_at, long_before}
