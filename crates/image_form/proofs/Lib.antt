@@ -6,6 +6,7 @@ pub mod Gathered
 pub mod InTurn
 pub mod Inside
 pub mod FunctionsKept
+pub mod Got
 pub mod Kept
 pub mod NamesKept
 pub mod NodesKept

@@ -509,8 +509,3 @@ read_sound bytes f are e =
       tables = tables_parts (in_turn bytes) (ap breach_of_tables turned ∙ tables.0);
     } in
     subst (λ (g : Form). IsImage g × (bytes ≡ spelling g)) (ap decoded turned ∙ same_ok (decoded (sections_at bytes)) f tables.1) (image_is bytes kept, spelled_so bytes kept)
-
--- What was found is an image.
-pub found_is : (bytes : List ℕ) (r : Result Image ImageErr) → AreBytes bytes → Gives form r (read_of bytes) → IfOk r (λ m. IsImage (form m) × (bytes ≡ spelling (form m)))
-found_is bytes (Ok m) are given = read_sound bytes (form m) are given
-found_is bytes (Err e) are given = tt

@@ -2,6 +2,7 @@ pub mod Breaches
 pub mod Decoding
 pub mod Form
 pub mod Layouts
+pub mod Lent
 pub mod Lists
 pub mod Names
 pub mod Numbers
@@ -24,3 +25,4 @@ pub mod TestsOfNodes
 pub mod TestsOfTables
 pub mod TestsOfVariables
 pub mod Unique
+pub mod Views

@@ -65,7 +65,7 @@ fn check_counts(bytes: &[u8]) -> Result<(), ImageErr>
     requires { 64 ≤ length bytes.now }
     ensures { Gives (λ _. tt) result (first_breach (count_checks bytes.now)) }
 {
-    let header = Header { bytes };
+    let header = HeaderBytes { bytes };
     if number_at(bytes, MODE) > 1 {
         return Err(ImageErr::Refused(Code::HEADER_NUMBERS, MODE));
     }
@@ -105,17 +105,17 @@ fn size_told(bytes: &[u8]) -> usize
     requires { 64 ≤ length bytes.now }
     ensures { result ≡ size_told bytes.now }
 {
-    size(&Header { bytes })
+    size(&HeaderBytes { bytes })
 }
 
 /// The header of an image, which says how many records each section has.
 #[derive(Clone, Copy)]
-pub struct Header<'a> {
+pub struct HeaderBytes<'a> {
     pub bytes: &'a [u8],
     ghost long: { 64 ≤ length bytes.now },
 }
 
-impl Counts for Header<'_> {
+impl Counts for HeaderBytes<'_> {
     ghost count = { λ header. count_told header.bytes.now };
 
     fn count(&self, section: Section) -> usize {

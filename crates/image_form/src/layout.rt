@@ -7,7 +7,7 @@ ghost use Rattle.image_form.specs.Reading.{size_told};
 ghost use Rattle.image_form.specs.Sections.{bytes_from, count_of, count_told, number_at, rows_of, sections_at};
 ghost use Rattle.image_form.specs.declared.section.Section.TheVariants.{Names};
 
-use crate::header::{Header, MODE};
+use crate::header::{HeaderBytes, MODE};
 use crate::section::{Counts, Section, start};
 use crate::table::{Table, number_at};
 
@@ -57,7 +57,7 @@ pub fn layout_of(bytes: &[u8]) -> Layout<'_>
     ensures sections { sections_in result ≡ sections_at bytes.now }
     ensures small { start (count_of (sections_in result)) Names < 2 ^ 63 }
 {
-    let initial = Header { bytes }.count(Section::Initial);
+    let initial = HeaderBytes { bytes }.count(Section::Initial);
     Layout {
         mode: number_at(bytes, MODE),
         code: rows_of(bytes, Section::Code),
@@ -80,7 +80,7 @@ fn bytes_from(bytes: &[u8], section: Section) -> &[u8]
     requires { size_told bytes.now ≡ length bytes.now }
     ensures { result.now ≡ bytes_from bytes.now section }
 {
-    &bytes[start(&Header { bytes }, section)..]
+    &bytes[start(&HeaderBytes { bytes }, section)..]
 }
 
 /// The rows of a section.
@@ -88,6 +88,6 @@ fn rows_of(bytes: &[u8], section: Section) -> Table<'_>
     requires { size_told bytes.now ≡ length bytes.now }
     ensures { rows_in result ≡ rows_of bytes.now section }
 {
-    let count = Header { bytes }.count(section);
+    let count = HeaderBytes { bytes }.count(section);
     Table::new(bytes_from(bytes, section), section.record_size() / 4, count)
 }

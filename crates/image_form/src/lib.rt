@@ -7,8 +7,10 @@ mod fault;
 mod format;
 mod header;
 mod layout;
+mod lent;
 mod name_rules;
 mod node_rules;
+mod numbers;
 mod reading;
 mod recipes;
 mod records;
@@ -23,7 +25,11 @@ mod writing;
 
 pub use fault::ImageErr;
 pub use format::Image;
-pub use reading::read;
+pub use lent::View;
+pub use numbers::{
+    ChangeRecord, FunctionRecord, Header, NodeRecord, PlaceRecord, RowRecord, VariableRecord,
+};
+pub use reading::{read, view};
 pub use recipes::Node;
 pub use tables::{AssignedPair, Change, FlowPair, Function, Place};
 pub use variables::{ElementType, Storage, Variable};

@@ -2,14 +2,16 @@
 
 ghost use Rattle.std.specs.Prelude.{◌≡◌, ◌+◌, ◌<◌, ◌≤◌, ◌^◌, IfOk, IfSome, OnOk, Ok, length};
 ghost use Rattle.image_form.specs.Breaches.{Gives, breach_in, first_breach};
-ghost use Rattle.image_form.specs.Decoding.{decoded, mode_of};
+ghost use Rattle.image_form.specs.Decoding.{decoded};
 ghost use Rattle.image_form.specs.Form.{Form, form};
 ghost use Rattle.image_form.specs.Layouts.{sections_in};
+ghost use Rattle.image_form.specs.Lent.{image_in};
 ghost use Rattle.image_form.specs.Order.{record_size, start};
 ghost use Rattle.image_form.specs.Reading.{breach_of_program, breach_of_tables, count_checks, header_checks, read_of, size_told};
 ghost use Rattle.image_form.specs.Rules.{IsImage};
-ghost use Rattle.image_form.specs.Sections.{count_of, number_at};
+ghost use Rattle.image_form.specs.Sections.{count_of, sections_at};
 ghost use Rattle.image_form.specs.Spelling.{spelling};
+ghost use Rattle.image_form.specs.Views.{viewed};
 ghost use Rattle.image_form.specs.declared.section.Section.TheVariants.{Names};
 
 use crate::change_rules::{AssignedRule, ChangeRule, FlowRule, VisibleRule};
@@ -18,13 +20,14 @@ use crate::fault::ImageErr;
 use crate::format::Image;
 use crate::header::{HEADER_SIZE, check_header};
 use crate::layout::{Layout, layout_of};
+use crate::lent::View;
 use crate::name_rules::first_misfit;
 use crate::node_rules::{NodeRule, first_nodes};
-use crate::records::take_records;
+use crate::records::{mode_of, take_records};
 use crate::rule::first_fault;
 use crate::section::{Section, start};
 use crate::variable_rules::VariableRule;
-use debug_records::{Code, Mode};
+use debug_records::Code;
 use std::alloc::{AllocError, Global};
 
 /// The image that the bytes spell.
@@ -44,9 +47,41 @@ pub fn read(alloc: Global, bytes: &[u8]) -> Result<Image, ImageErr>
     read_exactly(alloc, bytes)
 }
 
-#[tactic(auto, unfolding(crate::specs::Reading::read_of))]
 fn read_exactly(alloc: Global, bytes: &[u8]) -> Result<Image, ImageErr>
     ensures { Gives form result (read_of bytes.now) }
+{
+    let layout = checked(alloc, bytes)?;
+    Ok(image_of(alloc, &layout)?)
+}
+
+/// The image that the bytes spell, lent from them.
+///
+/// Bytes that spell no image are refused as `read` refuses them.
+pub fn view(alloc: Global, bytes: &[u8]) -> Result<View<'_>, ImageErr>
+    // What is viewed is an image, and the bytes are its spelling.
+    ensures found { IfOk result (λ v. IsImage (viewed v) × (bytes.now ≡ spelling (viewed v))) }
+
+    // The spelling of an image is viewed, unless memory runs out.
+    ensures all { (f : Form) → IsImage f → bytes.now ≡ spelling f → Gives viewed result (Ok f) }
+
+    // Other bytes are refused for the first rule that they break.
+    ensures exact { Gives viewed result (read_of bytes.now) }
+{
+    view_exactly(alloc, bytes)
+}
+
+fn view_exactly(alloc: Global, bytes: &[u8]) -> Result<View<'_>, ImageErr>
+    ensures { Gives viewed result (read_of bytes.now) }
+{
+    let layout = checked(alloc, bytes)?;
+    Ok(View::new(bytes, &layout))
+}
+
+/// The sections of bytes that spell an image.
+#[tactic(auto, unfolding(crate::specs::Reading::read_of))]
+fn checked(alloc: Global, bytes: &[u8]) -> Result<Layout<'_>, ImageErr>
+    ensures exact { Gives image_in result (read_of bytes.now) }
+    ensures sections { IfOk result (λ layout. sections_in layout ≡ sections_at bytes.now) }
 {
     if bytes.len() < HEADER_SIZE {
         return Err(ImageErr::Refused(Code::HEADER_SIZE, bytes.len()));
@@ -55,7 +90,7 @@ fn read_exactly(alloc: Global, bytes: &[u8]) -> Result<Image, ImageErr>
     let layout = layout_of(bytes);
     check_program(alloc, &layout)?;
     check_tables(alloc, &layout)?;
-    Ok(image_of(alloc, &layout)?)
+    Ok(layout)
 }
 
 /// The breach at a row of a section and one of its numbers.
@@ -150,14 +185,4 @@ fn image_of(alloc: Global, layout: &Layout<'_>) -> Result<Image, AllocError>
         nodes: take_records(alloc, &layout.nodes)?,
         names: layout.names.to_vec(alloc)?,
     })
-}
-
-fn mode_of(number: u32) -> Mode
-    ensures { result ≡ mode_of number }
-{
-    if number == 0 {
-        Mode::Slots
-    } else {
-        Mode::Registers
-    }
 }

@@ -1,7 +1,7 @@
 //! Records as numbers of 32 bits, little endian, and back.
 
 ghost use Rattle.std.specs.Prelude.{◌≡◌, ℕ, ◌++◌, List, [], IfOk, OnOk, map, slice_index_or};
-ghost use Rattle.image_form.specs.Decoding.{assigned_of, change_of, element_of, flow_of, function_of, kind_of, computed_of, node_of, operation_of, owner_of, place_of, row_of, storage_of, truncation_of, variable_of, verdict_of, word_numbers, word_of, writer_of};
+ghost use Rattle.image_form.specs.Decoding.{assigned_of, change_of, element_of, flow_of, function_of, kind_of, computed_of, mode_of, node_of, operation_of, owner_of, place_of, row_of, storage_of, truncation_of, variable_of, verdict_of, word_numbers, word_of, writer_of};
 ghost use Rattle.image_form.specs.Layouts.{rows_in};
 ghost use Rattle.image_form.specs.Numbers.{assigned_numbers, change_numbers, element_number, flow_numbers, function_numbers, kind_number, node_numbers, operation_number, place_numbers, row_numbers, storage_number, storage_value, truncation_number, variable_numbers};
 ghost use Rattle.image_form.specs.Spelling.{section, spelled};
@@ -12,7 +12,7 @@ use crate::tables::{AssignedPair, Change, FlowPair, Function, Place};
 use crate::variables::{ElementType, Storage, Variable};
 use crate::verdicts::{Verdict, VisibleRow};
 use byteorder::{ByteOrder, LittleEndian};
-use debug_records::Kind;
+use debug_records::{Kind, Mode};
 use std::alloc::{AllocError, Global};
 use word_base::{Operation, Truncation};
 
@@ -408,6 +408,17 @@ fn truncation_number(truncation: Truncation) -> u32
         Truncation::Signed16 => 19,
         Truncation::Unsigned16 => 20,
         Truncation::Signed8 => 21,
+    }
+}
+
+/// The mode of a number.
+pub fn mode_of(number: u32) -> Mode
+    ensures { result ≡ mode_of number }
+{
+    if number == 0 {
+        Mode::Slots
+    } else {
+        Mode::Registers
     }
 }
 

@@ -1,0 +1,246 @@
+//! An image in the bytes that spell it.
+
+ghost use Rattle.std.specs.Prelude.{◌≡◌, ◌<◌, ◌^◌, Ok, Some, length, slice_get};
+ghost use Rattle.image_form.specs.Form.{Form};
+ghost use Rattle.image_form.specs.Layouts.{sections_in};
+ghost use Rattle.image_form.specs.Lent.{image_in};
+ghost use Rattle.image_form.specs.Reading.{read_of};
+ghost use Rattle.image_form.specs.Rules.{IsImage};
+ghost use Rattle.image_form.specs.Sections.{sections_at};
+ghost use Rattle.image_form.specs.Spelling.{spelled, spelling};
+
+use crate::layout::{Layout, layout_of};
+use crate::recipes::Node;
+use crate::records::{Record, mode_of};
+use crate::tables::{AssignedPair, Change, FlowPair, Function, Place};
+use crate::variables::Variable;
+use crate::verdicts::VisibleRow;
+use debug_records::Mode;
+
+/// The image that bytes spell, read where it lies.
+///
+/// No call takes memory. Records are numbered from 0.
+#[derive(Clone, Copy)]
+pub struct View<'a> {
+    bytes: &'a [u8],
+    layout: Layout<'a>,
+    ghost read: { read_of bytes.now ≡ Ok (image_in layout) },
+    ghost sections: { sections_in layout ≡ sections_at bytes.now },
+}
+
+#[tactic(auto, unfolding(crate::specs::Decoding::decoded), using(crate::proofs::Got::counted, crate::proofs::Got::got_mapped))]
+impl<'a> View<'a> {
+    ghost use Rattle.image_form.specs.Views.{viewed};
+
+    /// The view of bytes that spell an image, whose sections are these.
+    pub fn new(bytes: &'a [u8], layout: &Layout<'a>) -> View<'a>
+        requires read { read_of bytes.now ≡ Ok (image_in layout.now) }
+        requires sections { sections_in layout.now ≡ sections_at bytes.now }
+        ensures { viewed result ≡ image_in layout.now }
+    {
+        View {
+            bytes,
+            layout: *layout,
+        }
+    }
+
+    /// The view of the spelling of an image; nothing is checked.
+    pub fn of_spelling(bytes: &'a [u8]) -> View<'a>
+        requires spelled { (f : Form) × IsImage f × (bytes.now ≡ spelling f) }
+        ensures image { IsImage (viewed result) }
+        ensures bytes { bytes.now ≡ spelling (viewed result) }
+    {
+        View {
+            bytes,
+            layout: layout_of(bytes),
+        }
+    }
+
+    /// Where the compiler put scalars.
+    pub fn mode(&self) -> Mode
+        ensures { result ≡ (viewed self.now).mode }
+    {
+        mode_of(self.layout.mode)
+    }
+
+    /// The bytes of the code words.
+    pub fn code_bytes(&self) -> &'a [u8]
+        ensures { result.now ≡ spelled (viewed self.now).code }
+    {
+        self.layout.code.front()
+    }
+
+    /// The bytes that lie in static memory when the program starts.
+    pub fn initial(&self) -> &'a [u8]
+        ensures { result.now ≡ (viewed self.now).initial }
+    {
+        self.layout.initial
+    }
+
+    /// The names of the functions, the variables and the passes of the changes, one after the other.
+    pub fn names(&self) -> &'a [u8]
+        ensures { result.now ≡ (viewed self.now).names }
+    {
+        self.layout.names
+    }
+
+    /// How many code words there are.
+    pub fn code_count(&self) -> usize
+        ensures count { result ≡ length (viewed self.now).code }
+        ensures few { result < 2 ^ 32 }
+    {
+        self.layout.code.len()
+    }
+
+    /// How many functions there are.
+    pub fn function_count(&self) -> usize
+        ensures count { result ≡ length (viewed self.now).functions }
+        ensures few { result < 2 ^ 32 }
+    {
+        self.layout.functions.len()
+    }
+
+    /// How many places there are.
+    pub fn place_count(&self) -> usize
+        ensures count { result ≡ length (viewed self.now).places }
+        ensures few { result < 2 ^ 32 }
+    {
+        self.layout.places.len()
+    }
+
+    /// How many owners of code words there are.
+    pub fn owner_count(&self) -> usize
+        ensures count { result ≡ length (viewed self.now).owners }
+        ensures few { result < 2 ^ 32 }
+    {
+        self.layout.owners.len()
+    }
+
+    /// How many variables there are.
+    pub fn variable_count(&self) -> usize
+        ensures count { result ≡ length (viewed self.now).variables }
+        ensures few { result < 2 ^ 32 }
+    {
+        self.layout.variables.len()
+    }
+
+    /// How many changes there are.
+    pub fn change_count(&self) -> usize
+        ensures count { result ≡ length (viewed self.now).changes }
+        ensures few { result < 2 ^ 32 }
+    {
+        self.layout.changes.len()
+    }
+
+    /// How many flow pairs there are.
+    pub fn flow_count(&self) -> usize
+        ensures count { result ≡ length (viewed self.now).flow }
+        ensures few { result < 2 ^ 32 }
+    {
+        self.layout.flow.len()
+    }
+
+    /// How many assigned pairs there are.
+    pub fn assigned_count(&self) -> usize
+        ensures count { result ≡ length (viewed self.now).assigned }
+        ensures few { result < 2 ^ 32 }
+    {
+        self.layout.assigned.len()
+    }
+
+    /// How many visible rows there are.
+    pub fn row_count(&self) -> usize
+        ensures count { result ≡ length (viewed self.now).rows }
+        ensures few { result < 2 ^ 32 }
+    {
+        self.layout.rows.len()
+    }
+
+    /// How many recipe nodes there are.
+    pub fn node_count(&self) -> usize
+        ensures count { result ≡ length (viewed self.now).nodes }
+        ensures few { result < 2 ^ 32 }
+    {
+        self.layout.nodes.len()
+    }
+
+    /// The n-th code word.
+    pub fn code_at(&self, n: usize) -> u32
+        requires { n < length (viewed self.now).code }
+        ensures { slice_get (viewed self.now).code n ≡ Some result }
+    {
+        u32::take(&self.layout.code, n)
+    }
+
+    /// The n-th function.
+    pub fn function_at(&self, n: usize) -> Function
+        requires { n < length (viewed self.now).functions }
+        ensures { slice_get (viewed self.now).functions n ≡ Some result }
+    {
+        Function::take(&self.layout.functions, n)
+    }
+
+    /// The n-th place.
+    pub fn place_at(&self, n: usize) -> Place
+        requires { n < length (viewed self.now).places }
+        ensures { slice_get (viewed self.now).places n ≡ Some result }
+    {
+        Place::take(&self.layout.places, n)
+    }
+
+    /// The n-th owner of a code word.
+    pub fn owner_at(&self, n: usize) -> u32
+        requires { n < length (viewed self.now).owners }
+        ensures { slice_get (viewed self.now).owners n ≡ Some result }
+    {
+        u32::take(&self.layout.owners, n)
+    }
+
+    /// The n-th variable.
+    pub fn variable_at(&self, n: usize) -> Variable
+        requires { n < length (viewed self.now).variables }
+        ensures { slice_get (viewed self.now).variables n ≡ Some result }
+    {
+        Variable::take(&self.layout.variables, n)
+    }
+
+    /// The n-th change.
+    pub fn change_at(&self, n: usize) -> Change
+        requires { n < length (viewed self.now).changes }
+        ensures { slice_get (viewed self.now).changes n ≡ Some result }
+    {
+        Change::take(&self.layout.changes, n)
+    }
+
+    /// The n-th flow pair.
+    pub fn flow_at(&self, n: usize) -> FlowPair
+        requires { n < length (viewed self.now).flow }
+        ensures { slice_get (viewed self.now).flow n ≡ Some result }
+    {
+        FlowPair::take(&self.layout.flow, n)
+    }
+
+    /// The n-th assigned pair.
+    pub fn assigned_at(&self, n: usize) -> AssignedPair
+        requires { n < length (viewed self.now).assigned }
+        ensures { slice_get (viewed self.now).assigned n ≡ Some result }
+    {
+        AssignedPair::take(&self.layout.assigned, n)
+    }
+
+    /// The n-th visible row.
+    pub fn row_at(&self, n: usize) -> VisibleRow
+        requires { n < length (viewed self.now).rows }
+        ensures { slice_get (viewed self.now).rows n ≡ Some result }
+    {
+        VisibleRow::take(&self.layout.rows, n)
+    }
+
+    /// The n-th recipe node.
+    pub fn node_at(&self, n: usize) -> Node
+        requires { n < length (viewed self.now).nodes }
+        ensures { slice_get (viewed self.now).nodes n ≡ Some result }
+    {
+        Node::take(&self.layout.nodes, n)
+    }
+}
