@@ -102,7 +102,7 @@ module _ (f : Form) (image : IsImage f) where
         length-section 3 node_numbers node_sized f.nodes,
       )
 
-  length-spelling : length (spelling f) ≡ size f
+  pub length-spelling : length (spelling f) ≡ size f
   unfolding spelling
   length-spelling =
       let magic : length (codes "CDBG") ≡ 4 = refl in
@@ -112,13 +112,22 @@ module _ (f : Form) (image : IsImage f) where
   unfolding spelling
   magic_kept = refl
 
-  checks_kept : first_breach (header_checks (spelling f)) ≡ Ok tt
+  header_number : (i : ℕ) → get_or (numbers_at 15 4 (spelling f)) i 0 ≡ get_or (header f) i 0
+  header_number i = ap (λ (l : List ℕ). get_or l i 0) (header_back f image)
+
+  -- The header asks for as many bytes as there are.
+  pub told_size : size_told (spelling f) ≡ length (spelling f)
   unfolding size_told size
+  told_size =
+      let at = header_number in
+      omega (arith, at 3, at 4, at 5, at 6, at 7, at 8, at 9, at 10, at 11, at 12, at 13, length-spelling, image.owners.one_each)
+
+  checks_kept : first_breach (header_checks (spelling f)) ≡ Ok tt
   checks_kept =
-      let at : (i : ℕ) → get_or (numbers_at 15 4 (spelling f)) i 0 ≡ get_or (header f) i 0 = λ i. ap (λ (l : List ℕ). get_or l i 0) (header_back f image) in
+      let at = header_number in
       let sizes = image.sizes in
       let total : number_at (spelling f) 8 ≡ length (spelling f) = at 1 ∙ sym length-spelling in
-      let told : size_told (spelling f) ≡ length (spelling f) = omega (arith, at 3, at 4, at 5, at 6, at 7, at 8, at 9, at 10, at 11, at 12, at 13, length-spelling, image.owners.one_each) in
+      let told = told_size in
       let mode = mode_fits f.mode in
       let words : number_at (spelling f) 20 % 4 ≡ 0 = ap (λ (n : ℕ). n % 4) (at 4) ∙ sizes.initial_words in
       all_kept (header_checks (spelling f)) (

@@ -8,11 +8,13 @@ pub mod Inside
 pub mod FunctionsKept
 pub mod Got
 pub mod Kept
+pub mod NamesGot
 pub mod NamesKept
 pub mod NodesKept
 pub mod OneSpelling
 pub mod PlacesKept
 pub mod Positions
+pub mod Raw
 pub mod ReadBack
 pub mod RecordsBack
 pub mod RowLaws

@@ -57,7 +57,7 @@ module _ (f : Form) (image : IsImage f) where
   unfolding spelling
   header_back = numbers_back (header f) (body f) (codes "CDBG") 4 refl header_fits
 
-  behind_header : drop 64 (spelling f) ≡ body f
+  pub behind_header : drop 64 (spelling f) ≡ body f
   unfolding spelling
   behind_header = ap (drop 64) (sym (append_assoc (codes "CDBG") (spelled (header f)) (body f))) ∙ drop_at (codes "CDBG" ++ spelled (header f)) (body f) 64 (length-append (codes "CDBG") (spelled (header f)) ∙ ap (λ (n : ℕ). 4 + n) (length-spelled (header f)))
 

@@ -7,6 +7,7 @@ pub mod Lists
 pub mod Names
 pub mod Numbers
 pub mod Order
+pub mod RawRecords
 pub mod Reading
 pub mod Rules
 pub mod RulesOfChanges

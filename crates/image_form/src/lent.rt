@@ -1,15 +1,22 @@
 //! An image in the bytes that spell it.
 
-ghost use Rattle.std.specs.Prelude.{◌≡◌, ◌<◌, ◌^◌, Ok, Some, length, slice_get};
+ghost use Rattle.std.specs.Prelude.{◌≡◌, ◌+◌, ◌<◌, ◌^◌, ◌∷◌, [], Ok, Some, length, map, slice_get, true};
+ghost use Rattle.image_form.specs.Decoding.{sections_of};
 ghost use Rattle.image_form.specs.Form.{Form};
 ghost use Rattle.image_form.specs.Layouts.{sections_in};
-ghost use Rattle.image_form.specs.Lent.{image_in};
+ghost use Rattle.image_form.specs.Lent.{are_bytes, image_in};
+ghost use Rattle.image_form.specs.Numbers.{assigned_numbers, change_numbers, flow_numbers, function_numbers, node_numbers, place_numbers, row_numbers, variable_numbers};
 ghost use Rattle.image_form.specs.Reading.{read_of};
 ghost use Rattle.image_form.specs.Rules.{IsImage};
 ghost use Rattle.image_form.specs.Sections.{sections_at};
-ghost use Rattle.image_form.specs.Spelling.{spelled, spelling};
+ghost use Rattle.image_form.specs.Spelling.{header, spelled, spelling};
 
+use crate::header::HEADER_SIZE;
 use crate::layout::{Layout, layout_of};
+use crate::name_lookup::{behind_names, name_in};
+use crate::numbers::{
+    ChangeRecord, FunctionRecord, Header, NodeRecord, PlaceRecord, RowRecord, VariableRecord,
+};
 use crate::recipes::Node;
 use crate::records::{Record, mode_of};
 use crate::tables::{AssignedPair, Change, FlowPair, Function, Place};
@@ -26,14 +33,16 @@ pub struct View<'a> {
     layout: Layout<'a>,
     ghost read: { read_of bytes.now ≡ Ok (image_in layout) },
     ghost sections: { sections_in layout ≡ sections_at bytes.now },
+    ghost fit: { are_bytes bytes.now ≡ true },
 }
 
 #[tactic(auto, unfolding(crate::specs::Decoding::decoded), using(crate::proofs::Got::counted, crate::proofs::Got::got_mapped))]
 impl<'a> View<'a> {
-    ghost use Rattle.image_form.specs.Views.{viewed};
+    ghost use Rattle.image_form.specs.RawRecords.{header_numbers, numbers_of_change, numbers_of_function, numbers_of_node, numbers_of_place, numbers_of_row, numbers_of_variable};
+    ghost use Rattle.image_form.specs.Views.{name_of, viewed};
 
     /// The view of bytes that spell an image, whose sections are these.
-    pub fn new(bytes: &'a [u8], layout: &Layout<'a>) -> View<'a>
+    pub(crate) fn new(bytes: &'a [u8], layout: &Layout<'a>) -> View<'a>
         requires read { read_of bytes.now ≡ Ok (image_in layout.now) }
         requires sections { sections_in layout.now ≡ sections_at bytes.now }
         ensures { viewed result ≡ image_in layout.now }
@@ -56,6 +65,13 @@ impl<'a> View<'a> {
         }
     }
 
+    /// The sections, which are those of the image.
+    fn sections(&self) -> &Layout<'a>
+        ensures { sections_of (viewed self.now) ≡ sections_in result.now }
+    {
+        &self.layout
+    }
+
     /// Where the compiler put scalars.
     pub fn mode(&self) -> Mode
         ensures { result ≡ (viewed self.now).mode }
@@ -67,7 +83,7 @@ impl<'a> View<'a> {
     pub fn code_bytes(&self) -> &'a [u8]
         ensures { result.now ≡ spelled (viewed self.now).code }
     {
-        self.layout.code.front()
+        &self.bytes[HEADER_SIZE..HEADER_SIZE + 4 * self.code_count()]
     }
 
     /// The bytes that lie in static memory when the program starts.
@@ -242,5 +258,165 @@ impl<'a> View<'a> {
         ensures { slice_get (viewed self.now).nodes n ≡ Some result }
     {
         Node::take(&self.layout.nodes, n)
+    }
+
+    /// The numbers of the header.
+    pub fn header(&self) -> Header
+        ensures { header_numbers result ≡ header (viewed self.now) }
+    {
+        Header::of_bytes(self.bytes)
+    }
+
+    /// The n-th code word.
+    pub fn code(&self, n: u32) -> u32
+        requires { n < length (viewed self.now).code }
+        ensures { slice_get (viewed self.now).code n ≡ Some result }
+    {
+        self.code_at(n as usize)
+    }
+
+    /// The owner of the n-th code word.
+    pub fn owner(&self, n: u32) -> u32
+        requires { n < length (viewed self.now).owners }
+        ensures { slice_get (viewed self.now).owners n ≡ Some result }
+    {
+        self.owner_at(n as usize)
+    }
+
+    /// The numbers of the n-th function.
+    pub fn function(&self, n: u32) -> FunctionRecord
+        requires { n < length (viewed self.now).functions }
+        ensures { slice_get (map function_numbers (viewed self.now).functions) n ≡ Some (numbers_of_function result) }
+    {
+        let row = n as usize;
+        let table = &self.sections().functions;
+        FunctionRecord {
+            name_length: table.number(row, 0),
+            first: table.number(row, 1),
+            end: table.number(row, 2),
+            frame: table.number(row, 3),
+            entry: table.number(row, 4),
+        }
+    }
+
+    /// The numbers of the n-th place.
+    pub fn place(&self, n: u32) -> PlaceRecord
+        requires { n < length (viewed self.now).places }
+        ensures { slice_get (map place_numbers (viewed self.now).places) n ≡ Some (numbers_of_place result) }
+    {
+        let row = n as usize;
+        let table = &self.sections().places;
+        PlaceRecord {
+            position: table.number(row, 0),
+            line: table.number(row, 1),
+            function: table.number(row, 2),
+            address: table.number(row, 3),
+        }
+    }
+
+    /// The numbers of the n-th variable.
+    pub fn variable(&self, n: u32) -> VariableRecord
+        requires { n < length (viewed self.now).variables }
+        ensures { slice_get (map variable_numbers (viewed self.now).variables) n ≡ Some (numbers_of_variable result) }
+    {
+        let row = n as usize;
+        let table = &self.sections().variables;
+        VariableRecord {
+            name_length: table.number(row, 0),
+            function: table.number(row, 1),
+            position: table.number(row, 2),
+            element: table.number(row, 3),
+            storage: table.number(row, 4),
+            value: table.number(row, 5),
+            count: table.number(row, 6),
+            zero: table.number(row, 7),
+        }
+    }
+
+    /// The numbers of the n-th change.
+    pub fn change(&self, n: u32) -> ChangeRecord
+        requires { n < length (viewed self.now).changes }
+        ensures { slice_get (map change_numbers (viewed self.now).changes) n ≡ Some (numbers_of_change result) }
+    {
+        let row = n as usize;
+        let table = &self.sections().changes;
+        ChangeRecord {
+            pass_length: table.number(row, 0),
+            kind: table.number(row, 1),
+            place: table.number(row, 2),
+            variable: table.number(row, 3),
+            zero: table.number(row, 4),
+        }
+    }
+
+    /// The numbers of the n-th visible row.
+    pub fn row(&self, n: u32) -> RowRecord
+        requires { n < length (viewed self.now).rows }
+        ensures { slice_get (map row_numbers (viewed self.now).rows) n ≡ Some (numbers_of_row result) }
+    {
+        let row = n as usize;
+        let table = &self.sections().rows;
+        RowRecord {
+            place: table.number(row, 0),
+            variable: table.number(row, 1),
+            verdict: table.number(row, 2),
+            change: table.number(row, 3),
+            a: table.number(row, 4),
+            b: table.number(row, 5),
+        }
+    }
+
+    /// The numbers of the n-th recipe node.
+    pub fn node(&self, n: u32) -> NodeRecord
+        requires { n < length (viewed self.now).nodes }
+        ensures { slice_get (map node_numbers (viewed self.now).nodes) n ≡ Some (numbers_of_node result) }
+    {
+        let row = n as usize;
+        let table = &self.sections().nodes;
+        NodeRecord {
+            op: table.number(row, 0),
+            a: table.number(row, 1),
+            b: table.number(row, 2),
+        }
+    }
+
+    /// The numbers of the n-th flow pair.
+    pub fn flows(&self, n: u32) -> (u32, u32)
+        requires { n < length (viewed self.now).flow }
+        ensures { slice_get (map flow_numbers (viewed self.now).flow) n ≡ Some (result.0 ∷ result.1 ∷ []) }
+    {
+        let row = n as usize;
+        let table = &self.sections().flow;
+        (table.number(row, 0), table.number(row, 1))
+    }
+
+    /// The numbers of the n-th assigned pair.
+    pub fn assigned(&self, n: u32) -> (u32, u32)
+        requires { n < length (viewed self.now).assigned }
+        ensures { slice_get (map assigned_numbers (viewed self.now).assigned) n ≡ Some (result.0 ∷ result.1 ∷ []) }
+    {
+        let row = n as usize;
+        let table = &self.sections().assigned;
+        (table.number(row, 0), table.number(row, 1))
+    }
+
+    /// The n-th name: functions are counted first, then variables, then changes.
+    pub fn name(&self, n: u32) -> &'a [u8]
+        requires { let f = viewed self.now in n < length f.functions + length f.variables + length f.changes }
+        ensures { result.now ≡ name_of (viewed self.now) n }
+    {
+        let n = n as usize;
+        let functions = self.layout.functions.len();
+        let names = self.layout.names;
+        if n < functions {
+            return name_in(&self.layout.functions, n, names);
+        }
+        let variables = self.layout.variables.len();
+        let names = behind_names(&self.layout.functions, functions, names);
+        if n - functions < variables {
+            return name_in(&self.layout.variables, n - functions, names);
+        }
+        let names = behind_names(&self.layout.variables, variables, names);
+        name_in(&self.layout.changes, n - functions - variables, names)
     }
 }

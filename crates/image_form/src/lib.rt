@@ -8,6 +8,7 @@ mod format;
 mod header;
 mod layout;
 mod lent;
+mod name_lookup;
 mod name_rules;
 mod node_rules;
 mod numbers;

@@ -1,5 +1,11 @@
 //! The header and the records of an image as the numbers that they are spelled by, in the order of the file.
 
+ghost use Rattle.std.specs.Prelude.{◌≡◌, ◌≤◌, length};
+ghost use Rattle.image_form.specs.RawRecords.{header_numbers};
+ghost use Rattle.image_form.specs.Sections.{numbers_at};
+
+use crate::table::number_at;
+
 /// The numbers of a header behind its first four bytes.
 #[derive(Clone, Copy)]
 pub struct Header {
@@ -28,6 +34,32 @@ pub struct Header {
     pub names: u32,
     /// 0.
     pub zero: u32,
+}
+
+impl Header {
+    /// The header at the front of bytes.
+    pub fn of_bytes(bytes: &[u8]) -> Header
+        requires { 64 ≤ length bytes.now }
+        ensures { header_numbers result ≡ numbers_at 15 4 bytes.now }
+    {
+        Header {
+            version: number_at(bytes, 4),
+            length: number_at(bytes, 8),
+            mode: number_at(bytes, 12),
+            code: number_at(bytes, 16),
+            initial: number_at(bytes, 20),
+            functions: number_at(bytes, 24),
+            places: number_at(bytes, 28),
+            variables: number_at(bytes, 32),
+            changes: number_at(bytes, 36),
+            flow: number_at(bytes, 40),
+            assigned: number_at(bytes, 44),
+            rows: number_at(bytes, 48),
+            nodes: number_at(bytes, 52),
+            names: number_at(bytes, 56),
+            zero: number_at(bytes, 60),
+        }
+    }
 }
 
 /// The numbers of a function.

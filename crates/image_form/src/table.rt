@@ -1,9 +1,7 @@
 //! A section of rows of numbers, read where it lies.
 
 ghost use Rattle.std.specs.Prelude.{◌≡◌, ◌+◌, ◌*◌, ◌<◌, ◌≤◌, ◌^◌, length};
-ghost use Rattle.std.specs.List.{flat_map};
 ghost use Rattle.image_form.specs.Sections.{cell, number_at, rows_at};
-ghost use Rattle.image_form.specs.Spelling.{spelled};
 
 use byteorder::{ByteOrder, LittleEndian};
 
@@ -39,13 +37,6 @@ impl<'a> Table<'a> {
         ensures few { result < 2 ^ 32 }
     {
         self.count
-    }
-
-    /// The bytes of the rows.
-    pub fn front(&self) -> &'a [u8]
-        ensures { result.now ≡ flat_map spelled (rows_in self.now) }
-    {
-        &self.bytes[..4 * self.width * self.count]
     }
 
     /// A number of a row, 0 where there is none.

@@ -2,7 +2,7 @@
 
 use crate::image_tests::samples::{LARGE, N, SMALL};
 use debug_records::{Code, Mode};
-use image_form::{ElementType, ImageErr, Storage, Variable, read, write};
+use image_form::{ElementType, ImageErr, Storage, Variable, read, view, write};
 use std::alloc::{AllocError, Global};
 use std::process::Abort;
 use std::test::Fail;
@@ -10,6 +10,11 @@ use std::test::Fail;
 /// Why the bytes are no image, if they are none.
 fn refusal(alloc: Global, bytes: &[u8]) -> Option<ImageErr> {
     read(alloc, bytes).err()
+}
+
+/// Why the bytes lend no image, if they lend none.
+fn refusal_of_view(alloc: Global, bytes: &[u8]) -> Option<ImageErr> {
+    view(alloc, bytes).err()
 }
 
 /// The bytes with another number in four of them.
@@ -26,12 +31,13 @@ fn altered(alloc: Global, bytes: &[u8], at: usize, number: u32) -> Result<Vec<u8
 /// Where a number of an image is altered, the number that stands there then, the rule that it breaks, and at which byte.
 type Row = (usize, u32, Code, usize);
 
-/// Each altered image is refused as it should be.
+/// Each altered image is refused as it should be, whether it is read or viewed.
 fn assert_refused(rt: &impl Abort, alloc: Global, image: &[u8], rows: &[Row]) -> Result<(), Fail> {
     for (at, number, code, offset) in rows {
         let bytes = altered(alloc, image, *at, *number)?;
         let wanted = ImageErr::Refused(*code, *offset);
         assert!(rt; refusal(alloc, &bytes) == Some(wanted), "{number} at {at}");
+        assert!(rt; refusal_of_view(alloc, &bytes) == Some(wanted), "{number} at {at}");
     }
     Ok(())
 }
@@ -66,6 +72,30 @@ fn the_small_image_says_what_it_was_made_of(rt: HostRuntime) -> Result<(), Fail>
         assert!(rt; is_small(variable));
     }
     assert!(rt; image.names.as_slice() == b"mainx".as_slice());
+    Ok(())
+}
+
+#[test]
+fn the_first_place_of_the_small_image_is_lent(rt: HostRuntime) -> Result<(), Fail> {
+    let lent = view(rt.alloc(), SMALL.as_slice())?;
+    assert!(rt; lent.place_count() > 0);
+    let place = lent.place(0);
+    assert!(rt; place.position == 23 && place.line == 2 && place.function == 0);
+    Ok(())
+}
+
+#[test]
+fn what_is_cut_off_is_refused(rt: HostRuntime) -> Result<(), Fail> {
+    let image = SMALL.as_slice();
+    for length in 0..image.len() {
+        let wanted = if length < 64 {
+            ImageErr::Refused(Code::HEADER_SIZE, length)
+        } else {
+            ImageErr::Refused(Code::LENGTH, 8)
+        };
+        assert!(rt; refusal(rt.alloc(), &image[..length]) == Some(wanted), "{length}");
+        assert!(rt; refusal_of_view(rt.alloc(), &image[..length]) == Some(wanted), "{length}");
+    }
     Ok(())
 }
 
