@@ -1,6 +1,6 @@
 -- What is read is an image, and the bytes are its spelling.
 use Rattle.std.proofs.Common.{◌≡◌, ◌≢◌, ℕ, zero, suc, ◌+◌, ◌*◌, ◌%◌, ◌<◌, ◌≤◌, Bool, true, false, cond, ltb, leb, List, [], ◌∷◌, ◌++◌, length, get_or, take, drop, Option, Some, None, Result, Ok, Err, refl, sym, ap, ◌∙◌, arith, subst, length-drop, take-append-drop}
-use Rattle.std.specs.Prelude.{codes, map, ◌==◌, IfOk}
+use Rattle.std.specs.Prelude.{codes, map, ◌==◌}
 use Rattle.std.specs.List.{AllByRecursion}
 use Rattle.std.specs.Option.{option_map_or}
 use Rattle.std.proofs.lemmas.Bool.{leb-true, ltb-false, eqb-true, and_parts}
@@ -8,11 +8,9 @@ use Rattle.std.proofs.lemmas.List.{length-map, length-take-le, drop-drop}
 use Rattle.std.proofs.lemmas.Slice.Eq.{bytes_eq-Decides}
 use Rattle.debug_records.specs.declared.code.Code.{Code}
 use Rattle.debug_records.specs.declared.code.TheConstants.Code.{HEADER_SIZE, NODES_AND_NAMES}
-use Rattle.image_form.specs.declared.fault.ImageErr.{ImageErr}
-use Rattle.image_form.specs.declared.format.Image.{Image}
-use Rattle.image_form.specs.Breaches.{Fault, ◌>>=◌, Check, first_breach, first_broken, breach_in, Gives}
+use Rattle.image_form.specs.Breaches.{Fault, ◌>>=◌, Check, first_breach, first_broken, breach_in}
 use Rattle.image_form.specs.Decoding.{verdict_of, word_of, function_of, place_of, variable_of, change_of, flow_of, assigned_of, row_of, node_of, word_numbers, decoded, sections_of}
-use Rattle.image_form.specs.Form.{Form, form}
+use Rattle.image_form.specs.Form.{Form}
 use Rattle.image_form.specs.Numbers.{mode_number, no_function, function_numbers, place_numbers, variable_numbers, change_numbers, flow_numbers, assigned_numbers, row_numbers, node_numbers}
 use Rattle.image_form.specs.Order.{start}
 use Rattle.image_form.specs.declared.section.Section.TheVariants.{Names}
