@@ -101,8 +101,8 @@ module _ (v : View) (n : ℕ) where
       let a = as_many function_of (rows_in v.layout.functions) in
       let b = as_many variable_of (rows_in v.layout.variables) in
       sym (λ i.
-        cond (ltb n (a i)) (name_at (f i) n names)
-        (cond (ltb (n - a i) (b i)) (name_at (w i) (n - a i) (drop (sum (f i)) names)) (name_at (p i) (n - a i - b i) (drop (sum (f i) + sum (w i)) names))))
+      cond (ltb n (a i)) (name_at (f i) n names)
+      (cond (ltb (n - a i) (b i)) (name_at (w i) (n - a i) (drop (sum (f i)) names)) (name_at (p i) (n - a i - b i) (drop (sum (f i) + sum (w i)) names))))
 
   pub name_first : n < length (rows_in v.layout.functions) → name_at (lengths_in v.layout.functions) n v.layout.names.now ≡ name_of (viewed v) n
   name_first low = by_first _ _ _ _ n (omega (arith, low, length-lengths v.layout.functions)) ∙ name_told

@@ -37,7 +37,10 @@ fn assert_refused(rt: &impl Abort, alloc: Global, image: &[u8], rows: &[Row]) ->
         let bytes = altered(alloc, image, *at, *number)?;
         let wanted = ImageErr::Refused(*code, *offset);
         assert!(rt; refusal(alloc, &bytes) == Some(wanted), "{number} at {at}");
-        assert!(rt; refusal_of_view(alloc, &bytes) == Some(wanted), "{number} at {at}");
+        assert!(rt;
+            refusal_of_view(alloc, &bytes) == Some(wanted),
+            "{number} at {at}"
+        );
     }
     Ok(())
 }
@@ -93,8 +96,14 @@ fn what_is_cut_off_is_refused(rt: HostRuntime) -> Result<(), Fail> {
         } else {
             ImageErr::Refused(Code::LENGTH, 8)
         };
-        assert!(rt; refusal(rt.alloc(), &image[..length]) == Some(wanted), "{length}");
-        assert!(rt; refusal_of_view(rt.alloc(), &image[..length]) == Some(wanted), "{length}");
+        assert!(rt;
+            refusal(rt.alloc(), &image[..length]) == Some(wanted),
+            "{length}"
+        );
+        assert!(rt;
+            refusal_of_view(rt.alloc(), &image[..length]) == Some(wanted),
+            "{length}"
+        );
     }
     Ok(())
 }
