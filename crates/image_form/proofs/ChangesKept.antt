@@ -15,8 +15,8 @@ use Rattle.image_form.specs.Form.{Form}
 use Rattle.image_form.specs.Numbers.{place_numbers, variable_numbers, kind_number, change_numbers, flow_numbers, assigned_numbers}
 use Rattle.image_form.specs.RulesOfChanges.{IsChange, IsPairBefore, FlowRules, AssignedRules}
 use Rattle.image_form.specs.RulesOfFunctions.{IsPlaceNumber}
-use Rattle.image_form.specs.TestsOfChanges.{change_tests, flow_tests, assigned_tests}
-use Rattle.image_form.specs.TestsOfTables.{is_place, is_not_below, is_pair_above}
+use Rattle.image_form_sections.specs.TestsOfChanges.{change_tests, flow_tests, assigned_tests}
+use Rattle.image_form_sections.specs.TestsOfTables.{is_place, is_not_below, is_pair_above}
 use Rattle.image_form.proofs.Kept.{AllTrue, row_is, next_from, next_at, before_at, at_each}
 use Rattle.image_form.proofs.TableLaws.{each_at, each_from}
 

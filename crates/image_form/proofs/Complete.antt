@@ -5,18 +5,19 @@ use Rattle.std.specs.List.{AllByRecursion}
 use Rattle.std.specs.Str.{bytes_eq}
 use Rattle.std.proofs.lemmas.Bool.{le-leb, le-ltb, eq-eqb, and_from}
 use Rattle.std.proofs.lemmas.List.{length-append, length-map}
-use Rattle.image_form.specs.Breaches.{Check, first_breach, first_broken}
+use Rattle.image_form_sections.specs.Breaches.{Check, first_breach, first_broken}
 use Rattle.image_form.specs.Decoding.{decoded, word_numbers, sections_of}
 use Rattle.image_form.specs.Form.{Form}
 use Rattle.image_form.specs.Numbers.{function_numbers, place_numbers, variable_numbers, change_numbers, flow_numbers, assigned_numbers, row_numbers, node_numbers}
-use Rattle.image_form.specs.Reading.{size_told, header_checks, breach_of_program, breach_of_tables, read_of}
+use Rattle.image_form.specs.Reading.{read_of}
+use Rattle.image_form_sections.specs.Checking.{size_told, header_checks, breach_of_program, breach_of_tables, checked_of}
 use Rattle.image_form.specs.Rules.{IsImage}
-use Rattle.image_form.specs.Sections.{number_at, numbers_at, sections_at}
+use Rattle.image_form_sections.specs.Sections.{number_at, numbers_at, sections_at}
 use Rattle.image_form.specs.Spelling.{size, header, body, section, spelled, spelling}
-use Rattle.image_form.specs.TestsOfChanges.{change_tests, flow_tests, assigned_tests, row_tests}
-use Rattle.image_form.specs.TestsOfCode.{function_tests, place_tests, owner_tests}
-use Rattle.image_form.specs.TestsOfNodes.{node_tests}
-use Rattle.image_form.specs.TestsOfVariables.{variable_tests}
+use Rattle.image_form_sections.specs.TestsOfChanges.{change_tests, flow_tests, assigned_tests, row_tests}
+use Rattle.image_form_sections.specs.TestsOfCode.{function_tests, place_tests, owner_tests}
+use Rattle.image_form_sections.specs.TestsOfNodes.{node_tests}
+use Rattle.image_form_sections.specs.TestsOfVariables.{variable_tests}
 use Rattle.image_form.proofs.ChangesKept.{changes_complete, flow_complete, assigned_complete}
 use Rattle.image_form.proofs.FunctionsKept.{functions_complete}
 use Rattle.image_form.proofs.Kept.{AllTrue, none_broken}
@@ -151,7 +152,7 @@ module _ (f : Form) (image : IsImage f) where
       )
 
   pub image_read : read_of (spelling f) ≡ Ok f
-  unfolding read_of
+  unfolding read_of checked_of
   image_read =
       let long : ltb (length (spelling f)) 64 ≡ false = le-ltb _ _ (omega (arith, length-spelling, length-body)) in
       let back = sections_back f image in

@@ -8,8 +8,8 @@ use Rattle.image_form.specs.Decoding.{sections_of, word_numbers}
 use Rattle.image_form.specs.Form.{Form}
 use Rattle.image_form.specs.Numbers.{function_numbers, place_numbers}
 use Rattle.image_form.specs.RulesOfFunctions.{IsFunction, FunctionRules}
-use Rattle.image_form.specs.TestsOfCode.{function_tests, is_first, is_end, is_frame}
-use Rattle.image_form.specs.TestsOfTables.{is_place, is_above, is_code_address}
+use Rattle.image_form_sections.specs.TestsOfCode.{function_tests, is_first, is_end, is_frame}
+use Rattle.image_form_sections.specs.TestsOfTables.{is_place, is_above, is_code_address}
 use Rattle.image_form.proofs.Kept.{AllTrue, row_is, next_from, next_at, before_at, at_each}
 use Rattle.image_form.proofs.TableLaws.{each_at, each_from}
 use Rattle.std.proofs.lemmas.Option.{slice_get_within}

@@ -4,23 +4,24 @@ use Rattle.std.specs.Prelude.{IfOk, map, slice_get, slice_index_or}
 use Rattle.std.proofs.lemmas.Bool.{ltb-true, ltb-false, lt-ltb, and_from, and_parts}
 use Rattle.std.proofs.lemmas.List.{length-map, take_at}
 use Rattle.debug_records.specs.declared.code.TheConstants.Code.{HEADER_SIZE}
-use Rattle.image_form.specs.declared.fault.ImageErr.{ImageErr}
+use Rattle.image_form_sections.specs.declared.fault.ImageErr.{ImageErr}
 use Rattle.image_form.specs.declared.lent.View.{View}
-use Rattle.image_form.specs.Breaches.{Fault, Gives}
+use Rattle.image_form_sections.specs.Breaches.{Fault, Gives}
 use Rattle.image_form.specs.Decoding.{decoded, sections_of}
 use Rattle.image_form.specs.Form.{Form}
-use Rattle.image_form.specs.Layouts.{sections_in}
+use Rattle.image_form_sections.specs.Layouts.{sections_in}
 use Rattle.image_form.specs.Lent.{are_bytes}
-use Rattle.image_form.specs.Reading.{read_of, size_told}
+use Rattle.image_form.specs.Reading.{read_of}
+use Rattle.image_form_sections.specs.Checking.{checked_of, size_told}
 use Rattle.image_form.specs.Rules.{IsImage}
-use Rattle.image_form.specs.Sections.{numbers_at, sections_at}
+use Rattle.image_form_sections.specs.Sections.{numbers_at, Sections, sections_at}
 use Rattle.image_form.specs.Spelling.{size, header, spelled, spelling}
 use Rattle.image_form.specs.Views.{viewed}
 use Rattle.image_form.proofs.Complete.{image_read, told_size, length-spelling}
 use Rattle.image_form.proofs.OneSpelling.{behind_header, header_back, sections_back, form_back}
 use Rattle.image_form.proofs.ReadBack.{length-spelled}
-use Rattle.image_form.proofs.Sound.{read_sound}
-use Rattle.image_form.proofs.SpelledRows.{AreBytes}
+use Rattle.image_form.proofs.Sound.{read_from, read_sound}
+use Rattle.image_form_sections.proofs.Octets.{AreBytes}
 
 -- What is read of bytes is an image, of which these are the spelling.
 pub found_by : {X : Type 0} (view : X → Form) (bytes : List ℕ) (r : Result X ImageErr) → AreBytes bytes → Gives view r (read_of bytes) → IfOk r (λ x. IsImage (view x) × (bytes ≡ spelling (view x)))
@@ -81,12 +82,14 @@ code_spelled v =
 
 -- Bytes that are read have a header.
 pub header_whole : (v : View) → 64 ≤ length v.bytes.now
-unfolding read_of
-header_whole v = ltb-false (length v.bytes.now) 64 (whole_of (ltb (length v.bytes.now) 64) (HEADER_SIZE, length v.bytes.now) _ (viewed v) v.read)
+unfolding read_of checked_of
+header_whole v =
+    let read = read_from (checked_of v.bytes.now) (viewed v) v.read in
+    ltb-false (length v.bytes.now) 64 (whole_of (ltb (length v.bytes.now) 64) (HEADER_SIZE, length v.bytes.now) _ read.0 read.1)
   where
-    whole_of : (b : Bool) (d : Fault) (r : Result Form Fault) (f : Form) → cond b (Err d) r ≡ Ok f → b ≡ false
-    whole_of true d r f e = absurd cc
-    whole_of false d r f e = refl
+    whole_of : (b : Bool) (d : Fault) (r : Result Sections Fault) (s : Sections) → cond b (Err d) r ≡ Ok s → b ≡ false
+    whole_of true d r s e = absurd cc
+    whole_of false d r s e = refl
 
 -- The header is the image's.
 pub header_got : (v : View) → numbers_at 15 4 v.bytes.now ≡ header (viewed v)

@@ -1,9 +1,9 @@
 -- The sections of bytes, each behind the one before it.
 use Rattle.std.proofs.Common.{◌≡◌, ℕ, ◌+◌, ◌*◌, List, refl, sym, ap, ◌∙◌, arith, take, drop}
 use Rattle.std.proofs.lemmas.List.{drop-drop}
-use Rattle.image_form.specs.declared.section.Section.TheVariants.{Code, Initial, Functions, Places, Owners, Variables, Changes, Flow, Assigned, Rows, Nodes, Names}
-use Rattle.image_form.specs.Order.{start}
-use Rattle.image_form.specs.Sections.{number_at, rows_at, Sections, count_told, bytes_from, sections_at}
+use Rattle.image_form_sections.specs.declared.section.Section.TheVariants.{Code, Initial, Functions, Places, Owners, Variables, Changes, Flow, Assigned, Rows, Nodes, Names}
+use Rattle.image_form_sections.specs.Order.{start}
+use Rattle.image_form_sections.specs.Sections.{number_at, rows_at, Sections, count_told, bytes_from, sections_at}
 
 unfoldable pub in_turn : List ℕ → Sections
 in_turn bytes =

@@ -5,7 +5,7 @@ use Rattle.std.specs.List.{AllByRecursion}
 use Rattle.std.specs.Option.{option_map, option_map_or}
 use Rattle.std.proofs.lemmas.Option.{none-some, slice_get-map, get_or_from_slice_get, same_Some}
 use Rattle.debug_records.specs.declared.code.Code.{Code}
-use Rattle.image_form.specs.Breaches.{first_false, first_broken, breach_in}
+use Rattle.image_form_sections.specs.Breaches.{first_false, first_broken, breach_in}
 use Rattle.image_form.specs.Lists.{EachToNext}
 
 -- Every test is kept.

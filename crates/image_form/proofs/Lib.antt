@@ -1,10 +1,7 @@
-pub mod Broken
 pub mod ChangesKept
 pub mod Complete
-pub mod FirstAt
 pub mod Gathered
 pub mod InTurn
-pub mod Inside
 pub mod FunctionsKept
 pub mod Got
 pub mod Kept
@@ -17,11 +14,9 @@ pub mod Positions
 pub mod Raw
 pub mod ReadBack
 pub mod RecordsBack
-pub mod RowLaws
 pub mod RowsKept
 pub mod Sound
 pub mod SpelledRows
 pub mod TableLaws
 pub mod Told
-pub mod Unfit
 pub mod VariablesKept

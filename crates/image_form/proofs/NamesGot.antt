@@ -5,14 +5,14 @@ use Rattle.std.proofs.lemmas.Bool.{lt-ltb, le-ltb}
 use Rattle.std.proofs.lemmas.List.{length-map, take_all, drop-drop}
 use Rattle.base_laws.proofs.Lists.{sum_more as sum-cons}
 use Rattle.image_form.specs.declared.lent.View.{View}
-use Rattle.image_form.specs.declared.table.Table.{Table}
+use Rattle.image_form_sections.specs.declared.table.Table.{Table}
 use Rattle.image_form.specs.declared.tables.Change.{Change}
 use Rattle.image_form.specs.declared.tables.Function.{Function}
 use Rattle.image_form.specs.declared.variables.Variable.{Variable}
 use Rattle.image_form.specs.Decoding.{decoded, word_of, function_of, variable_of, change_of}
-use Rattle.image_form.specs.Layouts.{rows_in}
+use Rattle.image_form_sections.specs.Layouts.{rows_in}
 use Rattle.image_form.specs.Names.{name_at}
-use Rattle.image_form.specs.Sections.{cell}
+use Rattle.image_form_sections.specs.Sections.{cell}
 use Rattle.image_form.specs.Views.{viewed, name_of}
 
 -- One length more.

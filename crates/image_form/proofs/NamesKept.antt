@@ -7,8 +7,8 @@ use Rattle.std.proofs.lemmas.Bool.{and_parts, and_from, cases_Bool}
 use Rattle.std.proofs.lemmas.List.{length-append, length-map, length-drop, length-take-le, drop-drop}
 use Rattle.std.proofs.lemmas.List.Concat.{flat_map-cons}
 use Rattle.std.proofs.lemmas.Option.{none-some, slice_get-map, get_or_from_slice_get}
-use Rattle.image_form.specs.declared.name_rules.NameKind.{NameKind}
-use Rattle.image_form.specs.declared.name_rules.NameKind.TheVariants.{Identifier, Letters}
+use Rattle.image_form_sections.specs.declared.name_rules.NameKind.{NameKind}
+use Rattle.image_form_sections.specs.declared.name_rules.NameKind.TheVariants.{Identifier, Letters}
 use Rattle.image_form.specs.declared.tables.Change.{Change}
 use Rattle.image_form.specs.declared.tables.Function.{Function}
 use Rattle.image_form.specs.declared.variables.Variable.{Variable}
@@ -20,8 +20,8 @@ use Rattle.image_form.proofs.TableLaws.{each_at}
 use Rattle.image_form.specs.Form.{Form}
 use Rattle.image_form.specs.Names.{function_name_lengths, variable_name_lengths, pass_name_lengths}
 use Rattle.image_form.specs.RulesOfNames.{is_lower_letter, begins_identifier, is_identifier_byte, IsIdentifier, IsIdentifierOrEmpty, NameRules}
-use Rattle.image_form.specs.TestsOfNames.{identifier_tests, byte_tests, table_tests, name_tests, first_unfit, first_misfit}
-use Rattle.image_form.proofs.Unfit.{first_unfit-append, first_unfit-front, unfit_long, misfit_none, length-byte_tests}
+use Rattle.image_form_sections.specs.TestsOfNames.{identifier_tests, byte_tests, table_tests, name_tests, first_unfit, first_misfit}
+use Rattle.image_form_sections.proofs.Unfit.{first_unfit-append, first_unfit-front, unfit_long, misfit_none, length-byte_tests}
 use Rattle.base_laws.proofs.Lists.{sum_more as sum-cons}
 
 -- The parts of tests that are all met are met.

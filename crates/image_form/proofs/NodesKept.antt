@@ -22,9 +22,9 @@ use Rattle.image_form.specs.Form.{Form}
 use Rattle.image_form.specs.Lists.{AreDistinct}
 use Rattle.image_form.specs.Numbers.{storage_number, variable_numbers, operation_number, truncation_number, node_numbers}
 use Rattle.image_form.specs.RulesOfNodes.{operands, IsHome, IsHomeNumber, NamesHome, HasDepth, NodeRules}
-use Rattle.image_form.specs.Sections.{cell}
-use Rattle.image_form.specs.TestsOfNodes.{is_shallow, is_operand, has_home, is_home_number, is_left, is_right, is_same, is_new_node, node_tests}
-use Rattle.image_form.specs.TestsOfTables.{within}
+use Rattle.image_form_sections.specs.Sections.{cell}
+use Rattle.image_form_sections.specs.TestsOfNodes.{is_shallow, is_operand, has_home, is_home_number, is_left, is_right, is_same, is_new_node, node_tests}
+use Rattle.image_form_sections.specs.TestsOfTables.{within}
 use Rattle.image_form.proofs.Kept.{AllTrue, row_is, at_each, map_at}
 use Rattle.image_form.proofs.PlacesKept.{passed_some}
 use Rattle.image_form.proofs.Positions.{position_only}

@@ -11,7 +11,7 @@ use Rattle.image_form.specs.declared.verdicts.Verdict.{Verdict}
 use Rattle.image_form.specs.declared.verdicts.Verdict.TheVariants as verdict
 use Rattle.image_form.specs.declared.verdicts.VisibleRow.{VisibleRow}
 use Rattle.image_form.specs.Decoding.{word_of, function_of, place_of, variable_of, change_of, flow_of, assigned_of, row_of, node_of, decoded, word_numbers, sections_of}
-use Rattle.image_form.specs.Sections.{number_at, numbers_at, rows_at, sections_at}
+use Rattle.image_form_sections.specs.Sections.{number_at, numbers_at, rows_at, sections_at}
 use Rattle.image_form.specs.Form.{Form}
 use Rattle.image_form.specs.Numbers.{mode_number, no_function, function_numbers, place_numbers, variable_numbers, change_numbers, flow_numbers, assigned_numbers, verdict_numbers, row_numbers, node_numbers}
 use Rattle.image_form.specs.Rules.{AllFit, IsImage}

@@ -15,9 +15,9 @@ use Rattle.image_form.specs.Lists.{AreDistinct}
 use Rattle.image_form.specs.Numbers.{function_numbers, place_numbers}
 use Rattle.image_form.specs.RulesOfFunctions.{IsFunction, FunctionRules}
 use Rattle.image_form.specs.RulesOfPlaces.{IsInFunction, IsPlace, PlaceRules, IsOwner, OwnerRules, word_address}
-use Rattle.image_form.specs.Sections.{cell}
-use Rattle.image_form.specs.TestsOfCode.{place_tests, owner_tests, is_first_place, is_place_address, is_owner, is_marked}
-use Rattle.image_form.specs.TestsOfTables.{within, is_place, is_above, is_not_below, is_in_function}
+use Rattle.image_form_sections.specs.Sections.{cell}
+use Rattle.image_form_sections.specs.TestsOfCode.{place_tests, owner_tests, is_first_place, is_place_address, is_owner, is_marked}
+use Rattle.image_form_sections.specs.TestsOfTables.{within, is_place, is_above, is_not_below, is_in_function}
 use Rattle.image_form.proofs.Kept.{AllTrue, row_is, next_from, next_at, before_at, at_each, map_at}
 use Rattle.image_form.proofs.Positions.{position_only, position_is}
 use Rattle.image_form.proofs.RecordsBack.{some_and, number_there}

@@ -1,12 +1,12 @@
 -- The numbers of the records that a view lends.
 use Rattle.std.proofs.Common.{◌≡◌, ℕ, zero, suc, ◌<◌, Some, List, [], ◌∷◌, length, get_or, refl, ap, ◌∙◌, arith}
 use Rattle.std.specs.Prelude.{map, slice_get}
-use Rattle.image_form.specs.declared.layout.Layout.{Layout}
+use Rattle.image_form_sections.specs.declared.layout.Layout.{Layout}
 use Rattle.image_form.specs.Decoding.{sections_of}
 use Rattle.image_form.specs.Form.{Form}
-use Rattle.image_form.specs.Layouts.{rows_in, sections_in}
+use Rattle.image_form_sections.specs.Layouts.{rows_in, sections_in}
 use Rattle.image_form.specs.Numbers.{function_numbers, place_numbers, variable_numbers, change_numbers, flow_numbers, assigned_numbers, row_numbers, node_numbers}
-use Rattle.image_form.specs.Sections.{cell, Sections}
+use Rattle.image_form_sections.specs.Sections.{cell, Sections}
 use Rattle.image_form.proofs.OneSpelling.{row_sized, node_sized}
 
 -- The first numbers that g gives.

@@ -6,7 +6,7 @@ use Rattle.std.proofs.lemmas.List.{take_at, drop_at, length-append}
 use Rattle.std.proofs.lemmas.List.Concat.{flat_map-cons}
 use Rattle.std.proofs.lemmas.Nat.{from_le_bytes-to_le_bytes_4}
 use Rattle.image_form.specs.Decoding.{word_numbers}
-use Rattle.image_form.specs.Sections.{number_at, numbers_at, rows_at}
+use Rattle.image_form_sections.specs.Sections.{number_at, numbers_at, rows_at}
 use Rattle.image_form.specs.Rules.{AllFit, RecordsFit}
 use Rattle.image_form.specs.Spelling.{section, spelled}
 

@@ -23,9 +23,9 @@ use Rattle.image_form.specs.RulesOfChanges.{IsPairBefore}
 use Rattle.image_form.specs.RulesOfFunctions.{IsCodeAddress, IsPlaceNumber, code_start}
 use Rattle.image_form.specs.RulesOfPlaces.{IsPlace, PlaceRules}
 use Rattle.image_form.specs.RulesOfRows.{IsVisible, IsWriter, IsVerdict, RowRules}
-use Rattle.image_form.specs.Sections.{cell}
-use Rattle.image_form.specs.TestsOfChanges.{is_visible, is_change, is_node_or_start, is_writer, row_tests}
-use Rattle.image_form.specs.TestsOfTables.{within, is_place, is_not_below, is_pair_above, is_code_address}
+use Rattle.image_form_sections.specs.Sections.{cell}
+use Rattle.image_form_sections.specs.TestsOfChanges.{is_visible, is_change, is_node_or_start, is_writer, row_tests}
+use Rattle.image_form_sections.specs.TestsOfTables.{within, is_place, is_not_below, is_pair_above, is_code_address}
 use Rattle.image_form.proofs.Kept.{AllTrue, row_is, next_from, next_at, before_at, at_each}
 use Rattle.image_form.proofs.RecordsBack.{some_and, number_there}
 use Rattle.image_form.proofs.TableLaws.{each_at, each_from}

@@ -8,21 +8,22 @@ use Rattle.std.proofs.lemmas.List.{length-map, length-take-le, drop-drop}
 use Rattle.std.proofs.lemmas.Slice.Eq.{bytes_eq-Decides}
 use Rattle.debug_records.specs.declared.code.Code.{Code}
 use Rattle.debug_records.specs.declared.code.TheConstants.Code.{HEADER_SIZE, NODES_AND_NAMES}
-use Rattle.image_form.specs.Breaches.{Fault, ◌>>=◌, Check, first_breach, first_broken, breach_in}
+use Rattle.image_form_sections.specs.Breaches.{Fault, ◌>>=◌, Check, first_breach, first_broken, breach_in}
 use Rattle.image_form.specs.Decoding.{verdict_of, word_of, function_of, place_of, variable_of, change_of, flow_of, assigned_of, row_of, node_of, word_numbers, decoded, sections_of}
 use Rattle.image_form.specs.Form.{Form}
 use Rattle.image_form.specs.Numbers.{mode_number, no_function, function_numbers, place_numbers, variable_numbers, change_numbers, flow_numbers, assigned_numbers, row_numbers, node_numbers}
-use Rattle.image_form.specs.Order.{start}
-use Rattle.image_form.specs.declared.section.Section.TheVariants.{Names}
-use Rattle.image_form.specs.Reading.{size_told, header_checks, breach_of_program, breach_of_tables, read_of}
+use Rattle.image_form_sections.specs.Order.{start}
+use Rattle.image_form_sections.specs.declared.section.Section.TheVariants.{Names}
+use Rattle.image_form.specs.Reading.{read_of}
+use Rattle.image_form_sections.specs.Checking.{size_told, header_checks, breach_of_program, breach_of_tables, checked_of}
 use Rattle.image_form.specs.Rules.{AllFit, SizeRules, FitRules, IsImage}
-use Rattle.image_form.specs.Sections.{number_at, numbers_at, rows_at, Sections, count_of, sections_at}
+use Rattle.image_form_sections.specs.Sections.{number_at, numbers_at, rows_at, Sections, count_of, sections_at}
 use Rattle.image_form.specs.Spelling.{size, header, body, spelled, spelling}
-use Rattle.image_form.specs.TestsOfChanges.{change_tests, flow_tests, assigned_tests, row_tests}
-use Rattle.image_form.specs.TestsOfCode.{function_tests, place_tests, owner_tests}
-use Rattle.image_form.specs.TestsOfNames.{name_tests, first_misfit}
-use Rattle.image_form.specs.TestsOfNodes.{node_tests}
-use Rattle.image_form.specs.TestsOfVariables.{variable_tests}
+use Rattle.image_form_sections.specs.TestsOfChanges.{change_tests, flow_tests, assigned_tests, row_tests}
+use Rattle.image_form_sections.specs.TestsOfCode.{function_tests, place_tests, owner_tests}
+use Rattle.image_form_sections.specs.TestsOfNames.{name_tests, first_misfit}
+use Rattle.image_form_sections.specs.TestsOfNodes.{node_tests}
+use Rattle.image_form_sections.specs.TestsOfVariables.{variable_tests}
 use Rattle.image_form.proofs.ChangesKept.{changes_sound, flow_sound, assigned_sound}
 use Rattle.image_form.proofs.FunctionsKept.{functions_sound}
 use Rattle.image_form.proofs.NamesKept.{names_sound}
@@ -33,8 +34,9 @@ use Rattle.image_form.proofs.VariablesKept.{TellsFunctions, variables_sound}
 use Rattle.image_form.proofs.InTurn.{in_turn, lies_in_turn}
 use Rattle.image_form.proofs.Kept.{AllTrue, rows_kept, none_in}
 use Rattle.image_form.proofs.ReadBack.{section-words}
-use Rattle.image_form.proofs.RowLaws.{length-rows_at}
-use Rattle.image_form.proofs.SpelledRows.{AreBytes, AreBytes-drop, AreBytes-take, all_bytes, number_fits, numbers_spelled, spelled_rows, rows_spelled, rows_fit, section-rows, records_fit}
+use Rattle.image_form_sections.proofs.RowLaws.{length-rows_at}
+use Rattle.image_form.proofs.SpelledRows.{all_bytes, numbers_spelled, spelled_rows, rows_spelled, rows_fit, section-rows, records_fit}
+use Rattle.image_form_sections.proofs.Octets.{AreBytes, AreBytes-drop, AreBytes-take, number_fits}
 use Rattle.image_form.proofs.Told.{row_shape, plain_told, mode_told, variables_told, changes_told, visible_rows_told, nodes_told, owner_apart, writer_apart}
 
 bind_ok : {B : Type 0} (r : Result (Unit {0}) Fault) (k : Unit {0} → Result B Fault) (y : B) → (r >>= k) ≡ Ok y → (r ≡ Ok tt) × (k tt ≡ Ok y)
@@ -491,13 +493,19 @@ ok_of false d r y e = (refl, e)
 same_ok : {A : Type 0} (x y : A) → ◌≡◌ {A = Result A Fault} (Ok x) (Ok y) → x ≡ y
 same_ok x y e = cc
 
+-- What is read are the sections that were checked.
+pub read_from : (r : Result Sections Fault) (f : Form) → (r >>= λ s. Ok (decoded s)) ≡ Ok f → (s : Sections) × (r ≡ Ok s) × (decoded s ≡ f)
+read_from (Ok s) f e = (s, refl, same_ok (decoded s) f e)
+read_from (Err d) f e = absurd cc
+
 pub read_sound : (bytes : List ℕ) (f : Form) → AreBytes bytes → read_of bytes ≡ Ok f → IsImage f × (bytes ≡ spelling f)
-unfolding read_of
+unfolding read_of checked_of
 read_sound bytes f are e =
-    let long = ok_of (ltb (length bytes) 64) (HEADER_SIZE, length bytes) _ f e in
-    let checks = bind_ok (first_breach (header_checks bytes)) _ f long.1 in
-    let program = bind_ok (breach_of_program (sections_at bytes)) _ f checks.1 in
-    let tables = bind_ok (breach_of_tables (sections_at bytes)) _ f program.1 in
+    let read = read_from (checked_of bytes) f e in
+    let long = ok_of (ltb (length bytes) 64) (HEADER_SIZE, length bytes) _ read.0 read.1 in
+    let checks = bind_ok (first_breach (header_checks bytes)) _ read.0 long.1 in
+    let program = bind_ok (breach_of_program (sections_at bytes)) _ read.0 checks.1 in
+    let tables = bind_ok (breach_of_tables (sections_at bytes)) _ read.0 program.1 in
     let turned = sym (lies_in_turn bytes) in
     let kept : IsKept bytes = record {
       are = are;
@@ -506,4 +514,4 @@ read_sound bytes f are e =
       program = program_parts (in_turn bytes) (ap breach_of_program turned ∙ program.0);
       tables = tables_parts (in_turn bytes) (ap breach_of_tables turned ∙ tables.0);
     } in
-    subst (λ (g : Form). IsImage g × (bytes ≡ spelling g)) (ap decoded turned ∙ same_ok (decoded (sections_at bytes)) f tables.1) (image_is bytes kept, spelled_so bytes kept)
+    subst (λ (g : Form). IsImage g × (bytes ≡ spelling g)) (ap decoded (turned ∙ same_ok (sections_at bytes) read.0 tables.1) ∙ read.2) (image_is bytes kept, spelled_so bytes kept)

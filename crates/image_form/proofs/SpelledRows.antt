@@ -1,30 +1,16 @@
 -- Rows that were read are spelled as the bytes that they were read from.
-use Rattle.std.proofs.Common.{◌≡◌, ℕ, zero, suc, ◌+◌, ◌*◌, ◌^◌, ◌<◌, ◌≤◌, List, [], ◌∷◌, ◌++◌, length, get_or, take, drop, refl, sym, ap, ◌∙◌, arith, length-drop, length-take, get_or-drop, get_or-take, inl, inr}
+use Rattle.std.proofs.Common.{◌≡◌, ℕ, zero, suc, ◌+◌, ◌*◌, ◌<◌, ◌≤◌, List, [], ◌∷◌, ◌++◌, length, take, drop, refl, sym, ap, ◌∙◌, arith, length-drop, length-take}
 use Rattle.std.specs.Prelude.{map}
-use Rattle.std.specs.Int.{w32, from_le_bytes, to_le_bytes}
+use Rattle.std.specs.Int.{w32, to_le_bytes}
 use Rattle.std.specs.List.{flat_map, AllByRecursion}
-use Rattle.std.proofs.lemmas.Bool.{cases_lt}
-use Rattle.std.proofs.lemmas.List.{get_or_past, drop-drop}
+use Rattle.std.proofs.lemmas.List.{drop-drop}
 use Rattle.std.proofs.lemmas.List.Concat.{flat_map-cons}
 use Rattle.std.proofs.lemmas.Nat.{le_bytes_4}
 use Rattle.std.proofs.Math.Seq.{take-add}
+use Rattle.image_form_sections.proofs.Octets.{AreBytes, AreBytes-drop, AreBytes-take, number_fits}
 use Rattle.image_form.specs.Rules.{AllFit, RecordsFit}
-use Rattle.image_form.specs.Sections.{number_at, numbers_at, rows_at}
+use Rattle.image_form_sections.specs.Sections.{number_at, numbers_at, rows_at}
 use Rattle.image_form.specs.Spelling.{section, spelled}
-
--- Each number is a byte's.
-abbrev pub AreBytes : List ℕ → Type 0
-AreBytes bytes = (i : ℕ) → get_or bytes i 0 < 256
-
-pub AreBytes-drop : (n : ℕ) (bytes : List ℕ) → AreBytes bytes → AreBytes (drop n bytes)
-AreBytes-drop n bytes are i = rw get_or-drop (are (n + i))
-
-pub AreBytes-take : (n : ℕ) (bytes : List ℕ) → AreBytes bytes → AreBytes (take n bytes)
-AreBytes-take n bytes are i =
-    elim (cases_lt i n) [
-      | inl lt ↦ rw (get_or-take n bytes i 0 lt) (are i)
-      | inr le ↦ rw (get_or_past (take n bytes) i 0 (omega (arith, length-take n bytes))) (omega arith)
-    ]
 
 pub all_bytes : (bytes : List ℕ) → AreBytes bytes → AllByRecursion (λ b. b < 256) bytes
 all_bytes [] are = tt
@@ -34,13 +20,6 @@ number_spelled : (bytes : List ℕ) (at : ℕ) → AreBytes bytes → at + 4 ≤
 unfolding number_at
 number_spelled bytes at are le =
     le_bytes_4 (take 4 (drop at bytes)) _ (omega (arith, length-take 4 (drop at bytes), length-drop at bytes)) (AreBytes-take 4 (drop at bytes) (AreBytes-drop at bytes are)) refl
-
-pub number_fits : (bytes : List ℕ) (at : ℕ) → AreBytes bytes → number_at bytes at < 2 ^ 32
-unfolding number_at
-number_fits bytes at are = below (take 4 (drop at bytes)) (AreBytes-take 4 (drop at bytes) (AreBytes-drop at bytes are))
-  where
-    below : (bs : List ℕ) → AreBytes bs → from_le_bytes w32 bs < 2 ^ 32
-    below bs are = omega (arith, are 0, are 1, are 2, are 3)
 
 pub numbers_fit : (n at : ℕ) (bytes : List ℕ) → AreBytes bytes → AllFit (numbers_at n at bytes)
 numbers_fit zero at bytes are = tt

@@ -6,11 +6,11 @@ use Rattle.std.proofs.lemmas.Bool.Decides.{nat_tests}
 use Rattle.std.proofs.lemmas.Option.{slice_get_within, get_or_from_slice_get, same_Some}
 use Rattle.image_form.specs.Decoding.{mode_of, owner_of, element_of, storage_of, variable_of, kind_of, change_of, writer_of, row_of, operation_of, truncation_of, node_of}
 use Rattle.image_form.specs.Numbers.{mode_number, no_function, element_number, storage_number, storage_value, variable_numbers, kind_number, change_numbers, row_numbers, operation_number, truncation_number, node_numbers}
-use Rattle.image_form.specs.Sections.{number_at, numbers_at, rows_at, cell, Sections}
-use Rattle.image_form.specs.TestsOfChanges.{change_tests, row_tests, is_change, is_node_or_start, is_writer}
-use Rattle.image_form.specs.TestsOfNodes.{node_tests, is_right, is_operand, is_new_node}
-use Rattle.image_form.specs.TestsOfTables.{within}
-use Rattle.image_form.specs.TestsOfVariables.{variable_tests, is_storage}
+use Rattle.image_form_sections.specs.Sections.{number_at, numbers_at, rows_at, cell, Sections}
+use Rattle.image_form_sections.specs.TestsOfChanges.{change_tests, row_tests, is_change, is_node_or_start, is_writer}
+use Rattle.image_form_sections.specs.TestsOfNodes.{node_tests, is_right, is_operand, is_new_node}
+use Rattle.image_form_sections.specs.TestsOfTables.{within}
+use Rattle.image_form_sections.specs.TestsOfVariables.{variable_tests, is_storage}
 use Rattle.image_form.proofs.Kept.{AllTrue}
 
 -- A row is some numbers of the bytes.

@@ -16,9 +16,9 @@ use Rattle.image_form.specs.Decoding.{sections_of}
 use Rattle.image_form.specs.Form.{Form}
 use Rattle.image_form.specs.Numbers.{function_numbers, no_function, element_number, storage_number, storage_value, variable_numbers}
 use Rattle.image_form.specs.RulesOfVariables.{IsVariable, IsKept, IsCount, IsNamed, IsFrameOffset, IsHomeRegister, IsStaticAddress, group_of, group, IsDeclaredBefore, VariableRules}
-use Rattle.image_form.specs.Sections.{cell}
-use Rattle.image_form.specs.TestsOfTables.{is_above}
-use Rattle.image_form.specs.TestsOfVariables.{group_at, group_before, is_name_length, is_function, is_position, is_storage, is_home_register, is_static_address, is_value, is_count, variable_tests}
+use Rattle.image_form_sections.specs.Sections.{cell}
+use Rattle.image_form_sections.specs.TestsOfTables.{is_above}
+use Rattle.image_form_sections.specs.TestsOfVariables.{group_at, group_before, is_name_length, is_function, is_position, is_storage, is_home_register, is_static_address, is_value, is_count, variable_tests}
 use Rattle.image_form.proofs.Kept.{AllTrue, row_is, next_from, next_at, before_at, at_each}
 use Rattle.image_form.proofs.RecordsBack.{some_and, kept_there, all_of}
 use Rattle.image_form.proofs.TableLaws.{each_at, each_from}

@@ -25,7 +25,7 @@ use Rattle.image_form.specs.declared.verdicts.Verdict.TheVariants.{Home, Recover
 use Rattle.image_form.specs.declared.verdicts.VisibleRow.{VisibleRow}
 use Rattle.image_form.specs.Form.{Form}
 use Rattle.image_form.specs.Numbers.{mode_number, function_numbers, place_numbers, no_function, variable_numbers, change_numbers, flow_numbers, assigned_numbers, row_numbers, node_numbers}
-use Rattle.image_form.specs.Sections.{Sections}
+use Rattle.image_form_sections.specs.Sections.{Sections}
 
 -- The mode of a number.
 abbrev pub mode_of : ℕ → Mode

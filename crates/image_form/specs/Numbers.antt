@@ -23,6 +23,7 @@ use Rattle.image_form.specs.declared.variables.Variable.{Variable}
 use Rattle.image_form.specs.declared.verdicts.Verdict.{Verdict}
 use Rattle.image_form.specs.declared.verdicts.Verdict.TheVariants.{Home, Recovered, Noncurrent, Nonresident}
 use Rattle.image_form.specs.declared.verdicts.VisibleRow.{VisibleRow}
+pub use Rattle.image_form_sections.specs.Bounds.{no_function}
 
 -- The number of a mode.
 abbrev pub mode_number : Mode → ℕ
@@ -36,10 +37,6 @@ function_numbers f = f.name_length ∷ f.first ∷ f.end ∷ f.frame ∷ f.entry
 -- The numbers of a place.
 abbrev pub place_numbers : Place → List ℕ
 place_numbers p = p.position ∷ p.line ∷ p.function ∷ p.address ∷ []
-
--- The greatest number of 32 bits stands for no function.
-abbrev pub no_function : ℕ
-no_function = 4294967295
 
 -- The number of an element type.
 abbrev pub element_number : ElementType → ℕ

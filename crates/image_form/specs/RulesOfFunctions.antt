@@ -4,10 +4,7 @@ use Rattle.std.specs.List.{AllByRecursion}
 use Rattle.image_form.specs.declared.tables.Function.{Function}
 use Rattle.image_form.specs.Form.{Form}
 use Rattle.image_form.specs.Lists.{EachToNext}
-
--- The address of the first code word.
-unfoldable pub code_start : ℕ
-code_start = 0x00010000
+unfoldable pub use Rattle.image_form_sections.specs.Bounds.{code_start}
 
 -- The address behind the last code word.
 abbrev pub code_end : Form → ℕ

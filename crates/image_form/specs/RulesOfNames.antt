@@ -1,20 +1,9 @@
 -- The rules of names.
-use Rattle.std.specs.Prelude.{◌≡◌, ℕ, ◌+◌, Bool, IsTrue, ◌&&◌, ◌||◌, ◌==◌, nat_le, List, [], ◌∷◌, EachIndex, length, sum, ⊤}
+use Rattle.std.specs.Prelude.{◌≡◌, ℕ, ◌+◌, IsTrue, List, [], ◌∷◌, EachIndex, length, sum, ⊤}
 use Rattle.std.specs.List.{list_all}
 use Rattle.image_form.specs.Form.{Form}
 use Rattle.image_form.specs.Names.{function_name_lengths, variable_name_lengths, pass_name_lengths, function_name, variable_name, pass_name}
-
--- A letter from a to z.
-abbrev pub is_lower_letter : ℕ → Bool
-is_lower_letter c = nat_le 97 c && nat_le c 122
-
--- A letter or an underscore, with which an identifier begins.
-abbrev pub begins_identifier : ℕ → Bool
-begins_identifier c = is_lower_letter c || (nat_le 65 c && nat_le c 90) || c == 95
-
--- A letter, an underscore or a digit.
-abbrev pub is_identifier_byte : ℕ → Bool
-is_identifier_byte c = begins_identifier c || (nat_le 48 c && nat_le c 57)
+pub use Rattle.image_form_sections.specs.Letters.{begins_identifier, is_identifier_byte, is_lower_letter}
 
 -- An identifier of C; keywords are not told apart.
 abbrev pub IsIdentifier : List ℕ → Type 0

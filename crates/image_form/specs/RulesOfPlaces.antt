@@ -1,10 +1,10 @@
 -- The rules of places and of the owners of code words.
-use Rattle.std.specs.Prelude.{◌≡◌, ◌≢◌, ℕ, ◌+◌, ◌*◌, ◌%◌, ◌<◌, ◌≤◌, Some, slice_get, IsSomeAnd, length}
+use Rattle.std.specs.Prelude.{◌≡◌, ◌≢◌, ℕ, ◌+◌, ◌%◌, ◌<◌, ◌≤◌, Some, slice_get, IsSomeAnd, length}
 use Rattle.std.specs.List.{AllByRecursion}
 use Rattle.image_form.specs.declared.tables.Place.{Place}
 use Rattle.image_form.specs.Form.{Form, numbered}
 use Rattle.image_form.specs.Lists.{EachToNext, AreDistinct}
-use Rattle.image_form.specs.RulesOfFunctions.{code_start}
+pub use Rattle.image_form_sections.specs.Bounds.{word_address}
 
 -- The address lies in the code of the k-th function.
 abbrev pub IsInFunction : Form → ℕ → ℕ → Type 0
@@ -23,10 +23,6 @@ pub record PlaceRules (f : Form) : Type 0 where
   pub lines_do_not_fall : EachToNext (λ p q. p.line ≤ q.line) f.places
   pub functions_do_not_fall : EachToNext (λ p q. p.function ≤ q.function) f.places
   pub addresses_differ : AreDistinct (λ p. p.address) f.places
-
--- The address of the w-th code word.
-abbrev pub word_address : ℕ → ℕ
-word_address w = code_start + 4 * w
 
 -- The n-th place is of the function that holds the w-th code word.
 abbrev pub IsOwner : Form → ℕ → ℕ → Type 0

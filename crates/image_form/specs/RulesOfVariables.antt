@@ -6,14 +6,7 @@ use Rattle.image_form.specs.declared.variables.Storage.TheVariants.{Static, Fram
 use Rattle.image_form.specs.declared.variables.Variable.{Variable}
 use Rattle.image_form.specs.Form.{Form}
 use Rattle.image_form.specs.Lists.{EachToNext}
-
--- The address at which static memory begins.
-unfoldable pub static_start : ℕ
-static_start = 0x00400000
-
--- How many bytes static memory has.
-unfoldable pub static_size : ℕ
-static_size = 1048576
+unfoldable pub use Rattle.image_form_sections.specs.Bounds.{static_start, static_size}
 
 abbrev pub IsStaticAddress : ℕ → Type 0
 IsStaticAddress address = (static_start ≤ address) × (address < static_start + static_size)

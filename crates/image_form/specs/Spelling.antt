@@ -4,9 +4,9 @@ use Rattle.std.specs.Prelude.{ℕ, List, [], ◌∷◌, ◌++◌, length, codes}
 use Rattle.std.specs.List.{flat_map}
 use Rattle.byteorder.specs.Endian.{little_bytes}
 use Rattle.image_form.specs.Form.{Form}
-use Rattle.image_form.specs.Order.{order, behind}
-use Rattle.image_form.specs.declared.section.Section.{Section}
-use Rattle.image_form.specs.declared.section.Section.TheVariants.{Code, Initial, Functions, Places, Owners, Variables, Changes, Flow, Assigned, Rows, Nodes, Names}
+use Rattle.image_form_sections.specs.Order.{order, behind}
+use Rattle.image_form_sections.specs.declared.section.Section.{Section}
+use Rattle.image_form_sections.specs.declared.section.Section.TheVariants.{Code, Initial, Functions, Places, Owners, Variables, Changes, Flow, Assigned, Rows, Nodes, Names}
 use Rattle.image_form.specs.Numbers.{mode_number, function_numbers, place_numbers, variable_numbers, change_numbers, flow_numbers, assigned_numbers, row_numbers, node_numbers}
 
 -- The bytes of numbers, one after the other.

@@ -3,16 +3,14 @@
 ghost use Rattle.std.specs.Prelude.{◌≡◌, ◌+◌, ◌<◌, ◌^◌, ◌∷◌, [], Ok, Some, length, map, slice_get, true};
 ghost use Rattle.image_form.specs.Decoding.{sections_of};
 ghost use Rattle.image_form.specs.Form.{Form};
-ghost use Rattle.image_form.specs.Layouts.{sections_in};
+ghost use Rattle.image_form_sections.specs.Layouts.{sections_in};
 ghost use Rattle.image_form.specs.Lent.{are_bytes, image_in};
 ghost use Rattle.image_form.specs.Numbers.{assigned_numbers, change_numbers, flow_numbers, function_numbers, node_numbers, place_numbers, row_numbers, variable_numbers};
 ghost use Rattle.image_form.specs.Reading.{read_of};
 ghost use Rattle.image_form.specs.Rules.{IsImage};
-ghost use Rattle.image_form.specs.Sections.{sections_at};
+ghost use Rattle.image_form_sections.specs.Sections.{sections_at};
 ghost use Rattle.image_form.specs.Spelling.{header, spelled, spelling};
 
-use crate::header::HEADER_SIZE;
-use crate::layout::{Layout, layout_of};
 use crate::name_lookup::{behind_names, name_in};
 use crate::numbers::{
     ChangeRecord, FunctionRecord, Header, NodeRecord, PlaceRecord, RowRecord, VariableRecord,
@@ -23,6 +21,7 @@ use crate::tables::{AssignedPair, Change, FlowPair, Function, Place};
 use crate::variables::Variable;
 use crate::verdicts::VisibleRow;
 use debug_records::Mode;
+use image_form_sections::{HEADER_SIZE, Layout, layout_of};
 
 /// The image that bytes spell, read where it lies.
 ///

@@ -2,10 +2,10 @@
 
 ghost use Rattle.std.specs.Prelude.{◌≡◌, drop, map, sum, take};
 ghost use Rattle.image_form.specs.Decoding.{word_of};
-ghost use Rattle.image_form.specs.Layouts.{rows_in};
+ghost use Rattle.image_form_sections.specs.Layouts.{rows_in};
 ghost use Rattle.image_form.specs.Names.{name_at};
 
-use crate::table::Table;
+use image_form_sections::Table;
 
 /// The name of a row, in bytes that begin with the name of the table's first row.
 pub fn name_in<'a>(table: &Table<'_>, row: usize, bytes: &'a [u8]) -> &'a [u8]

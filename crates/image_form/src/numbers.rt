@@ -2,9 +2,9 @@
 
 ghost use Rattle.std.specs.Prelude.{◌≡◌, ◌≤◌, length};
 ghost use Rattle.image_form.specs.RawRecords.{header_numbers};
-ghost use Rattle.image_form.specs.Sections.{numbers_at};
+ghost use Rattle.image_form_sections.specs.Sections.{numbers_at};
 
-use crate::table::number_at;
+use image_form_sections::number_at;
 
 /// The numbers of a header behind its first four bytes.
 #[derive(Clone, Copy)]

@@ -1,33 +1,21 @@
 //! An image from its bytes.
 
-ghost use Rattle.std.specs.Prelude.{◌≡◌, ◌+◌, ◌<◌, ◌≤◌, ◌^◌, IfOk, IfSome, OnOk, Ok, length};
-ghost use Rattle.image_form.specs.Breaches.{Gives, breach_in, first_breach};
+ghost use Rattle.std.specs.Prelude.{◌≡◌, IfOk, Ok};
 ghost use Rattle.image_form.specs.Decoding.{decoded};
 ghost use Rattle.image_form.specs.Form.{Form, form};
-ghost use Rattle.image_form.specs.Layouts.{sections_in};
 ghost use Rattle.image_form.specs.Lent.{image_in};
-ghost use Rattle.image_form.specs.Order.{record_size, start};
-ghost use Rattle.image_form.specs.Reading.{breach_of_program, breach_of_tables, count_checks, header_checks, read_of, size_told};
+ghost use Rattle.image_form.specs.Reading.{read_of};
 ghost use Rattle.image_form.specs.Rules.{IsImage};
-ghost use Rattle.image_form.specs.Sections.{count_of, sections_at};
 ghost use Rattle.image_form.specs.Spelling.{spelling};
 ghost use Rattle.image_form.specs.Views.{viewed};
-ghost use Rattle.image_form.specs.declared.section.Section.TheVariants.{Names};
+ghost use Rattle.image_form_sections.specs.Breaches.{Gives};
+ghost use Rattle.image_form_sections.specs.Layouts.{sections_in};
+ghost use Rattle.image_form_sections.specs.Sections.{sections_at};
 
-use crate::change_rules::{AssignedRule, ChangeRule, FlowRule, VisibleRule};
-use crate::code_rules::{FunctionRule, OwnerRule, PlaceRule, first_places};
-use crate::fault::ImageErr;
 use crate::format::Image;
-use crate::header::{HEADER_SIZE, check_header};
-use crate::layout::{Layout, layout_of};
 use crate::lent::View;
-use crate::name_rules::first_misfit;
-use crate::node_rules::{NodeRule, first_nodes};
 use crate::records::{mode_of, take_records};
-use crate::rule::first_fault;
-use crate::section::{Section, start};
-use crate::variable_rules::VariableRule;
-use debug_records::Code;
+use image_form_sections::{ImageErr, Layout, checked};
 use std::alloc::{AllocError, Global};
 
 /// The image that the bytes spell.
@@ -47,6 +35,7 @@ pub fn read(alloc: Global, bytes: &[u8]) -> Result<Image, ImageErr>
     read_exactly(alloc, bytes)
 }
 
+#[tactic(auto, unfolding(crate::specs::Reading::read_of))]
 fn read_exactly(alloc: Global, bytes: &[u8]) -> Result<Image, ImageErr>
     ensures { Gives form result (read_of bytes.now) }
 {
@@ -70,100 +59,12 @@ pub fn view(alloc: Global, bytes: &[u8]) -> Result<View<'_>, ImageErr>
     view_exactly(alloc, bytes)
 }
 
+#[tactic(auto, unfolding(crate::specs::Reading::read_of))]
 fn view_exactly(alloc: Global, bytes: &[u8]) -> Result<View<'_>, ImageErr>
     ensures { Gives viewed result (read_of bytes.now) }
 {
     let layout = checked(alloc, bytes)?;
     Ok(View::new(bytes, &layout))
-}
-
-/// The sections of bytes that spell an image.
-#[tactic(auto, unfolding(crate::specs::Reading::read_of))]
-fn checked(alloc: Global, bytes: &[u8]) -> Result<Layout<'_>, ImageErr>
-    ensures exact { Gives image_in result (read_of bytes.now) }
-    ensures sections { IfOk result (λ layout. sections_in layout ≡ sections_at bytes.now) }
-{
-    if bytes.len() < HEADER_SIZE {
-        return Err(ImageErr::Refused(Code::HEADER_SIZE, bytes.len()));
-    }
-    check_header(bytes)?;
-    let layout = layout_of(bytes);
-    check_program(alloc, &layout)?;
-    check_tables(alloc, &layout)?;
-    Ok(layout)
-}
-
-/// The breach at a row of a section and one of its numbers.
-fn breach(
-    code: Code,
-    layout: &Layout<'_>,
-    section: Section,
-    broken: Option<(usize, usize)>,
-) -> Result<(), ImageErr>
-    requires start { start (count_of (sections_in layout.now)) section < 2 ^ 63 }
-    requires broken { IfSome broken (λ b. (b.0 < 2 ^ 32) × (b.1 < 8)) }
-    ensures { Gives (λ _. tt) result (breach_in code (start (count_of (sections_in layout.now)) section) (record_size section) broken) }
-{
-    match broken {
-        Some((row, field)) => {
-            let at = start(layout, section) + section.record_size() * row + 4 * field;
-            Err(ImageErr::Refused(code, at))
-        }
-        None => Ok(()),
-    }
-}
-
-#[tactic(auto, unfolding(crate::specs::Reading::breach_of_program))]
-fn check_program(alloc: Global, layout: &Layout<'_>) -> Result<(), ImageErr>
-    requires { start (count_of (sections_in layout.now)) Names < 2 ^ 63 }
-    ensures { Gives (λ _. tt) result (breach_of_program (sections_in layout.now)) }
-{
-    let broken = first_fault(&FunctionRule { layout }, layout.functions.len());
-    breach(Code::FUNCTIONS, layout, Section::Functions, broken)?;
-    let firsts = first_places(alloc, layout)?;
-    let rule = PlaceRule {
-        layout,
-        firsts: &firsts,
-    };
-    let broken = first_fault(&rule, layout.places.len());
-    breach(Code::PLACES, layout, Section::Places, broken)?;
-    let rule = OwnerRule {
-        layout,
-        firsts: &firsts,
-    };
-    let broken = first_fault(&rule, layout.owners.len());
-    breach(Code::OWNERS, layout, Section::Owners, broken)?;
-    let broken = first_fault(&VariableRule { layout }, layout.variables.len());
-    breach(Code::VARIABLES, layout, Section::Variables, broken)?;
-    let broken = first_fault(&ChangeRule { layout }, layout.changes.len());
-    breach(Code::CHANGES, layout, Section::Changes, broken)
-}
-
-#[tactic(auto, unfolding(crate::specs::Reading::breach_of_tables))]
-fn check_tables(alloc: Global, layout: &Layout<'_>) -> Result<(), ImageErr>
-    requires { start (count_of (sections_in layout.now)) Names < 2 ^ 63 }
-    ensures { Gives (λ _. tt) result (breach_of_tables (sections_in layout.now)) }
-{
-    let broken = first_fault(&FlowRule { layout }, layout.flow.len());
-    breach(Code::PAIRS_AND_ROWS, layout, Section::Flow, broken)?;
-    let broken = first_fault(&AssignedRule { layout }, layout.assigned.len());
-    breach(Code::PAIRS_AND_ROWS, layout, Section::Assigned, broken)?;
-    let broken = first_fault(&VisibleRule { layout }, layout.rows.len());
-    breach(Code::PAIRS_AND_ROWS, layout, Section::Rows, broken)?;
-    let firsts = first_nodes(alloc, layout)?;
-    let rule = NodeRule {
-        layout,
-        firsts: &firsts,
-    };
-    let broken = first_fault(&rule, layout.nodes.len());
-    breach(Code::NODES_AND_NAMES, layout, Section::Nodes, broken)?;
-    match first_misfit(layout) {
-        Some(misfit) => {
-            let at = start(layout, Section::Names) + misfit;
-            Err(ImageErr::Refused(Code::NODES_AND_NAMES, at))
-        }
-        None => Ok(()),
-    }
 }
 
 #[tactic(auto, unfolding(crate::specs::Decoding::decoded))]

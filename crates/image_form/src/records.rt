@@ -2,17 +2,17 @@
 
 ghost use Rattle.std.specs.Prelude.{◌≡◌, ℕ, ◌++◌, List, [], IfOk, OnOk, map, slice_index_or};
 ghost use Rattle.image_form.specs.Decoding.{assigned_of, change_of, element_of, flow_of, function_of, kind_of, computed_of, mode_of, node_of, operation_of, owner_of, place_of, row_of, storage_of, truncation_of, variable_of, verdict_of, word_numbers, word_of, writer_of};
-ghost use Rattle.image_form.specs.Layouts.{rows_in};
+ghost use Rattle.image_form_sections.specs.Layouts.{rows_in};
 ghost use Rattle.image_form.specs.Numbers.{assigned_numbers, change_numbers, element_number, flow_numbers, function_numbers, kind_number, node_numbers, operation_number, place_numbers, row_numbers, storage_number, storage_value, truncation_number, variable_numbers};
 ghost use Rattle.image_form.specs.Spelling.{section, spelled};
 
 use crate::recipes::Node;
-use crate::table::Table;
 use crate::tables::{AssignedPair, Change, FlowPair, Function, Place};
 use crate::variables::{ElementType, Storage, Variable};
 use crate::verdicts::{Verdict, VisibleRow};
 use byteorder::{ByteOrder, LittleEndian};
 use debug_records::{Kind, Mode};
+use image_form_sections::{NO_FUNCTION, Table};
 use std::alloc::{AllocError, Global};
 use word_base::{Operation, Truncation};
 
@@ -324,9 +324,6 @@ fn computed_of(number: u32, first: u32, second: u32) -> Node
         }
     }
 }
-
-/// Stands for no function in a variable's record.
-pub const NO_FUNCTION: u32 = u32::MAX;
 
 /// Stands for no writer in a visible row.
 const NO_WRITER: u32 = 0;

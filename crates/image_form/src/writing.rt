@@ -8,10 +8,9 @@ ghost use Rattle.image_form.specs.Spelling.{header, record_count, size, spelling
 ghost use Rattle.image_form.specs.Unique.{SpellsOneImage};
 
 use crate::format::Image;
-use crate::header::{FORMAT_VERSION, MAGIC};
 use crate::records::{put_numbers, put_records};
-use crate::section::{Counts, Section, size, whole_size};
 use debug_records::Mode;
+use image_form_sections::{Counts, FORMAT_VERSION, MAGIC, Section, size, whole_size};
 use std::alloc::{AllocError, Global};
 
 /// The bytes that spell an image: a header of 64 bytes, then its sections.

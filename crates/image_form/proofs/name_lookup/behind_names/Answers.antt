@@ -1,5 +1,5 @@
 use Rattle.std.proofs.Common.{◌∙◌, ap, drop}
-use Rattle.image_form.specs.Layouts.{rows_in}
+use Rattle.image_form_sections.specs.Layouts.{rows_in}
 use Rattle.image_form.proofs.NamesGot.{behind_next}
 use Rattle.image_form.proofs.name_lookup.behind_names.Goals as goal
 

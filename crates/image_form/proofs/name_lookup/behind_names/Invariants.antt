@@ -1,7 +1,7 @@
 use Rattle.std.proofs.Common.{◌≡◌, drop, take}
 use Rattle.std.specs.Prelude.{map, sum}
 use Rattle.image_form.specs.Decoding.{word_of}
-use Rattle.image_form.specs.Layouts.{rows_in}
+use Rattle.image_form_sections.specs.Layouts.{rows_in}
 use Rattle.image_form.proofs.name_lookup.behind_names.Given as goal
 
 abbrev pub invariant-loop-row : goal.invariant-loop-row

@@ -1,5 +1,5 @@
 use Rattle.std.proofs.Common.{◌∙◌, ap, take}
-use Rattle.image_form.specs.Layouts.{rows_in}
+use Rattle.image_form_sections.specs.Layouts.{rows_in}
 use Rattle.image_form.proofs.NamesGot.{name_there}
 use Rattle.image_form.proofs.name_lookup.name_in.Goals as goal
 

@@ -1,5 +1,5 @@
 use Rattle.std.proofs.Common.{ap, subst, ◌∙◌, arith}
-use Rattle.image_form.specs.Breaches.{Gives}
+use Rattle.image_form_sections.specs.Breaches.{Gives}
 use Rattle.image_form.specs.Form.{form}
 use Rattle.image_form.specs.Reading.{read_of}
 use Rattle.image_form.proofs.Complete.{image_read}

@@ -1,6 +1,6 @@
 use Rattle.std.proofs.Common.{◌≡◌, take}
 use Rattle.std.specs.Prelude.{map}
-use Rattle.image_form.specs.Layouts.{rows_in}
+use Rattle.image_form_sections.specs.Layouts.{rows_in}
 use Rattle.image_form.proofs.records.take_records.Given as goal
 
 abbrev pub invariant-loop-row : goal.invariant-loop-row

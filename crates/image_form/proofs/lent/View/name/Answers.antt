@@ -1,5 +1,5 @@
 use Rattle.std.proofs.Common.{◌∙◌, ◌-◌, ◌<◌, length, arith}
-use Rattle.image_form.specs.Layouts.{rows_in}
+use Rattle.image_form_sections.specs.Layouts.{rows_in}
 use Rattle.image_form.proofs.NamesGot.{name_first, name_second, name_third}
 use Rattle.image_form.proofs.lent.View.name.Goals as goal
 

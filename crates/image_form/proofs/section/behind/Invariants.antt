@@ -1,6 +1,0 @@
-use Rattle.std.proofs.Common.{◌≡◌, take}
-use Rattle.image_form.specs.Order.{behind, order}
-use Rattle.image_form.proofs.section.behind.Given as goal
-
-abbrev pub invariant-loop-section : goal.invariant-loop-section
-invariant-loop-section g l = l.at ≡ behind (g.C.Counts.count l.counts) (take l.section-index order)

@@ -1,0 +1,6 @@
+pub mod Broken
+pub mod FirstAt
+pub mod Inside
+pub mod Octets
+pub mod RowLaws
+pub mod Unfit

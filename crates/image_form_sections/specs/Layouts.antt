@@ -1,0 +1,46 @@
+-- What tables and layouts in memory say.
+use Rattle.std.specs.Prelude.{◌≡◌, ℕ, ◌&&◌, ◌==◌, List, slice_index}
+use Rattle.std.specs.BTreeMap.{BTreeMap}
+use Rattle.std.specs.BTreeMap as tree
+use Rattle.std.specs.List.{position_from}
+use Rattle.std.specs.Ordering.{nat_cmp, ordering_then}
+use Rattle.std.specs.declared.cmp.Ordering.{Ordering}
+use Rattle.image_form_sections.specs.declared.layout.Layout.{Layout}
+use Rattle.image_form_sections.specs.declared.table.Table.{Table}
+use Rattle.image_form_sections.specs.Sections.{rows_at, Sections}
+
+-- The rows of a table.
+abbrev pub rows_in : Table → List (List ℕ)
+rows_in t = rows_at t.width t.count t.bytes.now
+
+-- The sections of a layout.
+abbrev pub sections_in : Layout → Sections
+sections_in l = record {
+  mode = l.mode;
+  code = rows_in l.code;
+  initial = l.initial.now;
+  functions = rows_in l.functions;
+  places = rows_in l.places;
+  owners = rows_in l.owners;
+  variables = rows_in l.variables;
+  changes = rows_in l.changes;
+  flow = rows_in l.flow;
+  assigned = rows_in l.assigned;
+  rows = rows_in l.rows;
+  nodes = rows_in l.nodes;
+  names = l.names.now;
+}
+
+-- The map has for each address the first place with that address.
+abbrev pub HoldsFirstPlaces : BTreeMap ℕ ℕ → List (List ℕ) → Type 0
+HoldsFirstPlaces map places = (address : ℕ) → tree.get nat_cmp map address ≡ position_from (λ p. slice_index p 3 == address) 0 places
+
+-- The order of nodes as three numbers.
+abbrev pub node_cmp : ℕ × ℕ × ℕ → ℕ × ℕ × ℕ → Ordering
+node_cmp x y = ordering_then (ordering_then (nat_cmp x.0 y.0) (nat_cmp x.1 y.1)) (nat_cmp x.2 y.2)
+
+-- The map has for each three numbers the first node with them.
+abbrev pub HoldsFirstNodes : BTreeMap (ℕ × ℕ × ℕ) ℕ → List (List ℕ) → Type 0
+HoldsFirstNodes map nodes =
+    (key : ℕ × ℕ × ℕ) → tree.get node_cmp map key
+    ≡ position_from (λ q. slice_index q 0 == key.0 && slice_index q 1 == key.1 && slice_index q 2 == key.2) 0 nodes

@@ -1,0 +1,13 @@
+pub mod Bounds
+pub mod Breaches
+pub mod Checking
+pub mod Layouts
+pub mod Letters
+pub mod Order
+pub mod Sections
+pub mod TestsOfChanges
+pub mod TestsOfCode
+pub mod TestsOfNames
+pub mod TestsOfNodes
+pub mod TestsOfTables
+pub mod TestsOfVariables

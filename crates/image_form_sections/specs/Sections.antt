@@ -1,0 +1,84 @@
+-- The sections of an image as numbers, before they are understood: a row of numbers for each record.
+use Rattle.std.specs.Prelude.{ℕ, zero, suc, ◌+◌, ◌*◌, ◌/◌, List, [], ◌∷◌, length, take, drop, slice_index, slice_index_or}
+use Rattle.std.specs.Int.{w32, from_le_bytes}
+use Rattle.image_form_sections.specs.Order.{count_offset, record_size, start}
+use Rattle.image_form_sections.specs.declared.section.Section.{Section}
+use Rattle.image_form_sections.specs.declared.section.Section.TheVariants.{Code, Initial, Functions, Places, Owners, Variables, Changes, Flow, Assigned, Rows, Nodes, Names}
+
+-- The number whose four bytes begin at a byte.
+unfoldable pub number_at : List ℕ → ℕ → ℕ
+number_at bytes at = from_le_bytes w32 (take 4 (drop at bytes))
+
+-- So many numbers from a byte on.
+abbrev pub numbers_at : ℕ → ℕ → List ℕ → List ℕ
+numbers_at zero at bytes = []
+numbers_at (suc n) at bytes = number_at bytes at ∷ numbers_at n (at + 4) bytes
+
+-- So many rows from the first byte on, each of `width` numbers.
+abbrev pub rows_at : ℕ → ℕ → List ℕ → List (List ℕ)
+rows_at width zero bytes = []
+rows_at width (suc n) bytes = numbers_at width 0 bytes ∷ rows_at width n (drop (4 * width) bytes)
+
+-- The k-th number of the i-th row, 0 where there is none.
+abbrev pub cell : List (List ℕ) → ℕ → ℕ → ℕ
+cell rows i k = slice_index (slice_index_or rows i []) k
+
+pub record Sections : Type 0 where
+  pub mode : ℕ
+  pub code : List (List ℕ)
+  pub initial : List ℕ
+  pub functions : List (List ℕ)
+  pub places : List (List ℕ)
+  pub owners : List (List ℕ)
+  pub variables : List (List ℕ)
+  pub changes : List (List ℕ)
+  pub flow : List (List ℕ)
+  pub assigned : List (List ℕ)
+  pub rows : List (List ℕ)
+  pub nodes : List (List ℕ)
+  pub names : List ℕ
+
+-- How many records each section has.
+abbrev pub count_of : Sections → Section → ℕ
+count_of s Code = length s.code
+count_of s Initial = length s.initial
+count_of s Functions = length s.functions
+count_of s Places = length s.places
+count_of s Owners = length s.owners
+count_of s Variables = length s.variables
+count_of s Changes = length s.changes
+count_of s Flow = length s.flow
+count_of s Assigned = length s.assigned
+count_of s Rows = length s.rows
+count_of s Nodes = length s.nodes
+count_of s Names = length s.names
+
+-- How many records the header says that a section has.
+abbrev pub count_told : List ℕ → Section → ℕ
+count_told bytes which = number_at bytes (count_offset which)
+
+-- The bytes from the first one of a section on.
+abbrev pub bytes_from : List ℕ → Section → List ℕ
+bytes_from bytes which = drop (start (count_told bytes) which) bytes
+
+-- The rows of a
+abbrev pub rows_of : List ℕ → Section → List (List ℕ)
+rows_of bytes which = rows_at (record_size which / 4) (count_told bytes which) (bytes_from bytes which)
+
+-- The sections of bytes, by the counts of the header.
+unfoldable pub sections_at : List ℕ → Sections
+sections_at bytes = record {
+  mode = number_at bytes 12;
+  code = rows_of bytes Code;
+  initial = take (count_told bytes Initial) (bytes_from bytes Initial);
+  functions = rows_of bytes Functions;
+  places = rows_of bytes Places;
+  owners = rows_of bytes Owners;
+  variables = rows_of bytes Variables;
+  changes = rows_of bytes Changes;
+  flow = rows_of bytes Flow;
+  assigned = rows_of bytes Assigned;
+  rows = rows_of bytes Rows;
+  nodes = rows_of bytes Nodes;
+  names = bytes_from bytes Names;
+}

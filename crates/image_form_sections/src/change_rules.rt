@@ -1,0 +1,171 @@
+//! The rules of changes, flow pairs, assigned pairs and visible rows.
+
+ghost use Rattle.std.specs.Prelude.{◌≡◌, ⊤};
+ghost use Rattle.image_form_sections.specs.Layouts.{rows_in, sections_in};
+ghost use Rattle.image_form_sections.specs.TestsOfChanges.{assigned_tests, change_tests, flow_tests, is_change, is_node_or_start, is_visible, is_writer, row_tests};
+
+use crate::layout::Layout;
+use crate::rule::{Rule, is_code_address, is_not_below, is_pair_above, is_place};
+
+/// The rule of changes.
+#[derive(Clone, Copy)]
+pub struct ChangeRule<'a, 'b> {
+    pub layout: &'a Layout<'b>,
+}
+
+impl Rule for ChangeRule<'_, '_> {
+    ghost tests = { λ rule. change_tests (sections_in rule.layout.now) };
+
+    ghost ready = { λ _. ⊤ };
+
+    fn fault(&self, row: usize) -> Option<usize> {
+        let changes = &self.layout.changes;
+        let length = changes.number(row, 0);
+        if length < 1 || length > 16 {
+            Some(0)
+        } else if changes.number(row, 1) > 3 {
+            Some(1)
+        } else if !is_place(self.layout, changes.number(row, 2)) {
+            Some(2)
+        } else if changes.number(row, 3) as usize >= self.layout.variables.len() {
+            Some(3)
+        } else if changes.number(row, 4) != 0 {
+            Some(4)
+        } else {
+            None
+        }
+    }
+}
+
+/// The rule of flow pairs.
+#[derive(Clone, Copy)]
+pub struct FlowRule<'a, 'b> {
+    pub layout: &'a Layout<'b>,
+}
+
+impl Rule for FlowRule<'_, '_> {
+    ghost tests = { λ rule. flow_tests (sections_in rule.layout.now) };
+
+    ghost ready = { λ _. ⊤ };
+
+    fn fault(&self, row: usize) -> Option<usize> {
+        let flow = &self.layout.flow;
+        if !is_place(self.layout, flow.number(row, 0)) || !is_not_below(flow, 0, row) {
+            Some(0)
+        } else if !is_place(self.layout, flow.number(row, 1)) || !is_pair_above(flow, row) {
+            Some(1)
+        } else {
+            None
+        }
+    }
+}
+
+/// The rule of assigned pairs.
+#[derive(Clone, Copy)]
+pub struct AssignedRule<'a, 'b> {
+    pub layout: &'a Layout<'b>,
+}
+
+impl Rule for AssignedRule<'_, '_> {
+    ghost tests = { λ rule. assigned_tests (sections_in rule.layout.now) };
+
+    ghost ready = { λ _. ⊤ };
+
+    fn fault(&self, row: usize) -> Option<usize> {
+        let assigned = &self.layout.assigned;
+        let variables = self.layout.variables.len();
+        if !is_place(self.layout, assigned.number(row, 0)) || !is_not_below(assigned, 0, row) {
+            Some(0)
+        } else if assigned.number(row, 1) as usize >= variables || !is_pair_above(assigned, row) {
+            Some(1)
+        } else {
+            None
+        }
+    }
+}
+
+/// The rule of visible rows.
+#[derive(Clone, Copy)]
+pub struct VisibleRule<'a, 'b> {
+    pub layout: &'a Layout<'b>,
+}
+
+impl Rule for VisibleRule<'_, '_> {
+    ghost tests = { λ rule. row_tests (sections_in rule.layout.now) };
+
+    ghost ready = { λ _. ⊤ };
+
+    fn fault(&self, row: usize) -> Option<usize> {
+        let rows = &self.layout.rows;
+        if !is_place(self.layout, rows.number(row, 0)) || !is_not_below(rows, 0, row) {
+            Some(0)
+        } else if !is_visible(self.layout, row) {
+            Some(1)
+        } else if rows.number(row, 2) > 3 {
+            Some(2)
+        } else if !is_change(self.layout, row) {
+            Some(3)
+        } else if !is_node_or_start(self.layout, row) {
+            Some(4)
+        } else if !is_writer(self.layout, row) {
+            Some(5)
+        } else {
+            None
+        }
+    }
+}
+
+#[tactic(auto, unfolding(crate::specs::TestsOfChanges::is_visible))]
+fn is_visible(layout: &Layout<'_>, row: usize) -> bool
+    ensures { result ≡ is_visible (sections_in layout.now) row }
+{
+    let place = layout.rows.number(row, 0) as usize;
+    let variable = layout.rows.number(row, 1) as usize;
+    let function = layout.variables.number(variable, 1);
+    variable < layout.variables.len()
+        && function == layout.places.number(place.saturating_sub(1), 2)
+        && is_pair_above(&layout.rows, row)
+}
+
+#[tactic(auto, unfolding(crate::specs::TestsOfChanges::is_change))]
+fn is_change(layout: &Layout<'_>, row: usize) -> bool
+    ensures { result ≡ is_change (sections_in layout.now) row }
+{
+    let change = layout.rows.number(row, 3) as usize;
+    if layout.rows.number(row, 2) == 0 {
+        change == 0
+    } else {
+        let variable = layout.changes.number(change.saturating_sub(1), 3);
+        1 <= change && change <= layout.changes.len() && variable == layout.rows.number(row, 1)
+    }
+}
+
+#[tactic(auto, unfolding(crate::specs::TestsOfChanges::is_node_or_start))]
+fn is_node_or_start(layout: &Layout<'_>, row: usize) -> bool
+    ensures { result ≡ is_node_or_start (sections_in layout.now) row }
+{
+    let verdict = layout.rows.number(row, 2);
+    let number = layout.rows.number(row, 4);
+    if verdict == 0 {
+        number == 0
+    } else if verdict == 1 {
+        (number as usize) < layout.nodes.len()
+    } else {
+        is_place(layout, number)
+    }
+}
+
+#[tactic(auto, unfolding(crate::specs::TestsOfChanges::is_writer))]
+fn is_writer(layout: &Layout<'_>, row: usize) -> bool
+    ensures { result ≡ is_writer (sections_in layout.now) row }
+{
+    let change = layout.rows.number(row, 3) as usize;
+    let writer = layout.rows.number(row, 5);
+    if layout.rows.number(row, 2) < 2 {
+        writer == 0
+    } else if layout.changes.number(change.saturating_sub(1), 1) == 0 {
+        writer == 0
+    } else {
+        is_code_address(layout, writer)
+    }
+}
