@@ -9,14 +9,17 @@ use Rattle.script_form.specs.Refusal.{IsRefused}
 use Rattle.script_form.proofs.ScriptLaws.{readings_one}
 use Rattle.debug_records.specs.declared.code.TheConstants.Code.{UNEXPECTED_KEYWORD}
 use Rattle.c_source.specs.Sources.{HasProgram}
+use Rattle.command_line.specs.Grammar.{IsJob}
+use Rattle.command_line.specs.Words.{Text}
 use Rattle.command_line.specs.Job.{JobGiven, attach, compile, debug, passes, sweep}
 use Rattle.session.specs.Served.{IfGiven, With, input_of, script_of}
 use Rattle.session.specs.Limits.{Held, Holds, AreWithin, FirstIsLoaded, ImageIsTooLong, InputIsTooLong, IsBeyond, IsThisBeyond, IsTooLong, IsWithin, ScriptIsTooLong, image_limit, input_limit}
 use Rattle.session.specs.Front.{IsPromised, IsRefusedSource}
 use Rattle.work_gen.specs.Generated.{text as generated}
+use Rattle.work_gen_laws.proofs.Swept.{swept_has_program}
 use Rattle.session.proofs.Refusals.{refused_uncompiled}
 use Rattle.session.specs.Ending.{IsCaused, World}
-use Rattle.session.specs.Causes.{AreNoImage, ImageIsRefused, IsImageText, IsLeftOut, IsScriptText, IsUnderstood, SourceIsRefused, ScriptIsRefused, AreAccepted}
+use Rattle.session.specs.Causes.{AreNoImage, ImageIsRefused, IsImageText, IsLeftOut, IsScriptText, IsUnderstood, SourceIsRefused, TextIsRefused, AreAccepted}
 
 -- a text is not of two kinds that exclude one another
 contrary : (P Q : List ℕ → Type 0) → ((t : List ℕ) → P t → Q t → ⊥) → (held : Option (List ℕ)) → Holds held P → Holds held Q → ⊥
@@ -64,9 +67,7 @@ source_left_out held (compile given) code line u r =
 source_left_out held (passes given) code line u r =
     let l = held_left_out (IsPromised (passes given)) code line (held given.source) u r in
     (same_refusal code line l.0 l.1, l.2)
-source_left_out held (sweep given) code line u r =
-    let l = held_left_out (IsPromised (sweep given)) code line (Some (generated given.seed given.size)) u r in
-    (same_refusal code line l.0 l.1, l.2)
+source_left_out held (sweep given) code line u r = (same_refusal code line r.code_is r.line_is, r.cause)
 source_left_out held (attach given) code line u r = absurd r
 
 image_understood : (held : Held) (job : JobGiven) (code : Code) (offset : ℕ) → IsUnderstood held job → ImageIsRefused held job code offset → ⊥
@@ -80,15 +81,23 @@ script_read : (held : Held) (script : Option (List ℕ)) (code : Code) (line : �
 script_read held None code line s r = r
 script_read held (Some name) code line s r = contrary IsScriptText (λ t. IsRefused t code line) (λ t p q. readings_one.apart t p.0 code line p.1 q) (held name) s r
 
+-- of the job that words are the source is refused where its text is: a generated one is of a program
+pub source_refused : (words : List Text) (job : JobGiven) (held : Held) (code : Code) (line : ℕ) → IsJob words job → TextIsRefused held job code line → SourceIsRefused held job code line
+source_refused words (debug given) held code line is r = r
+source_refused words (compile given) held code line is r = r
+source_refused words (attach given) held code line is r = absurd r
+source_refused words (passes given) held code line is r = r
+source_refused words (sweep given) held code line is r = refused_uncompiled (generated given.seed given.size) (IsPromised (sweep given)) code line (swept_has_program words given is) r
+
 -- where the texts are within their limits and accepted, and no load, save or put failed
-pub complete : (job : JobGiven) (old : World) (status : Status) (new : World) → IsCaused job old status new → old.shelf_tells ≡ true
+pub complete : (words : List Text) (job : JobGiven) (old : World) (status : Status) (new : World) → IsJob words job → IsCaused job old status new → old.shelf_tells ≡ true
     → AreWithin old.held job → AreAccepted old.held job → ¬ RoseOrStands old.loads new.loads → ¬ RoseOrStands old.saves new.saves → ¬ RoseOrStands old.puts new.puts → (status ≡ Done) ⊎ ((status ≡ NoMemory) ⊎ IsLeftOut old.held job status)
-complete job old Done new c told w a nl ns nk = inl refl
-complete job old Usage new c told w a nl ns nk = absurd (c.usage refl)
-complete job old (SourceRefused code line) new c told w a nl ns nk = inr (inr (source_left_out old.held job code line a.before (c.source code line refl told)))
-complete job old (ScriptRefused code line) new c told w a nl ns nk = absurd (script_read old.held (script_of job) code line a.script (c.script code line refl told).cause)
-complete job old ReadFault new c told w a nl ns nk = absurd (nl (c.read refl))
-complete job old WriteFault new c told w a nl ns nk = absurd (⊎_elim ns nk (c.write refl))
-complete job old NoMemory new c told w a nl ns nk = inr (inl refl)
-complete job old (ImageRefused code offset) new c told w a nl ns nk = absurd (image_understood old.held job code offset a.before (c.image code offset refl told))
-complete job old (TooLong name) new c told w a nl ns nk = absurd (none_too_long old.held job (string_bytes name) w (c.too_long name refl told))
+complete words job old Done new is c told w a nl ns nk = inl refl
+complete words job old Usage new is c told w a nl ns nk = absurd (c.usage refl)
+complete words job old (SourceRefused code line) new is c told w a nl ns nk = inr (inr (source_left_out old.held job code line a.before (source_refused words job old.held code line is (c.source code line refl told))))
+complete words job old (ScriptRefused code line) new is c told w a nl ns nk = absurd (script_read old.held (script_of job) code line a.script (c.script code line refl told).cause)
+complete words job old ReadFault new is c told w a nl ns nk = absurd (nl (c.read refl))
+complete words job old WriteFault new is c told w a nl ns nk = absurd (⊎_elim ns nk (c.write refl))
+complete words job old NoMemory new is c told w a nl ns nk = inr (inl refl)
+complete words job old (ImageRefused code offset) new is c told w a nl ns nk = absurd (image_understood old.held job code offset a.before (c.image code offset refl told))
+complete words job old (TooLong name) new is c told w a nl ns nk = absurd (none_too_long old.held job (string_bytes name) w (c.too_long name refl told))

@@ -12,7 +12,7 @@ use Rattle.c_source.specs.Sources.{HasProgram, program_of_source}
 use Rattle.c_source.proofs.Sources.{program_is_short}
 use Rattle.command_line.specs.Job.{PassesGiven, SweepGiven, passes, sweep}
 use Rattle.session_lines.specs.declared.summary.Summary.{Summary}
-use Rattle.session.specs.Causes.{AreAccepted, SourceIsRefused}
+use Rattle.session.specs.Causes.{AreAccepted, TextIsRefused}
 use Rattle.session.specs.Limits.{AreWithin, Held, IsThere}
 use Rattle.session.specs.Listed.{AreLinesFor, AreLinesOf}
 use Rattle.session.specs.Outcome.{IsSwept, ListsChanges}
@@ -40,7 +40,7 @@ pub sweep_within : (held : Held) (given : SweepGiven) → AreWithin held (sweep 
 sweep_within held given = record { first = tt; script = tt; input = tt }
 
 -- why the source of a list of changes was refused
-pub list_refused : (status : Status) (code : Code) (at : ℕ) (source : List ℕ) (held : Held) (given : PassesGiven) → status ≡ SourceRefused code at → ListFails status source → Loads (held given.source) 1048576 source → SourceIsRefused held (passes given) code at
+pub list_refused : (status : Status) (code : Code) (at : ℕ) (source : List ℕ) (held : Held) (given : PassesGiven) → status ≡ SourceRefused code at → ListFails status source → Loads (held given.source) 1048576 source → TextIsRefused held (passes given) code at
 list_refused status code at source held given e ends loads = source_held ⊥ code at (held given.source) source loads (subst (λ s. ListFails s source) e ends)
 
 -- the sources of these jobs are accepted
@@ -50,7 +50,7 @@ list_accepted source held given has loads = record { before = source_accepted (h
 module _ {P : Type 0} {named : P → PassName} {steps : P → UnitForm → UnitForm → Type 0} {handed_in : List P} where
   -- and where it is generated
   pub sweep_accepted : (held : Held) (given : SweepGiven) (summary : Summary) → SweepEnds named steps handed_in (Ok summary) given → AreAccepted held (sweep given)
-  sweep_accepted held given summary (m, is, summed) = record { before = is.understood; script = tt }
+  sweep_accepted held given summary (m, is, summed) = record { before = tt; script = tt }
 
   -- the lines of the changes of a unit of the program
   pub lines_are : (p : ProgramTree) (names : List PassName) (unit : UnitForm) (lines : List (List ℕ)) → ComesOf named steps handed_in (map letters names) p unit → IsValid unit → HasShapeOf p unit → (names ≡ [] → IsBuilt p unit) → lines ≡ lines_of p 1 unit.log → AreLinesOf named steps handed_in p (map letters names) lines

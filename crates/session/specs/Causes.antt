@@ -15,7 +15,7 @@ use Rattle.command_line.specs.Job.{JobGiven, attach, compile, debug, passes, swe
 use Rattle.work_gen.specs.Generated.{text as generated}
 use Rattle.session.specs.Served.{IfGiven, With, script_of}
 use Rattle.session.specs.Limits.{Held, Holds}
-use Rattle.session.specs.Front.{IsPromised, IsRefusedSource}
+use Rattle.session.specs.Front.{IsPromised, IsNotCompiled, IsRefusedSource}
 
 -- the text is a script
 abbrev pub IsScriptText : List ℕ → Type 0
@@ -33,9 +33,17 @@ compiled_by held (attach given) = None
 compiled_by held (passes given) = held given.source
 compiled_by held (sweep given) = Some (generated given.seed given.size)
 
--- the source of a job is refused; an `attach` has none
+-- the text that a job compiles is refused
+abbrev pub TextIsRefused : Held → JobGiven → Code → ℕ → Type 0
+TextIsRefused held job code line = Holds (compiled_by held job) (λ text. IsRefusedSource (IsPromised job) text code line)
+
+-- The source of a job is refused. That of a `sweep` is generated and breaks no rule of C, so it can only be left out; an `attach` has none.
 abbrev pub SourceIsRefused : Held → JobGiven → Code → ℕ → Type 0
-SourceIsRefused held job code line = Holds (compiled_by held job) (λ text. IsRefusedSource (IsPromised job) text code line)
+SourceIsRefused held (debug given) code line = TextIsRefused held (debug given) code line
+SourceIsRefused held (compile given) code line = TextIsRefused held (compile given) code line
+SourceIsRefused held (attach given) code line = ⊥
+SourceIsRefused held (passes given) code line = TextIsRefused held (passes given) code line
+SourceIsRefused held (sweep given) code line = IsNotCompiled ⊥ (generated given.seed given.size) code line
 
 -- Bytes are refused that spell no image: this is the first rule that they break, at this byte.
 pub record AreNoImage (code : Code) (offset : ℕ) (bytes : List ℕ) : Type 0 where
@@ -50,13 +58,13 @@ ImageIsRefused held (attach given) code offset = Holds (held given.image) (AreNo
 ImageIsRefused held (passes given) code offset = ⊥
 ImageIsRefused held (sweep given) code offset = ⊥
 
--- what comes before the script is accepted: a source of a program, or an image
+-- what comes before the script is accepted: a source of a program, or an image; what a `sweep` generates always is
 abbrev pub IsUnderstood : Held → JobGiven → Type 0
 IsUnderstood held (debug given) = Holds (held given.source) HasProgram
 IsUnderstood held (compile given) = Holds (held given.source) HasProgram
 IsUnderstood held (attach given) = Holds (held given.image) IsImageText
 IsUnderstood held (passes given) = Holds (held given.source) HasProgram
-IsUnderstood held (sweep given) = HasProgram (generated given.seed given.size)
+IsUnderstood held (sweep given) = Unit {0}
 
 -- The script is refused where all before it is accepted: this is the first line that breaks a rule, and the rule.
 pub record ScriptIsRefused (held : Held) (job : JobGiven) (code : Code) (line : ℕ) : Type 0 where

@@ -10,7 +10,7 @@ use Rattle.graph_core.specs.Graphs.{UnitForm}
 use Rattle.command_line.specs.Job.{JobGiven}
 use Rattle.session.specs.Served.{SavesTo}
 use Rattle.session.specs.Limits.{Held, AreWithin, IsTooLong}
-use Rattle.session.specs.Causes.{SourceIsRefused, ImageIsRefused, ScriptIsRefused, AreAccepted, HasLoaded, IsEarly, IsCut}
+use Rattle.session.specs.Causes.{TextIsRefused, ImageIsRefused, ScriptIsRefused, AreAccepted, HasLoaded, IsEarly, IsCut}
 use Rattle.session.specs.Outcome.{HasLeft, HasSaved, IsDone, TookPart}
 
 -- What is known of a shelf and a sink: how many loads, saves and puts failed so far, whether they tell what they hold and took, and that.
@@ -31,7 +31,7 @@ pub record IsCaused (job : JobGiven) (old : World) (result : Status) (new : Worl
   pub too_long : (name : String Global) → result ≡ TooLong name → old.shelf_tells ≡ true → IsTooLong old.held job (string_bytes name)
   pub within : HasLoaded result → old.shelf_tells ≡ true → AreWithin old.held job
   pub image : (code : Code) (offset : ℕ) → result ≡ ImageRefused code offset → old.shelf_tells ≡ true → ImageIsRefused old.held job code offset
-  pub source : (code : Code) (line : ℕ) → result ≡ SourceRefused code line → old.shelf_tells ≡ true → SourceIsRefused old.held job code line
+  pub source : (code : Code) (line : ℕ) → result ≡ SourceRefused code line → old.shelf_tells ≡ true → TextIsRefused old.held job code line
   pub script : (code : Code) (line : ℕ) → result ≡ ScriptRefused code line → old.shelf_tells ≡ true → ScriptIsRefused old.held job code line
   pub accepted : (result ≡ Done) ⊎ (result ≡ WriteFault) → old.shelf_tells ≡ true → AreAccepted old.held job
   pub write : result ≡ WriteFault → RoseOrStands old.saves new.saves ⊎ RoseOrStands old.puts new.puts

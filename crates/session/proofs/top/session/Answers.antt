@@ -3,10 +3,10 @@ use Rattle.line_form.specs.declared.status.Status.TheVariants.{Done, NoMemory}
 use Rattle.command_line.specs.Job.{JobGiven, job_given}
 use Rattle.session.specs.Served.{SavesTo}
 use Rattle.session.specs.Limits.{AreWithin, IsTooLong}
-use Rattle.session.specs.Causes.{ImageIsRefused, SourceIsRefused, ScriptIsRefused, AreAccepted, IsLeftOut}
+use Rattle.session.specs.Causes.{ImageIsRefused, TextIsRefused, ScriptIsRefused, AreAccepted, IsLeftOut}
 use Rattle.session.specs.Outcome.{HasLeft, HasSaved, IsDone, TookPart}
 use Rattle.session.proofs.AskedLemmas.{one_asked, refused_is_complete}
-use Rattle.session.proofs.Completeness.{complete}
+use Rattle.session.proofs.Completeness.{complete, source_refused}
 use Rattle.session.proofs.Sessions.{nothing_left}
 use Rattle.session.proofs.top.session.Goals as goal
 
@@ -20,7 +20,8 @@ returns-in-Ok-clause-within g c = λ asked served loaded told.
 
 pub returns-in-Ok-clause-source : goal.returns-in-Ok-clause-source
 returns-in-Ok-clause-source g c = λ asked code line served e told.
-    subst (λ (a : JobGiven). SourceIsRefused (g.S.Shelf.held c.args.shelf.now) a code line) (one_asked (λ p. (goal.UnitPass-dyn g (p.vtable, p.value)).named p.value) c.args.passes.now (map string_bytes c.args.words.now) (job_given c.in-Ok.job) asked c.in-Ok.ensures served) (c.serve.ensures.caused.source code line e told)
+    source_refused (map string_bytes c.args.words.now) asked (g.S.Shelf.held c.args.shelf.now) code line served.words_are
+    (subst (λ (a : JobGiven). TextIsRefused (g.S.Shelf.held c.args.shelf.now) a code line) (one_asked (λ p. (goal.UnitPass-dyn g (p.vtable, p.value)).named p.value) c.args.passes.now (map string_bytes c.args.words.now) (job_given c.in-Ok.job) asked c.in-Ok.ensures served) (c.serve.ensures.caused.source code line e told))
 
 pub returns-in-Ok-clause-image : goal.returns-in-Ok-clause-image
 returns-in-Ok-clause-image g c = λ asked code offset served e told.
@@ -72,8 +73,8 @@ pub returns-in-Ok-clause-complete : goal.returns-in-Ok-clause-complete
 returns-in-Ok-clause-complete g c = λ asked served told within accepted no_load no_save no_line.
     let same = one_asked (λ p. (goal.UnitPass-dyn g (p.vtable, p.value)).named p.value) c.args.passes.now (map string_bytes c.args.words.now) (job_given c.in-Ok.job) asked c.in-Ok.ensures served in
     subst (λ (a : JobGiven). (c.serve.result ≡ Done) ⊎ ((c.serve.result ≡ NoMemory) ⊎ IsLeftOut (g.S.Shelf.held c.args.shelf.now) a c.serve.result)) same
-    (complete (job_given c.in-Ok.job) _ c.serve.result _
-    c.serve.ensures.caused told
+    (complete (map string_bytes c.args.words.now) (job_given c.in-Ok.job) _ c.serve.result _
+    c.in-Ok.ensures.words_are c.serve.ensures.caused told
     (subst (λ (a : JobGiven). AreWithin (g.S.Shelf.held c.args.shelf.now) a) (sym same) within)
     (subst (λ (a : JobGiven). AreAccepted (g.S.Shelf.held c.args.shelf.now) a) (sym same) accepted)
     no_load no_save no_line)
