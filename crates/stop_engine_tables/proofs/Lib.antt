@@ -1,4 +1,5 @@
 pub mod NameBounds
 mod NameStartLaws
+pub mod Records
 mod Slots
 pub mod VariableListLaws

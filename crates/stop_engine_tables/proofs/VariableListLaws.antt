@@ -1,10 +1,11 @@
 -- Lists of the variables of functions are made from the last variable to the first, and followed from the first one on.
-use Rattle.std.proofs.Common.{◌≡◌, ◌≢◌, ℕ, zero, suc, ◌+◌, ◌<◌, ◌≤◌, ◌==◌, Bool, true, false, Option, Some, None, List, [], ◌∷◌, length, take, drop, get_or, refl, sym, ap, ◌∙◌, subst, inl, inr, ◌⊎◌, arith, All}
-use Rattle.std.specs.Prelude.{IfSome, slice_index, slice_index_or, slice_set}
+use Rattle.std.proofs.Common.{◌≡◌, ◌≢◌, ℕ, suc, ◌+◌, ◌<◌, ◌≤◌, ◌==◌, Bool, true, false, Option, Some, None, List, [], ◌∷◌, length, take, drop, get_or, refl, sym, ap, ◌∙◌, subst, arith, All}
+use Rattle.std.specs.Prelude.{IfSome, if◌then◌else◌, slice_get, slice_index, slice_index_or, slice_set}
 use Rattle.std.specs.Option.{option_map_or}
-use Rattle.std.proofs.lemmas.Bool.{cases_Bool, eqb-true, eqb-false, eq-eqb, ne_eqb, true≢false}
-use Rattle.std.proofs.lemmas.List.{drop-drop, drop_all, drop_more, get_or_default, get_or-set_same, get_or-set_other, length-set}
-use Rattle.std.proofs.lemmas.Option.{same_Some, slice_get-get_or}
+use Rattle.std.proofs.lemmas.Bool.{eqb-true, eqb-false, true≢false}
+use Rattle.std.proofs.lemmas.List.{drop-drop, drop_more, get_or-set_same, get_or-set_other, length-set}
+use Rattle.std.proofs.lemmas.List.Elements.{All-cons}
+use Rattle.std.proofs.lemmas.Option.{none-some, same_Some, slice_get-get_or}
 use Rattle.image_form.specs.Form.{Form}
 use Rattle.image_form.specs.Rules.{IsImage}
 use Rattle.image_form.specs.RulesOfVariables.{IsKept, IsVariable}
@@ -14,6 +15,7 @@ use Rattle.image_form.specs.declared.variables.Variable.{Variable}
 use Rattle.image_form.proofs.RecordsBack.{kept_there}
 use Rattle.image_form.proofs.TableLaws.{each_at}
 use Rattle.stop_engine_tables.specs.VariableLists.{is_kept_statically, is_static, next_of}
+use Rattle.stop_engine_tables.proofs.Records.{record_at, records_from}
 use Rattle.stop_engine_view.specs.Pointers.{is_of, literals, local_offset, local_target, offset_within, static_offset, static_start, static_target, static_target_of}
 use Rattle.stop_engine_view.specs.declared.target.Target.{Target}
 use Rattle.stop_engine_view.specs.declared.target.Target.TheVariants.{Local}
@@ -95,6 +97,72 @@ pub record AreLinked (vs : List Variable) (left : ℕ) (firsts nexts : List ℕ)
   pub first : (f : ℕ) → f < length firsts → slice_index firsts f ≡ next_of f left (drop left vs)
   pub next : (i f : ℕ) (d : Variable) → left ≤ i → i < length vs → (slice_index_or vs i d).function ≡ Some f → slice_index nexts i ≡ next_of f (i + 1) (drop (i + 1) vs)
 
+-- the first variable of a function from one on, by whether that is one of the function
+next_at : (g k : ℕ) (v : Variable) (vs : List Variable) (b : Bool) → slice_get vs k ≡ Some v → is_of g v ≡ b → next_of g k (drop k vs) ≡ (if b then k else next_of g (k + 1) (drop (k + 1) vs))
+next_at g k v vs b at is = rw (records_from vs k v at, is) refl
+
+owner_tested : (g : ℕ) (v : Variable) (owner : Option ℕ) → v.function ≡ owner → is_of g v ≡ option_map_or (λ h. h == g) owner false
+owner_tested g v owner own = ap (λ (o : Option ℕ). option_map_or (λ h. h == g) o false) own
+
+-- a variable of a function is linked before the function's first one
+first_of_more : (vs : List Variable) (k f : ℕ) (v : Variable) (firsts nexts : List ℕ) → slice_get vs k ≡ Some v → v.function ≡ Some f → f < length firsts → AreLinked vs (k + 1) firsts nexts
+    → (g : ℕ) → g < length (slice_set firsts f k) → slice_index (slice_set firsts f k) g ≡ next_of g k (drop k vs)
+first_of_more vs k f v firsts nexts at own low linked g lt = by_test (f == g) refl
+  where
+    by_test : (b : Bool) → (f == g) ≡ b → slice_index (slice_set firsts f k) g ≡ next_of g k (drop k vs)
+    by_test true t =
+        let same : f ≡ g = eqb-true f g t in
+        let here : next_of g k (drop k vs) ≡ k = next_at g k v vs true at (owner_tested g v (Some f) own ∙ t) in
+        subst (λ n. slice_index (slice_set firsts f k) n ≡ k) same (get_or-set_same firsts f k 0 low) ∙ sym here
+    by_test false t =
+        let other : g ≢ f = λ e. eqb-false f g t (sym e) in
+        let behind : next_of g k (drop k vs) ≡ next_of g (k + 1) (drop (k + 1) vs) = next_at g k v vs false at (owner_tested g v (Some f) own ∙ t) in
+        get_or-set_other firsts f g k 0 other ∙ (linked.first g (omega (arith, lt, length-set firsts f k)) ∙ sym behind)
+
+next_of_more : (vs : List Variable) (k f : ℕ) (v : Variable) (firsts nexts : List ℕ) → slice_get vs k ≡ Some v → v.function ≡ Some f → f < length firsts → AreLinked vs (k + 1) firsts nexts
+    → (i g : ℕ) (d : Variable) → k ≤ i → i < length vs → (slice_index_or vs i d).function ≡ Some g
+    → slice_index (slice_set nexts k (slice_index firsts f)) i ≡ next_of g (i + 1) (drop (i + 1) vs)
+next_of_more vs k f v firsts nexts at own low linked i g d from lt its = by_test (k == i) refl
+  where
+    by_test : (b : Bool) → (k == i) ≡ b → slice_index (slice_set nexts k (slice_index firsts f)) i ≡ next_of g (i + 1) (drop (i + 1) vs)
+    by_test true t =
+        let same : k ≡ i = eqb-true k i t in
+        let here : (get_or vs k d).function ≡ Some g = subst (λ n. (get_or vs n d).function ≡ Some g) (sym same) its in
+        let one : f ≡ g = same_Some f g (sym own ∙ (ap (λ (w : Variable). w.function) (record_at vs k v d at) ∙ here)) in
+        let row : k < length nexts = omega (arith, lt, from, same, linked.rows) in
+        subst (λ n. slice_index (slice_set nexts k (slice_index firsts f)) n ≡ next_of g (n + 1) (drop (n + 1) vs)) same
+        (get_or-set_same nexts k (slice_index firsts f) 0 row ∙ (linked.first f low ∙ ap (λ n. next_of n (k + 1) (drop (k + 1) vs)) one))
+    by_test false t =
+        let other : i ≢ k = λ e. eqb-false k i t (sym e) in
+        get_or-set_other nexts k i (slice_index firsts f) 0 other ∙ linked.next i g d (omega (arith, from, other)) lt its
+
+pub linked_more : (vs : List Variable) (k f : ℕ) (v : Variable) (firsts nexts : List ℕ) → slice_get vs k ≡ Some v → v.function ≡ Some f → f < length firsts → AreLinked vs (k + 1) firsts nexts
+    → AreLinked vs k (slice_set firsts f k) (slice_set nexts k (slice_index firsts f))
+linked_more vs k f v firsts nexts at own low linked = record {
+  rows = length-set nexts k (slice_index firsts f) ∙ linked.rows;
+  first = first_of_more vs k f v firsts nexts at own low linked;
+  next = next_of_more vs k f v firsts nexts at own low linked;
+}
+
+-- a variable of no function is passed by
+next_past : (vs : List Variable) (k : ℕ) (v : Variable) (firsts nexts : List ℕ) → slice_get vs k ≡ Some v → v.function ≡ None → AreLinked vs (k + 1) firsts nexts
+    → (i g : ℕ) (d : Variable) → k ≤ i → i < length vs → (slice_index_or vs i d).function ≡ Some g → slice_index nexts i ≡ next_of g (i + 1) (drop (i + 1) vs)
+next_past vs k v firsts nexts at none linked i g d from lt its = by_test (k == i) refl
+  where
+    by_test : (b : Bool) → (k == i) ≡ b → slice_index nexts i ≡ next_of g (i + 1) (drop (i + 1) vs)
+    by_test true t =
+        let same : k ≡ i = eqb-true k i t in
+        let here : (get_or vs k d).function ≡ Some g = subst (λ n. (get_or vs n d).function ≡ Some g) (sym same) its in
+        absurd (none-some g (sym none ∙ (ap (λ (w : Variable). w.function) (record_at vs k v d at) ∙ here)))
+    by_test false t = let other : i ≢ k = λ e. eqb-false k i t (sym e) in linked.next i g d (omega (arith, from, other)) lt its
+
+pub linked_past : (vs : List Variable) (k : ℕ) (v : Variable) (firsts nexts : List ℕ) → slice_get vs k ≡ Some v → v.function ≡ None → AreLinked vs (k + 1) firsts nexts → AreLinked vs k firsts nexts
+linked_past vs k v firsts nexts at none linked = record {
+  rows = linked.rows;
+  first = λ g lt. linked.first g lt ∙ sym (next_at g k v vs false at (owner_tested g v None none));
+  next = next_past vs k v firsts nexts at none linked;
+}
+
 -- the functions of variables are there
 pub owners-there : (m : Form) (n : ℕ) → IsImage m → n ≡ length m.functions → All (λ (v : Variable). IfSome v.function (λ f. f < n)) m.variables
 owners-there m n image same k d lt =
@@ -124,10 +192,7 @@ static-none address n count (v ∷ vs) none =
     let other : static_offset v address ≡ None = unkept v address (none 0 v (omega arith)) in
     rw other (static-none address (n + 1) (count + literals v) vs (λ k d lt. none (suc k) d (omega (arith, lt))))
 
--- so they are all before it
-pub static-front : (address n count end : ℕ) (vs : List Variable) → All (λ (v : Variable). is_static v ≡ false) (drop end vs)
-    → static_target address n count (take end vs) ≡ static_target address n count vs
-static-front address n count zero vs none = sym (static-none address n count vs none)
-static-front address n count (suc end) [] none = refl
-static-front address n count (suc end) (v ∷ vs) none =
-    ap (λ rest. option_map_or (λ offset. Some (static_target_of v n (count + literals v) offset)) (static_offset v address) rest) (static-front address (n + 1) (count + literals v) end vs none)
+-- nor from a variable on that is not static
+pub none_static_more : (vs : List Variable) (n : ℕ) (v : Variable) → slice_get vs n ≡ Some v → is_static v ≡ false → All (λ (v : Variable). is_static v ≡ false) (drop (n + 1) vs)
+    → All (λ (v : Variable). is_static v ≡ false) (drop n vs)
+none_static_more vs n v at other none = subst (All (λ (v : Variable). is_static v ≡ false)) (sym (records_from vs n v at)) (All-cons (λ (v : Variable). is_static v ≡ false) v (drop (n + 1) vs) other none)

@@ -1,21 +1,21 @@
 //! The places of the activations that are live at a stop.
 
 ghost use Rattle.std.specs.Prelude.{◌≡◌, ◌≢◌, ◌<◌, ◌≤◌, ◌^◌, ℕ, All, IfOk, true};
-ghost use Rattle.image_form.specs.Form.{form};
 ghost use Rattle.image_form.specs.Rules.{IsImage};
 ghost use Rattle.image_form.specs.RulesOfFunctions.{IsPlaceNumber};
+ghost use Rattle.image_form.specs.Views.{viewed};
 ghost use Rattle.rv_machine.specs.State.{word};
 ghost use Rattle.stop_engine_view.specs.Callers.{calling_place, place_before, return_address};
 ghost use Rattle.stop_engine_view.specs.Reading.{frame_of, frames, greatest_depth, is_stack_address, owner_of};
 
 use crate::reading::{CODE_START, STACK_END, STACK_START, stack_pointer, word_in};
-use image_form::Image;
+use image_form::View;
 use rv_machine::Machine;
 use std::alloc::{AllocError, Global};
 
 /// The number of the place that a code word belongs to, by the word's address, or 0 for none.
-pub fn owner_of(image: &Image, address: u32) -> u32
-    ensures { result ≡ owner_of (form image.now) address }
+pub fn owner_of(image: &View<'_>, address: u32) -> u32
+    ensures { result ≡ owner_of (viewed image.now) address }
 {
     if address % 4 != 0 {
         return 0;
@@ -23,8 +23,11 @@ pub fn owner_of(image: &Image, address: u32) -> u32
     if address < CODE_START {
         return 0;
     }
-    let word = (address - CODE_START) / 4;
-    image.owners.get(word as usize).copied().unwrap_or(0)
+    let word = ((address - CODE_START) / 4) as usize;
+    if word >= image.owner_count() {
+        return 0;
+    }
+    image.owner_at(word)
 }
 
 /// The address that is stored where a frame starts, in the stack.
@@ -37,10 +40,10 @@ fn return_address(machine: &Machine, frame: u32) -> u32
 }
 
 /// The place of the call that made the activation whose frame starts there, or 0 where there is none.
-pub fn calling_place(image: &Image, machine: &Machine, frame: u32) -> u32
-    requires { IsImage (form image.now) }
-    ensures place { result ≡ calling_place (form image.now) machine.now frame }
-    ensures number { result ≢ 0 → IsPlaceNumber (form image.now) result }
+pub fn calling_place(image: &View<'_>, machine: &Machine, frame: u32) -> u32
+    requires { IsImage (viewed image.now) }
+    ensures place { result ≡ calling_place (viewed image.now) machine.now frame }
+    ensures number { result ≢ 0 → IsPlaceNumber (viewed image.now) result }
 {
     if frame < STACK_START {
         return 0;
@@ -56,13 +59,13 @@ pub fn calling_place(image: &Image, machine: &Machine, frame: u32) -> u32
 }
 
 /// The bytes of the frame of a place's function.
-pub fn frame_of(image: &Image, place: u32) -> u32
-    requires image { IsImage (form image.now) }
-    requires place { IsPlaceNumber (form image.now) place }
-    ensures { result ≡ frame_of (form image.now) place }
+pub fn frame_of(image: &View<'_>, place: u32) -> u32
+    requires image { IsImage (viewed image.now) }
+    requires place { IsPlaceNumber (viewed image.now) place }
+    ensures { result ≡ frame_of (viewed image.now) place }
 {
-    let function = image.places[place as usize - 1].function;
-    image.functions[function as usize].frame
+    let function = image.place_at(place as usize - 1).function;
+    image.function_at(function as usize).frame
 }
 
 /// How many activations may be live.
@@ -77,14 +80,14 @@ pub fn greatest_depth() -> u32
 /// was refused.
 pub fn frame_places(
     alloc: Global,
-    image: &Image,
+    image: &View<'_>,
     machine: &Machine,
     place: u32,
 ) -> Result<Vec<u32>, AllocError>
-    requires image { IsImage (form image.now) }
-    requires place { IsPlaceNumber (form image.now) place }
-    ensures places { IfOk result (λ places. places.items ≡ frames (form image.now) machine.now place) }
-    ensures numbers { IfOk result (λ places. All (IsPlaceNumber (form image.now)) places.items) }
+    requires image { IsImage (viewed image.now) }
+    requires place { IsPlaceNumber (viewed image.now) place }
+    ensures places { IfOk result (λ places. places.items ≡ frames (viewed image.now) machine.now place) }
+    ensures numbers { IfOk result (λ places. All (IsPlaceNumber (viewed image.now)) places.items) }
 {
     let mut places = Vec::new(alloc);
     let mut left = greatest_depth();

@@ -1,15 +1,15 @@
 //! Tables of an image that are made once and asked often.
 
 ghost use Rattle.std.specs.Prelude.{◌≡◌, ◌<◌, ◌+◌, ◌^◌, IfOk, length, map, sum};
-ghost use Rattle.image_form.specs.Form.{form};
 ghost use Rattle.image_form.specs.Names.{function_name, pass_name, variable_name};
 ghost use Rattle.image_form.specs.Rules.{IsImage};
+ghost use Rattle.image_form.specs.Views.{viewed};
 ghost use Rattle.stop_engine_tables.specs.Tables.{AreStartsOf, AreTablesOf, starts_from};
 
 use crate::flow::flow_table;
-use crate::names::{function_bytes, name_at, variable_bytes};
+use crate::names::name_at;
 use crate::variable_lists::{VariableLists, variable_lists};
-use image_form::{Change, Function, Image, Variable};
+use image_form::View;
 use places::FlowTable;
 use std::alloc::{AllocError, Global};
 
@@ -30,9 +30,9 @@ pub struct Tables {
 }
 
 /// The tables of an image. `AllocError` where memory for them was refused.
-pub fn tables_of(alloc: Global, image: &Image) -> Result<Tables, AllocError>
-    requires { IsImage (form image.now) }
-    ensures { IfOk result (AreTablesOf (form image.now)) }
+pub fn tables_of(alloc: Global, image: &View<'_>) -> Result<Tables, AllocError>
+    requires { IsImage (viewed image.now) }
+    ensures { IfOk result (AreTablesOf (viewed image.now)) }
 {
     let flow = flow_table(alloc, image)?;
     let names = name_starts(alloc, image)?;
@@ -58,46 +58,57 @@ fn starts_of(alloc: Global, first: usize, lengths: &[u32]) -> Result<Vec<usize>,
     Ok(starts)
 }
 
-/// How long the names of functions are.
-fn function_lengths(alloc: Global, functions: &[Function]) -> Result<Vec<u32>, AllocError>
-    ensures { IfOk result (λ lengths. lengths.items ≡ map (λ f. f.name_length) functions.now) }
+/// How many bytes names of these lengths have.
+fn total(lengths: &[u32]) -> usize
+    requires { sum lengths.now < 2 ^ 64 }
+    ensures { result ≡ sum lengths.now }
 {
-    functions
-        .iter()
-        .map(|function| function.name_length)
-        .collect(alloc)
+    lengths.iter().map(|length| *length as usize).sum()
+}
+
+/// How long the names of functions are.
+fn function_lengths(alloc: Global, image: &View<'_>) -> Result<Vec<u32>, AllocError>
+    ensures { IfOk result (λ lengths. lengths.items ≡ map (λ f. f.name_length) (viewed image.now).functions) }
+{
+    let mut lengths = Vec::new(alloc);
+    for number in 0..image.function_count() {
+        lengths.push(image.function_at(number).name_length)?;
+    }
+    Ok(lengths)
 }
 
 /// How long the names of variables are.
-fn variable_lengths(alloc: Global, variables: &[Variable]) -> Result<Vec<u32>, AllocError>
-    ensures { IfOk result (λ lengths. lengths.items ≡ map (λ v. v.name_length) variables.now) }
+fn variable_lengths(alloc: Global, image: &View<'_>) -> Result<Vec<u32>, AllocError>
+    ensures { IfOk result (λ lengths. lengths.items ≡ map (λ v. v.name_length) (viewed image.now).variables) }
 {
-    variables
-        .iter()
-        .map(|variable| variable.name_length)
-        .collect(alloc)
+    let mut lengths = Vec::new(alloc);
+    for number in 0..image.variable_count() {
+        lengths.push(image.variable_at(number).name_length)?;
+    }
+    Ok(lengths)
 }
 
 /// How long the names of the passes of changes are.
-fn pass_lengths(alloc: Global, changes: &[Change]) -> Result<Vec<u32>, AllocError>
-    ensures { IfOk result (λ lengths. lengths.items ≡ map (λ c. c.pass_length) changes.now) }
+fn pass_lengths(alloc: Global, image: &View<'_>) -> Result<Vec<u32>, AllocError>
+    ensures { IfOk result (λ lengths. lengths.items ≡ map (λ c. c.pass_length) (viewed image.now).changes) }
 {
-    changes
-        .iter()
-        .map(|change| change.pass_length)
-        .collect(alloc)
+    let mut lengths = Vec::new(alloc);
+    for number in 0..image.change_count() {
+        lengths.push(image.change_at(number).pass_length)?;
+    }
+    Ok(lengths)
 }
 
 /// Where each name of an image starts.
-fn name_starts(alloc: Global, image: &Image) -> Result<NameStarts, AllocError>
-    requires { IsImage (form image.now) }
-    ensures { IfOk result (AreStartsOf (form image.now)) }
+fn name_starts(alloc: Global, image: &View<'_>) -> Result<NameStarts, AllocError>
+    requires { IsImage (viewed image.now) }
+    ensures { IfOk result (AreStartsOf (viewed image.now)) }
 {
-    let of_functions = function_lengths(alloc, &image.functions)?;
-    let of_variables = variable_lengths(alloc, &image.variables)?;
-    let of_passes = pass_lengths(alloc, &image.changes)?;
-    let variables_from = function_bytes(&image.functions);
-    let passes_from = variables_from + variable_bytes(&image.variables);
+    let of_functions = function_lengths(alloc, image)?;
+    let of_variables = variable_lengths(alloc, image)?;
+    let of_passes = pass_lengths(alloc, image)?;
+    let variables_from = total(&of_functions);
+    let passes_from = variables_from + total(&of_variables);
     Ok(NameStarts {
         functions: starts_of(alloc, 0, &of_functions)?,
         variables: starts_of(alloc, variables_from, &of_variables)?,
@@ -107,35 +118,35 @@ fn name_starts(alloc: Global, image: &Image) -> Result<NameStarts, AllocError>
 
 impl NameStarts {
     /// The name of a function, by its number.
-    pub fn function<'i>(&self, image: &'i Image, number: usize) -> &'i [u8]
-        requires image { IsImage (form image.now) }
-        requires starts { AreStartsOf (form image.now) self.now }
-        requires number { number < length image.now.functions.items }
-        ensures { result.now ≡ function_name (form image.now) number }
+    pub fn function<'i>(&self, image: &View<'i>, number: usize) -> &'i [u8]
+        requires image { IsImage (viewed image.now) }
+        requires starts { AreStartsOf (viewed image.now) self.now }
+        requires number { number < length (viewed image.now).functions }
+        ensures { result.now ≡ function_name (viewed image.now) number }
     {
         let start = self.functions[number];
-        name_at(image, start, image.functions[number].name_length)
+        name_at(image, start, image.function_at(number).name_length)
     }
 
     /// The name of a variable, by its number; a literal's is empty.
-    pub fn variable<'i>(&self, image: &'i Image, number: usize) -> &'i [u8]
-        requires image { IsImage (form image.now) }
-        requires starts { AreStartsOf (form image.now) self.now }
-        requires number { number < length image.now.variables.items }
-        ensures { result.now ≡ variable_name (form image.now) number }
+    pub fn variable<'i>(&self, image: &View<'i>, number: usize) -> &'i [u8]
+        requires image { IsImage (viewed image.now) }
+        requires starts { AreStartsOf (viewed image.now) self.now }
+        requires number { number < length (viewed image.now).variables }
+        ensures { result.now ≡ variable_name (viewed image.now) number }
     {
         let start = self.variables[number];
-        name_at(image, start, image.variables[number].name_length)
+        name_at(image, start, image.variable_at(number).name_length)
     }
 
     /// The name of the pass that made a change, by the change's number from 0.
-    pub fn pass<'i>(&self, image: &'i Image, number: usize) -> &'i [u8]
-        requires image { IsImage (form image.now) }
-        requires starts { AreStartsOf (form image.now) self.now }
-        requires number { number < length image.now.changes.items }
-        ensures { result.now ≡ pass_name (form image.now) number }
+    pub fn pass<'i>(&self, image: &View<'i>, number: usize) -> &'i [u8]
+        requires image { IsImage (viewed image.now) }
+        requires starts { AreStartsOf (viewed image.now) self.now }
+        requires number { number < length (viewed image.now).changes }
+        ensures { result.now ≡ pass_name (viewed image.now) number }
     {
         let start = self.passes[number];
-        name_at(image, start, image.changes[number].pass_length)
+        name_at(image, start, image.change_at(number).pass_length)
     }
 }

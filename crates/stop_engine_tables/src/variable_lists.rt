@@ -1,12 +1,12 @@
 //! The variables of each function, one behind the other.
 
 ghost use Rattle.std.specs.Prelude.{◌≡◌, ◌+◌, ◌≤◌, ◌<◌, ℕ, false, All, IfOk, IfSome, Some, length, slice_index, slice_index_or, drop};
-ghost use Rattle.image_form.specs.Form.{form};
 ghost use Rattle.image_form.specs.Rules.{IsImage};
+ghost use Rattle.image_form.specs.Views.{viewed};
 ghost use Rattle.image_form.specs.declared.variables.Variable.{Variable};
 ghost use Rattle.stop_engine_tables.specs.VariableLists.{AreListsOf, is_static, next_of};
 
-use image_form::{Image, Storage, Variable};
+use image_form::{Storage, Variable, View};
 use std::alloc::{AllocError, Global};
 
 /// The variables of each function of an image, and how far the static ones go.
@@ -21,16 +21,16 @@ pub struct VariableLists {
 }
 
 /// The lists of an image's variables. `AllocError` where memory for them was refused.
-pub fn variable_lists(alloc: Global, image: &Image) -> Result<VariableLists, AllocError>
-    requires { IsImage (form image.now) }
-    ensures { IfOk result (AreListsOf (form image.now)) }
+pub fn variable_lists(alloc: Global, image: &View<'_>) -> Result<VariableLists, AllocError>
+    requires { IsImage (viewed image.now) }
+    ensures { IfOk result (AreListsOf (viewed image.now)) }
 {
-    let variables = image.variables.as_slice();
-    let none = variables.len() as u32;
-    let mut first = vec![in alloc; none; image.functions.len()]?;
-    let mut next = vec![in alloc; none; variables.len()]?;
-    link(variables, &mut first, &mut next);
-    let statics = statics_end(variables);
+    let count = image.variable_count();
+    let none = count as u32;
+    let mut first = vec![in alloc; none; image.function_count()]?;
+    let mut next = vec![in alloc; none; count]?;
+    link(image, &mut first, &mut next);
+    let statics = statics_end(image);
     Ok(VariableLists {
         first,
         next,
@@ -39,20 +39,23 @@ pub fn variable_lists(alloc: Global, image: &Image) -> Result<VariableLists, All
 }
 
 /// Links the variables of each function, from the last one to the first.
-fn link(variables: &[Variable], first: &mut [u32], next: &mut [u32])
-    requires few { length variables.now < 4294967295 }
-    requires functions { All (λ v. IfSome v.function (λ f. f < length first.old)) variables.now }
-    requires none { (f : ℕ) → f < length first.old → slice_index first.old f ≡ length variables.now }
-    requires rows { length next.old ≡ length variables.now }
+fn link(image: &View<'_>, first: &mut [u32], next: &mut [u32])
+    requires few { length (viewed image.now).variables < 4294967295 }
+    requires functions { All (λ v. IfSome v.function (λ f. f < length first.old)) (viewed image.now).variables }
+    requires none { (f : ℕ) → f < length first.old → slice_index first.old f ≡ length (viewed image.now).variables }
+    requires rows { length next.old ≡ length (viewed image.now).variables }
     ensures functions { length first.new ≡ length first.old }
-    ensures rows { length next.new ≡ length variables.now }
-    ensures first { (f : ℕ) → f < length first.new → slice_index first.new f ≡ next_of f 0 variables.now }
-    ensures next { (i f : ℕ) (d : Variable) → i < length variables.now → (slice_index_or variables.now i d).function ≡ Some f → slice_index next.new i ≡ next_of f (i + 1) (drop (i + 1) variables.now) }
+    ensures rows { length next.new ≡ length (viewed image.now).variables }
+    ensures first { (f : ℕ) → f < length first.new
+        → slice_index first.new f ≡ next_of f 0 (viewed image.now).variables }
+    ensures next { (i f : ℕ) (d : Variable) → i < length (viewed image.now).variables
+        → (slice_index_or (viewed image.now).variables i d).function ≡ Some f
+        → slice_index next.new i ≡ next_of f (i + 1) (drop (i + 1) (viewed image.now).variables) }
 {
-    let mut left = variables.len();
+    let mut left = image.variable_count();
     while left > 0 {
         left -= 1;
-        match variables[left].function {
+        match image.variable_at(left).function {
             Some(function) => {
                 next[left] = first[function as usize];
                 first[function as usize] = left as u32;
@@ -73,13 +76,13 @@ fn is_static(variable: &Variable) -> bool
 }
 
 /// A number from which on no variable is static.
-fn statics_end(variables: &[Variable]) -> usize
-    ensures within { result ≤ length variables.now }
-    ensures none { All (λ v. is_static v ≡ false) (drop result variables.now) }
+fn statics_end(image: &View<'_>) -> usize
+    ensures within { result ≤ length (viewed image.now).variables }
+    ensures none { All (λ v. is_static v ≡ false) (drop result (viewed image.now).variables) }
 {
-    let mut end = variables.len();
+    let mut end = image.variable_count();
     while end > 0 {
-        if is_static(&variables[end - 1]) {
+        if is_static(&image.variable_at(end - 1)) {
             return end;
         }
         end -= 1;

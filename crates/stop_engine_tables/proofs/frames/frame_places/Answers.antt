@@ -1,5 +1,5 @@
 use Rattle.std.proofs.Common.{◌≡◌, suc, ◌+◌, ◌-◌, ◌++◌, sym, subst, arith}
-use Rattle.image_form.specs.Form.{form}
+use Rattle.image_form.specs.Views.{viewed}
 use Rattle.image_form.specs.RulesOfFunctions.{IsPlaceNumber}
 use Rattle.rv_machine.specs.State.{word}
 use Rattle.stop_engine_view.specs.Reading.{frames, frames_from}
@@ -8,7 +8,7 @@ use Rattle.stop_engine_tables.proofs.frames.frame_places.Goals as goal
 
 pub returns-then-caller-eq0-clause-places : goal.returns-then-caller-eq0-clause-places
 returns-then-caller-eq0-clause-places c =
-    let m = form c.args.image.now in
+    let m = viewed c.args.image.now in
     let s = c.args.machine.now in
     let some : c.loop-left.left ≡ suc (c.loop-left.left - 1) = omega arith in
     let so_far = subst (λ n. c.loop-left.places.items ++ frames_from n m s c.loop-left.at c.loop-left.frame ≡ frames m s c.args.place) some c.loop-left.invariant.places in
@@ -16,11 +16,11 @@ returns-then-caller-eq0-clause-places c =
 
 pub returns-then-caller-eq0-clause-numbers : goal.returns-then-caller-eq0-clause-numbers
 returns-then-caller-eq0-clause-numbers c =
-    all_more (IsPlaceNumber (form c.args.image.now)) c.loop-left.places.items c.push.new.self.items c.loop-left.at c.in_ok-push.ensures.items c.loop-left.invariant.place c.loop-left.invariant.numbers
+    all_more (IsPlaceNumber (viewed c.args.image.now)) c.loop-left.places.items c.push.new.self.items c.loop-left.at c.in_ok-push.ensures.items c.loop-left.invariant.place c.loop-left.invariant.numbers
 
 pub loop-left-preserved : goal.loop-left-preserved
 loop-left-preserved c =
-    let m = form c.args.image.now in
+    let m = viewed c.args.image.now in
     let s = c.args.machine.now in
     let some : c.loop-left.left ≡ suc (c.loop-left.left - 1) = omega arith in
     let so_far = subst (λ n. c.loop-left.places.items ++ frames_from n m s c.loop-left.at c.loop-left.frame ≡ frames m s c.args.place) some c.loop-left.invariant.places in

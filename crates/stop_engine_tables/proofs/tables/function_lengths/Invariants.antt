@@ -1,0 +1,7 @@
+use Rattle.std.proofs.Common.{◌≡◌, map, take}
+use Rattle.image_form.specs.declared.tables.Function.{Function}
+use Rattle.image_form.specs.Views.{viewed}
+use Rattle.stop_engine_tables.proofs.tables.function_lengths.Given as goal
+
+abbrev pub invariant-loop-number : goal.invariant-loop-number
+invariant-loop-number l = l.lengths.items ≡ map (λ (f : Function). f.name_length) (take l.number (viewed l.image).functions)
