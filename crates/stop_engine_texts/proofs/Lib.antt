@@ -1,2 +1,4 @@
 mod FirstRow
+pub mod PlaceRows
 mod ValidRows
+mod VariablesInTurn

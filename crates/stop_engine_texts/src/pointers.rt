@@ -1,9 +1,9 @@
 //! What a pointer points to.
 
 ghost use Rattle.std.specs.Prelude.{◌≡◌, ◌≤◌, ◌+◌, ◌<◌, IfOk, IfSome, Some, slice_get, length};
-ghost use Rattle.image_form.specs.Form.{form};
 ghost use Rattle.image_form.specs.Rules.{IsImage};
 ghost use Rattle.image_form.specs.RulesOfFunctions.{IsPlaceNumber};
+ghost use Rattle.image_form.specs.Views.{viewed};
 ghost use Rattle.rv_machine.specs.State.{reg};
 ghost use Rattle.stop_engine_tables.specs.Tables.{AreTablesOf};
 ghost use Rattle.stop_engine_tables.specs.VariableLists.{AreListsOf};
@@ -11,7 +11,7 @@ ghost use Rattle.stop_engine_view.specs.Pointers.{IsTargetOf, distance, function
 ghost use Rattle.stop_engine_view.specs.Reading.{depth, greatest_depth};
 ghost use Rattle.stop_engine_view.specs.Words.{element_size};
 
-use image_form::{ElementType, Image, Storage, Variable};
+use image_form::{ElementType, Storage, Variable, View};
 use line_form::{frame_pointer, literal_pointer, null_text, static_pointer, unknown_pointer};
 use rv_machine::Machine;
 use std::alloc::{AllocError, Global};
@@ -145,16 +145,18 @@ fn static_target_of(variable: &Variable, index: u32, number: u32, offset: u32) -
 }
 
 /// The first static object in which, or directly behind which, an address lies.
-fn static_target(variables: &[Variable], address: u32) -> Option<Target>
-    requires { length variables.now < 4294967295 }
-    ensures found { result ≡ static_target address 0 0 variables.now }
-    ensures number { IfSome result (IsTargetOf (length variables.now)) }
+fn static_target(image: &View<'_>, lists: &VariableLists, address: u32) -> Option<Target>
+    requires lists { AreListsOf (viewed image.now) lists.now }
+    requires few { length (viewed image.now).variables < 4294967295 }
+    ensures found { result ≡ static_target address 0 0 (viewed image.now).variables }
+    ensures number { IfSome result (IsTargetOf (length (viewed image.now).variables)) }
 {
     let mut count = 0;
-    for (index, variable) in variables.iter().enumerate() {
-        count += literals(variable);
-        match static_offset(variable, address) {
-            Some(offset) => return Some(static_target_of(variable, index as u32, count, offset)),
+    for index in 0..lists.statics {
+        let variable = image.variable_at(index);
+        count += literals(&variable);
+        match static_offset(&variable, address) {
+            Some(offset) => return Some(static_target_of(&variable, index as u32, count, offset)),
             None => {}
         }
     }
@@ -163,22 +165,22 @@ fn static_target(variables: &[Variable], address: u32) -> Option<Target>
 
 /// The first object of a function's frame in which, or directly behind which, an address lies.
 fn local_target(
-    image: &Image,
+    image: &View<'_>,
     lists: &VariableLists,
     address: u32,
     function: u32,
     frame: u32,
     depth: u32,
 ) -> Option<Target>
-    requires lists { AreListsOf (form image.now) lists.now }
-    requires few { length image.now.variables.items < 4294967295 }
-    requires function { function < length image.now.functions.items }
-    ensures found { result ≡ local_target address function frame depth 0 image.now.variables.items }
-    ensures number { IfSome result (IsTargetOf (length image.now.variables.items)) }
+    requires lists { AreListsOf (viewed image.now) lists.now }
+    requires few { length (viewed image.now).variables < 4294967295 }
+    requires function { function < length (viewed image.now).functions }
+    ensures found { result ≡ local_target address function frame depth 0 (viewed image.now).variables }
+    ensures number { IfSome result (IsTargetOf (length (viewed image.now).variables)) }
 {
     let mut index = lists.first[function as usize] as usize;
-    while index < image.variables.len() {
-        match local_offset(&image.variables[index], function, frame, address) {
+    while index < image.variable_count() {
+        match local_offset(&image.variable_at(index), function, frame, address) {
             Some(offset) => {
                 return Some(Target::Local {
                     variable: index as u32,
@@ -194,28 +196,29 @@ fn local_target(
 }
 
 /// The number of a place's function.
-fn function_of(image: &Image, place: u32) -> u32
-    requires image { IsImage (form image.now) }
-    requires place { IsPlaceNumber (form image.now) place }
-    ensures number { result ≡ function_of (form image.now) place }
-    ensures within { result < length image.now.functions.items }
+fn function_of(image: &View<'_>, place: u32) -> u32
+    requires image { IsImage (viewed image.now) }
+    requires place { IsPlaceNumber (viewed image.now) place }
+    ensures number { result ≡ function_of (viewed image.now) place }
+    ensures within { result < length (viewed image.now).functions }
 {
-    image.places[place as usize - 1].function
+    image.place_at(place as usize - 1).function
 }
 
 /// The first object of an activation with this place, or of one that called it, in which, or directly behind which, an address lies.
 fn stack_target(
-    image: &Image,
+    image: &View<'_>,
     machine: &Machine,
     lists: &VariableLists,
     address: u32,
     place: u32,
 ) -> Option<Target>
-    requires image { IsImage (form image.now) }
-    requires lists { AreListsOf (form image.now) lists.now }
-    requires place { IsPlaceNumber (form image.now) place }
-    ensures found { result ≡ stack_target greatest_depth (form image.now) machine.now address place (reg machine.now 2) (depth machine.now) }
-    ensures number { IfSome result (IsTargetOf (length image.now.variables.items)) }
+    requires image { IsImage (viewed image.now) }
+    requires lists { AreListsOf (viewed image.now) lists.now }
+    requires place { IsPlaceNumber (viewed image.now) place }
+    ensures found { result
+        ≡ stack_target greatest_depth (viewed image.now) machine.now address place (reg machine.now 2) (depth machine.now) }
+    ensures number { IfSome result (IsTargetOf (length (viewed image.now).variables)) }
 {
     let mut left = greatest_depth();
     let mut at = place;
@@ -241,19 +244,19 @@ fn stack_target(
 
 /// The object that an address is taken for where the session stands at a place.
 fn pointed_at(
-    image: &Image,
+    image: &View<'_>,
     machine: &Machine,
     lists: &VariableLists,
     place: u32,
     address: u32,
 ) -> Option<Target>
-    requires image { IsImage (form image.now) }
-    requires lists { AreListsOf (form image.now) lists.now }
-    requires place { IsPlaceNumber (form image.now) place }
-    ensures found { result ≡ pointed_at (form image.now) machine.now place address }
-    ensures number { IfSome result (IsTargetOf (length image.now.variables.items)) }
+    requires image { IsImage (viewed image.now) }
+    requires lists { AreListsOf (viewed image.now) lists.now }
+    requires place { IsPlaceNumber (viewed image.now) place }
+    ensures found { result ≡ pointed_at (viewed image.now) machine.now place address }
+    ensures number { IfSome result (IsTargetOf (length (viewed image.now).variables)) }
 {
-    match static_target(&image.variables[..lists.statics], address) {
+    match static_target(image, lists, address) {
         Some(found) => Some(found),
         None => stack_target(image, machine, lists, address, place),
     }
@@ -262,14 +265,14 @@ fn pointed_at(
 /// The text of a pointer to an object.
 fn target_text(
     alloc: Global,
-    image: &Image,
+    image: &View<'_>,
     tables: &Tables,
     target: Target,
 ) -> Result<Vec<u8>, AllocError>
-    requires image { IsImage (form image.now) }
-    requires tables { AreTablesOf (form image.now) tables.now }
-    requires target { IsTargetOf (length image.now.variables.items) target }
-    ensures { IfOk result (λ text. text.items ≡ target_text (form image.now) target) }
+    requires image { IsImage (viewed image.now) }
+    requires tables { AreTablesOf (viewed image.now) tables.now }
+    requires target { IsTargetOf (length (viewed image.now).variables) target }
+    ensures { IfOk result (λ text. text.items ≡ target_text (viewed image.now) target) }
 {
     match target {
         Target::Static { variable, offset } => {
@@ -292,16 +295,16 @@ fn target_text(
 #[tactic(auto, unfolding(stop_engine_view::specs::Pointers::pointer_text))]
 pub fn pointer_text(
     alloc: Global,
-    image: &Image,
+    image: &View<'_>,
     machine: &Machine,
     tables: &Tables,
     place: u32,
     address: u32,
 ) -> Result<Vec<u8>, AllocError>
-    requires image { IsImage (form image.now) }
-    requires tables { AreTablesOf (form image.now) tables.now }
-    requires place { IsPlaceNumber (form image.now) place }
-    ensures { IfOk result (λ text. text.items ≡ pointer_text (form image.now) machine.now place address) }
+    requires image { IsImage (viewed image.now) }
+    requires tables { AreTablesOf (viewed image.now) tables.now }
+    requires place { IsPlaceNumber (viewed image.now) place }
+    ensures { IfOk result (λ text. text.items ≡ pointer_text (viewed image.now) machine.now place address) }
 {
     if address == 0 {
         return Ok(null_text(alloc)?);

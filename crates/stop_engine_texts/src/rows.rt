@@ -1,9 +1,9 @@
 //! What is shown of the variables that are visible at a place.
 
 ghost use Rattle.std.specs.Prelude.{◌≡◌, ◌<◌, ◌≤◌, [], IfOk, length, option_map, unwrap_or};
-ghost use Rattle.image_form.specs.Form.{form};
 ghost use Rattle.image_form.specs.Rules.{IsImage};
 ghost use Rattle.image_form.specs.RulesOfFunctions.{IsPlaceNumber};
+ghost use Rattle.image_form.specs.Views.{viewed};
 ghost use Rattle.image_form.specs.declared.verdicts.Verdict.TheVariants.{Recovered};
 ghost use Rattle.places.specs.Path.{places};
 ghost use Rattle.places.specs.Route.{route_of};
@@ -17,7 +17,7 @@ use crate::recipes::recipe_value;
 use crate::shown::Shown;
 use crate::values::{variable_text, word_text};
 use debug_records::{Place, Var};
-use image_form::{Image, Verdict, VisibleRow};
+use image_form::{Verdict, View, VisibleRow};
 use line_form::change_text;
 use places::{Path, route};
 use rv_machine::Machine;
@@ -27,30 +27,30 @@ use stop_engine_tables::{Tables, owner_of};
 /// The text of a change, by its number.
 fn change_words(
     alloc: Global,
-    image: &Image,
+    image: &View<'_>,
     tables: &Tables,
     number: u32,
 ) -> Result<Vec<u8>, AllocError>
-    requires image { IsImage (form image.now) }
-    requires tables { AreTablesOf (form image.now) tables.now }
+    requires image { IsImage (viewed image.now) }
+    requires tables { AreTablesOf (viewed image.now) tables.now }
     requires some { 1 ≤ number }
-    requires known { number ≤ length image.now.changes.items }
-    ensures { IfOk result (λ text. text.items ≡ change_words (form image.now) number) }
+    requires known { number ≤ length (viewed image.now).changes }
+    ensures { IfOk result (λ text. text.items ≡ change_words (viewed image.now) number) }
 {
     let index = number as usize - 1;
-    let change = image.changes[index];
+    let change = image.change_at(index);
     let pass = tables.names.pass(image, index);
     Ok(change_text(alloc, number, pass, change.kind, change.place)?)
 }
 
 /// The place by which a path goes: that of the change, or that of the code word that wrote.
-fn via_of(image: &Image, change: u32, writer: Option<u32>) -> u32
+fn via_of(image: &View<'_>, change: u32, writer: Option<u32>) -> u32
     requires some { 1 ≤ change }
-    requires known { change ≤ length image.now.changes.items }
-    ensures { result ≡ via_of (form image.now) change writer }
+    requires known { change ≤ length (viewed image.now).changes }
+    ensures { result ≡ via_of (viewed image.now) change writer }
 {
     match writer {
-        None => image.changes[change as usize - 1].place,
+        None => image.change_at(change as usize - 1).place,
         Some(address) => owner_of(image, address),
     }
 }
@@ -81,15 +81,16 @@ fn evidence_of(row: VisibleRow, change: u32, start: u32, writer: Option<u32>) ->
 /// The path that shows why a variable is not shown, if there is one.
 fn evidence_path(
     alloc: Global,
-    image: &Image,
+    image: &View<'_>,
     tables: &Tables,
     evidence: Evidence,
 ) -> Result<Option<Path>, AllocError>
     requires some { 1 ≤ evidence.change }
-    requires known { evidence.change ≤ length image.now.changes.items }
-    requires tables { AreTablesOf (form image.now) tables.now }
+    requires known { evidence.change ≤ length (viewed image.now).changes }
+    requires tables { AreTablesOf (viewed image.now) tables.now }
     ensures { IfOk result (λ path. option_map (λ p. places p) path
-        ≡ route_of (row_quest (form image.now) evidence.variable evidence.change evidence.start evidence.writer evidence.place)) }
+        ≡ route_of (row_quest (viewed image.now) evidence.variable evidence.change evidence.start evidence.writer
+        evidence.place)) }
 {
     let via = via_of(image, evidence.change, evidence.writer);
     let start = Place(evidence.start);
@@ -115,20 +116,20 @@ fn recipe_levels() -> usize
 /// The text of the value of a recipe, as one of a variable's type.
 fn recovered_text(
     alloc: Global,
-    image: &Image,
+    image: &View<'_>,
     machine: &Machine,
     tables: &Tables,
     place: u32,
     variable: u32,
     node: u32,
 ) -> Result<Vec<u8>, AllocError>
-    requires image { IsImage (form image.now) }
-    requires tables { AreTablesOf (form image.now) tables.now }
-    requires place { IsPlaceNumber (form image.now) place }
-    requires variable { variable < length image.now.variables.items }
-    ensures { IfOk result (λ text. text.items ≡ recovered_text (form image.now) machine.now place variable node) }
+    requires image { IsImage (viewed image.now) }
+    requires tables { AreTablesOf (viewed image.now) tables.now }
+    requires place { IsPlaceNumber (viewed image.now) place }
+    requires variable { variable < length (viewed image.now).variables }
+    ensures { IfOk result (λ text. text.items ≡ recovered_text (viewed image.now) machine.now place variable node) }
 {
-    let element = image.variables[variable as usize].element;
+    let element = image.variable_at(variable as usize).element;
     let word = recipe_value(image, machine, recipe_levels(), node);
     Ok(word_text(alloc, image, machine, tables, place, element, word)?)
 }
@@ -136,38 +137,39 @@ fn recovered_text(
 /// The text of the value that a variable's home holds.
 pub fn held_text(
     alloc: Global,
-    image: &Image,
+    image: &View<'_>,
     machine: &Machine,
     tables: &Tables,
     place: u32,
     variable: usize,
 ) -> Result<Vec<u8>, AllocError>
-    requires image { IsImage (form image.now) }
-    requires tables { AreTablesOf (form image.now) tables.now }
-    requires place { IsPlaceNumber (form image.now) place }
-    requires variable { variable < length image.now.variables.items }
-    ensures { IfOk result (λ text. text.items ≡ held_text (form image.now) machine.now place variable) }
+    requires image { IsImage (viewed image.now) }
+    requires tables { AreTablesOf (viewed image.now) tables.now }
+    requires place { IsPlaceNumber (viewed image.now) place }
+    requires variable { variable < length (viewed image.now).variables }
+    ensures { IfOk result (λ text. text.items ≡ held_text (viewed image.now) machine.now place variable) }
 {
-    let kept = image.variables[variable];
+    let kept = image.variable_at(variable);
     Ok(variable_text(alloc, image, machine, tables, place, kept)?)
 }
 
 /// The value of a variable, computed anew.
 fn anew(
     alloc: Global,
-    image: &Image,
+    image: &View<'_>,
     machine: &Machine,
     tables: &Tables,
     row: VisibleRow,
     change: u32,
     node: u32,
 ) -> Result<Shown, AllocError>
-    requires image { IsImage (form image.now) }
-    requires tables { AreTablesOf (form image.now) tables.now }
-    requires place { IsPlaceNumber (form image.now) row.place }
-    requires variable { row.variable < length image.now.variables.items }
-    requires change { IsChangeNumber (form image.now) change }
-    ensures { IfOk result (λ shown. sight_of shown ≡ verdict_sight (form image.now) machine.now row.place row.variable (Recovered change node)) }
+    requires image { IsImage (viewed image.now) }
+    requires tables { AreTablesOf (viewed image.now) tables.now }
+    requires place { IsPlaceNumber (viewed image.now) row.place }
+    requires variable { row.variable < length (viewed image.now).variables }
+    requires change { IsChangeNumber (viewed image.now) change }
+    ensures { IfOk result (λ shown. sight_of shown
+        ≡ verdict_sight (viewed image.now) machine.now row.place row.variable (Recovered change node)) }
 {
     let value = recovered_text(alloc, image, machine, tables, row.place, row.variable, node)?;
     let change = change_words(alloc, image, tables, change)?;
@@ -184,16 +186,16 @@ pub struct Witness {
 /// Why a variable is not shown.
 fn tell(
     alloc: Global,
-    image: &Image,
+    image: &View<'_>,
     tables: &Tables,
     evidence: Evidence,
 ) -> Result<Witness, AllocError>
-    requires image { IsImage (form image.now) }
-    requires tables { AreTablesOf (form image.now) tables.now }
-    requires change { IsChangeNumber (form image.now) evidence.change }
-    ensures change { IfOk result (λ w. w.change.items ≡ change_words (form image.now) evidence.change) }
+    requires image { IsImage (viewed image.now) }
+    requires tables { AreTablesOf (viewed image.now) tables.now }
+    requires change { IsChangeNumber (viewed image.now) evidence.change }
+    ensures change { IfOk result (λ w. w.change.items ≡ change_words (viewed image.now) evidence.change) }
     ensures path { IfOk result (λ w. unwrap_or (option_map (λ p. places p) w.path) []
-        ≡ row_path (form image.now) evidence.variable evidence.change evidence.start evidence.writer evidence.place) }
+        ≡ row_path (viewed image.now) evidence.variable evidence.change evidence.start evidence.writer evidence.place) }
 {
     let path = evidence_path(alloc, image, tables, evidence)?;
     let change = change_words(alloc, image, tables, evidence.change)?;
@@ -203,15 +205,15 @@ fn tell(
 /// What is shown of the variable of a row. `AllocError` where memory for it was refused.
 pub fn row_shown(
     alloc: Global,
-    image: &Image,
+    image: &View<'_>,
     machine: &Machine,
     tables: &Tables,
     row: VisibleRow,
 ) -> Result<Shown, AllocError>
-    requires image { IsImage (form image.now) }
-    requires row { IsRow (form image.now) row }
-    requires tables { AreTablesOf (form image.now) tables.now }
-    ensures { IfOk result (λ shown. sight_of shown ≡ row_sight (form image.now) machine.now row) }
+    requires image { IsImage (viewed image.now) }
+    requires row { IsRow (viewed image.now) row }
+    requires tables { AreTablesOf (viewed image.now) tables.now }
+    ensures { IfOk result (λ shown. sight_of shown ≡ row_sight (viewed image.now) machine.now row) }
 {
     match row.verdict {
         Verdict::Home => {

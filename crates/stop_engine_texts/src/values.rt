@@ -1,16 +1,16 @@
 //! The texts of the values of variables.
 
 ghost use Rattle.std.specs.Prelude.{◌≡◌, ◌<◌, ◌^◌, IfOk, map};
-ghost use Rattle.image_form.specs.Form.{form};
 ghost use Rattle.image_form.specs.Rules.{IsImage};
 ghost use Rattle.image_form.specs.RulesOfFunctions.{IsPlaceNumber};
+ghost use Rattle.image_form.specs.Views.{viewed};
 ghost use Rattle.stop_engine_tables.specs.Tables.{AreTablesOf};
 ghost use Rattle.stop_engine_view.specs.Values.{element_texts, memory_text, most_elements, variable_text, word_text};
 ghost use Rattle.stop_engine_view.specs.Words.{element_word, memory_half, memory_word};
 
 use crate::pointers::{element_size, pointer_text};
 use crate::recipes::home_word;
-use image_form::{ElementType, Image, Storage, Variable};
+use image_form::{ElementType, Storage, Variable, View};
 use line_form::array_text;
 use rv_machine::Machine;
 use std::alloc::{AllocError, Global};
@@ -51,17 +51,17 @@ fn element_word(machine: &Machine, element: ElementType, address: u32) -> u32
 /// as for each of these texts.
 pub fn word_text(
     alloc: Global,
-    image: &Image,
+    image: &View<'_>,
     machine: &Machine,
     tables: &Tables,
     place: u32,
     element: ElementType,
     word: u32,
 ) -> Result<Vec<u8>, AllocError>
-    requires image { IsImage (form image.now) }
-    requires tables { AreTablesOf (form image.now) tables.now }
-    requires place { IsPlaceNumber (form image.now) place }
-    ensures { IfOk result (λ text. text.items ≡ word_text (form image.now) machine.now place element word) }
+    requires image { IsImage (viewed image.now) }
+    requires tables { AreTablesOf (viewed image.now) tables.now }
+    requires place { IsPlaceNumber (viewed image.now) place }
+    ensures { IfOk result (λ text. text.items ≡ word_text (viewed image.now) machine.now place element word) }
 {
     match element {
         ElementType::U8 => {
@@ -100,7 +100,7 @@ fn most_elements() -> u32
 /// The texts of so many elements, from an address on.
 fn element_texts(
     alloc: Global,
-    image: &Image,
+    image: &View<'_>,
     machine: &Machine,
     tables: &Tables,
     place: u32,
@@ -108,10 +108,11 @@ fn element_texts(
     count: u32,
     address: u32,
 ) -> Result<Vec<Vec<u8>>, AllocError>
-    requires image { IsImage (form image.now) }
-    requires tables { AreTablesOf (form image.now) tables.now }
-    requires place { IsPlaceNumber (form image.now) place }
-    ensures { IfOk result (λ texts. map (λ t. t.items) texts.items ≡ element_texts (form image.now) machine.now place element count address) }
+    requires image { IsImage (viewed image.now) }
+    requires tables { AreTablesOf (viewed image.now) tables.now }
+    requires place { IsPlaceNumber (viewed image.now) place }
+    ensures { IfOk result (λ texts. map (λ t. t.items) texts.items
+        ≡ element_texts (viewed image.now) machine.now place element count address) }
 {
     let mut texts = Vec::new(alloc);
     let mut left = count;
@@ -128,17 +129,17 @@ fn element_texts(
 /// The text of a scalar or an array in memory.
 fn memory_text(
     alloc: Global,
-    image: &Image,
+    image: &View<'_>,
     machine: &Machine,
     tables: &Tables,
     place: u32,
     variable: Variable,
     address: u32,
 ) -> Result<Vec<u8>, AllocError>
-    requires image { IsImage (form image.now) }
-    requires tables { AreTablesOf (form image.now) tables.now }
-    requires place { IsPlaceNumber (form image.now) place }
-    ensures { IfOk result (λ text. text.items ≡ memory_text (form image.now) machine.now place variable address) }
+    requires image { IsImage (viewed image.now) }
+    requires tables { AreTablesOf (viewed image.now) tables.now }
+    requires place { IsPlaceNumber (viewed image.now) place }
+    ensures { IfOk result (λ text. text.items ≡ memory_text (viewed image.now) machine.now place variable address) }
 {
     let element = variable.element;
     if variable.count == 0 {
@@ -155,16 +156,16 @@ fn memory_text(
 /// The text of what a variable's own storage holds, where the session stands at a place.
 pub fn variable_text(
     alloc: Global,
-    image: &Image,
+    image: &View<'_>,
     machine: &Machine,
     tables: &Tables,
     place: u32,
     variable: Variable,
 ) -> Result<Vec<u8>, AllocError>
-    requires image { IsImage (form image.now) }
-    requires tables { AreTablesOf (form image.now) tables.now }
-    requires place { IsPlaceNumber (form image.now) place }
-    ensures { IfOk result (λ text. text.items ≡ variable_text (form image.now) machine.now place variable) }
+    requires image { IsImage (viewed image.now) }
+    requires tables { AreTablesOf (viewed image.now) tables.now }
+    requires place { IsPlaceNumber (viewed image.now) place }
+    ensures { IfOk result (λ text. text.items ≡ variable_text (viewed image.now) machine.now place variable) }
 {
     match variable.storage {
         Storage::Static(address) => Ok(memory_text(

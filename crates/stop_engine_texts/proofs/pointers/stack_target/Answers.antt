@@ -1,5 +1,5 @@
 use Rattle.std.proofs.Common.{◌≡◌, refl, suc, ◌+◌, ◌-◌, sym, ◌∙◌, subst, arith}
-use Rattle.image_form.specs.Form.{form}
+use Rattle.image_form.specs.Views.{viewed}
 use Rattle.rv_machine.specs.State.{reg, word}
 use Rattle.stop_engine_view.specs.Pointers.{stack_target}
 use Rattle.stop_engine_view.specs.Reading.{depth, greatest_depth}
@@ -9,7 +9,7 @@ use Rattle.stop_engine_texts.proofs.pointers.stack_target.Goals as goal
 
 pub returns-in-Some-clause-found : goal.returns-in-Some-clause-found
 returns-in-Some-clause-found c =
-    let m = form c.args.image.now in
+    let m = viewed c.args.image.now in
     let s = c.args.machine.now in
     let some : c.loop-left.left ≡ suc (c.loop-left.left - 1) = omega arith in
     let so_far = subst (λ n. stack_target n m s c.args.address c.loop-left.at c.loop-left.frame c.loop-left.deep ≡ stack_target greatest_depth m s c.args.address c.args.place (reg s 2) (depth s)) some c.loop-left.invariant.1 in
@@ -17,7 +17,7 @@ returns-in-Some-clause-found c =
 
 pub returns-then-caller-eq0-clause-found : goal.returns-then-caller-eq0-clause-found
 returns-then-caller-eq0-clause-found c =
-    let m = form c.args.image.now in
+    let m = viewed c.args.image.now in
     let s = c.args.machine.now in
     let some : c.loop-left.left ≡ suc (c.loop-left.left - 1) = omega arith in
     let so_far = subst (λ n. stack_target n m s c.args.address c.loop-left.at c.loop-left.frame c.loop-left.deep ≡ stack_target greatest_depth m s c.args.address c.args.place (reg s 2) (depth s)) some c.loop-left.invariant.1 in
@@ -25,7 +25,7 @@ returns-then-caller-eq0-clause-found c =
 
 pub loop-left-preserved : goal.loop-left-preserved
 loop-left-preserved c =
-    let m = form c.args.image.now in
+    let m = viewed c.args.image.now in
     let s = c.args.machine.now in
     let some : c.loop-left.left ≡ suc (c.loop-left.left - 1) = omega arith in
     let so_far = subst (λ n. stack_target n m s c.args.address c.loop-left.at c.loop-left.frame c.loop-left.deep ≡ stack_target greatest_depth m s c.args.address c.args.place (reg s 2) (depth s)) some c.loop-left.invariant.1 in (
@@ -35,4 +35,4 @@ loop-left-preserved c =
     )
 
 pub local_target-requires : goal.local_target-requires
-local_target-requires c = record { lists = c.requires.lists; few = variables_fit (form c.args.image.now) c.requires.image; function = c.function_of-function.ensures.within }
+local_target-requires c = record { lists = c.requires.lists; few = variables_fit (viewed c.args.image.now) c.requires.image; function = c.function_of-function.ensures.within }
