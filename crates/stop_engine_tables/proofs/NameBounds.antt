@@ -1,7 +1,7 @@
 -- The names of an image lie in its section of names.
 use Rattle.std.proofs.Common.{◌≡◌, ℕ, ◌+◌, ◌<◌, ◌≤◌, ◌^◌, List, length, map, sum, take, drop, slice_index_or, refl, arith}
 use Rattle.std.proofs.lemmas.List.{drop-drop, get_or-map, length-map, take-map}
-use Rattle.std.proofs.lemmas.List.Sums.{sum_by-take-le, sum_by_more_le}
+use Rattle.std.proofs.lemmas.List.Sums.{sum_by_more_le}
 use Rattle.image_form.specs.Form.{Form}
 use Rattle.image_form.specs.declared.tables.Change.{Change}
 use Rattle.image_form.specs.declared.tables.Function.{Function}

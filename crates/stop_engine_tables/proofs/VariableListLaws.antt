@@ -1,5 +1,5 @@
 -- Lists of the variables of functions are made from the last variable to the first, and followed from the first one on.
-use Rattle.std.proofs.Common.{◌≡◌, ◌≢◌, ℕ, suc, ◌+◌, ◌<◌, ◌≤◌, ◌==◌, Bool, true, false, Option, Some, None, List, [], ◌∷◌, length, take, drop, get_or, refl, sym, ap, ◌∙◌, subst, arith, All}
+use Rattle.std.proofs.Common.{◌≡◌, ◌≢◌, ℕ, suc, ◌+◌, ◌<◌, ◌≤◌, ◌==◌, Bool, true, false, Option, Some, None, List, [], ◌∷◌, length, drop, get_or, refl, sym, ap, ◌∙◌, subst, arith, All}
 use Rattle.std.specs.Prelude.{IfSome, if◌then◌else◌, slice_get, slice_index, slice_index_or, slice_set}
 use Rattle.std.specs.Option.{option_map_or}
 use Rattle.std.proofs.lemmas.Bool.{eqb-true, eqb-false, true≢false}
@@ -16,9 +16,7 @@ use Rattle.image_form.proofs.RecordsBack.{kept_there}
 use Rattle.image_form.proofs.TableLaws.{each_at}
 use Rattle.stop_engine_tables.specs.VariableLists.{is_kept_statically, is_static, next_of}
 use Rattle.stop_engine_tables.proofs.Records.{record_at, records_from}
-use Rattle.stop_engine_view.specs.Pointers.{is_of, literals, local_offset, local_target, offset_within, static_offset, static_start, static_target, static_target_of}
-use Rattle.stop_engine_view.specs.declared.target.Target.{Target}
-use Rattle.stop_engine_view.specs.declared.target.Target.TheVariants.{Local}
+use Rattle.stop_engine_view.specs.Pointers.{is_of, literals, local_offset, local_target, offset_within, static_offset, static_start, static_target}
 
 -- ---- The next variable of a function
 
