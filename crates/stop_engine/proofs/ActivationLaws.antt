@@ -3,7 +3,8 @@ use Rattle.std.proofs.Common.{◌≡◌, ◌≢◌, ◌↔◌, ℕ, zero, suc, �
 use Rattle.std.proofs.lemmas.Bool.Decides.{nat_tests}
 use Rattle.std.proofs.lemmas.Option.{slice_get_cases}
 use Rattle.std.proofs.lemmas.List.{length-map}
-use Rattle.image_form.specs.Form.{Form, form, numbered}
+use Rattle.image_form.specs.Form.{Form, numbered}
+use Rattle.image_form.specs.Views.{viewed}
 use Rattle.image_form.specs.Rules.{IsImage}
 use Rattle.image_form.specs.declared.tables.Place.{Place}
 use Rattle.image_form.specs.RulesOfFunctions.{IsPlaceNumber}
@@ -67,10 +68,10 @@ activations_few m s place all are =
     omega (arith, same, frames_few m s place)
 
 -- the lines of `where`, by what is seen of the activations
-pub where_said : (r : RunState) (stop : Stop) (all : List Frame) (lines : List (List ℕ)) → IsStopOf r stop → map activation_of all ≡ activations (form stop.image.now) stop.machine.now stop.place
+pub where_said : (r : RunState) (stop : Stop) (all : List Frame) (lines : List (List ℕ)) → IsStopOf r stop → map activation_of all ≡ activations (viewed stop.image) stop.machine.now stop.place
     → lines ≡ activation_lines 0 (map activation_of all) → lines ≡ at_stop r.form r.position (where_lines r.form)
 where_said r stop all lines is seen said =
-    let m = form stop.image.now in
+    let m = viewed stop.image in
     let s = stop.machine.now in
     let numbers : All (IsPlaceNumber m) (frames m s stop.place) = frames_number greatest_depth m s stop.place (reg s 2) is.valid is.number in
     at_stop-said r stop (where_lines r.form) lines is (said ∙ (ap (activation_lines 0) seen ∙ (lines_at m 0 (frames m s stop.place) numbers ∙ ap (λ (n : Form). where_lines n s stop.place) is.image)))
@@ -86,8 +87,8 @@ at_stop-not_none : (p : Position) (s : State) → p ≡ Standing s → IsAtNoSto
 at_stop-not_none p s is none = subst IsAtNoStop is none
 
 -- at a stop there are activations
-pub none_nowhere : (r : RunState) (stop : Stop) (all : List Frame) → IsStopOf r stop → map activation_of all ≡ activations (form stop.image.now) stop.machine.now stop.place → (all ≡ []) ↔ IsAtNoStop r.position
+pub none_nowhere : (r : RunState) (stop : Stop) (all : List Frame) → IsStopOf r stop → map activation_of all ≡ activations (viewed stop.image) stop.machine.now stop.place → (all ≡ []) ↔ IsAtNoStop r.position
 none_nowhere r stop all is seen = (
-  λ none. absurd (some_activation (form stop.image.now) stop.machine.now stop.place (sym seen ∙ ap (map activation_of) none)),
+  λ none. absurd (some_activation (viewed stop.image) stop.machine.now stop.place (sym seen ∙ ap (map activation_of) none)),
   λ nowhere. absurd (at_stop-not_none r.position stop.machine.now is.position nowhere),
 )

@@ -1,12 +1,10 @@
 -- The functions of a name.
-use Rattle.std.proofs.Common.{◌≡◌, ℕ, zero, suc, ◌+◌, ◌<◌, ◌≤◌, Bool, true, false, cond, if◌then◌else◌, Option, Some, None, List, [], ◌∷◌, ◌++◌, length, take, drop, get_or, refl, sym, ap, ◌∙◌, subst, inl, inr, arith, add-one, bytes_eq, ltb, Bor}
-use Rattle.std.specs.Prelude.{IfSome, is_some, slice_get}
-use Rattle.std.specs.Option.{option_copied, option_map_or}
+use Rattle.std.proofs.Common.{◌≡◌, ℕ, zero, suc, ◌+◌, ◌<◌, Bool, true, false, cond, if◌then◌else◌, Option, Some, None, List, [], ◌∷◌, ◌++◌, length, take, drop, get_or, refl, sym, ap, ◌∙◌, arith, add-one, bytes_eq}
+use Rattle.std.specs.Prelude.{is_some, slice_get}
+use Rattle.std.specs.Option.{option_map_or}
 use Rattle.std.proofs.Math.Seq.{take-suc}
 use Rattle.std.proofs.lemmas.Bool.{true≢false}
-use Rattle.std.proofs.lemmas.Bool.Decides.{nat_tests}
 use Rattle.std.proofs.lemmas.List.{drop-drop, length-take}
-use Rattle.std.proofs.lemmas.Option.{slice_get_past, slice_get_read}
 use Rattle.std.proofs.lemmas.Slice.Eq.{bytes_eq-Decides}
 use Rattle.image_form.specs.Form.{Form}
 use Rattle.image_form.specs.Names.{function_name}
@@ -91,7 +89,14 @@ names-new m i d old new lt before unseen updates q = by_test (bytes_eq (function
         let is : new q ≡ Some k = updates q ∙ (ap (λ b. cond b (Some i) (old q)) t ∙ some) in
         is ∙ sym (called-more m q i d lt ∙ ap (λ o. first_or o (if bytes_eq (function_name m i) q then Some i else None)) (sym (before q) ∙ some))
 
--- what a look-up by an index gives is the function with that number
-pub copied-there : (fs : List Function) (n : ℕ) (o : Option (Bor Function)) → is_some o ≡ ltb n (length fs) → IfSome o (λ x. x.now ≡ get_or fs n x.now) → option_copied o ≡ slice_get fs n
-copied-there fs n None there at = let past : length fs ≤ n = grind (arith, nat_tests, there) in sym (slice_get_past fs n past)
-copied-there fs n (Some x) there at = let within : n < length fs = grind (arith, nat_tests, there) in sym (slice_get_read fs (length fs) n x.now refl within at)
+-- the number of the first function of a name is one of the functions'
+called-within : (m : Form) (name : List ℕ) (n k : ℕ) (fs : List Function) → number_called m name n fs ≡ Some k → k < n + length fs
+called-within m name n k [] e = absurd cc
+called-within m name n k (f ∷ fs) e = by_test (bytes_eq (function_name m n) name) refl e (called-within m name (n + 1) k fs)
+  where
+    by_test : (b : Bool) → bytes_eq (function_name m n) name ≡ b → number_called m name n (f ∷ fs) ≡ Some k → (number_called m name (n + 1) fs ≡ Some k → k < n + 1 + length fs) → k < n + length (f ∷ fs)
+    by_test true t e rest = let here : Some n ≡ Some k = rw t at e in let number : n ≡ k = cc in omega (arith, number)
+    by_test false t e rest = let later : number_called m name (n + 1) fs ≡ Some k = rw t at e in omega (arith, rest later)
+
+pub called-there : (m : Form) (name : List ℕ) (k : ℕ) → number_called m name 0 m.functions ≡ Some k → k < length m.functions
+called-there m name k e = omega (arith, called-within m name 0 k m.functions e)

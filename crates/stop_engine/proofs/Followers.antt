@@ -1,13 +1,14 @@
 -- The least place that follows a place stands in the first of its pairs.
-use Rattle.std.proofs.Common.{◌≡◌, ◌≢◌, ℕ, zero, suc, ◌+◌, ◌<◌, ◌≤◌, ◌==◌, inl, inr, Bool, true, false, Option, Some, None, List, [], ◌∷◌, length, drop, drop-cons, add-one, get_or, ap, refl, sym, ◌∙◌, subst, arith}
+use Rattle.std.proofs.Common.{◌≡◌, ◌≢◌, ℕ, zero, suc, ◌+◌, ◌<◌, ◌≤◌, ◌==◌, inl, inr, Bool, true, false, Option, Some, None, List, [], ◌∷◌, drop, ap, refl, sym, ◌∙◌, subst, arith}
 use Rattle.std.specs.Prelude.{min}
-use Rattle.std.specs.List.{AllByRecursion}
+use Rattle.std.specs.List.{AllByRecursion, slice_get}
 use Rattle.std.specs.Option.{option_map_or}
 use Rattle.std.proofs.lemmas.Bool.Decides.{nat_tests}
 use Rattle.image_form.specs.Lists.{EachToNext}
 use Rattle.image_form.specs.RulesOfChanges.{IsPairBefore}
 use Rattle.image_form.specs.declared.tables.FlowPair.{FlowPair}
 use Rattle.stop_engine.specs.Breaks.{followers, least}
+use Rattle.stop_engine_tables.proofs.Records.{records_from}
 
 -- the pairs ascend
 abbrev pub Ascend : List FlowPair → Type 0
@@ -70,11 +71,11 @@ ascend-drop (suc i) [] h = h
 ascend-drop (suc i) (p ∷ pairs) h = ascend-drop i pairs h.1
 
 -- the least place that follows, by the first pair of the place
-pub follower-found : (place i : ℕ) (d : FlowPair) (pairs : List FlowPair) → Ascend pairs → i < length pairs → (get_or pairs i d).from ≡ place → Some (get_or pairs i d).to ≡ least (followers place (drop i pairs))
-follower-found place i d pairs ascend within same =
-    let front : drop i pairs ≡ get_or pairs i d ∷ drop (i + 1) pairs = rw add-one (drop-cons pairs i d within) in
+pub follower-found : (place i : ℕ) (pair : FlowPair) (pairs : List FlowPair) → Ascend pairs → slice_get pairs i ≡ Some pair → pair.from ≡ place → Some pair.to ≡ least (followers place (drop i pairs))
+follower-found place i pair pairs ascend got same =
+    let front : drop i pairs ≡ pair ∷ drop (i + 1) pairs = records_from pairs i pair got in
     let ascends = subst Ascend front (ascend-drop i pairs ascend) in
-    sym (ap (λ l. least (followers place l)) front ∙ least-first place (get_or pairs i d) (drop (i + 1) pairs) ascends same)
+    sym (ap (λ l. least (followers place l)) front ∙ least-first place pair (drop (i + 1) pairs) ascends same)
 
 -- the least of some numbers is within what they all are within
 abbrev pub AtMost : ℕ → Option ℕ → Type 0

@@ -1,5 +1,5 @@
 -- Tables of stop places tell what they should.
-use Rattle.std.proofs.Common.{◌≡◌, ◌≢◌, ℕ, zero, suc, ◌+◌, ◌-◌, ◌*◌, ◌/◌, ◌%◌, ◌<◌, ◌≤◌, ◌==◌, Bool, true, false, not, ◌||◌, if◌then◌else◌, Option, Some, None, List, [], ◌∷◌, ◌++◌, length, replicate, take, drop, drop-cons, add-one, slice_index, slice_index_or, slice_set, unwrap_or, nat_le, subst, sym, ap, refl, ◌∙◌, arith}
+use Rattle.std.proofs.Common.{◌≡◌, ◌≢◌, ℕ, zero, suc, ◌+◌, ◌-◌, ◌*◌, ◌/◌, ◌%◌, ◌<◌, ◌≤◌, ◌==◌, Bool, true, false, not, ◌||◌, if◌then◌else◌, Option, Some, None, List, [], ◌∷◌, ◌++◌, length, replicate, take, drop, slice_index, slice_set, unwrap_or, nat_le, subst, sym, ap, refl, ◌∙◌, arith}
 use Rattle.std.proofs.lemmas.Bool.Decides.{nat_tests}
 use Rattle.std.proofs.Math.Seq.{take-append_seam}
 use Rattle.std.proofs.lemmas.List.{drop_all, get_or-set_same, get_or-set_other}
@@ -15,10 +15,11 @@ use Rattle.image_form.specs.RulesOfFunctions.{IsFunction, IsPlaceNumber, code_st
 use Rattle.image_form.specs.RulesOfPlaces.{word_address}
 use Rattle.image_form.proofs.TableLaws.{each_at}
 use Rattle.rv_machine.specs.Run.{is_stop}
+use Rattle.stop_engine_tables.proofs.Records.{records_from}
 use Rattle.stop_engine_view.specs.Reading.{place_at, place_from}
 use Rattle.stop_engine_view.specs.Run.{is_entry, stop_addresses, stops_from}
 use Rattle.stop_engine.specs.StopTable.{TellsStops, entry_at, is_entry_address}
-use Rattle.stop_engine_view.proofs.PlacesByAddress.{Found, IsWordOf, distinct-tail, place-is_word, place-at_word, place_from-found, place_from-tail, word-within}
+use Rattle.stop_engine_view.proofs.PlacesByAddress.{Found, IsWordOf, distinct-tail, place-is_word, place_from-found, place_from-tail, word-within}
 
 -- whether the place that a look-up gave is a stop
 abbrev stops_there : List Function → Option ℕ → Bool
@@ -162,20 +163,17 @@ tells_stops m table image enters = record {
 }
 
 -- the entry of a function is a place of the image
-pub entry-place : (m : Form) (i : ℕ) (d : Function) → IsImage m → i < length m.functions → IsPlaceNumber m (slice_index_or m.functions i d).entry
-entry-place m i d image within =
-    (each_at (IsFunction m) m.functions i _ image.functions.each (slice_get-get_or m.functions i d within)).entry_is_place
+pub entry-place : (m : Form) (i : ℕ) (f : Function) → IsImage m → slice_get m.functions i ≡ Some f → IsPlaceNumber m f.entry
+entry-place m i f image function = (each_at (IsFunction m) m.functions i f image.functions.each function).entry_is_place
 
 -- whether some entry of these functions is at an address
 abbrev pub is_entry_of : Form → List Function → ℕ → Bool
 is_entry_of m functions a = list_any (λ (f : Function). option_map_or (λ (p : Place). p.address == a) (numbered m.places f.entry) false) functions
 
 -- a place by its number
-numbered-place : (ps : List Place) (k : ℕ) (d : Place) → 1 ≤ k → k ≤ length ps → numbered ps k ≡ Some (slice_index_or ps (k - 1) d)
-numbered-place ps zero d some within = absurd (omega (arith, some))
-numbered-place ps (suc j) d some within =
-    let index : suc j - 1 ≡ j = omega arith in
-    rw index (slice_get-get_or ps j d (omega arith))
+numbered-place : (ps : List Place) (k : ℕ) (p : Place) → 1 ≤ k → slice_get ps (k - 1) ≡ Some p → numbered ps k ≡ Some p
+numbered-place ps zero p some place = absurd (omega (arith, some))
+numbered-place ps (suc j) p some place = let index : suc j - 1 ≡ j = omega arith in rw index at place
 
 -- a table from which the entry of one function is struck, before the others
 struck-step : (m : Form) (table : List ℕ) (w : ℕ) (f : Function) (rest : List Function) (p : Place) → numbered m.places f.entry ≡ Some p
@@ -197,24 +195,18 @@ struck-step m table w f rest p entry aligned starts within = rw entry (by_tests 
         let elsewhere : w ≢ (p.address - 65536) / 4 = grind (arith, nat_tests) in
         rw (t, get_or-set_other table ((p.address - 65536) / 4) w 0 0 elsewhere) refl
 
--- the entry of a function begins at a code word
-pub entry-at_word : (m : Form) (i : ℕ) (d : Function) (e : Place) → IsImage m → i < length m.functions
-    → IsWordOf m (slice_index_or m.places ((slice_index_or m.functions i d).entry - 1) e).address
-entry-at_word m i d e image within =
-    let number = entry-place m i d image within in
-    place-at_word m ((slice_index_or m.functions i d).entry - 1) e image (omega (arith, number.0, number.1))
-
 -- a table from which one more entry is struck
-pub struck-more : (m : Form) (table : List ℕ) (i w : ℕ) (d : Function) (e : Place) → IsImage m → i < length m.functions → length table ≡ length m.code
-    → (if is_entry_of m (drop (i + 1) m.functions) (word_address w) then 0 else slice_index (slice_set table (((slice_index_or m.places ((slice_index_or m.functions i d).entry - 1) e).address - 65536) / 4) 0) w)
+pub struck-more : (m : Form) (table : List ℕ) (i w : ℕ) (f : Function) (p : Place) → IsImage m → slice_get m.functions i ≡ Some f → slice_get m.places (f.entry - 1) ≡ Some p → length table ≡ length m.code
+    → (if is_entry_of m (drop (i + 1) m.functions) (word_address w) then 0 else slice_index (slice_set table ((p.address - 65536) / 4) 0) w)
     ≡ (if is_entry_of m (drop i m.functions) (word_address w) then 0 else slice_index table w)
-struck-more m table i w d e image within entries =
-    let f = slice_index_or m.functions i d in
-    let p = slice_index_or m.places (f.entry - 1) e in
-    let number = entry-place m i d image within in
-    let word = entry-at_word m i d e image within in
-    let front : drop i m.functions ≡ f ∷ drop (i + 1) m.functions = rw add-one (drop-cons m.functions i d within) in
-    rw front (struck-step m table w f (drop (i + 1) m.functions) p (numbered-place m.places f.entry e number.0 number.1) word.aligned word.starts (rw entries (word-within m p.address word)))
+struck-more m table i w f p image function place entries =
+    let number = entry-place m i f image function in
+    let word = place-is_word m (f.entry - 1) p image place in
+    rw (records_from m.functions i f function) (struck-step m table w f (drop (i + 1) m.functions) p (numbered-place m.places f.entry p number.0 place) word.aligned word.starts (rw entries (word-within m p.address word)))
+
+-- where no function is left no entry is
+pub struck-all : (m : Form) (i a old : ℕ) → length m.functions ≤ i → (if is_entry_of m (drop i m.functions) a then 0 else old) ≡ old
+struck-all m i a old past = rw (drop_all i m.functions past) refl
 
 -- a table of zeros has none
 zeros-index : (n w : ℕ) → slice_index (replicate n 0) w ≡ 0

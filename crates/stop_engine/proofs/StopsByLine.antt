@@ -1,15 +1,17 @@
 -- The stops on a line lie side by side, and so do the pairs that lead from a place.
-use Rattle.std.proofs.Common.{◌≡◌, ◌≢◌, ℕ, zero, suc, ◌+◌, ◌<◌, ◌≤◌, ◌==◌, true, false, List, [], ◌∷◌, Some, None, length, drop, get_or, refl, sym, ap, ◌∙◌, inl, inr, arith, map}
-use Rattle.std.specs.Prelude.{slice_index_or}
-use Rattle.std.specs.List.{filter}
+use Rattle.std.proofs.Common.{◌≡◌, ◌≢◌, ℕ, zero, suc, ◌+◌, ◌<◌, ◌≤◌, ◌==◌, true, false, if◌then◌else◌, List, [], ◌∷◌, ◌++◌, Some, None, length, drop, get_or, refl, sym, ap, ◌∙◌, inl, inr, arith, map}
+use Rattle.std.specs.Prelude.{slice_get}
 use Rattle.std.specs.List.Sorted.{IsNonDecreasingBy}
 use Rattle.std.proofs.lemmas.Bool.{ne_eqb}
-use Rattle.std.proofs.lemmas.List.{drop_all, get_or-drop, get_or_default, length-drop}
+use Rattle.std.proofs.lemmas.List.{append_assoc, drop_all, get_or-drop, get_or_default, length-drop, map-append}
+use Rattle.std.proofs.lemmas.Option.{slice_get_within}
+use Rattle.debug_records.specs.declared.change.Place.{Place as Number}
 use Rattle.image_form.specs.Form.{Form}
 use Rattle.image_form.specs.Lists.{EachToNext}
 use Rattle.image_form.specs.RulesOfChanges.{IsPairBefore}
 use Rattle.image_form.specs.declared.tables.FlowPair.{FlowPair}
 use Rattle.image_form.specs.declared.tables.Place.{Place}
+use Rattle.stop_engine_tables.proofs.Records.{record_at, records_from}
 use Rattle.stop_engine_view.proofs.RowsByPlace.{kept_behind, none_kept}
 use Rattle.stop_engine.specs.Breaks.{followers, is_stop_on, least, stops_on}
 
@@ -32,6 +34,20 @@ pub from_not_falling : (pairs : List FlowPair) → EachToNext (λ (a b : FlowPai
 from_not_falling [] ascend = tt
 from_not_falling (p ∷ []) ascend = (tt, tt)
 from_not_falling (p ∷ q ∷ pairs) ascend = (elim ascend.0 [ inl less ↦ omega (arith, less) | inr same ↦ omega (arith, same.0) ], from_not_falling (q ∷ pairs) ascend.1)
+
+-- where numbers do not fall, those up to one that is less than a bound are all less
+pub less_before : {A : Type 0} (n : A → ℕ) (xs : List A) (bound i : ℕ) (x : A) → IsNonDecreasingBy n xs → slice_get xs i ≡ Some x → n x < bound
+    → (k : ℕ) (d : A) → k < i + 1 → k < length xs → n (get_or xs k d) < bound
+less_before n xs bound i x order got less k d before within =
+    let not_more = order k i d (omega (arith, before)) (slice_get_within xs i x got) in
+    omega (arith, not_more, ap n (record_at xs i x d got), less)
+
+-- and those from one on that is no less are no less
+pub not_less_behind : {A : Type 0} (n : A → ℕ) (xs : List A) (bound i : ℕ) (x : A) → IsNonDecreasingBy n xs → slice_get xs i ≡ Some x → bound ≤ n x
+    → (k : ℕ) (d : A) → i ≤ k → k < length xs → bound ≤ n (get_or xs k d)
+not_less_behind n xs bound i x order got least k d behind within =
+    let not_less = order i k d behind within in
+    omega (arith, not_less, ap n (record_at xs i x d got), least)
 
 -- ---- Stops on a line
 
@@ -59,6 +75,24 @@ stops-end m line n i d ps ascend lt le other = stops-past m line n (drop i ps) (
     let same : get_or (drop i ps) k e ≡ get_or ps (i + k) e = get_or-drop i ps k e in
     let alike : get_or ps (i + k) e ≡ get_or ps (i + k) d = get_or_default ps (i + k) e d (omega (arith, within, length-drop i ps, lt)) in
     rw (same, alike) (omega (arith, order, le, other)))
+
+-- one place more, which is a stop on the line
+pub stops-more : (m : Form) (line i : ℕ) (place : Place) (ps : List Place) (found more : List Number) (number : Number) → slice_get ps i ≡ Some place → is_stop_on m line place ≡ true → number.0 ≡ i + 1 → more ≡ found ++ number ∷ []
+    → map (λ (q : Number). q.0) more ++ stops_on m line (i + 1 + 1) (drop (i + 1) ps) ≡ map (λ (q : Number). q.0) found ++ stops_on m line (i + 1) (drop i ps)
+stops-more m line i place ps found more number got stop numbered pushed =
+    let behind = stops_on m line (i + 1 + 1) (drop (i + 1) ps) in
+    let numbers = map (λ (q : Number). q.0) found in
+    let one_more : map (λ (q : Number). q.0) more ≡ numbers ++ (i + 1) ∷ [] = ap (map (λ (q : Number). q.0)) pushed ∙ (map-append (λ (q : Number). q.0) found (number ∷ []) ∙ ap (λ n. numbers ++ n ∷ []) numbered) in
+    let here : stops_on m line (i + 1) (drop i ps) ≡ (i + 1) ∷ behind = ap (stops_on m line (i + 1)) (records_from ps i place got) ∙ ap (λ b. if b then (i + 1) ∷ behind else behind) stop in
+    ap (λ l. l ++ behind) one_more ∙ (append_assoc numbers ((i + 1) ∷ []) behind ∙ ap (λ l. numbers ++ l) (sym here))
+
+-- or which is none
+pub stops-other : (m : Form) (line i : ℕ) (place : Place) (ps : List Place) (found more : List Number) → slice_get ps i ≡ Some place → is_stop_on m line place ≡ false → more ≡ found
+    → map (λ (q : Number). q.0) more ++ stops_on m line (i + 1 + 1) (drop (i + 1) ps) ≡ map (λ (q : Number). q.0) found ++ stops_on m line (i + 1) (drop i ps)
+stops-other m line i place ps found more got none same =
+    let behind = stops_on m line (i + 1 + 1) (drop (i + 1) ps) in
+    let here : stops_on m line (i + 1) (drop i ps) ≡ behind = ap (stops_on m line (i + 1)) (records_from ps i place got) ∙ ap (λ b. if b then (i + 1) ∷ behind else behind) none in
+    ap (λ l. map (λ (q : Number). q.0) l ++ behind) same ∙ ap (λ l. map (λ (q : Number). q.0) found ++ l) (sym here)
 
 -- ---- Pairs that lead from a place
 

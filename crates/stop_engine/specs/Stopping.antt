@@ -1,6 +1,6 @@
 -- The stop at which a run stands.
 use Rattle.std.specs.Prelude.{◌≡◌, Some}
-use Rattle.image_form.specs.Form.{form}
+use Rattle.image_form.specs.Views.{viewed}
 use Rattle.image_form.specs.Rules.{IsImage}
 use Rattle.image_form.specs.RulesOfFunctions.{IsPlaceNumber}
 use Rattle.stop_engine.specs.declared.run.Stop.{Stop}
@@ -10,11 +10,11 @@ use Rattle.stop_engine.specs.Transcript.{Position, Fresh, Standing, Over}
 
 -- The run stands at this stop, of its image, with the machine in its state.
 pub record IsStopOf (r : RunState) (stop : Stop) : Type 0 where
-  pub image : form stop.image.now ≡ r.form
-  pub valid : IsImage (form stop.image.now)
+  pub image : viewed stop.image ≡ r.form
+  pub valid : IsImage (viewed stop.image)
   pub position : r.position ≡ Standing stop.machine.now
   pub place : place_at r.form stop.machine.now.pc ≡ Some stop.place
-  pub number : IsPlaceNumber (form stop.image.now) stop.place
+  pub number : IsPlaceNumber (viewed stop.image) stop.place
 
 -- at no stop
 abbrev pub IsAtNoStop : Position → Type 0

@@ -1,13 +1,13 @@
 //! The activations that are live at a stop, as a session shows them.
 
 ghost use Rattle.std.specs.Prelude.{◌≡◌, ◌<◌, All, IfOk, length, map};
-ghost use Rattle.image_form.specs.Form.{form};
 ghost use Rattle.image_form.specs.Rules.{IsImage};
 ghost use Rattle.image_form.specs.RulesOfFunctions.{IsPlaceNumber};
+ghost use Rattle.image_form.specs.Views.{viewed};
 ghost use Rattle.stop_engine.specs.Activations.{activation_at, activation_lines, activation_of, activations};
 ghost use Rattle.stop_engine_tables.specs.Tables.{AreTablesOf};
 
-use image_form::Image;
+use image_form::View;
 use line_form::frame_line;
 use rv_machine::Machine;
 use std::alloc::{AllocError, Global};
@@ -27,16 +27,16 @@ pub struct Frame {
 /// The activation that stands at a place. `AllocError` where memory for its name was refused.
 fn activation_at(
     alloc: Global,
-    image: &Image,
+    image: &View<'_>,
     tables: &Tables,
     place: u32,
 ) -> Result<Frame, AllocError>
-    requires image { IsImage (form image.now) }
-    requires tables { AreTablesOf (form image.now) tables.now }
-    requires place { IsPlaceNumber (form image.now) place }
-    ensures { IfOk result (λ frame. activation_of frame ≡ activation_at (form image.now) place) }
+    requires image { IsImage (viewed image.now) }
+    requires tables { AreTablesOf (viewed image.now) tables.now }
+    requires place { IsPlaceNumber (viewed image.now) place }
+    ensures { IfOk result (λ frame. activation_of frame ≡ activation_at (viewed image.now) place) }
 {
-    let at = image.places[place as usize - 1];
+    let at = image.place_at(place as usize - 1);
     let name = tables.names.function(image, at.function as usize);
     Ok(Frame {
         function: name.to_vec(alloc)?,
@@ -48,14 +48,14 @@ fn activation_at(
 /// The activations that stand at these places. `AllocError` where memory for them was refused.
 fn activations_at(
     alloc: Global,
-    image: &Image,
+    image: &View<'_>,
     tables: &Tables,
     places: &[u32],
 ) -> Result<Vec<Frame>, AllocError>
-    requires image { IsImage (form image.now) }
-    requires tables { AreTablesOf (form image.now) tables.now }
-    requires places { All (IsPlaceNumber (form image.now)) places.now }
-    ensures { IfOk result (λ frames. map activation_of frames.items ≡ map (activation_at (form image.now)) places.now) }
+    requires image { IsImage (viewed image.now) }
+    requires tables { AreTablesOf (viewed image.now) tables.now }
+    requires places { All (IsPlaceNumber (viewed image.now)) places.now }
+    ensures { IfOk result (λ frames. map activation_of frames.items ≡ map (activation_at (viewed image.now)) places.now) }
 {
     let mut frames = Vec::new(alloc);
     for place in places {
@@ -69,15 +69,15 @@ fn activations_at(
 /// refused.
 pub fn activations(
     alloc: Global,
-    image: &Image,
+    image: &View<'_>,
     machine: &Machine,
     tables: &Tables,
     place: u32,
 ) -> Result<Vec<Frame>, AllocError>
-    requires image { IsImage (form image.now) }
-    requires tables { AreTablesOf (form image.now) tables.now }
-    requires place { IsPlaceNumber (form image.now) place }
-    ensures { IfOk result (λ frames. map activation_of frames.items ≡ activations (form image.now) machine.now place) }
+    requires image { IsImage (viewed image.now) }
+    requires tables { AreTablesOf (viewed image.now) tables.now }
+    requires place { IsPlaceNumber (viewed image.now) place }
+    ensures { IfOk result (λ frames. map activation_of frames.items ≡ activations (viewed image.now) machine.now place) }
 {
     let places = frame_places(alloc, image, machine, place)?;
     activations_at(alloc, image, tables, &places)

@@ -1,12 +1,12 @@
 //! The places that `break` marks.
 
 ghost use Rattle.std.specs.Prelude.{◌≡◌, ◌<◌, ◌≤◌, ℕ, IfOk, length, map, slice_index_or};
-ghost use Rattle.image_form.specs.Form.{form};
 ghost use Rattle.image_form.specs.Lists.{EachToNext};
 ghost use Rattle.image_form.specs.declared.tables.FlowPair.{FlowPair};
 ghost use Rattle.image_form.specs.declared.tables.Place.{Place as SourcePlace};
 ghost use Rattle.image_form.specs.Rules.{IsImage};
 ghost use Rattle.image_form.specs.RulesOfChanges.{IsPairBefore};
+ghost use Rattle.image_form.specs.Views.{viewed};
 ghost use Rattle.script_form.specs.Script.{mark};
 ghost use Rattle.stop_engine.specs.Breaks.{break_places, first_place, followers, function_called, is_stop_on, least, one_or_none, stops_on};
 ghost use Rattle.stop_engine.specs.FunctionNames.{AreFunctionNamesOf};
@@ -15,25 +15,35 @@ ghost use Rattle.stop_engine.specs.Transcript.{marked_line};
 use crate::function_names::FunctionNames;
 use crate::stop_table::StopTable;
 use debug_records::Place;
-use image_form::{FlowPair, Function, Image};
+use image_form::{Function, View};
 use line_form::{break_line, no_function_line, no_place_line};
 use script_form::Target;
 use std::alloc::{AllocError, Global};
 
 /// Whether a place is a stop on a line of the source.
-fn is_stop_on(table: &StopTable, line: u32, place: &image_form::Place) -> bool
-    ensures { result ≡ is_stop_on table.now line place.now }
+fn is_stop_on(table: &StopTable, line: u32, place: image_form::Place) -> bool
+    ensures { result ≡ is_stop_on table.now line place }
 {
     place.line == line && table.stop_at(place.address).is_some()
 }
 
 /// The index of the first place that is on no earlier line.
-fn first_on(places: &[image_form::Place], line: u32) -> usize
-    requires { EachToNext (λ p q. p.line ≤ q.line) places.now }
-    ensures before { (k : ℕ) (d : SourcePlace) → k < result → k < length places.now → (slice_index_or places.now k d).line < line }
-    ensures behind { (k : ℕ) (d : SourcePlace) → result ≤ k → k < length places.now → line ≤ (slice_index_or places.now k d).line }
+fn first_on(image: &View<'_>, line: u32) -> usize
+    requires { EachToNext (λ p q. p.line ≤ q.line) (viewed image.now).places }
+    ensures before { (k : ℕ) (d : SourcePlace) → k < result → k < length (viewed image.now).places → (slice_index_or (viewed image.now).places k d).line < line }
+    ensures behind { (k : ℕ) (d : SourcePlace) → result ≤ k → k < length (viewed image.now).places → line ≤ (slice_index_or (viewed image.now).places k d).line }
 {
-    places.partition_point(|place| place.line < line)
+    let mut low = 0;
+    let mut high = image.place_count();
+    while low < high {
+        let middle = low + (high - low) / 2;
+        if image.place_at(middle).line < line {
+            low = middle + 1;
+        } else {
+            high = middle;
+        }
+    }
+    low
 }
 
 /// The stops on a line of the source: its places lie side by side, since lines do not fall from place to place.
@@ -41,14 +51,16 @@ fn stops_on(alloc: Global, table: &StopTable, line: u32) -> Result<Vec<Place>, A
     requires { IsImage table.now }
     ensures { IfOk result (λ places. map (λ p. p.0) places.items ≡ stops_on table.now line 1 table.now.places) }
 {
-    let places = table.image().places.as_slice();
+    let image = table.image();
+    let count = image.place_count();
     let mut on_line = Vec::new(alloc);
-    let mut index = first_on(places, line);
-    while index < places.len() {
-        if places[index].line != line {
+    let mut index = first_on(&image, line);
+    while index < count {
+        let place = image.place_at(index);
+        if place.line != line {
             return Ok(on_line);
         }
-        if is_stop_on(table, line, &places[index]) {
+        if is_stop_on(table, line, place) {
             on_line.push(Place(index as u32 + 1))?;
         }
         index += 1;
@@ -57,61 +69,72 @@ fn stops_on(alloc: Global, table: &StopTable, line: u32) -> Result<Vec<Place>, A
 }
 
 /// The first function of a name, if there is one.
-fn function_called(image: &Image, functions: &FunctionNames, name: &[u8]) -> Option<Function>
-    requires { AreFunctionNamesOf (form image.now) functions.now }
-    ensures { result ≡ function_called (form image.now) name.now 0 image.now.functions.items }
+fn function_called(image: &View<'_>, functions: &FunctionNames, name: &[u8]) -> Option<Function>
+    requires { AreFunctionNamesOf (viewed image.now) functions.now }
+    ensures { result ≡ function_called (viewed image.now) name.now 0 (viewed image.now).functions }
 {
     match functions.first.get(name) {
-        Some(number) => image.functions.get(*number).copied(),
+        Some(number) => Some(image.function_at(*number)),
         None => None,
     }
 }
 
 /// The index of the first pair that leads from no earlier place.
-fn first_from(flow: &[FlowPair], place: u32) -> usize
-    requires { EachToNext (λ a b. IsPairBefore a.from a.to b.from b.to) flow.now }
-    ensures before { (k : ℕ) (d : FlowPair) → k < result → k < length flow.now → (slice_index_or flow.now k d).from < place }
-    ensures behind { (k : ℕ) (d : FlowPair) → result ≤ k → k < length flow.now → place ≤ (slice_index_or flow.now k d).from }
+fn first_from(image: &View<'_>, place: u32) -> usize
+    requires { EachToNext (λ a b. IsPairBefore a.from a.to b.from b.to) (viewed image.now).flow }
+    ensures before { (k : ℕ) (d : FlowPair) → k < result → k < length (viewed image.now).flow → (slice_index_or (viewed image.now).flow k d).from < place }
+    ensures behind { (k : ℕ) (d : FlowPair) → result ≤ k → k < length (viewed image.now).flow → place ≤ (slice_index_or (viewed image.now).flow k d).from }
 {
-    flow.partition_point(|pair| pair.from < place)
+    let mut low = 0;
+    let mut high = image.flow_count();
+    while low < high {
+        let middle = low + (high - low) / 2;
+        if image.flow_at(middle).from < place {
+            low = middle + 1;
+        } else {
+            high = middle;
+        }
+    }
+    low
 }
 
 /// The least place that follows a place, if one does: the pairs ascend, so it stands in the first of them.
-fn least_follower(flow: &[FlowPair], place: u32) -> Option<u32>
-    requires { EachToNext (λ a b. IsPairBefore a.from a.to b.from b.to) flow.now }
-    ensures { result ≡ least (followers place flow.now) }
+fn least_follower(image: &View<'_>, place: u32) -> Option<u32>
+    requires { EachToNext (λ a b. IsPairBefore a.from a.to b.from b.to) (viewed image.now).flow }
+    ensures { result ≡ least (followers place (viewed image.now).flow) }
 {
-    let index = first_from(flow, place);
-    if index >= flow.len() {
+    let index = first_from(image, place);
+    if index >= image.flow_count() {
         return None;
     }
-    if flow[index].from == place {
-        Some(flow[index].to)
+    let pair = image.flow_at(index);
+    if pair.from == place {
+        Some(pair.to)
     } else {
         None
     }
 }
 
 /// The least place that follows the entry of the first function of a name.
-fn first_place(image: &Image, functions: &FunctionNames, name: &[u8]) -> Option<u32>
-    requires image { IsImage (form image.now) }
-    requires functions { AreFunctionNamesOf (form image.now) functions.now }
-    ensures { result ≡ first_place (form image.now) name.now }
+fn first_place(image: &View<'_>, functions: &FunctionNames, name: &[u8]) -> Option<u32>
+    requires image { IsImage (viewed image.now) }
+    requires functions { AreFunctionNamesOf (viewed image.now) functions.now }
+    ensures { result ≡ first_place (viewed image.now) name.now }
 {
     let function = function_called(image, functions, name)?;
-    least_follower(&image.flow, function.entry)
+    least_follower(image, function.entry)
 }
 
 /// The same, as a list.
 fn first_places(
     alloc: Global,
-    image: &Image,
+    image: &View<'_>,
     functions: &FunctionNames,
     name: &[u8],
 ) -> Result<Vec<Place>, AllocError>
-    requires image { IsImage (form image.now) }
-    requires functions { AreFunctionNamesOf (form image.now) functions.now }
-    ensures { IfOk result (λ places. map (λ p. p.0) places.items ≡ one_or_none (first_place (form image.now) name.now)) }
+    requires image { IsImage (viewed image.now) }
+    requires functions { AreFunctionNamesOf (viewed image.now) functions.now }
+    ensures { IfOk result (λ places. map (λ p. p.0) places.items ≡ one_or_none (first_place (viewed image.now) name.now)) }
 {
     match first_place(image, functions, name) {
         Some(place) => Ok(vec![in alloc; Place(place)]?),
@@ -134,7 +157,7 @@ pub fn break_places(
         Target::Line(line) => Ok(stops_on(alloc, table, *line)?),
         Target::Function(name) => Ok(first_places(
             alloc,
-            table.image(),
+            &table.image(),
             functions,
             name.as_bytes(),
         )?),

@@ -1,8 +1,8 @@
 //! The engine of a session.
 
 ghost use Rattle.std.specs.Prelude.{◌≡◌, IfOk, OnOk, OnErr, ◌⊎◌, ◌↔◌, false, [], ◌∷◌, map, length, ◌+◌};
-ghost use Rattle.image_form.specs.Form.{form};
 ghost use Rattle.image_form.specs.Rules.{IsImage};
+ghost use Rattle.image_form.specs.Views.{viewed};
 ghost use Rattle.script_form.specs.Script.{mark, order_of};
 ghost use Rattle.line_form.specs.Lines.{no_stop_line};
 ghost use Rattle.stop_engine.specs.Activations.{activation_of};
@@ -26,7 +26,7 @@ use crate::lines::halt_line;
 use crate::locals::{Local, locals_lines, visible_at};
 use crate::run::Run;
 use crate::stops::{Marks, Stops};
-use image_form::Image;
+use image_form::View;
 use line_form::{no_stop_line, out_lines};
 use script_form::{Command, Target};
 use std::alloc::{AllocError, Global};
@@ -62,12 +62,12 @@ impl<'a> Engine<'a> {
     /// memory for the machine or for a table of the image was refused.
     pub fn new(
         alloc: Global,
-        image: &'a Image,
+        image: &View<'a>,
         input: &[u8],
         limit: u64,
     ) -> Result<Engine<'a>, AllocError>
-        requires { IsImage (form image.now) }
-        ensures { IfOk result (λ engine. engine ≡ fresh_engine (form image.now) input.now limit) }
+        requires { IsImage (viewed image.now) }
+        ensures { IfOk result (λ engine. engine ≡ fresh_engine (viewed image.now) input.now limit) }
     {
         let run = Run::new(alloc, image, input, limit)?;
         let tables = tables_of(alloc, image)?;
@@ -76,7 +76,7 @@ impl<'a> Engine<'a> {
             run,
             tables,
             functions,
-            marks: Marks::new(alloc, image.places.len() + 1)?,
+            marks: Marks::new(alloc, image.place_count() + 1)?,
             has_quit: false,
         })
     }
@@ -111,7 +111,7 @@ impl<'a> Engine<'a> {
         };
         Ok(name_shown(
             alloc,
-            stop.image,
+            &stop.image,
             stop.machine,
             &self.tables,
             stop.place,
@@ -127,7 +127,7 @@ impl<'a> Engine<'a> {
         let Some(stop) = self.run.stop() else {
             return Ok(Vec::new(alloc));
         };
-        Ok(visible_at(alloc, stop.image, stop.machine, &self.tables, stop.place)?)
+        Ok(visible_at(alloc, &stop.image, stop.machine, &self.tables, stop.place)?)
     }
 
     /// The activations that are live where the engine stands, the innermost first: none exactly at no stop. `AllocError` where memory
@@ -139,7 +139,7 @@ impl<'a> Engine<'a> {
         let Some(stop) = self.run.stop() else {
             return Ok(Vec::new(alloc));
         };
-        Ok(activations(alloc, stop.image, stop.machine, &self.tables, stop.place)?)
+        Ok(activations(alloc, &stop.image, stop.machine, &self.tables, stop.place)?)
     }
 
     /// The lines that a command of a script prints, as texts without their ends. `AllocError` where memory for the output or for a line
@@ -203,7 +203,7 @@ impl<'a> Engine<'a> {
         let Some(stop) = self.run.stop() else {
             return Ok(no_stop(alloc)?);
         };
-        let locals = visible_at(alloc, stop.image, stop.machine, &self.tables, stop.place)?;
+        let locals = visible_at(alloc, &stop.image, stop.machine, &self.tables, stop.place)?;
         Ok(locals_lines(alloc, &locals)?)
     }
 
@@ -215,7 +215,7 @@ impl<'a> Engine<'a> {
         let Some(stop) = self.run.stop() else {
             return Ok(no_stop(alloc)?);
         };
-        let frames = activations(alloc, stop.image, stop.machine, &self.tables, stop.place)?;
+        let frames = activations(alloc, &stop.image, stop.machine, &self.tables, stop.place)?;
         Ok(activation_lines(alloc, &frames)?)
     }
 }
@@ -244,7 +244,7 @@ fn run_lines(
 {
     let halt = run.run_to(stops)?;
     let mut lines = out_lines(alloc, run.taken())?;
-    let line = halt_line(alloc, run.table().image(), tables, run.limit(), halt)?;
+    let line = halt_line(alloc, &run.table().image(), tables, run.limit(), halt)?;
     lines.push(line)?;
     Ok(lines)
 }

@@ -1,14 +1,14 @@
 //! The variables that are visible at a stop, as a session shows them.
 
 ghost use Rattle.std.specs.Prelude.{◌≡◌, IfOk, map};
-ghost use Rattle.image_form.specs.Form.{form};
 ghost use Rattle.image_form.specs.Rules.{IsImage};
+ghost use Rattle.image_form.specs.Views.{viewed};
 ghost use Rattle.stop_engine.specs.Shown.{or_no_locals};
 ghost use Rattle.stop_engine.specs.Visible.{visible_at, visible_line, visible_of, visible_of_row};
 ghost use Rattle.stop_engine_tables.specs.Tables.{AreTablesOf};
 ghost use Rattle.stop_engine_texts.specs.Rows.{IsRow};
 
-use image_form::{Image, VisibleRow};
+use image_form::{View, VisibleRow};
 use line_form::no_locals_line;
 use rv_machine::Machine;
 use std::alloc::{AllocError, Global};
@@ -26,15 +26,15 @@ pub struct Local {
 /// The variable of a row. `AllocError` where memory for it was refused.
 fn visible_of_row(
     alloc: Global,
-    image: &Image,
+    image: &View<'_>,
     machine: &Machine,
     tables: &Tables,
     row: VisibleRow,
 ) -> Result<Local, AllocError>
-    requires image { IsImage (form image.now) }
-    requires row { IsRow (form image.now) row }
-    requires tables { AreTablesOf (form image.now) tables.now }
-    ensures { IfOk result (λ local. visible_of local ≡ visible_of_row (form image.now) machine.now row) }
+    requires image { IsImage (viewed image.now) }
+    requires row { IsRow (viewed image.now) row }
+    requires tables { AreTablesOf (viewed image.now) tables.now }
+    ensures { IfOk result (λ local. visible_of local ≡ visible_of_row (viewed image.now) machine.now row) }
 {
     let name = tables.names.variable(image, row.variable as usize);
     Ok(Local {
@@ -47,19 +47,20 @@ fn visible_of_row(
 /// refused.
 pub fn visible_at(
     alloc: Global,
-    image: &Image,
+    image: &View<'_>,
     machine: &Machine,
     tables: &Tables,
     place: u32,
 ) -> Result<Vec<Local>, AllocError>
-    requires image { IsImage (form image.now) }
-    requires tables { AreTablesOf (form image.now) tables.now }
-    ensures { IfOk result (λ locals. map visible_of locals.items ≡ visible_at (form image.now) machine.now place) }
+    requires image { IsImage (viewed image.now) }
+    requires tables { AreTablesOf (viewed image.now) tables.now }
+    ensures { IfOk result (λ locals. map visible_of locals.items ≡ visible_at (viewed image.now) machine.now place) }
 {
     let rows = rows_at(image, place);
     let mut locals = Vec::new(alloc);
-    for row in rows {
-        let local = visible_of_row(alloc, image, machine, tables, *row)?;
+    for number in rows.start..rows.end {
+        let row = image.row_at(number);
+        let local = visible_of_row(alloc, image, machine, tables, row)?;
         locals.push(local)?;
     }
     Ok(locals)

@@ -1,8 +1,8 @@
 //! The run of an image from halt to halt.
 
 ghost use Rattle.std.specs.Prelude.{◌≡◌, ◌≤◌, ◌^◌, ◌<◌, ◌++◌, ◌⊎◌, [], ◌∷◌, Some, IfOk, IfSome, IfNone, OnOk, OnErr, length, map};
-ghost use Rattle.image_form.specs.Form.{form};
 ghost use Rattle.image_form.specs.Rules.{IsImage};
+ghost use Rattle.image_form.specs.Views.{viewed};
 ghost use Rattle.rv_machine.specs.Run.{MachineEvent};
 ghost use Rattle.stop_engine.specs.EngineState.{HasExecuted, HasRun, RunState, Wants, fresh_run};
 ghost use Rattle.stop_engine.specs.Halting.{halt_at};
@@ -14,7 +14,7 @@ use crate::course::{ROOM, run_on};
 use crate::halt::{Halt, Standing};
 use crate::stop_table::StopTable;
 use crate::stops::Stops;
-use image_form::Image;
+use image_form::View;
 use rv_machine::Machine;
 use std::alloc::{AllocError, Global};
 use std::marker::Model;
@@ -34,7 +34,7 @@ pub struct Run<'a> {
 /// A stop at which a run stands.
 #[derive(Drop)]
 pub struct Stop<'r> {
-    pub image: &'r Image,
+    pub image: View<'r>,
     pub machine: &'r Machine,
     /// The number of its place.
     pub place: u32,
@@ -57,16 +57,17 @@ impl<'a> Run<'a> {
     /// the machine or for the table of stops was refused.
     pub fn new(
         alloc: Global,
-        image: &'a Image,
+        image: &View<'a>,
         input: &[u8],
         limit: u64,
     ) -> Result<Run<'a>, AllocError>
-        requires { IsImage (form image.now) }
-        ensures { IfOk result (λ run. run ≡ fresh_run (form image.now) input.now limit) }
+        requires { IsImage (viewed image.now) }
+        ensures { IfOk result (λ run. run ≡ fresh_run (viewed image.now) input.now limit) }
     {
+        let words = code_words(alloc, image)?;
         Ok(Run {
             table: StopTable::new(alloc, image)?,
-            machine: Machine::load(alloc, &image.code, &image.initial, input)?,
+            machine: Machine::load(alloc, &words, image.initial(), input)?,
             limit,
             left: limit,
             standing: Standing::Fresh,
@@ -134,6 +135,18 @@ impl<'a> Run<'a> {
     {
         self.limit
     }
+}
+
+/// The code words of an image. `AllocError` where memory for them was refused.
+fn code_words(alloc: Global, image: &View<'_>) -> Result<Vec<u32>, AllocError>
+    ensures { IfOk result (λ words. words.items ≡ (viewed image.now).code) }
+{
+    let count = image.code_count();
+    let mut words = Vec::with_capacity(alloc, count)?;
+    for i in 0..count {
+        words.push(image.code_at(i))?;
+    }
+    Ok(words)
 }
 
 /// The place of the stop at which a run halted, if it halted at one.

@@ -1,15 +1,15 @@
 //! The stop places of an image by code word.
 
 ghost use Rattle.std.specs.Prelude.{◌≡◌, ℕ, ◌-◌, ◌/◌, ◌≤◌, true, false, if◌then◌else◌, IfOk, IfSome, IfNone, length, slice_index, unwrap_or};
-ghost use Rattle.image_form.specs.Form.{form};
 ghost use Rattle.image_form.specs.Rules.{IsImage};
 ghost use Rattle.image_form.specs.RulesOfPlaces.{word_address};
+ghost use Rattle.image_form.specs.Views.{viewed};
 ghost use Rattle.rv_machine.specs.Run.{is_stop};
 ghost use Rattle.stop_engine.specs.StopTable.{entry_at, is_entry_address};
 ghost use Rattle.stop_engine_view.specs.Reading.{place_at};
 ghost use Rattle.stop_engine_view.specs.Run.{stop_addresses};
 
-use image_form::Image;
+use image_form::View;
 use std::alloc::{AllocError, Global};
 use std::marker::Model;
 use stop_engine_tables::CODE_START;
@@ -17,37 +17,41 @@ use stop_engine_tables::CODE_START;
 /// An image with a table of its stop places, which finds the place of an address by one look-up.
 #[derive(Drop)]
 pub struct StopTable<'a> {
-    image: &'a Image,
+    image: View<'a>,
     /// For each code word the number of the stop place that begins there, or 0.
     places: Vec<u32>,
 }
 
 impl<'a> Model for StopTable<'a> {
-    ghost use Rattle.image_form.specs.Form.{Form, form};
+    ghost use Rattle.image_form.specs.Form.{Form};
+    ghost use Rattle.image_form.specs.Views.{viewed};
     ghost use Rattle.stop_engine.specs.StopTable.{TellsStops};
 
     ghost Value = { Form };
 
-    ghost view = { λ t. form t.image.now };
+    ghost view = { λ t. viewed t.image };
 
-    ghost invariant = { λ t. TellsStops (form t.image.now) t.places.items };
+    ghost invariant = { λ t. TellsStops (viewed t.image) t.places.items };
 }
 
 impl<'a> StopTable<'a> {
     /// The table of an image.
-    pub fn new(alloc: Global, image: &'a Image) -> Result<StopTable<'a>, AllocError>
-        requires { IsImage (form image.now) }
-        ensures { IfOk result (λ table. table ≡ form image.now) }
+    pub fn new(alloc: Global, image: &View<'a>) -> Result<StopTable<'a>, AllocError>
+        requires { IsImage (viewed image.now) }
+        ensures { IfOk result (λ table. table ≡ viewed image.now) }
     {
-        let mut places = vec![in alloc; 0; image.code.len()]?;
+        let mut places = vec![in alloc; 0; image.code_count()]?;
         enter_places(image, &mut places);
         strike_entries(image, &mut places);
-        Ok(StopTable { image, places })
+        Ok(StopTable {
+            image: *image,
+            places,
+        })
     }
 
     /// The image.
-    pub fn image(&self) -> &'a Image
-        ensures { form result.now ≡ self.now }
+    pub fn image(&self) -> View<'a>
+        ensures { viewed result ≡ self.now }
     {
         self.image
     }
@@ -64,24 +68,26 @@ impl<'a> StopTable<'a> {
 }
 
 /// Enters each place of the image, by its number, where its first code word stands.
-fn enter_places(image: &Image, table: &mut [u32])
-    requires image { IsImage (form image.now) }
-    requires entries { length table.old ≡ length image.now.code.items }
-    ensures { (w : ℕ) → slice_index table.new w ≡ unwrap_or (place_at (form image.now) (word_address w)) (slice_index table.old w) }
+fn enter_places(image: &View<'_>, table: &mut [u32])
+    requires image { IsImage (viewed image.now) }
+    requires entries { length table.old ≡ length (viewed image.now).code }
+    ensures { (w : ℕ) → slice_index table.new w ≡ unwrap_or (place_at (viewed image.now) (word_address w)) (slice_index table.old w) }
 {
-    for (i, place) in image.places.iter().enumerate() {
+    for i in 0..image.place_count() {
+        let place = image.place_at(i);
         table[word_of(place.address)] = i as u32 + 1;
     }
 }
 
 /// Strikes the entries of functions, at which no run stops.
-fn strike_entries(image: &Image, table: &mut [u32])
-    requires image { IsImage (form image.now) }
-    requires entries { length table.old ≡ length image.now.code.items }
-    ensures { (w : ℕ) → slice_index table.new w ≡ (if is_entry_address (form image.now) (word_address w) then 0 else slice_index table.old w) }
+fn strike_entries(image: &View<'_>, table: &mut [u32])
+    requires image { IsImage (viewed image.now) }
+    requires entries { length table.old ≡ length (viewed image.now).code }
+    ensures { (w : ℕ) → slice_index table.new w ≡ (if is_entry_address (viewed image.now) (word_address w) then 0 else slice_index table.old w) }
 {
-    for function in &image.functions {
-        let place = image.places[function.entry as usize - 1];
+    for i in 0..image.function_count() {
+        let function = image.function_at(i);
+        let place = image.place_at(function.entry as usize - 1);
         table[word_of(place.address)] = 0;
     }
 }

@@ -1,24 +1,27 @@
-use Rattle.std.proofs.Common.{ltb, rules, arith}
-use Rattle.std.proofs.lemmas.Bool.Decides.{nat_tests}
-use Rattle.std.proofs.lemmas.List.Sorted.{IsPartitionPoint-from_clause, IsPartitionedBy-ltb}
+use Rattle.std.proofs.Common.{◌+◌, ◌-◌, ◌/◌, arith}
+use Rattle.image_form.specs.Views.{viewed}
 use Rattle.image_form.specs.declared.tables.FlowPair.{FlowPair}
-use Rattle.stop_engine.proofs.StopsByLine.{from_not_falling, in_order}
+use Rattle.stop_engine.proofs.StopsByLine.{from_not_falling, in_order, less_before, not_less_behind}
 use Rattle.stop_engine.proofs.breaks.first_from.Goals as goal
 
-pub returns-clause-before : goal.returns-clause-before
-returns-clause-before c = λ k d lt within.
-    let from = λ (p : FlowPair). p.from in
-    let ascend = in_order from c.args.flow.now (from_not_falling c.args.flow.now c.requires) in
-    let point = IsPartitionPoint-from_clause (λ (p : FlowPair). ltb p.from c.args.place) c.args.flow.now c.partition_point.result c.partition_point.ensures.partitioned
-    (IsPartitionedBy-ltb from c.args.flow.now c.args.place ascend) (λ a r q k. search rules) in
-    let less = point.0 k d (omega arith) lt in
-    grind (arith, nat_tests, less)
+pub loop-low-preserved-then-flow_at-place : goal.loop-low-preserved-then-flow_at-place
+loop-low-preserved-then-flow_at-place c =
+    let flow = (viewed c.args.image.now).flow in
+    let from = λ (x : FlowPair). x.from in
+    record {
+      order = omega (arith, c.loop-low-test.true);
+      within = c.loop-low.invariant.within;
+      before = less_before from flow c.args.place (c.loop-low.low + (c.loop-low.high - c.loop-low.low) / 2) c.flow_at.result (in_order from flow (from_not_falling flow c.requires)) c.flow_at.ensures c.if-flow_at-place.true;
+      behind = c.loop-low.invariant.behind;
+    }
 
-pub returns-clause-behind : goal.returns-clause-behind
-returns-clause-behind c = λ k d le within.
-    let from = λ (p : FlowPair). p.from in
-    let ascend = in_order from c.args.flow.now (from_not_falling c.args.flow.now c.requires) in
-    let point = IsPartitionPoint-from_clause (λ (p : FlowPair). ltb p.from c.args.place) c.args.flow.now c.partition_point.result c.partition_point.ensures.partitioned
-    (IsPartitionedBy-ltb from c.args.flow.now c.args.place ascend) (λ a r q k. search rules) in
-    let no_less = point.1 k d le within in
-    grind (arith, nat_tests, no_less)
+pub loop-low-preserved : goal.loop-low-preserved
+loop-low-preserved c =
+    let flow = (viewed c.args.image.now).flow in
+    let from = λ (x : FlowPair). x.from in
+    record {
+      order = omega arith;
+      within = omega (arith, c.loop-low-test.true, c.loop-low.invariant.within);
+      before = c.loop-low.invariant.before;
+      behind = not_less_behind from flow c.args.place (c.loop-low.low + (c.loop-low.high - c.loop-low.low) / 2) c.flow_at.result (in_order from flow (from_not_falling flow c.requires)) c.flow_at.ensures c.if-flow_at-place.false;
+    }

@@ -1,24 +1,27 @@
-use Rattle.std.proofs.Common.{ltb, rules, arith}
-use Rattle.std.proofs.lemmas.Bool.Decides.{nat_tests}
-use Rattle.std.proofs.lemmas.List.Sorted.{IsPartitionPoint-from_clause, IsPartitionedBy-ltb}
+use Rattle.std.proofs.Common.{◌+◌, ◌-◌, ◌/◌, arith}
+use Rattle.image_form.specs.Views.{viewed}
 use Rattle.image_form.specs.declared.tables.Place.{Place}
-use Rattle.stop_engine.proofs.StopsByLine.{in_order}
+use Rattle.stop_engine.proofs.StopsByLine.{in_order, less_before, not_less_behind}
 use Rattle.stop_engine.proofs.breaks.first_on.Goals as goal
 
-pub returns-clause-before : goal.returns-clause-before
-returns-clause-before c = λ k d lt within.
-    let line = λ (p : Place). p.line in
-    let ascend = in_order line c.args.places.now c.requires in
-    let point = IsPartitionPoint-from_clause (λ (p : Place). ltb p.line c.args.line) c.args.places.now c.partition_point.result c.partition_point.ensures.partitioned
-    (IsPartitionedBy-ltb line c.args.places.now c.args.line ascend) (λ a r q k. search rules) in
-    let less = point.0 k d (omega arith) lt in
-    grind (arith, nat_tests, less)
+pub loop-low-preserved-then-place_at-line : goal.loop-low-preserved-then-place_at-line
+loop-low-preserved-then-place_at-line c =
+    let places = (viewed c.args.image.now).places in
+    let line = λ (x : Place). x.line in
+    record {
+      order = omega (arith, c.loop-low-test.true);
+      within = c.loop-low.invariant.within;
+      before = less_before line places c.args.line (c.loop-low.low + (c.loop-low.high - c.loop-low.low) / 2) c.place_at.result (in_order line places c.requires) c.place_at.ensures c.if-place_at-line.true;
+      behind = c.loop-low.invariant.behind;
+    }
 
-pub returns-clause-behind : goal.returns-clause-behind
-returns-clause-behind c = λ k d le within.
-    let line = λ (p : Place). p.line in
-    let ascend = in_order line c.args.places.now c.requires in
-    let point = IsPartitionPoint-from_clause (λ (p : Place). ltb p.line c.args.line) c.args.places.now c.partition_point.result c.partition_point.ensures.partitioned
-    (IsPartitionedBy-ltb line c.args.places.now c.args.line ascend) (λ a r q k. search rules) in
-    let no_less = point.1 k d le within in
-    grind (arith, nat_tests, no_less)
+pub loop-low-preserved : goal.loop-low-preserved
+loop-low-preserved c =
+    let places = (viewed c.args.image.now).places in
+    let line = λ (x : Place). x.line in
+    record {
+      order = omega arith;
+      within = omega (arith, c.loop-low-test.true, c.loop-low.invariant.within);
+      before = c.loop-low.invariant.before;
+      behind = not_less_behind line places c.args.line (c.loop-low.low + (c.loop-low.high - c.loop-low.low) / 2) c.place_at.result (in_order line places c.requires) c.place_at.ensures c.if-place_at-line.false;
+    }

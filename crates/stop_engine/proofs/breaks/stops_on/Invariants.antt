@@ -11,4 +11,4 @@ invariant-loop-index l =
     × (map (λ (q : Place). q.0) l.on_line.items ++ stops_on l.table l.line (l.index + 1) (drop l.index l.table.places) ≡ stops_on l.table l.line 1 l.table.places)
 
 abbrev pub decreases-loop-index : goal.decreases-loop-index
-decreases-loop-index l = length l.table.places - l.index
+decreases-loop-index l = l.count - l.index

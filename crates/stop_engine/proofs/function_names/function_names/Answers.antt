@@ -2,7 +2,7 @@ use Rattle.std.proofs.Common.{◌≡◌, ℕ, List, Option, ◌<◌, ◌∙◌, 
 use Rattle.std.specs.BTreeMap as tree
 use Rattle.std.specs.Cmp.Lexicographic.{slice_cmp}
 use Rattle.std.proofs.lemmas.Map.Text.{btree_map_updates_str}
-use Rattle.image_form.specs.Form.{form}
+use Rattle.image_form.specs.Views.{viewed}
 use Rattle.image_form.specs.Names.{function_name}
 use Rattle.image_form.specs.declared.tables.Function.{Function}
 use Rattle.stop_engine.proofs.Called.{names-new, names-seen}
@@ -15,9 +15,9 @@ no_function = record { name_length = 0; first = 0; end = 0; frame = 0; entry = 0
 pub loop-number-preserved : goal.loop-number-preserved
 unfolding no_function
 loop-number-preserved c =
-    let m = form c.args.image.now in
+    let m = viewed c.args.image.now in
     let i = c.loop-number.number in
-    let there : i < length m.functions = omega (arith, c.loop-number-test.true, c.len-number-end.ensures, c.args.image.now.functions.ok) in
+    let there : i < length m.functions = omega (arith, c.loop-number-test.true, c.function_count-number-end.ensures.count) in
     let old : List ℕ → Option ℕ = λ q. tree.get_by (λ k. slice_cmp nat_cmp q k.now) c.loop-number.first in
     let found : is_some (old (function_name m i)) ≡ c.contains_key.result = ap (λ n. is_some (old n)) (sym c.function-name.ensures) ∙ sym c.contains_key.ensures in
     elim c.if-not-contains_key.branch [
