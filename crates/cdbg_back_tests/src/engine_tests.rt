@@ -3,7 +3,7 @@
 ghost use Rattle.image_form.specs.Form.{form};
 ghost use Rattle.image_form.specs.Rules.{IsImage};
 
-use image_form::Image;
+use image_form::{Image, view, write};
 use script_form::read;
 use std::alloc::Global;
 use std::process::Abort;
@@ -46,7 +46,9 @@ fn answer_all(
 fn lines_of(alloc: Global, image: &Image, limit: u64, orders: &[&str]) -> Result<Vec<Vec<u8>>, Fail>
     requires { IsImage (form image.now) }
 {
-    let mut engine = Engine::new(alloc, image, &[], limit)?;
+    let bytes = write(alloc, image)?;
+    let view = view(alloc, &bytes)?;
+    let mut engine = Engine::new(alloc, &view, &[], limit)?;
     let mut lines = Vec::new(alloc);
     for order in orders {
         answer_all(alloc, &mut engine, order, &mut lines)?;
@@ -146,7 +148,9 @@ fn halts() -> &'static [(Halt, &'static [u8])] {
 #[test]
 fn a_run_has_its_own_output(rt: HostRuntime) -> Result<(), Fail> {
     let image = addition_image(rt.alloc())?;
-    let mut engine = Engine::new(rt.alloc(), &image, &[], 1000)?;
+    let bytes = write(rt.alloc(), &image)?;
+    let view = view(rt.alloc(), &bytes)?;
+    let mut engine = Engine::new(rt.alloc(), &view, &[], 1000)?;
     assert!(rt; matches!(engine.show(rt.alloc(), "x")?, Shown::NoStop));
     for (halt, taken) in halts() {
         assert!(rt; engine.run_to(&Stops::Any)? == *halt);

@@ -7,7 +7,11 @@ use Rattle.debug_records.specs.declared.change.PassName.{PassName}
 use Rattle.debug_records.specs.declared.code.Code.{Code}
 use Rattle.graph_core.specs.Graphs.{UnitForm}
 use Rattle.image_form.specs.Form.{Form, form}
-use Rattle.image_form.specs.declared.format.Image.{Image}
+use Rattle.image_form.specs.Rules.{IsImage}
+use Rattle.image_form.specs.Spelling.{spelling}
+use Rattle.image_form.specs.Views.{viewed}
+use Rattle.image_form.specs.declared.lent.View.{View}
+use Rattle.image_form.proofs.OneSpelling.{spells_one}
 use Rattle.std.specs.Global.{Global}
 use Rattle.outside.specs.Held.{IsKeptOrCut, Loads}
 use Rattle.line_form.specs.declared.status.Status.{Status}
@@ -51,10 +55,10 @@ pub source_refused : (status : Status) (code : Code) (line : ℕ) (source : List
 source_refused status code line source names mode held e ends loads = source_held (IsPlain names mode) code line held source loads (subst (λ s. MakeFails s source names mode) e ends)
 
 -- the session played the image that the shelf held
-pub attached : (image : Image) (commands : Vec Command Global) (bytes script input : List ℕ) (held : Held) (given : AttachGiven) → ImageEnds (Ok image) bytes → ScriptEnds (Ok commands) script
-    → held given.image ≡ Some bytes → held given.script ≡ Some script → held given.input ≡ Some input → AllByRecursion (λ b. b < 256) input → IsAttached held given (transcript_bytes (form image) (orders commands.items) input given.limit)
+pub attached : (image : View) (commands : Vec Command Global) (bytes script input : List ℕ) (held : Held) (given : AttachGiven) → ImageEnds (Ok image) bytes → ScriptEnds (Ok commands) script
+    → held given.image ≡ Some bytes → held given.script ≡ Some script → held given.input ≡ Some input → AllByRecursion (λ b. b < 256) input → IsAttached held given (transcript_bytes (viewed image) (orders commands.items) input given.limit)
 attached image commands bytes script input held given is asks is_image is_script is_input are_bytes = record {
-  form = form image;
+  form = viewed image;
   form_is = is.0;
   image_is = is_image ∙ ap Some is.1;
   text = script;
@@ -113,6 +117,10 @@ module _ {P : Type 0} {named : P → PassName} {steps : P → UnitForm → UnitF
     bytes_are = same ∙ is.bytes;
     truthful = is.image.truthful;
   }
+
+  -- and the image that they lend is the one that was made
+  pub viewed_made : (source : List ℕ) (names : List Text) (mode : Mode) (made : Made) (v : View) (bytes : List ℕ) → IsMade named steps handed_in source names mode made → bytes ≡ made.bytes.items → IsImage (viewed v) → bytes ≡ spelling (viewed v) → viewed v ≡ form made.image
+  viewed_made source names mode made v bytes is same image spelled = spells_one (viewed v) (form made.image) image is.image.image (sym spelled ∙ (same ∙ is.bytes))
 
   -- a save that gave an error left what the name held, or a part of the image
   pub part_left : (held before held' : Held) (saving : Saving) (name bytes : List ℕ) → IsImageOfSource named steps handed_in held saving bytes → before name ≡ held name → name ≡ saving.image → IsKeptOrCut bytes (before name) (held' name) → (held' saving.image ≡ held saving.image) ⊎ HoldsPart named steps handed_in held held' saving

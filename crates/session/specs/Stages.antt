@@ -2,14 +2,15 @@
 use Rattle.std.specs.Prelude.{◌≡◌, ℕ, List, [], map, Vec, Result, Ok, Err, string_bytes}
 use Rattle.std.specs.Global.{Global}
 use Rattle.outside.specs.Counts.{RoseOrStands}
-use Rattle.image_form.specs.Form.{Form, form}
+use Rattle.image_form.specs.Form.{Form}
 use Rattle.debug_records.specs.declared.mode.Mode.TheVariants.{Registers}
 use Rattle.session_lines.specs.Summary.{IsSummed}
 use Rattle.session_lines.specs.declared.summary.Summary.{Summary}
 use Rattle.work_gen.specs.Generated.{text as generated}
 use Rattle.image_form.specs.Rules.{IsImage}
 use Rattle.image_form.specs.Spelling.{spelling}
-use Rattle.image_form.specs.declared.format.Image.{Image}
+use Rattle.image_form.specs.Views.{viewed}
+use Rattle.image_form.specs.declared.lent.View.{View}
 use Rattle.line_form.specs.declared.status.Status.{Status}
 use Rattle.line_form.specs.declared.status.Status.TheVariants.{Usage, SourceRefused, ScriptRefused, ReadFault, WriteFault, NoMemory, ImageRefused, TooLong}
 use Rattle.script_form.specs.Script.{IsScript, orders}
@@ -93,8 +94,8 @@ ScriptEnds (Err NoMemory) script = Unit {0}
 ScriptEnds (Err _) script = ⊥
 
 -- the bytes spell the image, or are refused for the first rule that they break, or memory was wanting
-abbrev pub ImageEnds : Result Image Status → (bytes : List ℕ) → Type 0
-ImageEnds (Ok image) bytes = IsImage (form image) × (bytes ≡ spelling (form image))
+abbrev pub ImageEnds : Result View Status → (bytes : List ℕ) → Type 0
+ImageEnds (Ok image) bytes = IsImage (viewed image) × (bytes ≡ spelling (viewed image))
 ImageEnds (Err (ImageRefused code offset)) bytes = AreNoImage code offset bytes
 ImageEnds (Err NoMemory) bytes = Unit {0}
 ImageEnds (Err _) bytes = ⊥

@@ -5,7 +5,7 @@ ghost use Rattle.session.specs.Ending.{EndsWithoutPasses};
 
 use crate::loading::load_attached;
 use crate::playing::play;
-use crate::preparing::{read_image, read_script};
+use crate::preparing::{read_script, view_image};
 use command_line::Attach;
 use line_form::Status;
 use outside::{Shelf, Sink};
@@ -38,7 +38,7 @@ pub fn attach<S: Shelf, K: Sink>(alloc: Global, job: &Attach, shelf: &mut S, sin
         Ok(texts) => texts,
         Err(status) => return status,
     };
-    let image = match read_image(alloc, &texts.image) {
+    let image = match view_image(alloc, &texts.image) {
         Ok(image) => image,
         Err(status) => return status,
     };

@@ -9,6 +9,7 @@ use crate::playing::play;
 use crate::preparing;
 use crate::preparing::{Made, read_script};
 use command_line::Debug;
+use image_form::View;
 use line_form::Status;
 use outside::{Shelf, Sink};
 use pass_law::UnitPass;
@@ -72,8 +73,9 @@ pub fn debug<S: Shelf, K: Sink>(
         Ok(()) => {}
         Err(status) => return status,
     }
+    let image = View::of_spelling(&made.bytes);
     let limit = u64::from(job.limit);
-    match play(alloc, &made.image, &commands, &texts.input, limit, sink) {
+    match play(alloc, &image, &commands, &texts.input, limit, sink) {
         Ok(()) => Status::Done,
         Err(status) => status,
     }

@@ -5,13 +5,13 @@ ghost use Rattle.std.specs.List.{AllByRecursion, flat_map};
 ghost use Rattle.outside.specs.Taken.{TakesPart};
 ghost use Rattle.line_form.specs.Lines.{line};
 ghost use Rattle.script_form.specs.Script.{orders};
-ghost use Rattle.image_form.specs.Form.{form};
 ghost use Rattle.image_form.specs.Rules.{IsImage};
+ghost use Rattle.image_form.specs.Views.{viewed};
 ghost use Rattle.stop_engine.specs.EngineState.{lines_of};
 ghost use Rattle.stop_engine.specs.Transcript.{transcript_bytes};
 ghost use Rattle.session.specs.Stages.{WriteEnds};
 
-use image_form::Image;
+use image_form::View;
 use line_form::Status;
 use outside::{PutErr, Sink};
 use script_form::Command;
@@ -86,23 +86,23 @@ fn carry_out<K: Sink>(
 /// instructions.
 pub fn play<K: Sink>(
     alloc: Global,
-    image: &Image,
+    image: &View<'_>,
     commands: &[Command],
     input: &[u8],
     limit: u64,
     sink: &mut K,
 ) -> Result<(), Status>
-    requires { IsImage (form image.now) }
+    requires { IsImage (viewed image.now) }
     ensures bytes { AllByRecursion (λ b. b < 256) input.now }
     ensures ends { WriteEnds result (K.fault_count sink.old) (K.fault_count sink.new) }
     ensures telling { K.tells sink.new ≡ K.tells sink.old }
     ensures whole { OnOk result
         (K.tells sink.old ≡ true
         → K.taken sink.new ≡ K.taken sink.old
-        ++ transcript_bytes (form image.now) (orders commands.now) input.now limit) }
+        ++ transcript_bytes (viewed image.now) (orders commands.now) input.now limit) }
     ensures part { OnErr result
         (K.tells sink.old ≡ true
-        → TakesPart (transcript_bytes (form image.now) (orders commands.now) input.now limit)
+        → TakesPart (transcript_bytes (viewed image.now) (orders commands.now) input.now limit)
         (K.taken sink.old) (K.taken sink.new)) }
 {
     let Ok(mut engine) = Engine::new(alloc, image, input, limit) else {

@@ -23,7 +23,7 @@ ghost use Rattle.session.specs.Stages.{FrontEnds, ImageEnds, ListEnds, MakeEnds,
 use c_tree::Program;
 use debug_records::{Code, Mode, PassName, SourceErr};
 use image_build::{image_of_program, unit_of};
-use image_form::{Image, ImageErr};
+use image_form::{Image, ImageErr, View};
 use line_form::Status;
 use pass_law::UnitPass;
 use script_form::{Command, ScriptErr};
@@ -152,11 +152,11 @@ pub fn read_script(alloc: Global, script: &[u8]) -> Result<Vec<Command>, Status>
     }
 }
 
-/// The image that bytes spell, which else are refused for the first rule that they break.
-pub fn read_image(alloc: Global, bytes: &[u8]) -> Result<Image, Status>
+/// The image that bytes spell, lent from them, which else are refused for the first rule that they break.
+pub fn view_image(alloc: Global, bytes: &[u8]) -> Result<View<'_>, Status>
     ensures { ImageEnds result bytes.now }
 {
-    match image_form::read(alloc, bytes) {
+    match image_form::view(alloc, bytes) {
         Ok(image) => Ok(image),
         Err(ImageErr::Refused(code, offset)) => Err(Status::ImageRefused(code, offset)),
         Err(ImageErr::NoMemory) => Err(Status::NoMemory),

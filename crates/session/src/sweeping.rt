@@ -11,6 +11,7 @@ use crate::playing::put_lines;
 use crate::preparing::make;
 use command_line::Sweep;
 use debug_records::Mode;
+use image_form::View;
 use line_form::{Status, depth_line, exit_line, fault_line, limit_line};
 use outside::Sink;
 use pass_law::UnitPass;
@@ -66,7 +67,8 @@ fn swept(alloc: Global, job: &Sweep, passes: &[Box<dyn UnitPass>]) -> Result<Sum
         return Err(Status::NoMemory);
     };
     let made = make(alloc, &text, passes, &names, Mode::Registers)?;
-    match summarize(alloc, &made.image, &[], most_instructions()) {
+    let image = View::of_spelling(&made.bytes);
+    match summarize(alloc, &image, &[], most_instructions()) {
         Ok(summary) => Ok(summary),
         Err(_) => Err(Status::NoMemory),
     }

@@ -3,14 +3,14 @@
 ghost use Rattle.std.specs.Prelude.{◌≡◌, ◌↔◌, IfOk, IsTrue, OnOk, map};
 ghost use Rattle.stop_engine.specs.AtStop.{locals_at};
 ghost use Rattle.stop_engine.specs.EngineState.{HasExecuted};
-ghost use Rattle.image_form.specs.Form.{form};
 ghost use Rattle.image_form.specs.Rules.{IsImage};
+ghost use Rattle.image_form.specs.Views.{viewed};
 ghost use Rattle.stop_engine.specs.Visible.{visible_of};
 ghost use Rattle.stop_engine_texts.specs.Sight.{sight_of};
 ghost use Rattle.session_lines.specs.Summary.{IsOneStep, IsStop, IsSummaryOf, IsSummed, counted, counted_all, counted_here, nothing};
 
 use crate::lines::PairCounts;
-use image_form::Image;
+use image_form::View;
 use std::alloc::{AllocError, Global};
 use stop_engine::{Engine, Halt, Local, Shown, Stops};
 
@@ -134,12 +134,12 @@ fn count_steps(alloc: Global, engine: &mut Engine<'_>) -> Result<Summary, AllocE
 /// is shown was refused.
 pub fn summarize(
     alloc: Global,
-    image: &Image,
+    image: &View<'_>,
     input: &[u8],
     limit: u32,
 ) -> Result<Summary, AllocError>
-    requires { IsImage (form image.now) }
-    ensures { IfOk result (λ summary. IsSummed (form image.now) input.now limit summary) }
+    requires { IsImage (viewed image.now) }
+    ensures { IfOk result (λ summary. IsSummed (viewed image.now) input.now limit summary) }
 {
     let mut engine = Engine::new(alloc, image, input, u64::from(limit))?;
     Ok(count_steps(alloc, &mut engine)?)

@@ -1,6 +1,6 @@
 use Rattle.std.proofs.Common.{◌≡◌, ◌<◌, ◌++◌, inr, sym, ap, ◌∙◌, subst, Some, rules}
 use Rattle.std.specs.List.{AllByRecursion}
-use Rattle.image_form.specs.Form.{form}
+use Rattle.image_form.specs.Views.{viewed}
 use Rattle.outside.specs.Taken.{TakesPart}
 use Rattle.script_form.specs.Script.{orders}
 use Rattle.stop_engine.specs.Transcript.{transcript_bytes}
@@ -17,14 +17,14 @@ returns-in-Ok-play g c = record {
     part = search rules;
     done = λ e told told_sink.
         let limit : c.from-limit.result ≡ (attach_given c.args.job.now).limit = search rules in
-        let prints = attached c.in-Ok-read_image.image c.in-Ok-read_script.commands c.deref.result.now c.deref-2.result.now c.in-Ok.texts.input.items (g.S.Shelf.held c.args.shelf.now) (attach_given c.args.job.now)
-        c.in-Ok-read_image.ensures c.in-Ok-read_script.ensures
+        let prints = attached c.in-Ok-view_image.image c.in-Ok-read_script.commands c.deref.result.now c.deref-2.result.now c.in-Ok.texts.input.items (g.S.Shelf.held c.args.shelf.now) (attach_given c.args.job.now)
+        c.in-Ok-view_image.ensures c.in-Ok-read_script.ensures
         (c.in-Ok.ensures.image told ∙ ap Some (sym c.deref.ensures.value))
         (c.in-Ok.ensures.script told ∙ ap Some (sym c.deref-2.ensures.value))
         (c.in-Ok.ensures.input told) (subst (AllByRecursion (λ b. b < 256)) c.deref-4.ensures.value c.in-Ok-play.ensures.bytes) in
-        let same = played_same (form c.in-Ok-read_image.image) c.deref-3.result.now c.in-Ok-read_script.commands.items c.in-Ok.texts.input.items c.deref-4.result.now c.from-limit.result (attach_given c.args.job.now).limit c.deref-3.ensures.value c.deref-4.ensures.value limit in
+        let same = played_same (viewed c.in-Ok-view_image.image) c.deref-3.result.now c.in-Ok-read_script.commands.items c.in-Ok.texts.input.items c.deref-4.result.now c.from-limit.result (attach_given c.args.job.now).limit c.deref-3.ensures.value c.deref-4.ensures.value limit in
         record {
-          printed = transcript_bytes (form c.in-Ok-read_image.image) (orders c.in-Ok-read_script.commands.items) c.in-Ok.texts.input.items (attach_given c.args.job.now).limit;
+          printed = transcript_bytes (viewed c.in-Ok-view_image.image) (orders c.in-Ok-read_script.commands.items) c.in-Ok.texts.input.items (attach_given c.args.job.now).limit;
           prints = prints;
           whole = c.in-Ok-play.ensures.whole told_sink ∙ ap (λ p. g.K.Sink.taken c.args.sink.now ++ p) same;
         };
@@ -39,14 +39,14 @@ returns g c = record {
   transcript = record {
     part = λ cut told told_sink.
         let limit : c.from-limit.result ≡ (attach_given c.args.job.now).limit = search rules in
-        let prints = attached c.in-Ok-read_image.image c.in-Ok-read_script.commands c.deref.result.now c.deref-2.result.now c.in-Ok.texts.input.items (g.S.Shelf.held c.args.shelf.now) (attach_given c.args.job.now)
-        c.in-Ok-read_image.ensures c.in-Ok-read_script.ensures
+        let prints = attached c.in-Ok-view_image.image c.in-Ok-read_script.commands c.deref.result.now c.deref-2.result.now c.in-Ok.texts.input.items (g.S.Shelf.held c.args.shelf.now) (attach_given c.args.job.now)
+        c.in-Ok-view_image.ensures c.in-Ok-read_script.ensures
         (c.in-Ok.ensures.image told ∙ ap Some (sym c.deref.ensures.value))
         (c.in-Ok.ensures.script told ∙ ap Some (sym c.deref-2.ensures.value))
         (c.in-Ok.ensures.input told) (subst (AllByRecursion (λ b. b < 256)) c.deref-4.ensures.value c.in-Err-play.ensures.bytes) in
-        let same = played_same (form c.in-Ok-read_image.image) c.deref-3.result.now c.in-Ok-read_script.commands.items c.in-Ok.texts.input.items c.deref-4.result.now c.from-limit.result (attach_given c.args.job.now).limit c.deref-3.ensures.value c.deref-4.ensures.value limit in
+        let same = played_same (viewed c.in-Ok-view_image.image) c.deref-3.result.now c.in-Ok-read_script.commands.items c.in-Ok.texts.input.items c.deref-4.result.now c.from-limit.result (attach_given c.args.job.now).limit c.deref-3.ensures.value c.deref-4.ensures.value limit in
         inr (record {
-          printed = transcript_bytes (form c.in-Ok-read_image.image) (orders c.in-Ok-read_script.commands.items) c.in-Ok.texts.input.items (attach_given c.args.job.now).limit;
+          printed = transcript_bytes (viewed c.in-Ok-view_image.image) (orders c.in-Ok-read_script.commands.items) c.in-Ok.texts.input.items (attach_given c.args.job.now).limit;
           prints = prints;
           part = subst (λ p. TakesPart p (g.K.Sink.taken c.args.sink.now) (g.K.Sink.taken c.play.new.sink)) same (c.in-Err-play.ensures.part told_sink);
         });

@@ -1,13 +1,14 @@
 use Rattle.std.proofs.Common.{◌≡◌, ◌<◌, ◌++◌, inr, sym, ap, ◌∙◌, subst, Some, rules}
 use Rattle.std.specs.List.{AllByRecursion}
-use Rattle.image_form.specs.Form.{form}
+use Rattle.image_form.specs.Form.{Form, form}
+use Rattle.image_form.specs.Views.{viewed}
 use Rattle.outside.specs.Held.{Loads}
 use Rattle.outside.specs.Taken.{TakesPart}
 use Rattle.script_form.specs.Script.{orders}
 use Rattle.stop_engine.specs.Transcript.{transcript_bytes}
 use Rattle.command_line.specs.Job.{DebugGiven, debug, debug_given}
 use Rattle.session.specs.Served.{Saving}
-use Rattle.session.proofs.Sessions.{source_refused, script_refused, both_accepted, debugged, image_made, nothing_left, part_left, whole_left, whole_saved, played_same}
+use Rattle.session.proofs.Sessions.{source_refused, script_refused, both_accepted, debugged, image_made, nothing_left, part_left, whole_left, whole_saved, played_same, viewed_made}
 use Rattle.session.proofs.debugging.debug.Goals as goal
 
 abbrev saving : DebugGiven → Saving
@@ -111,6 +112,9 @@ returns-in-Err-save_image g c = record {
   transcript = search rules;
 }
 
+pub of_spelling-image-requires : goal.of_spelling-image-requires
+of_spelling-image-requires g c = (form c.in-Ok-make.made.image, c.in-Ok-make.ensures.image.image, c.deref-4.ensures.value ∙ c.in-Ok-make.ensures.bytes)
+
 pub returns-in-Ok-play : goal.returns-in-Ok-play
 returns-in-Ok-play g c = record {
   caused = record {
@@ -148,9 +152,12 @@ returns-in-Ok-play g c = record {
         let prints = debugged (g.S.Shelf.held c.args.shelf.now) (g.S.Shelf.held c.save_image.new.shelf) (debug_given c.args.job.now) c.deref.result.now c.deref-2.result.now c.in-Ok.texts.input.items c.in-Ok-make.made c.in-Ok-read_script.commands
         (subst (Loads (g.S.Shelf.held c.args.shelf.now (debug_given c.args.job.now).source) 1048576) (sym c.deref.ensures.value) (c.in-Ok.ensures.source told))
         (c.in-Ok.ensures.script told ∙ ap Some (sym c.deref-2.ensures.value))
-        (c.in-Ok.ensures.input told) (subst (AllByRecursion (λ b. b < 256)) c.deref-5.ensures.value c.in-Ok-play.ensures.bytes) c.in-Ok-make.ensures c.in-Ok-read_script.ensures
+        (c.in-Ok.ensures.input told) (subst (AllByRecursion (λ b. b < 256)) c.deref-6.ensures.value c.in-Ok-play.ensures.bytes) c.in-Ok-make.ensures c.in-Ok-read_script.ensures
         (ap (g.S.Shelf.held c.save_image.new.shelf) (sym image) ∙ c.in-Ok-save_image.ensures.saved (c.in-Ok.ensures.telling ∙ told) ∙ ap Some c.deref-3.ensures.value) in
-        let same = played_same (form c.in-Ok-make.made.image) c.deref-4.result.now c.in-Ok-read_script.commands.items c.in-Ok.texts.input.items c.deref-5.result.now c.from-limit.result (debug_given c.args.job.now).limit c.deref-4.ensures.value c.deref-5.ensures.value limit in
+        let one : viewed c.of_spelling-image.result ≡ form c.in-Ok-make.made.image = viewed_made c.deref.result.now (debug_given c.args.job.now).passes (debug_given c.args.job.now).mode c.in-Ok-make.made c.of_spelling-image.result c.deref-4.result.now
+        c.in-Ok-make.ensures c.deref-4.ensures.value c.of_spelling-image.ensures.image c.of_spelling-image.ensures.bytes in
+        let same = ap (λ (f : Form). transcript_bytes f (orders c.deref-5.result.now) c.deref-6.result.now c.from-limit.result) one
+        ∙ played_same (form c.in-Ok-make.made.image) c.deref-5.result.now c.in-Ok-read_script.commands.items c.in-Ok.texts.input.items c.deref-6.result.now c.from-limit.result (debug_given c.args.job.now).limit c.deref-5.ensures.value c.deref-6.ensures.value limit in
         record {
           printed = transcript_bytes (form c.in-Ok-make.made.image) (orders c.in-Ok-read_script.commands.items) c.in-Ok.texts.input.items (debug_given c.args.job.now).limit;
           prints = prints;
@@ -200,9 +207,12 @@ returns g c = record {
         let prints = debugged (g.S.Shelf.held c.args.shelf.now) (g.S.Shelf.held c.save_image.new.shelf) (debug_given c.args.job.now) c.deref.result.now c.deref-2.result.now c.in-Ok.texts.input.items c.in-Ok-make.made c.in-Ok-read_script.commands
         (subst (Loads (g.S.Shelf.held c.args.shelf.now (debug_given c.args.job.now).source) 1048576) (sym c.deref.ensures.value) (c.in-Ok.ensures.source told))
         (c.in-Ok.ensures.script told ∙ ap Some (sym c.deref-2.ensures.value))
-        (c.in-Ok.ensures.input told) (subst (AllByRecursion (λ b. b < 256)) c.deref-5.ensures.value c.in-Err-play.ensures.bytes) c.in-Ok-make.ensures c.in-Ok-read_script.ensures
+        (c.in-Ok.ensures.input told) (subst (AllByRecursion (λ b. b < 256)) c.deref-6.ensures.value c.in-Err-play.ensures.bytes) c.in-Ok-make.ensures c.in-Ok-read_script.ensures
         (ap (g.S.Shelf.held c.save_image.new.shelf) (sym image) ∙ c.in-Ok-save_image.ensures.saved (c.in-Ok.ensures.telling ∙ told) ∙ ap Some c.deref-3.ensures.value) in
-        let same = played_same (form c.in-Ok-make.made.image) c.deref-4.result.now c.in-Ok-read_script.commands.items c.in-Ok.texts.input.items c.deref-5.result.now c.from-limit.result (debug_given c.args.job.now).limit c.deref-4.ensures.value c.deref-5.ensures.value limit in
+        let one : viewed c.of_spelling-image.result ≡ form c.in-Ok-make.made.image = viewed_made c.deref.result.now (debug_given c.args.job.now).passes (debug_given c.args.job.now).mode c.in-Ok-make.made c.of_spelling-image.result c.deref-4.result.now
+        c.in-Ok-make.ensures c.deref-4.ensures.value c.of_spelling-image.ensures.image c.of_spelling-image.ensures.bytes in
+        let same = ap (λ (f : Form). transcript_bytes f (orders c.deref-5.result.now) c.deref-6.result.now c.from-limit.result) one
+        ∙ played_same (form c.in-Ok-make.made.image) c.deref-5.result.now c.in-Ok-read_script.commands.items c.in-Ok.texts.input.items c.deref-6.result.now c.from-limit.result (debug_given c.args.job.now).limit c.deref-5.ensures.value c.deref-6.ensures.value limit in
         inr (record {
           printed = transcript_bytes (form c.in-Ok-make.made.image) (orders c.in-Ok-read_script.commands.items) c.in-Ok.texts.input.items (debug_given c.args.job.now).limit;
           prints = prints;
