@@ -61,7 +61,7 @@ count_told bytes which = number_at bytes (count_offset which)
 abbrev pub bytes_from : List ℕ → Section → List ℕ
 bytes_from bytes which = drop (start (count_told bytes) which) bytes
 
--- The rows of a
+-- The rows of a section, as many as the header says.
 abbrev pub rows_of : List ℕ → Section → List (List ℕ)
 rows_of bytes which = rows_at (record_size which / 4) (count_told bytes which) (bytes_from bytes which)
 
