@@ -26,11 +26,11 @@ use Rattle.motion_pass_laws.proofs.Again.{done_next}
 use Rattle.motion_pass_laws.proofs.Making.{becomes_so}
 
 -- nothing and a number are that
-none_passed : (n : ℕ) → n ≡ 0 + n
+pub none_passed : (n : ℕ) → n ≡ 0 + n
 none_passed n = omega (arith)
 
 -- What is not so unless it is, is so of numbers.
-at_most : (a b : ℕ) → ((a ≤ b → ⊥) → ⊥) → a ≤ b
+pub at_most : (a b : ℕ) → ((a ≤ b → ⊥) → ⊥) → a ≤ b
 at_most a b so = elim (cases_lt b a) [
   | inl less ↦ absurd (so (λ le. omega (arith, less, le)))
   | inr le ↦ le
@@ -38,7 +38,7 @@ at_most a b so = elim (cases_lt b a) [
 
 module _ (g h : Graph) (is : IsMoved g h) (once : IsEnteredAgain g.blocks → ⊥) (e : Computation) where
   -- BEHIND A POINT THAT IS DOWN-SAFE AND DOES NOTHING the computation is up-safe.
-  up_safe : {p q : Point} → IsCome g.blocks p → (IsUnsafe g.blocks e p → ⊥) → does_at e p ≡ false → Leads g.blocks p q → IsUnhad g.blocks e q → ⊥
+  pub up_safe : {p q : Point} → IsCome g.blocks p → (IsUnsafe g.blocks e p → ⊥) → does_at e p ≡ false → Leads g.blocks p q → IsUnhad g.blocks e q → ⊥
   up_safe come safe idle passes unhad =
       elim (unhad_before g.blocks is.are_treated.reached is.are_treated.just e (come_at g.blocks is.are_treated.reached is.are_treated.just come).1 unhad) [ inl so ↦ safe (spoiled idle so) | inr both ↦ safe both.1 ]
   up_safe come safe idle (leaves {n} {l} {f} among) unhad =
@@ -174,7 +174,7 @@ module _ (u : UnitForm) (g h : Graph) (valid : IsGraph u g) (is : IsMoved g h) (
   }
 
   -- What is done at a point does computations into temporaries.
-  all_doing : (p : Point) (name : ℕ) (all : List Computation) (done : List Instruction) → g.name_count ≤ name → AreDoneAt g.blocks p name all done → AllByRecursion (λ i. (e : Computation) × IsDoing g e i) done
+  pub all_doing : (p : Point) (name : ℕ) (all : List Computation) (done : List Instruction) → g.name_count ≤ name → AreDoneAt g.blocks p name all done → AllByRecursion (λ i. (e : Computation) × IsDoing g e i) done
   all_doing p name _ _ fresh no_computation = tt
   all_doing p name _ _ fresh (one_done {e = e} {more = more} {rest = rest} is are) = ((e, record { name = name; fresh = fresh; is = refl }), all_doing p (suc name) more rest (omega (arith, fresh)) are)
   all_doing p name _ _ fresh (one_passed {more = more} {rest = rest} not are) = all_doing p (suc name) more rest (omega (arith, fresh)) are
@@ -241,7 +241,7 @@ module _ (u : UnitForm) (g h : Graph) (valid : IsGraph u g) (is : IsMoved g h) (
   is_return _ = false
 
   -- What becomes a return was one.
-  end_returns : (n : ℕ) (a : Option Operand) (place : Option ℕ) (next : ℕ) (end : End) (done : List Instruction) (last : End) (own : List Block) → IsEnd g.blocks g.name_count is.treated n place next end done last own → Return a ≡ last → end ≡ Return a
+  pub end_returns : (n : ℕ) (a : Option Operand) (place : Option ℕ) (next : ℕ) (end : End) (done : List Instruction) (last : End) (own : List Block) → IsEnd g.blocks g.name_count is.treated n place next end done last own → Return a ≡ last → end ≡ Return a
   end_returns n a place next _ _ _ _ returns same = sym same
   end_returns n a place next _ _ _ _ (jumps are) same = absurd (true≢false (ap is_return same))
   end_returns n a place next _ _ _ _ (branches one two) same = absurd (true≢false (ap is_return same))

@@ -5,7 +5,7 @@ use Rattle.std.specs.List.{list_any}
 use Rattle.std.specs.Option.{option_map_or}
 use Rattle.std.proofs.lemmas.Bool.{and_parts, cases_Bool, false_from_ne_true, or_cases}
 use Rattle.std.proofs.lemmas.List.{append_assoc}
-use Rattle.std.proofs.lemmas.Option.{none-some, same_Some}
+use Rattle.std.proofs.lemmas.Option.{none-some}
 use Rattle.graph_core.specs.declared.value.Value.TheVariants.{Odd}
 use Rattle.graph_core.specs.Graphs.{Instruction, End, Block, Graph, UnitForm}
 use Rattle.graph_core.specs.Computations.{Computation, computed_by, operands_of}
@@ -21,7 +21,7 @@ use Rattle.motion_pass_laws.specs.Often.{is_had, IsHad, HasNothingAgain}
 use Rattle.motion_pass_laws.proofs.Once.{count, count_does, count_other, count_both, done_once, treated_apart}
 use Rattle.motion_pass_laws.proofs.Positions.{AtBlock, NotAll, passed_by, passes_all, before_it, not_first, not_passes, not_leaves, not_enters}
 use Rattle.motion_pass_laws.proofs.Following.{IsFollowed, Where, inside, on_edge, ending, followed, first_same, rest_same, not_empty}
-use Rattle.motion_pass_laws.proofs.Ready.{end_inserted}
+use Rattle.motion_pass_laws.proofs.Ready.{latest_next, unhad_come}
 
 -- ---- What is had
 
@@ -108,34 +108,15 @@ module _ (g h : Graph) (is : IsMoved g h) (e : Computation) where
   unsafe_idle (spoiled idle so) = idle
   unsafe_idle (ahead idle step unsafe) = idle
 
-  unhad_come : {p : Point} → IsUnhad g.blocks e p → IsCome g.blocks p
-  unhad_come (unhad_at_entry b at) = begins b at
-  unhad_come (unhad_behind come so step) = goes come step
-  unhad_come (unhad_still unhad unsafe step) = goes (unhad_come unhad) step
-
   -- WHERE IT IS NOT UP-SAFE IT IS NOT HAD in the graph after.
   unhad_not_had : {p : Point} → IsUnhad g.blocks e p → NotAll g h is Had p
   unhad_not_had (unhad_at_entry b at) = not_first g h is Had b at (λ had. true≢false (sym had))
   unhad_not_had (unhad_behind come so step) = behind_write come so step
-  unhad_not_had (unhad_still unhad unsafe step) = quiet (unhad_come unhad) (unsafe_idle unsafe) (λ done. inserted_safe g.blocks e done.0 done.1 unsafe) step (unhad_not_had unhad)
+  unhad_not_had (unhad_still unhad unsafe step) = quiet (unhad_come g.blocks e unhad) (unsafe_idle unsafe) (λ done. inserted_safe g.blocks e done.0 done.1 unsafe) step (unhad_not_had unhad)
 
   -- Where it is inserted and not done, it can't be delayed to any point that comes next.
   pub done_next : {p q : Point} → IsDoneAt g.blocks e p → does_at e p ≡ false → Leads g.blocks p q → IsPast g.blocks e q
-  done_next done idle (passes {n} {i} {rest} {f}) = elim done.1.0.last [
-    | inl does ↦ absurd (true≢false (sym does ∙ idle))
-    | inr next ↦ by_step next.1 next.2
-  ]
-    where
-      by_step : {q : Point} → Leads g.blocks (within n (i ∷ rest) f) q → IsPast g.blocks e q → IsPast g.blocks e (within n rest f)
-      by_step passes past = past
-  done_next done idle (leaves among) = absurd (end_inserted g.blocks e done.0 done.1)
-  done_next done idle (enters {n} {l} b at) = elim done.1.0.last [
-    | inl does ↦ absurd (true≢false (sym does ∙ idle))
-    | inr next ↦ by_step next.1 next.2
-  ]
-    where
-      by_step : {q : Point} → Leads g.blocks (along n l) q → IsPast g.blocks e q → IsPast g.blocks e (within l b.instructions b.end)
-      by_step (enters c there) past = subst (λ (d : Block). IsPast g.blocks e (within l d.instructions d.end)) (same_Some c b (sym there ∙ at)) past
+  done_next done idle step = latest_next g.blocks e done.0 done.1.0 idle step
 
   -- that not all paths are so can be shown by what follows from the contrary
   by_contrary : (p : Point) → ((NotAll g h is Had p → ⊥) → ⊥) → NotAll g h is Had p

@@ -27,3 +27,5 @@ pub mod Positions
 pub mod Following
 pub mod Again
 pub mod Accounts
+pub mod Least
+pub mod Optimal

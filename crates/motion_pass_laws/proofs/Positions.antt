@@ -26,7 +26,7 @@ passed_by n (i ∷ news) left history = passed_by n news left (record { block = 
 
 module _ (h : Graph) where
   -- A path passes one instruction more,
-  pub passes_one : (history : History) (n : ℕ) (i : Instruction) (rest : List Instruction) (f : End) (v : Value) → Path h history n (i ∷ rest) f → Path h (record { block = n; left = length rest; instruction = i; wrote = v } ∷ history) n rest f
+  abbrev pub passes_one : (history : History) (n : ℕ) (i : Instruction) (rest : List Instruction) (f : End) (v : Value) → Path h history n (i ∷ rest) f → Path h (record { block = n; left = length rest; instruction = i; wrote = v } ∷ history) n rest f
   passes_one history n i rest f v (path b at way) = path b at (paths.passes way v)
 
   -- or several,
@@ -35,7 +35,7 @@ module _ (h : Graph) where
   passes_all history n (i ∷ news) left f way = passes_all (record { block = n; left = length (news ++ left); instruction = i; wrote = Odd } ∷ history) n news left f (passes_one history n i (news ++ left) f Odd way)
 
   -- or follows an edge.
-  pub goes_one : (history : History) (n l : ℕ) (f : End) → Path h history n [] f → Among l (targets_of f) → (b : Block) → slice_get h.blocks l ≡ Some b → Path h history l b.instructions b.end
+  abbrev pub goes_one : (history : History) (n l : ℕ) (f : End) → Path h history n [] f → Among l (targets_of f) → (b : Block) → slice_get h.blocks l ≡ Some b → Path h history l b.instructions b.end
   goes_one history n l f (path b at way) among c there = path b at (paths.goes way among c there)
 
 module _ (g h : Graph) (is : IsMoved g h) where

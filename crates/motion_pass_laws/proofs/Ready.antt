@@ -6,7 +6,7 @@ use Rattle.std.proofs.lemmas.List.{append_assoc}
 use Rattle.std.proofs.lemmas.Option.{same_Some}
 use Rattle.graph_core.specs.Graphs.{Instruction, End, Block}
 use Rattle.graph_core.specs.Computations.{Computation}
-use Rattle.motion_pass_points.specs.Ways.{Point, within, along, spoils_at, Leads, passes, leaves, enters, IsCome, begins, goes, IsUnhad, unhad_at_entry, unhad_behind, IsPast, past_at_entry, past_done, past_still, IsLatest, IsWanted, wanted_here, wanted_later, IsInserted, IsRead}
+use Rattle.motion_pass_points.specs.Ways.{Point, within, along, does_at, spoils_at, Leads, passes, leaves, enters, IsCome, begins, goes, IsUnhad, unhad_at_entry, unhad_behind, unhad_still, IsPast, past_at_entry, past_done, past_still, IsLatest, IsWanted, wanted_here, wanted_later, IsInserted, IsRead}
 use Rattle.motion_pass_points.proofs.Wanted.{earliest_delayed, unhad_unwanted}
 
 -- A point in a block, behind what stands before it there.
@@ -87,9 +87,15 @@ module _ (blocks : List Block) where
     past_left (past_done come does (leaves among) not) = absurd (true≢false (sym does))
     past_left (past_still past (leaves {f = f} among) not) = (f, past)
 
-    -- Nothing is done at the end of a block: it can still be done on the edges.
-    pub end_inserted : {n : ℕ} {f : End} → IsCome blocks (within n [] f) → IsInserted blocks e (within n [] f) → ⊥
-    end_inserted {n} {f} come inserted = elim inserted.0.last [
+    -- what is not up-safe is come to
+    pub unhad_come : {p : Point} → IsUnhad blocks e p → IsCome blocks p
+    unhad_come (unhad_at_entry b at) = begins b at
+    unhad_come (unhad_behind come so step) = goes come step
+    unhad_come (unhad_still unhad unsafe step) = goes (unhad_come unhad) step
+
+    -- The end of a block is no latest point: it can still be done on the edges.
+    pub end_latest : {n : ℕ} {f : End} → IsCome blocks (within n [] f) → IsLatest blocks e (within n [] f) → ⊥
+    end_latest {n} {f} come latest = elim latest.last [
       | inl does ↦ true≢false (sym does)
       | inr next ↦ by_step next.0 next.1 next.2
     ]
@@ -99,7 +105,29 @@ module _ (blocks : List Block) where
             let one = come_stands come in
             let other = come_stands (past_come past) in
             let same : g ≡ f = sym other.ends ∙ ap (λ (b : Block). b.end) (same_Some other.block one.block (sym other.is ∙ one.is)) ∙ one.ends in
-            inserted.0.delayed (subst (λ z. IsPast blocks e (within n [] z)) same past)
+            latest.delayed (subst (λ z. IsPast blocks e (within n [] z)) same past)
 
         by_step : (q : Point) → Leads blocks (within n [] f) q → IsPast blocks e q → ⊥
         by_step q (leaves {l = l} among) past = (let left = past_left past in here left.0 left.1)
+
+    -- Nothing is done there.
+    pub end_inserted : {n : ℕ} {f : End} → IsCome blocks (within n [] f) → IsInserted blocks e (within n [] f) → ⊥
+    end_inserted come inserted = end_latest come inserted.0
+
+    -- From a latest point that does nothing it can't be delayed to any point that comes next.
+    pub latest_next : {p q : Point} → IsCome blocks p → IsLatest blocks e p → does_at e p ≡ false → Leads blocks p q → IsPast blocks e q
+    latest_next come latest idle (passes {n} {i} {rest} {f}) = elim latest.last [
+      | inl does ↦ absurd (true≢false (sym does ∙ idle))
+      | inr next ↦ by_step next.1 next.2
+    ]
+      where
+        by_step : {q : Point} → Leads blocks (within n (i ∷ rest) f) q → IsPast blocks e q → IsPast blocks e (within n rest f)
+        by_step passes past = past
+    latest_next come latest idle (leaves among) = absurd (end_latest come latest)
+    latest_next come latest idle (enters {n} {l} b at) = elim latest.last [
+      | inl does ↦ absurd (true≢false (sym does ∙ idle))
+      | inr next ↦ by_step next.1 next.2
+    ]
+      where
+        by_step : {q : Point} → Leads blocks (along n l) q → IsPast blocks e q → IsPast blocks e (within l b.instructions b.end)
+        by_step (enters c there) past = subst (λ (d : Block). IsPast blocks e (within l d.instructions d.end)) (same_Some c b (sym there ∙ at)) past

@@ -1,3 +1,4 @@
 pub mod MovedRuns
 pub mod Made
 pub mod Often
+pub mod Optimal
