@@ -233,8 +233,19 @@ module _ (u : UnitForm) (g h : Graph) (valid : IsGraph u g) (is : IsMoved g h) (
             (spent_done g h is once e (along n l) done s.till_there (times e history) are s.all) (inr (refl, refl)) s.stands;
       })
 
-  accounted : IsFollowed u g h valid is Account
-  accounted = record { first = account_first; new = account_new; old = account_old; leave = account_leave; enter = account_enter }
+  -- whatever blocks were entered
+  abbrev Kept : List ℕ → History → Point → List Instruction → Type 0
+  Kept trail history p passed = Account history p passed
+
+  accounted : IsFollowed u g h valid is Kept
+  accounted = record {
+    first = account_first;
+    new = λ trail. account_new;
+    old = λ trail. account_old;
+    leave = λ trail. account_leave;
+    enter = λ trail. account_enter;
+    own = λ trail history n l label come beyond a. a;
+  }
 
   abbrev is_return : End → Bool
   is_return (Return a) = true
@@ -246,7 +257,7 @@ module _ (u : UnitForm) (g h : Graph) (valid : IsGraph u g) (is : IsMoved g h) (
   end_returns n a place next _ _ _ _ (jumps are) same = absurd (true≢false (ap is_return same))
   end_returns n a place next _ _ _ _ (branches one two) same = absurd (true≢false (ap is_return same))
 
-  by_where : (history : History) (n : ℕ) (a : Option Operand) → Where u g h valid is Account history n [] (Return a) → DoesAsOften g history n a
+  by_where : {trail : List ℕ} (history : History) (n : ℕ) (a : Option Operand) → Where u g h valid is Kept trail history n [] (Return a) → DoesAsOften g history n a
   by_where history n a (inside b k others come passed remaining j later done becomes at left_is account) = absurd (something remaining j later (sym left_is))
   by_where history n a (on_edge m l come passed done at last_is account) = absurd (true≢false (sym (ap is_jump last_is)))
   by_where history n a (ending b come at no_jump left_is account) = record { before = account.before; way = subst (λ f. Path g account.before n [] f) end account.way; one = account.one; often = often }
@@ -263,7 +274,7 @@ module _ (u : UnitForm) (g h : Graph) (valid : IsGraph u g) (is : IsMoved g h) (
 
   -- NOTHING IS COMPUTED MORE OFTEN where code was moved.
   pub no_more_often : DoesNoMore g h
-  no_more_often history n a way = by_where history n a (followed u g h valid is Account accounted way)
+  no_more_often history n a way = by_where history n a (followed u g h valid is Kept accounted way)
 
   -- ---- Paths that are cut short
 
@@ -282,7 +293,7 @@ module _ (u : UnitForm) (g h : Graph) (valid : IsGraph u g) (is : IsMoved g h) (
       by_state (inr done) (open' delayed le) = (let one = done.0 in omega (arith, one, parts, le))
       by_state (inr done) (owes past safe le) = absurd (done.1.0.1.0.delayed past)
 
-  cut_short : (history : History) (n : ℕ) (left : List Instruction) (last : End) → Where u g h valid is Account history n left last → DoesOnceMore g history
+  cut_short : {trail : List ℕ} (history : History) (n : ℕ) (left : List Instruction) (last : End) → Where u g h valid is Kept trail history n left last → DoesOnceMore g history
   cut_short history n left last (inside b i rest come passed remaining j later done becomes at left_is account) = record {
     before = account.before;
     number = n;
@@ -317,4 +328,4 @@ module _ (u : UnitForm) (g h : Graph) (valid : IsGraph u g) (is : IsMoved g h) (
 
   -- NOTHING IS COMPUTED FURTHER AHEAD THAN ONCE where code was moved.
   pub once_more_at_most : IsOnceAhead g h
-  once_more_at_most history n rest f way = cut_short history n rest f (followed u g h valid is Account accounted way)
+  once_more_at_most history n rest f way = cut_short history n rest f (followed u g h valid is Kept accounted way)

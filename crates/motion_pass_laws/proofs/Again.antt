@@ -142,16 +142,17 @@ module _ (g h : Graph) (is : IsMoved g h) (e : Computation) where
 
 module _ (u : UnitForm) (g h : Graph) (valid : IsGraph u g) (is : IsMoved g h) where
   -- nothing is asked of the points to which a path comes
-  abbrev Anything : History → Point → List Instruction → Type 0
-  Anything history p passed = Unit {0}
+  abbrev Anything : List ℕ → History → Point → List Instruction → Type 0
+  Anything trail history p passed = Unit {0}
 
   any_followed : IsFollowed u g h valid is Anything
   any_followed = record {
     first = λ b at. tt;
-    new = λ history p passed k more n left v come done holds. tt;
-    old = λ history n i rest f done j left v come are becomes holds. tt;
-    leave = λ history n l f come among holds. tt;
-    enter = λ history n l b done come at are holds. tt;
+    new = λ trail history p passed k more n left v come done holds. tt;
+    old = λ trail history n i rest f done j left v come are becomes holds. tt;
+    leave = λ trail history n l f come among holds. tt;
+    enter = λ trail history n l b done come at are holds. tt;
+    own = λ trail history n l label come beyond holds. tt;
   }
 
   module _ (e : Computation) (n : ℕ) (i : Instruction) (rest : List Instruction) (last : End) (computes : computed_by i ≡ Some e) (had : IsHad h e n (i ∷ rest) last) where
@@ -183,7 +184,7 @@ module _ (u : UnitForm) (g h : Graph) (valid : IsGraph u g) (is : IsMoved g h) w
         (had_before (passed ++ k ∷ rest) passed (ap (λ x. passed ++ x ∷ rest) (sym same)) (done_none g h is e (within n (k ∷ others) b.end) passed (λ inserted. not e (come, (it, inr inserted.1.1))) done))
     at_old b k others come passed _ done (reads d m x read there target) at same = none-some e (ap computed_by (sym same) ∙ computes)
 
-    by_where : {history : History} → Where u g h valid is Anything history n (i ∷ rest) last → ⊥
+    by_where : {trail : List ℕ} {history : History} → Where u g h valid is Anything trail history n (i ∷ rest) last → ⊥
     by_where (inside b k others come passed [] j later done becomes a left_is holds) =
         let are = subst (λ xs. AreDone g.blocks g.name_count is.treated (within n (k ∷ others) b.end) xs) (append_nil passed) done in
         at_old b k others come passed j are becomes (subst (λ xs. AtBlock g h is n b (k ∷ others) (passed ++ j ∷ xs) last) (sym (rest_same left_is)) (before_it g h is n b k j others passed later last are becomes a)) (first_same left_is)

@@ -14,7 +14,7 @@ use Rattle.motion_pass_points.specs.Ways.{Point, within, along, does_at, spoils_
 use Rattle.motion_pass_points.proofs.Wanted.{past_unsafe}
 use Rattle.motion_pass_placement.specs.Placed.{IsEnteredAgain}
 use Rattle.motion_pass_placement.specs.Moving.{IsDoneAt, IsMoved}
-use Rattle.motion_pass_laws.specs.Optimal.{Placement, has_on, IsSafe, spent_at, spent_on}
+use Rattle.motion_pass_laws.specs.Optimal.{Placement, has_on, IsSafe, spent_at, spent_on, entered}
 use Rattle.motion_pass_laws.proofs.Positions.{passes_one, goes_one}
 use Rattle.motion_pass_laws.proofs.Ready.{latest_next, unhad_come}
 use Rattle.motion_pass_laws.proofs.Accounts.{SpentAt, at_most, up_safe}
@@ -48,6 +48,19 @@ module _ (g : Graph) where
   path_to : {p : Point} → IsCome g.blocks p → (history : History) × PathTo g history p
   path_to (begins b at) = ([], path b at paths.stays)
   path_to (goes come step) = path_on (path_to come) step
+
+  -- the blocks that it entered
+  abbrev pub entered_to : (p : Point) (history : History) → PathTo g history p → List ℕ
+  entered_to (within n rest f) history way = entered way
+  entered_to (along n l) history way = entered way.1.0
+
+  -- They are the same behind an instruction,
+  pub entered_passes : (history : History) (n : ℕ) (i : Instruction) (rest : List Instruction) (f : End) (v : Value) (way : Path g history n (i ∷ rest) f) → entered (passes_one g history n i rest f v way) ≡ entered way
+  entered_passes history n i rest f v (path b at way) = refl
+
+  -- and one more behind an edge.
+  pub entered_goes : (history : History) (n to : ℕ) (f : End) (way : Path g history n [] f) (among : Among to (targets_of f)) (b : Block) (at : slice_get g.blocks to ≡ Some b) → entered (goes_one g history n to f way among b at) ≡ to ∷ entered way
+  entered_goes history n to f (path c there way) among b at = refl
 
 module _ (g : Graph) (e : Computation) (l : Placement) where
   -- the temporary has the value behind a path to a point

@@ -1,5 +1,5 @@
 -- Where the points of a graph stand in the graph after, and how paths go on there from one point to the next.
-use Rattle.std.proofs.Common.{◌≡◌, ℕ, ◌+◌, Option, Some, List, [], ◌∷◌, ◌++◌, length, refl, sym, ap, ◌∙◌, subst, arith}
+use Rattle.std.proofs.Common.{◌≡◌, ℕ, ◌+◌, ◌≤◌, Option, Some, List, [], ◌∷◌, ◌++◌, length, refl, sym, ap, ◌∙◌, subst, arith}
 use Rattle.std.specs.Prelude.{slice_get}
 use Rattle.std.proofs.lemmas.List.{append_assoc}
 use Rattle.std.proofs.lemmas.Option.{same_Some}
@@ -46,6 +46,7 @@ module _ (g h : Graph) (is : IsMoved g h) where
     pub block : Block
     pub stands : slice_get h.blocks n ≡ Some block
     pub next : ℕ
+    pub beyond : length g.blocks ≤ next
     pub own : List Block
     pub moved : IsMovedBlock g.blocks g.name_count is.treated n next b block own
     pub own_stand : (j : ℕ) (x : Block) → slice_get own j ≡ Some x → slice_get h.blocks (next + j) ≡ Some x
@@ -55,6 +56,7 @@ module _ (g h : Graph) (is : IsMoved g h) where
     block = f.block;
     stands = ap (λ xs. slice_get xs n) is.are ∙ at_left is.moved is.own n f.block f.stands;
     next = length g.blocks + f.offset;
+    beyond = omega (arith);
     own = f.others;
     moved = subst (λ m. IsMovedBlock g.blocks g.name_count is.treated m (length g.blocks + f.offset) b f.block f.others) from f.moved;
     own_stand = λ j x there. ap (λ xs. slice_get xs ((length g.blocks + f.offset) + j)) is.are ∙ at_right is.moved is.own (f.offset + j) ((length g.blocks + f.offset) + j) (further j) ∙ f.own_stand j x there;

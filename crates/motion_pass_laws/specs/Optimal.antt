@@ -1,5 +1,5 @@
 -- CODE MOTION IS COMPUTATIONALLY OPTIMAL (Knoop, Rüthing and Steffen 1992): no safe way to place a computation does it less often on any path.
-use Rattle.std.specs.Prelude.{◌≡◌, ℕ, ◌+◌, ◌≤◌, ◌&&◌, ◌||◌, not, Bool, true, false, if◌then◌else◌, Option, List, [], ◌∷◌}
+use Rattle.std.specs.Prelude.{◌≡◌, ℕ, ◌+◌, ◌≤◌, ◌&&◌, ◌||◌, not, Bool, true, false, if◌then◌else◌, Option, List, [], ◌∷◌, length}
 use Rattle.graph_core.specs.Graphs.{Operand, Instruction, End, Return, Graph}
 use Rattle.graph_core.specs.Paths.{History, Way, stays, passes, goes, Path, path}
 use Rattle.graph_core.specs.Computations.{Computation}
@@ -41,13 +41,29 @@ module _ (g : Graph) (e : Computation) (l : Placement) where
   abbrev pub spent_on : {history : History} {n : ℕ} {rest : List Instruction} {f : End} → Path g history n rest f → ℕ
   spent_on (path b at way) = spent_along way
 
--- A path to an end of the function before is one with a path after, and on it no safe placement does any computation less often than that.
-pub record DoesLeast (g : Graph) (after : History) (n : ℕ) (a : Option Operand) : Type 0 where
+-- the blocks that a way entered along edges, the latest first
+abbrev pub entered_along : {g : Graph} {from : ℕ} {rest : List Instruction} {end : End} {history : History} {n : ℕ} {left : List Instruction} {f : End} → Way g from rest end history n left f → List ℕ
+entered_along stays = []
+entered_along (passes way v) = entered_along way
+entered_along (goes {l = to} way among b at) = to ∷ entered_along way
+
+abbrev pub entered : {g : Graph} {history : History} {n : ℕ} {rest : List Instruction} {f : End} → Path g history n rest f → List ℕ
+entered (path b at way) = entered_along way
+
+-- THE SAME BLOCKS are entered before and after, but for those after that the graph before has not.
+pub data AreSameBlocks (g : Graph) : (before after : List ℕ) → Type 0 where
+  none_entered : AreSameBlocks g [] []
+  both_entered : {to : ℕ} {before after : List ℕ} → AreSameBlocks g before after → AreSameBlocks g (to ∷ before) (to ∷ after)
+  own_entered : {to : ℕ} {before after : List ℕ} → length g.blocks ≤ to → AreSameBlocks g before after → AreSameBlocks g before (to ∷ after)
+
+-- A path to an end of the function before is one with a path after, along the same blocks; and on it no safe placement does any computation less often than that.
+pub record DoesLeast (g : Graph) (after : History) (blocks : List ℕ) (n : ℕ) (a : Option Operand) : Type 0 where
   pub before : History
   pub way : Path g before n [] (Return a)
   pub one : AreOnePath g before after
+  pub same : AreSameBlocks g (entered way) blocks
   pub least : (e : Computation) (l : Placement) → IsSafe g e l → times e after ≤ spent_on g e l way
 
 -- A GRAPH IS COMPUTATIONALLY OPTIMAL among all that safe placements make of another: to each path of it, from the entry to an end of the function, there is the same path of the graph before, and on it every safe placement does each computation at least as often.
 abbrev pub IsOptimal : (g h : Graph) → Type 0
-IsOptimal g h = (after : History) (n : ℕ) (a : Option Operand) → Path h after n [] (Return a) → DoesLeast g after n a
+IsOptimal g h = (after : History) (n : ℕ) (a : Option Operand) (way : Path h after n [] (Return a)) → DoesLeast g after (entered way) n a
