@@ -16,7 +16,7 @@ use Rattle.motion_pass_placement.specs.Placed.{IsEnteredAgain}
 use Rattle.motion_pass_placement.specs.Moving.{IsDoneAt, IsMoved}
 use Rattle.motion_pass_laws.specs.Optimal.{Placement, has_on, IsSafe, spent_at, spent_on, entered}
 use Rattle.motion_pass_laws.proofs.Positions.{passes_one, goes_one}
-use Rattle.motion_pass_laws.proofs.Ready.{latest_next, unhad_come}
+use Rattle.motion_pass_laws.proofs.Ready.{latest_next}
 use Rattle.motion_pass_laws.proofs.Accounts.{SpentAt, at_most, up_safe}
 
 -- what is so of neither is not so of one of both
@@ -122,14 +122,14 @@ module _ (g : Graph) (e : Computation) (l : Placement) where
   fresh_behind come so (enters b at) = absurd (true≢false (sym so))
 
   module _ (safe : IsSafe g e l) where
-    not_inserted : {p : Point} → IsCome g.blocks p → IsUnsafe g.blocks e p → l.inserts p ≡ false
-    not_inserted {p} come unsafe = false_from_ne_true (l.inserts p) (λ inserts. safe.down_safe p come inserts unsafe)
+    not_inserted : {p : Point} → IsUnsafe g.blocks e p → IsUnhad g.blocks e p → l.inserts p ≡ false
+    not_inserted {p} unsafe unhad = false_from_ne_true (l.inserts p) (λ inserts. safe.safe p inserts unsafe unhad)
 
     -- So it is where the computation is not up-safe.
     pub fresh_unhad : {p : Point} → IsUnhad g.blocks e p → IsFresh p
     fresh_unhad (unhad_at_entry b at) = record { history = []; way = path b at paths.stays; has_not = refl }
     fresh_unhad (unhad_behind come so step) = fresh_behind come so step
-    fresh_unhad (unhad_still unhad unsafe step) = fresh_next (fresh_unhad unhad) (not_inserted (unhad_come g.blocks e unhad) unsafe) step
+    fresh_unhad (unhad_still unhad unsafe step) = fresh_next (fresh_unhad unhad) (not_inserted unsafe unhad) step
 
     -- what is not inserted there is not read there
     not_read : (p : Point) → IsFresh p → l.inserts p ≡ false → does_at e p ≡ true → l.reads p ≡ false

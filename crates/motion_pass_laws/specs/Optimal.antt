@@ -4,7 +4,7 @@ use Rattle.graph_core.specs.Graphs.{Operand, Instruction, End, Return, Graph}
 use Rattle.graph_core.specs.Paths.{History, Way, stays, passes, goes, Path, path}
 use Rattle.graph_core.specs.Computations.{Computation}
 use Rattle.motion_pass_points.specs.Computing.{spoils}
-use Rattle.motion_pass_points.specs.Ways.{Point, within, along, does_at, IsCome, IsUnsafe}
+use Rattle.motion_pass_points.specs.Ways.{Point, within, along, does_at, IsUnsafe, IsUnhad}
 use Rattle.motion_pass_laws.specs.Often.{times, AreOnePath}
 
 -- A PLACEMENT of a computation: at which points of a graph, in blocks and on edges, it is inserted, to be done into a temporary, and at which an instruction that does it reads the temporary instead.
@@ -23,9 +23,9 @@ module _ (g : Graph) (e : Computation) (l : Placement) where
   abbrev pub has_on : {history : History} {n : ℕ} {rest : List Instruction} {f : End} → Path g history n rest f → Bool
   has_on (path b at way) = has_along way
 
-  -- A PLACEMENT IS SAFE: it inserts only where each way on does the computation before an operand is written; and where it reads, the temporary has the value on each path to there, or gets it at the point itself.
+  -- A PLACEMENT IS SAFE: it inserts only where the computation is down-safe or up-safe; and where it reads, the temporary has the value on each path to there, or gets it at the point itself.
   pub record IsSafe : Type 0 where
-    pub down_safe : (p : Point) → IsCome g.blocks p → l.inserts p ≡ true → IsUnsafe g.blocks e p → ⊥
+    pub safe : (p : Point) → l.inserts p ≡ true → IsUnsafe g.blocks e p → IsUnhad g.blocks e p → ⊥
     pub ready : (n : ℕ) (rest : List Instruction) (f : End) → does_at e (within n rest f) ≡ true → l.reads (within n rest f) ≡ true → (history : History) (way : Path g history n rest f) → (l.inserts (within n rest f) || has_on way) ≡ true
 
   -- How often a placement does the computation at a point: once if it is inserted, and once if the instruction there does it and does not read the temporary.
