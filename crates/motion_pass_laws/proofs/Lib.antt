@@ -29,3 +29,4 @@ pub mod Again
 pub mod Accounts
 pub mod Least
 pub mod Optimal
+pub mod Unplaced
