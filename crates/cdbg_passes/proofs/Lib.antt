@@ -17,4 +17,5 @@ mod LeftForBounds
 mod ComputedOnce
 mod NeverGrow
 mod WorkedOften
+mod WorkedLeast
 mod WorkedLeft

@@ -13,6 +13,7 @@ use Rattle.pass_law.proofs.Inversions.{some_same, among_one, among_none, apart, 
 use Rattle.copy_pass_rule.specs.Copying.{IsCopied}
 use Rattle.cdbg_passes.specs.NothingLeft.{HasNoCopies, HasNoDead}
 use Rattle.cdbg_passes.specs.Worked.{AreRefused}
+use Rattle.cdbg_passes.proofs.WorkedLeast.{not_least}
 use Rattle.cdbg_passes.proofs.WorkedOften.{computed_again, computed_more}
 
 abbrev passed : ℕ → ℕ → Instruction → Value → Passed
@@ -120,4 +121,4 @@ has_dead none =
     (record { block = _; before = Marker 2 ∷ []; is = refl; instructions = refl; ends = refl; place = refl }) refl (inr refl) (λ h m left f way reads. absurd (reads_nothing (on way) reads))
 
 pub are_refused : AreRefused
-are_refused = record { copy = has_copies; dead = has_dead; again = computed_again; more = computed_more }
+are_refused = record { copy = has_copies; dead = has_dead; again = computed_again; more = computed_more; least = not_least }

@@ -10,7 +10,7 @@ use Rattle.pass_law.proofs.Inversions.{some_same, among_none}
 use Rattle.motion_pass_laws.specs.Often.{is_had, times, DoesAsOften, DoesNoMore, HasNothingAgain}
 use Rattle.cdbg_passes.specs.Worked.{compares, comparing_once, comparing_twice}
 
-abbrev compared : Computation
+abbrev pub compared : Computation
 compared = Comparing (Name 0) (Name 1)
 
 abbrev passed : ℕ → ℕ → Value → Passed
@@ -72,7 +72,7 @@ short {h} {n} {rest} {e} (path b is way) = short_of_way (subst (λ (c : Block). 
 times_once : {h : History} → IsShort h 0 [] (Return None) → times compared h ≡ 1
 times_once (last v) = refl
 
-abbrev all : History
+abbrev pub all : History
 all = passed 0 3 Odd ∷ passed 1 2 Odd ∷ []
 
 pub computed_more : DoesNoMore comparing_once comparing_twice → ⊥

@@ -10,6 +10,7 @@ use Rattle.dead_pass_rule.specs.Idle.{MayGo}
 use Rattle.motion_pass_placement.specs.Moves.{IsWithin}
 use Rattle.motion_pass_placement.specs.Moving.{IsMoved}
 use Rattle.motion_pass_laws.specs.Often.{HasNothingAgain}
+use Rattle.motion_pass_laws.specs.Optimal.{IsOptimal}
 
 -- NO COPY REACHES A READ: at no point that a path comes to is a scalar read to which one instruction copied another scalar of its type on every path, with neither written since.
 abbrev pub HasNoCopies : Graph → Type 0
@@ -30,3 +31,8 @@ pub record IsBeyondBounds (before : List Graph) (g : Graph) (behind : List Graph
 abbrev pub ComputeNothingAgain : (gs hs : List Graph) → Type 0
 ComputeNothingAgain gs hs =
     (k : ℕ) (g h : Graph) → slice_get gs k ≡ Some g → slice_get hs k ≡ Some h → HasNothingAgain h ⊎ ((h ≡ g) × IsBeyondBounds (take k hs) g (drop (suc k) gs))
+
+-- EACH FUNCTION IS COMPUTATIONALLY OPTIMAL behind code motion, but where it left the function as it was for a bound.
+abbrev pub AreOptimal : (gs hs : List Graph) → Type 0
+AreOptimal gs hs =
+    (k : ℕ) (g h : Graph) → slice_get gs k ≡ Some g → slice_get hs k ≡ Some h → IsOptimal g h ⊎ ((h ≡ g) × IsBeyondBounds (take k hs) g (drop (suc k) gs))

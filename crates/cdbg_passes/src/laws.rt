@@ -1,13 +1,14 @@
 //! Laws of what the passes make.
 
 ghost use Rattle.std.specs.List.{AllByRecursion};
-ghost use Rattle.graph_core.specs.Graphs.{UnitForm};
+ghost use Rattle.graph_core.specs.Graphs.{Graph, UnitForm};
 ghost use Rattle.graph_core.specs.WellMarked.{AreWellMarked};
 ghost use Rattle.motion_pass_laws.specs.Often.{DoesNoMore, IsOnceAhead};
+ghost use Rattle.motion_pass_laws.specs.Optimal.{IsOptimal};
 ghost use Rattle.pass_law.specs.Kept.{EachFunction};
 ghost use Rattle.cdbg_passes.specs.Bounds.{AreLeftForBounds, NeverGrows};
 ghost use Rattle.cdbg_passes.specs.Earned.{AreEarned};
-ghost use Rattle.cdbg_passes.specs.NothingLeft.{ComputeNothingAgain, HasNoCopies, HasNoDead};
+ghost use Rattle.cdbg_passes.specs.NothingLeft.{AreOptimal, ComputeNothingAgain, HasNoCopies, HasNoDead};
 ghost use Rattle.cdbg_passes.specs.Steps.{MovesCode, PropagatesCopies, RemovesDead};
 ghost use Rattle.cdbg_passes.specs.Worked.{AreRefused};
 
@@ -32,6 +33,15 @@ pub fn no_pass_is_idle()
     ensures ahead { (u v : UnitForm) → AreWellMarked u → MovesCode u v → EachFunction IsOnceAhead u.graphs v.graphs }
 {}
 
+/// A law: code motion is computationally optimal. On no path from the entry to an end does the function that it made
+/// do a computation more often than any safe placement of this in the function before, but where it left the function
+/// as it was for a bound. What is optimal does nothing more often than before: one safe placement is to leave each
+/// computation where it stands.
+pub fn motion_is_optimal()
+    ensures optimal { (u v : UnitForm) → AreWellMarked u → MovesCode u v → AreOptimal u.graphs v.graphs }
+    ensures more { (g h : Graph) → IsOptimal g h → DoesNoMore g h }
+{}
+
 /// A law: no function grows by copy propagation or by the removal of dead assignments.
 pub fn functions_never_grow()
     ensures copy { (u v : UnitForm) → PropagatesCopies u v → EachFunction NeverGrows u.graphs v.graphs }
@@ -39,7 +49,8 @@ pub fn functions_never_grow()
 {}
 
 /// A law: the definitions of what is left refuse a graph with a copy that reaches a read, one with a dead write, one
-/// that computes again what is had, and one that computes more often than the one before.
+/// that computes again what is had, one that computes more often than the one before, and one that computes more often
+/// than a safe placement.
 pub fn what_is_left_is_refused()
     ensures { AreRefused }
 {}
