@@ -15,3 +15,4 @@ mod Along
 mod Within
 mod Leading
 mod More
+mod Entering
