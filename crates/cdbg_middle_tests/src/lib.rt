@@ -2,6 +2,8 @@
 #![tactic(auto)]
 
 #[cfg(test)]
+mod count_tests;
+#[cfg(test)]
 mod graph_tests;
 #[cfg(test)]
 mod pass_tests;

@@ -16,6 +16,10 @@ const COPIED: &[u8] =
 const ON_ONE_WAY: &[u8] =
     b"#include <stdio.h>\nint f(void){return getchar();}\nint main(void){\nint x=1;\nif(getchar()==65)\nx=5;\nelse{\nx=f();\nputchar(x);\n}\nputchar(66);\nreturn 0;\n}\n";
 
+/// A sum that is done on one of two ways, and again where they meet.
+const SUM_ON_ONE_WAY: &[u8] =
+    b"#include <stdio.h>\nint main(void){int a=getchar(); int b=getchar(); int x=0; int y=0; if(a>60) x=a+b; else y=1; y=a+b; return x+y;}\n";
+
 /// A session that shows a variable before and behind the removals of its assignments.
 static BETWEEN_REMOVALS: Session = Session {
     shows: "removed values are recovered until what they were copied from changes",
@@ -141,6 +145,14 @@ fn the_changes_of_passes_are_listed(rt: HostRuntime) -> Result<(), Fail> {
     assert_said(&rt, rt.alloc(), copy, COPIED, copied)?;
     let none = "cdbg passes --passes none program.c";
     assert_said(&rt, rt.alloc(), none, COPIED, b"".as_slice())?;
+    Ok(())
+}
+
+#[test]
+fn the_moved_computations_are_listed(rt: HostRuntime) -> Result<(), Fail> {
+    let words = "cdbg passes --passes motion program.c";
+    let moved = b"1 motion moved x 7\n2 motion moved y 9\n".as_slice();
+    assert_said(&rt, rt.alloc(), words, SUM_ON_ONE_WAY, moved)?;
     Ok(())
 }
 
