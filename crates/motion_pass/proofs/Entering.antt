@@ -1,5 +1,5 @@
 -- Which instructions do a computation, and which lists of blocks are paths from the entry.
-use Rattle.std.proofs.Common.{◌≡◌, ◌↔◌, ℕ, zero, suc, ◌+◌, ◌<◌, ◌≤◌, ◌⊎◌, inl, inr, Bool, true, false, Option, Some, None, List, [], ◌∷◌, length, map, refl, sym, ap, ◌∙◌, subst, arith, true≢false}
+use Rattle.std.proofs.Common.{◌≡◌, ◌↔◌, ℕ, zero, suc, ◌+◌, ◌<◌, ◌≤◌, inl, inr, Bool, true, false, Some, None, List, [], ◌∷◌, length, map, refl, sym, ap, ◌∙◌, subst, arith, true≢false}
 use Rattle.std.specs.Prelude.{◌==◌, ◌||◌, not, option_map, slice_get}
 use Rattle.std.specs.List.{list_any}
 use Rattle.std.proofs.lemmas.Bool.{cases_lt, eq-eqb, eqb-true}
@@ -82,6 +82,7 @@ among_any to (l ∷ more) _ q (behind {b = b} {all = all} at) = or_true (l.0 == 
     tail : List ℕ → List ℕ
     tail [] = []
     tail (n ∷ rest) = rest
+
     or_true : (a b : Bool) → b ≡ true → (a || b) ≡ true
     or_true true b so = refl
     or_true false b so = so

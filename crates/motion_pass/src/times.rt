@@ -113,12 +113,7 @@ fn leads_to(alloc: Global, graph: &Graph, from: u32, to: u32) -> Result<bool, Al
 }
 
 /// Whether the block at an index of a list is one that execution may enter there: the first block of the graph at the beginning, and a target of the one before behind it.
-fn is_entered(
-    alloc: Global,
-    graph: &Graph,
-    path: &[u32],
-    index: usize,
-) -> Result<bool, AllocError>
+fn is_entered(alloc: Global, graph: &Graph, path: &[u32], index: usize) -> Result<bool, AllocError>
     requires { index < length path.now }
     ensures { IfOk result (λ is. IsTrue is ↔ IsEntered (graph_view graph.now).blocks path.now index) }
 {

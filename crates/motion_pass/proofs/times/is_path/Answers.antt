@@ -1,4 +1,4 @@
-use Rattle.std.proofs.Common.{◌≡◌, ◌≤◌, length, arith}
+use Rattle.std.proofs.Common.{◌≤◌, length, arith}
 use Rattle.graph_core.specs.Graphs.{graph_view}
 use Rattle.motion_pass.proofs.Entering.{has_some, one_more, path_some, tells_path}
 use Rattle.motion_pass.proofs.times.is_path.Goals as goal
