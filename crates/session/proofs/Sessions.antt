@@ -15,7 +15,7 @@ use Rattle.image_form.proofs.OneSpelling.{spells_one}
 use Rattle.std.specs.Global.{Global}
 use Rattle.outside.specs.Held.{IsKeptOrCut, Loads}
 use Rattle.line_form.specs.declared.status.Status.{Status}
-use Rattle.line_form.specs.declared.status.Status.TheVariants.{SourceRefused, ScriptRefused}
+use Rattle.line_form.specs.declared.status.Status.TheVariants.{Done, Usage, SourceRefused, ScriptRefused, ReadFault, WriteFault, NoMemory, ImageRefused, TooLong}
 use Rattle.script_form.specs.Script.{orders}
 use Rattle.script_form.specs.Refusal.{IsRefused}
 use Rattle.script_form.specs.declared.command.Command.{Command}
@@ -29,9 +29,9 @@ use Rattle.command_line.specs.Words.{Text}
 use Rattle.session.specs.Served.{Saving}
 use Rattle.session.specs.Limits.{Held, Holds}
 use Rattle.session.specs.Front.{IsPlain, IsRefusedSource}
-use Rattle.session.specs.Causes.{IsScriptText, ScriptIsRefused, AreAccepted}
+use Rattle.session.specs.Causes.{IsEarly, IsScriptText, ScriptIsRefused, AreAccepted}
 use Rattle.session.proofs.Refusals.{source_held}
-use Rattle.session.specs.Stages.{ImageEnds, MakeFails, ScriptEnds}
+use Rattle.session.specs.Stages.{ImageEnds, MakeFails, ScriptEnds, WriteEnds}
 use Rattle.session.specs.Prepared.{IsMade}
 use Rattle.session.specs.Outcome.{HasLeft, HoldsImage, HoldsPart, IsAttached, IsDebugged, IsImageOfSource}
 
@@ -163,3 +163,15 @@ module _ {P : Type 0} {named : P → PassName} {steps : P → UnitForm → UnitF
     };
     truthful = is.image.truthful;
   }
+
+-- a job whose save or lines failed did not end early
+pub cut_late : (A : Type 0) (status : Status) (old new : ℕ) → WriteEnds {A = A} (Err status) old new → IsEarly status → ⊥
+cut_late A Done old new ends early = early
+cut_late A Usage old new ends early = ends
+cut_late A (SourceRefused code line) old new ends early = ends
+cut_late A (ScriptRefused code line) old new ends early = ends
+cut_late A ReadFault old new ends early = ends
+cut_late A WriteFault old new ends early = early
+cut_late A NoMemory old new ends early = early
+cut_late A (ImageRefused code offset) old new ends early = ends
+cut_late A (TooLong name) old new ends early = ends

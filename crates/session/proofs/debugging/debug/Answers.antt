@@ -8,7 +8,7 @@ use Rattle.script_form.specs.Script.{orders}
 use Rattle.stop_engine.specs.Transcript.{transcript_bytes}
 use Rattle.command_line.specs.Job.{DebugGiven, debug, debug_given}
 use Rattle.session.specs.Served.{Saving}
-use Rattle.session.proofs.Sessions.{source_refused, script_refused, both_accepted, debugged, image_made, nothing_left, part_left, whole_left, whole_saved, played_same, viewed_made}
+use Rattle.session.proofs.Sessions.{source_refused, script_refused, both_accepted, debugged, image_made, nothing_left, part_left, whole_left, whole_saved, played_same, viewed_made, cut_late}
 use Rattle.session.proofs.debugging.debug.Goals as goal
 
 abbrev saving : DebugGiven → Saving
@@ -113,7 +113,7 @@ returns-in-Err-save_image g c = record {
 }
 
 pub of_spelling-image-requires : goal.of_spelling-image-requires
-of_spelling-image-requires g c = (form c.in-Ok-make.made.image, c.in-Ok-make.ensures.image.image, c.deref-4.ensures.value ∙ c.in-Ok-make.ensures.bytes)
+of_spelling-image-requires g c = record { spelled = (form c.in-Ok-make.made.image, c.in-Ok-make.ensures.image.image, c.deref-4.ensures.value ∙ c.in-Ok-make.ensures.bytes) }
 
 pub returns-in-Ok-play : goal.returns-in-Ok-play
 returns-in-Ok-play g c = record {
@@ -133,7 +133,13 @@ returns-in-Ok-play g c = record {
     write = search rules;
     write_only = search rules;
   };
-  stays = search rules;
+  stays = record {
+    kept = λ early told n. absurd early;
+    nothing = λ early told. absurd early;
+    others = λ told n other.
+        let image : c.as_str.result.now ≡ (debug_given c.args.job.now).image = search rules in
+        c.save_image.ensures.others n (λ same. other (same ∙ image)) (c.in-Ok.ensures.telling ∙ told) ∙ c.load_texts.ensures.same n told;
+  };
   image = record {
     saved = λ e told.
         let image : c.as_str.result.now ≡ (debug_given c.args.job.now).image = search rules in
@@ -184,7 +190,13 @@ returns g c = record {
     write = search rules;
     write_only = search rules;
   };
-  stays = search rules;
+  stays = record {
+    kept = λ early told n. absurd (cut_late (Unit {0}) c.in-Err-play.status (g.K.Sink.fault_count c.args.sink.now) (g.K.Sink.fault_count c.play.new.sink) c.in-Err-play.ensures.ends early);
+    nothing = λ early told. absurd (cut_late (Unit {0}) c.in-Err-play.status (g.K.Sink.fault_count c.args.sink.now) (g.K.Sink.fault_count c.play.new.sink) c.in-Err-play.ensures.ends early);
+    others = λ told n other.
+        let image : c.as_str.result.now ≡ (debug_given c.args.job.now).image = search rules in
+        c.save_image.ensures.others n (λ same. other (same ∙ image)) (c.in-Ok.ensures.telling ∙ told) ∙ c.load_texts.ensures.same n told;
+  };
   image = record {
     saved = search rules;
     whole = λ e saves told.

@@ -10,7 +10,7 @@ use Rattle.session.proofs.Sessions.{viewed_made}
 use Rattle.session.proofs.sweeping.swept.Goals as goal
 
 pub of_spelling-image-requires : goal.of_spelling-image-requires
-of_spelling-image-requires g c = (form c.in_ok-made.made.image, c.in_ok-made.ensures.image.image, c.deref-3.ensures.value ∙ c.in_ok-made.ensures.bytes)
+of_spelling-image-requires g c = record { spelled = (form c.in_ok-made.made.image, c.in_ok-made.ensures.image.image, c.deref-3.ensures.value ∙ c.in_ok-made.ensures.bytes) }
 
 pub returns-in-Ok-summarize : goal.returns-in-Ok-summarize
 returns-in-Ok-summarize g c =
