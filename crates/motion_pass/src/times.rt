@@ -139,19 +139,15 @@ fn is_path(alloc: Global, graph: &Graph, path: &[u32]) -> Result<bool, AllocErro
     Ok(!path.is_empty())
 }
 
-/// How often a computation is done along a list of blocks, or the greatest number where it is more often. None where the
-/// list is no path from the entry. `AllocError` where memory for the targets of an end was refused.
+/// How often a computation is done along a list of blocks, or the greatest number where it is more often. None where the list is no path from the entry.
 pub fn counts(
     alloc: Global,
     graph: &Graph,
     path: &[u32],
     e: &Computation,
 ) -> Result<Option<u32>, AllocError>
-    ensures path { IfOk result (λ o.
-        MatchOption o (IsPath (graph_view graph.now).blocks path.now → ⊥)
-        (λ c. IsPath (graph_view graph.now).blocks path.now)) }
-    ensures counted { IfOk result (λ o. IfSome o (λ c.
-        c ≡ min (times_along (graph_view graph.now).blocks (computation_view e.now) path.now) (2 ^ 32 - 1))) }
+    ensures path { IfOk result (λ o. MatchOption o (IsPath (graph_view graph.now).blocks path.now → ⊥) (λ c. IsPath (graph_view graph.now).blocks path.now)) }
+    ensures counted { IfOk result (λ o. IfSome o (λ c. c ≡ min (times_along (graph_view graph.now).blocks (computation_view e.now) path.now) (2 ^ 32 - 1))) }
 {
     if !is_path(alloc, graph, path)? {
         return Ok(None);
