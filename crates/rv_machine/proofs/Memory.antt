@@ -1,9 +1,9 @@
 -- Words in bytes: what was written is read, and other words stay.
-use Rattle.std.proofs.Common.{◌≡◌, ℕ, ◌+◌, ◌*◌, ◌/◌, ◌%◌, ◌<◌, ◌≤◌, ◌⊎◌, ⊎_elim, inl, inr, ◌∙◌, arith, refl, List, length}
+use Rattle.std.proofs.Common.{◌≡◌, ℕ, ◌+◌, ◌/◌, ◌%◌, ◌<◌, ◌≤◌, ◌⊎◌, ⊎_elim, ◌∙◌, arith, List, length}
 use Rattle.std.specs.Prelude.{slice_index, slice_set}
 use Rattle.std.proofs.Math.ListN.{length-set}
 use Rattle.std.proofs.lemmas.List.{get_or-set_same, get_or-set_other}
-use Rattle.rv_machine.specs.Memory.{word_in, with_word}
+use Rattle.rv_machine.specs.Memory.{with_word}
 
 pub length_with_word : (xs : List ℕ) (i v : ℕ) → length (with_word xs i v) ≡ length xs
 unfolding with_word

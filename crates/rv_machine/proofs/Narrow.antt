@@ -1,9 +1,8 @@
 -- Bytes and halfwords in bytes: what was written is read, and what lies elsewhere stays.
-use Rattle.std.proofs.Common.{◌≡◌, ◌≢◌, ℕ, ◌+◌, ◌*◌, ◌/◌, ◌%◌, ◌<◌, ◌≤◌, ◌⊎◌, ⊎_elim, inl, inr, ◌∙◌, arith, refl, List, length}
-use Rattle.std.specs.Prelude.{slice_index, slice_set}
-use Rattle.std.proofs.Math.ListN.{length-set}
+use Rattle.std.proofs.Common.{◌≡◌, ◌≢◌, ℕ, ◌+◌, ◌%◌, ◌<◌, ◌≤◌, ◌⊎◌, ⊎_elim, ◌∙◌, arith, List, length}
+use Rattle.std.specs.Prelude.{slice_index}
 use Rattle.std.proofs.lemmas.List.{get_or-set_same, get_or-set_other}
-use Rattle.rv_machine.specs.Memory.{byte_in, half_in, word_in, with_byte, with_half}
+use Rattle.rv_machine.specs.Memory.{byte_in, with_byte, with_half}
 
 -- ---- Bytes
 

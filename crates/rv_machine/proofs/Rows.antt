@@ -1,11 +1,8 @@
 -- The decoded words of the code.
-use Rattle.std.proofs.Common.{◌≡◌, ℕ, ◌<◌, sym, subst, refl, List, length, get_or, map, Option, IfSome}
+use Rattle.std.proofs.Common.{◌≡◌, ℕ, ◌<◌, sym, subst, List, length, get_or, Option, IfSome}
 use Rattle.std.specs.List.{All}
-use Rattle.std.proofs.lemmas.List.Elements.{All-map, All-from_get_or}
 use Rattle.rv_code.specs.declared.instruction.Instruction.{Instruction}
-use Rattle.rv_code.specs.Decoding.{decoded}
 use Rattle.rv_code.specs.InForm.{IsInForm}
-use Rattle.rv_code.proofs.RoundTrip.{answer_in_form}
 
 -- So is each one of them.
 pub row_in_form : (rows : List (Option Instruction)) (k : ℕ) (row : Option Instruction) → All (λ row. IfSome row IsInForm) rows → k < length rows → row ≡ get_or rows k row → IfSome row IsInForm

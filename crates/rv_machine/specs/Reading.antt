@@ -18,6 +18,6 @@ byte_at s a = byte_of_location s (location_of s a)
 -- The bytes of the stack from an address to the stack's end, and none where the address is not one of the stack.
 unfoldable pub stack_rest : State → ℕ → List ℕ
 stack_rest s a =
-    if nat_lt a stack_start then []
-    else if nat_lt a stack_end then drop (a - stack_start) s.stack
+    if nat_lt a (stack_start s.map) then []
+    else if nat_lt a (stack_end s.map) then drop (a - stack_start s.map) s.stack
     else []

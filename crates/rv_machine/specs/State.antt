@@ -1,4 +1,6 @@
 -- What the machine holds, and how a register is read and written.
+pub use Rattle.memory_map.specs.Maps.{code_start, bytes_start, bytes_end, bytes_size, stack_start, stack_end, stack_size}
+use Rattle.memory_map.specs.declared.map.Map.{Map}
 use Rattle.std.specs.Prelude.{ℕ, zero, suc, ◌%◌, List, slice_index, slice_set}
 
 -- The machine between two instructions.
@@ -15,6 +17,8 @@ pub record State : Type 0 where
   pub stack : List ℕ
   -- the bytes of input that were not read yet
   pub input : List ℕ
+  -- where its regions lie
+  pub map : Map
 
 -- The value of a register. Register 0 starts as 0 and is never written, so it reads as 0.
 abbrev pub reg : State → ℕ → ℕ
@@ -28,27 +32,3 @@ with_reg regs (suc r) v = slice_set regs (suc r) v
 -- The low 32 bits of a number.
 abbrev pub word : ℕ → ℕ
 word n = n % 4294967296
-
--- The address of the first word of the code.
-abbrev pub code_start : ℕ
-code_start = 0x00010000
-
--- The address of the first byte of the region of bytes, the address behind its last one, and how many it has.
-abbrev pub bytes_start : ℕ
-bytes_start = 0x00400000
-
-abbrev pub bytes_end : ℕ
-bytes_end = 0x00500000
-
-abbrev pub bytes_size : ℕ
-bytes_size = 0x00100000
-
--- The same of the stack.
-abbrev pub stack_start : ℕ
-stack_start = 0x01000000
-
-abbrev pub stack_end : ℕ
-stack_end = 0x02000000
-
-abbrev pub stack_size : ℕ
-stack_size = 0x01000000

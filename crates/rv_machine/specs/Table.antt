@@ -18,6 +18,7 @@ use Rattle.rv_code.specs.Decoding.{decoded}
 use Rattle.std.specs.Int.{cast_signed, w32}
 use Rattle.rv_machine.specs.declared.event.Event.{Event}
 use Rattle.rv_machine.specs.declared.event.Event.TheVariants.{Went, Out, Exited, Depth, Fault}
+use Rattle.memory_map.specs.declared.map.Map.{Map}
 use Rattle.rv_machine.specs.State.{State, reg, with_reg, word, code_start, bytes_start, bytes_end, bytes_size, stack_start, stack_end, stack_size}
 use Rattle.rv_machine.specs.Memory.{byte_in, half_in, word_in, with_byte, with_half, with_word, bytes_of_words}
 
@@ -101,10 +102,10 @@ unfoldable pub location_of : State → ℕ → Option Location
 location_of s a =
     if nat_lt a code_start then None
     else if nat_lt a (code_start + 4 * length s.code) then Some (InCode (a - code_start))
-    else if nat_lt a bytes_start then None
-    else if nat_lt a bytes_end then Some (InBytes (a - bytes_start))
-    else if nat_lt a stack_start then None
-    else if nat_lt a stack_end then Some (InStack (a - stack_start))
+    else if nat_lt a (bytes_start s.map) then None
+    else if nat_lt a (bytes_end s.map) then Some (InBytes (a - bytes_start s.map))
+    else if nat_lt a (stack_start s.map) then None
+    else if nat_lt a (stack_end s.map) then Some (InStack (a - stack_start s.map))
     else None
 
 -- The location of an address that is a multiple of the size of what lies there.
@@ -258,8 +259,9 @@ unfoldable pub zeros : ℕ → List ℕ
 zeros n = replicate n 0
 
 -- The state in which the machine starts: the pc at the first word of the code, the registers 0, the region of bytes with its initial bytes at its front, and 0 elsewhere.
-unfoldable pub started : List ℕ → List ℕ → List ℕ → State
-started code initial input = record {
+unfoldable pub started : Map → List ℕ → List ℕ → List ℕ → State
+started m code initial input = record {
+  map = m;
   code = code;
   pc = code_start;
   registers = replicate 32 0;

@@ -9,18 +9,6 @@ use rv_code::{LoadOperation, StoreOperation};
 /// The address of the first word of the code.
 pub const CODE_START: u32 = 0x00010000;
 
-/// The address of the first byte of the region of bytes.
-pub const BYTES_START: u32 = 0x00400000;
-
-/// The address behind its last byte.
-pub const BYTES_END: u32 = 0x00500000;
-
-/// The address of the first byte of the stack.
-pub const STACK_START: u32 = 0x01000000;
-
-/// The address behind its last byte.
-pub const STACK_END: u32 = 0x02000000;
-
 /// How many bytes the region of bytes has.
 pub const BYTES_SIZE: usize = 0x00100000;
 

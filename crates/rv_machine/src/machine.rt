@@ -6,13 +6,15 @@ ghost use Rattle.rv_code.specs.Decoding.{decoded};
 ghost use Rattle.rv_machine.specs.State.{State, reg, word};
 ghost use Rattle.rv_machine.specs.Table.{Effect, goes, jumps, stays, zeros, started, fetched, loaded, stored, on_load, on_store, on_input, on_call, acted, effect};
 ghost use Rattle.rv_machine.specs.Reading.{byte_at, stack_rest};
+ghost use Rattle.memory_map.specs.Maps.{bytes_start, code_start, most_words};
 
 use crate::access::{
-    BYTES_END, BYTES_SIZE, BYTES_START, CODE_START, STACK_END, STACK_SIZE, STACK_START,
-    byte_of_code, load_from, load_from_code, size_of_load, size_of_store, store_in,
+    BYTES_SIZE, CODE_START, STACK_SIZE, byte_of_code, load_from, load_from_code, size_of_load,
+    size_of_store, store_in,
 };
 use crate::arithmetic::{is_taken, operate, operate_immediate};
 use crate::event::Event;
+use memory_map::Map;
 use rv_code::{Instruction, LoadOperation, StoreOperation, decode};
 use std::alloc::{AllocError, Global};
 use std::marker::Model;
@@ -26,6 +28,7 @@ const A7: u8 = 17;
 /// A machine between two instructions. Contracts see it as its `State`.
 #[derive(Drop)]
 pub struct Machine {
+    regions: Map,
     code: Vec<u32>,
     instructions: Vec<Option<Instruction>>,
     pc: u32,
@@ -39,10 +42,10 @@ pub struct Machine {
 impl Model for Machine {
     ghost Value = { State };
 
-    ghost view = { λ m. record { code = m.code.items; pc = m.pc; registers = m.registers; bytes = m.bytes.items; stack = m.stack.items; input = drop m.input_read m.input.items } };
+    ghost view = { λ m. record { map = m.regions; code = m.code.items; pc = m.pc; registers = m.registers; bytes = m.bytes.items; stack = m.stack.items; input = drop m.input_read m.input.items } };
 
     // Beside each word of the code stands its instruction, the code is at most 1 MiB, and the regions have their sizes.
-    ghost invariant = { λ m. (m.instructions.items ≡ map decoded m.code.items) × All (λ row. IfSome row IsInForm) m.instructions.items × (length m.code.items ≤ 262144) × (length m.bytes.items ≡ 1048576) × (length m.stack.items ≡ 16777216) };
+    ghost invariant = { λ m. (m.instructions.items ≡ map decoded m.code.items) × All (λ row. IfSome row IsInForm) m.instructions.items × (length m.code.items ≤ 4194304) × (code_start + 4 * length m.code.items ≤ bytes_start m.regions) × (length m.bytes.items ≡ 1048576) × (length m.stack.items ≡ 16777216) };
 }
 
 // So many bytes, each of them 0.
@@ -79,18 +82,20 @@ impl Machine {
     /// The machine as it starts on code, initial bytes and input. It takes all the memory that the machine ever needs.
     ///
     /// Errors: `AllocError` where that memory is refused.
-    #[tactic(auto, unfolding(crate::specs::Table::started))]
+    #[tactic(auto, unfolding(crate::specs::Table::started), using(memory_map::proofs::Facts::code_ends, memory_map::proofs::Facts::code_few))]
     pub fn load(
         alloc: Global,
+        regions: Map,
         code: &[u32],
         bytes: &[u8],
         input: &[u8],
     ) -> Result<Machine, AllocError>
-        requires code { length code.now ≤ 262144 }
+        requires code { length code.now ≤ most_words regions }
         requires bytes { length bytes.now ≤ 1048576 }
-        ensures { IfOk result (λ m. m ≡ started code.now bytes.now input.now) }
+        ensures { IfOk result (λ m. m ≡ started regions code.now bytes.now input.now) }
     {
         Ok(Machine {
+            regions,
             code: code.to_vec(alloc)?,
             instructions: decoded_code(alloc, code)?,
             pc: CODE_START,
@@ -136,14 +141,14 @@ impl Machine {
             0
         } else if address < self.code_end() {
             byte_of_code(&self.code, (address - CODE_START) as usize)
-        } else if address < BYTES_START {
+        } else if address < self.regions.bytes_start() {
             0
-        } else if address < BYTES_END {
-            self.bytes[(address - BYTES_START) as usize]
-        } else if address < STACK_START {
+        } else if address < self.regions.bytes_end() {
+            self.bytes[(address - self.regions.bytes_start()) as usize]
+        } else if address < self.regions.stack_start() {
             0
-        } else if address < STACK_END {
-            self.stack[(address - STACK_START) as usize]
+        } else if address < self.regions.stack_end() {
+            self.stack[(address - self.regions.stack_start()) as usize]
         } else {
             0
         }
@@ -154,17 +159,17 @@ impl Machine {
     pub fn stack_from(&self, address: u32) -> &[u8]
         ensures { result.now ≡ stack_rest self.now address }
     {
-        if address < STACK_START || address >= STACK_END {
+        if address < self.regions.stack_start() || address >= self.regions.stack_end() {
             &[]
         } else {
-            &self.stack.as_slice()[(address - STACK_START) as usize..]
+            &self.stack.as_slice()[(address - self.regions.stack_start()) as usize..]
         }
     }
 
     // The address after the last word of the code.
     fn code_end(&self) -> u32
         ensures value { result ≡ 65536 + 4 * length self.now.code }
-        ensures low { result ≤ 4194304 }
+        ensures low { result ≤ bytes_start self.now.map }
     {
         CODE_START + 4 * self.code.len() as u32
     }
@@ -288,15 +293,15 @@ impl Machine {
         } else if address < self.code_end() {
             let offset = (address - CODE_START) as usize;
             Some(load_from_code(operation, &self.code, offset))
-        } else if address < BYTES_START {
+        } else if address < self.regions.bytes_start() {
             None
-        } else if address < BYTES_END {
-            let offset = (address - BYTES_START) as usize;
+        } else if address < self.regions.bytes_end() {
+            let offset = (address - self.regions.bytes_start()) as usize;
             Some(load_from(operation, &self.bytes, offset))
-        } else if address < STACK_START || address >= STACK_END {
+        } else if address < self.regions.stack_start() || address >= self.regions.stack_end() {
             None
         } else {
-            let offset = (address - STACK_START) as usize;
+            let offset = (address - self.regions.stack_start()) as usize;
             Some(load_from(operation, &self.stack, offset))
         }
     }
@@ -306,16 +311,16 @@ impl Machine {
     fn store_at(&mut self, operation: StoreOperation, address: u32, value: u32) -> Event
         ensures { record { event = result; after = self.new } ≡ on_store self.old (stored self.old operation address value) }
     {
-        if address % size_of_store(operation) != 0 || address < BYTES_START {
+        if address % size_of_store(operation) != 0 || address < self.regions.bytes_start() {
             return Event::Fault(self.pc);
         }
-        if address < BYTES_END {
-            let offset = (address - BYTES_START) as usize;
+        if address < self.regions.bytes_end() {
+            let offset = (address - self.regions.bytes_start()) as usize;
             store_in(operation, self.bytes.as_mut_slice(), offset, value);
-        } else if address < STACK_START || address >= STACK_END {
+        } else if address < self.regions.stack_start() || address >= self.regions.stack_end() {
             return Event::Fault(self.pc);
         } else {
-            let offset = (address - STACK_START) as usize;
+            let offset = (address - self.regions.stack_start()) as usize;
             store_in(operation, self.stack.as_mut_slice(), offset, value);
         }
         self.pc = self.pc.wrapping_add(4);

@@ -1,0 +1,6 @@
+//! Where the regions of memory lie, once for the machine, the image, the emitter and the engine.
+#![tactic(auto)]
+
+mod map;
+
+pub use map::{Map, Room, map_of};

@@ -1,0 +1,90 @@
+//! The two maps of memory: where the code, the static bytes and the stack of a program lie.
+
+ghost use Rattle.std.specs.Prelude.{◌≡◌};
+ghost use Rattle.memory_map.specs.Maps.{bytes_end, bytes_start, map_of, most_words, stack_end, stack_start, stub_words};
+
+/// How much a unit may have: what its program weighs decides it.
+#[derive(Clone, Copy, PartialEq, Eq)]
+pub enum Room {
+    Small,
+    Large,
+}
+
+/// Where the regions of memory lie: the code, then the static bytes, then the stack.
+#[derive(Clone, Copy, PartialEq, Eq)]
+pub enum Map {
+    One,
+    Two,
+}
+
+/// The map of the memory of what is compiled in a room.
+pub fn map_of(room: Room) -> Map
+    ensures { result ≡ map_of room }
+{
+    match room {
+        Room::Small => Map::One,
+        Room::Large => Map::Two,
+    }
+}
+
+impl Map {
+    /// How many words of code there are at most.
+    pub fn most_words(self) -> usize
+        ensures { result ≡ most_words self }
+    {
+        match self {
+            Map::One => 262_144,
+            Map::Two => 4_194_304,
+        }
+    }
+
+    /// The address at which static memory begins.
+    pub fn bytes_start(self) -> u32
+        ensures { result ≡ bytes_start self }
+    {
+        match self {
+            Map::One => 0x0040_0000,
+            Map::Two => 0x0180_0000,
+        }
+    }
+
+    /// The address at which the stack begins.
+    pub fn stack_start(self) -> u32
+        ensures { result ≡ stack_start self }
+    {
+        match self {
+            Map::One => 0x0100_0000,
+            Map::Two => 0x0200_0000,
+        }
+    }
+
+    /// The address after static memory.
+    pub fn bytes_end(self) -> u32
+        ensures { result ≡ bytes_end self }
+    {
+        match self {
+            Map::One => 0x0050_0000,
+            Map::Two => 0x0190_0000,
+        }
+    }
+
+    /// The address after the stack.
+    pub fn stack_end(self) -> u32
+        ensures { result ≡ stack_end self }
+    {
+        match self {
+            Map::One => 0x0200_0000,
+            Map::Two => 0x0300_0000,
+        }
+    }
+
+    /// How many words stand before all functions.
+    pub fn stub_words(self) -> u32
+        ensures { result ≡ stub_words self }
+    {
+        match self {
+            Map::One => 5,
+            Map::Two => 6,
+        }
+    }
+}
