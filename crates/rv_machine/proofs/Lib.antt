@@ -4,3 +4,4 @@ pub mod Laws
 pub mod Memory
 pub mod Narrow
 pub mod Rows
+pub mod Words

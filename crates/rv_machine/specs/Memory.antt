@@ -1,5 +1,6 @@
 -- Words, halfwords and bytes in a list of bytes, the lowest byte first.
-use Rattle.std.specs.Prelude.{ℕ, ◌+◌, ◌*◌, ◌/◌, ◌%◌, List, [], ◌∷◌, slice_index, slice_set}
+use Rattle.std.specs.Prelude.{ℕ, ◌+◌, ◌*◌, ◌/◌, ◌%◌, List, [], ◌∷◌, length, map, slice_index, slice_set}
+use Rattle.std.specs.List.{range_with_len}
 
 -- The byte at an offset.
 abbrev pub byte_in : List ℕ → ℕ → ℕ
@@ -29,3 +30,7 @@ with_word xs i v = slice_set (slice_set (slice_set (slice_set xs i (v % 256)) (i
 unfoldable pub bytes_of_words : List ℕ → List ℕ
 bytes_of_words [] = []
 bytes_of_words (w ∷ ws) = w % 256 ∷ w / 256 % 256 ∷ w / 65536 % 256 ∷ w / 16777216 % 256 ∷ bytes_of_words ws
+
+-- The words of bytes, four bytes a word: of that number k they are the bytes from the offset 4 * k on.
+unfoldable pub words_in : List ℕ → List ℕ
+words_in bytes = map (λ k. word_in bytes (4 * k)) (range_with_len 0 (length bytes / 4))

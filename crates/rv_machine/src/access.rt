@@ -80,8 +80,9 @@ fn half_at(bytes: &[u8], offset: usize) -> u16
     u16::from(bytes[offset]) + u16::from(bytes[offset + 1]) * 256
 }
 
+/// The word of the four bytes from an offset on.
 #[tactic(auto, unfolding(crate::specs::Memory::word_in))]
-fn word_at(bytes: &[u8], offset: usize) -> u32
+pub fn word_at(bytes: &[u8], offset: usize) -> u32
     requires { offset + 4 ≤ length bytes.now }
     ensures { result ≡ word_in bytes.now offset }
 {

@@ -4,13 +4,14 @@ ghost use Rattle.std.specs.Prelude.{◌≡◌, ◌+◌, ◌-◌, ◌≤◌, ◌<
 ghost use Rattle.rv_code.specs.InForm.{IsRegister, IsInForm};
 ghost use Rattle.rv_code.specs.Decoding.{decoded};
 ghost use Rattle.rv_machine.specs.State.{State, reg, word};
+ghost use Rattle.rv_machine.specs.Memory.{words_in};
 ghost use Rattle.rv_machine.specs.Table.{Effect, goes, jumps, stays, zeros, started, fetched, loaded, stored, on_load, on_store, on_input, on_call, acted, effect};
 ghost use Rattle.rv_machine.specs.Reading.{byte_at, stack_rest};
 ghost use Rattle.memory_map.specs.Maps.{bytes_start, code_start, most_words};
 
 use crate::access::{
     BYTES_SIZE, CODE_START, STACK_SIZE, byte_of_code, load_from, load_from_code, size_of_load,
-    size_of_store, store_in,
+    size_of_store, store_in, word_at,
 };
 use crate::arithmetic::{is_taken, operate, operate_immediate};
 use crate::event::Event;
@@ -70,34 +71,55 @@ fn initial_bytes(alloc: Global, initial: &[u8], size: usize) -> Result<Vec<u8>, 
     Ok(bytes)
 }
 
-// The instruction of each word of the code.
-fn decoded_code(alloc: Global, code: &[u32]) -> Result<Vec<Option<Instruction>>, AllocError>
-    ensures rows { IfOk result (λ v. v.items ≡ map decoded code.now) }
-    ensures in_form { IfOk result (λ v. All (λ row. IfSome row IsInForm) v.items) }
+// Words, and the instruction of each.
+#[derive(Drop)]
+struct Program {
+    code: Vec<u32>,
+    instructions: Vec<Option<Instruction>>,
+}
+
+// The words of bytes, and their instructions.
+#[tactic(auto, unfolding(crate::specs::Memory::words_in))]
+fn program_of(alloc: Global, bytes: &[u8]) -> Result<Program, AllocError>
+    ensures words { IfOk result (λ p. p.code.items ≡ words_in bytes.now) }
+    ensures rows { IfOk result (λ p. p.instructions.items ≡ map decoded p.code.items) }
+    ensures in_form { IfOk result (λ p. All (λ row. IfSome row IsInForm) p.instructions.items) }
+    ensures len { IfOk result (λ p. length p.code.items ≡ length bytes.now / 4) }
 {
-    code.iter().map(|word| decode(*word)).collect(alloc)
+    let count = bytes.len() / 4;
+    let mut code = Vec::with_capacity(alloc, count)?;
+    let mut instructions = Vec::with_capacity(alloc, count)?;
+    for k in 0..count {
+        let word = word_at(bytes, 4 * k);
+        code.push(word)?;
+        instructions.push(decode(word))?;
+    }
+    Ok(Program { code, instructions })
 }
 
 impl Machine {
-    /// The machine as it starts on code, initial bytes and input. It takes all the memory that the machine ever needs.
+    /// The machine as it starts on the bytes of code, initial bytes and input. It takes all the memory that the machine
+    /// ever needs.
     ///
     /// Errors: `AllocError` where that memory is refused.
     #[tactic(auto, unfolding(crate::specs::Table::started), using(memory_map::proofs::Facts::code_ends, memory_map::proofs::Facts::code_few))]
     pub fn load(
         alloc: Global,
         regions: Map,
-        code: &[u32],
+        code: &[u8],
         bytes: &[u8],
         input: &[u8],
     ) -> Result<Machine, AllocError>
-        requires code { length code.now ≤ most_words regions }
+        requires whole { length code.now % 4 ≡ 0 }
+        requires code { length code.now ≤ 4 * most_words regions }
         requires bytes { length bytes.now ≤ 1048576 }
-        ensures { IfOk result (λ m. m ≡ started regions code.now bytes.now input.now) }
+        ensures { IfOk result (λ m. m ≡ started regions (words_in code.now) bytes.now input.now) }
     {
+        let program = program_of(alloc, code)?;
         Ok(Machine {
             regions,
-            code: code.to_vec(alloc)?,
-            instructions: decoded_code(alloc, code)?,
+            code: program.code,
+            instructions: program.instructions,
             pc: CODE_START,
             registers: [0; 32],
             bytes: initial_bytes(alloc, bytes, BYTES_SIZE)?,
