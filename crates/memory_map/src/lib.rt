@@ -3,4 +3,4 @@
 
 mod map;
 
-pub use map::{Map, Room, map_of};
+pub use map::{CODE_START, Map, Room, map_of};

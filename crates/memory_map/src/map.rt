@@ -3,6 +3,9 @@
 ghost use Rattle.std.specs.Prelude.{◌≡◌};
 ghost use Rattle.memory_map.specs.Maps.{bytes_end, bytes_start, map_of, most_words, stack_end, stack_start, stub_words};
 
+/// The address of the first word of code, the same in both maps.
+pub const CODE_START: u32 = 0x0001_0000;
+
 /// How much a unit may have: what its program weighs decides it.
 #[derive(Clone, Copy, PartialEq, Eq)]
 pub enum Room {

@@ -1,5 +1,7 @@
 -- What the emitter gives, as contracts see it.
 use Rattle.std.specs.Prelude.{ℕ, ◌+◌, ◌*◌, List, map}
+use Rattle.memory_map.specs.Maps.{code_start}
+use Rattle.memory_map.specs.declared.map.Map.{Map}
 use Rattle.rv_emit_tables.specs.declared.emitted.Emitted as declared-emitted
 use Rattle.rv_emit_tables.specs.declared.emitted.EmittedFunction as declared-function
 use Rattle.rv_emit_tables.specs.declared.emitted.PlacedStop.{PlacedStop}
@@ -14,8 +16,9 @@ pub record FunctionCode : Type 0 where
   pub bindings : List ℕ
   pub writers : List ℕ
 
--- The code of a unit.
+-- The code of a unit, and where in memory the regions of its run lie.
 pub record EmittedForm : Type 0 where
+  pub map : Map
   pub code : List ℕ
   pub owners : List ℕ
   pub initial : List ℕ
@@ -28,6 +31,7 @@ function_view f = record { first = f.first; end = f.end; frame = f.frame; slots 
 
 abbrev pub emitted_view : declared-emitted.Emitted → EmittedForm
 emitted_view e = record {
+  map = e.map;
   code = e.code.items;
   owners = e.owners.items;
   initial = e.initial.items;
@@ -38,4 +42,4 @@ emitted_view e = record {
 
 -- the address of a code word
 abbrev pub address_of_word : (index : ℕ) → ℕ
-address_of_word i = 65536 + 4 * i
+address_of_word i = code_start + 4 * i

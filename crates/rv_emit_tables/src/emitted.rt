@@ -1,5 +1,7 @@
 //! What the emitter gives.
 
+use memory_map::Map;
+
 /// The code of a function, and where its parts lie. Addresses and offsets are in bytes.
 #[derive(Drop)]
 pub struct EmittedFunction {
@@ -29,6 +31,8 @@ pub struct PlacedStop {
 /// The code of a unit, from the first address of code on.
 #[derive(Drop)]
 pub struct Emitted {
+    /// Where the regions of memory lie.
+    pub map: Map,
     pub code: Vec<u32>,
     /// The place of each word, 0 for none.
     pub owners: Vec<u32>,
