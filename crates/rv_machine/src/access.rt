@@ -6,9 +6,6 @@ ghost use Rattle.rv_machine.specs.Table.{load_size, store_size, signed_byte, sig
 
 use rv_code::{LoadOperation, StoreOperation};
 
-/// The address of the first word of the code.
-pub const CODE_START: u32 = 0x00010000;
-
 /// How many bytes the region of bytes has.
 pub const BYTES_SIZE: usize = 0x00100000;
 

@@ -7,15 +7,15 @@ ghost use Rattle.rv_machine.specs.State.{State, reg, word};
 ghost use Rattle.rv_machine.specs.Memory.{words_in};
 ghost use Rattle.rv_machine.specs.Table.{Effect, goes, jumps, stays, zeros, started, fetched, loaded, stored, on_load, on_store, on_input, on_call, acted, effect};
 ghost use Rattle.rv_machine.specs.Reading.{byte_at, stack_rest};
-ghost use Rattle.memory_map.specs.Maps.{bytes_start, code_start, most_words};
+ghost use Rattle.memory_map.specs.Maps.{bytes_size, bytes_start, code_start, most_words, stack_size};
 
 use crate::access::{
-    BYTES_SIZE, CODE_START, STACK_SIZE, byte_of_code, load_from, load_from_code, size_of_load,
-    size_of_store, store_in, word_at,
+    BYTES_SIZE, STACK_SIZE, byte_of_code, load_from, load_from_code, size_of_load, size_of_store,
+    store_in, word_at,
 };
 use crate::arithmetic::{is_taken, operate, operate_immediate};
 use crate::event::Event;
-use memory_map::Map;
+use memory_map::{CODE_START, Map};
 use rv_code::{Instruction, LoadOperation, StoreOperation, decode};
 use std::alloc::{AllocError, Global};
 use std::marker::Model;
@@ -45,8 +45,9 @@ impl Model for Machine {
 
     ghost view = { λ m. record { map = m.regions; code = m.code.items; pc = m.pc; registers = m.registers; bytes = m.bytes.items; stack = m.stack.items; input = drop m.input_read m.input.items } };
 
-    // Beside each word of the code stands its instruction, the code is at most 1 MiB, and the regions have their sizes.
-    ghost invariant = { λ m. (m.instructions.items ≡ map decoded m.code.items) × All (λ row. IfSome row IsInForm) m.instructions.items × (length m.code.items ≤ 4194304) × (code_start + 4 * length m.code.items ≤ bytes_start m.regions) × (length m.bytes.items ≡ 1048576) × (length m.stack.items ≡ 16777216) };
+    // Beside each word of the code stands its instruction, the code has no more words than the map lets it have, and the
+    // regions have their sizes.
+    ghost invariant = { λ m. (m.instructions.items ≡ map decoded m.code.items) × All (λ row. IfSome row IsInForm) m.instructions.items × (length m.code.items ≤ most_words m.regions) × (length m.bytes.items ≡ bytes_size) × (length m.stack.items ≡ stack_size) };
 }
 
 // So many bytes, each of them 0.
@@ -102,7 +103,7 @@ impl Machine {
     /// ever needs.
     ///
     /// Errors: `AllocError` where that memory is refused.
-    #[tactic(auto, unfolding(crate::specs::Table::started), using(memory_map::proofs::Facts::code_ends, memory_map::proofs::Facts::code_few))]
+    #[tactic(auto, unfolding(crate::specs::Table::started))]
     pub fn load(
         alloc: Global,
         regions: Map,
@@ -112,7 +113,7 @@ impl Machine {
     ) -> Result<Machine, AllocError>
         requires whole { length code.now % 4 ≡ 0 }
         requires code { length code.now ≤ 4 * most_words regions }
-        requires bytes { length bytes.now ≤ 1048576 }
+        requires bytes { length bytes.now ≤ bytes_size }
         ensures { IfOk result (λ m. m ≡ started regions (words_in code.now) bytes.now input.now) }
     {
         let program = program_of(alloc, code)?;
@@ -138,6 +139,13 @@ impl Machine {
             None => Event::Fault(self.pc),
             Some(instruction) => self.act(instruction),
         }
+    }
+
+    /// Where its regions lie.
+    pub fn regions(&self) -> Map
+        ensures { result ≡ self.now.map }
+    {
+        self.regions
     }
 
     /// The address of the instruction that comes next.
@@ -189,8 +197,9 @@ impl Machine {
     }
 
     // The address after the last word of the code.
+    #[tactic(auto, using(memory_map::proofs::Facts::code_ends, memory_map::proofs::Facts::code_few))]
     fn code_end(&self) -> u32
-        ensures value { result ≡ 65536 + 4 * length self.now.code }
+        ensures value { result ≡ code_start + 4 * length self.now.code }
         ensures low { result ≤ bytes_start self.now.map }
     {
         CODE_START + 4 * self.code.len() as u32
