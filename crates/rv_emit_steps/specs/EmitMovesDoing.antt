@@ -1,5 +1,6 @@
 -- What words are to do that fetch operands and write results.
 use Rattle.std.specs.Prelude.{◌≡◌, ◌≢◌, ℕ, ◌+◌, ◌%◌, ◌≤◌, List, [], ◌∷◌}
+use Rattle.memory_map.specs.Maps.{stack_start, stack_end}
 use Rattle.rv_code.specs.declared.instruction.Instruction.{Instruction}
 use Rattle.graph_homes.specs.declared.home.Home.{Home}
 use Rattle.graph_homes.specs.declared.home.Home.TheVariants.{Register, Slot}
@@ -28,8 +29,8 @@ pub record Stores (code : List Instruction) (h : Holding) (address v : ℕ) : Ty
 -- A word of the stack stands at an offset from sp, which is register 2.
 pub record HasSlot (h : Holding) (offset : ℕ) : Type 0 where
   pub aligned : (h.registers 2 + offset) % 4 ≡ 0
-  pub low : 16777216 ≤ h.registers 2
-  pub high : h.registers 2 + offset + 4 ≤ 33554432
+  pub low : stack_start h.regions ≤ h.registers 2
+  pub high : h.registers 2 + offset + 4 ≤ stack_end h.regions
 
 -- Each scratch register holds the word that it is said to hold.
 abbrev pub HoldsAll : List Held → Holding → Type 0

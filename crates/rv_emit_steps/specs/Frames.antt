@@ -1,5 +1,6 @@
 -- What the machine holds while an activation of a unit over homes goes on, and when code does a step of it.
 use Rattle.std.specs.Prelude.{◌≡◌, ℕ, ◌+◌, ◌*◌, ◌%◌, ◌<◌, ◌≤◌, ◌⊎◌, true, Option, Some, None, List, [], ◌∷◌, length, slice_get, slice_index}
+use Rattle.memory_map.specs.Maps.{bytes_start, bytes_end, stack_start, stack_end}
 use Rattle.rv_code.specs.declared.instruction.Instruction.{Instruction as MachineInstruction}
 use Rattle.graph_core.specs.Graphs.{Operand, Name, Constant, StaticAddress, Location, Automatic, Static, At, Instruction, Marker, Note, Move, Operate, Truncate, Same, Address, Load, Store, Zero, CopyWords, Call, Graph, StaticObject, UnitForm}
 use Rattle.graph_core.specs.Memory.{Memory, Object, bytes_of, words_of, static_bytes}
@@ -7,6 +8,7 @@ use Rattle.graph_core.specs.Runs.{Configuration, Stepped, Goes, Shows, Ends, Wil
 use Rattle.graph_homes.specs.declared.home.Home.{Home}
 use Rattle.graph_homes.specs.Homed.{IsHomeAmong, home_number}
 use Rattle.rv_emit_words.specs.declared.piece.Held.{Held}
+use Rattle.rv_emit_storage.specs.UnitMaps.{map_of_unit}
 use Rattle.rv_emit_storage.specs.Storages.{StorageForm, home_at, object_at, static_object_at, array_bytes_at, source_of}
 use Rattle.rv_emit_instructions.specs.Operations.{operation_code, truncation_code, comparison_code, move_code}
 use Rattle.rv_emit_instructions.specs.Memory.{load_code, store_code, object_address_code}
@@ -44,24 +46,25 @@ AreScratch (x ∷ more) = IsScratch x.register × AreScratch more
 -- The bytes that initialise an array stand in static memory, with zeros behind them up to a whole word, and apart from all live objects.
 pub record HasArray (w : Setting) (memory : Memory) (m : ℕ → ℕ) (n : ℕ) (all : List ℕ) : Type 0 where
   pub aligned : array_bytes_at w.storage n % 4 ≡ 0
-  pub low : 4194304 ≤ array_bytes_at w.storage n
-  pub high : array_bytes_at w.storage n + 4 * words_of (length all) ≤ 5242880
+  pub low : bytes_start (map_of_unit w.unit) ≤ array_bytes_at w.storage n
+  pub high : array_bytes_at w.storage n + 4 * words_of (length all) ≤ bytes_end (map_of_unit w.unit)
   pub bytes : (i : ℕ) → i < 4 * words_of (length all) → m (array_bytes_at w.storage n + i) ≡ slice_index all i
   pub apart : (k : ℕ) (o : Object) → slice_get memory k ≡ Some o → o.live ≡ true
       → (w.addresses k + 4 * words_of (bytes_of o) ≤ array_bytes_at w.storage n) ⊎ (array_bytes_at w.storage n + 4 * words_of (length all) ≤ w.addresses k)
 
--- The machine holds the innermost activation of a configuration: its frame stands at sp, its homes hold words that mean the values of their names, which are their numbers, and the live
+-- The machine holds the innermost activation of a configuration: its regions lie as the unit's map has them, its frame stands at sp, its homes hold words that mean the values of their names, which are their numbers, and the live
 -- objects of all activations what they hold. None of these lies in the part of the frame below its objects.
 -- Static objects and the bytes that initialise arrays stand at their addresses.
 pub record HoldsFrame (w : Setting) (c : Configuration) (h : Holding) : Type 0 where
   pub fetch : CanFetch w.storage w.held h
   pub scratch : AreScratch w.held
   pub aligned : h.registers 2 % 4 ≡ 0
-  pub low : 16777216 ≤ h.registers 2
-  pub high : h.registers 2 + w.size ≤ 33554432
+  pub map : h.regions ≡ map_of_unit w.unit
+  pub low : stack_start (map_of_unit w.unit) ≤ h.registers 2
+  pub high : h.registers 2 + w.size ≤ stack_end (map_of_unit w.unit)
   pub homes : (home : Home) → IsHomeAmong w.slots home → Means w.addresses c.memory (c.here.names (home_number home)) (value_of_home w.storage h home)
   pub objects : HoldsObjects w.addresses c.memory h.memory
-  pub laid : AreLaid w.addresses c.memory
+  pub laid : AreLaid (map_of_unit w.unit) w.addresses c.memory
   pub free : (n : ℕ) (o : Object) → slice_get c.memory n ≡ Some o → o.live ≡ true
       → (w.addresses n + bytes_of o ≤ h.registers 2) ⊎ (h.registers 2 + (w.storage.slots + 4 * w.slots) ≤ w.addresses n)
   pub own : (k : ℕ) → k < length w.graph.objects → w.addresses (c.here.first_object + k) ≡ h.registers 2 + object_at w.storage k

@@ -3,25 +3,28 @@ use Rattle.std.specs.Prelude.{◌≡◌, ℕ, zero, suc, ◌+◌, ◌-◌, ◌*�
 use Rattle.std.specs.List.{AllByRecursion}
 use Rattle.rv_code.specs.declared.instruction.LoadOperation.{LoadOperation}
 use Rattle.rv_code.specs.declared.instruction.LoadOperation.TheVariants.{Lb, Lh, Lw, Lbu, Lhu}
-use Rattle.rv_machine.specs.State.{State, reg, bytes_start, stack_start}
+use Rattle.memory_map.specs.declared.map.Map.{Map}
+use Rattle.memory_map.specs.Maps.{bytes_start, bytes_end, stack_start, stack_end}
+use Rattle.rv_machine.specs.State.{State, reg}
 use Rattle.rv_machine.specs.Table.{signed_byte, signed_half}
 
--- The word of each register, the byte at each address of static memory and of the stack, and the input that is left.
+-- The word of each register, the byte at each address of static memory and of the stack, the input that is left, and where the regions of memory lie.
 pub record Holding : Type 0 where
   pub registers : ℕ → ℕ
   pub memory : ℕ → ℕ
   pub input : List ℕ
+  pub regions : Map
 
 -- The byte at an address of static memory or of the stack, and 0 outside of both.
-unfoldable pub memory_of : (bytes stack : List ℕ) → (address : ℕ) → ℕ
-memory_of bytes stack a =
-    if nat_lt a bytes_start then 0
-    else if nat_lt a stack_start then slice_index bytes (a - bytes_start)
-    else slice_index stack (a - stack_start)
+unfoldable pub memory_of : (regions : Map) → (bytes stack : List ℕ) → (address : ℕ) → ℕ
+memory_of m bytes stack a =
+    if nat_lt a (bytes_start m) then 0
+    else if nat_lt a (stack_start m) then slice_index bytes (a - bytes_start m)
+    else slice_index stack (a - stack_start m)
 
 -- What a state of the machine holds.
 abbrev pub held : State → Holding
-held s = record { registers = reg s; memory = memory_of s.bytes s.stack; input = s.input }
+held s = record { registers = reg s; memory = memory_of s.map s.bytes s.stack; input = s.input; regions = s.map }
 
 -- Register 0 holds 0, each register a word, each byte of memory and of the input a byte.
 pub record AreInRange (h : Holding) : Type 0 where
@@ -66,5 +69,5 @@ loaded_at Lbu memory a = memory a
 loaded_at Lhu memory a = half_at memory a
 
 -- So many bytes of static memory or of the stack stand from an address on, which is a multiple of their number.
-abbrev pub IsDataAt : (size address : ℕ) → Type 0
-IsDataAt n a = (a % n ≡ 0) × (((4194304 ≤ a) × (a + n ≤ 5242880)) ⊎ ((16777216 ≤ a) × (a + n ≤ 33554432)))
+abbrev pub IsDataAt : (regions : Map) → (size address : ℕ) → Type 0
+IsDataAt m n a = (a % n ≡ 0) × (((bytes_start m ≤ a) × (a + n ≤ bytes_end m)) ⊎ ((stack_start m ≤ a) × (a + n ≤ stack_end m)))

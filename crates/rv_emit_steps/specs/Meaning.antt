@@ -1,5 +1,7 @@
 -- What words and memory mean to a unit: where its objects lie, and what they hold.
 use Rattle.std.specs.Prelude.{◌≡◌, ◌≢◌, ℕ, ◌+◌, ◌*◌, ◌%◌, ◌<◌, ◌≤◌, ◌⊎◌, ◌==◌, true, if◌then◌else◌, Option, Some, option_map, slice_get}
+use Rattle.memory_map.specs.declared.map.Map.{Map}
+use Rattle.memory_map.specs.Maps.{bytes_start, bytes_end, stack_start, stack_end}
 use Rattle.graph_core.specs.declared.value.Value.{Value}
 use Rattle.graph_core.specs.declared.value.Value.TheVariants.{Number, Pointer, Odd}
 use Rattle.graph_core.specs.Values.{size_of}
@@ -40,12 +42,12 @@ HoldsObjects addresses memory m =
     → (i : ℕ) (v : Value) → slice_get o.values i ≡ Some v → HoldsBits addresses memory (size_of o.element) v (bits_at m (size_of o.element) (addresses n + i * size_of o.element))
 
 -- So many bytes lie in static memory or in the stack, and a word behind them does too.
-abbrev pub IsInMemory : (address bytes : ℕ) → Type 0
-IsInMemory a n = ((4194304 ≤ a) × (a + n + 4 ≤ 5242880)) ⊎ ((16777216 ≤ a) × (a + n + 4 ≤ 33554432))
+abbrev pub IsInMemory : (regions : Map) → (address bytes : ℕ) → Type 0
+IsInMemory m a n = ((bytes_start m ≤ a) × (a + n + 4 ≤ bytes_end m)) ⊎ ((stack_start m ≤ a) × (a + n + 4 ≤ stack_end m))
 
 -- Each object lies in static memory or in the stack, at a multiple of 4. No two that live touch one another.
-pub record AreLaid (addresses : ℕ → ℕ) (memory : Memory) : Type 0 where
+pub record AreLaid (regions : Map) (addresses : ℕ → ℕ) (memory : Memory) : Type 0 where
   pub aligned : (n : ℕ) (o : Object) → slice_get memory n ≡ Some o → addresses n % 4 ≡ 0
-  pub lie : (n : ℕ) (o : Object) → slice_get memory n ≡ Some o → IsInMemory (addresses n) (bytes_of o)
+  pub lie : (n : ℕ) (o : Object) → slice_get memory n ≡ Some o → IsInMemory regions (addresses n) (bytes_of o)
   pub apart : (m n : ℕ) (o p : Object) → m ≢ n → slice_get memory m ≡ Some o → slice_get memory n ≡ Some p → o.live ≡ true → p.live ≡ true
       → (addresses m + bytes_of o < addresses n) ⊎ (addresses n + bytes_of p < addresses m)

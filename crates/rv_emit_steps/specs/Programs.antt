@@ -1,5 +1,7 @@
 -- Code as it lies in memory, and what stands where in it.
 use Rattle.std.specs.Prelude.{◌≡◌, ℕ, ◌+◌, ◌-◌, ◌*◌, ◌≤◌, Bool, false, Some, List, [], ◌∷◌, length, slice_get}
+use Rattle.memory_map.specs.declared.map.Map.{Map}
+use Rattle.memory_map.specs.Maps.{bytes_size, code_start, most_words, stack_size}
 use Rattle.rv_code.specs.declared.instruction.Instruction.{Instruction}
 use Rattle.rv_code.specs.InForm.{IsInForm}
 use Rattle.rv_code.specs.Encoding.{encoded}
@@ -7,15 +9,16 @@ use Rattle.rv_machine.specs.State.{State, word}
 use Rattle.rv_machine.specs.Run.{is_stop}
 use Rattle.rv_emit_steps.specs.Holding.{Holding, held, AreInRange}
 
--- The words of code, and the addresses of its stops.
+-- The words of code, the addresses of its stops, and where the regions of memory lie.
 pub record Program : Type 0 where
   pub words : List ℕ
   pub stops : List ℕ
-  pub short : length words ≤ 262144
+  pub map : Map
+  pub short : length words ≤ most_words map
 
 -- The address of the word at an index of the code.
 abbrev pub address_of : (index : ℕ) → ℕ
-address_of i = 65536 + 4 * i
+address_of i = code_start + 4 * i
 
 -- The word of the distance from one index of the code to another, as jumps and branches have it.
 abbrev pub distance : (from to : ℕ) → ℕ
@@ -42,7 +45,8 @@ pub record Stands (p : Program) (s : State) (index : ℕ) (h : Holding) : Type 0
   pub code : s.code ≡ p.words
   pub pc : s.pc ≡ address_of index
   pub registers : length s.registers ≡ 32
-  pub bytes : length s.bytes ≡ 1048576
-  pub stack : length s.stack ≡ 16777216
+  pub map : s.map ≡ p.map
+  pub bytes : length s.bytes ≡ bytes_size
+  pub stack : length s.stack ≡ stack_size
   pub holds : held s ≡ h
   pub in_range : AreInRange h

@@ -1,3 +1,4 @@
 pub mod Filling
 pub mod Offsets
 pub mod Padding
+pub mod UnitMaps

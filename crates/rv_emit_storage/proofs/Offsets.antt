@@ -5,8 +5,11 @@ use Rattle.std.proofs.lemmas.List.{length-map}
 use Rattle.graph_core.specs.Validity.{taken_by, total}
 use Rattle.graph_core.specs.Graphs.{StaticObject, UnitForm}
 use Rattle.graph_core.specs.Memory.{static_bytes}
+use Rattle.memory_map.specs.Maps.{bytes_start}
 use Rattle.graph_homes.specs.Statics.{addresses_from, static_addresses, static_sizes, statics_start}
+use Rattle.rv_emit_storage.specs.UnitMaps.{map_of_unit}
 use Rattle.rv_emit_storage.specs.Placed.{FitsStatics}
+use Rattle.rv_emit_storage.proofs.UnitMaps.{statics_begin}
 
 end_next : (offset a b c next : ℕ) → next ≡ min (offset + a) 4294967295 → min (offset + (a + b)) 4294967295 ≡ min c 4294967295 → min (next + b) 4294967295 ≡ min c 4294967295
 end_next offset a b c next e was = omega (arith, e, was)
@@ -126,15 +129,22 @@ sizes_count : (n : ℕ) (xs : List ℕ) → length (addresses_from n xs) ≡ len
 sizes_count n [] = refl
 sizes_count n (x ∷ xs) = let rest = sizes_count (n + taken_by x) xs in omega (arith, rest)
 
--- The addresses of static objects come first, and then those of the bytes that initialise arrays.
-pub placed_parts : (u : UnitForm) (os ps : List ℕ) (end : ℕ) → (4194304 + total taken_by (map static_bytes u.statics) < 4294967295 → os ≡ addresses_from 4194304 (map static_bytes u.statics))
-    → end ≡ min (4194304 + total taken_by (map static_bytes u.statics)) 4294967295
-    → (end + total taken_by (map (λ (b : List ℕ). length b) u.array_bytes) < 4294967295 → ps ≡ addresses_from end (map (λ (b : List ℕ). length b) u.array_bytes))
-    → FitsStatics u → (os ≡ take (length u.statics) (static_addresses u)) × (ps ≡ drop (length u.statics) (static_addresses u))
-unfolding statics_start
-placed_parts u os ps end first e second fits =
-    let parts = total_append (map static_bytes u.statics) (map (λ (b : List ℕ). length b) u.array_bytes) in
-    let few : 4194304 + total taken_by (static_sizes u) < 4294967295 = fits in
-    let is : os ≡ addresses_from 4194304 (map static_bytes u.statics) = first (omega (arith, parts, few)) in
-    let count : length os ≡ length u.statics = ap (λ l. length l) is ∙ sizes_count 4194304 (map static_bytes u.statics) ∙ length-map u.statics static_bytes in
-    parts_of os ps (static_addresses u) (length u.statics) count (both_addresses 4194304 (map static_bytes u.statics) (map (λ (b : List ℕ). length b) u.array_bytes) os ps end few first e second)
+module _ (u : UnitForm) (start : ℕ) (os ps : List ℕ) (end : ℕ) (begins : start ≡ bytes_start (map_of_unit u))
+    (first : start + total taken_by (map static_bytes u.statics) < 4294967295 → os ≡ addresses_from start (map static_bytes u.statics))
+    (e : end ≡ min (start + total taken_by (map static_bytes u.statics)) 4294967295)
+    (second : end + total taken_by (map (λ (b : List ℕ). length b) u.array_bytes) < 4294967295 → ps ≡ addresses_from end (map (λ (b : List ℕ). length b) u.array_bytes)) where
+  -- The addresses of both are those of all that static memory has.
+  pub placed_all : FitsStatics u → os ++ ps ≡ static_addresses u
+  placed_all fits =
+      let few : start + total taken_by (static_sizes u) < 4294967295 = omega (arith, fits, begins) in
+      both_addresses start (map static_bytes u.statics) (map (λ (b : List ℕ). length b) u.array_bytes) os ps end few first e second
+      ∙ ap (λ n. addresses_from n (static_sizes u)) (begins ∙ sym (statics_begin u))
+
+  -- Those of static objects come first, and then those of the bytes that initialise arrays.
+  pub placed_parts : FitsStatics u → (os ≡ take (length u.statics) (static_addresses u)) × (ps ≡ drop (length u.statics) (static_addresses u))
+  placed_parts fits =
+      let parts = total_append (map static_bytes u.statics) (map (λ (b : List ℕ). length b) u.array_bytes) in
+      let few : start + total taken_by (static_sizes u) < 4294967295 = omega (arith, fits, begins) in
+      let is : os ≡ addresses_from start (map static_bytes u.statics) = first (omega (arith, parts, few)) in
+      let count : length os ≡ length u.statics = ap (λ l. length l) is ∙ sizes_count start (map static_bytes u.statics) ∙ length-map u.statics static_bytes in
+      parts_of os ps (static_addresses u) (length u.statics) count (placed_all fits)

@@ -2,3 +2,4 @@ pub mod Filled
 pub mod Kept
 pub mod Placed
 pub mod Storages
+pub mod UnitMaps

@@ -3,11 +3,13 @@ use Rattle.std.specs.Prelude.{◌≡◌, ℕ, ◌+◌, ◌<◌, List, length, ta
 use Rattle.std.specs.List.{AllByRecursion}
 use Rattle.graph_core.specs.Graphs.{StaticObject, UnitForm}
 use Rattle.graph_core.specs.Validity.{taken_by, total, AreRelocations}
-use Rattle.graph_homes.specs.Statics.{statics_start, static_addresses, static_sizes}
+use Rattle.memory_map.specs.Maps.{bytes_start}
+use Rattle.graph_homes.specs.Statics.{static_addresses, static_sizes}
+use Rattle.rv_emit_storage.specs.UnitMaps.{map_of_unit}
 
 -- All addresses of static memory are words. So it is in a valid unit.
 abbrev pub FitsStatics : UnitForm → Type 0
-FitsStatics u = statics_start + total taken_by (static_sizes u) < 4294967295
+FitsStatics u = bytes_start (map_of_unit u) + total taken_by (static_sizes u) < 4294967295
 
 -- These are the addresses of the unit's static objects.
 abbrev pub HaveAddresses : UnitForm → List ℕ → Type 0

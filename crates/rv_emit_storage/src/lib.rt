@@ -6,5 +6,5 @@ mod statics;
 mod storage;
 
 pub use frame::{Frame, frame_of_function};
-pub use statics::{Statics, initial_bytes, static_addresses};
+pub use statics::{Statics, initial_bytes, map_of_unit, static_addresses};
 pub use storage::{Source, Storage};

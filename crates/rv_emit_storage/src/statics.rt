@@ -5,16 +5,16 @@ ghost use Rattle.std.specs.List.{AllByRecursion, flat_map};
 ghost use Rattle.graph_core.specs.Graphs.{bytes_view, static_view, unit_view};
 ghost use Rattle.graph_core.specs.Memory.{static_bytes};
 ghost use Rattle.graph_core.specs.Validity.{taken_by, total};
+ghost use Rattle.memory_map.specs.Maps.{bytes_start};
 ghost use Rattle.graph_homes.specs.Statics.{addresses_from, initial_bytes, padded, static_addresses, static_sizes};
 ghost use Rattle.rv_emit_storage.specs.Filled.{filled_object, relocations_of, with_relocation, with_relocations, with_word};
 ghost use Rattle.rv_emit_storage.specs.Placed.{FitsStatics, HaveAddresses, NameObjects};
+ghost use Rattle.rv_emit_storage.specs.UnitMaps.{map_of_unit};
 
 use crate::frame::{Placed, taken_by, word_of};
 use graph_core::{Bytes, Element, Relocation, StaticObject, Unit};
+use memory_map::{Map, Room, map_of};
 use std::alloc::{AllocError, Global};
-
-/// The address at which static memory begins.
-const STATICS_START: u32 = 4_194_304;
 
 /// The addresses of what lies in static memory.
 #[derive(Drop)]
@@ -23,6 +23,8 @@ pub struct Statics {
     pub objects: Vec<u32>,
     /// Of the bytes that initialise each automatic array.
     pub array_bytes: Vec<u32>,
+    /// The address from which its first 4,096 bytes are reached.
+    pub base: u32,
     /// The address behind all of them.
     pub end: u32,
 }
@@ -79,18 +81,36 @@ fn placed_arrays(alloc: Global, all: &[Bytes], start: u32) -> Result<Placed, All
     })
 }
 
+/// The map of the memory of what is compiled of a unit; each is small yet.
+#[tactic(auto, unfolding(crate::specs::UnitMaps::map_of_unit))]
+pub fn map_of_unit(unit: &Unit) -> Map
+    ensures { result ≡ map_of_unit (unit_view unit.now) }
+{
+    map_of(Room::Small)
+}
+
+/// The address in the middle of the first 4,096 bytes of static memory.
+#[tactic(auto, using(memory_map::proofs::Facts::map_facts))]
+fn base_of(map: Map) -> u32
+    ensures { result ≡ bytes_start map + 2048 }
+{
+    map.bytes_start() + 2048
+}
+
 /// The addresses of what a unit has in static memory.
-#[tactic(auto, using(crate::proofs::Offsets::both_addresses), unfolding(graph_homes::specs::Statics::statics_start))]
 pub fn static_addresses(alloc: Global, unit: &Unit) -> Result<Statics, AllocError>
     ensures addresses { IfOk result (λ s. FitsStatics (unit_view unit.now) → s.objects.items ++ s.array_bytes.items ≡ static_addresses (unit_view unit.now)) }
     ensures objects { IfOk result (λ s. FitsStatics (unit_view unit.now) → HaveAddresses (unit_view unit.now) s.objects.items) }
+    ensures base { IfOk result (λ s. s.base ≡ bytes_start (map_of_unit (unit_view unit.now)) + 2048) }
     ensures arrays { IfOk result (λ s. FitsStatics (unit_view unit.now) → s.array_bytes.items ≡ drop (length (unit_view unit.now).statics) (static_addresses (unit_view unit.now))) }
 {
-    let objects = placed_objects(alloc, &unit.statics, STATICS_START)?;
+    let map = map_of_unit(unit);
+    let objects = placed_objects(alloc, &unit.statics, map.bytes_start())?;
     let arrays = placed_arrays(alloc, &unit.array_bytes, objects.end)?;
     Ok(Statics {
         objects: objects.offsets,
         array_bytes: arrays.offsets,
+        base: base_of(map),
         end: arrays.end,
     })
 }
