@@ -51,6 +51,7 @@ pub record MapFacts (m : Map) : Type 0 where
   pub code : code_start + 4 * most_words m ≤ bytes_start m
   pub apart : bytes_end m ≤ stack_start m
   pub whole : stack_end m < 4294967296
+  pub positive : stack_end m < 2147483648
   pub low : 4096 ≤ bytes_start m
   pub pages : bytes_start m % 4096 ≡ 0
   pub frames : stack_end m % 4096 ≡ 0

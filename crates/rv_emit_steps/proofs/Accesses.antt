@@ -2,6 +2,7 @@
 use Rattle.std.proofs.Common.{◌≡◌, ℕ, ◌+◌, ◌*◌, ◌/◌, ◌%◌, ◌<◌, inl, inr, sym, ap, ◌∙◌, subst, arith, refl, Option, Some, None, Bool, true, false, cond, length, slice_get, slice_set}
 use Rattle.std.specs.Prelude.{◌==◌, ◌&&◌, nat_lt, option_map, option_and_then}
 use Rattle.std.proofs.lemmas.Bool.{eqb-true, ltb-true}
+use Rattle.memory_map.specs.declared.map.Map.{Map}
 use Rattle.graph_core.specs.declared.value.Value.{Value}
 use Rattle.graph_core.specs.declared.value.Value.TheVariants.{Number, Pointer, Odd}
 use Rattle.graph_core.specs.declared.instruction.Element.{Element}
@@ -118,12 +119,13 @@ aligned_at Unsigned16 a i aligned = omega (arith, aligned)
 aligned_at Signed16 a i aligned = omega (arith, aligned)
 aligned_at Word a i aligned = omega (arith, aligned)
 
-data_at : (f : Element) (a i count : ℕ) → a % 4 ≡ 0 → i < count → IsInMemory a (count * size_of f) → IsDataAt (size_of f) (a + i * size_of f)
-data_at f a i count aligned lt (inl (l, u)) = let within = element_within f i count lt in (aligned_at f a i aligned, inl (omega (arith, l), omega (arith, u, within)))
-data_at f a i count aligned lt (inr (l, u)) = let within = element_within f i count lt in (aligned_at f a i aligned, inr (omega (arith, l), omega (arith, u, within)))
+data_at : (m : Map) (f : Element) (a i count : ℕ) → a % 4 ≡ 0 → i < count → IsInMemory m a (count * size_of f) → IsDataAt m (size_of f) (a + i * size_of f)
+data_at m f a i count aligned lt (inl (l, u)) = let within = element_within f i count lt in (aligned_at f a i aligned, inl (omega (arith, l), omega (arith, u, within)))
+data_at m f a i count aligned lt (inr (l, u)) = let within = element_within f i count lt in (aligned_at f a i aligned, inr (omega (arith, l), omega (arith, u, within)))
 
 -- The element that is reached stands in static memory or in the stack.
-pub hit_data : (addresses : ℕ → ℕ) (memory : Memory) (e : Element) (p : Value) (n : ℕ) (o : Object) (i : ℕ) → AreLaid addresses memory → Hits memory e p n o i → IsDataAt (size_of e) (addresses n + i * size_of o.element)
-hit_data addresses memory e p n o i laid hits =
-    subst (λ s. IsDataAt (size_of e) (addresses n + i * s)) hits.wide
-    (data_at e (addresses n) i (length o.values) (laid.aligned n o hits.there) hits.low (subst (λ s. IsInMemory (addresses n) (length o.values * s)) (sym hits.wide) (laid.lie n o hits.there)))
+pub hit_data : {m : Map} (addresses : ℕ → ℕ) (memory : Memory) (e : Element) (p : Value) (n : ℕ) (o : Object) (i : ℕ) → AreLaid m addresses memory → Hits memory e p n o i
+    → IsDataAt m (size_of e) (addresses n + i * size_of o.element)
+hit_data {m} addresses memory e p n o i laid hits =
+    subst (λ s. IsDataAt m (size_of e) (addresses n + i * s)) hits.wide
+    (data_at m e (addresses n) i (length o.values) (laid.aligned n o hits.there) hits.low (subst (λ s. IsInMemory m (addresses n) (length o.values * s)) (sym hits.wide) (laid.lie n o hits.there)))

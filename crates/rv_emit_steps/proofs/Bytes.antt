@@ -2,6 +2,9 @@
 use Rattle.std.proofs.Common.{◌≡◌, ℕ, ◌+◌, ◌-◌, ◌*◌, ◌<◌, ◌≤◌, inl, inr, sym, ap, ◌∙◌, arith, List, length, true, false, Some}
 use Rattle.std.specs.Prelude.{slice_index, nat_lt}
 use Rattle.std.proofs.lemmas.Bool.{le-ltb, lt-ltb}
+use Rattle.memory_map.specs.declared.map.Map.{Map}
+use Rattle.memory_map.specs.Maps.{bytes_end, bytes_start, code_start, most_words, stack_end, stack_start}
+use Rattle.memory_map.proofs.Facts.{map_facts}
 use Rattle.rv_code.specs.declared.instruction.LoadOperation.{LoadOperation}
 use Rattle.rv_code.specs.declared.instruction.LoadOperation.TheVariants.{Lb, Lh, Lw, Lbu, Lhu}
 use Rattle.rv_code.specs.declared.instruction.StoreOperation.{StoreOperation}
@@ -13,24 +16,25 @@ use Rattle.rv_emit_steps.specs.Holding.{memory_of, loaded_at, IsDataAt}
 
 -- ---- One byte, by its region
 
-pub in_bytes : (bytes stack : List ℕ) (a : ℕ) → 4194304 ≤ a → a < 16777216 → memory_of bytes stack a ≡ slice_index bytes (a - 4194304)
+pub in_bytes : (m : Map) (bytes stack : List ℕ) (a : ℕ) → bytes_start m ≤ a → a < stack_start m → memory_of m bytes stack a ≡ slice_index bytes (a - bytes_start m)
 unfolding memory_of
-in_bytes bytes stack a low high =
-    let b1 : nat_lt a 4194304 ≡ false = le-ltb a 4194304 low in
-    let b2 : nat_lt a 16777216 ≡ true = lt-ltb a 16777216 high in
+in_bytes m bytes stack a low high =
+    let b1 : nat_lt a (bytes_start m) ≡ false = le-ltb a (bytes_start m) low in
+    let b2 : nat_lt a (stack_start m) ≡ true = lt-ltb a (stack_start m) high in
     simp (b1, b2)
 
-pub in_stack : (bytes stack : List ℕ) (a : ℕ) → 16777216 ≤ a → memory_of bytes stack a ≡ slice_index stack (a - 16777216)
+pub in_stack : (m : Map) (bytes stack : List ℕ) (a : ℕ) → stack_start m ≤ a → memory_of m bytes stack a ≡ slice_index stack (a - stack_start m)
 unfolding memory_of
-in_stack bytes stack a low =
-    let b1 : nat_lt a 4194304 ≡ false = le-ltb a 4194304 (omega arith) in
-    let b2 : nat_lt a 16777216 ≡ false = le-ltb a 16777216 low in
+in_stack m bytes stack a low =
+    let apart = (map_facts m).apart in
+    let b1 : nat_lt a (bytes_start m) ≡ false = le-ltb a (bytes_start m) (omega arith) in
+    let b2 : nat_lt a (stack_start m) ≡ false = le-ltb a (stack_start m) low in
     simp (b1, b2)
 
-pub in_none : (bytes stack : List ℕ) (a : ℕ) → a < 4194304 → memory_of bytes stack a ≡ 0
+pub in_none : (m : Map) (bytes stack : List ℕ) (a : ℕ) → a < bytes_start m → memory_of m bytes stack a ≡ 0
 unfolding memory_of
-in_none bytes stack a low =
-    let b1 : nat_lt a 4194304 ≡ true = lt-ltb a 4194304 low in
+in_none m bytes stack a low =
+    let b1 : nat_lt a (bytes_start m) ≡ true = lt-ltb a (bytes_start m) low in
     simp b1
 
 -- ---- What is loaded
@@ -73,27 +77,31 @@ load_size_few Lbu = (omega arith, omega arith)
 load_size_few Lhu = (omega arith, omega arith)
 
 -- A load at an address of static memory or of the stack gets what memory has there.
-pub loads : (s : State) (op : LoadOperation) (a : ℕ) → length s.code ≤ 262144 → IsDataAt (load_size op) a → loaded s op a ≡ Some (loaded_at op (memory_of s.bytes s.stack) a)
+pub loads : (s : State) (op : LoadOperation) (a : ℕ) → length s.code ≤ most_words s.map → IsDataAt s.map (load_size op) a → loaded s op a ≡ Some (loaded_at op (memory_of s.map s.bytes s.stack) a)
 unfolding loaded location_of
 loads s op a short (aligned, inl (low, high)) =
     let few = load_size_few op in
-    let a1 : nat_lt a 65536 ≡ false = le-ltb a 65536 (omega arith) in
-    let a2 : nat_lt a (65536 + 4 * length s.code) ≡ false = le-ltb a (65536 + 4 * length s.code) (omega arith) in
-    let a3 : nat_lt a 4194304 ≡ false = le-ltb a 4194304 (omega arith) in
-    let a4 : nat_lt a 5242880 ≡ true = lt-ltb a 5242880 (omega arith) in
-    let same : loaded_from op s.bytes (a - 4194304) ≡ loaded_at op (memory_of s.bytes s.stack) a =
-    loaded_like op s.bytes (a - 4194304) a (memory_of s.bytes s.stack)
-    (λ k lt. in_bytes s.bytes s.stack (a + k) (omega arith) (omega arith) ∙ ap (slice_index s.bytes) (omega arith)) in
+    let code = (map_facts s.map).code in
+    let apart = (map_facts s.map).apart in
+    let a1 : nat_lt a code_start ≡ false = le-ltb a code_start (omega arith) in
+    let a2 : nat_lt a (code_start + 4 * length s.code) ≡ false = le-ltb a (code_start + 4 * length s.code) (omega arith) in
+    let a3 : nat_lt a (bytes_start s.map) ≡ false = le-ltb a (bytes_start s.map) (omega arith) in
+    let a4 : nat_lt a (bytes_end s.map) ≡ true = lt-ltb a (bytes_end s.map) (omega arith) in
+    let same : loaded_from op s.bytes (a - bytes_start s.map) ≡ loaded_at op (memory_of s.map s.bytes s.stack) a =
+    loaded_like op s.bytes (a - bytes_start s.map) a (memory_of s.map s.bytes s.stack)
+    (λ k lt. in_bytes s.map s.bytes s.stack (a + k) (omega arith) (omega arith) ∙ ap (slice_index s.bytes) (omega arith)) in
     simp (aligned, a1, a2, a3, a4) (ap Some same)
 loads s op a short (aligned, inr (low, high)) =
     let few = load_size_few op in
-    let a1 : nat_lt a 65536 ≡ false = le-ltb a 65536 (omega arith) in
-    let a2 : nat_lt a (65536 + 4 * length s.code) ≡ false = le-ltb a (65536 + 4 * length s.code) (omega arith) in
-    let a3 : nat_lt a 4194304 ≡ false = le-ltb a 4194304 (omega arith) in
-    let a4 : nat_lt a 5242880 ≡ false = le-ltb a 5242880 (omega arith) in
-    let a5 : nat_lt a 16777216 ≡ false = le-ltb a 16777216 (omega arith) in
-    let a6 : nat_lt a 33554432 ≡ true = lt-ltb a 33554432 (omega arith) in
-    let same : loaded_from op s.stack (a - 16777216) ≡ loaded_at op (memory_of s.bytes s.stack) a =
-    loaded_like op s.stack (a - 16777216) a (memory_of s.bytes s.stack)
-    (λ k lt. in_stack s.bytes s.stack (a + k) (omega arith) ∙ ap (slice_index s.stack) (omega arith)) in
+    let code = (map_facts s.map).code in
+    let apart = (map_facts s.map).apart in
+    let a1 : nat_lt a code_start ≡ false = le-ltb a code_start (omega arith) in
+    let a2 : nat_lt a (code_start + 4 * length s.code) ≡ false = le-ltb a (code_start + 4 * length s.code) (omega arith) in
+    let a3 : nat_lt a (bytes_start s.map) ≡ false = le-ltb a (bytes_start s.map) (omega arith) in
+    let a4 : nat_lt a (bytes_end s.map) ≡ false = le-ltb a (bytes_end s.map) (omega arith) in
+    let a5 : nat_lt a (stack_start s.map) ≡ false = le-ltb a (stack_start s.map) (omega arith) in
+    let a6 : nat_lt a (stack_end s.map) ≡ true = lt-ltb a (stack_end s.map) (omega arith) in
+    let same : loaded_from op s.stack (a - stack_start s.map) ≡ loaded_at op (memory_of s.map s.bytes s.stack) a =
+    loaded_like op s.stack (a - stack_start s.map) a (memory_of s.map s.bytes s.stack)
+    (λ k lt. in_stack s.map s.bytes s.stack (a + k) (omega arith) ∙ ap (slice_index s.stack) (omega arith)) in
     simp (aligned, a1, a2, a3, a4, a5, a6) (ap Some same)

@@ -83,6 +83,7 @@ byte_held p s index b byte rest stands at a7 some =
         code = gone.code;
         pc = refl;
         registers = gone.registers;
+        map = gone.map;
         bytes = gone.bytes;
         stack = gone.stack;
         holds = ap (λ (g : Holding). record g { input = rest }) gone.holds;

@@ -2,6 +2,7 @@
 use Rattle.std.proofs.Common.{◌≡◌, ◌≢◌, ℕ, ◌+◌, ◌%◌, ◌<◌, ◌≤◌, sym, ap, ◌∙◌, subst, arith, refl, Option, Some, None, Bool, true, false, cond, List, [], ◌∷◌, ◌++◌, append_assoc}
 use Rattle.std.specs.Prelude.{◌==◌}
 use Rattle.std.specs.Option.{option_map_or}
+use Rattle.memory_map.specs.Maps.{stack_end, stack_start}
 use Rattle.rv_code.specs.declared.instruction.Instruction.{Instruction}
 use Rattle.rv_code.specs.declared.instruction.Instruction.TheVariants.{Immediate, Register as OnRegisters}
 use Rattle.rv_code.specs.declared.instruction.ImmediateOperation.{ImmediateOperation}
@@ -17,7 +18,7 @@ use Rattle.rv_emit_words.specs.Growing.{holder_of}
 use Rattle.rv_emit_words.specs.Operands.{source_register, fetched_source, result_register, finishing}
 use Rattle.rv_emit_steps.specs.Holding.{Holding, word_at, with_bytes}
 use Rattle.rv_emit_steps.specs.Doing.{done_by_all, CanDoAll, writing}
-use Rattle.rv_emit_steps.proofs.Placing.{done_by_both, can_do_both}
+use Rattle.rv_emit_steps.proofs.Placing.{done_by_both, can_do_both, regions_stay}
 use Rattle.rv_emit_steps.proofs.Registers.{register_same, register_other}
 use Rattle.rv_emit_steps.specs.EmitMovesDoing.{Brings, Writes, Computes, Makes, HasSlot, HoldsAll, AreLeft, IsLeft, IsReadable, CanFetch, CanRead, CanWrite, IsNoHome, value_of, memory_with}
 use Rattle.rv_emit_steps.proofs.Fetching.{source_found}
@@ -25,12 +26,16 @@ use Rattle.rv_emit_steps.proofs.Writing.{result_finished}
 
 -- ---- What stays as it was behind a fetch
 
-pub slot_stays : (h t : Holding) (offset : ℕ) → t.registers 2 ≡ h.registers 2 → HasSlot h offset → HasSlot t offset
-slot_stays h t offset sp slot =
+pub slot_stays : (h t : Holding) (offset : ℕ) → t.regions ≡ h.regions → t.registers 2 ≡ h.registers 2 → HasSlot h offset → HasSlot t offset
+slot_stays h t offset regions sp slot =
     let aligned : (h.registers 2 + offset) % 4 ≡ 0 = slot.aligned in
-    let low : 16777216 ≤ h.registers 2 = slot.low in
-    let high : h.registers 2 + offset + 4 ≤ 33554432 = slot.high in
-    record { aligned = ap (λ s. (s + offset) % 4) sp ∙ aligned; low = omega arith; high = omega arith }
+    let low : stack_start h.regions ≤ h.registers 2 = slot.low in
+    let high : h.registers 2 + offset + 4 ≤ stack_end h.regions = slot.high in
+    record {
+      aligned = ap (λ s. (s + offset) % 4) sp ∙ aligned;
+      low = subst (λ m. stack_start m ≤ t.registers 2) (sym regions) (omega arith);
+      high = subst (λ m. t.registers 2 + offset + 4 ≤ stack_end m) (sym regions) (omega arith);
+    }
 
 holding_stays : (held : List Held) (h t : Holding) → ((q : ℕ) → IsLeft q → t.registers q ≡ h.registers q) → AreLeft held → HoldsAll held h → HoldsAll held t
 holding_stays [] h t kept left all = tt
@@ -54,19 +59,19 @@ can_fetch_stays g held h t kept can = record {
   left = can.left;
 }
 
-pub readable_stays : (g : StorageForm) (h t : Holding) (source : Source) → t.registers 2 ≡ h.registers 2 → IsReadable g h source → IsReadable g t source
-readable_stays g h t (OfHome (Register r)) sp can = can
-readable_stays g h t (OfHome (Slot k)) sp can = slot_stays h t (slot_at g k) sp can
-readable_stays g h t (Word w) sp can = can
+pub readable_stays : (g : StorageForm) (h t : Holding) (source : Source) → t.regions ≡ h.regions → t.registers 2 ≡ h.registers 2 → IsReadable g h source → IsReadable g t source
+readable_stays g h t (OfHome (Register r)) regions sp can = can
+readable_stays g h t (OfHome (Slot k)) regions sp can = slot_stays h t (slot_at g k) regions sp can
+readable_stays g h t (Word w) regions sp can = can
 
 pub value_stays : (g : StorageForm) (h t : Holding) (source : Source) → ((q : ℕ) → IsLeft q → t.registers q ≡ h.registers q) → t.memory ≡ h.memory → IsReadable g h source → value_of g t source ≡ value_of g h source
 value_stays g h t (OfHome (Register r)) kept memory can = kept r can
 value_stays g h t (OfHome (Slot k)) kept memory can = ap (λ s. word_at t.memory (s + slot_at g k)) (kept 2 left_2) ∙ ap (λ (m : ℕ → ℕ). word_at m (h.registers 2 + slot_at g k)) memory
 value_stays g h t (Word w) kept memory can = refl
 
-pub can_write_stays : (g : StorageForm) (h t : Holding) (home : Home) → t.registers 2 ≡ h.registers 2 → CanWrite g h home → CanWrite g t home
-can_write_stays g h t (Register r) sp can = can
-can_write_stays g h t (Slot k) sp can = slot_stays h t (slot_at g k) sp can
+pub can_write_stays : (g : StorageForm) (h t : Holding) (home : Home) → t.regions ≡ h.regions → t.registers 2 ≡ h.registers 2 → CanWrite g h home → CanWrite g t home
+can_write_stays g h t (Register r) regions sp can = can
+can_write_stays g h t (Slot k) regions sp can = slot_stays h t (slot_at g k) regions sp can
 
 pub memory_with_stays : (g : StorageForm) (h t : Holding) (home : Home) (v : ℕ) → t.registers 2 ≡ h.registers 2 → t.memory ≡ h.memory → memory_with g t home v ≡ memory_with g h home v
 memory_with_stays g h t (Register r) v sp memory = memory
@@ -145,7 +150,7 @@ both_found g held h left right can readable also =
     let t : Holding = done_by_all first h in
     let stays : (q : ℕ) → IsLeft q → t.registers q ≡ h.registers q = λ q l. a.kept q l.t1 l.t0 in
     let b : Brings second t 7 (source_register g held right 7) (value_of g t right) =
-    fetched g held t right 7 (omega arith) (can_fetch_stays g held h t stays can) (readable_stays g h t right (stays 2 left_2) also) in
+    fetched g held t right 7 (omega arith) (can_fetch_stays g held h t stays can) (readable_stays g h t right (regions_stay first h) (stays 2 left_2) also) in
     let both : done_by_all (first ++ second) h ≡ done_by_all second t = done_by_both first second h in
     let apart = found_apart g held h left can.left readable in
     record {
@@ -197,7 +202,7 @@ computed_made g code h home v can a fits =
     let rest = finishing g home (result_register home) in
     let t : Holding = done_by_all code h in
     let sp : t.registers 2 ≡ h.registers 2 = a.kept 2 (result_no_sp g h home can) left_2 in
-    let b : Writes g rest t home v = result_finished g t home v (can_write_stays g h t home sp can) a.value fits in
+    let b : Writes g rest t home v = result_finished g t home v (can_write_stays g h t home (regions_stay code h) sp can) a.value fits in
     let both : done_by_all (code ++ rest) h ≡ done_by_all rest t = done_by_both code rest h in
     record {
       can = can_do_both code rest h a.can b.can;

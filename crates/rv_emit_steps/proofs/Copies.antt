@@ -17,6 +17,8 @@ use Rattle.graph_core.specs.declared.instruction.Element.TheVariants.{Unsigned8,
 use Rattle.graph_core.specs.Values.{size_of, as_element}
 use Rattle.graph_core.specs.Memory.{Memory, Object, bytes_of, words_of, filled, with_object, copied, spelled, element_in, elements_from}
 use Rattle.graph_core.specs.Runs.{Configuration}
+use Rattle.memory_map.proofs.Facts.{map_facts}
+use Rattle.rv_emit_storage.specs.UnitMaps.{map_of_unit}
 use Rattle.rv_emit_storage.specs.Storages.{object_at, array_bytes_at}
 use Rattle.rv_emit_words.specs.Constants.{set_constant_code}
 use Rattle.rv_emit_words.specs.Operands.{address_code}
@@ -26,7 +28,7 @@ use Rattle.rv_emit_steps.specs.Doing.{done_by_all, CanDoAll}
 use Rattle.rv_emit_steps.specs.Programs.{Program, CodeAt, behind, Stands}
 use Rattle.rv_emit_steps.specs.Points.{Reaches}
 use Rattle.rv_emit_steps.proofs.Straight.{code_does}
-use Rattle.rv_emit_steps.proofs.Placing.{code_front, code_rest, done_by_both, can_do_both, reaches_then}
+use Rattle.rv_emit_steps.proofs.Placing.{code_front, code_rest, done_by_both, can_do_both, regions_stay, reaches_then}
 use Rattle.rv_emit_steps.specs.EmitMovesDoing.{Brings, CanFetch, IsLeft}
 use Rattle.rv_emit_steps.proofs.Computing.{can_fetch_stays}
 use Rattle.rv_emit_steps.proofs.Moves.{constant_set}
@@ -83,12 +85,12 @@ copied_is memory n words all later found = by_test (nat_le words (words_of (leng
 -- ---- The frame behind them
 
 module _ (w : Setting) (c : Configuration) (h : Holding) (storage : IsStorage w) (frame : HoldsFrame w c h) (n words : ℕ) (all : List ℕ) (source : ℕ) (later : Memory) (is : IsCopied c.memory n words all later) (has : HasArray w c.memory h.memory source all) where
-  copies_framed : (t : Holding) → ((b : ℕ) → t.memory b < 256) → ((q : ℕ) → IsLeft q → q ≢ 10 → t.registers q ≡ h.registers q) → AreCopied (w.addresses n) (array_bytes_at w.storage source) words h.memory t.memory
+  copies_framed : (t : Holding) → t.regions ≡ h.regions → ((b : ℕ) → t.memory b < 256) → ((q : ℕ) → IsLeft q → q ≢ 10 → t.registers q ≡ h.registers q) → AreCopied (w.addresses n) (array_bytes_at w.storage source) words h.memory t.memory
       → HoldsFrame w (record c { memory = later }) t
-  copies_framed t small kept copies =
+  copies_framed t regions small kept copies =
       subst (λ m. HoldsFrame w (record c { memory = m }) t) is.filling.makes
       (filled_framed w c h t storage frame n words is.filling.object (elements_from all is.filling.object.element 0 (4 * words / size_of is.filling.object.element)) is.filling.there is.filling.live is.filling.few
-      (λ j le. subst (λ k. j < k) (sym (elements_length all is.filling.object.element 0 (4 * words / size_of is.filling.object.element))) (fits_in is.filling.object.element j words le)) kept copies.outside
+      (λ j le. subst (λ k. j < k) (sym (elements_length all is.filling.object.element 0 (4 * words / size_of is.filling.object.element))) (fits_in is.filling.object.element j words le)) regions kept copies.outside
       (λ j v e. held j v (elements_have all is.filling.object.element 0 (4 * words / size_of is.filling.object.element) j v e)))
     where
       held : (j : ℕ) (v : Value) → (j < 4 * words / size_of is.filling.object.element) × (v ≡ element_in all is.filling.object.element (0 + j))
@@ -118,7 +120,7 @@ record IsCopySetUp (setup : List Instruction) (h : Holding) (to from words : ℕ
   memory : (done_by_all setup h).memory ≡ h.memory
   input : (done_by_all setup h).input ≡ h.input
 
-copy_set_up : (w : Setting) (h : Holding) (offset from words : ℕ) → CanFetch w.storage w.held h → from < 4294967296 → h.registers 2 + offset + 4 * words ≤ 33554432
+copy_set_up : (w : Setting) (h : Holding) (offset from words : ℕ) → CanFetch w.storage w.held h → from < 4294967296 → h.registers 2 + offset + 4 * words ≤ 2147483648
     → IsCopySetUp (address_code 6 6 offset ++ set_constant_code 7 from w.storage.base w.held ++ limit_code 10 (words * 4 % 4294967296)) h (h.registers 2 + offset) from words
 copy_set_up w h offset from words can low fits =
     let a = address_code 6 6 offset in
@@ -160,17 +162,22 @@ module _ (p : Program) (s : State) (index : ℕ) (b : Bool) (w : Setting) (c : C
   abbrev from : ℕ
   from = array_bytes_at w.storage source
 
-  to_stands : (k : ℕ) → k < words → IsDataAt 4 (to + 4 * k)
-  to_stands k lt = subst (λ a. IsDataAt 4 (a + 4 * k)) own (words_stand w c h storage frame (c.here.first_object + object) words (λ o. elements_from all o.element 0 (4 * words / size_of o.element)) later is_copied.filling k lt)
+  to_stands : (k : ℕ) → k < words → IsDataAt (map_of_unit w.unit) 4 (to + 4 * k)
+  to_stands k lt = subst (λ a. IsDataAt (map_of_unit w.unit) 4 (a + 4 * k)) own (words_stand w c h storage frame (c.here.first_object + object) words (λ o. elements_from all o.element 0 (4 * words / size_of o.element)) later is_copied.filling k lt)
 
-  from_stands : (k : ℕ) → k < words → IsDataAt 4 (from + 4 * k)
+  from_stands : (k : ℕ) → k < words → IsDataAt (map_of_unit w.unit) 4 (from + 4 * k)
   from_stands k lt = let few = is_copied.few_bytes in let low = has.low in let high = has.high in let aligned = has.aligned in (omega (arith, aligned), inl (omega (arith, low), omega (arith, high, few, lt)))
 
-  to_fits : to + 4 * words ≤ 33554432
-  to_fits = subst (λ a. a + 4 * words ≤ 33554432) own (words_fit w c h storage frame (c.here.first_object + object) words (λ o. elements_from all o.element 0 (4 * words / size_of o.element)) later is_copied.filling)
+  to_fits : to + 4 * words ≤ 2147483648
+  to_fits = subst (λ a. a + 4 * words ≤ 2147483648) own (words_fit w c h storage frame (c.here.first_object + object) words (λ o. elements_from all o.element 0 (4 * words / size_of o.element)) later is_copied.filling)
 
-  from_fits : from + 4 * words ≤ 33554432
-  from_fits = let few = is_copied.few_bytes in let high = has.high in omega (arith, high, few)
+  from_fits : from + 4 * words ≤ 2147483648
+  from_fits =
+      let few = is_copied.few_bytes in
+      let high = has.high in
+      let between = (map_facts (map_of_unit w.unit)).apart in
+      let positive = (map_facts (map_of_unit w.unit)).positive in
+      omega (arith, high, few, between, positive)
 
   apart : (from + 4 * words ≤ to) ⊎ (to + 4 * words ≤ from)
   apart =
@@ -192,8 +199,8 @@ module _ (p : Program) (s : State) (index : ℕ) (b : Bool) (w : Setting) (c : C
       (λ (past : w.addresses (c.here.first_object + object) + 4 * words_of (bytes_of is_copied.filling.object) ≤ y). inr (omega (arith, past, here, few)))
       (out.1 (c.here.first_object + object) is_copied.filling.object is_copied.filling.there is_copied.filling.live)
 
-  framed : (t : Holding) → ((x : ℕ) → t.memory x < 256) → ((q : ℕ) → IsLeft q → q ≢ 10 → t.registers q ≡ h.registers q) → AreCopied to from words h.memory t.memory → HoldsFrame w (record c { memory = later }) t
-  framed t small kept copies = copies_framed w c h storage frame (c.here.first_object + object) words all source later is_copied has t small kept (subst (λ a. AreCopied a from words h.memory t.memory) (sym own) copies)
+  framed : (t : Holding) → t.regions ≡ h.regions → ((x : ℕ) → t.memory x < 256) → ((q : ℕ) → IsLeft q → q ≢ 10 → t.registers q ≡ h.registers q) → AreCopied to from words h.memory t.memory → HoldsFrame w (record c { memory = later }) t
+  framed t regions small kept copies = copies_framed w c h storage frame (c.here.first_object + object) words all source later is_copied has t regions small kept (subst (λ a. AreCopied a from words h.memory t.memory) (sym own) copies)
 
   abbrev setup : List Instruction
   setup = address_code 6 6 (object_at w.storage object) ++ set_constant_code 7 (array_bytes_at w.storage source) w.storage.base w.held ++ limit_code 10 (words * 4 % 4294967296)
@@ -232,7 +239,7 @@ module _ (p : Program) (s : State) (index : ℕ) (b : Bool) (w : Setting) (c : C
         holding = u;
         reaches = subst (λ x. Reaches p (length setup + (4 + 1) * (k + 1)) (record { state = s; shown = b }) [] (index + length (setup ++ loop)) x u) (sym (setup_behind loop))
             (subst (λ i. Reaches p (length setup + (4 + 1) * (k + 1)) (record { state = s; shown = b }) [] i false u) end whole);
-        frame = framed u done.left.small kept set;
+        frame = framed u (done.left.regions ∙ regions_stay setup h) done.left.small kept set;
         kept = kept;
         outside = λ y out. set.outside y (beside y out);
         input = done.left.input ∙ up.input;
@@ -240,11 +247,12 @@ module _ (p : Program) (s : State) (index : ℕ) (b : Bool) (w : Setting) (c : C
 
   looping : (k : ℕ) → words ≡ suc k → CodeAt p index b (setup ++ loop) → Comes p s index b (length (setup ++ loop) + 5 * words) (setup ++ loop) w c.memory h (record c { memory = later })
   looping k more code =
-      let high = has.high in
-      let up : IsCopySetUp setup h to from words = copy_set_up w h (object_at w.storage object) from words frame.fetch (omega (arith, high)) to_fits in
+      let reach = from_fits in
+      let up : IsCopySetUp setup h to from words = copy_set_up w h (object_at w.storage object) from words frame.fetch (omega (arith, reach)) to_fits in
       let t : Holding = done_by_all setup h in
       let first = code_does p s index h b setup stands (code_front p index b setup loop code) up.can in
       let body_there : CodeAt p (index + length setup) false loop = subst (λ x. CodeAt p (index + length setup) x loop) none_behind (code_rest p index b setup loop code) in
+      let behind_map : map_of_unit w.unit ≡ t.regions = sym (regions_stay setup h ∙ frame.map) in
       let start : CopiesLeft t to from words (suc k) t = record {
         done = 0;
         sum = omega (arith, more);
@@ -255,9 +263,11 @@ module _ (p : Program) (s : State) (index : ℕ) (b : Bool) (w : Setting) (c : C
         kept = λ q left. refl;
         memory = none_copied to from t.memory;
         input = refl;
+        regions = refl;
       } in
       ends k more up first
-      (loop_done p (index + length setup) copy_body 10 (CopiesLeft t to from words) (copy_turns t to from words to_fits from_fits apart to_stands from_stands) body_there k first.state t first.stands start)
+      (loop_done p (index + length setup) copy_body 10 (CopiesLeft t to from words) (copy_turns t to from words to_fits from_fits apart
+      (λ k2 lt. subst (λ m. IsDataAt m 4 (to + 4 * k2)) behind_map (to_stands k2 lt)) (λ k2 lt. subst (λ m. IsDataAt m 4 (from + 4 * k2)) behind_map (from_stands k2 lt))) body_there k first.state t first.stands start)
 
   -- The words of the instruction.
   pub copy_comes : CodeAt p index b (copy_code w.storage w.held object source words) → Comes p s index b (length (copy_code w.storage w.held object source words) + 5 * words) (copy_code w.storage w.held object source words) w c.memory h (record c { memory = later })
@@ -273,7 +283,7 @@ module _ (p : Program) (s : State) (index : ℕ) (b : Bool) (w : Setting) (c : C
         few = omega arith;
         holding = h;
         reaches = code_does p s index h b [] stands tt tt;
-        frame = framed h stands.in_range.bytes (λ q left other. refl) (subst (λ k. AreCopied to from k h.memory h.memory) (sym none) (none_copied to from h.memory));
+        frame = framed h refl stands.in_range.bytes (λ q left other. refl) (subst (λ k. AreCopied to from k h.memory h.memory) (sym none) (none_copied to from h.memory));
         kept = λ q left other. refl;
         outside = λ y out. refl;
         input = refl;

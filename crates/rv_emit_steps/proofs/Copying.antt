@@ -67,9 +67,10 @@ pub record CopiesLeft (start : Holding) (to from words left : ℕ) (h : Holding)
   pub kept : (q : ℕ) → IsLeft q → h.registers q ≡ start.registers q
   pub memory : AreCopied to from done start.memory h.memory
   pub input : h.input ≡ start.input
+  pub regions : h.regions ≡ start.regions
 
-pub copy_turns : (start : Holding) (to from words : ℕ) → to + 4 * words ≤ 33554432 → from + 4 * words ≤ 33554432 → (from + 4 * words ≤ to) ⊎ (to + 4 * words ≤ from)
-    → ((k : ℕ) → k < words → IsDataAt 4 (to + 4 * k)) → ((k : ℕ) → k < words → IsDataAt 4 (from + 4 * k)) → Turns copy_body 10 (CopiesLeft start to from words)
+pub copy_turns : (start : Holding) (to from words : ℕ) → to + 4 * words ≤ 2147483648 → from + 4 * words ≤ 2147483648 → (from + 4 * words ≤ to) ⊎ (to + 4 * words ≤ from)
+    → ((k : ℕ) → k < words → IsDataAt start.regions 4 (to + 4 * k)) → ((k : ℕ) → k < words → IsDataAt start.regions 4 (from + 4 * k)) → Turns copy_body 10 (CopiesLeft start to from words)
 unfolding operated_immediate
 copy_turns start to from words fits also apart there here = record {
   can = λ k h l.
@@ -78,7 +79,10 @@ copy_turns start to from words fits also apart there here = record {
       let is : word (h.registers 7 + 0) ≡ from + 4 * l.done = omega (arith, l.source, sum) in
       let t1 : f1 6 ≡ h.registers 6 = register_other 5 (word_at h.memory (word (h.registers 7 + 0))) 6 h.registers (λ e. cc) in
       let to_is : word (f1 6 + 0) ≡ to + 4 * l.done = omega (arith, t1, l.at, sum) in
-      (subst (IsDataAt 4) (sym is) (here l.done (omega (arith, sum))), (subst (IsDataAt 4) (sym to_is) (there l.done (omega (arith, sum))), (tt, (tt, tt)))));
+      (
+        subst (λ m. IsDataAt m 4 (word (h.registers 7 + 0))) (sym l.regions) (subst (IsDataAt start.regions 4) (sym is) (here l.done (omega (arith, sum)))),
+        (subst (λ m. IsDataAt m 4 (word (f1 6 + 0))) (sym l.regions) (subst (IsDataAt start.regions 4) (sym to_is) (there l.done (omega (arith, sum)))), (tt, (tt, tt))),
+      ));
   next = λ k h l. next_copied k h l;
   ends = λ h l. (let sum = l.sum in omega (arith, l.at, l.limit, sum));
   goes = λ k h l. (let sum = l.sum in λ e. omega (arith, l.at, l.limit, sum, e));
@@ -111,4 +115,5 @@ copy_turns start to from words fits also apart there here = record {
               (one_copied to from l.done (word (f1 6 + 0)) a start.memory h.memory to_is is l.small
               (⊎_elim (λ (below : from + 4 * words ≤ to). inl (omega (arith, below, sum))) (λ (above : to + 4 * words ≤ from). inr (omega (arith, above, sum))) apart) l.memory);
           input = l.input;
+          regions = l.regions;
         }

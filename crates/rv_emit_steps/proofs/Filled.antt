@@ -2,6 +2,7 @@
 use Rattle.std.proofs.Common.{◌≡◌, ◌≢◌, ℕ, zero, suc, ◌+◌, ◌*◌, ◌%◌, ◌<◌, ◌≤◌, ◌⊎◌, ⊎_elim, inl, inr, sym, ap, ◌∙◌, subst, arith, refl, List, [], ◌∷◌, ◌++◌, length, take, drop, slice_get, slice_set, Some, true}
 use Rattle.std.proofs.lemmas.Bool.{cases_lt}
 use Rattle.std.proofs.lemmas.Option.{slice_get_within}
+use Rattle.memory_map.specs.Maps.{stack_end, stack_start}
 use Rattle.graph_core.specs.declared.value.Value.{Value}
 use Rattle.graph_core.specs.declared.instruction.Element.{Element}
 use Rattle.graph_core.specs.declared.instruction.Element.TheVariants.{Unsigned8, Signed8, Unsigned16, Signed16, Word}
@@ -11,6 +12,7 @@ use Rattle.graph_core.specs.Runs.{Configuration}
 use Rattle.graph_homes.specs.declared.home.Home.{Home}
 use Rattle.graph_homes.specs.declared.home.Home.TheVariants.{Register, Slot}
 use Rattle.graph_homes.specs.Homed.{IsHomeAmong, home_number}
+use Rattle.rv_emit_storage.specs.UnitMaps.{map_of_unit}
 use Rattle.rv_emit_storage.specs.Storages.{slot_at, object_at}
 use Rattle.rv_emit_steps.specs.Holding.{Holding, word_at}
 use Rattle.rv_emit_steps.specs.EmitMovesDoing.{IsLeft, value_of_home}
@@ -58,7 +60,7 @@ beyond Word j words lt = omega arith
 
 -- Memory behind the words: so many from an address on hold new bits, element by element, and the rest is as it was.
 module _ (w : Setting) (c : Configuration) (h t : Holding) (storage : IsStorage w) (frame : HoldsFrame w c h) (n words : ℕ) (o : Object) (new : List Value) (there : slice_get c.memory n ≡ Some o) (live : o.live ≡ true)
-    (few : words ≤ words_of (bytes_of o)) (every : (j : ℕ) → j * size_of o.element + size_of o.element ≤ 4 * words → j < length new) (kept : (q : ℕ) → IsLeft q → q ≢ 10 → t.registers q ≡ h.registers q)
+    (few : words ≤ words_of (bytes_of o)) (every : (j : ℕ) → j * size_of o.element + size_of o.element ≤ 4 * words → j < length new) (regions : t.regions ≡ h.regions) (kept : (q : ℕ) → IsLeft q → q ≢ 10 → t.registers q ≡ h.registers q)
     (outside : (b : ℕ) → (b < w.addresses n) ⊎ (w.addresses n + 4 * words ≤ b) → t.memory b ≡ h.memory b)
     (filled : (j : ℕ) (v : Value) → slice_get new j ≡ Some v → HoldsBits w.addresses c.memory (size_of o.element) v (bits_at t.memory (size_of o.element) (w.addresses n + j * size_of o.element))) where
   abbrev pub filled_objects : Memory
@@ -139,8 +141,9 @@ module _ (w : Setting) (c : Configuration) (h t : Holding) (storage : IsStorage 
         fetch = fetch_stays w.storage w.held h t kept frame.scratch frame.fetch;
         scratch = frame.scratch;
         aligned = ap (λ s. s % 4) sp ∙ frame.aligned;
-        low = subst (λ s. 16777216 ≤ s) (sym sp) frame.low;
-        high = subst (λ s. s + w.size ≤ 33554432) (sym sp) frame.high;
+        map = regions ∙ frame.map;
+        low = subst (λ s. stack_start (map_of_unit w.unit) ≤ s) (sym sp) frame.low;
+        high = subst (λ s. s + w.size ≤ stack_end (map_of_unit w.unit)) (sym sp) frame.high;
         homes = λ home among. subst (λ y. Means w.addresses filled_objects (c.here.names (home_number home)) y) (sym (home_kept home among)) (means_later w.addresses c.memory filled_objects those _ _ (frame.homes home among));
         objects = filled_hold;
         laid = laid_later w.addresses c.memory filled_objects those frame.laid;

@@ -2,6 +2,8 @@
 use Rattle.std.proofs.Common.{length, ◌≡◌, ◌≢◌, ℕ, ◌+◌, ◌*◌, ◌%◌, ◌<◌, ◌≤◌, ◌⊎◌, ⊎_elim, inl, inr, sym, ap, ◌∙◌, subst, arith, refl, Some, Bool, true, false, cond, List, [], ◌∷◌}
 use Rattle.std.specs.Prelude.{◌==◌}
 use Rattle.std.proofs.lemmas.Bool.{eqb-true, eq-eqb, ne_eqb, cases_lt}
+use Rattle.memory_map.specs.Maps.{bytes_end, stack_end, stack_start}
+use Rattle.memory_map.proofs.Facts.{map_facts}
 use Rattle.rv_code.specs.declared.instruction.Instruction.{Instruction as MachineInstruction}
 use Rattle.graph_core.specs.declared.value.Value.{Value}
 use Rattle.graph_core.specs.Memory.{bytes_of, words_of}
@@ -11,10 +13,12 @@ use Rattle.graph_homes.specs.declared.home.Home.TheVariants.{Register, Slot}
 use Rattle.graph_homes.specs.Homed.{IsHomeRegister, IsHomeAmong, home_number}
 use Rattle.rv_emit_words.specs.declared.piece.Held.{Held}
 use Rattle.rv_emit_storage.specs.declared.storage.Source.TheVariants.{Home as OfHome}
+use Rattle.rv_emit_storage.specs.UnitMaps.{map_of_unit}
 use Rattle.rv_emit_storage.specs.Storages.{StorageForm, slot_at, object_at, array_bytes_at}
 use Rattle.rv_emit_steps.specs.Holding.{Holding, word_at, with_bytes}
 use Rattle.rv_emit_steps.specs.Doing.{done_by_all}
 use Rattle.rv_emit_steps.proofs.Apart.{byte_outside}
+use Rattle.rv_emit_steps.proofs.Placing.{regions_stay}
 use Rattle.rv_emit_steps.specs.EmitMovesDoing.{CanFetch, Makes, CanWrite, HasSlot, HoldsAll, AreLeft, IsLeft, IsReadable, IsNoHome, value_of_home, memory_with}
 use Rattle.rv_emit_steps.proofs.Computing.{left_0, left_2, left_3, can_fetch_stays}
 use Rattle.rv_emit_steps.specs.Meaning.{Means, HoldsObjects}
@@ -35,16 +39,24 @@ home_low r (inr both) = both.1
 
 -- Where a slot lies.
 pub slot_is : (w : Setting) (c : Configuration) (h : Holding) (k : ℕ) → IsStorage w → HoldsFrame w c h → k < w.slots → slot_at w.storage k ≡ w.storage.slots + 4 * k
-slot_is w c h k storage frame lt = let room : w.storage.slots + 4 * w.slots ≤ w.size = storage.room in let high : h.registers 2 + w.size ≤ 33554432 = frame.high in omega arith
+slot_is w c h k storage frame lt =
+    let room : w.storage.slots + 4 * w.slots ≤ w.size = storage.room in
+    let high : h.registers 2 + w.size ≤ stack_end (map_of_unit w.unit) = frame.high in
+    let whole = (map_facts (map_of_unit w.unit)).whole in
+    omega arith
 
 pub has_slot : (w : Setting) (c : Configuration) (h : Holding) (k : ℕ) → IsStorage w → HoldsFrame w c h → k < w.slots → HasSlot h (slot_at w.storage k)
 has_slot w c h k storage frame lt =
     let room : w.storage.slots + 4 * w.slots ≤ w.size = storage.room in
-    let high : h.registers 2 + w.size ≤ 33554432 = frame.high in
+    let high : h.registers 2 + w.size ≤ stack_end (map_of_unit w.unit) = frame.high in
     let is : slot_at w.storage k ≡ w.storage.slots + 4 * k = slot_is w c h k storage frame lt in
     let a : h.registers 2 % 4 ≡ 0 = frame.aligned in
     let b : w.storage.slots % 4 ≡ 0 = storage.aligned in
-    record { aligned = omega (arith, is, a, b); low = frame.low; high = omega (arith, is, room, high, lt) }
+    record {
+      aligned = omega (arith, is, a, b);
+      low = subst (λ m. stack_start m ≤ h.registers 2) (sym frame.map) frame.low;
+      high = subst (λ m. h.registers 2 + slot_at w.storage k + 4 ≤ stack_end m) (sym frame.map) (omega (arith, is, room, high, lt));
+    }
 
 -- A home can be written and read.
 pub can_write : (w : Setting) (c : Configuration) (h : Holding) (home : Home) → IsStorage w → HoldsFrame w c h → IsHomeAmong w.slots home → CanWrite w.storage h home
@@ -63,15 +75,16 @@ home_stays w h t (Register r) kept memory among = kept r (home_left r among)
 home_stays w h t (Slot k) kept memory among = ap (λ s. word_at t.memory (s + slot_at w.storage k)) (kept 2 left_2) ∙ ap (λ (m : ℕ → ℕ). word_at m (h.registers 2 + slot_at w.storage k)) memory
 
 -- The frame stands as it stood where no register but t0 to t2 was written, and no memory.
-pub frame_stays : (w : Setting) (c : Configuration) (h t : Holding) → ((q : ℕ) → IsLeft q → t.registers q ≡ h.registers q) → t.memory ≡ h.memory → HoldsFrame w c h → HoldsFrame w c t
-frame_stays w c h t kept memory frame =
+pub frame_stays : (w : Setting) (c : Configuration) (h t : Holding) → t.regions ≡ h.regions → ((q : ℕ) → IsLeft q → t.registers q ≡ h.registers q) → t.memory ≡ h.memory → HoldsFrame w c h → HoldsFrame w c t
+frame_stays w c h t regions kept memory frame =
     let sp : t.registers 2 ≡ h.registers 2 = kept 2 left_2 in
     record {
       fetch = can_fetch_stays w.storage w.held h t kept frame.fetch;
       scratch = frame.scratch;
       aligned = ap (λ s. s % 4) sp ∙ frame.aligned;
-      low = subst (λ s. 16777216 ≤ s) (sym sp) frame.low;
-      high = subst (λ s. s + w.size ≤ 33554432) (sym sp) frame.high;
+      map = regions ∙ frame.map;
+      low = subst (λ s. stack_start (map_of_unit w.unit) ≤ s) (sym sp) frame.low;
+      high = subst (λ s. s + w.size ≤ stack_end (map_of_unit w.unit)) (sym sp) frame.high;
       homes = λ home among. subst (λ x. Means w.addresses c.memory (c.here.names (home_number home)) x) (sym (home_stays w h t home kept memory among)) (frame.homes home among);
       objects = subst (λ (m : ℕ → ℕ). HoldsObjects w.addresses c.memory m) (sym memory) frame.objects;
       laid = frame.laid;
@@ -191,8 +204,9 @@ home_performed w c h home v x code storage frame among made means =
         };
         scratch = frame.scratch;
         aligned = ap (λ s. s % 4) sp ∙ frame.aligned;
-        low = subst (λ s. 16777216 ≤ s) (sym sp) frame.low;
-        high = subst (λ s. s + w.size ≤ 33554432) (sym sp) frame.high;
+        map = regions_stay code h ∙ frame.map;
+        low = subst (λ s. stack_start (map_of_unit w.unit) ≤ s) (sym sp) frame.low;
+        high = subst (λ s. s + w.size ≤ stack_end (map_of_unit w.unit)) (sym sp) frame.high;
         homes = λ other also. homes_written w c h t v x storage frame means home other among also made.value made.kept sp made.memory;
         objects = objects_kept w.addresses c.memory h.memory t.memory
             (λ n o is live b low high. ap (λ (m : ℕ → ℕ). m b) made.memory ∙ kept_outside w c h home x b storage frame among
@@ -204,9 +218,10 @@ home_performed w c h home v x code storage frame among made means =
         static = frame.static;
         arrays = λ n all is.
             let has : HasArray w c.memory h.memory n all = frame.arrays n all is in
-            let sp_low : 16777216 ≤ h.registers 2 = frame.low in
-            let high : array_bytes_at w.storage n + 4 * words_of (length all) ≤ 5242880 = has.high in
-            array_stays w c.memory c.memory h.memory t.memory n all (those_same c.memory) (λ b lo hi. ap (λ (m : ℕ → ℕ). m b) made.memory ∙ kept_outside w c h home x b storage frame among (inl (omega (arith, hi, high, sp_low)))) has;
+            let sp_low : stack_start (map_of_unit w.unit) ≤ h.registers 2 = frame.low in
+            let high : array_bytes_at w.storage n + 4 * words_of (length all) ≤ bytes_end (map_of_unit w.unit) = has.high in
+            let between = (map_facts (map_of_unit w.unit)).apart in
+            array_stays w c.memory c.memory h.memory t.memory n all (those_same c.memory) (λ b lo hi. ap (λ (m : ℕ → ℕ). m b) made.memory ∙ kept_outside w c h home x b storage frame among (inl (omega (arith, hi, high, sp_low, between)))) has;
       };
       kept = made.kept;
       outside = λ b out. ap (λ (m : ℕ → ℕ). m b) made.memory ∙ kept_outside w c h home x b storage frame among out.0;

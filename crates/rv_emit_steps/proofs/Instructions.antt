@@ -4,10 +4,12 @@ use Rattle.std.specs.Option.{option_map_or}
 use Rattle.std.specs.Prelude.{nat_lt, ◌==◌, option_map}
 use Rattle.word_base.specs.declared.operation.Operation.{Operation}
 use Rattle.word_base.specs.declared.operation.Truncation.{Truncation}
+use Rattle.memory_map.specs.Maps.{stack_end}
+use Rattle.memory_map.proofs.Facts.{map_facts}
 use Rattle.rv_code.specs.declared.instruction.Instruction.{Instruction as MachineInstruction}
 use Rattle.rv_code.specs.declared.instruction.Instruction.TheVariants as instruction
 use Rattle.rv_machine.specs.State.{word}
-use Rattle.rv_machine.specs.Table.{operated, operated_immediate, store_size}
+use Rattle.rv_machine.specs.Table.{operated, operated_immediate, load_size, store_size}
 use Rattle.rv_code.specs.declared.instruction.ImmediateOperation.TheVariants.{Addi}
 use Rattle.rv_code.specs.declared.instruction.RegisterOperation.TheVariants as on
 use Rattle.std.proofs.lemmas.Bool.{eqb-true}
@@ -24,12 +26,13 @@ use Rattle.graph_core.specs.Uses.{target_of}
 use Rattle.graph_core.specs.Validity.{IsOperand, IsLocation, IsInstruction}
 use Rattle.graph_homes.specs.declared.home.Home.{Home}
 use Rattle.graph_homes.specs.Homed.{home_number, placed_operand, placed_location, placed_instruction}
+use Rattle.rv_emit_storage.specs.UnitMaps.{map_of_unit}
 use Rattle.rv_emit_storage.specs.Storages.{home_at, object_at, source_of}
 use Rattle.rv_emit_words.specs.Operands.{source_register, fetched_source, result_register, finishing, address_code}
 use Rattle.rv_emit_instructions.specs.Memory.{Reach, load_operation, store_operation, reach_of, loading, load_code, storing, store_code}
 use Rattle.rv_emit_steps.specs.Holding.{Holding, AreInRange, loaded_at, with_register, with_bytes, IsDataAt}
 use Rattle.rv_emit_steps.specs.Doing.{done_by_all, CanDoAll, writing}
-use Rattle.rv_emit_steps.proofs.Placing.{done_by_both, can_do_both}
+use Rattle.rv_emit_steps.proofs.Placing.{done_by_both, can_do_both, regions_stay}
 use Rattle.rv_emit_steps.proofs.Registers.{register_same, register_other}
 use Rattle.rv_emit_steps.proofs.Apart.{loaded_in_range}
 use Rattle.rv_emit_steps.specs.EmitMovesDoing.{Brings, Computes, Makes, CanWrite, IsLeft, IsReadable, value_of}
@@ -99,8 +102,10 @@ element_stored w c h storage frame front r e rs x p v n o i hits can is stays me
     let s : MachineInstruction = instruction.Store (store_operation e) rs r.base r.offset in
     let both : done_by_all (front ++ storing e r rs) h ≡ done_by_all (r.code ++ s ∷ []) t = done_by_both front (storing e r rs) h in
     let last : done_by_all (r.code ++ s ∷ []) t ≡ done_by_all (s ∷ []) u = done_by_both r.code (s ∷ []) t in
-    let there : IsDataAt (store_size (store_operation e)) (word (u.registers r.base + r.offset)) =
-    subst (λ k. IsDataAt k (word (u.registers r.base + r.offset))) (sym (store_size_is e)) (subst (IsDataAt (size_of e)) (sym finds.there) (hit_data w.addresses c.memory e p n o i frame.laid hits)) in
+    let there : IsDataAt u.regions (store_size (store_operation e)) (word (u.registers r.base + r.offset)) =
+    subst (λ m. IsDataAt m (store_size (store_operation e)) (word (u.registers r.base + r.offset))) (sym (regions_stay r.code t ∙ regions_stay front h ∙ frame.map))
+    (subst (λ k. IsDataAt (map_of_unit w.unit) k (word (u.registers r.base + r.offset))) (sym (store_size_is e))
+    (subst (IsDataAt (map_of_unit w.unit) (size_of e)) (sym finds.there) (hit_data w.addresses c.memory e p n o i frame.laid hits))) in
     let kept : (q : ℕ) → IsLeft q → (done_by_all (front ++ storing e r rs) h).registers q ≡ h.registers q = λ q left. ap (λ (y : Holding). y.registers q) (both ∙ last) ∙ finds.kept q left.t0 left.t2 ∙ stays q left in
     let made : (done_by_all (front ++ storing e r rs) h).memory ≡ with_bytes (size_of e) a x h.memory =
     ap (λ (y : Holding). y.memory) (both ∙ last)
@@ -110,7 +115,7 @@ element_stored w c h storage frame front r e rs x p v n o i hits can is stays me
     ∙ ap (λ (m : ℕ → ℕ). with_bytes (size_of e) a x m) (finds.memory ∙ memory) in
     record {
       can = can_do_both front (storing e r rs) h can (can_do_both r.code (s ∷ []) t finds.can (there, tt));
-      frame = store_framed w c h storage frame e p v x n o i hits means fits (done_by_all (front ++ storing e r rs) h) kept made;
+      frame = store_framed w c h storage frame e p v x n o i hits means fits (done_by_all (front ++ storing e r rs) h) (regions_stay (front ++ storing e r rs) h) kept made;
       kept = λ q none left. kept q left;
       outside = λ b out. ap (λ (m : ℕ → ℕ). m b) made ∙ byte_apart w c h storage frame e p v x n o i hits means fits b (⊎_elim (λ (low : b < w.addresses n). inl low) (λ (past : w.addresses n + 4 * words_of (bytes_of o) ≤ b). inr (omega (arith, past))) (out.1 n o hits.there hits.live));
       input = ap (λ (y : Holding). y.input) (both ∙ last) ∙ finds.input ∙ input;
@@ -158,21 +163,25 @@ module _ (w : Setting) (c : Configuration) (h : Holding) (storage : IsStorage w)
   -- ---- Loads
 
   -- A load behind the words that find the element.
-  load_computes : (r : Reach) (e : Element) (rd a : ℕ) → 0 < rd → Finds r h a → IsDataAt (size_of e) a → Computes (r.code ++ instruction.Load (load_operation e) rd r.base r.offset ∷ []) h rd (loaded_at (load_operation e) h.memory a)
+  load_computes : (r : Reach) (e : Element) (rd a : ℕ) → 0 < rd → Finds r h a → IsDataAt h.regions (size_of e) a → Computes (r.code ++ instruction.Load (load_operation e) rd r.base r.offset ∷ []) h rd (loaded_at (load_operation e) h.memory a)
   load_computes r e rd a some finds there =
       let i : MachineInstruction = instruction.Load (load_operation e) rd r.base r.offset in
       let t : Holding = done_by_all r.code h in
       let v : ℕ = loaded_at (load_operation e) t.memory (word (t.registers r.base + r.offset)) in
       let both : done_by_all (r.code ++ i ∷ []) h ≡ writing rd v t = done_by_both r.code (i ∷ []) h in
       record {
-        can = can_do_both r.code (i ∷ []) h finds.can (subst (λ k. IsDataAt k (word (t.registers r.base + r.offset))) (sym (load_size_is e)) (subst (IsDataAt (size_of e)) (sym finds.there) there), tt);
+        can = can_do_both r.code (i ∷ []) h finds.can (
+          subst (λ m. IsDataAt m (load_size (load_operation e)) (word (t.registers r.base + r.offset))) (sym (regions_stay r.code h))
+          (subst (λ k. IsDataAt h.regions k (word (t.registers r.base + r.offset))) (sym (load_size_is e)) (subst (IsDataAt h.regions (size_of e)) (sym finds.there) there)),
+          tt,
+        );
         value = ap (λ (u : Holding). u.registers rd) both ∙ register_same rd v t.registers some ∙ ap (λ (m : ℕ → ℕ). loaded_at (load_operation e) m (word (t.registers r.base + r.offset))) finds.memory ∙ ap (loaded_at (load_operation e) h.memory) finds.there;
         kept = λ q other left. ap (λ (u : Holding). u.registers q) both ∙ register_other rd v q t.registers other ∙ finds.kept q left.t0 left.t2;
         memory = ap (λ (u : Holding). u.memory) both ∙ finds.memory;
         input = ap (λ (u : Holding). u.input) both ∙ finds.input;
       }
 
-  load_made : (r : Reach) (e : Element) (home : Home) (a : ℕ) → CanWrite w.storage h home → Finds r h a → IsDataAt (size_of e) a → Makes w.storage (loading w.storage home e r) h home (loaded_at (load_operation e) h.memory a)
+  load_made : (r : Reach) (e : Element) (home : Home) (a : ℕ) → CanWrite w.storage h home → Finds r h a → IsDataAt h.regions (size_of e) a → Makes w.storage (loading w.storage home e r) h home (loaded_at (load_operation e) h.memory a)
   load_made r e home a write finds there =
       let rd : ℕ = result_register home in
       let i : MachineInstruction = instruction.Load (load_operation e) rd r.base r.offset in
@@ -200,7 +209,8 @@ module _ (w : Setting) (c : Configuration) (h : Holding) (storage : IsStorage w)
           loaded_means w.addresses c.memory e r.value h.memory a (subst (λ s. HoldsBits w.addresses c.memory s r.value (bits_at h.memory s a)) (sym r.hits.wide) holds) in
           home_performed w c h (home_at w.storage x) v (loaded_at (load_operation e) h.memory a) _ storage frame (storage.homes x is)
           (load_made (reach_of w.storage w.held l) e (home_at w.storage x) a (can_write w c h (home_at w.storage x) storage frame (storage.homes x is))
-          (subst (λ o. Finds (reach_of w.storage w.held l) h (w.addresses r.number + o)) r.hits.at finds) (hit_data w.addresses c.memory e p r.number r.object r.index frame.laid r.hits))
+          (subst (λ o. Finds (reach_of w.storage w.held l) h (w.addresses r.number + o)) r.hits.at finds) 
+          (subst (λ m. IsDataAt m (size_of e) (w.addresses r.number + r.index * size_of r.object.element)) (sym frame.map) (hit_data w.addresses c.memory e p r.number r.object r.index frame.laid r.hits)))
           (subst (λ y. Means w.addresses c.memory y (loaded_at (load_operation e) h.memory a)) (sym r.gives) means)
 
   -- ---- Addresses
@@ -211,7 +221,8 @@ module _ (w : Setting) (c : Configuration) (h : Holding) (storage : IsStorage w)
       let rd : ℕ = result_register (home_at w.storage x) in
       let a : ℕ = h.registers 2 + object_at w.storage object in
       let within : object_at w.storage object ≤ w.size = storage.objects object valid in
-      let high : h.registers 2 + w.size ≤ 33554432 = frame.high in
+      let high : h.registers 2 + w.size ≤ stack_end (map_of_unit w.unit) = frame.high in
+      let whole = (map_facts (map_of_unit w.unit)).whole in
       let write = can_write w c h (home_at w.storage x) storage frame (storage.homes x is) in
       home_performed w c h (home_at w.storage x) _ a _ storage frame (storage.homes x is)
       (computed_made w.storage (address_code rd 7 (object_at w.storage object)) h (home_at w.storage x) a write (address_computes h rd (object_at w.storage object) (result_some w.storage h (home_at w.storage x) write) (omega arith)) (omega arith))
@@ -252,7 +263,7 @@ module _ (w : Setting) (c : Configuration) (h : Holding) (storage : IsStorage w)
               let brings : Brings front h 6 rs x = fetched w.storage w.held h source 6 (omega arith) frame.fetch readable in
               let t : Holding = done_by_all front h in
               let stays : (q : ℕ) → IsLeft q → t.registers q ≡ h.registers q = λ q left. brings.kept q left.t1 left.t0 in
-              let framed : HoldsFrame w c t = frame_stays w c h t stays brings.memory frame in
+              let framed : HoldsFrame w c t = frame_stays w c h t (regions_stay front h) stays brings.memory frame in
               let finds : Finds (reach_of w.storage w.held l) t (w.addresses n + hits.offset) = location_found w c t l n hits.size hits.offset storage framed vl fl hits.is in
               let apart = found_apart w.storage w.held h source frame.fetch.left readable in
               element_stored w c h storage frame front (reach_of w.storage w.held l) e rs x _ v n o i hits brings.can (brings.value) stays brings.memory brings.input
@@ -268,6 +279,7 @@ module _ (w : Setting) (c : Configuration) (h : Holding) (storage : IsStorage w)
       fetch = frame.fetch;
       scratch = frame.scratch;
       aligned = frame.aligned;
+      map = frame.map;
       low = frame.low;
       high = frame.high;
       homes = frame.homes;

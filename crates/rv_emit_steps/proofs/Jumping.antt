@@ -17,7 +17,7 @@ use Rattle.rv_emit_steps.proofs.Standing.{index_low, next_address, goes_to, goes
 -- ---- Distances
 
 -- The distance from one word of the code to another leads there.
-pub distance_leads : (i j : ℕ) → i < 262144 → j ≤ 262144 → word (address_of i + distance i j) ≡ address_of j
+pub distance_leads : (i j : ℕ) → i < 1000000000 → j ≤ 1000000000 → word (address_of i + distance i j) ≡ address_of j
 distance_leads i j hi hj = omega arith
 
 -- ---- Where they go
@@ -32,7 +32,7 @@ jump_held : (p : Program) (s : State) (index j : ℕ) (b : Bool) (r n : ℕ) →
     → Reaches p 1 (record { state = s; shown = b }) [] j false (writing r (address_of (index + 1)) (held s))
 unfolding acted
 jump_held p s index j b r n stands at leads =
-    let low : index < 262144 = index_low p index b (Jal r n) at in
+    let low : index < 1000000000 = index_low p index b (Jal r n) at in
     let there : word (s.pc + n) ≡ address_of j = ap (λ a. word (a + n)) stands.pc ∙ leads in
     goes_to p s index j b (Jal r n) r (address_of (index + 1)) stands at
     (jumps_to s (word (s.pc + n)) j r (next s) there ∙ ap (λ v. goes s (address_of j) r v) (next_address p s index (held s) stands low)) at.in_form.0 (omega arith)
@@ -48,7 +48,7 @@ return_held : (p : Program) (s : State) (index j : ℕ) (b : Bool) (r a n : ℕ)
     → Reaches p 1 (record { state = s; shown = b }) [] j false (writing r (address_of (index + 1)) (held s))
 unfolding acted
 return_held p s index j b r a n stands at leads =
-    let low : index < 262144 = index_low p index b (Jalr r a n) at in
+    let low : index < 1000000000 = index_low p index b (Jalr r a n) at in
     let there : word (reg s a + n) / 2 * 2 ≡ address_of j = omega (arith, leads) in
     goes_to p s index j b (Jalr r a n) r (address_of (index + 1)) stands at
     (jumps_to s (word (reg s a + n) / 2 * 2) j r (next s) there ∙ ap (λ v. goes s (address_of j) r v) (next_address p s index (held s) stands low)) at.in_form.0 (omega arith)

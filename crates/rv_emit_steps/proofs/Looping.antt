@@ -35,7 +35,7 @@ not_behind : (code : List Instruction) → behind false code ≡ false
 not_behind [] = refl
 not_behind (i ∷ code) = refl
 
-back_leads : (first many : ℕ) → first + many < 262144 → word (address_of (first + many) + subtracted 0 (4 * many)) ≡ address_of first
+back_leads : (first many : ℕ) → first + many < 1000000000 → word (address_of (first + many) + subtracted 0 (4 * many)) ≡ address_of first
 back_leads first many low = omega arith
 
 one_more : (x k : ℕ) → x + x * (k + 1) ≡ x * (suc k + 1)

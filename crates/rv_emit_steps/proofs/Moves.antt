@@ -27,7 +27,7 @@ use Rattle.rv_emit_words.specs.Operands.{home_register, fetched_home, source_reg
 use Rattle.rv_emit_instructions.specs.Operations.{register_operation, is_commutative, immediate_form, constant_written, on_registers, on_immediate, by_word, operation_code, shifted_twice, truncation_code, compared, comparison_code, move_code}
 use Rattle.rv_emit_steps.specs.Holding.{Holding, AreInRange}
 use Rattle.rv_emit_steps.specs.Doing.{done_by_all, writing}
-use Rattle.rv_emit_steps.proofs.Placing.{done_by_both, can_do_both}
+use Rattle.rv_emit_steps.proofs.Placing.{done_by_both, can_do_both, regions_stay}
 use Rattle.rv_emit_steps.proofs.Registers.{register_same, register_other}
 use Rattle.rv_emit_steps.proofs.Apart.{loaded_in_range}
 use Rattle.rv_emit_steps.proofs.Operating.{operated_in_range}
@@ -62,7 +62,7 @@ found_made g code h home r v apart can fits a =
     let rest = home_written g home r in
     let t : Holding = done_by_all code h in
     let sp : t.registers 2 ≡ h.registers 2 = a.kept 2 (λ e. cc) (λ e. cc) in
-    let b : Writes g rest t home v = home_writes g t home r v (can_write_stays g h t home sp can) apart a.value fits in
+    let b : Writes g rest t home v = home_writes g t home r v (can_write_stays g h t home (regions_stay code h) sp can) apart a.value fits in
     let both : done_by_all (code ++ rest) h ≡ done_by_all rest t = done_by_both code rest h in
     record {
       can = can_do_both code rest h a.can b.can;

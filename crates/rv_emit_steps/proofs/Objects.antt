@@ -4,6 +4,7 @@ use Rattle.std.specs.Prelude.{option_map}
 use Rattle.std.proofs.lemmas.Bool.{cases_lt, cases_eq}
 use Rattle.std.proofs.lemmas.List.{length-set}
 use Rattle.std.proofs.lemmas.Option.{slice_get_within}
+use Rattle.memory_map.specs.declared.map.Map.{Map}
 use Rattle.graph_core.specs.declared.value.Value.{Value}
 use Rattle.graph_core.specs.declared.value.Value.TheVariants.{Number, Pointer, Odd}
 use Rattle.graph_core.specs.declared.instruction.Element.{Element}
@@ -58,10 +59,10 @@ holds_later addresses memory later those size (Pointer object of offset) bits (a
 holds_later addresses memory later those size Odd bits holds = tt
 
 -- They lie where they lay.
-pub laid_later : (addresses : ℕ → ℕ) (memory later : Memory) → AreThose memory later → AreLaid addresses memory → AreLaid addresses later
-laid_later addresses memory later those laid = record {
+pub laid_later : {regions : Map} (addresses : ℕ → ℕ) (memory later : Memory) → AreThose memory later → AreLaid regions addresses memory → AreLaid regions addresses later
+laid_later {regions} addresses memory later those laid = record {
   aligned = λ n p is. laid.aligned n (those.were n p is).object (those.were n p is).is;
-  lie = λ n p is. subst (λ k. IsInMemory (addresses n) k) (sym (those.were n p is).bytes) (laid.lie n (those.were n p is).object (those.were n p is).is);
+  lie = λ n p is. subst (λ k. IsInMemory regions (addresses n) k) (sym (those.were n p is).bytes) (laid.lie n (those.were n p is).object (those.were n p is).is);
   apart = λ m n o p ne iso isp liveo livep.
       let a : WasThere memory m o = those.were m o iso in
       let b : WasThere memory n p = those.were n p isp in
@@ -97,7 +98,7 @@ objects_kept addresses memory m n same holds k o is live i v here =
 
 -- ---- A write to an object
 
-module _ (addresses : ℕ → ℕ) (memory : Memory) (m : ℕ → ℕ) (n i : ℕ) (o : Object) (v : Value) (w : ℕ) (laid : AreLaid addresses memory) (holds : HoldsObjects addresses memory m)
+module _ {regions : Map} (addresses : ℕ → ℕ) (memory : Memory) (m : ℕ → ℕ) (n i : ℕ) (o : Object) (v : Value) (w : ℕ) (laid : AreLaid regions addresses memory) (holds : HoldsObjects addresses memory m)
     (is : slice_get memory n ≡ Some o) (live : o.live ≡ true) (low : i < length o.values) (means : Means addresses memory v w) (fits : w < 4294967296) where
   -- memory behind the store, and the objects behind it
   abbrev after : ℕ → ℕ

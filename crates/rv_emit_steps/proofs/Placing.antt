@@ -1,6 +1,7 @@
 -- Code in parts, and stretches one behind the other.
-use Rattle.std.proofs.Common.{◌≡◌, ℕ, ◌+◌, sym, subst, arith, refl, List, [], ◌∷◌, ◌++◌, length, Bool, false}
+use Rattle.std.proofs.Common.{◌≡◌, ℕ, ◌+◌, ◌∙◌, sym, subst, arith, refl, List, [], ◌∷◌, ◌++◌, length, Bool, false}
 use Rattle.rv_code.specs.declared.instruction.Instruction.{Instruction}
+use Rattle.rv_code.specs.declared.instruction.Instruction.TheVariants.{Lui, Auipc, Jal, Jalr, Branch, Load, Store, Immediate, Register, Fence, Ecall, Ebreak}
 use Rattle.rv_machine.specs.Run.{MachineEvent}
 use Rattle.rv_emit_steps.specs.Holding.{Holding}
 use Rattle.rv_emit_steps.specs.Doing.{done_by, done_by_all, CanDoAll}
@@ -33,6 +34,25 @@ done_by_both (i ∷ front) rest h = done_by_both front rest (done_by i h)
 pub can_do_both : (front rest : List Instruction) (h : Holding) → CanDoAll front h → CanDoAll rest (done_by_all front h) → CanDoAll (front ++ rest) h
 can_do_both [] rest h f r = r
 can_do_both (i ∷ front) rest h f r = (f.0, can_do_both front rest (done_by i h) f.1 r)
+
+-- No instruction moves the regions of memory.
+region_stays : (i : Instruction) (h : Holding) → (done_by i h).regions ≡ h.regions
+region_stays (Lui r n) h = refl
+region_stays (Auipc r n) h = refl
+region_stays (Jal r n) h = refl
+region_stays (Jalr r a n) h = refl
+region_stays (Branch op a b n) h = refl
+region_stays (Load op r a n) h = refl
+region_stays (Store op b a n) h = refl
+region_stays (Immediate op r a n) h = refl
+region_stays (Register op r a b) h = refl
+region_stays (Fence r a n) h = refl
+region_stays Ecall h = refl
+region_stays Ebreak h = refl
+
+pub regions_stay : (code : List Instruction) (h : Holding) → (done_by_all code h).regions ≡ h.regions
+regions_stay [] h = refl
+regions_stay (i ∷ more) h = regions_stay more (done_by i h) ∙ region_stays i h
 
 -- A second stretch behind a first one.
 pub reaches_then : (p : Program) (m n : ℕ) (from : Point) (seen : List MachineEvent) (j : ℕ) (shown : Bool) (g : Holding) (more : List MachineEvent) (k : ℕ) (last : Bool) (h : Holding)

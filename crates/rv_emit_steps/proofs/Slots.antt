@@ -1,6 +1,8 @@
 -- The words that load and store a slot do so, near and far.
 use Rattle.std.proofs.Common.{◌≡◌, ◌≢◌, ℕ, ◌+◌, ◌*◌, ◌%◌, ◌<◌, ◌≤◌, inr, ap, ◌∙◌, arith, refl, Bool, true, false, cond, List, [], ◌∷◌}
 use Rattle.std.specs.Prelude.{nat_lt}
+use Rattle.memory_map.specs.Maps.{stack_end, stack_start}
+use Rattle.memory_map.proofs.Facts.{map_facts}
 use Rattle.rv_code.specs.declared.instruction.Instruction.{Instruction}
 use Rattle.rv_code.specs.declared.instruction.Instruction.TheVariants.{Lui, Load, Store, Register}
 use Rattle.rv_code.specs.declared.instruction.LoadOperation.TheVariants.{Lw}
@@ -17,16 +19,16 @@ use Rattle.rv_emit_steps.proofs.Parts.{parts_reach}
 
 -- The address of a slot, from sp and from t0.
 near_address : (h : Holding) (offset : ℕ) → HasSlot h offset → word (h.registers 2 + offset) ≡ h.registers 2 + offset
-near_address h offset slot = let high : h.registers 2 + offset + 4 ≤ 33554432 = slot.high in omega arith
+near_address h offset slot = let high : h.registers 2 + offset + 4 ≤ stack_end h.regions = slot.high in let whole = (map_facts h.regions).whole in omega arith
 
 far_address : (h : Holding) (offset : ℕ) → HasSlot h offset → word (word (high_part offset * 4096 + h.registers 2) + low_part offset) ≡ h.registers 2 + offset
-far_address h offset slot = let high : h.registers 2 + offset + 4 ≤ 33554432 = slot.high in parts_reach offset (h.registers 2) (omega arith) ∙ near_address h offset slot
+far_address h offset slot = let high : h.registers 2 + offset + 4 ≤ stack_end h.regions = slot.high in let whole = (map_facts h.regions).whole in parts_reach offset (h.registers 2) (omega arith) ∙ near_address h offset slot
 
-slot_data : (h : Holding) (offset a : ℕ) → HasSlot h offset → a ≡ h.registers 2 + offset → IsDataAt 4 a
+slot_data : (h : Holding) (offset a : ℕ) → HasSlot h offset → a ≡ h.registers 2 + offset → IsDataAt h.regions 4 a
 slot_data h offset a slot e =
     let aligned : (h.registers 2 + offset) % 4 ≡ 0 = slot.aligned in
-    let low : 16777216 ≤ h.registers 2 = slot.low in
-    let high : h.registers 2 + offset + 4 ≤ 33554432 = slot.high in
+    let low : stack_start h.regions ≤ h.registers 2 = slot.low in
+    let high : h.registers 2 + offset + 4 ≤ stack_end h.regions = slot.high in
     (omega arith, inr (omega arith, omega arith))
 
 -- A slot is loaded into a register that is not t0.

@@ -3,6 +3,8 @@ use Rattle.std.proofs.Common.{◌≡◌, ℕ, ◌+◌, ◌-◌, ◌*◌, ◌/◌
 use Rattle.std.specs.Prelude.{slice_get, nat_lt}
 use Rattle.std.proofs.lemmas.Bool.{le-ltb}
 use Rattle.std.proofs.lemmas.Option.{slice_get_within}
+use Rattle.memory_map.specs.Maps.{code_start, most_words}
+use Rattle.memory_map.proofs.Facts.{map_facts}
 use Rattle.rv_code.specs.declared.instruction.Instruction.{Instruction}
 use Rattle.rv_code.specs.Encoding.{encoded}
 use Rattle.rv_code.proofs.RoundTrip.{decoded_encoded}
@@ -21,8 +23,8 @@ fetched_at : (s : State) (i : ℕ) → s.pc ≡ address_of i → fetched s ≡ s
 unfolding fetched
 fetched_at s i e =
     let a : s.pc % 4 ≡ 0 = omega arith in
-    let b : nat_lt s.pc 65536 ≡ false = le-ltb s.pc 65536 (omega arith) in
-    let c : (s.pc - 65536) / 4 ≡ i = omega arith in
+    let b : nat_lt s.pc code_start ≡ false = le-ltb s.pc code_start (omega arith) in
+    let c : (s.pc - code_start) / 4 ≡ i = omega arith in
     simp (a, b, c)
 
 -- The instruction that stands where the machine stands is what it does.
@@ -36,18 +38,25 @@ pub stop_there : (p : Program) (s : State) (index : ℕ) (h : Holding) (b : Bool
 stop_there p s index h b i stands at = ap (is_stop p.stops) stands.pc ∙ at.stop
 
 -- The index of an instruction is less than the number of words.
-pub index_low : (p : Program) (index : ℕ) (b : Bool) (i : Instruction) → IsAt p index b i → index < 262144
+pub index_low : (p : Program) (index : ℕ) (b : Bool) (i : Instruction) → IsAt p index b i → index < 1000000000
 index_low p index b i at =
-    let short : length p.words ≤ 262144 = p.short in
+    let short : length p.words ≤ most_words p.map = p.short in
+    let few = (map_facts p.map).few in
     let low : index < length p.words = slice_get_within p.words index (encoded i) at.there in
     omega arith
 
-pub code_short : (p : Program) (s : State) (index : ℕ) (h : Holding) → Stands p s index h → length s.code ≤ 262144
-code_short p s index h stands = subst (λ n. n ≤ 262144) (sym (ap (λ (l : List ℕ). length l) stands.code)) p.short
+pub code_short : (p : Program) (s : State) (index : ℕ) (h : Holding) → Stands p s index h → length s.code ≤ most_words s.map
+code_short p s index h stands =
+    subst (λ m. length s.code ≤ most_words m) (sym stands.map)
+    (subst (λ n. n ≤ most_words p.map) (sym (ap (λ (l : List ℕ). length l) stands.code)) p.short)
+
+-- The regions lie where the program has them.
+pub regions_there : (p : Program) (s : State) (index : ℕ) (h : Holding) → Stands p s index h → h.regions ≡ p.map
+regions_there p s index h stands = sym (ap (λ (g : Holding). g.regions) stands.holds) ∙ stands.map
 
 -- The address of the word behind it.
-pub next_address : (p : Program) (s : State) (index : ℕ) (h : Holding) → Stands p s index h → index < 262144 → next s ≡ address_of (index + 1)
-next_address p s index h stands low = let here : s.pc ≡ 65536 + 4 * index = stands.pc in omega arith
+pub next_address : (p : Program) (s : State) (index : ℕ) (h : Holding) → Stands p s index h → index < 1000000000 → next s ≡ address_of (index + 1)
+next_address p s index h stands low = let here : s.pc ≡ code_start + 4 * index = stands.pc in omega arith
 
 -- The machine with a value written to a register, at another word.
 pub stands_gone : (p : Program) (s : State) (index j r v : ℕ) → Stands p s index (held s) → r < 32 → v < 4294967296
@@ -58,9 +67,10 @@ stands_gone p s index j r v stands low fits =
       code = stands.code;
       pc = refl;
       registers = length_written s.registers r v ∙ stands.registers;
+      map = stands.map;
       bytes = stands.bytes;
       stack = stands.stack;
-      holds = ap (λ (f : ℕ → ℕ). record { registers = f; memory = memory_of s.bytes s.stack; input = s.input }) (registers_written s.registers r v (omega arith));
+      holds = ap (λ (f : ℕ → ℕ). record { registers = f; memory = memory_of s.map s.bytes s.stack; input = s.input; regions = s.map }) (registers_written s.registers r v (omega arith));
       in_range = record {
         none = register_none r v (reg s) ∙ stands.in_range.none;
         words = registers_in_range r v (reg s) fits stands.in_range.words;
@@ -90,6 +100,7 @@ stands_itself p s index h stands = record {
   code = stands.code;
   pc = stands.pc;
   registers = stands.registers;
+  map = stands.map;
   bytes = stands.bytes;
   stack = stands.stack;
   holds = refl;

@@ -46,6 +46,7 @@ rest_framed w c h rest frame = record {
   fetch = frame.fetch;
   scratch = frame.scratch;
   aligned = frame.aligned;
+  map = frame.map;
   low = frame.low;
   high = frame.high;
   homes = frame.homes;

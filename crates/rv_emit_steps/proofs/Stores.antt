@@ -1,5 +1,6 @@
 -- The frame of an activation stands as it is to stand behind a store to an object.
 use Rattle.std.proofs.Common.{◌≡◌, ℕ, ◌+◌, ◌*◌, ◌%◌, ◌<◌, ◌≤◌, ◌⊎◌, ⊎_elim, inl, inr, sym, ap, ◌∙◌, subst, arith, refl, length, slice_set}
+use Rattle.memory_map.specs.Maps.{stack_end, stack_start}
 use Rattle.graph_core.specs.declared.value.Value.{Value}
 use Rattle.graph_core.specs.declared.instruction.Element.{Element}
 use Rattle.graph_core.specs.Values.{size_of}
@@ -8,6 +9,7 @@ use Rattle.graph_core.specs.Runs.{Configuration}
 use Rattle.graph_homes.specs.declared.home.Home.{Home}
 use Rattle.graph_homes.specs.declared.home.Home.TheVariants.{Register, Slot}
 use Rattle.graph_homes.specs.Homed.{IsHomeAmong, home_number}
+use Rattle.rv_emit_storage.specs.UnitMaps.{map_of_unit}
 use Rattle.rv_emit_storage.specs.Storages.{slot_at, object_at}
 use Rattle.rv_emit_steps.specs.Holding.{Holding, word_at, with_bytes}
 use Rattle.rv_emit_steps.proofs.Apart.{byte_outside}
@@ -56,7 +58,7 @@ module _ (w : Setting) (c : Configuration) (h : Holding) (storage : IsStorage w)
           (λ (above : h.registers 2 + (w.storage.slots + 4 * w.slots) ≤ w.addresses n). inl (omega (arith, above, is, eb, few, lt)))
           (frame.free n o hits.there hits.live)
 
-  module _ (t : Holding) (kept : (q : ℕ) → IsLeft q → t.registers q ≡ h.registers q) (memory : t.memory ≡ with_bytes (size_of e) (w.addresses n + i * size_of o.element) x h.memory) where
+  module _ (t : Holding) (regions : t.regions ≡ h.regions) (kept : (q : ℕ) → IsLeft q → t.registers q ≡ h.registers q) (memory : t.memory ≡ with_bytes (size_of e) (w.addresses n + i * size_of o.element) x h.memory) where
     home_apart : (home : Home) → IsHomeAmong w.slots home → value_of_home w.storage t home ≡ value_of_home w.storage h home
     home_apart (Register r) among = kept r (home_left r among)
     home_apart (Slot k) lt = ap (λ s. word_at t.memory (s + slot_at w.storage k)) (kept 2 left_2) ∙ ap (λ (m : ℕ → ℕ). word_at m (h.registers 2 + slot_at w.storage k)) memory ∙ slot_apart k lt
@@ -69,8 +71,9 @@ module _ (w : Setting) (c : Configuration) (h : Holding) (storage : IsStorage w)
           fetch = can_fetch_stays w.storage w.held h t kept frame.fetch;
           scratch = frame.scratch;
           aligned = ap (λ s. s % 4) sp ∙ frame.aligned;
-          low = subst (λ s. 16777216 ≤ s) (sym sp) frame.low;
-          high = subst (λ s. s + w.size ≤ 33554432) (sym sp) frame.high;
+          map = regions ∙ frame.map;
+          low = subst (λ s. stack_start (map_of_unit w.unit) ≤ s) (sym sp) frame.low;
+          high = subst (λ s. s + w.size ≤ stack_end (map_of_unit w.unit)) (sym sp) frame.high;
           homes = λ home among. subst (λ y. Means w.addresses stored_objects (c.here.names (home_number home)) y) (sym (home_apart home among)) (means_later w.addresses c.memory stored_objects those _ _ (frame.homes home among));
           objects = subst (λ (m : ℕ → ℕ). HoldsObjects w.addresses stored_objects m) (sym memory)
               (subst (λ s. HoldsObjects w.addresses stored_objects (with_bytes s (w.addresses n + i * size_of o.element) x h.memory)) (sym hits.wide)

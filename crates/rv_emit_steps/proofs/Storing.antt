@@ -4,6 +4,9 @@ use Rattle.std.specs.Prelude.{slice_index, slice_set, nat_lt}
 use Rattle.std.proofs.lemmas.List.{get_or-set_same, get_or-set_other}
 use Rattle.std.proofs.Math.ListN.{length-set}
 use Rattle.std.proofs.lemmas.Bool.{le-ltb, lt-ltb, cases_lt}
+use Rattle.memory_map.specs.declared.map.Map.{Map}
+use Rattle.memory_map.specs.Maps.{bytes_end, bytes_size, bytes_start, code_start, most_words, stack_end, stack_size, stack_start}
+use Rattle.memory_map.proofs.Facts.{map_facts}
 use Rattle.rv_code.specs.declared.instruction.StoreOperation.{StoreOperation}
 use Rattle.rv_code.specs.declared.instruction.StoreOperation.TheVariants.{Sb, Sh, Sw}
 use Rattle.rv_machine.specs.State.{State}
@@ -56,51 +59,54 @@ store_written Sw xs i v lt = record { within = within; outside = λ j apart. byt
     within (suc (suc (suc (suc k)))) lt4 = absurd (omega arith)
 
 -- Memory after a store into static memory.
-memory_with_bytes : (n : ℕ) (xs ys stack : List ℕ) (a v : ℕ) → 4194304 ≤ a → a + n ≤ 5242880 → IsWritten n xs ys (a - 4194304) v → memory_of ys stack ≡ with_bytes n a v (memory_of xs stack)
-memory_with_bytes n xs ys stack a v low high h = written_memory n a v (memory_of xs stack) (memory_of ys stack) within outside
+memory_with_bytes : (m : Map) (n : ℕ) (xs ys stack : List ℕ) (a v : ℕ) → bytes_start m ≤ a → a + n ≤ bytes_end m → IsWritten n xs ys (a - bytes_start m) v → memory_of m ys stack ≡ with_bytes n a v (memory_of m xs stack)
+memory_with_bytes m n xs ys stack a v low high h = written_memory n a v (memory_of m xs stack) (memory_of m ys stack) within outside
   where
-    within : (b : ℕ) → a ≤ b → b < a + n → memory_of ys stack b ≡ byte_of v (b - a)
+    within : (b : ℕ) → a ≤ b → b < a + n → memory_of m ys stack b ≡ byte_of v (b - a)
     within b lb hb =
-        let e : b - 4194304 ≡ a - 4194304 + (b - a) = omega arith in
-        in_bytes ys stack b (omega arith) (omega arith) ∙ ap (slice_index ys) e ∙ h.within (b - a) (omega arith)
+        let between = (map_facts m).apart in
+        let e : b - bytes_start m ≡ a - bytes_start m + (b - a) = omega arith in
+        in_bytes m ys stack b (omega arith) (omega arith) ∙ ap (slice_index ys) e ∙ h.within (b - a) (omega arith)
 
-    outside : (b : ℕ) → (b < a) ⊎ (a + n ≤ b) → memory_of ys stack b ≡ memory_of xs stack b
+    outside : (b : ℕ) → (b < a) ⊎ (a + n ≤ b) → memory_of m ys stack b ≡ memory_of m xs stack b
     outside b apart = ⊎_elim
-        (λ (none : b < 4194304). in_none ys stack b none ∙ sym (in_none xs stack b none))
-        (λ (some : 4194304 ≤ b). ⊎_elim
-        (λ (near : b < 16777216). in_bytes ys stack b some near ∙ h.outside (b - 4194304) (⊎_elim (λ (l : b < a). inl (omega arith)) (λ (g : a + n ≤ b). inr (omega arith)) apart) ∙ sym (in_bytes xs stack b some near))
-        (λ (far : 16777216 ≤ b). in_stack ys stack b far ∙ sym (in_stack xs stack b far))
-        (cases_lt b 16777216))
-        (cases_lt b 4194304)
+        (λ (none : b < bytes_start m). in_none m ys stack b none ∙ sym (in_none m xs stack b none))
+        (λ (some : bytes_start m ≤ b). ⊎_elim
+        (λ (near : b < stack_start m). in_bytes m ys stack b some near ∙ h.outside (b - bytes_start m) (⊎_elim (λ (l : b < a). inl (omega arith)) (λ (g : a + n ≤ b). inr (omega arith)) apart) ∙ sym (in_bytes m xs stack b some near))
+        (λ (far : stack_start m ≤ b). in_stack m ys stack b far ∙ sym (in_stack m xs stack b far))
+        (cases_lt b (stack_start m)))
+        (cases_lt b (bytes_start m))
 
 -- Memory after a store into the stack.
-memory_with_stack : (n : ℕ) (xs ys bytes : List ℕ) (a v : ℕ) → 16777216 ≤ a → IsWritten n xs ys (a - 16777216) v → memory_of bytes ys ≡ with_bytes n a v (memory_of bytes xs)
-memory_with_stack n xs ys bytes a v low h = written_memory n a v (memory_of bytes xs) (memory_of bytes ys) within outside
+memory_with_stack : (m : Map) (n : ℕ) (xs ys bytes : List ℕ) (a v : ℕ) → stack_start m ≤ a → IsWritten n xs ys (a - stack_start m) v → memory_of m bytes ys ≡ with_bytes n a v (memory_of m bytes xs)
+memory_with_stack m n xs ys bytes a v low h = written_memory n a v (memory_of m bytes xs) (memory_of m bytes ys) within outside
   where
-    within : (b : ℕ) → a ≤ b → b < a + n → memory_of bytes ys b ≡ byte_of v (b - a)
+    within : (b : ℕ) → a ≤ b → b < a + n → memory_of m bytes ys b ≡ byte_of v (b - a)
     within b lb hb =
-        let e : b - 16777216 ≡ a - 16777216 + (b - a) = omega arith in
-        in_stack bytes ys b (omega arith) ∙ ap (slice_index ys) e ∙ h.within (b - a) (omega arith)
+        let between = (map_facts m).apart in
+        let e : b - stack_start m ≡ a - stack_start m + (b - a) = omega arith in
+        in_stack m bytes ys b (omega arith) ∙ ap (slice_index ys) e ∙ h.within (b - a) (omega arith)
 
-    outside : (b : ℕ) → (b < a) ⊎ (a + n ≤ b) → memory_of bytes ys b ≡ memory_of bytes xs b
+    outside : (b : ℕ) → (b < a) ⊎ (a + n ≤ b) → memory_of m bytes ys b ≡ memory_of m bytes xs b
     outside b apart = ⊎_elim
-        (λ (none : b < 4194304). in_none bytes ys b none ∙ sym (in_none bytes xs b none))
-        (λ (some : 4194304 ≤ b). ⊎_elim
-        (λ (near : b < 16777216). in_bytes bytes ys b some near ∙ sym (in_bytes bytes xs b some near))
-        (λ (far : 16777216 ≤ b). in_stack bytes ys b far ∙ h.outside (b - 16777216) (⊎_elim (λ (l : b < a). inl (omega arith)) (λ (g : a + n ≤ b). inr (omega arith)) apart) ∙ sym (in_stack bytes xs b far))
-        (cases_lt b 16777216))
-        (cases_lt b 4194304)
+        (λ (none : b < bytes_start m). in_none m bytes ys b none ∙ sym (in_none m bytes xs b none))
+        (λ (some : bytes_start m ≤ b). ⊎_elim
+        (λ (near : b < stack_start m). in_bytes m bytes ys b some near ∙ sym (in_bytes m bytes xs b some near))
+        (λ (far : stack_start m ≤ b). in_stack m bytes ys b far ∙ h.outside (b - stack_start m) (⊎_elim (λ (l : b < a). inl (omega arith)) (λ (g : a + n ≤ b). inr (omega arith)) apart) ∙ sym (in_stack m bytes xs b far))
+        (cases_lt b (stack_start m)))
+        (cases_lt b (bytes_start m))
 
 -- A store that is carried out: the state behind it differs in memory alone, and by the bytes that were written.
 pub record Stored (s : State) (op : StoreOperation) (a v : ℕ) : Type 0 where
   pub state : State
   pub is : stored s op a v ≡ Some state
   pub code : state.code ≡ s.code
+  pub map : state.map ≡ s.map
   pub registers : state.registers ≡ s.registers
   pub input : state.input ≡ s.input
   pub bytes : length state.bytes ≡ length s.bytes
   pub stack : length state.stack ≡ length s.stack
-  pub memory : memory_of state.bytes state.stack ≡ with_bytes (store_size op) a v (memory_of s.bytes s.stack)
+  pub memory : memory_of s.map state.bytes state.stack ≡ with_bytes (store_size op) a v (memory_of s.map s.bytes s.stack)
 
 store_size_few : (op : StoreOperation) → (1 ≤ store_size op) × (store_size op ≤ 4)
 store_size_few Sb = (omega arith, omega arith)
@@ -108,39 +114,46 @@ store_size_few Sh = (omega arith, omega arith)
 store_size_few Sw = (omega arith, omega arith)
 
 -- A store at an address of static memory or of the stack is carried out.
-pub stores : (s : State) (op : StoreOperation) (a v : ℕ) → length s.code ≤ 262144 → length s.bytes ≡ 1048576 → length s.stack ≡ 16777216 → IsDataAt (store_size op) a → Stored s op a v
+pub stores : (s : State) (op : StoreOperation) (a v : ℕ) → length s.code ≤ most_words s.map → length s.bytes ≡ bytes_size → length s.stack ≡ stack_size
+    → IsDataAt s.map (store_size op) a → Stored s op a v
 unfolding stored location_of
 stores s op a v short bytes stack (aligned, inl (low, high)) =
     let few = store_size_few op in
-    let a1 : nat_lt a 65536 ≡ false = le-ltb a 65536 (omega arith) in
-    let a2 : nat_lt a (65536 + 4 * length s.code) ≡ false = le-ltb a (65536 + 4 * length s.code) (omega arith) in
-    let a3 : nat_lt a 4194304 ≡ false = le-ltb a 4194304 (omega arith) in
-    let a4 : nat_lt a 5242880 ≡ true = lt-ltb a 5242880 (omega arith) in
+    let code = (map_facts s.map).code in
+    let apart = (map_facts s.map).apart in
+    let a1 : nat_lt a code_start ≡ false = le-ltb a code_start (omega arith) in
+    let a2 : nat_lt a (code_start + 4 * length s.code) ≡ false = le-ltb a (code_start + 4 * length s.code) (omega arith) in
+    let a3 : nat_lt a (bytes_start s.map) ≡ false = le-ltb a (bytes_start s.map) (omega arith) in
+    let a4 : nat_lt a (bytes_end s.map) ≡ true = lt-ltb a (bytes_end s.map) (omega arith) in
     record {
-      state = record s { bytes = stored_in op s.bytes (a - 4194304) v };
+      state = record s { bytes = stored_in op s.bytes (a - bytes_start s.map) v };
       is = simp (aligned, a1, a2, a3, a4);
       code = refl;
+      map = refl;
       registers = refl;
       input = refl;
-      bytes = length_stored_in op s.bytes (a - 4194304) v;
+      bytes = length_stored_in op s.bytes (a - bytes_start s.map) v;
       stack = refl;
-      memory = memory_with_bytes (store_size op) s.bytes (stored_in op s.bytes (a - 4194304) v) s.stack a v low high (store_written op s.bytes (a - 4194304) v (omega arith));
+      memory = memory_with_bytes s.map (store_size op) s.bytes (stored_in op s.bytes (a - bytes_start s.map) v) s.stack a v low high (store_written op s.bytes (a - bytes_start s.map) v (omega arith));
     }
 stores s op a v short bytes stack (aligned, inr (low, high)) =
     let few = store_size_few op in
-    let a1 : nat_lt a 65536 ≡ false = le-ltb a 65536 (omega arith) in
-    let a2 : nat_lt a (65536 + 4 * length s.code) ≡ false = le-ltb a (65536 + 4 * length s.code) (omega arith) in
-    let a3 : nat_lt a 4194304 ≡ false = le-ltb a 4194304 (omega arith) in
-    let a4 : nat_lt a 5242880 ≡ false = le-ltb a 5242880 (omega arith) in
-    let a5 : nat_lt a 16777216 ≡ false = le-ltb a 16777216 (omega arith) in
-    let a6 : nat_lt a 33554432 ≡ true = lt-ltb a 33554432 (omega arith) in
+    let code = (map_facts s.map).code in
+    let apart = (map_facts s.map).apart in
+    let a1 : nat_lt a code_start ≡ false = le-ltb a code_start (omega arith) in
+    let a2 : nat_lt a (code_start + 4 * length s.code) ≡ false = le-ltb a (code_start + 4 * length s.code) (omega arith) in
+    let a3 : nat_lt a (bytes_start s.map) ≡ false = le-ltb a (bytes_start s.map) (omega arith) in
+    let a4 : nat_lt a (bytes_end s.map) ≡ false = le-ltb a (bytes_end s.map) (omega arith) in
+    let a5 : nat_lt a (stack_start s.map) ≡ false = le-ltb a (stack_start s.map) (omega arith) in
+    let a6 : nat_lt a (stack_end s.map) ≡ true = lt-ltb a (stack_end s.map) (omega arith) in
     record {
-      state = record s { stack = stored_in op s.stack (a - 16777216) v };
+      state = record s { stack = stored_in op s.stack (a - stack_start s.map) v };
       is = simp (aligned, a1, a2, a3, a4, a5, a6);
       code = refl;
+      map = refl;
       registers = refl;
       input = refl;
       bytes = refl;
-      stack = length_stored_in op s.stack (a - 16777216) v;
-      memory = memory_with_stack (store_size op) s.stack (stored_in op s.stack (a - 16777216) v) s.bytes a v low (store_written op s.stack (a - 16777216) v (omega arith));
+      stack = length_stored_in op s.stack (a - stack_start s.map) v;
+      memory = memory_with_stack s.map (store_size op) s.stack (stored_in op s.stack (a - stack_start s.map) v) s.bytes a v low (store_written op s.stack (a - stack_start s.map) v (omega arith));
     }

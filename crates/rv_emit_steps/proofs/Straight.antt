@@ -1,5 +1,6 @@
 -- Code that goes straight on: it does to what the machine holds what its instructions do, one behind the other.
 use Rattle.std.proofs.Common.{◌≡◌, ℕ, ◌+◌, ◌*◌, ◌<◌, ap, ◌∙◌, subst, arith, refl, List, [], ◌∷◌, length, Bool, false}
+use Rattle.memory_map.specs.declared.map.Map.{Map}
 use Rattle.rv_code.specs.declared.instruction.LoadOperation.{LoadOperation}
 use Rattle.rv_code.specs.declared.instruction.StoreOperation.{StoreOperation}
 use Rattle.rv_code.specs.declared.instruction.Instruction.{Instruction}
@@ -19,7 +20,7 @@ use Rattle.rv_emit_steps.proofs.Standing.{effect_there, stop_there, index_low, c
 
 -- A store.
 store_reaches : (p : Program) (s : State) (index : ℕ) (b : Bool) (op : StoreOperation) (q a n : ℕ) → Stands p s index (held s) → IsAt p index b (Store op q a n)
-    → IsDataAt (store_size op) (word (reg s a + n)) → Reaches p 1 (record { state = s; shown = b }) [] (index + 1) false (storing (store_size op) (word (reg s a + n)) (reg s q) (held s))
+    → IsDataAt s.map (store_size op) (word (reg s a + n)) → Reaches p 1 (record { state = s; shown = b }) [] (index + 1) false (storing (store_size op) (word (reg s a + n)) (reg s q) (held s))
 unfolding acted
 store_reaches p s index b op q a n stands at allowed =
     let made : Stored s op (word (reg s a + n)) (reg s q) = stores s op (word (reg s a + n)) (reg s q) (code_short p s index (held s) stands) stands.bytes stands.stack allowed in
@@ -31,15 +32,17 @@ store_reaches p s index b op q a n stands at allowed =
         code = made.code ∙ stands.code;
         pc = next_address p s index (held s) stands (index_low p index b (Store op q a n) at);
         registers = ap (λ (l : List ℕ). length l) made.registers ∙ stands.registers;
+        map = made.map ∙ stands.map;
         bytes = made.bytes ∙ stands.bytes;
         stack = made.stack ∙ stands.stack;
-        holds = ap (λ (l : List ℕ). record { registers = reg (record s { registers = l }); memory = memory_of made.state.bytes made.state.stack; input = made.state.input }) made.registers
-            ∙ ap (λ (m : ℕ → ℕ). record { registers = reg s; memory = m; input = made.state.input }) made.memory
-            ∙ ap (λ (l : List ℕ). record { registers = reg s; memory = with_bytes (store_size op) (word (reg s a + n)) (reg s q) (memory_of s.bytes s.stack); input = l }) made.input;
+        holds = ap (λ (l : List ℕ). record { registers = reg (record s { registers = l }); memory = memory_of made.state.map made.state.bytes made.state.stack; input = made.state.input; regions = made.state.map }) made.registers
+            ∙ ap (λ (m : Map). record { registers = reg s; memory = memory_of m made.state.bytes made.state.stack; input = made.state.input; regions = m }) made.map
+            ∙ ap (λ (m : ℕ → ℕ). record { registers = reg s; memory = m; input = made.state.input; regions = s.map }) made.memory
+            ∙ ap (λ (l : List ℕ). record { registers = reg s; memory = with_bytes (store_size op) (word (reg s a + n)) (reg s q) (memory_of s.map s.bytes s.stack); input = l; regions = s.map }) made.input;
         in_range = record {
           none = stands.in_range.none;
           words = stands.in_range.words;
-          bytes = bytes_in_range (store_size op) (word (reg s a + n)) (reg s q) (memory_of s.bytes s.stack) stands.in_range.bytes;
+          bytes = bytes_in_range (store_size op) (word (reg s a + n)) (reg s q) (memory_of s.map s.bytes s.stack) stands.in_range.bytes;
           input = stands.in_range.input;
         };
       };
@@ -47,12 +50,12 @@ store_reaches p s index b op q a n stands at allowed =
 
 -- A load.
 load_reaches : (p : Program) (s : State) (index : ℕ) (b : Bool) (op : LoadOperation) (r a n : ℕ) → Stands p s index (held s) → IsAt p index b (Load op r a n)
-    → IsDataAt (load_size op) (word (reg s a + n)) → Reaches p 1 (record { state = s; shown = b }) [] (index + 1) false (writing r (loaded_at op (memory_of s.bytes s.stack) (word (reg s a + n))) (held s))
+    → IsDataAt s.map (load_size op) (word (reg s a + n)) → Reaches p 1 (record { state = s; shown = b }) [] (index + 1) false (writing r (loaded_at op (memory_of s.map s.bytes s.stack) (word (reg s a + n))) (held s))
 unfolding acted
 load_reaches p s index b op r a n stands at allowed =
-    goes_on_next p s index b (Load op r a n) r (loaded_at op (memory_of s.bytes s.stack) (word (reg s a + n))) stands at
+    goes_on_next p s index b (Load op r a n) r (loaded_at op (memory_of s.map s.bytes s.stack) (word (reg s a + n))) stands at
     (ap (on_load s r) (loads s op (word (reg s a + n)) (code_short p s index (held s) stands) allowed)) at.in_form.0
-    (loaded_in_range op (word (reg s a + n)) (memory_of s.bytes s.stack) stands.in_range.bytes)
+    (loaded_in_range op (word (reg s a + n)) (memory_of s.map s.bytes s.stack) stands.in_range.bytes)
 
 -- One instruction that goes straight on.
 step_held : (p : Program) (s : State) (index : ℕ) (b : Bool) (i : Instruction) → Stands p s index (held s) → IsAt p index b i → CanDo i (held s)

@@ -4,6 +4,9 @@ use Rattle.std.specs.Prelude.{◌==◌, ◌&&◌, nat_lt, nat_le, slice_get, opt
 use Rattle.std.specs.Option.{option_map_or}
 use Rattle.std.proofs.lemmas.Bool.{eqb-true, eq-eqb, ne_eqb, lt-ltb, le-ltb, cases_lt, leb-true}
 use mir.Val.{sel}
+use Rattle.memory_map.specs.declared.map.Map.{Map}
+use Rattle.memory_map.specs.Maps.{bytes_end, bytes_start, stack_end, stack_start}
+use Rattle.memory_map.proofs.Facts.{map_facts}
 use Rattle.word_base.specs.Words.{signed, word_of_test}
 use Rattle.word_base.specs.WordOperations.{operated, truncated}
 use Rattle.word_base.specs.declared.operation.Operation.{Operation}
@@ -30,19 +33,23 @@ object_at memory n size e = by_some (slice_get memory n) refl e
     by_some None is e2 = cc
     by_some (Some o) is e2 = let b : bytes_of o ≡ size = cc in record { object = o; is = is; bytes = sym b }
 
--- An object lies between 2^22 and 2^25.
-pub lies_low : (addresses : ℕ → ℕ) (memory : Memory) (n size : ℕ) → AreLaid addresses memory → size_at memory n ≡ Some size → (4194304 ≤ addresses n) × (addresses n + size + 4 ≤ 33554432)
-lies_low addresses memory n size laid e =
+-- An object lies between 2^12 and 2^31.
+pub lies_low : {m : Map} (addresses : ℕ → ℕ) (memory : Memory) (n size : ℕ) → AreLaid m addresses memory → size_at memory n ≡ Some size
+    → (4096 ≤ addresses n) × (addresses n + size + 4 ≤ 2147483648)
+lies_low {m} addresses memory n size laid e =
+    let positive = (map_facts m).positive in
+    let begins = (map_facts m).low in
+    let between = (map_facts m).apart in
     let at : IsObjectAt memory n size = object_at memory n size e in
     let bytes : size ≡ bytes_of at.object = at.bytes in
     ⊎_elim
-    (λ (h : (4194304 ≤ addresses n) × (addresses n + bytes_of at.object + 4 ≤ 5242880)). let l = h.0 in let r = h.1 in (omega arith, omega arith))
-    (λ (h : (16777216 ≤ addresses n) × (addresses n + bytes_of at.object + 4 ≤ 33554432)). let l = h.0 in let r = h.1 in (omega arith, omega arith))
+    (λ (h : (bytes_start m ≤ addresses n) × (addresses n + bytes_of at.object + 4 ≤ bytes_end m)). let l = h.0 in let r = h.1 in (omega arith, omega arith))
+    (λ (h : (stack_start m ≤ addresses n) × (addresses n + bytes_of at.object + 4 ≤ stack_end m)). let l = h.0 in let r = h.1 in (omega arith, omega arith))
     (laid.lie n at.object at.is)
 
 -- ---- Operations
 
-module _ (addresses : ℕ → ℕ) (memory : Memory) (laid : AreLaid addresses memory) where
+module _ {m : Map} (addresses : ℕ → ℕ) (memory : Memory) (laid : AreLaid m addresses memory) where
   -- A pointer that is moved within its object, or to what is directly behind it.
   pointer_moved : (object size offset w : ℕ) → size_at memory object ≡ Some size → (offset ≤ size → w ≡ addresses object + offset) → Means addresses memory (pointer_at object size offset) w
   pointer_moved object size offset w at is = by_test (nat_le offset size) refl

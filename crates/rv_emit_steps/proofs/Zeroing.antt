@@ -10,7 +10,7 @@ use Rattle.rv_machine.specs.Table.{operated_immediate}
 use Rattle.rv_emit_instructions.specs.Filling.{zeros_code}
 use Rattle.rv_emit_steps.specs.Holding.{Holding, byte_of, with_bytes, IsDataAt}
 use Rattle.rv_emit_steps.specs.Doing.{done_by_all, CanDoAll}
-use Rattle.rv_emit_steps.proofs.Placing.{done_by_both, can_do_both}
+use Rattle.rv_emit_steps.proofs.Placing.{done_by_both, can_do_both, regions_stay}
 use Rattle.rv_emit_steps.proofs.Registers.{register_same, register_other}
 use Rattle.rv_emit_steps.proofs.Apart.{byte_within, byte_outside}
 use Rattle.rv_emit_steps.specs.EmitMovesDoing.{IsLeft}
@@ -51,7 +51,8 @@ pub record Zeroes (code : List Instruction) (h : Holding) (a words : ℕ) : Type
   pub memory : AreZeroed a words h.memory (done_by_all code h).memory
   pub input : (done_by_all code h).input ≡ h.input
 
-pub zeros_done : (h : Holding) (offset words : ℕ) → h.registers 0 ≡ 0 → h.registers 2 + offset + 4 * words ≤ 33554432 → ((k : ℕ) → k < words → IsDataAt 4 (h.registers 2 + offset + 4 * k)) → Zeroes (zeros_code offset words) h (h.registers 2 + offset) words
+pub zeros_done : (h : Holding) (offset words : ℕ) → h.registers 0 ≡ 0 → h.registers 2 + offset + 4 * words ≤ 2147483648
+    → ((k : ℕ) → k < words → IsDataAt h.regions 4 (h.registers 2 + offset + 4 * k)) → Zeroes (zeros_code offset words) h (h.registers 2 + offset) words
 zeros_done h offset zero none fits there = record { can = tt; kept = λ q. refl; memory = none_zeroed (h.registers 2 + offset) h.memory; input = refl }
 zeros_done h offset (suc n) none fits there =
     let front = zeros_code offset n in
@@ -63,7 +64,8 @@ zeros_done h offset (suc n) none fits there =
     let both : done_by_all (front ++ i ∷ []) h ≡ done_by_all (i ∷ []) t = done_by_both front (i ∷ []) h in
     let next : n + 1 ≡ suc n = omega arith in
     record {
-      can = can_do_both front (i ∷ []) h rest.can (subst (IsDataAt 4) (sym is) (there n (omega arith)), tt);
+      can = can_do_both front (i ∷ []) h rest.can
+          (subst (λ m. IsDataAt m 4 at) (sym (regions_stay front h)) (subst (IsDataAt h.regions 4) (sym is) (there n (omega arith))), tt);
       kept = λ q. ap (λ (u : Holding). u.registers q) both ∙ rest.kept q;
       memory = subst (λ k. AreZeroed (h.registers 2 + offset) k h.memory (done_by_all (front ++ i ∷ []) h).memory) next
           (subst (λ (m : ℕ → ℕ). AreZeroed (h.registers 2 + offset) (n + 1) h.memory m) (sym (ap (λ (u : Holding). u.memory) both ∙ ap (λ v. with_bytes 4 at v t.memory) (rest.kept 0 ∙ none)))
@@ -86,11 +88,12 @@ pub record ZerosLeft (start : Holding) (a words left : ℕ) (h : Holding) : Type
   pub kept : (q : ℕ) → IsLeft q → h.registers q ≡ start.registers q
   pub memory : AreZeroed a done start.memory h.memory
   pub input : h.input ≡ start.input
+  pub regions : h.regions ≡ start.regions
 
-pub zero_turns : (start : Holding) (a words : ℕ) → a + 4 * words ≤ 33554432 → ((k : ℕ) → k < words → IsDataAt 4 (a + 4 * k)) → Turns zero_body 7 (ZerosLeft start a words)
+pub zero_turns : (start : Holding) (a words : ℕ) → a + 4 * words ≤ 2147483648 → ((k : ℕ) → k < words → IsDataAt start.regions 4 (a + 4 * k)) → Turns zero_body 7 (ZerosLeft start a words)
 unfolding operated_immediate
 zero_turns start a words fits there = record {
-  can = λ k h l. (let sum = l.sum in let is : word (h.registers 6 + 0) ≡ a + 4 * l.done = omega (arith, l.at, sum) in (subst (IsDataAt 4) (sym is) (there l.done (omega (arith, sum))), (tt, tt)));
+  can = λ k h l. (let sum = l.sum in let is : word (h.registers 6 + 0) ≡ a + 4 * l.done = omega (arith, l.at, sum) in (subst (λ m. IsDataAt m 4 (word (h.registers 6 + 0))) (sym l.regions) (subst (IsDataAt start.regions 4) (sym is) (there l.done (omega (arith, sum)))), (tt, tt)));
   next = λ k h l.
       (let sum = l.sum in
       let is : word (h.registers 6 + 0) ≡ a + 4 * l.done = omega (arith, l.at, sum) in
@@ -104,6 +107,7 @@ zero_turns start a words fits there = record {
         kept = λ q left. register_other 6 v q h.registers left.t1 ∙ l.kept q left;
         memory = subst (λ (m : ℕ → ℕ). AreZeroed a (l.done + 1) start.memory m) (ap (λ x. with_bytes 4 (word (h.registers 6 + 0)) x h.memory) (sym l.none)) (one_zeroed a l.done (word (h.registers 6 + 0)) start.memory h.memory is l.memory);
         input = l.input;
+        regions = l.regions;
       });
   ends = λ h l. (let sum = l.sum in omega (arith, l.at, l.limit, sum));
   goes = λ k h l. (let sum = l.sum in λ e. omega (arith, l.at, l.limit, sum, e));

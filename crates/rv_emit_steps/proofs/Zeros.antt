@@ -19,6 +19,9 @@ use Rattle.graph_core.specs.declared.instruction.Element.TheVariants.{Unsigned8,
 use Rattle.graph_core.specs.Values.{size_of}
 use Rattle.graph_core.specs.Memory.{Memory, Object, bytes_of, words_of, filled, with_object, zeroed}
 use Rattle.graph_core.specs.Runs.{Configuration}
+use Rattle.memory_map.specs.Maps.{bytes_end, bytes_start, stack_end, stack_start}
+use Rattle.memory_map.proofs.Facts.{map_facts}
+use Rattle.rv_emit_storage.specs.UnitMaps.{map_of_unit}
 use Rattle.rv_emit_storage.specs.Storages.{object_at}
 use Rattle.rv_emit_words.specs.Operands.{address_code}
 use Rattle.rv_emit_instructions.specs.Filling.{zeros_code, limit_code, zero_code}
@@ -27,7 +30,7 @@ use Rattle.rv_emit_steps.specs.Doing.{done_by_all, CanDoAll}
 use Rattle.rv_emit_steps.specs.Programs.{Program, CodeAt, behind, Stands}
 use Rattle.rv_emit_steps.specs.Points.{Reaches}
 use Rattle.rv_emit_steps.proofs.Straight.{code_does}
-use Rattle.rv_emit_steps.proofs.Placing.{code_front, code_rest, done_by_both, can_do_both, reaches_then}
+use Rattle.rv_emit_steps.proofs.Placing.{code_front, code_rest, done_by_both, can_do_both, regions_stay, reaches_then}
 use Rattle.rv_emit_steps.specs.EmitMovesDoing.{Brings, IsLeft}
 use Rattle.rv_emit_steps.specs.Meaning.{bits_at, low_bits, HoldsBits}
 use Rattle.rv_emit_steps.specs.Frames.{Setting, IsStorage, HoldsFrame, IsOutside}
@@ -94,12 +97,12 @@ zero_bits Word a = refl
 -- ---- The frame behind them
 
 module _ (w : Setting) (c : Configuration) (h : Holding) (storage : IsStorage w) (frame : HoldsFrame w c h) (n words : ℕ) (later : Memory) (is : IsFilled c.memory n words (λ o. replicate (4 * words / size_of o.element) (Number 0)) later) where
-  zeros_framed : (t : Holding) → ((q : ℕ) → IsLeft q → t.registers q ≡ h.registers q) → AreZeroed (w.addresses n) words h.memory t.memory → HoldsFrame w (record c { memory = later }) t
-  zeros_framed t kept zeroes =
+  zeros_framed : (t : Holding) → t.regions ≡ h.regions → ((q : ℕ) → IsLeft q → t.registers q ≡ h.registers q) → AreZeroed (w.addresses n) words h.memory t.memory → HoldsFrame w (record c { memory = later }) t
+  zeros_framed t regions kept zeroes =
       let o : Object = is.object in
       subst (λ m. HoldsFrame w (record c { memory = m }) t) is.makes
       (filled_framed w c h t storage frame n words is.object (replicate (4 * words / size_of is.object.element) (Number 0)) is.there is.live is.few
-      (λ j le. subst (λ k. j < k) (sym (length-replicate (4 * words / size_of is.object.element) (Number 0))) (fits_in is.object.element j words le)) (λ q left other. kept q left) zeroes.outside
+      (λ j le. subst (λ k. j < k) (sym (length-replicate (4 * words / size_of is.object.element) (Number 0))) (fits_in is.object.element j words le)) regions (λ q left other. kept q left) zeroes.outside
       (λ j v e. zero_held j v (replicate_has (4 * words / size_of is.object.element) j (Number 0) v e)))
     where
       zero_held : (j : ℕ) (v : Value) → (j < 4 * words / size_of is.object.element) × (v ≡ Number 0)
@@ -112,23 +115,25 @@ module _ (w : Setting) (c : Configuration) (h : Holding) (storage : IsStorage w)
 
 module _ (w : Setting) (c : Configuration) (h : Holding) (storage : IsStorage w) (frame : HoldsFrame w c h) (n words : ℕ) (new : Object → List Value) (later : Memory) (is : IsFilled c.memory n words new later) where
   -- The words of an object stand in memory.
-  pub words_stand : (k : ℕ) → k < words → IsDataAt 4 (w.addresses n + 4 * k)
+  pub words_stand : (k : ℕ) → k < words → IsDataAt (map_of_unit w.unit) 4 (w.addresses n + 4 * k)
   words_stand k lt =
       let an : w.addresses n % 4 ≡ 0 = frame.laid.aligned n is.object is.there in
       let few = is.few in (
         omega (arith, an),
         ⊎_elim
-            (λ (low : (4194304 ≤ w.addresses n) × (w.addresses n + bytes_of is.object + 4 ≤ 5242880)). inl (omega (arith, low.0), omega (arith, low.1, few, lt)))
-            (λ (high : (16777216 ≤ w.addresses n) × (w.addresses n + bytes_of is.object + 4 ≤ 33554432)). inr (omega (arith, high.0), omega (arith, high.1, few, lt)))
+            (λ (low : (bytes_start (map_of_unit w.unit) ≤ w.addresses n) × (w.addresses n + bytes_of is.object + 4 ≤ bytes_end (map_of_unit w.unit))). inl (omega (arith, low.0), omega (arith, low.1, few, lt)))
+            (λ (high : (stack_start (map_of_unit w.unit) ≤ w.addresses n) × (w.addresses n + bytes_of is.object + 4 ≤ stack_end (map_of_unit w.unit))). inr (omega (arith, high.0), omega (arith, high.1, few, lt)))
             (frame.laid.lie n is.object is.there),
       )
 
-  pub words_fit : w.addresses n + 4 * words ≤ 33554432
+  pub words_fit : w.addresses n + 4 * words ≤ 2147483648
   words_fit =
       let few = is.few in
+      let between = (map_facts (map_of_unit w.unit)).apart in
+      let positive = (map_facts (map_of_unit w.unit)).positive in
       ⊎_elim
-      (λ (low : (4194304 ≤ w.addresses n) × (w.addresses n + bytes_of is.object + 4 ≤ 5242880)). omega (arith, low.1, few))
-      (λ (high : (16777216 ≤ w.addresses n) × (w.addresses n + bytes_of is.object + 4 ≤ 33554432)). omega (arith, high.1, few))
+      (λ (low : (bytes_start (map_of_unit w.unit) ≤ w.addresses n) × (w.addresses n + bytes_of is.object + 4 ≤ bytes_end (map_of_unit w.unit))). omega (arith, low.1, few, between, positive))
+      (λ (high : (stack_start (map_of_unit w.unit) ≤ w.addresses n) × (w.addresses n + bytes_of is.object + 4 ≤ stack_end (map_of_unit w.unit))). omega (arith, high.1, few, positive))
       (frame.laid.lie n is.object is.there)
 
 -- The machine comes behind the words of an instruction, in at most so many instructions, unseen, and holds the frame of a configuration. Registers but t0 to t2 and a0, and the input, are as they were,
@@ -163,7 +168,7 @@ pub record IsSetUp (setup : List Instruction) (h : Holding) (limit a words : ℕ
   pub memory : (done_by_all setup h).memory ≡ h.memory
   pub input : (done_by_all setup h).input ≡ h.input
 
-pub set_up : (h : Holding) (limit offset words : ℕ) → 0 < limit → limit ≢ 6 → limit ≢ 2 → limit ≢ 0 → h.registers 0 ≡ 0 → h.registers 2 + offset + 4 * words ≤ 33554432
+pub set_up : (h : Holding) (limit offset words : ℕ) → 0 < limit → limit ≢ 6 → limit ≢ 2 → limit ≢ 0 → h.registers 0 ≡ 0 → h.registers 2 + offset + 4 * words ≤ 2147483648
     → IsSetUp (address_code 6 6 offset ++ limit_code limit (words * 4 % 4294967296)) h limit (h.registers 2 + offset) words
 set_up h limit offset words some n6 n2 n0 none fits =
     let front = address_code 6 6 offset in
@@ -193,18 +198,14 @@ module _ (p : Program) (s : State) (index : ℕ) (b : Bool) (w : Setting) (c : C
   own : w.addresses (c.here.first_object + object) ≡ h.registers 2 + object_at w.storage object
   own = frame.own object valid
 
-  stand : (k : ℕ) → k < words → IsDataAt 4 (h.registers 2 + object_at w.storage object + 4 * k)
-  stand k lt = subst (λ a. IsDataAt 4 (a + 4 * k)) own (words_stand w c h storage frame (c.here.first_object + object) words (λ o. replicate (4 * words / size_of o.element) (Number 0)) later is_filled k lt)
+  stand : (k : ℕ) → k < words → IsDataAt h.regions 4 (h.registers 2 + object_at w.storage object + 4 * k)
+  stand k lt =
+      subst (λ m. IsDataAt m 4 (h.registers 2 + object_at w.storage object + 4 * k)) (sym frame.map)
+      (subst (λ a. IsDataAt (map_of_unit w.unit) 4 (a + 4 * k)) own (words_stand w c h storage frame (c.here.first_object + object) words (λ o. replicate (4 * words / size_of o.element) (Number 0)) later is_filled k lt))
 
-  in_reach : h.registers 2 + object_at w.storage object + 4 * words ≤ 33554432
-  in_reach =
-      let an = frame.laid.aligned (c.here.first_object + object) is_filled.object is_filled.there in
-      let few = is_filled.few in
-      let here = own in
-      ⊎_elim
-      (λ (low : (4194304 ≤ w.addresses (c.here.first_object + object)) × (w.addresses (c.here.first_object + object) + bytes_of is_filled.object + 4 ≤ 5242880)). omega (arith, here, low.1, few))
-      (λ (high : (16777216 ≤ w.addresses (c.here.first_object + object)) × (w.addresses (c.here.first_object + object) + bytes_of is_filled.object + 4 ≤ 33554432)). omega (arith, here, high.1, few))
-      (frame.laid.lie (c.here.first_object + object) is_filled.object is_filled.there)
+  in_reach : h.registers 2 + object_at w.storage object + 4 * words ≤ 2147483648
+  in_reach = subst (λ a. a + 4 * words ≤ 2147483648) own
+      (words_fit w c h storage frame (c.here.first_object + object) words (λ o. replicate (4 * words / size_of o.element) (Number 0)) later is_filled)
 
   -- A byte outside of the words of live objects is none of those that are set.
   beside : (y : ℕ) → IsOutside w c h y → (y < h.registers 2 + object_at w.storage object) ⊎ (h.registers 2 + object_at w.storage object + 4 * words ≤ y)
@@ -216,8 +217,8 @@ module _ (p : Program) (s : State) (index : ℕ) (b : Bool) (w : Setting) (c : C
       (λ (past : w.addresses (c.here.first_object + object) + 4 * words_of (bytes_of is_filled.object) ≤ y). inr (omega (arith, past, here, few)))
       (out.1 (c.here.first_object + object) is_filled.object is_filled.there is_filled.live)
 
-  framed : (t : Holding) → ((q : ℕ) → IsLeft q → t.registers q ≡ h.registers q) → AreZeroed (h.registers 2 + object_at w.storage object) words h.memory t.memory → HoldsFrame w (record c { memory = later }) t
-  framed t kept zeroes = zeros_framed w c h storage frame (c.here.first_object + object) words later is_filled t kept (subst (λ a. AreZeroed a words h.memory t.memory) (sym own) zeroes)
+  framed : (t : Holding) → t.regions ≡ h.regions → ((q : ℕ) → IsLeft q → t.registers q ≡ h.registers q) → AreZeroed (h.registers 2 + object_at w.storage object) words h.memory t.memory → HoldsFrame w (record c { memory = later }) t
+  framed t regions kept zeroes = zeros_framed w c h storage frame (c.here.first_object + object) words later is_filled t regions kept (subst (λ a. AreZeroed a words h.memory t.memory) (sym own) zeroes)
 
   -- One by one.
   singly : CodeAt p index b (zeros_code (object_at w.storage object) words) → Comes p s index b (length (zeros_code (object_at w.storage object) words) + 3 * words) (zeros_code (object_at w.storage object) words) w c.memory h (record c { memory = later })
@@ -229,7 +230,7 @@ module _ (p : Program) (s : State) (index : ℕ) (b : Bool) (w : Setting) (c : C
         few = omega arith;
         holding = done_by_all code h;
         reaches = code_does p s index h b code stands there z.can;
-        frame = framed (done_by_all code h) (λ q left. z.kept q) z.memory;
+        frame = framed (done_by_all code h) (regions_stay code h) (λ q left. z.kept q) z.memory;
         kept = λ q left other. z.kept q;
         outside = λ y out. z.memory.outside y (beside y out);
         input = z.input;
@@ -258,8 +259,10 @@ module _ (p : Program) (s : State) (index : ℕ) (b : Bool) (w : Setting) (c : C
         kept = λ q left. refl;
         memory = none_zeroed (h.registers 2 + object_at w.storage object) t.memory;
         input = refl;
+        regions = refl;
       } in
-      let done = loop_done p (index + length setup) zero_body 7 (ZerosLeft t (h.registers 2 + object_at w.storage object) words) (zero_turns t (h.registers 2 + object_at w.storage object) words in_reach stand) body_there k first.state t first.stands start in
+      let done = loop_done p (index + length setup) zero_body 7 (ZerosLeft t (h.registers 2 + object_at w.storage object) words) (zero_turns t (h.registers 2 + object_at w.storage object) words in_reach
+          (λ k2 lt. subst (λ m. IsDataAt m 4 (h.registers 2 + object_at w.storage object + 4 * k2)) (sym (regions_stay setup h)) (stand k2 lt))) body_there k first.state t first.stands start in
       ends k more up first none_behind done
     where
       ends : (k2 : ℕ) → words ≡ suc k2 → (up : IsSetUp setup h 7 (h.registers 2 + object_at w.storage object) words)
@@ -286,7 +289,7 @@ module _ (p : Program) (s : State) (index : ℕ) (b : Bool) (w : Setting) (c : C
             holding = u;
             reaches = subst (λ x. Reaches p (length setup + (2 + 1) * (k2 + 1)) (record { state = s; shown = b }) [] (index + length (setup ++ loop)) x u) none
                 (subst (λ i. Reaches p (length setup + (2 + 1) * (k2 + 1)) (record { state = s; shown = b }) [] i false u) end all);
-            frame = framed u kept set;
+            frame = framed u (done.left.regions ∙ regions_stay setup h) kept set;
             kept = λ q left other. kept q left;
             outside = λ y out. set.outside y (beside y out);
             input = done.left.input ∙ up.input;
