@@ -7,11 +7,9 @@ use Rattle.memory_map.specs.Maps.{bytes_end, bytes_start, code_start, most_words
 use Rattle.memory_map.proofs.Facts.{map_facts}
 use Rattle.rv_code.specs.declared.instruction.LoadOperation.{LoadOperation}
 use Rattle.rv_code.specs.declared.instruction.LoadOperation.TheVariants.{Lb, Lh, Lw, Lbu, Lhu}
-use Rattle.rv_code.specs.declared.instruction.StoreOperation.{StoreOperation}
-use Rattle.rv_code.specs.declared.instruction.StoreOperation.TheVariants.{Sb, Sh, Sw}
 use Rattle.rv_machine.specs.State.{State}
 use Rattle.rv_machine.specs.Memory.{half_in, word_in}
-use Rattle.rv_machine.specs.Table.{signed_byte, signed_half, location_of, loaded, loaded_from, load_size, store_size}
+use Rattle.rv_machine.specs.Table.{signed_byte, signed_half, location_of, loaded, loaded_from, load_size}
 use Rattle.rv_emit_steps.specs.Holding.{memory_of, loaded_at, IsDataAt}
 
 -- ---- One byte, by its region

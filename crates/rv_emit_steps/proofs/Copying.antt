@@ -78,8 +78,7 @@ copy_turns start to from words fits also apart there here = record {
       let f1 : ℕ → ℕ = with_register 5 (word_at h.memory (word (h.registers 7 + 0))) h.registers in
       let is : word (h.registers 7 + 0) ≡ from + 4 * l.done = omega (arith, l.source, sum) in
       let t1 : f1 6 ≡ h.registers 6 = register_other 5 (word_at h.memory (word (h.registers 7 + 0))) 6 h.registers (λ e. cc) in
-      let to_is : word (f1 6 + 0) ≡ to + 4 * l.done = omega (arith, t1, l.at, sum) in
-      (
+      let to_is : word (f1 6 + 0) ≡ to + 4 * l.done = omega (arith, t1, l.at, sum) in (
         subst (λ m. IsDataAt m 4 (word (h.registers 7 + 0))) (sym l.regions) (subst (IsDataAt start.regions 4) (sym is) (here l.done (omega (arith, sum)))),
         (subst (λ m. IsDataAt m 4 (word (f1 6 + 0))) (sym l.regions) (subst (IsDataAt start.regions 4) (sym to_is) (there l.done (omega (arith, sum)))), (tt, (tt, tt))),
       ));

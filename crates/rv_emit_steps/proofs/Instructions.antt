@@ -172,7 +172,7 @@ module _ (w : Setting) (c : Configuration) (h : Holding) (storage : IsStorage w)
       record {
         can = can_do_both r.code (i ∷ []) h finds.can (
           subst (λ m. IsDataAt m (load_size (load_operation e)) (word (t.registers r.base + r.offset))) (sym (regions_stay r.code h))
-          (subst (λ k. IsDataAt h.regions k (word (t.registers r.base + r.offset))) (sym (load_size_is e)) (subst (IsDataAt h.regions (size_of e)) (sym finds.there) there)),
+              (subst (λ k. IsDataAt h.regions k (word (t.registers r.base + r.offset))) (sym (load_size_is e)) (subst (IsDataAt h.regions (size_of e)) (sym finds.there) there)),
           tt,
         );
         value = ap (λ (u : Holding). u.registers rd) both ∙ register_same rd v t.registers some ∙ ap (λ (m : ℕ → ℕ). loaded_at (load_operation e) m (word (t.registers r.base + r.offset))) finds.memory ∙ ap (loaded_at (load_operation e) h.memory) finds.there;
@@ -209,7 +209,7 @@ module _ (w : Setting) (c : Configuration) (h : Holding) (storage : IsStorage w)
           loaded_means w.addresses c.memory e r.value h.memory a (subst (λ s. HoldsBits w.addresses c.memory s r.value (bits_at h.memory s a)) (sym r.hits.wide) holds) in
           home_performed w c h (home_at w.storage x) v (loaded_at (load_operation e) h.memory a) _ storage frame (storage.homes x is)
           (load_made (reach_of w.storage w.held l) e (home_at w.storage x) a (can_write w c h (home_at w.storage x) storage frame (storage.homes x is))
-          (subst (λ o. Finds (reach_of w.storage w.held l) h (w.addresses r.number + o)) r.hits.at finds) 
+          (subst (λ o. Finds (reach_of w.storage w.held l) h (w.addresses r.number + o)) r.hits.at finds)
           (subst (λ m. IsDataAt m (size_of e) (w.addresses r.number + r.index * size_of r.object.element)) (sym frame.map) (hit_data w.addresses c.memory e p r.number r.object r.index frame.laid r.hits)))
           (subst (λ y. Means w.addresses c.memory y (loaded_at (load_operation e) h.memory a)) (sym r.gives) means)
 

@@ -1,10 +1,9 @@
 -- Jumps, calls, returns and branches.
-use Rattle.std.proofs.Common.{◌≡◌, ℕ, ◌+◌, ◌*◌, ◌/◌, ◌%◌, ◌<◌, ◌≤◌, ⊎_elim, inl, inr, ap, ◌∙◌, subst, arith, [], Bool, true, false, cond}
+use Rattle.std.proofs.Common.{◌≡◌, ℕ, ◌+◌, ◌*◌, ◌/◌, ◌%◌, ◌<◌, ◌≤◌, ap, ◌∙◌, subst, arith, [], Bool, true, false, cond}
 use Rattle.std.specs.Prelude.{◌==◌}
-use Rattle.std.proofs.lemmas.Bool.{eq-eqb, cases_lt}
+use Rattle.std.proofs.lemmas.Bool.{eq-eqb}
 use Rattle.rv_code.specs.declared.instruction.BranchOperation.{BranchOperation}
 use Rattle.rv_code.specs.declared.instruction.Instruction.TheVariants.{Jal, Jalr, Branch}
-use Rattle.rv_code.specs.InForm.{IsBranchDistance, IsJumpDistance}
 use Rattle.rv_machine.specs.declared.event.Event.TheVariants.{Fault}
 use Rattle.rv_machine.specs.State.{State, reg, word}
 use Rattle.rv_machine.specs.Table.{acted, goes, stays, jumps, next, taken}

@@ -2,7 +2,6 @@
 use Rattle.std.proofs.Common.{◌≡◌, ℕ, ◌+◌, ◌*◌, ◌%◌, ◌<◌, ◌≤◌, ◌⊎◌, ⊎_elim, inl, inr, arith, true, false}
 use Rattle.std.specs.Prelude.{nat_lt}
 use Rattle.std.proofs.lemmas.Bool.{cases_lt, le-ltb, lt-ltb}
-use Rattle.rv_code.specs.InForm.{IsSigned12}
 use Rattle.rv_machine.specs.State.{word}
 use Rattle.word_base.specs.Arithmetic.{subtracted}
 use Rattle.rv_emit_words.specs.Constants.{low_part, high_part}

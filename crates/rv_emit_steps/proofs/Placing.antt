@@ -1,5 +1,5 @@
 -- Code in parts, and stretches one behind the other.
-use Rattle.std.proofs.Common.{◌≡◌, ℕ, ◌+◌, ◌∙◌, sym, subst, arith, refl, List, [], ◌∷◌, ◌++◌, length, Bool, false}
+use Rattle.std.proofs.Common.{◌≡◌, ℕ, ◌+◌, ◌∙◌, subst, arith, refl, List, [], ◌∷◌, ◌++◌, length, Bool, false}
 use Rattle.rv_code.specs.declared.instruction.Instruction.{Instruction}
 use Rattle.rv_code.specs.declared.instruction.Instruction.TheVariants.{Lui, Auipc, Jal, Jalr, Branch, Load, Store, Immediate, Register, Fence, Ecall, Ebreak}
 use Rattle.rv_machine.specs.Run.{MachineEvent}

@@ -1,5 +1,5 @@
 -- Where the words of an instruction that goes straight on stand in the code, the machine does the unit's step.
-use Rattle.std.proofs.Common.{slice_get, ◌≡◌, ℕ, ◌+◌, ◌*◌, ap, ◌∙◌, Option, Some, None, sym, subst, refl, List, [], ◌∷◌, length, Bool}
+use Rattle.std.proofs.Common.{slice_get, ◌≡◌, ℕ, ◌+◌, ◌*◌, ap, ◌∙◌, Option, Some, None, sym, subst, refl, List, ◌∷◌, length, Bool}
 use Rattle.std.specs.Prelude.{option_and_then, option_map}
 use Rattle.rv_machine.specs.State.{State}
 use Rattle.graph_core.specs.Graphs.{Instruction, Marker, Note, Move, Operate, Truncate, Same, Address, Load, Store, Zero, CopyWords, Call}
@@ -13,11 +13,8 @@ use Rattle.rv_emit_words.specs.Growing.{CodeState, with_code}
 use Rattle.rv_emit_instructions.specs.Code.{with_instruction}
 use Rattle.rv_emit_instructions.specs.Filling.{zero_code, copy_code}
 use Rattle.rv_emit_steps.specs.Holding.{Holding, AreInRange}
-use Rattle.rv_emit_steps.specs.Doing.{done_by_all}
-use Rattle.rv_emit_steps.specs.Programs.{Program, CodeAt, behind, Stands}
-use Rattle.rv_emit_steps.specs.Points.{Reaches}
-use Rattle.rv_emit_steps.proofs.Straight.{code_does}
-use Rattle.rv_emit_steps.specs.Frames.{Setting, IsStorage, HoldsFrame, Performs, DoesStep, IsStraight, straight_code}
+use Rattle.rv_emit_steps.specs.Programs.{Program, CodeAt, Stands}
+use Rattle.rv_emit_steps.specs.Frames.{Setting, IsStorage, HoldsFrame, DoesStep, IsStraight, straight_code}
 use Rattle.rv_emit_steps.proofs.Instructions.{straight_does}
 use Rattle.rv_emit_steps.proofs.Copies.{copy_comes}
 use Rattle.rv_emit_steps.proofs.Zeros.{Comes, zero_comes}

@@ -262,7 +262,7 @@ module _ (p : Program) (s : State) (index : ℕ) (b : Bool) (w : Setting) (c : C
         regions = refl;
       } in
       let done = loop_done p (index + length setup) zero_body 7 (ZerosLeft t (h.registers 2 + object_at w.storage object) words) (zero_turns t (h.registers 2 + object_at w.storage object) words in_reach
-          (λ k2 lt. subst (λ m. IsDataAt m 4 (h.registers 2 + object_at w.storage object + 4 * k2)) (sym (regions_stay setup h)) (stand k2 lt))) body_there k first.state t first.stands start in
+      (λ k2 lt. subst (λ m. IsDataAt m 4 (h.registers 2 + object_at w.storage object + 4 * k2)) (sym (regions_stay setup h)) (stand k2 lt))) body_there k first.state t first.stands start in
       ends k more up first none_behind done
     where
       ends : (k2 : ℕ) → words ≡ suc k2 → (up : IsSetUp setup h 7 (h.registers 2 + object_at w.storage object) words)

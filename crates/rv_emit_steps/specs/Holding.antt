@@ -70,4 +70,5 @@ loaded_at Lhu memory a = half_at memory a
 
 -- So many bytes of static memory or of the stack stand from an address on, which is a multiple of their number.
 abbrev pub IsDataAt : (regions : Map) → (size address : ℕ) → Type 0
-IsDataAt m n a = (a % n ≡ 0) × (((bytes_start m ≤ a) × (a + n ≤ bytes_end m)) ⊎ ((stack_start m ≤ a) × (a + n ≤ stack_end m)))
+IsDataAt m n a =
+    (a % n ≡ 0) × (((bytes_start m ≤ a) × (a + n ≤ bytes_end m)) ⊎ ((stack_start m ≤ a) × (a + n ≤ stack_end m)))
