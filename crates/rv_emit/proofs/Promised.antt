@@ -2,6 +2,7 @@
 use Rattle.std.proofs.Common.{◌≡◌, ◌≤◌, ◌∙◌, sym, ap, subst, length, arith}
 use Rattle.std.specs.Prelude.{slice_index}
 use Rattle.std.specs.List.{AllByRecursion}
+use Rattle.memory_map.specs.Maps.{most_words}
 use Rattle.graph_core.specs.Paths.{Among}
 use Rattle.graph_core.specs.Validity.{IsValid}
 use Rattle.graph_homes.specs.Homed.{HomedForm, HaveHomes}
@@ -39,7 +40,7 @@ stops_apart h e code s t is_s is_t same =
 pub countable_each : (h : HomedForm) → AllByRecursion IsCountable h.unit.graphs → AreCountable h
 countable_each h all f g is = all_at IsCountable h.unit.graphs f g all is
 
-pub emits_all : (h : HomedForm) → IsValid h.unit → HaveHomes h → (e : EmittedForm) → IsEmittedOf h e → length e.code ≤ 262144 → length e.owners ≡ length e.code → AllByRecursion IsInWords h.unit.graphs → AreCountable h → Emits h e
+pub emits_all : (h : HomedForm) → IsValid h.unit → HaveHomes h → (e : EmittedForm) → IsEmittedOf h e → length e.code ≤ most_words e.map → length e.owners ≡ length e.code → AllByRecursion IsInWords h.unit.graphs → AreCountable h → Emits h e
 emits_all h valid homed e emitted short owners words countable =
     let code : IsCode h e = code_is h valid homed e emitted short emitted.addresses words emitted.initial emitted.bytes in
     let arranged = sym (arrangement_is h valid homed e emitted short emitted.addresses words emitted.initial emitted.bytes) in

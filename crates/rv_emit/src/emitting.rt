@@ -1,6 +1,7 @@
 //! The code of a unit, and what is promised of it.
 
 ghost use Rattle.std.specs.Prelude.{◌≡◌, ◌≤◌, IfOk, length};
+ghost use Rattle.memory_map.specs.Maps.{most_words};
 ghost use Rattle.graph_core.specs.Validity.{IsValid};
 ghost use Rattle.graph_homes.specs.Homed.{HaveHomes, homed_view};
 ghost use Rattle.rv_emit_tables.specs.Emitted.{emitted_view};
@@ -21,7 +22,7 @@ use std::alloc::{AllocError, Global};
 pub fn emit(alloc: Global, homed: &HomedUnit) -> Result<Emitted, AllocError>
     requires valid { IsValid (homed_view homed.now).unit }
     requires homes { HaveHomes (homed_view homed.now) }
-    ensures few { IfOk result (λ e. length e.code.items ≤ 262144) }
+    ensures few { IfOk result (λ e. length e.code.items ≤ most_words e.map) }
     ensures owners { IfOk result (λ e. length e.owners.items ≡ length e.code.items) }
     ensures functions { IfOk result (λ e. length e.functions.items ≡ length homed.now.unit.graphs.items) }
     ensures statics { IfOk result (λ e. AreFirstAddresses (homed_view homed.now).unit e.statics.items) }

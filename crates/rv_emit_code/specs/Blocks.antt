@@ -1,6 +1,8 @@
 -- The code of blocks and of whole functions' beginnings and ends, and of what stands before all functions, as it is made from none.
-use Rattle.std.specs.Prelude.{ℕ, ◌+◌, ◌%◌, false, List, [], ◌∷◌}
+use Rattle.std.specs.Prelude.{ℕ, ◌+◌, ◌/◌, ◌%◌, false, List, [], ◌∷◌}
 use Rattle.std.specs.Option.{option_map_or}
+use Rattle.memory_map.specs.Maps.{stack_end}
+use Rattle.memory_map.specs.declared.map.Map.{Map}
 use Rattle.rv_code.specs.declared.instruction.Instruction.TheVariants.{Lui, Immediate, Ecall}
 use Rattle.rv_code.specs.declared.instruction.ImmediateOperation.TheVariants.{Addi}
 use Rattle.graph_core.specs.Graphs.{Instruction, Block}
@@ -30,6 +32,7 @@ with_instructions g entry n (i ∷ more) s = with_instructions g entry ((n + 1) 
 abbrev pub block_code : StorageForm → (entry : ℕ) → (saved : List ℕ) → (size end next : ℕ) → (known loads : List Held) → Block → CodeState
 block_code g entry saved size end next known loads b = with_end g saved size end next loads b.end (with_instructions g entry 0 b.instructions (no_code (option_map_or (λ p. p) b.place 0) known))
 
--- The code before all functions: sp and tp are set, main is called, and the run ends with its result.
-abbrev pub with_stub : (main : ℕ) → CodeState → CodeState
-with_stub main s = with_code (Immediate Addi 17 0 10 ∷ Ecall ∷ []) (with_piece (Call main) (with_code (Lui 2 8192 ∷ Immediate Addi 4 0 1024 ∷ []) s))
+-- The code before all functions: sp is set to the end of the stack, tp is set, main is called, and the run ends with its result.
+abbrev pub with_stub : Map → (main : ℕ) → CodeState → CodeState
+with_stub m main s =
+    with_code (Immediate Addi 17 0 10 ∷ Ecall ∷ []) (with_piece (Call main) (with_code (Lui 2 (stack_end m / 4096) ∷ Immediate Addi 4 0 1024 ∷ []) s))

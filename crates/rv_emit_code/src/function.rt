@@ -13,6 +13,7 @@ ghost use Rattle.rv_emit_code.specs.Beginning.{binding_code, element_of, guard_c
 
 use crate::leaving::{move_sp, words_of_move};
 use graph_core::{Binding, Element, Graph};
+use memory_map::Map;
 use rv_code::{BranchOperation, Instruction, StoreOperation};
 use rv_emit_instructions::put_first;
 use rv_emit_storage::Storage;
@@ -124,12 +125,12 @@ fn put_beginning(
 }
 
 /// What stands before all functions.
-fn put_stub(code: &mut Code, main: u32) -> Result<(), AllocError>
+fn put_stub(code: &mut Code, regions: Map, main: u32) -> Result<(), AllocError>
     ensures few { OnOk result (words_in code.new.pieces.items ≤ words_in code.old.pieces.items + 5) }
     ensures stops { OnOk result (shown code.new ≡ shown code.old) }
-    ensures grown { OnOk result (code_state code.new ≡ with_stub main (code_state code.old)) }
+    ensures grown { OnOk result (code_state code.new ≡ with_stub regions main (code_state code.old)) }
 {
-    code.put(Instruction::Lui(register::SP, 8192))?;
+    code.put(Instruction::Lui(register::SP, regions.stack_end() / 4096))?;
     code.put_sum(register::TP, register::ZERO, 1024)?;
     code.put_piece(Piece::Call(main))?;
     code.put_sum(register::A7, register::ZERO, 10)?;
@@ -153,14 +154,14 @@ pub fn begin_of_function(
     Ok(code.pieces)
 }
 
-/// The code before all functions: it calls `main`, which has this number, and ends the run with its result.
+/// The code before all functions in such a memory: it calls `main`, which has this number, and ends the run with its result.
 #[tactic(auto, using(crate::proofs::Stops::no_stops))]
-pub fn stub(alloc: Global, main: u32) -> Result<Vec<PlacedPiece>, AllocError>
+pub fn stub(alloc: Global, regions: Map, main: u32) -> Result<Vec<PlacedPiece>, AllocError>
     ensures few { IfOk result (λ pieces. words_in pieces.items ≤ 5) }
     ensures stops { IfOk result (λ pieces. stops_of pieces.items ≡ []) }
-    ensures code { IfOk result (λ pieces. pieces.items ≡ (with_stub main (no_code 0 [])).pieces) }
+    ensures code { IfOk result (λ pieces. pieces.items ≡ (with_stub regions main (no_code 0 [])).pieces) }
 {
     let mut code = Code::new(alloc, 0);
-    put_stub(&mut code, main)?;
+    put_stub(&mut code, regions, main)?;
     Ok(code.pieces)
 }

@@ -2,6 +2,9 @@
 use Rattle.std.proofs.Common.{◌≤◌, ◌+◌, ◌*◌, List, [], ◌∷◌, length, arith}
 use Rattle.std.proofs.lemmas.List.{length-append}
 use Rattle.std.specs.List.{AllByRecursion}
+use Rattle.memory_map.specs.Maps.{most_words}
+use Rattle.memory_map.specs.declared.map.Map.{Map}
+use Rattle.memory_map.specs.declared.map.Map.TheVariants.{One, Two}
 use Rattle.graph_core.specs.Graphs.{Instruction, Marker, Note, Move, Operate, Truncate, Same, Address, Load, Store, Zero, CopyWords, Call, Block, Graph, UnitForm}
 use Rattle.graph_core.specs.Validity.{IsGraph, IsValid, arguments_in, arguments_of, counts, instructions_of, markers_in, markers_of, markers_of_blocks, total}
 use Rattle.rv_emit_instructions.specs.Words.{most_words_of}
@@ -33,6 +36,11 @@ of_graphs : (u : UnitForm) (gs : List Graph) → AllByRecursion (IsGraph u) gs �
 of_graphs u [] all = omega arith
 of_graphs u (g ∷ more) all = let few : length g.parameters ≤ 8 = all.0.parameters in
     omega (arith, few, of_graphs u more all.1, of_blocks g.blocks, length-append (markers_of_blocks g.blocks) (markers_of more))
+
+-- Each memory has room for that many.
+pub code_has_room : (m : Map) → 262144 ≤ most_words m
+code_has_room One = omega arith
+code_has_room Two = omega arith
 
 pub words_are_few : (u : UnitForm) → IsValid u → most_words_of_graphs u.graphs ≤ 262139
 words_are_few u v =

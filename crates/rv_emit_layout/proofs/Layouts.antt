@@ -7,7 +7,7 @@ use Rattle.rv_emit_words.specs.declared.piece.Piece.{Piece}
 use Rattle.rv_emit_words.specs.declared.piece.Piece.TheVariants.{Word, Jump, Branch, Call}
 use Rattle.rv_emit_words.specs.declared.piece.PlacedPiece.{PlacedPiece}
 use Rattle.rv_emit_sequence.specs.Sequences.{SequenceForm, counted}
-use Rattle.rv_emit_layout.specs.Layouts.{LayoutForm, distance, far_from, is_far, label_at, layout_of, offsets_from, width, words_before, IsLayoutOf, IsNearEnough}
+use Rattle.rv_emit_layout.specs.Layouts.{LayoutForm, distance, far_from, is_far, label_at, layout_of, most_pieces, offsets_from, width, words_before, IsLayoutOf, IsNearEnough}
 use Rattle.rv_emit_layout.specs.Longest.{is_near, long_before, longest}
 use Rattle.rv_emit_layout.proofs.Longest.{longest_at, longest_count, near_form, words_longest, Near}
 use Rattle.base_laws.proofs.Booleans.{not_false}
@@ -70,7 +70,7 @@ offset_is far (p ∷ more) i n (suc k) a b le =
     omega (arith, later, rest, here, sum)
 
 -- From the beginning on.
-offset_at : (far : List Bool) (pieces : List PlacedPiece) (k : ℕ) → length pieces ≤ 262144 → k ≤ length pieces → slice_index (offsets_from far 0 0 pieces) k ≡ words_before far pieces k
+offset_at : (far : List Bool) (pieces : List PlacedPiece) (k : ℕ) → length pieces ≤ most_pieces → k ≤ length pieces → slice_index (offsets_from far 0 0 pieces) k ≡ words_before far pieces k
 offset_at far pieces k few le = offset_is far pieces 0 0 k (omega (arith, few)) (omega (arith, few)) le ∙ (omega arith)
 
 offset_count : (far : List Bool) (pieces : List PlacedPiece) (i n : ℕ) → length (offsets_from far i n pieces) ≡ length pieces + 1
@@ -96,14 +96,14 @@ far_is labels offsets (p ∷ more) i (suc k) x fits e =
 
 -- ---- Distances
 
-forward : (a b : ℕ) → a ≤ b → b ≤ 1000000 → distance a b ≡ 4 * b - 4 * a
+forward : (a b : ℕ) → a ≤ b → b ≤ 1000000000 → distance a b ≡ 4 * b - 4 * a
 forward a b le fits = omega (arith, le, fits)
 
-backward : (a b : ℕ) → b < a → a ≤ 1000000 → distance a b ≡ 4294967296 - (4 * a - 4 * b)
+backward : (a b : ℕ) → b < a → a ≤ 1000000000 → distance a b ≡ 4294967296 - (4 * a - 4 * b)
 backward a b lt fits = omega (arith, lt, fits)
 
 -- Over -4,096 to 4,092 bytes a branch leads alone.
-near_distance : (a b : ℕ) → a ≤ 1000000 → b ≤ 1000000 → a ≤ b + 1024 → b ≤ a + 1023 → IsBranchDistance (distance a b)
+near_distance : (a b : ℕ) → a ≤ 1000000000 → b ≤ 1000000000 → a ≤ b + 1024 → b ≤ a + 1023 → IsBranchDistance (distance a b)
 near_distance a b fits fits' back on =
     ⊎_elim
     (λ (lt : b < a).
@@ -124,13 +124,13 @@ stands : (s : SequenceForm) (k : ℕ) → k ≤ length s.pieces → slice_index 
 stands s k le low = let is : slice_index (longest s) k ≡ counted (long_before s k) = longest_at s k le in omega (arith, is, low)
 
 -- What is near in the longest layout is so in any other.
-near_in_any : (s : SequenceForm) (far : List Bool) (k l : ℕ) → length s.pieces ≤ 262144 → k ≤ length s.pieces → l ≤ length s.pieces
+near_in_any : (s : SequenceForm) (far : List Bool) (k l : ℕ) → length s.pieces ≤ most_pieces → k ≤ length s.pieces → l ≤ length s.pieces
     → Near (slice_index (longest s) k) (slice_index (longest s) l) → IsBranchDistance (distance (words_before far s.pieces k) (words_before far s.pieces l))
 near_in_any s far k l few low low' near =
     let here : slice_index (longest s) k ≡ long_before s k = stands s k low near.from in
     let there : slice_index (longest s) l ≡ long_before s l = stands s l low' near.to in
-    let fits : words_before far s.pieces k ≤ 1000000 = omega (arith, words_few far s.pieces k, few) in
-    let fits' : words_before far s.pieces l ≤ 1000000 = omega (arith, words_few far s.pieces l, few) in
+    let fits : words_before far s.pieces k ≤ 1000000000 = omega (arith, words_few far s.pieces k, few) in
+    let fits' : words_before far s.pieces l ≤ 1000000000 = omega (arith, words_few far s.pieces l, few) in
     ⊎_elim
     (λ (lt : l < k).
     let less = words_longest far s l k (omega (arith, lt)) in
@@ -143,16 +143,16 @@ near_in_any s far k l few low low' near =
     (cases_lt l k)
 
 -- So is the beginning of the function.
-near_first : (s : SequenceForm) (far : List Bool) (k : ℕ) → length s.pieces ≤ 262144 → k ≤ length s.pieces
+near_first : (s : SequenceForm) (far : List Bool) (k : ℕ) → length s.pieces ≤ most_pieces → k ≤ length s.pieces
     → Near (slice_index (longest s) k) 0 → IsBranchDistance (distance (words_before far s.pieces k) 0)
 near_first s far k few low near =
     let here : slice_index (longest s) k ≡ long_before s k = stands s k low near.from in
-    let fits : words_before far s.pieces k ≤ 1000000 = omega (arith, words_few far s.pieces k, few) in
+    let fits : words_before far s.pieces k ≤ 1000000000 = omega (arith, words_few far s.pieces k, few) in
     let less = words_longest far s 0 k (omega arith) in
     near_distance (words_before far s.pieces k) 0 fits (omega arith) (omega (arith, less, near.back, here, none_before far s.pieces)) (omega arith)
 
 -- A branch that is near enough in the longest layout is so in any other. Its label stands at a piece, or at the beginning where there is none.
-branch_near : (s : SequenceForm) (far : List Bool) (k l : ℕ) → length s.pieces ≤ 262144 → k < length s.pieces
+branch_near : (s : SequenceForm) (far : List Bool) (k l : ℕ) → length s.pieces ≤ most_pieces → k < length s.pieces
     → is_near (slice_index (longest s) k) (slice_index (longest s) l) ≡ true
     → IsBranchDistance (distance (slice_index (offsets_from far 0 0 s.pieces) k) (slice_index (offsets_from far 0 0 s.pieces) l))
 branch_near s far k l few low test =
@@ -173,7 +173,7 @@ branch_near s far k l few low test =
         (near_first s far k few (omega (arith, low)) (subst (λ n. Near (slice_index (longest s) k) n) none' near)))
         (cases_lt l (length s.pieces + 1))
 
-piece_near : (s : SequenceForm) (k : ℕ) (x : Piece) → length s.pieces ≤ 262144 → k < length s.pieces → (far : Bool) → far ≡ is_far s.labels (longest s) (slice_index (longest s) k) x
+piece_near : (s : SequenceForm) (k : ℕ) (x : Piece) → length s.pieces ≤ most_pieces → k < length s.pieces → (far : Bool) → far ≡ is_far s.labels (longest s) (slice_index (longest s) k) x
     → IsNearEnough s.labels (layout_of s).offsets far (slice_index (layout_of s).offsets k) x
 piece_near s k (Word i) few low far e = tt
 piece_near s k (Jump to) few low far e = tt
@@ -183,7 +183,7 @@ piece_near s k (Branch op l r to) few low far e = λ near.
 piece_near s k (Call f) few low far e = tt
 
 -- So the layout is one.
-pub layout_is : (s : SequenceForm) (l : LayoutForm) → l ≡ layout_of s → length s.pieces ≤ 262144 → IsLayoutOf s l
+pub layout_is : (s : SequenceForm) (l : LayoutForm) → l ≡ layout_of s → length s.pieces ≤ most_pieces → IsLayoutOf s l
 layout_is s l e few = subst (λ m. IsLayoutOf s m) (sym e) (record {
   count = offset_count (far_from s.labels (longest s) 0 s.pieces) s.pieces 0 0;
   flags = flags;

@@ -7,14 +7,17 @@ use Rattle.graph_homes.specs.declared.home.Home.{Home}
 use Rattle.graph_homes.specs.Frames.{frame_size, object_offsets, objects_start, slot_count, slots_start}
 use Rattle.graph_homes.specs.Homed.{HomedForm, homes_in}
 use Rattle.graph_homes.specs.Statics.{initial_bytes, static_addresses}
+use Rattle.memory_map.specs.Maps.{bytes_start}
+use Rattle.memory_map.specs.declared.map.Map.{Map}
 use Rattle.rv_emit_tables.specs.declared.emitted.PlacedStop.{PlacedStop}
 use Rattle.rv_emit_tables.specs.Emitted.{EmittedForm, FunctionCode}
 use Rattle.rv_emit_storage.specs.declared.statics.Statics as declared-statics
 use Rattle.rv_emit_storage.specs.Kept.{FitsFrame, saved_in}
+use Rattle.rv_emit_storage.specs.UnitMaps.{map_of_unit}
 use Rattle.rv_emit_code.specs.Blocks.{no_code, with_stub}
 use Rattle.rv_emit_sequence.specs.Sequences.{Ground, SequenceForm, counted, sequence_view, IsSequenceOf}
 use Rattle.rv_emit_layout.specs.declared.layout.OwnedWord.{OwnedWord}
-use Rattle.rv_emit_layout.specs.Layouts.{LayoutForm, function_words, layout_of, layout_view, IsLayoutOf}
+use Rattle.rv_emit_layout.specs.Layouts.{LayoutForm, function_words, layout_of, layout_view, most_pieces, IsLayoutOf}
 use Rattle.rv_emit_layout.specs.Tracing.{stops_of_blocks, with_writers, word_address}
 use Rattle.rv_emit_layout.specs.declared.assembling.Coded as declared-coded
 use Rattle.rv_emit_layout.specs.declared.laying.Laid as declared-laid
@@ -32,24 +35,30 @@ pub record LaidForm : Type 0 where
 abbrev pub laid_view : declared-laid.Laid → LaidForm
 laid_view l = record { saved = l.frame.saved.items; slots = l.frame.slots; objects = l.frame.objects.items; size = l.frame.size; sequence = sequence_view l.sequence; layout = layout_view l.layout }
 
--- The addresses of static objects and of the bytes that initialise arrays.
+-- The addresses of static objects and of the bytes that initialise arrays, and the one that gp holds.
 pub record StaticForm : Type 0 where
   pub objects : List ℕ
   pub arrays : List ℕ
+  pub base : ℕ
 
 -- what the code has of it
 abbrev pub static_view : declared-statics.Statics → StaticForm
-static_view s = record { objects = s.objects.items; arrays = s.array_bytes.items }
+static_view s = record { objects = s.objects.items; arrays = s.array_bytes.items; base = s.base }
 
--- Addresses are those that a unit's static objects and the bytes that initialise its arrays have.
+-- The word that gp holds: the address of the middle of the first 4,096 bytes of static memory.
+abbrev pub base_of : Map → ℕ
+base_of m = bytes_start m + 2048
+
+-- Addresses are those that a unit's static objects and the bytes that initialise its arrays have, and gp holds its word.
 pub record AreAddressesOf (u : UnitForm) (s : StaticForm) : Type 0 where
   pub objects : s.objects ≡ take (length u.statics) (static_addresses u)
   pub arrays : s.arrays ≡ drop (length u.statics) (static_addresses u)
+  pub base : s.base ≡ base_of (map_of_unit u)
 
--- What the code of a function rests on. Its end has the label behind those of its blocks, and gp holds the middle of the first 4,096 bytes of static memory.
+-- What the code of a function rests on. Its end has the label behind those of its blocks.
 abbrev pub ground_for : StaticForm → Graph → List Home → LaidForm → Ground
 ground_for s g homes l = record {
-  storage = record { homes = homes; slots = l.slots; objects = l.objects; statics = s.objects; arrays = s.arrays; base = 4196352 };
+  storage = record { homes = homes; slots = l.slots; objects = l.objects; statics = s.objects; arrays = s.arrays; base = s.base };
   entry = g.entry;
   saved = l.saved;
   size = l.size;
@@ -63,7 +72,7 @@ pub record IsLaidOf (s : StaticForm) (g : Graph) (homes : List Home) (is_main : 
   pub objects : FitsFrame homes g → l.objects ≡ object_offsets (objects_start (length l.saved) (slot_count homes)) g.objects
   pub size : FitsFrame homes g → l.size ≡ frame_size (length l.saved) (slot_count homes) g.objects
   pub sequence : length g.blocks < 4294967295 → IsSequenceOf (ground_for s g homes l) g is_main l.sequence
-  pub layout : length l.sequence.pieces ≤ 262144 → IsLayoutOf l.sequence l.layout
+  pub layout : length l.sequence.pieces ≤ most_pieces → IsLayoutOf l.sequence l.layout
 
 -- So it is of each function, from one of this number on.
 abbrev pub AreLaid : HomedForm → StaticForm → (function : ℕ) → List Graph → List LaidForm → Type 0
@@ -78,8 +87,12 @@ firsts_from n [] = n ∷ []
 firsts_from n (l ∷ more) = n ∷ firsts_from (counted (n + l.layout.words)) more
 
 -- What stands before all functions: its pieces, and where they stand.
-abbrev pub stub_form : (main : ℕ) → SequenceForm
-stub_form main = record { pieces = (with_stub main (no_code 0 [])).pieces; begin = 0; labels = []; ends = []; numbers = [] }
+abbrev pub stub_form : Map → (main : ℕ) → SequenceForm
+stub_form m main = record { pieces = (with_stub m main (no_code 0 [])).pieces; begin = 0; labels = []; ends = []; numbers = [] }
+
+-- What stands before all functions of a unit.
+abbrev pub stub_of : UnitForm → SequenceForm
+stub_of u = stub_form (map_of_unit u) u.main
 
 -- The words of functions, from one of this number on.
 abbrev pub words_of_all : (firsts : List ℕ) → (function : ℕ) → List LaidForm → List OwnedWord
@@ -125,11 +138,12 @@ coded_view c = record { all = map laid_view c.all.items; firsts = c.firsts.items
 -- The functions are those of the unit, and the words are those of the stub and theirs, one behind the other.
 pub record IsCodeOf (h : HomedForm) (s : StaticForm) (c : CodedForm) : Type 0 where
   pub laid : AreLaid h s 0 h.unit.graphs c.all
-  pub firsts : c.firsts ≡ firsts_from (layout_of (stub_form h.unit.main)).words c.all
-  pub words : c.words ≡ function_words (stub_form h.unit.main) (layout_of (stub_form h.unit.main)) 0 c.firsts ++ words_of_all c.firsts 0 c.all
+  pub firsts : c.firsts ≡ firsts_from (layout_of (stub_of h.unit)).words c.all
+  pub words : c.words ≡ function_words (stub_of h.unit) (layout_of (stub_of h.unit)) 0 c.firsts ++ words_of_all c.firsts 0 c.all
 
--- What is emitted is such code: its words, their owners, its stops, and what is told of its functions. Static memory begins with the unit's initial bytes, which are bytes, and what lies there has its addresses.
+-- What is emitted is such code: its words, their owners, its stops, and what is told of its functions. Its memory is the unit's. Static memory begins with the unit's initial bytes, which are bytes, and what lies there has its addresses.
 pub record IsEmittedOf (h : HomedForm) (e : EmittedForm) : Type 0 where
+  pub map : e.map ≡ map_of_unit h.unit
   pub statics : StaticForm
   pub coded : CodedForm
   pub code : IsCodeOf h statics coded

@@ -54,6 +54,10 @@ IsNearEnough labels offsets far from (Jump to) = Unit {0}
 IsNearEnough labels offsets far from (Branch op l r to) = far ≡ false → IsBranchDistance (distance from (label_at labels offsets to.0))
 IsNearEnough labels offsets far from (Call f) = Unit {0}
 
+-- How many pieces a function has whose bytes 32 bits can count: each piece has at most two words, so they have at most 2^31 bytes.
+abbrev pub most_pieces : ℕ
+most_pieces = 268435456
+
 -- Each piece stands behind the words of those before it, and each branch of one word is near enough.
 pub record IsLayoutOf (s : SequenceForm) (l : LayoutForm) : Type 0 where
   pub count : length l.offsets ≡ length s.pieces + 1

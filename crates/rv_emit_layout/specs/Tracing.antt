@@ -1,6 +1,7 @@
 -- What is told of the words of a function: where its places begin, and which words write homes.
 use Rattle.std.specs.Prelude.{ℕ, zero, suc, ◌+◌, ◌-◌, ◌*◌, ◌%◌, Bool, if◌then◌else◌, List, [], ◌∷◌, ◌++◌, slice_get, slice_index, slice_set}
 use Rattle.std.specs.Option.{option_map_or}
+use Rattle.memory_map.specs.Maps.{code_start}
 use Rattle.rv_emit_words.specs.declared.piece.PlacedPiece.{PlacedPiece}
 use Rattle.rv_emit_tables.specs.declared.emitted.PlacedStop.{PlacedStop}
 use Rattle.rv_emit_sequence.specs.Sequences.{SequenceForm, counted}
@@ -8,7 +9,7 @@ use Rattle.rv_emit_layout.specs.Layouts.{LayoutForm}
 
 -- The address of a word of code, by its index.
 abbrev pub word_address : ℕ → ℕ
-word_address n = (n * 4 % 4294967296 + 65536) % 4294967296
+word_address n = (n * 4 % 4294967296 + code_start) % 4294967296
 
 -- The address of a piece, by its index, in a function before which so many words stand.
 abbrev pub piece_address : LayoutForm → (first index : ℕ) → ℕ

@@ -3,6 +3,8 @@
 ghost use Rattle.std.specs.Prelude.{◌≡◌, ◌+◌, ◌≤◌, false, IfOk, OnOk, length};
 ghost use Rattle.graph_core.specs.Validity.{IsValid};
 ghost use Rattle.graph_homes.specs.Homed.{HaveHomes, homed_view};
+ghost use Rattle.rv_emit_storage.specs.UnitMaps.{map_of_unit};
+ghost use Rattle.memory_map.specs.Maps.{most_words};
 ghost use Rattle.rv_emit_words.specs.Words.{words_in};
 ghost use Rattle.std.specs.Prelude.{◌++◌, map};
 ghost use Rattle.rv_emit_tables.specs.Emitted.{emitted_view};
@@ -16,15 +18,13 @@ use crate::laying::{Laid, lay_out_all};
 use crate::telling::{stops_of, told_all};
 use crate::{OwnedWord, layout_of};
 use graph_homes::HomedUnit;
+use memory_map::Map;
 use rv_emit_code::stub;
 use rv_emit_sequence::Sequence;
 use rv_emit_sequence::table::at;
-use rv_emit_storage::{Statics, initial_bytes, static_addresses};
+use rv_emit_storage::{Statics, initial_bytes, map_of_unit, static_addresses};
 use rv_emit_tables::Emitted;
 use std::alloc::{AllocError, Global};
-
-/// How many words code has at most.
-const MAX_WORDS: usize = 262144;
 
 /// The code of a unit with what stands where.
 #[derive(Drop)]
@@ -36,12 +36,12 @@ struct Coded {
 }
 
 /// What stands before all functions.
-fn stub_sequence(alloc: Global, main: u32) -> Result<Sequence, AllocError>
+fn stub_sequence(alloc: Global, regions: Map, main: u32) -> Result<Sequence, AllocError>
     ensures few { IfOk result (λ made. words_in made.pieces.items ≤ 5) }
-    ensures form { IfOk result (λ made. sequence_view made ≡ stub_form main) }
+    ensures form { IfOk result (λ made. sequence_view made ≡ stub_form regions main) }
 {
     Ok(Sequence {
-        pieces: stub(alloc, main)?,
+        pieces: stub(alloc, regions, main)?,
         begin: 0,
         labels: Vec::new(alloc),
         ends: Vec::new(alloc),
@@ -90,10 +90,10 @@ fn code_of(
 ) -> Result<Coded, AllocError>
     requires valid { IsValid (homed_view homed.now).unit }
     ensures each { IfOk result (λ c. length c.all.items ≡ length homed.now.unit.graphs.items) }
-    ensures few { is_planned ≡ false → IfOk result (λ c. length c.words.items ≤ 262144) }
+    ensures few { is_planned ≡ false → IfOk result (λ c. length c.words.items ≤ most_words (map_of_unit (homed_view homed.now).unit)) }
     ensures code { IfOk result (λ c. IsCodeOf (homed_view homed.now) (static_view statics.now) (coded_view c)) }
 {
-    let before = stub_sequence(alloc, homed.unit.main)?;
+    let before = stub_sequence(alloc, map_of_unit(&homed.unit), homed.unit.main)?;
     let stub = layout_of(alloc, &before)?;
     let all = lay_out_all(alloc, statics, homed, is_planned)?;
     let firsts = firsts_of(alloc, stub.words, &all)?;
@@ -107,11 +107,11 @@ fn code_of(
 fn short_code_of(alloc: Global, statics: &Statics, homed: &HomedUnit) -> Result<Coded, AllocError>
     requires valid { IsValid (homed_view homed.now).unit }
     ensures each { IfOk result (λ c. length c.all.items ≡ length homed.now.unit.graphs.items) }
-    ensures few { IfOk result (λ c. length c.words.items ≤ 262144) }
+    ensures few { IfOk result (λ c. length c.words.items ≤ most_words (map_of_unit (homed_view homed.now).unit)) }
     ensures code { IfOk result (λ c. IsCodeOf (homed_view homed.now) (static_view statics.now) (coded_view c)) }
 {
     let coded = code_of(alloc, statics, homed, true)?;
-    if coded.words.len() <= MAX_WORDS {
+    if coded.words.len() <= map_of_unit(&homed.unit).most_words() {
         return Ok(coded);
     }
     code_of(alloc, statics, homed, false)
@@ -147,7 +147,7 @@ fn owners_of(alloc: Global, code: &[OwnedWord]) -> Result<Vec<u32>, AllocError>
 pub fn assemble(alloc: Global, homed: &HomedUnit) -> Result<Emitted, AllocError>
     requires valid { IsValid (homed_view homed.now).unit }
     requires homes { HaveHomes (homed_view homed.now) }
-    ensures few { IfOk result (λ e. length e.code.items ≤ 262144) }
+    ensures few { IfOk result (λ e. length e.code.items ≤ most_words e.map) }
     ensures owners { IfOk result (λ e. length e.owners.items ≡ length e.code.items) }
     ensures functions { IfOk result (λ e. length e.functions.items ≡ length homed.now.unit.graphs.items) }
     ensures statics { IfOk result (λ e. AreFirstAddresses (homed_view homed.now).unit e.statics.items) }
@@ -157,6 +157,7 @@ pub fn assemble(alloc: Global, homed: &HomedUnit) -> Result<Emitted, AllocError>
     let coded = short_code_of(alloc, &statics, homed)?;
     let functions = told_all(alloc, &homed.unit.graphs, &coded.all, &coded.firsts)?;
     Ok(Emitted {
+        map: map_of_unit(&homed.unit),
         code: words_of(alloc, &coded.words)?,
         owners: owners_of(alloc, &coded.words)?,
         initial: initial_bytes(alloc, &homed.unit, &statics)?,

@@ -8,7 +8,6 @@ ghost use Rattle.rv_emit_sequence.specs.Sequences.{ground_of, sequence_view, Has
 ghost use Rattle.rv_emit_layout.specs.Laid.{laid_view, static_view, AreLaid, IsLaidOf};
 ghost use Rattle.rv_emit_layout.specs.Words.{laid_words, most_words_of_graph, most_words_of_graphs};
 
-use crate::base::BASE;
 use crate::{Layout, layout_of};
 use graph_core::{Graph, Label};
 use graph_homes::{Home, HomedUnit};
@@ -73,7 +72,7 @@ fn lay_out(
         homes,
         frame: &frame,
         statics,
-        base: BASE,
+        base: statics.base,
     };
     let sequence = sequence_of(alloc, &storage, graph, is_main, is_planned)?;
     let layout = layout_of(alloc, &sequence)?;

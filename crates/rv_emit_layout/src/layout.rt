@@ -6,7 +6,7 @@ ghost use Rattle.rv_emit_words.specs.Words.{words_in, words_of_piece};
 ghost use Rattle.rv_emit_code.specs.Ends.{opposite};
 ghost use Rattle.rv_emit_sequence.specs.Sequences.{sequence_view};
 ghost use Rattle.rv_emit_layout.specs.Longest.{is_near};
-ghost use Rattle.rv_emit_layout.specs.Layouts.{branch_code, distance, far_from, function_words, is_far, label_at, layout_of, layout_view, lying, offsets_from, owned_words, piece_code, width, IsLayoutOf};
+ghost use Rattle.rv_emit_layout.specs.Layouts.{branch_code, distance, far_from, function_words, is_far, label_at, layout_of, layout_view, lying, most_pieces, offsets_from, owned_words, piece_code, width, IsLayoutOf};
 
 use crate::measuring::longest_offsets;
 use crate::spelling::word_of;
@@ -143,7 +143,7 @@ fn shortened(alloc: Global, sequence: &Sequence) -> Result<Layout, AllocError>
 /// Where the pieces of a function stand, each branch of one word near enough to where it leads.
 pub fn layout_of(alloc: Global, sequence: &Sequence) -> Result<Layout, AllocError>
     ensures exact { IfOk result (λ layout. layout_view layout ≡ layout_of (sequence_view sequence.now)) }
-    ensures layout { IfOk result (λ layout. length sequence.now.pieces.items ≤ 262144 → IsLayoutOf (sequence_view sequence.now) (layout_view layout)) }
+    ensures layout { IfOk result (λ layout. length sequence.now.pieces.items ≤ most_pieces → IsLayoutOf (sequence_view sequence.now) (layout_view layout)) }
 {
     let layout = shortened(alloc, sequence)?;
     Ok(layout)

@@ -2,7 +2,6 @@
 #![tactic(auto)]
 
 mod assembling;
-mod base;
 mod laying;
 mod layout;
 mod measuring;

@@ -7,14 +7,12 @@ ghost use Rattle.rv_emit_layout.specs.Layouts.{layout_view};
 ghost use Rattle.rv_emit_layout.specs.Tracing.{piece_address, stop_at, stops_of_block, stops_of_blocks, with_writer, with_writers, word_address};
 
 use crate::layout::Layout;
+use memory_map::CODE_START;
 use rv_emit_sequence::Sequence;
 use rv_emit_sequence::table::{at, count, put};
 use rv_emit_tables::PlacedStop;
 use rv_emit_words::PlacedPiece;
 use std::alloc::{AllocError, Global};
-
-/// The address of the first word of code.
-pub const CODE_START: u32 = 65536;
 
 /// The address of a word of code.
 pub fn address_of(word: u32) -> u32

@@ -1,6 +1,11 @@
 -- The code with which a function begins makes its frame, in which its objects lie, and binds its parameters; what waits stands as it stood.
 use Rattle.std.proofs.Common.{◌≡◌, ◌≢◌, ℕ, ◌+◌, ◌-◌, ◌*◌, ◌%◌, ◌<◌, ◌≤◌, ◌⊎◌, ⊎_elim, inl, inr, sym, ap, ◌∙◌, subst, arith, refl, Option, Some, None, Bool, true, false, cond, List, [], ◌∷◌, ◌++◌, length, length-append, map, slice_get, slice_index}
 use Rattle.std.proofs.lemmas.Bool.{le-ltb}
+use Rattle.rv_emit_runs.proofs.Maps.{regions_kept}
+use Rattle.rv_emit_storage.specs.UnitMaps.{map_of_unit}
+use Rattle.memory_map.proofs.Facts.{map_facts}
+use Rattle.memory_map.specs.declared.map.Map.{Map}
+use Rattle.memory_map.specs.Maps.{most_words, bytes_end, bytes_start, stack_start, stack_end}
 use Rattle.rv_code.specs.declared.instruction.Instruction.{Instruction as MachineInstruction}
 use Rattle.graph_core.specs.declared.value.Value.{Value}
 use Rattle.graph_core.specs.declared.value.Value.TheVariants.{Odd}
@@ -55,8 +60,8 @@ saved_there (r ∷ more) a m n registers same have = (
 )
 
 -- Objects that are those of a memory that grew.
-grown_then : (addresses after : ℕ → ℕ) (memory between later : Memory) (limit : ℕ) → Grown addresses after memory between limit → AreThose between later → length later ≡ length between → Grown addresses after memory later limit
-grown_then addresses after memory between later limit grown those same = record {
+grown_then : (regions : Map) (addresses after : ℕ → ℕ) (memory between later : Memory) (limit : ℕ) → Grown regions addresses after memory between limit → AreThose between later → length later ≡ length between → Grown regions addresses after memory later limit
+grown_then regions addresses after memory between later limit grown those same = record {
   longer = let longer = grown.longer in omega (arith, longer, same);
   lie = grown.lie;
   kept = λ n size e. (those.kept n size (grown.kept n size e).0, (grown.kept n size e).1);
@@ -65,7 +70,7 @@ grown_then addresses after memory between later limit grown those same = record 
       ⊎_elim
       (λ (both : WasThere memory n was.object × (after n ≡ addresses n)).
       inl (record { object = both.0.object; is = both.0.is; bytes = was.bytes ∙ both.0.bytes; live = λ l. both.0.live (was.live l) }, both.1))
-      (λ (new : (length memory ≤ n) × (16777216 ≤ after n) × (after n + bytes_of was.object ≤ limit)). let bytes = was.bytes in inr (new.0, new.1, omega (arith, new.2, bytes)))
+      (λ (new : (length memory ≤ n) × (stack_start regions ≤ after n) × (after n + bytes_of was.object ≤ limit)). let bytes = was.bytes in inr (new.0, new.1, omega (arith, new.2, bytes)))
       (grown.were n was.object was.is (was.live live));
 }
 
@@ -79,21 +84,21 @@ low_no_object w c h frame b low high n o is live =
     (λ (past : h.registers 2 + (w.storage.slots + 4 * w.slots) ≤ w.addresses n). inl (omega (arith, past, high)))
     (frame.free n o is live)
 
-given_grown : (addresses after : ℕ → ℕ) (memory later : Memory) (limit : ℕ) (h t : Holding) (n : ℕ) (vs : List Value) → n + length vs ≤ 8 → Grown addresses after memory later limit → ((q : ℕ) → 10 ≤ q → q ≤ 17 → t.registers q ≡ h.registers q) → AreGiven addresses memory h n vs → AreGiven after later t n vs
-given_grown addresses after memory later limit h t n [] few grown kept given = tt
-given_grown addresses after memory later limit h t n (v ∷ more) few grown kept given =
+given_grown : (regions : Map) (addresses after : ℕ → ℕ) (memory later : Memory) (limit : ℕ) (h t : Holding) (n : ℕ) (vs : List Value) → n + length vs ≤ 8 → Grown regions addresses after memory later limit → ((q : ℕ) → 10 ≤ q → q ≤ 17 → t.registers q ≡ h.registers q) → AreGiven addresses memory h n vs → AreGiven after later t n vs
+given_grown regions addresses after memory later limit h t n [] few grown kept given = tt
+given_grown regions addresses after memory later limit h t n (v ∷ more) few grown kept given =
     let is : argument_register n ≡ 10 + n = argument_is n (omega (arith, few)) in
     let same : t.registers (argument_register n) ≡ h.registers (argument_register n) = kept (argument_register n) (omega (arith, is)) (omega (arith, is, few)) in (
-      subst (λ x. Means after later v x) (sym same) (means_grown addresses after memory later limit grown v _ given.0),
+      subst (λ x. Means after later v x) (sym same) (means_grown regions addresses after memory later limit grown v _ given.0),
       subst (λ x. x < 4294967296) (sym same) given.1,
-      given_grown addresses after memory later limit h t (n + 1) more (omega (arith, few)) grown kept given.2,
+      given_grown regions addresses after memory later limit h t (n + 1) more (omega (arith, few)) grown kept given.2,
     )
 
 -- ---- The frame
 
 -- Where a function begins behind its guard: ra holds the index behind its call, one less activation may begin, and the caller's frame stands.
 module _ (codes : ℕ → FunctionCode) (u : UnitForm) (valid : (k : ℕ) → IsFunctionCode u (codes k)) (addresses : ℕ → ℕ) (resumes : Activation → ℕ → Type 0) (share : ShareStatics codes) (c : Configuration) (h g : Holding)
-    (all : HoldsAll codes u addresses resumes [] c h) (function index : ℕ) (low_index : index ≤ 262144) (same : (q : ℕ) → q ≢ 4 → g.registers q ≡ h.registers q) (same_memory : g.memory ≡ h.memory) (same_input : g.input ≡ h.input) (one_less : g.registers 4 + 1 ≡ h.registers 4)
+    (all : HoldsAll codes u addresses resumes [] c h) (function index : ℕ) (low_index : index ≤ most_words (map_of_unit u)) (same : (q : ℕ) → q ≢ 4 → g.registers q ≡ h.registers q) (same_map : g.regions ≡ h.regions) (same_memory : g.memory ≡ h.memory) (same_input : g.input ≡ h.input) (one_less : g.registers 4 + 1 ≡ h.registers 4)
     (ra : h.registers 1 ≡ address_of index) (words : (q : ℕ) → g.registers q < 4294967296) (deep : length c.waiting + 2 ≤ 1024) where
   abbrev f : FunctionCode
   f = codes function
@@ -103,6 +108,13 @@ module _ (codes : ℕ → FunctionCode) (u : UnitForm) (valid : (k : ℕ) → Is
 
   same_sp : g.registers 2 ≡ h.registers 2
   same_sp = same 2 (λ e. cc)
+
+  -- The regions are those of the unit.
+  start_is : stack_start g.regions ≡ stack_start (map_of_unit u)
+  start_is = ap (λ m. stack_start m) (same_map ∙ all.here.map)
+
+  statics_below : bytes_end (map_of_unit u) ≤ stack_start (map_of_unit u)
+  statics_below = (map_facts (map_of_unit u)).apart
 
   can_enter : CanEnter (codes function).saved (codes function).size g
   can_enter =
@@ -117,8 +129,8 @@ module _ (codes : ℕ → FunctionCode) (u : UnitForm) (valid : (k : ℕ) → Is
         none = same 0 (λ e. cc) ∙ all.here.fetch.none;
         aligned = ap (λ s. s % 4) same_sp ∙ all.here.aligned;
         whole = fits.aligned;
-        low = omega (arith, small, far, deep, at);
-        high = omega (arith, high, at);
+        low = omega (arith, small, far, deep, at, start_is);
+        high = omega (arith, high, at, start_is);
         room = omega (arith, kept, whole);
         registers = fits.registers;
       }
@@ -141,14 +153,17 @@ module _ (codes : ℕ → FunctionCode) (u : UnitForm) (valid : (k : ℕ) → Is
   sp_aligned : t.registers 2 % 4 ≡ 0
   sp_aligned = let a = all.here.aligned in let b = fits.aligned in let e = sp_is in omega (arith, a, b, e)
 
-  sp_low : 16777216 ≤ t.registers 2
-  sp_low = let e = enters.by.sp in let low = can_enter.low in omega (arith, e, low)
+  t_map : t.regions ≡ map_of_unit u
+  t_map = enters.by.map ∙ same_map ∙ all.here.map
 
-  sp_high : t.registers 2 + (codes function).size ≤ 33554432
-  sp_high = let e = enters.by.sp in let high = can_enter.high in omega (arith, e, high)
+  sp_low : stack_start (map_of_unit u) ≤ t.registers 2
+  sp_low = let e = enters.by.sp in let low = can_enter.low in omega (arith, e, low, start_is)
 
-  lies_above : (n : ℕ) (o : Object) → slice_get c.memory n ≡ Some o → o.live ≡ true → (addresses n + bytes_of o ≤ 5242880) ⊎ (t.registers 2 + (codes function).size ≤ addresses n)
-  lies_above n o is live = subst (λ s. (addresses n + bytes_of o ≤ 5242880) ⊎ (s ≤ addresses n)) (sym sp_is) (all.below n o is live)
+  sp_high : t.registers 2 + (codes function).size ≤ stack_end (map_of_unit u)
+  sp_high = let e = enters.by.sp in let high = can_enter.high in omega (arith, e, high, start_is)
+
+  lies_above : (n : ℕ) (o : Object) → slice_get c.memory n ≡ Some o → o.live ≡ true → (addresses n + bytes_of o ≤ bytes_end (map_of_unit u)) ⊎ (t.registers 2 + (codes function).size ≤ addresses n)
+  lies_above n o is live = subst (λ s. (addresses n + bytes_of o ≤ bytes_end (map_of_unit u)) ⊎ (s ≤ addresses n)) (sym sp_is) (all.below n o is live)
 
   -- Memory is as it was but in the frame.
   kept_memory : (b : ℕ) → (b < t.registers 2) ⊎ (t.registers 2 + (codes function).size ≤ b) → t.memory b ≡ h.memory b
@@ -161,9 +176,9 @@ module _ (codes : ℕ → FunctionCode) (u : UnitForm) (valid : (k : ℕ) → Is
   objects_kept : HoldsObjects now memory t.memory
   objects_kept =
       objects_new u (codes function) fits addresses c.memory (length (c.here ∷ c.waiting) + 1) (t.registers 2) h.memory t.memory sp_aligned sp_low sp_high all.here.laid lies_above all.here.objects
-      (λ n o is live b low high. kept_memory b (⊎_elim (λ (static : addresses n + bytes_of o ≤ 5242880). inl (let far = sp_low in omega (arith, high, static, far))) (λ (past : t.registers 2 + (codes function).size ≤ addresses n). inr (omega (arith, past, low))) (lies_above n o is live)))
+      (λ n o is live b low high. kept_memory b (⊎_elim (λ (static : addresses n + bytes_of o ≤ bytes_end (map_of_unit u)). inl (let far = sp_low in omega (arith, high, static, far, statics_below))) (λ (past : t.registers 2 + (codes function).size ≤ addresses n). inr (omega (arith, past, low))) (lies_above n o is live)))
 
-  grown : Grown addresses now c.memory memory (t.registers 2 + (codes function).size)
+  grown : Grown (map_of_unit u) addresses now c.memory memory (t.registers 2 + (codes function).size)
   grown = grown_new u (codes function) fits addresses c.memory (length (c.here ∷ c.waiting) + 1) (t.registers 2) h.memory t.memory sp_aligned sp_low sp_high all.here.laid lies_above
 
   found : (q : ℕ) → q ≢ 2 → q ≢ 4 → q ≢ 5 → t.registers q ≡ h.registers q
@@ -201,16 +216,16 @@ module _ (codes : ℕ → FunctionCode) (u : UnitForm) (valid : (k : ℕ) → Is
       let far = sp_low in
       record {
         aligned = ap (λ a. a % 4) (sym e) ∙ has.aligned;
-        low = subst (λ a. 4194304 ≤ a) e has.low;
-        high = subst (λ a. a + 4 * words_of (length all_bytes) ≤ 5242880) e has.high;
-        bytes = λ i lt. ap (λ a. t.memory (a + i)) (sym e) ∙ kept_memory (array_bytes_at (codes c.here.function).storage n + i) (inl (omega (arith, high, lt, far))) ∙ has.bytes i lt;
+        low = subst (λ a. bytes_start (map_of_unit u) ≤ a) e has.low;
+        high = subst (λ a. a + 4 * words_of (length all_bytes) ≤ bytes_end (map_of_unit u)) e has.high;
+        bytes = λ i lt. ap (λ a. t.memory (a + i)) (sym e) ∙ kept_memory (array_bytes_at (codes c.here.function).storage n + i) (inl (omega (arith, high, lt, far, statics_below))) ∙ has.bytes i lt;
         apart = λ k o is live. subst (λ a. (now k + 4 * words_of (bytes_of o) ≤ a) ⊎ (a + 4 * words_of (length all_bytes) ≤ now k)) e
             (⊎_elim
             (λ (both : WasThere c.memory k o × (now k ≡ addresses k)).
             subst (λ x. (x + 4 * words_of (bytes_of o) ≤ array_bytes_at (codes c.here.function).storage n) ⊎ (array_bytes_at (codes c.here.function).storage n + 4 * words_of (length all_bytes) ≤ x)) (sym both.1)
             (subst (λ size. (addresses k + 4 * words_of size ≤ array_bytes_at (codes c.here.function).storage n) ⊎ (array_bytes_at (codes c.here.function).storage n + 4 * words_of (length all_bytes) ≤ addresses k)) (sym both.0.bytes)
             (has.apart k both.0.object both.0.is (both.0.live live))))
-            (λ (new : (length c.memory ≤ k) × (16777216 ≤ now k) × (now k + bytes_of o ≤ t.registers 2 + (codes function).size)). inr (omega (arith, high, new.1)))
+            (λ (new : (length c.memory ≤ k) × (stack_start (map_of_unit u) ≤ now k) × (now k + bytes_of o ≤ t.registers 2 + (codes function).size)). inr (omega (arith, high, new.1, statics_below)))
             (grown.were k o is live));
       }
 
@@ -227,6 +242,7 @@ module _ (codes : ℕ → FunctionCode) (u : UnitForm) (valid : (k : ℕ) → Is
         };
         scratch = tt;
         aligned = sp_aligned;
+        map = t_map;
         low = sp_low;
         high = sp_high;
         homes = λ home among. tt;
@@ -263,10 +279,10 @@ module _ (codes : ℕ → FunctionCode) (u : UnitForm) (valid : (k : ℕ) → Is
     t4 = done_by_all (base_code is_main (codes function).storage.base) t
 
     frame4 : HoldsFrame w (bare graph block wanted) t4
-    frame4 = frame_found w (bare graph block wanted) t t4 [] (sets.kept 0 (λ e. cc) (λ e. cc)) (sets.kept 2 (λ e. cc) (λ e. cc)) (sets.value ∙ sym framed.fetch.gp) (λ r is. sets.kept r (λ e. low_no_home 3 r (omega arith) is (sym e)) (home_no_scratch r is).1) sets.memory tt tt framed
+    frame4 = frame_found w (bare graph block wanted) t t4 [] (sets.kept 0 (λ e. cc) (λ e. cc)) (sets.kept 2 (λ e. cc) (λ e. cc)) (sets.value ∙ sym framed.fetch.gp) (λ r is. sets.kept r (λ e. low_no_home 3 r (omega arith) is (sym e)) (home_no_scratch r is).1) (regions_kept (base_code is_main (codes function).storage.base) t) sets.memory tt tt framed
 
     given4 : AreGiven now memory t4 0 vs
-    given4 = given_grown addresses now c.memory memory (t.registers 2 + (codes function).size) h t4 0 vs (omega (arith, many, few)) grown
+    given4 = given_grown (map_of_unit u) addresses now c.memory memory (t.registers 2 + (codes function).size) h t4 0 vs (omega (arith, many, few)) grown
         (λ q least most. sets.kept q (λ e. omega (arith, least, e)) (λ e. omega (arith, least, e)) ∙ found q (λ e. omega (arith, least, e)) (λ e. omega (arith, least, e)) (λ e. omega (arith, least, e))) given
 
     in_room : HasRoom w
@@ -301,8 +317,8 @@ module _ (codes : ℕ → FunctionCode) (u : UnitForm) (valid : (k : ℕ) → Is
     same_length : length bound_memory ≡ length memory
     same_length = subst (λ (q : Configuration). length q.memory ≡ length memory) is_begun binds.same
 
-    grown5 : Grown addresses now c.memory bound_memory (t.registers 2 + (codes function).size)
-    grown5 = grown_then addresses now c.memory memory bound_memory (t.registers 2 + (codes function).size) grown those same_length
+    grown5 : Grown (map_of_unit u) addresses now c.memory bound_memory (t.registers 2 + (codes function).size)
+    grown5 = grown_then (map_of_unit u) addresses now c.memory memory bound_memory (t.registers 2 + (codes function).size) grown those same_length
 
     low5 : (q : ℕ) → q ≤ 4 → q ≢ 3 → t5.registers q ≡ t.registers q
     low5 q le n3 = binds.low q le ∙ sets.kept q n3 (λ e. omega (arith, le, e))
@@ -311,15 +327,15 @@ module _ (codes : ℕ → FunctionCode) (u : UnitForm) (valid : (k : ℕ) → Is
     sp5 = low5 2 (omega arith) (λ e. cc)
 
     -- A byte that no older object has, above the frame or in static memory, no new one has either.
-    no_new : (b : ℕ) → (h.registers 2 ≤ b) ⊎ (b < 5242880) → IsNoObject addresses c.memory b → IsNoObject now memory b
+    no_new : (b : ℕ) → (h.registers 2 ≤ b) ⊎ (b < bytes_end (map_of_unit u)) → IsNoObject addresses c.memory b → IsNoObject now memory b
     no_new b which none n o is live = ⊎_elim
         (λ (both : WasThere c.memory n o × (now n ≡ addresses n)).
         subst (λ x. (b < x) ⊎ (x + 4 * words_of (bytes_of o) ≤ b)) (sym both.1) (subst (λ k. (b < addresses n) ⊎ (addresses n + 4 * words_of k ≤ b)) (sym both.0.bytes) (none n both.0.object both.0.is (both.0.live live))))
-        (λ (new : (length c.memory ≤ n) × (16777216 ≤ now n) × (now n + bytes_of o ≤ t.registers 2 + (codes function).size)).
+        (λ (new : (length c.memory ≤ n) × (stack_start (map_of_unit u) ≤ now n) × (now n + bytes_of o ≤ t.registers 2 + (codes function).size)).
         let whole = framed.laid.aligned n o is in
         let at = all.here.aligned in
         let top = sp_is in
-        ⊎_elim (λ (above : h.registers 2 ≤ b). inr (omega (arith, new.2, whole, at, top, above))) (λ (static : b < 5242880). inl (omega (arith, new.1, static))) which)
+        ⊎_elim (λ (above : h.registers 2 ≤ b). inr (omega (arith, new.2, whole, at, top, above))) (λ (static : b < bytes_end (map_of_unit u)). inl (omega (arith, new.1, static, statics_below))) which)
         (grown.were n o is live)
 
     above5 : (b : ℕ) → h.registers 2 ≤ b → IsNoObject addresses c.memory b → t5.memory b ≡ h.memory b
@@ -329,11 +345,11 @@ module _ (codes : ℕ → FunctionCode) (u : UnitForm) (valid : (k : ℕ) → Is
         let at = sets.kept 2 (λ e. cc) (λ e. cc) in
         binds.memory b (inr (omega (arith, le, top, room, at)), no_new b (inl le) none) (inr (omega (arith, le, top, at))) ∙ ap (λ (m : ℕ → ℕ). m b) sets.memory ∙ kept_memory b (inr (omega (arith, le, top)))
 
-    statics5 : (b : ℕ) → b < 5242880 → IsNoObject addresses c.memory b → t5.memory b ≡ h.memory b
+    statics5 : (b : ℕ) → b < bytes_end (map_of_unit u) → IsNoObject addresses c.memory b → t5.memory b ≡ h.memory b
     statics5 b lt none =
         let far = sp_low in
         let at = sets.kept 2 (λ e. cc) (λ e. cc) in
-        binds.memory b (inl (omega (arith, lt, far, at)), no_new b (inr lt) none) (inl (omega (arith, lt, far, at))) ∙ ap (λ (m : ℕ → ℕ). m b) sets.memory ∙ kept_memory b (inl (omega (arith, lt, far)))
+        binds.memory b (inl (omega (arith, lt, far, at, statics_below)), no_new b (inr lt) none) (inl (omega (arith, lt, far, at, statics_below))) ∙ ap (λ (m : ℕ → ℕ). m b) sets.memory ∙ kept_memory b (inl (omega (arith, lt, far, statics_below)))
 
     -- The part of the frame that was written as it was made.
     made_kept : (b : ℕ) → t.registers 2 ≤ b → b < t.registers 2 + (4 + 4 * length (codes function).saved) → t5.memory b ≡ t.memory b
@@ -381,6 +397,7 @@ module _ (codes : ℕ → FunctionCode) (u : UnitForm) (valid : (k : ℕ) → Is
       fetch = all.here.fetch;
       scratch = all.here.scratch;
       aligned = all.here.aligned;
+      map = all.here.map;
       low = all.here.low;
       high = all.here.high;
       homes = all.here.homes;
@@ -392,8 +409,9 @@ module _ (codes : ℕ → FunctionCode) (u : UnitForm) (valid : (k : ℕ) → Is
       arrays = all.here.arrays;
     }
 
-    leaves : LeavesAbove (codes c.here.function) addresses c.memory h (behind_frame (codes function) t5)
+    leaves : LeavesAbove (map_of_unit u) (codes c.here.function) addresses c.memory h (behind_frame (codes function) t5)
     leaves = record {
+      map = frame5.map ∙ sym all.here.map;
       sp = sp_found;
       none = none_found;
       gp = gp_found;
@@ -409,15 +427,15 @@ module _ (codes : ℕ → FunctionCode) (u : UnitForm) (valid : (k : ℕ) → Is
       low = low_index;
       returns = returns5;
       code = resume;
-      frame = frame_grown codes u valid addresses now resumes c.memory bound_memory (t.registers 2 + (codes function).size) grown5 frame5.laid (record c.here { wants = wanted }) c.waiting c.input c.input [] h (behind_frame (codes function) t5) caller_frame sp_found none_found gp_found home_found above5 statics5
+      frame = frame_grown codes u valid addresses now resumes c.memory bound_memory (t.registers 2 + (codes function).size) grown5 frame5.laid (record c.here { wants = wanted }) c.waiting c.input c.input [] h (behind_frame (codes function) t5) caller_frame leaves.map sp_found none_found gp_found home_found above5 statics5
           (let top = sp_is in omega (arith, top)) all.objects frame5.objects;
       room = let top = sp_found in let room = all.room in omega (arith, top, room);
       objects = let most = all.objects in let longer = grown5.longer in omega (arith, most, longer);
       below = λ n o lt is live. ⊎_elim
           (λ (both : WasThere c.memory n o × (now n ≡ addresses n)).
-          subst (λ s. (now n + bytes_of o ≤ 5242880) ⊎ (s ≤ now n)) (sym sp_found)
-          (subst (λ x. (x + bytes_of o ≤ 5242880) ⊎ (h.registers 2 ≤ x)) (sym both.1) (subst (λ k. (addresses n + k ≤ 5242880) ⊎ (h.registers 2 ≤ addresses n)) (sym both.0.bytes) (all.below n both.0.object both.0.is (both.0.live live)))))
-          (λ (new : (length c.memory ≤ n) × (16777216 ≤ now n) × (now n + bytes_of o ≤ t.registers 2 + (codes function).size)). absurd (omega (arith, new.0, lt)))
+          subst (λ s. (now n + bytes_of o ≤ bytes_end (map_of_unit u)) ⊎ (s ≤ now n)) (sym sp_found)
+          (subst (λ x. (x + bytes_of o ≤ bytes_end (map_of_unit u)) ⊎ (h.registers 2 ≤ x)) (sym both.1) (subst (λ k. (addresses n + k ≤ bytes_end (map_of_unit u)) ⊎ (h.registers 2 ≤ addresses n)) (sym both.0.bytes) (all.below n both.0.object both.0.is (both.0.live live)))))
+          (λ (new : (length c.memory ≤ n) × (stack_start (map_of_unit u) ≤ now n) × (now n + bytes_of o ≤ t.registers 2 + (codes function).size)). absurd (omega (arith, new.0, lt)))
           (grown5.were n o is live);
     }
 
@@ -437,7 +455,7 @@ module _ (codes : ℕ → FunctionCode) (u : UnitForm) (valid : (k : ℕ) → Is
       below = λ n o is live.
           let was : WasThere memory n o = those.were n o is in
           let lies = below_new u (codes function) fits addresses c.memory (length (c.here ∷ c.waiting) + 1) (t.registers 2) h.memory t.memory sp_aligned sp_low sp_high all.here.laid lies_above n was.object was.is (was.live live) in
-          subst (λ s. (now n + bytes_of o ≤ 5242880) ⊎ (s ≤ now n)) (sym sp5) (subst (λ k. (now n + k ≤ 5242880) ⊎ (t.registers 2 ≤ now n)) (sym was.bytes) lies);
+          subst (λ s. (now n + bytes_of o ≤ bytes_end (map_of_unit u)) ⊎ (s ≤ now n)) (sym sp5) (subst (λ k. (now n + k ≤ bytes_end (map_of_unit u)) ⊎ (t.registers 2 ≤ now n)) (sym was.bytes) lies);
     }
 
     -- They can be done, and lead there.

@@ -5,6 +5,8 @@ use Rattle.std.specs.Option.{option_map_or}
 use Rattle.std.proofs.lemmas.Bool.{le-ltb, lt-ltb}
 use Rattle.std.proofs.lemmas.List.{length-append, length-replicate}
 use Rattle.std.proofs.lemmas.Option.{same_Some, slice_get_within}
+use Rattle.rv_emit_runs.proofs.Maps.{emitted_in_reach}
+use Rattle.memory_map.specs.Maps.{most_words}
 use Rattle.rv_code.specs.declared.instruction.Instruction.{Instruction}
 use Rattle.rv_code.specs.declared.instruction.Instruction.TheVariants as instruction
 use Rattle.graph_core.specs.Graphs.{Binding, ToScalar, ToObject, Graph}
@@ -26,7 +28,7 @@ use Rattle.rv_emit_runs.specs.Placed.{placed_pieces}
 use Rattle.rv_emit_runs.proofs.Appended.{pieces_appended, words_appended}
 use Rattle.rv_emit_steps.specs.Programs.{Program, address_of}
 use Rattle.rv_emit_sequence.specs.Sequences.{Ground, IsSequenceOf, SequenceForm, all_pieces, counted, first_pieces, last_pieces}
-use Rattle.rv_emit_layout.specs.Layouts.{LayoutForm, words_before}
+use Rattle.rv_emit_layout.specs.Layouts.{LayoutForm, words_before, most_pieces}
 use Rattle.rv_emit_layout.specs.Tracing.{piece_address, with_writers}
 use Rattle.rv_emit_runs.specs.Laid.{Arrangement, code_of, graph_at, program_of, IsInWords}
 use Rattle.rv_emit_runs.proofs.Frames.{graph_is, graph_there, graph_valid}
@@ -176,7 +178,7 @@ module _ (p : Program) (owners : List ℕ) (g : Ground) (f : Graph) (is_main : B
           let mine_count : length mine ≡ length w.code = writer_count k g.entry w.stops w.code in
           let firsts_count = ap (λ (q : List PlacedPiece). length q) w.is ∙ length-append w.front (mine ++ w.behind) in
           let inner_count = length-append mine w.behind in
-          let few : length s.pieces ≤ 262144 = there.few in
+          let few : length s.pieces ≤ most_pieces = there.few in
           let begin : s.begin ≡ counted (length (first_pieces g f is_main)) = sequence.begin in
           let begins : s.begin ≡ length w.front + length mine + length w.behind = omega (arith, begin, firsts_count, inner_count, total, counts, parts, back_count, few) in
           let some : 1 ≤ length w.code = writing_some g.storage (home_at g.storage x) w.code w.writes in
@@ -199,15 +201,15 @@ module _ (p : Program) (owners : List ℕ) (g : Ground) (f : Graph) (is_main : B
 
 -- ---- All of them
 
-module _ (h : HomedForm) (valid : IsValid h.unit) (homed : HaveHomes h) (e : EmittedForm) (emitted : IsEmittedOf h e) (short : length e.code ≤ 262144) (words_in : AllByRecursion IsInWords h.unit.graphs) where
+module _ (h : HomedForm) (valid : IsValid h.unit) (homed : HaveHomes h) (e : EmittedForm) (emitted : IsEmittedOf h e) (short : length e.code ≤ most_words e.map) (words_in : AllByRecursion IsInWords h.unit.graphs) where
   abbrev a : Arrangement
-  a = arranged emitted.coded
+  a = arranged emitted.statics emitted.coded
 
   abbrev p : Program
   p = program_of e short
 
   has : HasCode p e.owners emitted.coded
-  has = record { words = emitted.words; own = emitted.owners; stops = ap (λ l. map (λ (x : PlacedStop). x.address) l) emitted.stops }
+  has = record { reach = emitted_in_reach h e emitted; words = emitted.words; own = emitted.owners; stops = ap (λ l. map (λ (x : PlacedStop). x.address) l) emitted.stops }
 
   few : length h.unit.graphs ≤ 4294967295
   few = let functions : length h.unit.graphs ≤ 256 = valid.functions in omega (arith, functions)

@@ -2,6 +2,8 @@
 use Rattle.std.proofs.Common.{◌≡◌, ℕ, ◌+◌, ◌≤◌, sym, subst, refl, Option, Some, None, Bool, true, false, cond, List, [], ◌∷◌, ◌++◌, length, map, slice_get}
 use Rattle.std.specs.Prelude.{option_map}
 use Rattle.std.specs.List.{AllByRecursion, list_any}
+use Rattle.rv_emit_storage.specs.UnitMaps.{map_of_unit}
+use Rattle.memory_map.specs.Maps.{most_words}
 use Rattle.rv_code.specs.declared.instruction.Instruction.TheVariants as instruction
 use Rattle.rv_code.specs.declared.instruction.ImmediateOperation.TheVariants.{Addi}
 use Rattle.rv_machine.specs.State.{State}
@@ -75,7 +77,7 @@ module _ (p : Program) (codes : ℕ → FunctionCode) (u : UnitForm) (valid : (k
       → CodeAt p i b (passing_code (codes c.here.function).storage 0 held arguments)
       → IsAt p (i + length (passing_code (codes c.here.function).storage 0 held arguments)) (behind b (passing_code (codes c.here.function).storage 0 held arguments)) (instruction.Jal 1 (distance (i + length (passing_code (codes c.here.function).storage 0 held arguments)) at))
       → CodeAt p at false (beginning_code (codes function).storage (codes function).graph (codes function).saved (codes function).size is_main) → length arguments ≡ length (codes function).graph.parameters
-      → AreBindable (codes function).storage (codes function).graph (codes function).saved (codes function).graph.parameters → i + length (passing_code (codes c.here.function).storage 0 held arguments) + 1 ≤ 262144
+      → AreBindable (codes function).storage (codes function).graph (codes function).saved (codes function).graph.parameters → i + length (passing_code (codes c.here.function).storage 0 held arguments) + 1 ≤ most_words (map_of_unit u)
       → Resumes p codes goes_on (record (going_on c rest).here { wants = option_map (placed (home_at (codes c.here.function).storage)) target }) (i + length (passing_code (codes c.here.function).storage 0 held arguments) + 1)
       → slice_get u.graphs function ≡ Some (placed_graph (home_at (codes function).storage) (codes function).graph) → slice_get (placed_graph (home_at (codes function).storage) (codes function).graph).blocks 0 ≡ Some block
       → DoesFunctionCall p s b (length (passing_code (codes c.here.function).storage 0 held arguments) + 4 + length (beginning_behind (codes function).storage (codes function).graph (codes function).saved (codes function).size is_main))

@@ -3,6 +3,10 @@ use Rattle.std.proofs.Common.{◌≡◌, ◌≢◌, ℕ, ◌+◌, ◌<◌, ◌�
 use Rattle.std.specs.Prelude.{◌==◌, option_map, option_and_then}
 use Rattle.std.specs.List.{AllByRecursion}
 use Rattle.std.proofs.lemmas.Bool.{eqb-true, eq-eqb, ne_eqb, cases_lt}
+use Rattle.rv_emit_runs.proofs.Maps.{regions_kept}
+use Rattle.rv_emit_storage.specs.UnitMaps.{map_of_unit}
+use Rattle.memory_map.proofs.Facts.{map_facts}
+use Rattle.memory_map.specs.Maps.{most_words}
 use Rattle.rv_code.specs.declared.instruction.Instruction.{Instruction as MachineInstruction}
 use Rattle.rv_code.specs.declared.instruction.Instruction.TheVariants as instruction
 use Rattle.rv_code.specs.declared.instruction.BranchOperation.TheVariants.{Bne}
@@ -104,7 +108,7 @@ module _ (codes : ℕ → FunctionCode) (u : UnitForm) (valid : (k : ℕ) → Is
   abbrev t1 : Holding
   t1 = writing 1 (address_of (i + length (passing_code (codes c.here.function).storage 0 held arguments) + 1)) t0
 
-  at_low : at < 262144
+  at_low : at < most_words p.map
   at_low = index_low p at false (instruction.Branch Bne 4 0 12) begin.0
 
   -- The machine where the function begins.
@@ -113,7 +117,7 @@ module _ (codes : ℕ → FunctionCode) (u : UnitForm) (valid : (k : ℕ) → Is
       let first = code_does p s i h b passing stands code pass.can in
       let low = index_low p k (behind b passing) (instruction.Jal 1 (distance k at)) jump in
       reaches_then p (length passing) 1 (record { state = s; shown = b }) [] k (behind b passing) t0 [] at false t1 first
-      (jump_does p first.state k t0 at (behind b passing) 1 (distance k at) first.stands jump (distance_leads k at low (let lt = at_low in omega (arith, lt))))
+      (jump_does p first.state k t0 at (behind b passing) 1 (distance k at) first.stands jump (distance_leads p.map k at low (let lt = at_low in omega (arith, lt))))
 
   low_found : (q : ℕ) → q ≤ 4 → q ≢ 1 → t1.registers q ≡ h.registers q
   low_found q le n1 = register_other 1 (address_of (k + 1)) q t0.registers n1 ∙ pass.kept q (λ e. omega (arith, le, e)) (inl (omega (arith, le)))
@@ -122,7 +126,7 @@ module _ (codes : ℕ → FunctionCode) (u : UnitForm) (valid : (k : ℕ) → Is
   home_found r is = register_other 1 (address_of (k + 1)) r t0.registers (λ e. low_no_home 1 r (omega arith) is (sym e)) ∙ pass.kept r (home_no_t0 r is) (⊎_elim (λ (l : r < 10). inl (omega (arith, l))) (λ (u2 : 17 < r). inr u2) (home_no_argument r is))
 
   all1 : HoldsAll codes u addresses resumes [] c t1
-  all1 = all_found codes u valid addresses resumes held c h t1 all low_found home_found pass.memory pass.input
+  all1 = all_found codes u valid addresses resumes held c h t1 all low_found home_found (regions_kept (passing_code (codes c.here.function).storage 0 held arguments) h) pass.memory pass.input
 
   abbrev values : List Value
   values = map (value u.statics c.here.names) (map (placed_operand (home_at (codes c.here.function).storage)) arguments)
@@ -154,7 +158,7 @@ module _ (codes : ℕ → FunctionCode) (u : UnitForm) (valid : (k : ℕ) → Is
 
   -- One may, of a function that has a block.
   module _ (block : Block) (wanted : Option ℕ) (many : length arguments ≡ length (codes function).graph.parameters) (bindable : AreBindable (codes function).storage (codes function).graph (codes function).saved (codes function).graph.parameters)
-      (low_index : i + length (passing_code (codes c.here.function).storage 0 held arguments) + 1 ≤ 262144) (resume : resumes (record c.here { wants = wanted }) (i + length (passing_code (codes c.here.function).storage 0 held arguments) + 1)) where
+      (low_index : i + length (passing_code (codes c.here.function).storage 0 held arguments) + 1 ≤ most_words (map_of_unit u)) (resume : resumes (record c.here { wants = wanted }) (i + length (passing_code (codes c.here.function).storage 0 held arguments) + 1)) where
     abbrev graph : Graph
     graph = placed_graph (home_at (codes function).storage) (codes function).graph
 
@@ -171,7 +175,7 @@ module _ (codes : ℕ → FunctionCode) (u : UnitForm) (valid : (k : ℕ) → Is
         let zero : t1.registers 0 ≡ 0 = all1.here.fetch.none in
         let some : t1.registers 4 ≢ t1.registers 0 = λ e. free (omega (arith, depth, e, zero)) in
         let on : taken Bne (t1.registers 4) (t1.registers 0) ≡ true = ap not (ne_eqb (t1.registers 4) (t1.registers 0) some) in
-        let one = branch_taken p entered.state at t1 (at + 1 + 1 + 1) false Bne 4 0 12 entered.stands begin.0 on (let lt = at_low in omega (arith, lt)) in
+        let one = branch_taken p entered.state at t1 (at + 1 + 1 + 1) false Bne 4 0 12 entered.stands begin.0 on (let lt = at_low in omega (arith, lt, (map_facts p.map).few)) in
         let two = code_does p one.state (at + 1 + 1 + 1) t1 false (instruction.Immediate Addi 4 4 4294967295 ∷ []) one.stands (begin.1.1.1.0, tt) (tt, tt) in
         reaches_then p (length passing + 1) (1 + 1) (record { state = s; shown = b }) [] at false t1 [] (at + 1 + 1 + 1 + 1) false g entered
         (reaches_then p 1 1 (record { state = entered.state; shown = false }) [] (at + 1 + 1 + 1) false t1 [] (at + 1 + 1 + 1 + 1) false g one two)
@@ -197,19 +201,19 @@ module _ (codes : ℕ → FunctionCode) (u : UnitForm) (valid : (k : ℕ) → Is
         let there = guarded free in
         let deep : length c.waiting + 2 ≤ 1024 = let depth = all1.depth in let less = one_less free in omega (arith, depth, less) in
         let params : length (codes function).graph.parameters ≤ 8 = omega (arith, many, few) in
-        let can = beginning_can codes u valid addresses resumes share c t1 g all1 function (k + 1) low_index others_same refl refl (one_less free) refl there.stands.in_range.words deep graph block wanted values is_main given enough params bindable resume in
+        let can = beginning_can codes u valid addresses resumes share c t1 g all1 function (k + 1) low_index others_same refl refl refl (one_less free) refl there.stands.in_range.words deep graph block wanted values is_main given enough params bindable resume in
         let last = code_does p there.state (at + 1 + 1 + 1 + 1) g false rest there.stands begin.1.1.1.1 can.0 in
         record {
-          addresses = now codes u valid addresses resumes share c t1 g all1 function (k + 1) low_index others_same refl refl (one_less free) refl there.stands.in_range.words deep;
+          addresses = now codes u valid addresses resumes share c t1 g all1 function (k + 1) low_index others_same refl refl refl (one_less free) refl there.stands.in_range.words deep;
           count = length passing + 1 + (1 + 1) + length rest;
           few = omega arith;
-          holding = t5 codes u valid addresses resumes share c t1 g all1 function (k + 1) low_index others_same refl refl (one_less free) refl there.stands.in_range.words deep graph block wanted values is_main given enough params bindable resume;
+          holding = t5 codes u valid addresses resumes share c t1 g all1 function (k + 1) low_index others_same refl refl refl (one_less free) refl there.stands.in_range.words deep graph block wanted values is_main given enough params bindable resume;
           reaches = subst
               (λ (q : Holding). Reaches p (length passing + 1 + (1 + 1) + length rest) (record { state = s; shown = b }) [] (at + 1 + 1 + 1 + 1 + length rest) false q)
               can.1
               (subst (λ q. Reaches p (length passing + 1 + (1 + 1) + length rest) (record { state = s; shown = b }) [] (at + 1 + 1 + 1 + 1 + length rest) q (done_by_all rest g)) (behind_none rest)
               (reaches_then p (length passing + 1 + (1 + 1)) (length rest) (record { state = s; shown = b }) [] (at + 1 + 1 + 1 + 1) false g [] (at + 1 + 1 + 1 + 1 + length rest) (behind false rest) (done_by_all rest g) there last));
-          all = begins codes u valid addresses resumes share c t1 g all1 function (k + 1) low_index others_same refl refl (one_less free) refl there.stands.in_range.words deep graph block wanted values is_main given enough params bindable resume;
+          all = begins codes u valid addresses resumes share c t1 g all1 function (k + 1) low_index others_same refl refl refl (one_less free) refl there.stands.in_range.words deep graph block wanted values is_main given enough params bindable resume;
         }
 
     -- The step of the call.

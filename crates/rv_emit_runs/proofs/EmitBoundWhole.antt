@@ -145,7 +145,7 @@ module _ (h : HomedForm) (timed : AreTimed h.unit) (homed : HaveHomes h) (e : Em
   follows_in_time input bytes n =
       let start : ComesToFirst h timed.valid homed e code input bytes = comes_to_first h timed.valid homed e code input bytes in
       let c : Configuration = first h timed.valid homed e code input bytes in
-      let s : State = started e.code e.initial input in
+      let s : State = started e.map e.code e.initial input in
       let R = SameSeen h e code.arrangement in
       let low = (main_there h timed.valid homed e code input bytes).0 in
       let all = all_few h timed e code room in

@@ -4,6 +4,8 @@ use Rattle.std.specs.Option.{option_map_or}
 use Rattle.std.specs.List.{AllByRecursion}
 use Rattle.std.proofs.lemmas.List.{length-append, length-map, map-append}
 use Rattle.std.proofs.lemmas.Option.{slice_get_within}
+use Rattle.rv_emit_runs.proofs.Maps.{emitted_in_reach}
+use Rattle.memory_map.specs.Maps.{most_words}
 use Rattle.graph_core.specs.Graphs.{Block, Graph}
 use Rattle.graph_core.specs.Validity.{markers_in, markers_of_blocks, markers_of, AreAllDifferent, IsValid}
 use Rattle.graph_homes.specs.Homed.{HomedForm, homes_in}
@@ -12,7 +14,7 @@ use Rattle.rv_emit_tables.specs.Emitted.{EmittedForm}
 use Rattle.rv_emit_words.specs.declared.piece.PlacedPiece.{PlacedPiece}
 use Rattle.rv_emit_runs.specs.Laid.{program_of}
 use Rattle.rv_emit_sequence.specs.Sequences.{Ground, SequenceForm, Standing, counted, standing_code, standing_pieces, numbered, first_pieces, last_pieces, IsSequenceOf}
-use Rattle.rv_emit_layout.specs.Layouts.{LayoutForm}
+use Rattle.rv_emit_layout.specs.Layouts.{LayoutForm, most_pieces}
 use Rattle.rv_emit_layout.specs.Tracing.{piece_address, stop_at, stops_of_block, stops_of_blocks, stops_of_pieces}
 use Rattle.rv_emit_layout.specs.Laid.{LaidForm, StaticForm, ground_for, stops_of_all, AreLaid, IsEmittedOf}
 use Rattle.rv_emit_runs.specs.EmitPlacedMarkers.{stop_places_in, stop_places, place_of, AreStopsOf}
@@ -60,7 +62,7 @@ blocks_places s l first entry b (x ∷ more) each =
     next : (k : ℕ) → b + 1 + k ≡ b + suc k
     next k = omega arith
 
-module _ (g : Ground) (f : Graph) (is_main : Bool) (s : SequenceForm) (l : LayoutForm) (first : ℕ) (sequence : IsSequenceOf g f is_main s) (few : length s.pieces ≤ 262144) where
+module _ (g : Ground) (f : Graph) (is_main : Bool) (s : SequenceForm) (l : LayoutForm) (first : ℕ) (sequence : IsSequenceOf g f is_main s) (few : length s.pieces ≤ most_pieces) where
   block_places : (k : ℕ) (b : Block) → slice_get f.blocks k ≡ Some b → map place_of (stops_of_block s l first k) ≡ kept g.entry (markers_in b.instructions)
   block_places k b at =
       by_standing
@@ -98,7 +100,7 @@ module _ (g : Ground) (f : Graph) (is_main : Bool) (s : SequenceForm) (l : Layou
 -- ---- The stops of a unit
 
 unit_places : (h : HomedForm) (s : StaticForm) (firsts : List ℕ) (f : ℕ) (graphs : List Graph) (all : List LaidForm) → AreLaid h s f graphs all → ((k : ℕ) (g : Graph) → slice_get graphs k ≡ Some g → length g.blocks < 4294967295)
-    → ((k : ℕ) (l : LaidForm) → slice_get all k ≡ Some l → length l.sequence.pieces ≤ 262144) → map place_of (stops_of_all firsts f all) ≡ stop_places graphs
+    → ((k : ℕ) (l : LaidForm) → slice_get all k ≡ Some l → length l.sequence.pieces ≤ most_pieces) → map place_of (stops_of_all firsts f all) ≡ stop_places graphs
 unit_places h s firsts f [] [] laid short few = refl
 unit_places h s firsts f [] (l ∷ more) laid short few = absurd laid
 unit_places h s firsts f (g ∷ graphs) [] laid short few = absurd laid
@@ -153,11 +155,11 @@ places_different (g ∷ more) all = kept_different g.entry (markers_of_blocks g.
 
 -- ---- All of it
 
-module _ (h : HomedForm) (valid : IsValid h.unit) (e : EmittedForm) (emitted : IsEmittedOf h e) (short : length e.code ≤ 262144) where
+module _ (h : HomedForm) (valid : IsValid h.unit) (e : EmittedForm) (emitted : IsEmittedOf h e) (short : length e.code ≤ most_words e.map) where
   has : HasCode (program_of e short) e.owners emitted.coded
-  has = record { words = emitted.words; own = emitted.owners; stops = ap (λ l. map (λ (x : PlacedStop). x.address) l) emitted.stops }
+  has = record { reach = emitted_in_reach h e emitted; words = emitted.words; own = emitted.owners; stops = ap (λ l. map (λ (x : PlacedStop). x.address) l) emitted.stops }
 
-  pieces_few : (k : ℕ) (l : LaidForm) → slice_get emitted.coded.all k ≡ Some l → length l.sequence.pieces ≤ 262144
+  pieces_few : (k : ℕ) (l : LaidForm) → slice_get emitted.coded.all k ≡ Some l → length l.sequence.pieces ≤ most_pieces
   pieces_few k l at =
       let functions : length h.unit.graphs ≤ 256 = valid.functions in
       let one : FunctionIn emitted.coded.words emitted.coded.firsts k l = found h emitted.statics emitted.coded emitted.code (program_of e short) e.owners has (omega (arith, functions)) k l at in

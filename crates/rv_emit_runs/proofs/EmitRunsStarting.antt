@@ -4,6 +4,9 @@ use Rattle.std.specs.Prelude.{replicate, slice_index}
 use Rattle.std.specs.List.{AllByRecursion}
 use Rattle.std.proofs.lemmas.Bool.{eq-eqb, cases_lt}
 use Rattle.std.proofs.lemmas.List.{length-replicate}
+use Rattle.rv_emit_runs.proofs.Maps.{code_map}
+use Rattle.rv_emit_storage.specs.UnitMaps.{map_of_unit}
+use Rattle.memory_map.specs.Maps.{bytes_start, stack_start}
 use Rattle.rv_code.specs.declared.instruction.Instruction.{Instruction as MachineInstruction}
 use Rattle.rv_machine.specs.State.{State, bytes_size, stack_size}
 use Rattle.rv_machine.specs.Table.{started, zeros}
@@ -58,18 +61,18 @@ byte_at (x ∷ xs) n (suc k) all = byte_at xs n k all.1
 
 first_byte : (e : EmittedForm) → AllByRecursion (λ b. b < 256) e.initial → (a : ℕ) → first_bytes e a < 256
 first_byte e all a = ⊎_elim
-    (λ (low : a < 4194304). let is = in_none (e.initial ++ zeros (bytes_size - length e.initial)) (zeros stack_size) a low in omega (arith, is))
-    (λ (high : 4194304 ≤ a). ⊎_elim
-    (λ (within : a < 16777216).
-    let is = in_bytes (e.initial ++ zeros (bytes_size - length e.initial)) (zeros stack_size) a high within in
-    let byte = byte_at e.initial (bytes_size - length e.initial) (a - 4194304) all in
+    (λ (low : a < bytes_start e.map). let is = in_none e.map (e.initial ++ zeros (bytes_size - length e.initial)) (zeros stack_size) a low in omega (arith, is))
+    (λ (high : bytes_start e.map ≤ a). ⊎_elim
+    (λ (within : a < stack_start e.map).
+    let is = in_bytes e.map (e.initial ++ zeros (bytes_size - length e.initial)) (zeros stack_size) a high within in
+    let byte = byte_at e.initial (bytes_size - length e.initial) (a - bytes_start e.map) all in
     omega (arith, is, byte))
-    (λ (far : 16777216 ≤ a).
-    let is = in_stack (e.initial ++ zeros (bytes_size - length e.initial)) (zeros stack_size) a far in
-    let none = zeros_at stack_size (a - 16777216) in
+    (λ (far : stack_start e.map ≤ a).
+    let is = in_stack e.map (e.initial ++ zeros (bytes_size - length e.initial)) (zeros stack_size) a far in
+    let none = zeros_at stack_size (a - stack_start e.map) in
     omega (arith, is, none))
-    (cases_lt a 16777216))
-    (cases_lt a 4194304)
+    (cases_lt a (stack_start e.map)))
+    (cases_lt a (bytes_start e.map))
 
 none_bound : (params : List Binding) → 0 ≡ length params → params ≡ []
 none_bound [] e = refl
@@ -92,22 +95,27 @@ module _ (h : HomedForm) (valid : IsValid h.unit) (homed : HaveHomes h) (e : Emi
   -- ---- The machine as it is loaded
 
   abbrev pub first_state : State
-  first_state = started e.code e.initial input
+  first_state = started e.map e.code e.initial input
 
-  first_memory_is : (held (started e.code e.initial input)).memory ≡ first_bytes e
+  first_memory_is : (held (started e.map e.code e.initial input)).memory ≡ first_bytes e
   unfolding started
   first_memory_is = refl
 
-  first_input : (held (started e.code e.initial input)).input ≡ input
+  first_map : (held (started e.map e.code e.initial input)).regions ≡ map_of_unit (over_homes h)
+  unfolding started
+  first_map = sym (code_map h e code)
+
+  first_input : (held (started e.map e.code e.initial input)).input ≡ input
   unfolding started
   first_input = refl
 
-  first_stands : Stands (program_in h e code) (started e.code e.initial input) 0 (held (started e.code e.initial input))
+  first_stands : Stands (program_in h e code) (started e.map e.code e.initial input) 0 (held (started e.map e.code e.initial input))
   unfolding started
   first_stands = record {
     code = refl;
     pc = refl;
     registers = length-replicate {A = ℕ} 32 0;
+    map = refl;
     bytes = let both = length-append e.initial (zeros (bytes_size - length e.initial)) in let rest = zeros_length (bytes_size - length e.initial) in let few = code.few_bytes in omega (arith, both, rest, few);
     stack = zeros_length stack_size;
     holds = refl;
@@ -120,7 +128,7 @@ module _ (h : HomedForm) (valid : IsValid h.unit) (homed : HaveHomes h) (e : Emi
   }
 
   -- No stop is there.
-  pub no_stop : is_stop (program_in h e code).stops (started e.code e.initial input).pc ≡ false
+  pub no_stop : is_stop (program_in h e code).stops (started e.map e.code e.initial input).pc ≡ false
   unfolding started
   no_stop = (stub_there h e code).stub.sp.stop
 
@@ -150,10 +158,10 @@ module _ (h : HomedForm) (valid : IsValid h.unit) (homed : HaveHomes h) (e : Emi
       let at = subst (λ b. code.arrangement.label h.unit.main 0 ≡ code.arrangement.function h.unit.main + length (beginning_code c.storage c.graph c.saved c.size b)) (eq-eqb h.unit.main h.unit.main refl) (begins_there h valid e code h.unit.main main_there.0).1 in
       behind_four (code.arrangement.label h.unit.main 0) (code.arrangement.function h.unit.main) (length (beginning_code c.storage c.graph c.saved c.size true)) front at (beginning_length c.storage c.graph c.saved c.size (none_bound c.graph.parameters main_there.1))
 
-  begins : RunBegins (program_in h e code) (started e.code e.initial input) (5 + front) (code.arrangement.function h.unit.main + 1 + 1 + 1 + 1 + front) (codes_in h e code) (over_homes h) (Resumes (program_in h e code) (codes_in h e code) (GoesOn h e code)) first
+  begins : RunBegins (program_in h e code) (started e.map e.code e.initial input) (5 + front) (code.arrangement.function h.unit.main + 1 + 1 + 1 + 1 + front) (codes_in h e code) (over_homes h) (Resumes (program_in h e code) (codes_in h e code) (GoesOn h e code)) first
   begins =
-      run_begins (codes_in h e code) (over_homes h) (all_codes h valid homed code.arrangement (over_homes h)) (λ n. static_object_at c.storage n) (Resumes (program_in h e code) (codes_in h e code) (GoesOn h e code)) (program_in h e code) (started e.code e.initial input) (held (started e.code e.initial input)) first_stands
-      (code.arrangement.function h.unit.main) (stub_there h e code).stub beginning (subst (λ (m : ℕ → ℕ). IsLoaded (over_homes h) c.storage (λ n. static_object_at c.storage n) m) (sym first_memory_is) (first_loaded h valid code.arrangement (let fits = code.base in omega (arith, fits)) e code.initial (first_byte e code.bytes))) input first_input
+      run_begins (codes_in h e code) (over_homes h) (all_codes h valid homed code.arrangement (over_homes h)) (λ n. static_object_at c.storage n) (Resumes (program_in h e code) (codes_in h e code) (GoesOn h e code)) (program_in h e code) (started e.map e.code e.initial input) (held (started e.map e.code e.initial input)) first_stands
+      (code.arrangement.function h.unit.main) (stub_there h e code).stub beginning (subst (λ (m : ℕ → ℕ). IsLoaded (over_homes h) c.storage (λ n. static_object_at c.storage n) m) (sym first_memory_is) (first_loaded h valid code.arrangement (let fits = code.base in omega (arith, fits)) e code.map code.initial (first_byte e code.bytes))) first_map input first_input
       (placed_block (home_at c.storage) (first_block h valid e code h.unit.main main_there.0).block) (over_homes_there h code.arrangement h.unit.main main_there.0) (block_over_homes h valid e code h.unit.main main_there.0) first first_is
 
   -- The machine comes there, in no more instructions than stand before main and at its beginning, and is related to the unit as main begins.
@@ -161,7 +169,7 @@ module _ (h : HomedForm) (valid : IsValid h.unit) (homed : HaveHomes h) (e : Emi
     pub count : ℕ
     pub few : code.arrangement.function h.unit.main + count ≤ 5 + code.arrangement.label h.unit.main 0
     pub point : Point
-    pub leads : Leads (program_in h e code).stops count (record { state = started e.code e.initial input; shown = false }) [] point
+    pub leads : Leads (program_in h e code).stops count (record { state = started e.map e.code e.initial input; shown = false }) [] point
     pub related : Related h e code first point
     pub begins : position_of related.rest ≡ at_block h.unit.main 0 (first_block h valid e code h.unit.main main_there.0).block []
 

@@ -191,7 +191,7 @@ module _ (h : HomedForm) (valid : IsValid h.unit) (homed : HaveHomes h) (e : Emi
               few = comes.few;
               holding = comes.holding;
               reaches = comes.reaches;
-              all = all_reheld (codes_in h e code) (over_homes h) codes_valid r.addresses (Resumes (program_in h e code) (codes_in h e code) (GoesOn h e code)) later wanted d comes.holding comes.holding comes.all (λ n kept. refl) refl refl
+              all = all_reheld (codes_in h e code) (over_homes h) codes_valid r.addresses (Resumes (program_in h e code) (codes_in h e code) (GoesOn h e code)) later wanted d comes.holding comes.holding comes.all (λ n kept. refl) refl refl refl
                   (held_some wanted later comes.holding held_among comes.all.here.fetch.all) (loads_scratch wanted known_there);
             })
             (subst (λ x. RestFrom h e code (at_block c.here.function enters.number from.from r.rest.history) x (code.arrangement.label c.here.function enters.number) wanted false) (sym spot) begins)

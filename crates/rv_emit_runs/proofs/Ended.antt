@@ -73,6 +73,7 @@ frame_those w c h later those objects frame = record {
   fetch = frame.fetch;
   scratch = frame.scratch;
   aligned = frame.aligned;
+  map = frame.map;
   low = frame.low;
   high = frame.high;
   homes = λ home among. means_later w.addresses c.memory later those _ _ (frame.homes home among);

@@ -2,6 +2,7 @@
 use Rattle.std.proofs.Common.{◌≡◌, ℕ, ◌+◌, ◌-◌, ◌≤◌, sym, ap, ◌∙◌, subst, arith, refl, Option, Some, None, Bool, true, false, cond, not, List, [], ◌∷◌, ◌++◌, length, slice_get}
 use Rattle.std.specs.Prelude.{◌==◌}
 use Rattle.std.proofs.lemmas.Bool.{eqb-true}
+use Rattle.rv_emit_runs.proofs.Maps.{regions_kept}
 use Rattle.rv_code.specs.declared.instruction.Instruction.TheVariants as instruction
 use Rattle.rv_code.specs.declared.instruction.BranchOperation.{BranchOperation}
 use Rattle.rv_code.specs.declared.instruction.ImmediateOperation.TheVariants.{Addi}
@@ -47,7 +48,7 @@ use Rattle.rv_emit_runs.proofs.Loading.{Loads, loading_loads, frame_reheld}
 -- ---- Where control goes
 
 -- A label that stands next is come to by no more than a word that does nothing, and another one by a jump.
-pub going_goes : (p : Program) (t : Targets) (s : State) (i : ℕ) (h : Holding) (b : Bool) (to next j : ℕ) → AreInCode t → Stands p s i h → PiecesAt p t i b (going b to next) j → j ≡ t.label next
+pub going_goes : (p : Program) (t : Targets) (s : State) (i : ℕ) (h : Holding) (b : Bool) (to next j : ℕ) → AreInCode p.map t → Stands p s i h → PiecesAt p t i b (going b to next) j → j ≡ t.label next
     → GoesTo p s b (length (going b to next)) (t.label to) h
 going_goes p t s i h b to next j inside stands there follows = by_test (to == next) refl b there
   where
@@ -79,7 +80,7 @@ going_short b to next = by_test (to == next) b
     by_test false c = omega arith
 
 -- To one label where a branch is taken, and else to another, in no more instructions than the words are.
-pub going_by_goes : (p : Program) (t : Targets) (s : State) (i : ℕ) (h : Holding) (b : Bool) (op : BranchOperation) (l r if_true if_false next j : ℕ) (test : Bool) → AreInCode t → Stands p s i h
+pub going_by_goes : (p : Program) (t : Targets) (s : State) (i : ℕ) (h : Holding) (b : Bool) (op : BranchOperation) (l r if_true if_false next j : ℕ) (test : Bool) → AreInCode p.map t → Stands p s i h
     → PiecesAt p t i b (going_by op l r if_true if_false next) j → j ≡ t.label next → taken op (h.registers l) (h.registers r) ≡ test → GoesTo p s b (j - i) (t.label (cond test if_true if_false)) h
 going_by_goes p t s i h b op l r if_true if_false next j test inside stands there follows is = by_tests (if_true == next) refl there test is
   where
@@ -125,6 +126,7 @@ block_framed w c h block frame = record {
   fetch = frame.fetch;
   scratch = frame.scratch;
   aligned = frame.aligned;
+  map = frame.map;
   low = frame.low;
   high = frame.high;
   homes = frame.homes;
@@ -181,7 +183,7 @@ storage_reheld w held storage = record { homes = storage.homes; aligned = storag
 
 -- ---- Ends of blocks
 
-module _ (p : Program) (t : Targets) (s : State) (i : ℕ) (b : Bool) (w : Setting) (c : Configuration) (h : Holding) (inside : AreInCode t) (storage : IsStorage w) (frame : HoldsFrame w c h) (stands : Stands p s i h) (loads : List Held) (fit : AreLoads loads)
+module _ (p : Program) (t : Targets) (s : State) (i : ℕ) (b : Bool) (w : Setting) (c : Configuration) (h : Holding) (inside : AreInCode p.map t) (storage : IsStorage w) (frame : HoldsFrame w c h) (stands : Stands p s i h) (loads : List Held) (fit : AreLoads loads)
     (next j : ℕ) (follows : j ≡ t.label next) where
   loaded : (room : ℕ) → Loads (loading_code w.storage.base room loads w.held) h (loading_held w.storage.base room loads w.held)
   loaded room = loading_loads w.storage.base room loads w.held h frame.fetch.none frame.fetch.gp (let fits = frame.fetch.fits in omega (arith, fits)) frame.fetch.all frame.scratch fit
@@ -190,7 +192,7 @@ module _ (p : Program) (t : Targets) (s : State) (i : ℕ) (b : Bool) (w : Setti
   loaded_frame : (room : ℕ) → HoldsFrame (with_held (loading_held w.storage.base room loads w.held) w) c (done_by_all (loading_code w.storage.base room loads w.held) h)
   loaded_frame room =
       let l = loaded room in
-      frame_reheld w c h (done_by_all (loading_code w.storage.base room loads w.held) h) (loading_held w.storage.base room loads w.held) l.kept l.memory l.all l.scratch frame
+      frame_reheld w c h (done_by_all (loading_code w.storage.base room loads w.held) h) (loading_held w.storage.base room loads w.held) l.kept (regions_kept (loading_code w.storage.base room loads w.held) h) l.memory l.all l.scratch frame
 
   -- A jump.
   jump_behind : (to : ℕ) → PiecesAt p t i b (words (loading_code w.storage.base 8 loads w.held) ++ going (behind b (loading_code w.storage.base 8 loads w.held)) to next) j

@@ -1,6 +1,9 @@
 -- The words that make a frame store the return address and the registers that the frame keeps, below what waits.
 use Rattle.std.proofs.Common.{◌≡◌, ◌≢◌, ℕ, ◌+◌, ◌*◌, ◌%◌, ◌<◌, ◌≤◌, ◌⊎◌, inl, inr, sym, ap, ◌∙◌, subst, arith, refl, List, [], ◌∷◌, length}
 use Rattle.std.specs.List.{AllByRecursion}
+use Rattle.rv_emit_runs.proofs.Maps.{regions_kept}
+use Rattle.memory_map.proofs.Facts.{map_facts}
+use Rattle.memory_map.specs.Maps.{stack_start, stack_end}
 use Rattle.word_base.specs.Arithmetic.{subtracted}
 use Rattle.rv_code.specs.declared.instruction.Instruction.{Instruction}
 use Rattle.rv_code.specs.declared.instruction.Instruction.TheVariants.{Store}
@@ -28,16 +31,17 @@ pub record Saves (code : List Instruction) (h : Holding) (saved : List ℕ) (a :
   pub memory : (b : ℕ) → (b < a) ⊎ (a + 4 * length saved ≤ b) → (done_by_all code h).memory b ≡ h.memory b
   pub input : (done_by_all code h).input ≡ h.input
 
-pub saving_saves : (saved : List ℕ) (o : ℕ) (h : Holding) → (h.registers 2 + o) % 4 ≡ 0 → 16777216 ≤ h.registers 2 → h.registers 2 + o + 4 * length saved ≤ 33554432 → ((r : ℕ) → IsHomeRegister r → h.registers r < 4294967296) → AllByRecursion IsHomeRegister saved
+pub saving_saves : (saved : List ℕ) (o : ℕ) (h : Holding) → (h.registers 2 + o) % 4 ≡ 0 → stack_start h.regions ≤ h.registers 2 → h.registers 2 + o + 4 * length saved ≤ stack_end h.regions → ((r : ℕ) → IsHomeRegister r → h.registers r < 4294967296) → AllByRecursion IsHomeRegister saved
     → Saves (saving_code saved o) h saved (h.registers 2 + o)
 saving_saves [] o h aligned low high words homes = record { can = tt; have = tt; registers = refl; memory = λ b out. refl; input = refl }
 saving_saves (r ∷ more) o h aligned low high words homes =
-    let at : word (h.registers 2 + o) ≡ h.registers 2 + o = omega (arith, high) in
-    let there : IsDataAt 4 (word (h.registers 2 + o)) = (omega (arith, at, aligned), inr (omega (arith, at, low), omega (arith, at, high))) in
+    let top = (map_facts h.regions).whole in
+    let at : word (h.registers 2 + o) ≡ h.registers 2 + o = omega (arith, high, top) in
+    let there : IsDataAt h.regions 4 (word (h.registers 2 + o)) = (omega (arith, at, aligned), inr (omega (arith, at, low), omega (arith, at, high))) in
     let t : Holding = storing 4 (word (h.registers 2 + o)) (h.registers r) h in
     let a : ℕ = h.registers 2 + o in
     let made : t.memory ≡ with_bytes 4 a (h.registers r) h.memory = ap (λ x. with_bytes 4 x (h.registers r) h.memory) at in
-    let small : (o + 4) % 4294967296 ≡ o + 4 = omega (arith, high) in
+    let small : (o + 4) % 4294967296 ≡ o + 4 = omega (arith, high, top) in
     let rest : Saves (saving_code more ((o + 4) % 4294967296)) t more (h.registers 2 + (o + 4)) =
     subst (λ k. Saves (saving_code more k) t more (h.registers 2 + (o + 4))) (sym small) (saving_saves more (o + 4) t (omega (arith, aligned)) low (omega (arith, high)) words homes.1) in
     let n : ℕ → ℕ = (done_by_all (saving_code more ((o + 4) % 4294967296)) t).memory in
@@ -72,6 +76,7 @@ pub record EntersBy (saved : List ℕ) (size : ℕ) (h t : Holding) : Type 0 whe
   pub have : AreSaved saved (t.registers 2 + 4) t.memory h.registers
   pub memory : (b : ℕ) → (b < t.registers 2) ⊎ (t.registers 2 + (4 + 4 * length saved) ≤ b) → t.memory b ≡ h.memory b
   pub input : t.input ≡ h.input
+  pub map : t.regions ≡ h.regions
 
 pub record Enters (saved : List ℕ) (size : ℕ) (h : Holding) : Type 0 where
   pub can : CanDoAll (entering_code saved size) h
@@ -83,8 +88,8 @@ pub record CanEnter (saved : List ℕ) (size : ℕ) (h : Holding) : Type 0 where
   pub none : h.registers 0 ≡ 0
   pub aligned : h.registers 2 % 4 ≡ 0
   pub whole : size % 4 ≡ 0
-  pub low : 16777216 + size ≤ h.registers 2
-  pub high : h.registers 2 ≤ 33554432
+  pub low : stack_start h.regions + size ≤ h.registers 2
+  pub high : h.registers 2 ≤ stack_end h.regions
   pub room : 4 + 4 * length saved ≤ size
   pub registers : AllByRecursion IsHomeRegister saved
 
@@ -99,23 +104,26 @@ home_no_scratch r (inr (low, high)) = (λ e. omega (arith, low, e), λ e. omega 
 
 pub entering_enters : (saved : List ℕ) (size : ℕ) (h : Holding) → CanEnter saved size h → Enters saved size h
 entering_enters saved size h can =
-    let low : 16777216 + size ≤ h.registers 2 = can.low in
-    let high : h.registers 2 ≤ 33554432 = can.high in
+    let low : stack_start h.regions + size ≤ h.registers 2 = can.low in
+    let high : h.registers 2 ≤ stack_end h.regions = can.high in
+    let top = (map_facts h.regions).whole in
     let room : 4 + 4 * length saved ≤ size = can.room in
     let front = moving_code (subtracted 0 size) in
     let back = Store Sw 1 2 0 ∷ saving_code saved 4 in
-    let one : Brings front h 2 2 (word (h.registers 2 + subtracted 0 size)) = moved h (subtracted 0 size) (omega (arith, low, high)) can.none in
+    let one : Brings front h 2 2 (word (h.registers 2 + subtracted 0 size)) = moved h (subtracted 0 size) (omega (arith, low, high, top)) can.none in
     let h1 : Holding = done_by_all front h in
-    let down : word (h.registers 2 + subtracted 0 size) + size ≡ h.registers 2 = omega (arith, low, high) in
+    let down : word (h.registers 2 + subtracted 0 size) + size ≡ h.registers 2 = omega (arith, low, high, top) in
     let sp : h1.registers 2 + size ≡ h.registers 2 = ap (λ x. x + size) one.value ∙ down in
     let a : ℕ = h1.registers 2 in
-    let at : word (h1.registers 2 + 0) ≡ h1.registers 2 = omega (arith, sp, high) in
+    let same : h1.regions ≡ h.regions = regions_kept front h in
+    let start : stack_start h1.regions ≡ stack_start h.regions = ap (λ m. stack_start m) same in
+    let at : word (h1.registers 2 + 0) ≡ h1.registers 2 = omega (arith, sp, high, top) in
     let whole : h1.registers 2 % 4 ≡ 0 = let z = can.whole in let y = can.aligned in omega (arith, sp, z, y) in
-    let there : IsDataAt 4 (word (h1.registers 2 + 0)) = (omega (arith, at, whole), inr (omega (arith, at, sp, low), omega (arith, at, sp, high, room))) in
+    let there : IsDataAt h1.regions 4 (word (h1.registers 2 + 0)) = (omega (arith, at, whole), inr (omega (arith, at, sp, low, start), omega (arith, at, sp, high, room, start))) in
     let h2 : Holding = storing 4 (word (h1.registers 2 + 0)) (h1.registers 1) h1 in
     let made : h2.memory ≡ with_bytes 4 a (h1.registers 1) h1.memory = ap (λ x. with_bytes 4 x (h1.registers 1) h1.memory) at in
     let ra : h1.registers 1 ≡ h.registers 1 = one.kept 1 (λ e. cc) (λ e. cc) in
-    let two : Saves (saving_code saved 4) h2 saved (h1.registers 2 + 4) = saving_saves saved 4 h2 (omega (arith, whole)) (omega (arith, sp, low)) (omega (arith, sp, high, room)) (λ r is. subst (λ x. x < 4294967296) (sym (one.kept r (home_no_scratch r is).0 (home_no_scratch r is).1)) (can.words r)) can.registers in
+    let two : Saves (saving_code saved 4) h2 saved (h1.registers 2 + 4) = saving_saves saved 4 h2 (omega (arith, whole)) (omega (arith, sp, low, start)) (omega (arith, sp, high, room, start)) (λ r is. subst (λ x. x < 4294967296) (sym (one.kept r (home_no_scratch r is).0 (home_no_scratch r is).1)) (can.words r)) can.registers in
     let t : Holding = done_by_all (saving_code saved 4) h2 in
     let both : done_by_all (entering_code saved size) h ≡ t = done_by_both front back h in
     let byte : (b : ℕ) → b < a + 4 → t.memory b ≡ with_bytes 4 a (h1.registers 1) h1.memory b = λ b lt. two.memory b (inl lt) ∙ ap (λ (m : ℕ → ℕ). m b) made in
@@ -129,6 +137,7 @@ entering_enters saved size h can =
           (saved_same saved (a + 4) t.memory h.registers h1.registers can.registers (λ r is. one.kept r (home_no_scratch r is).0 (home_no_scratch r is).1) two.have);
       memory = λ b out. two.memory b (past sp2 out) ∙ ap (λ (m : ℕ → ℕ). m b) made ∙ byte_outside 4 a (h1.registers 1) h1.memory b (short sp2 out) ∙ ap (λ (m : ℕ → ℕ). m b) one.memory;
       input = two.input ∙ one.input;
+      map = regions_kept (saving_code saved 4) h2 ∙ same;
     } in
     record {
       can = can_do_both front back h one.can (there, two.can);

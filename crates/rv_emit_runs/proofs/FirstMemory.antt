@@ -5,6 +5,11 @@ use Rattle.std.specs.Option.{option_map_or}
 use Rattle.std.specs.List.{flat_map}
 use Rattle.std.proofs.lemmas.Bool.{cases_lt, leb-true}
 use Rattle.std.proofs.lemmas.Option.{slice_get_within}
+use Rattle.rv_emit_storage.proofs.UnitMaps.{statics_begin}
+use Rattle.rv_emit_runs.proofs.Maps.{over_homes_map}
+use Rattle.rv_emit_storage.specs.UnitMaps.{map_of_unit}
+use Rattle.memory_map.proofs.Facts.{map_facts}
+use Rattle.memory_map.specs.Maps.{bytes_end, bytes_start}
 use Rattle.rv_machine.specs.State.{bytes_size, stack_size}
 use Rattle.rv_machine.specs.Table.{zeros}
 use Rattle.graph_core.specs.declared.value.Value.{Value}
@@ -184,7 +189,7 @@ back_there : {A : Type 0} (xs ys : List A) (n : ℕ) (x : A) → slice_get ys n 
 back_there [] ys n x e = let same : 0 + n ≡ n = omega arith in ap (slice_get ys) same ∙ e
 back_there (y ∷ xs) ys n x e = let same : length (y ∷ xs) + n ≡ suc (length xs + n) = omega arith in ap (slice_get ((y ∷ xs) ++ ys)) same ∙ back_there xs ys n x e
 
-module _ (u : UnitForm) (valid : IsValid u) (e : EmittedForm) (same : e.initial ≡ initial_bytes u) (bytes : (a : ℕ) → first_bytes e a < 256) where
+module _ (u : UnitForm) (valid : IsValid u) (e : EmittedForm) (same_map : e.map ≡ map_of_unit u) (same : e.initial ≡ initial_bytes u) (bytes : (a : ℕ) → first_bytes e a < 256) where
   -- ---- Where they lie
 
   abbrev chunks : List (List ℕ)
@@ -202,11 +207,14 @@ module _ (u : UnitForm) (valid : IsValid u) (e : EmittedForm) (same : e.initial 
       (chunks_mapped (object_bytes u) static_bytes (λ o. padded_length (taken_by (static_bytes o)) (bytes_by_element u o o.element)) u.statics)
       (chunks_mapped (λ (b : List ℕ). padded (taken_by (length b)) b) (λ (b : List ℕ). length b) (λ b. padded_length (taken_by (length b)) b) u.array_bytes)
 
-  start_is : statics_start ≡ 4194304
-  unfolding statics_start
-  start_is = refl
+  start_is : statics_start ≡ bytes_start (map_of_unit u)
+  start_is = statics_begin u
 
-  fits : statics_start + total taken_by (static_sizes u) ≤ 5242880
+  -- The regions are those of the unit.
+  begin_is : statics_start ≡ bytes_start e.map
+  begin_is = start_is ∙ sym (ap (λ m. bytes_start m) same_map)
+
+  fits : statics_start + total taken_by (static_sizes u) ≤ bytes_end (map_of_unit u)
   fits =
       let all = total_both static_bytes (λ (b : List ℕ). length b) u.statics u.array_bytes in
       let few = valid.statics in
@@ -216,16 +224,17 @@ module _ (u : UnitForm) (valid : IsValid u) (e : EmittedForm) (same : e.initial 
   -- What stands in memory so far behind the beginning of a thing.
   stands_there : (n : ℕ) (c : List ℕ) (s : ℕ) → slice_get chunks n ≡ Some c → slice_get (static_sizes u) n ≡ Some s → (k : ℕ) → k < length c → k < taken_by s → first_bytes e (slice_index (static_addresses u) n + k) ≡ slice_index c k
   stands_there n c s there sized k lt within =
-      let start = start_is in
+      let start = begin_is in
+      let inside = start_is in
       let most = fits in
       let lies = lies_among (static_sizes u) statics_start n s sized in
       let low = lies.low in
       let high = lies.high in
-      let at : statics_start + (slice_index (static_addresses u) n + k - 4194304) ≡ slice_index (static_addresses u) n + k = omega (arith, start, low) in
-      in_bytes (e.initial ++ zeros (bytes_size - length e.initial)) (zeros stack_size) (slice_index (static_addresses u) n + k) (omega (arith, start, low)) (omega (arith, high, most, within))
-      ∙ with_zeros e.initial (bytes_size - length e.initial) (slice_index (static_addresses u) n + k - 4194304)
-      ∙ ap (λ l. slice_index l (slice_index (static_addresses u) n + k - 4194304)) initial_is
-      ∙ chunk_at chunks (static_sizes u) statics_start n c are_chunks there k (slice_index (static_addresses u) n + k - 4194304) lt at
+      let at : statics_start + (slice_index (static_addresses u) n + k - bytes_start e.map) ≡ slice_index (static_addresses u) n + k = omega (arith, start, low) in
+      in_bytes e.map (e.initial ++ zeros (bytes_size - length e.initial)) (zeros stack_size) (slice_index (static_addresses u) n + k) (omega (arith, start, low)) (omega (arith, high, most, within, start, inside, (map_facts e.map).apart))
+      ∙ with_zeros e.initial (bytes_size - length e.initial) (slice_index (static_addresses u) n + k - bytes_start e.map)
+      ∙ ap (λ l. slice_index l (slice_index (static_addresses u) n + k - bytes_start e.map)) initial_is
+      ∙ chunk_at chunks (static_sizes u) statics_start n c are_chunks there k (slice_index (static_addresses u) n + k - bytes_start e.map) lt at
 
   -- ---- Static objects
 
@@ -238,8 +247,8 @@ module _ (u : UnitForm) (valid : IsValid u) (e : EmittedForm) (same : e.initial 
   -- Where one lies.
   pub record StaticLies (n : ℕ) (o : StaticObject) : Type 0 where
     pub aligned : static_at u n % 4 ≡ 0
-    pub low : 4194304 ≤ static_at u n
-    pub high : static_at u n + taken_by (static_bytes o) ≤ 5242880
+    pub low : bytes_start (map_of_unit u) ≤ static_at u n
+    pub high : static_at u n + taken_by (static_bytes o) ≤ bytes_end (map_of_unit u)
 
   pub static_lies : (n : ℕ) (o : StaticObject) → slice_get u.statics n ≡ Some o → StaticLies n o
   static_lies n o is =
@@ -248,7 +257,7 @@ module _ (u : UnitForm) (valid : IsValid u) (e : EmittedForm) (same : e.initial 
       let most = fits in
       let low = lies.low in
       let high = lies.high in
-      record { aligned = lies.aligned (omega (arith, start)); low = omega (arith, low, start); high = omega (arith, high, most) }
+      record { aligned = lies.aligned (omega (arith, start, (map_facts (map_of_unit u)).pages)); low = omega (arith, low, start); high = omega (arith, high, most) }
 
   -- What stands in memory of its bytes, as far as it has elements.
   object_there : (n : ℕ) (o : StaticObject) → slice_get u.statics n ≡ Some o → (k : ℕ) → k < static_bytes o → first_bytes e (static_at u n + k) ≡ slice_index (bytes_by_element u o o.element) k
@@ -382,7 +391,7 @@ module _ (u : UnitForm) (valid : IsValid u) (e : EmittedForm) (same : e.initial 
     static_is : (n : ℕ) (o : StaticObject) → slice_get u.statics n ≡ Some o → static_object_at storage n ≡ static_at u n
     static_is n o is = ap (λ l. slice_index l n) statics ∙ front_only (length u.statics) (static_addresses u) n (slice_get_within u.statics n o is)
 
-    laid : AreLaid (λ n. static_object_at storage n) (first_memory u.statics)
+    laid : AreLaid (map_of_unit u) (λ n. static_object_at storage n) (first_memory u.statics)
     laid = record {
       aligned = λ n o is. let f = first_of u.statics u.statics 0 n o is in ap (λ a. a % 4) (static_is n f.static f.there) ∙ (static_lies n f.static f.there).aligned;
       lie = λ n o is.
@@ -437,8 +446,9 @@ module _ (u : UnitForm) (valid : IsValid u) (e : EmittedForm) (same : e.initial 
         ap (slice_get chunks) here
         ∙ back_there (map (object_bytes u) u.statics) (map (λ (b : List ℕ). padded (taken_by (length b)) b) u.array_bytes) n (padded (taken_by (length all)) all) (mapped_there (λ (b : List ℕ). padded (taken_by (length b)) b) u.array_bytes n all is)
 
-    array_held : (w : Setting) → w.storage ≡ storage → w.addresses ≡ (λ n. static_object_at storage n) → (n : ℕ) (all : List ℕ) → slice_get u.array_bytes n ≡ Some all → HasArray w (first_memory u.statics) (first_bytes e) n all
-    array_held w same_storage same_addresses n all is =
+    array_held : (w : Setting) → map_of_unit w.unit ≡ map_of_unit u → w.storage ≡ storage → w.addresses ≡ (λ n. static_object_at storage n) → (n : ℕ) (all : List ℕ) → slice_get u.array_bytes n ≡ Some all → HasArray w (first_memory u.statics) (first_bytes e) n all
+    array_held w same_unit same_storage same_addresses n all is =
+        let same_start : bytes_start (map_of_unit w.unit) ≡ bytes_start (map_of_unit u) = ap (λ m. bytes_start m) same_unit in
         let lies = lies_among (static_sizes u) statics_start (length u.statics + n) (length all) (array_sized n all is) in
         let start = start_is in
         let most = fits in
@@ -446,9 +456,9 @@ module _ (u : UnitForm) (valid : IsValid u) (e : EmittedForm) (same : e.initial 
         let high = lies.high in
         let at : array_bytes_at w.storage n ≡ slice_index (static_addresses u) (length u.statics + n) = ap (λ (s : StorageForm). array_bytes_at s n) same_storage ∙ array_is n in
         record {
-          aligned = ap (λ a. a % 4) at ∙ lies.aligned (omega (arith, start));
-          low = omega (arith, at, low, start);
-          high = omega (arith, at, high, most);
+          aligned = ap (λ a. a % 4) at ∙ lies.aligned (omega (arith, start, (map_facts (map_of_unit u)).pages));
+          low = omega (arith, at, low, start, same_start);
+          high = omega (arith, at, high, most, same_start);
           bytes = λ i lt.
               let many = padded_length (taken_by (length all)) all in
               ap (λ a. first_bytes e (a + i)) at
@@ -464,23 +474,24 @@ module _ (u : UnitForm) (valid : IsValid u) (e : EmittedForm) (same : e.initial 
               inl (omega (arith, at, ak, size, before));
         }
 
-    pub is_loaded : (v : UnitForm) → v.statics ≡ u.statics → v.array_bytes ≡ u.array_bytes → IsLoaded v storage (λ n. static_object_at storage n) (first_bytes e)
-    is_loaded v same_statics same_arrays = record {
+    pub is_loaded : (v : UnitForm) → map_of_unit v ≡ map_of_unit u → v.statics ≡ u.statics → v.array_bytes ≡ u.array_bytes → IsLoaded v storage (λ n. static_object_at storage n) (first_bytes e)
+    is_loaded v same_v same_statics same_arrays = record {
       fits = base;
-      laid = subst (λ s. AreLaid (λ n. static_object_at storage n) (first_memory s)) (sym same_statics) laid;
+      laid = subst (λ m. AreLaid m (λ n. static_object_at storage n) (first_memory v.statics)) (sym same_v) (subst (λ s. AreLaid (map_of_unit u) (λ n. static_object_at storage n) (first_memory s)) (sym same_statics) laid);
       objects = subst (λ s. HoldsObjects (λ n. static_object_at storage n) (first_memory s) (first_bytes e)) (sym same_statics) objects;
       static = λ n o is.
           let f = first_of u.statics u.statics 0 n o (subst (λ s. slice_get (first_memory s) n ≡ Some o) same_statics is) in
           let at = static_is n f.static f.there in
           let high = (static_lies n f.static f.there).high in
           let size = f.bytes in
-          omega (arith, at, high, size);
+          let same_start : bytes_start (map_of_unit v) ≡ bytes_start (map_of_unit u) = ap (λ m. bytes_start m) same_v in
+          omega (arith, at, high, size, same_start);
       at = λ n o is. refl;
       arrays = λ w same_unit same_storage same_addresses n all is.
-          subst (λ s. HasArray w (first_memory s) (first_bytes e) n all) (sym same_statics) (array_held w same_storage same_addresses n all (subst (λ l. slice_get l n ≡ Some all) same_arrays is));
+          subst (λ s. HasArray w (first_memory s) (first_bytes e) n all) (sym same_statics) (array_held w (ap (λ x. map_of_unit x) same_unit ∙ same_v) same_storage same_addresses n all (subst (λ l. slice_get l n ≡ Some all) same_arrays is));
     }
 
 -- Where static memory begins with the initial bytes of a unit, it is loaded as the unit's run begins.
-pub first_loaded : (h : HomedForm) → IsValid h.unit → (a : Arrangement) → a.base + 1 ≤ 4294967296 → (e : EmittedForm) → e.initial ≡ initial_bytes h.unit → ((b : ℕ) → first_bytes e b < 256)
+pub first_loaded : (h : HomedForm) → IsValid h.unit → (a : Arrangement) → a.base + 1 ≤ 4294967296 → (e : EmittedForm) → e.map ≡ map_of_unit h.unit → e.initial ≡ initial_bytes h.unit → ((b : ℕ) → first_bytes e b < 256)
     → IsLoaded (over_homes h) (code_of h a h.unit.main).storage (λ n. static_object_at (code_of h a h.unit.main).storage n) (first_bytes e)
-first_loaded h valid a base e same bytes = is_loaded h.unit valid e same bytes (code_of h a h.unit.main).storage base refl refl (over_homes h) refl refl
+first_loaded h valid a base e same_map same bytes = is_loaded h.unit valid e same_map same bytes (code_of h a h.unit.main).storage base refl refl (over_homes h) (over_homes_map h) refl refl

@@ -8,7 +8,7 @@ use Rattle.rv_emit_words.specs.declared.piece.PlacedPiece.{PlacedPiece}
 use Rattle.rv_emit_sequence.specs.Sequences.{SequenceForm, counted}
 use Rattle.rv_emit_layout.specs.declared.layout.OwnedWord.{OwnedWord}
 use Rattle.rv_emit_layout.specs.Spelling.{spelled}
-use Rattle.rv_emit_layout.specs.Layouts.{LayoutForm, Lying, function_words, lying, owned_words, piece_code, width, words_before, words_from, IsLayoutOf}
+use Rattle.rv_emit_layout.specs.Layouts.{LayoutForm, Lying, function_words, lying, owned_words, piece_code, width, words_before, words_from, IsLayoutOf, most_pieces}
 use Rattle.rv_emit_layout.proofs.Layouts.{width_some}
 use Rattle.rv_emit_layout.specs.Laid.{LaidForm, firsts_from, words_of_all}
 use Rattle.base_laws.proofs.Lists.{flag_is}
@@ -47,14 +47,14 @@ words_count t far i (x ∷ more) fits =
     omega (arith, size, later, rest, here, all)
 
 -- The words of a function are as many as its layout says.
-pub function_count : (s : SequenceForm) (l : LayoutForm) (first : ℕ) (firsts : List ℕ) → length s.pieces ≤ 262144 → length (function_words s l first firsts) ≡ words_before l.far s.pieces (length s.pieces)
+pub function_count : (s : SequenceForm) (l : LayoutForm) (first : ℕ) (firsts : List ℕ) → length s.pieces ≤ most_pieces → length (function_words s l first firsts) ≡ words_before l.far s.pieces (length s.pieces)
 function_count s l first firsts few = words_count (lying s l first firsts) l.far 0 s.pieces (omega (arith, few))
 
 -- ---- Functions one behind the other
 
 -- Pieces of a function stand as its layout has them, where they are few enough.
 abbrev pub AreLayouts : List LaidForm → Type 0
-AreLayouts all = AllByRecursion (λ (l : LaidForm). length l.sequence.pieces ≤ 262144 → IsLayoutOf l.sequence l.layout) all
+AreLayouts all = AllByRecursion (λ (l : LaidForm). length l.sequence.pieces ≤ most_pieces → IsLayoutOf l.sequence l.layout) all
 
 -- The words of a function stand among others, behind as many as stand before it.
 pub record FunctionIn (whole : List OwnedWord) (firsts : List ℕ) (f : ℕ) (l : LaidForm) : Type 0 where
@@ -62,17 +62,17 @@ pub record FunctionIn (whole : List OwnedWord) (firsts : List ℕ) (f : ℕ) (l 
   pub behind : List OwnedWord
   pub words : whole ≡ before ++ (function_words l.sequence l.layout (slice_index firsts f) firsts ++ behind)
   pub begin : length before ≡ slice_index firsts f
-  pub few : length l.sequence.pieces ≤ 262144
+  pub few : length l.sequence.pieces ≤ most_pieces
   pub layout : IsLayoutOf l.sequence l.layout
 
 pub function_in : (firsts : List ℕ) (all : List LaidForm) (f n : ℕ) (front : List OwnedWord) → length front ≡ n → f + length all ≤ 4294967295 → ((k : ℕ) → slice_index firsts (f + k) ≡ slice_index (firsts_from n all) k)
-    → length (front ++ words_of_all firsts f all) ≤ 262144 → AreLayouts all → (k : ℕ) (l : LaidForm) → slice_get all k ≡ Some l → FunctionIn (front ++ words_of_all firsts f all) firsts (f + k) l
+    → length (front ++ words_of_all firsts f all) ≤ most_pieces → AreLayouts all → (k : ℕ) (l : LaidForm) → slice_get all k ≡ Some l → FunctionIn (front ++ words_of_all firsts f all) firsts (f + k) l
 function_in firsts [] f n front count fits agree low layouts k l e = cc
 function_in firsts (x ∷ more) f n front count fits agree low layouts k l e =
     by_index k e
     (λ j at. function_in firsts more (counted (f + 1)) (counted (n + x.layout.words)) (front ++ function_words x.sequence x.layout (slice_index firsts f) firsts) length_is (omega (arith, fits, next))
     (λ i. let shift : counted (f + 1) + i ≡ f + suc i = omega (arith, next) in ap (λ m. slice_index firsts m) shift ∙ agree (suc i))
-    (subst (λ w. length w ≤ 262144) (sym arranged) low) layouts.1 j l at)
+    (subst (λ w. length w ≤ most_pieces) (sym arranged) low) layouts.1 j l at)
   where
     here : f + 0 ≡ f
     here = omega arith
@@ -83,7 +83,7 @@ function_in firsts (x ∷ more) f n front count fits agree low layouts k l e =
     first : slice_index firsts f ≡ n
     first = ap (λ j. slice_index firsts j) (sym here) ∙ agree 0
 
-    few : length x.sequence.pieces ≤ 262144
+    few : length x.sequence.pieces ≤ most_pieces
     few =
         let some : length x.sequence.pieces ≤ length (function_words x.sequence x.layout (slice_index firsts f) firsts) = pieces_few (lying x.sequence x.layout (slice_index firsts f) firsts) x.layout.far 0 x.sequence.pieces in
         let one = length-append front (function_words x.sequence x.layout (slice_index firsts f) firsts ++ words_of_all firsts (counted (f + 1)) more) in

@@ -3,6 +3,8 @@ use Rattle.std.proofs.Common.{◌≡◌, ℕ, zero, suc, ◌+◌, ◌<◌, ◌�
 use Rattle.std.specs.List.{AllByRecursion, filter, flat_map}
 use Rattle.std.specs.Prelude.{replicate}
 use Rattle.std.proofs.lemmas.List.{drop_at, get_or-drop, length-append, length-replicate, length-take-le, take_at}
+use Rattle.rv_emit_storage.specs.UnitMaps.{map_of_unit}
+use Rattle.memory_map.proofs.Facts.{map_facts}
 use Rattle.graph_homes.specs.declared.home.Home.{Home}
 use Rattle.graph_homes.specs.declared.home.Home.TheVariants.{Register, Slot}
 use Rattle.graph_core.specs.Graphs.{Graph, StaticObject, UnitForm}
@@ -129,9 +131,13 @@ blocks_few u valid f g e =
 
 -- ---- Functions
 
-module _ (h : HomedForm) (valid : IsValid h.unit) (homed : HaveHomes h) (s : StaticForm) (are : AreAddressesOf h.unit s) (a : Arrangement) (base : a.base ≡ 4196352) where
+module _ (h : HomedForm) (valid : IsValid h.unit) (homed : HaveHomes h) (s : StaticForm) (are : AreAddressesOf h.unit s) (a : Arrangement) (base : a.base ≡ s.base) where
   abbrev graph : ℕ → Graph
   graph f = graph_at h.unit f
+
+  -- gp holds a word.
+  base_fits : s.base < 4294967296
+  base_fits = let is = are.base in omega (arith, is, (map_facts (map_of_unit h.unit)).apart, (map_facts (map_of_unit h.unit)).whole)
 
   frame_small : (f : ℕ) → frame_size (length (saved (home_of h f) (graph f))) (slot_count (homes_in h f)) (graph f).objects ≤ 16384
   frame_small f = (laid_out h valid homed a f).small
@@ -175,7 +181,7 @@ module _ (h : HomedForm) (valid : IsValid h.unit) (homed : HaveHomes h) (s : Sta
       s.objects (take (length h.unit.statics) (static_addresses h.unit)) are.objects
       s.arrays (drop (length h.unit.statics) (static_addresses h.unit)) are.arrays
       l.saved (saved (home_of h f) (graph f)) kept
-      4196352 a.base (sym base)
+      s.base a.base (sym base)
       l.size (frame_size (length (saved (home_of h f) (graph f))) (slot_count (homes_in h f)) (graph f).objects) size
       (counted (length (graph f).blocks)) (length (graph f).blocks) end
     where
@@ -203,6 +209,6 @@ module _ (h : HomedForm) (valid : IsValid h.unit) (homed : HaveHomes h) (s : Sta
       let short : length (graph f).blocks < 4294967295 = omega (arith, few) in
       record {
         few = short;
-        spelled = λ l is. sequence_spelled (ground_at f) (ground_fits (subst (λ n. n < 4294967296) (sym base) (omega arith)) f) (graph f) (f == h.unit.main) l.sequence (all_at IsInWords h.unit.graphs f (graph f) words there)
+        spelled = λ l is. sequence_spelled (ground_at f) (ground_fits (subst (λ n. n < 4294967296) (sym base) base_fits) f) (graph f) (f == h.unit.main) l.sequence (all_at IsInWords h.unit.graphs f (graph f) words there)
             (subst (λ g. IsSequenceOf g (graph f) (f == h.unit.main) l.sequence) (ground_is f low (f == h.unit.main) l is) (is.sequence short));
       }

@@ -4,6 +4,9 @@ use Rattle.std.specs.Prelude.{map, option_map, nat_lt, replicate}
 use Rattle.std.proofs.lemmas.Bool.{lt-ltb, le-ltb}
 use Rattle.std.proofs.lemmas.List.{length-replicate}
 use Rattle.std.proofs.lemmas.Option.{slice_get_within}
+use Rattle.rv_emit_storage.specs.UnitMaps.{map_of_unit}
+use Rattle.memory_map.proofs.Facts.{map_facts}
+use Rattle.memory_map.specs.Maps.{bytes_end, stack_start, stack_end}
 use Rattle.graph_core.specs.declared.graph.MemoryObject.{MemoryObject}
 use Rattle.graph_core.specs.declared.value.Value.{Value}
 use Rattle.graph_core.specs.declared.value.Value.TheVariants.{Number, Pointer, Odd}
@@ -64,8 +67,11 @@ replicate_odd (suc k) (suc j) v e = replicate_odd k j v e
 abbrev pub addresses_with : (addresses : ℕ → ℕ) → (count sp : ℕ) → FunctionCode → ℕ → ℕ
 addresses_with addresses count sp f n = cond (nat_lt n count) (addresses n) (sp + object_at f.storage (n - count))
 
-module _ (u : UnitForm) (f : FunctionCode) (fits : IsFunctionCode u f) (addresses : ℕ → ℕ) (memory : Memory) (depth sp : ℕ) (m after : ℕ → ℕ) (aligned : sp % 4 ≡ 0) (low : 16777216 ≤ sp) (high : sp + f.size ≤ 33554432) (laid : AreLaid addresses memory)
-    (below : (n : ℕ) (o : Object) → slice_get memory n ≡ Some o → o.live ≡ true → (addresses n + bytes_of o ≤ 5242880) ⊎ (sp + f.size ≤ addresses n)) where
+module _ (u : UnitForm) (f : FunctionCode) (fits : IsFunctionCode u f) (addresses : ℕ → ℕ) (memory : Memory) (depth sp : ℕ) (m after : ℕ → ℕ) (aligned : sp % 4 ≡ 0) (low : stack_start (map_of_unit u) ≤ sp) (high : sp + f.size ≤ stack_end (map_of_unit u)) (laid : AreLaid (map_of_unit u) addresses memory)
+    (below : (n : ℕ) (o : Object) → slice_get memory n ≡ Some o → o.live ≡ true → (addresses n + bytes_of o ≤ bytes_end (map_of_unit u)) ⊎ (sp + f.size ≤ addresses n)) where
+  statics_below : bytes_end (map_of_unit u) ≤ stack_start (map_of_unit u)
+  statics_below = (map_facts (map_of_unit u)).apart
+
   abbrev later : Memory
   later = memory ++ map (new_object depth) f.graph.objects
 
@@ -92,7 +98,7 @@ module _ (u : UnitForm) (f : FunctionCode) (fits : IsFunctionCode u f) (addresse
       new z.from both.0 z.there bytes (ap (λ (q : Object). q.values) (sym z.is)) (now_new n both.0) (fits.objects (n - length memory) z.from z.there))
       (get_both memory (map (new_object depth) f.graph.objects) n o e)
 
-  pub grown_new : Grown addresses now memory later (sp + f.size)
+  pub grown_new : Grown (map_of_unit u) addresses now memory later (sp + f.size)
   grown_new = record {
     longer = let both = length-append memory (map (new_object depth) f.graph.objects) in omega (arith, both);
     lie = now_old;
@@ -104,12 +110,12 @@ module _ (u : UnitForm) (f : FunctionCode) (fits : IsFunctionCode u f) (addresse
       kept n size None e has = cc
       kept n size (Some o) e has = (ap (λ (q : Option Object). option_map bytes_of q) (get_first memory (map (new_object depth) f.graph.objects) n o e) ∙ has, now_old n (slice_get_within memory n o e))
 
-      were : (n : ℕ) (o : Object) → IsOf n o → (WasThere memory n o × (now n ≡ addresses n)) ⊎ ((length memory ≤ n) × (16777216 ≤ now n) × (now n + bytes_of o ≤ sp + f.size))
+      were : (n : ℕ) (o : Object) → IsOf n o → (WasThere memory n o × (now n ≡ addresses n)) ⊎ ((length memory ≤ n) × (stack_start (map_of_unit u) ≤ now n) × (now n + bytes_of o ≤ sp + f.size))
       were n o (old lt there at) = inl (record { object = o; is = there; bytes = refl; live = λ l. l }, at)
       were n o (new z le there bytes values at lies) = inr (le, omega (arith, at, low), let end = lies.high in omega (arith, at, bytes, end))
 
-  in_memory : (n : ℕ) (o : Object) → IsOf n o → (now n % 4 ≡ 0) × IsInMemory (now n) (bytes_of o)
-  in_memory n o (old lt there at) = (ap (λ a. a % 4) at ∙ laid.aligned n o there, subst (λ a. IsInMemory a (bytes_of o)) (sym at) (laid.lie n o there))
+  in_memory : (n : ℕ) (o : Object) → IsOf n o → (now n % 4 ≡ 0) × IsInMemory (map_of_unit u) (now n) (bytes_of o)
+  in_memory n o (old lt there at) = (ap (λ a. a % 4) at ∙ laid.aligned n o there, subst (λ a. IsInMemory (map_of_unit u) a (bytes_of o)) (sym at) (laid.lie n o there))
   in_memory n o (new z le there bytes values at lies) =
       let end = lies.high in
       let whole = lies.aligned in
@@ -120,16 +126,16 @@ module _ (u : UnitForm) (f : FunctionCode) (fits : IsFunctionCode u f) (addresse
       subst (λ x. (x + bytes_of o < now k) ⊎ (now k + bytes_of q < x)) (sym a1) (subst (λ x. (addresses j + bytes_of o < x) ⊎ (x + bytes_of q < addresses j)) (sym a2) (laid.apart j k o q ne t1 t2 live also))
   apart j k o q ne (old l1 t1 a1) (new z le there bytes values at lies) live also =
       let end = lies.high in
-      ⊎_elim (λ (static : addresses j + bytes_of o ≤ 5242880). inl (omega (arith, a1, at, static, low))) (λ (past : sp + f.size ≤ addresses j). inr (omega (arith, a1, at, past, bytes, end))) (below j o t1 live)
+      ⊎_elim (λ (static : addresses j + bytes_of o ≤ bytes_end (map_of_unit u)). inl (omega (arith, a1, at, static, low, statics_below))) (λ (past : sp + f.size ≤ addresses j). inr (omega (arith, a1, at, past, bytes, end))) (below j o t1 live)
   apart j k o q ne (new z le there bytes values at lies) (old l2 t2 a2) live also =
       let end = lies.high in
-      ⊎_elim (λ (static : addresses k + bytes_of q ≤ 5242880). inr (omega (arith, a2, at, static, low))) (λ (past : sp + f.size ≤ addresses k). inl (omega (arith, a2, at, past, bytes, end))) (below k q t2 also)
+      ⊎_elim (λ (static : addresses k + bytes_of q ≤ bytes_end (map_of_unit u)). inr (omega (arith, a2, at, static, low, statics_below))) (λ (past : sp + f.size ≤ addresses k). inl (omega (arith, a2, at, past, bytes, end))) (below k q t2 also)
   apart j k o q ne (new z le there bytes values at lies) (new y le2 there2 bytes2 values2 at2 lies2) live also = ⊎_elim
       (λ (one : object_at f.storage (j - length memory) + bytes_in z < object_at f.storage (k - length memory)). inl (omega (arith, at, at2, bytes, one)))
       (λ (two : object_at f.storage (k - length memory) + bytes_in y < object_at f.storage (j - length memory)). inr (omega (arith, at, at2, bytes2, two)))
       (fits.apart (j - length memory) (k - length memory) z y (λ e. ne (omega (arith, le, le2, e))) there there2)
 
-  pub laid_new : AreLaid now later
+  pub laid_new : AreLaid (map_of_unit u) now later
   laid_new = record {
     aligned = λ n o is. (in_memory n o (is_of n o is)).0;
     lie = λ n o is. (in_memory n o (is_of n o is)).1;
@@ -169,16 +175,16 @@ module _ (u : UnitForm) (f : FunctionCode) (fits : IsFunctionCode u f) (addresse
   }
 
   -- None of them lies below the frame, and each lies apart from the part of it below its objects.
-  pub below_new : (n : ℕ) (o : Object) → slice_get later n ≡ Some o → o.live ≡ true → (now n + bytes_of o ≤ 5242880) ⊎ (sp ≤ now n)
+  pub below_new : (n : ℕ) (o : Object) → slice_get later n ≡ Some o → o.live ≡ true → (now n + bytes_of o ≤ bytes_end (map_of_unit u)) ⊎ (sp ≤ now n)
   below_new n o is live = by_kind (is_of n o is)
     where
-      by_kind : IsOf n o → (now n + bytes_of o ≤ 5242880) ⊎ (sp ≤ now n)
-      by_kind (old lt there at) = ⊎_elim (λ (static : addresses n + bytes_of o ≤ 5242880). inl (omega (arith, at, static))) (λ (past : sp + f.size ≤ addresses n). inr (omega (arith, at, past))) (below n o there live)
+      by_kind : IsOf n o → (now n + bytes_of o ≤ bytes_end (map_of_unit u)) ⊎ (sp ≤ now n)
+      by_kind (old lt there at) = ⊎_elim (λ (static : addresses n + bytes_of o ≤ bytes_end (map_of_unit u)). inl (omega (arith, at, static))) (λ (past : sp + f.size ≤ addresses n). inr (omega (arith, at, past))) (below n o there live)
       by_kind (new z le there bytes values at lies) = inr (omega (arith, at))
 
   pub free_new : (room : f.storage.slots + 4 * f.slots ≤ f.size) (n : ℕ) (o : Object) → slice_get later n ≡ Some o → o.live ≡ true → (now n + bytes_of o ≤ sp) ⊎ (sp + (f.storage.slots + 4 * f.slots) ≤ now n)
   free_new room n o is live = by_kind (is_of n o is)
     where
       by_kind : IsOf n o → (now n + bytes_of o ≤ sp) ⊎ (sp + (f.storage.slots + 4 * f.slots) ≤ now n)
-      by_kind (old lt there at) = ⊎_elim (λ (static : addresses n + bytes_of o ≤ 5242880). inl (omega (arith, at, static, low))) (λ (past : sp + f.size ≤ addresses n). inr (omega (arith, at, past, room))) (below n o there live)
+      by_kind (old lt there at) = ⊎_elim (λ (static : addresses n + bytes_of o ≤ bytes_end (map_of_unit u)). inl (omega (arith, at, static, low, statics_below))) (λ (past : sp + f.size ≤ addresses n). inr (omega (arith, at, past, room))) (below n o there live)
       by_kind (new z le there bytes values at lies) = let start = lies.low in inr (omega (arith, at, start))

@@ -1,6 +1,10 @@
 -- Behind a step of the innermost activation the machine holds all activations.
 use Rattle.std.proofs.Common.{◌≡◌, ◌≢◌, ℕ, ◌+◌, ◌*◌, ◌%◌, ◌<◌, ◌≤◌, ◌⊎◌, ⊎_elim, inl, inr, sym, ap, ◌∙◌, subst, arith, refl, Option, Some, None, List, [], length}
 use Rattle.std.proofs.lemmas.Bool.{cases_eq}
+use Rattle.rv_emit_storage.specs.UnitMaps.{map_of_unit}
+use Rattle.memory_map.proofs.Facts.{map_facts}
+use Rattle.memory_map.specs.declared.map.Map.{Map}
+use Rattle.memory_map.specs.Maps.{bytes_end, stack_end}
 use Rattle.graph_core.specs.Graphs.{UnitForm}
 use Rattle.graph_core.specs.Memory.{Memory, bytes_of}
 use Rattle.graph_core.specs.Paths.{Among}
@@ -47,7 +51,7 @@ home_or_saved saved (Some (Register q)) h t r is home kept = ⊎_elim
     (cases_eq r q)
 
 module _ (f : FunctionCode) (u : UnitForm) (addresses : ℕ → ℕ) (held : List Held) (c : Configuration) (h t : Holding) (target : Option Home) (fits : IsFunctionCode u f) (frame : HoldsFrame (setting_of u addresses held f) c h)
-    (leaves : LeavesRest (setting_of u addresses held f) c h t target) (among : IsTargetAmong f.slots target) (saved : IsSaved f.saved target) where
+    (leaves : LeavesRest (setting_of u addresses held f) c h t target) (among : IsTargetAmong f.slots target) (saved : IsSaved f.saved target) (same_map : t.regions ≡ h.regions) where
   low_kept : (q : ℕ) → q ≤ 4 → IsKept q → t.registers q ≡ h.registers q
   low_kept q low kept = leaves.registers q (low_no_target f.slots target q low among) kept
 
@@ -62,22 +66,23 @@ module _ (f : FunctionCode) (u : UnitForm) (addresses : ℕ → ℕ) (held : Lis
       (frame.free n o is live)
 
   -- So what waits above does not change.
-  pub leaves_above : LeavesAbove f addresses c.memory h t
+  pub leaves_above : LeavesAbove (map_of_unit u) f addresses c.memory h t
   leaves_above = record {
+    map = same_map;
     sp = low_kept 2 (omega arith) kept_2;
     none = low_kept 0 (omega arith) kept_0;
     gp = low_kept 3 (omega arith) kept_3;
     homes = λ r is. home_or_saved f.saved target h t r saved is leaves.registers;
     kept = λ b low high. leaves.memory b (let room = fits.kept in inl (omega (arith, high, room)), no_object b low (let room = fits.kept in omega (arith, high, room)));
     above = λ b low none. leaves.memory b (let room = (fits.storage addresses held).room in inr (omega (arith, low, room)), none);
-    statics = λ b low none. leaves.memory b (let high = frame.low in inl (omega (arith, low, high)), none);
+    statics = λ b low none. leaves.memory b (let high = frame.low in inl (omega (arith, low, high, (map_facts (map_of_unit u)).apart)), none);
   }
 
 -- ---- All activations
 
 -- Objects that are those that there were.
-pub grown_those : (addresses : ℕ → ℕ) (memory later : Memory) → AreThose memory later → length memory ≤ length later → Grown addresses addresses memory later 0
-grown_those addresses memory later those longer = record {
+pub grown_those : (regions : Map) (addresses : ℕ → ℕ) (memory later : Memory) → AreThose memory later → length memory ≤ length later → Grown regions addresses addresses memory later 0
+grown_those regions addresses memory later those longer = record {
   longer = longer;
   lie = λ n lt. refl;
   kept = λ n size e. (those.kept n size e, refl);
@@ -97,10 +102,11 @@ module _ (codes : ℕ → FunctionCode) (u : UnitForm) (valid : (k : ℕ) → Is
       → IsTargetAmong (codes c.here.function).slots target → IsSaved (codes c.here.function).saved target → SameActivation c d → HoldsFrame (setting_of u addresses later (codes d.here.function)) d t → t.input ≡ d.input → HoldsAll codes u addresses resumes later d t
   all_kept held later c d h t target all leaves among saved same frame input =
       let f : FunctionCode = codes c.here.function in
-      let above : LeavesAbove f addresses c.memory h t = leaves_above f u addresses held c h t target (valid c.here.function) all.here leaves among saved in
-      let grown : Grown addresses addresses c.memory d.memory 0 = grown_those addresses c.memory d.memory same.those same.longer in
+      let same_map : t.regions ≡ h.regions = frame.map ∙ sym all.here.map in
+      let above : LeavesAbove (map_of_unit u) f addresses c.memory h t = leaves_above f u addresses held c h t target (valid c.here.function) all.here leaves among saved same_map in
+      let grown : Grown (map_of_unit u) addresses addresses c.memory d.memory 0 = grown_those (map_of_unit u) addresses c.memory d.memory same.those same.longer in
       let sp = above.sp in
-      let tp : t.registers 4 ≡ h.registers 4 = low_kept f u addresses held c h t target (valid c.here.function) all.here leaves among saved 4 (omega arith) kept_4 in
+      let tp : t.registers 4 ≡ h.registers 4 = low_kept f u addresses held c h t target (valid c.here.function) all.here leaves among saved same_map 4 (omega arith) kept_4 in
       let many : length d.waiting ≡ length c.waiting = ap (λ (l : List Activation). length l) same.waiting in
       record {
         here = frame;
@@ -112,17 +118,17 @@ module _ (codes : ℕ → FunctionCode) (u : UnitForm) (valid : (k : ℕ) → Is
         input = input;
         below = λ n o is live.
             let was : WasThere c.memory n o = same.those.were n o is in
-            subst (λ s. (addresses n + bytes_of o ≤ 5242880) ⊎ (s ≤ addresses n)) (sym sp)
-            (subst (λ k. (addresses n + k ≤ 5242880) ⊎ (h.registers 2 ≤ addresses n)) (sym was.bytes) (all.below n was.object was.is (was.live live)));
+            subst (λ s. (addresses n + bytes_of o ≤ bytes_end (map_of_unit u)) ⊎ (s ≤ addresses n)) (sym sp)
+            (subst (λ k. (addresses n + k ≤ bytes_end (map_of_unit u)) ⊎ (h.registers 2 ≤ addresses n)) (sym was.bytes) (all.below n was.object was.is (was.live live)));
       }
 
   -- What scratch registers hold is no part of what waits: registers but t0 to t2, s0 and a0 to a7, and memory are as they were.
-  pub all_reheld : (held later : List Held) (c : Configuration) (h t : Holding) → HoldsAll codes u addresses resumes held c h → ((q : ℕ) → IsKept q → t.registers q ≡ h.registers q) → t.memory ≡ h.memory → t.input ≡ h.input → HoldsAllOf later t → AreScratch later
+  pub all_reheld : (held later : List Held) (c : Configuration) (h t : Holding) → HoldsAll codes u addresses resumes held c h → ((q : ℕ) → IsKept q → t.registers q ≡ h.registers q) → t.regions ≡ h.regions → t.memory ≡ h.memory → t.input ≡ h.input → HoldsAllOf later t → AreScratch later
       → HoldsAll codes u addresses resumes later c t
-  all_reheld held later c h t all kept memory input has scratch =
+  all_reheld held later c h t all kept same_map memory input has scratch =
       all_kept held later c c h t None all (record { registers = λ q none is. kept q is; memory = λ b out. ap (λ (m : ℕ → ℕ). m b) memory }) tt tt
       (record { function = refl; first = refl; waiting = refl; those = those_same c.memory; longer = omega arith })
-      (frame_reheld (setting_of u addresses held (codes c.here.function)) c h t later kept memory has scratch all.here)
+      (frame_reheld (setting_of u addresses held (codes c.here.function)) c h t later kept same_map memory has scratch all.here)
       (input ∙ all.input)
 
   -- Which input is left is no part of what waits.
@@ -134,6 +140,7 @@ module _ (codes : ℕ → FunctionCode) (u : UnitForm) (valid : (k : ℕ) → Is
         fetch = record { fits = all.here.fetch.fits; none = all.here.fetch.none; gp = all.here.fetch.gp; all = held_but_a0 held h (record h { input = input }) (λ q ne. refl) all.here.scratch all.here.fetch.all; left = all.here.fetch.left };
         scratch = all.here.scratch;
         aligned = all.here.aligned;
+        map = all.here.map;
         low = all.here.low;
         high = all.here.high;
         homes = λ home among. subst (λ x. Means addresses c.memory (c.here.names (home_number home)) x) (sym (home_as_it_was (setting_of u addresses held (codes c.here.function)) h (record h { input = input }) home refl (λ r is. refl) refl among)) (all.here.homes home among);
@@ -147,15 +154,16 @@ module _ (codes : ℕ → FunctionCode) (u : UnitForm) (valid : (k : ℕ) → Is
       refl
 
   -- The frame of the activation looks at no other registers than x0, sp, gp and those that may be homes, and how many may still begin is in tp.
-  pub all_found : (held : List Held) (c : Configuration) (h t : Holding) → HoldsAll codes u addresses resumes held c h → ((q : ℕ) → q ≤ 4 → q ≢ 1 → t.registers q ≡ h.registers q) → ((r : ℕ) → IsHomeRegister r → t.registers r ≡ h.registers r) → t.memory ≡ h.memory → t.input ≡ h.input
+  pub all_found : (held : List Held) (c : Configuration) (h t : Holding) → HoldsAll codes u addresses resumes held c h → ((q : ℕ) → q ≤ 4 → q ≢ 1 → t.registers q ≡ h.registers q) → ((r : ℕ) → IsHomeRegister r → t.registers r ≡ h.registers r) → t.regions ≡ h.regions → t.memory ≡ h.memory → t.input ≡ h.input
       → HoldsAll codes u addresses resumes [] c t
-  all_found held c h t all low homes memory input =
+  all_found held c h t all low homes same_map memory input =
       let sp : t.registers 2 ≡ h.registers 2 = low 2 (omega arith) (λ e. cc) in
       let none : t.registers 0 ≡ h.registers 0 = low 0 (omega arith) (λ e. cc) in
       let gp : t.registers 3 ≡ h.registers 3 = low 3 (omega arith) (λ e. cc) in
       let tp : t.registers 4 ≡ h.registers 4 = low 4 (omega arith) (λ e. cc) in
-      let frame = frame_found (setting_of u addresses held (codes c.here.function)) c h t [] none sp gp homes memory tt tt all.here in
-      let leaves : LeavesAbove (codes c.here.function) addresses c.memory h t = record {
+      let frame = frame_found (setting_of u addresses held (codes c.here.function)) c h t [] none sp gp homes same_map memory tt tt all.here in
+      let leaves : LeavesAbove (map_of_unit u) (codes c.here.function) addresses c.memory h t = record {
+        map = same_map;
         sp = sp;
         none = none;
         gp = gp;
@@ -166,11 +174,11 @@ module _ (codes : ℕ → FunctionCode) (u : UnitForm) (valid : (k : ℕ) → Is
       } in
       record {
         here = frame;
-        waiting = waiting_kept codes u valid addresses addresses resumes c.memory c.memory 0 (grown_those addresses c.memory c.memory (those_same c.memory) (omega arith)) frame.laid c.waiting (codes c.here.function) c.here.first_object h t c.input c.input (valid c.here.function) leaves (omega arith)
+        waiting = waiting_kept codes u valid addresses addresses resumes c.memory c.memory 0 (grown_those (map_of_unit u) addresses c.memory c.memory (those_same c.memory) (omega arith)) frame.laid c.waiting (codes c.here.function) c.here.first_object h t c.input c.input (valid c.here.function) leaves (omega arith)
             (let many = all.objects in omega (arith, many)) frame.objects all.waiting;
         depth = ap (λ x. x + (length c.waiting + 1)) tp ∙ all.depth;
-        room = subst (λ s. 33554432 ≤ s + 16384 * (length c.waiting + 1)) (sym sp) all.room;
+        room = subst (λ s. stack_end (map_of_unit u) ≤ s + 16384 * (length c.waiting + 1)) (sym sp) all.room;
         objects = all.objects;
         input = input ∙ all.input;
-        below = λ n o is live. subst (λ s. (addresses n + bytes_of o ≤ 5242880) ⊎ (s ≤ addresses n)) (sym sp) (all.below n o is live);
+        below = λ n o is live. subst (λ s. (addresses n + bytes_of o ≤ bytes_end (map_of_unit u)) ⊎ (s ≤ addresses n)) (sym sp) (all.below n o is live);
       }

@@ -18,6 +18,7 @@ pub mod LaidOut
 pub mod Leaving
 pub mod Library
 pub mod Loading
+pub mod Maps
 pub mod Markers
 pub mod Outer
 pub mod Passing

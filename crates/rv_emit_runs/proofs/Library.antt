@@ -3,6 +3,7 @@ use Rattle.std.proofs.Common.{◌≡◌, ◌≢◌, ℕ, ◌+◌, ◌%◌, ◌<�
 use Rattle.std.specs.Prelude.{option_map}
 use Rattle.std.specs.Int.{cast_signed, w32}
 use Rattle.std.specs.List.{AllByRecursion}
+use Rattle.rv_emit_runs.proofs.Maps.{regions_kept}
 use Rattle.rv_code.specs.declared.instruction.Instruction.{Instruction as MachineInstruction}
 use Rattle.rv_code.specs.declared.instruction.Instruction.TheVariants.{Immediate, Ecall}
 use Rattle.rv_code.specs.declared.instruction.ImmediateOperation.TheVariants.{Addi}
@@ -69,6 +70,7 @@ pub record StandsAtCall (p : Program) (s : State) (b : Bool) (number most index 
   pub named : holding.registers 17 ≡ number
   pub first : (a : Operand) (more : List Operand) → arguments ≡ a ∷ more → holding.registers 10 ≡ value_of g h (source_of g a)
   pub kept : (q : ℕ) → IsKept q → holding.registers q ≡ h.registers q
+  pub map : holding.regions ≡ h.regions
   pub memory : holding.memory ≡ h.memory
   pub input : holding.input ≡ h.input
   pub held : HoldsAllOf later holding
@@ -108,6 +110,7 @@ module _ (p : Program) (s : State) (i : ℕ) (b : Bool) (w : Setting) (c : Confi
         named = omega (arith, zero, small);
         first = λ a more is. other 10 (λ e. cc) ∙ (subst (λ l. ArePassed w.storage h t 0 l) is pass.passed).0;
         kept = λ q kept. other q (kept_no_a7 q kept) ∙ pass.kept q kept.left.t0 (⊎_elim (λ (l : q < 10). inl (omega (arith, l))) (λ (u : 17 < q). inr u) kept.arguments);
+        map = regions_kept passing h;
         memory = pass.memory;
         input = pass.input;
         held = held_forgotten 17 held t g (λ q ne scr. other q ne) (all_left held pass.scratch) pass.all_held;
@@ -145,7 +148,7 @@ module _ (p : Program) (codes : ℕ → FunctionCode) (u : UnitForm) (valid : (k
   behind_call n at v =
       let t : Holding = at.holding in
       let other : (q : ℕ) → q ≢ 10 → (writing 10 v t).registers q ≡ t.registers q = λ q ne. register_other 10 v q t.registers ne in
-      all_reheld codes u valid addresses (Resumes p codes goes_on) held later c h (writing 10 v t) all (λ q kept. other q (kept_no_a0 q kept) ∙ at.kept q kept) at.memory at.input (held_but_a0 later t (writing 10 v t) other at.scratch at.held) at.scratch
+      all_reheld codes u valid addresses (Resumes p codes goes_on) held later c h (writing 10 v t) all (λ q kept. other q (kept_no_a0 q kept) ∙ at.kept q kept) at.map at.memory at.input (held_but_a0 later t (writing 10 v t) other at.scratch at.held) at.scratch
 
   -- What is left is to write the result.
   answers : (n k : ℕ) (d : Configuration) (t : Holding) (state : State) (v : Value) → HoldsAll codes u addresses (Resumes p codes goes_on) later d t → d.here ≡ c.here → Stands p state k t → CodeAt p k false answer → Means addresses d.memory v (t.registers 10)

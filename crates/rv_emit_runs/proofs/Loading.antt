@@ -3,6 +3,8 @@ use Rattle.std.proofs.Common.{◌≡◌, ◌≢◌, ℕ, ◌+◌, ◌-◌, ◌*�
 use Rattle.std.specs.Prelude.{◌==◌, nat_le}
 use Rattle.std.specs.Option.{option_map_or}
 use Rattle.std.proofs.lemmas.Bool.{eq-eqb}
+use Rattle.rv_emit_storage.specs.UnitMaps.{map_of_unit}
+use Rattle.memory_map.specs.Maps.{stack_start, stack_end}
 use Rattle.rv_code.specs.declared.instruction.Instruction.{Instruction}
 use Rattle.rv_code.specs.declared.instruction.Instruction.TheVariants.{Immediate}
 use Rattle.rv_code.specs.declared.instruction.ImmediateOperation.TheVariants.{Addi}
@@ -87,14 +89,15 @@ home_as_it_was w h t (Register r) sp homes memory among = homes r among
 home_as_it_was w h t (Slot k) sp homes memory among = ap (λ s. word_at t.memory (s + slot_at w.storage k)) sp ∙ ap (λ (m : ℕ → ℕ). word_at m (h.registers 2 + slot_at w.storage k)) memory
 
 -- The frame stands where x0, sp, gp, registers that may be homes and memory are as they were, with what scratch registers hold then.
-pub frame_found : (w : Setting) (c : Configuration) (h t : Holding) (held : List Held) → t.registers 0 ≡ h.registers 0 → t.registers 2 ≡ h.registers 2 → t.registers 3 ≡ h.registers 3 → ((r : ℕ) → IsHomeRegister r → t.registers r ≡ h.registers r) → t.memory ≡ h.memory
+pub frame_found : (w : Setting) (c : Configuration) (h t : Holding) (held : List Held) → t.registers 0 ≡ h.registers 0 → t.registers 2 ≡ h.registers 2 → t.registers 3 ≡ h.registers 3 → ((r : ℕ) → IsHomeRegister r → t.registers r ≡ h.registers r) → t.regions ≡ h.regions → t.memory ≡ h.memory
     → HoldsAll held t → AreScratch held → HoldsFrame w c h → HoldsFrame (with_held held w) c t
-frame_found w c h t held none sp gp homes memory all scratch frame = record {
+frame_found w c h t held none sp gp homes same_map memory all scratch frame = record {
   fetch = record { fits = frame.fetch.fits; none = none ∙ frame.fetch.none; gp = gp ∙ frame.fetch.gp; all = all; left = all_left held scratch };
   scratch = scratch;
   aligned = ap (λ s. s % 4) sp ∙ frame.aligned;
-  low = subst (λ s. 16777216 ≤ s) (sym sp) frame.low;
-  high = subst (λ s. s + w.size ≤ 33554432) (sym sp) frame.high;
+  map = same_map ∙ frame.map;
+  low = subst (λ s. stack_start (map_of_unit w.unit) ≤ s) (sym sp) frame.low;
+  high = subst (λ s. s + w.size ≤ stack_end (map_of_unit w.unit)) (sym sp) frame.high;
   homes = λ home among. subst (λ x. Means w.addresses c.memory (c.here.names (home_number home)) x) (sym (home_as_it_was w h t home sp homes memory among)) (frame.homes home among);
   objects = subst (λ (m : ℕ → ℕ). HoldsObjects w.addresses c.memory m) (sym memory) frame.objects;
   laid = frame.laid;
@@ -105,8 +108,8 @@ frame_found w c h t held none sp gp homes memory all scratch frame = record {
 }
 
 -- So it does where registers but t0 to t2, s0 and a0 to a7 are as they were.
-pub frame_reheld : (w : Setting) (c : Configuration) (h t : Holding) (held : List Held) → ((q : ℕ) → IsKept q → t.registers q ≡ h.registers q) → t.memory ≡ h.memory → HoldsAll held t → AreScratch held → HoldsFrame w c h → HoldsFrame (with_held held w) c t
-frame_reheld w c h t held kept memory all scratch frame = frame_found w c h t held (kept 0 kept_0) (kept 2 kept_2) (kept 3 kept_3) (λ r is. kept r (kept_home r is)) memory all scratch frame
+pub frame_reheld : (w : Setting) (c : Configuration) (h t : Holding) (held : List Held) → ((q : ℕ) → IsKept q → t.registers q ≡ h.registers q) → t.regions ≡ h.regions → t.memory ≡ h.memory → HoldsAll held t → AreScratch held → HoldsFrame w c h → HoldsFrame (with_held held w) c t
+frame_reheld w c h t held kept same_map memory all scratch frame = frame_found w c h t held (kept 0 kept_0) (kept 2 kept_2) (kept 3 kept_3) (λ r is. kept r (kept_home r is)) same_map memory all scratch frame
 
 -- ---- What scratch registers hold
 

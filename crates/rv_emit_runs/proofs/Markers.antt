@@ -43,6 +43,7 @@ place_framed w c h place frame = record {
   fetch = frame.fetch;
   scratch = frame.scratch;
   aligned = frame.aligned;
+  map = frame.map;
   low = frame.low;
   high = frame.high;
   homes = frame.homes;

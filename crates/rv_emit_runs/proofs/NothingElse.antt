@@ -3,6 +3,9 @@ use Rattle.std.proofs.Common.{◌≡◌, ◌≢◌, ℕ, zero, suc, ◌+◌, ◌
 use Rattle.std.specs.List.{AllByRecursion}
 use Rattle.std.specs.Option.{option_map_or}
 use Rattle.std.proofs.lemmas.Option.{same_Some, slice_get_within}
+use Rattle.rv_emit_runs.proofs.Maps.{emitted_in_reach}
+use Rattle.memory_map.proofs.Facts.{map_facts}
+use Rattle.memory_map.specs.Maps.{most_words}
 use Rattle.graph_core.specs.declared.graph.MemoryObject.{MemoryObject}
 use Rattle.graph_core.specs.Graphs.{Graph}
 use Rattle.graph_core.specs.Validity.{IsValid, place_behind}
@@ -78,15 +81,15 @@ module _ (h : HomedForm) (valid : IsValid h.unit) (homed : HaveHomes h) (a : Arr
     bindings = λ k x at other. binding k x refl at refl;
   }
 
-module _ (h : HomedForm) (valid : IsValid h.unit) (homed : HaveHomes h) (e : EmittedForm) (emitted : IsEmittedOf h e) (short : length e.code ≤ 262144) (words : AllByRecursion IsInWords h.unit.graphs) where
+module _ (h : HomedForm) (valid : IsValid h.unit) (homed : HaveHomes h) (e : EmittedForm) (emitted : IsEmittedOf h e) (short : length e.code ≤ most_words e.map) (words : AllByRecursion IsInWords h.unit.graphs) where
   abbrev a : Arrangement
-  a = arranged emitted.coded
+  a = arranged emitted.statics emitted.coded
 
   abbrev p : Program
   p = program_of e short
 
   has : HasCode p e.owners emitted.coded
-  has = record { words = emitted.words; own = emitted.owners; stops = ap (λ l. map (λ (x : PlacedStop). x.address) l) emitted.stops }
+  has = record { reach = emitted_in_reach h e emitted; words = emitted.words; own = emitted.owners; stops = ap (λ l. map (λ (x : PlacedStop). x.address) l) emitted.stops }
 
   few : length h.unit.graphs ≤ 4294967295
   few = let functions : length h.unit.graphs ≤ 256 = valid.functions in omega (arith, functions)
@@ -128,13 +131,13 @@ module _ (h : HomedForm) (valid : IsValid h.unit) (homed : HaveHomes h) (e : Emi
         (sym (ap (λ l. slice_get l f) emitted.functions ∙ told_there h.unit.graphs emitted.coded.firsts emitted.coded.all 0 f there.laid (omega (arith, few, count)) there.there ∙ ap (λ j. Some (told_by (slice_index emitted.coded.firsts j) (parameters_in h.unit.graphs j) there.laid)) here) ∙ told) in
         let begins = ap (λ (c : FunctionCode). c.first) code_is in
         let ends = ap (λ (c : FunctionCode). c.end) code_is in
-        let fit : Fits there.laid first = fits h emitted.statics emitted.coded emitted.code p e.owners has few f there.laid there.there in
+        let fit : Fits e.map there.laid first = fits h emitted.statics emitted.coded emitted.code p e.owners has few f there.laid there.there in
         let all : there.laid.layout.words ≡ words_before there.laid.layout.far there.laid.sequence.pieces (length there.laid.sequence.pieces) = fit.layout.words in
-        let most : first + words_before there.laid.layout.far there.laid.sequence.pieces (length there.laid.sequence.pieces) ≤ 262144 = fit.low in
+        let most : first + words_before there.laid.layout.far there.laid.sequence.pieces (length there.laid.sequence.pieces) ≤ most_words e.map = fit.low in
         let none : words_before there.laid.layout.far there.laid.sequence.pieces 0 ≡ 0 = none_before there.laid.layout.far there.laid.sequence.pieces in
         words_allowed p (targets_of e.owners there.laid.sequence there.laid.layout first emitted.coded.firsts) (code_of h a f).storage (code_of h a f).slots (IsWrittenBy h valid homed a f)
         (first + words_before there.laid.layout.far there.laid.sequence.pieces 0) (first + words_before there.laid.layout.far there.laid.sequence.pieces (length there.laid.sequence.pieces)) there.laid.sequence.pieces pieces_there pieces_spare index
-        (omega (arith, from, begins, most, none)) (omega (arith, to, ends, all, most)) (home_of h f x) ((laid_out h valid homed a f).homes x named) writes owned
+        (omega (arith, from, begins, most, none, (map_facts e.map).few)) (omega (arith, to, ends, all, most, (map_facts e.map).few)) (home_of h f x) ((laid_out h valid homed a f).homes x named) writes owned
 
   -- No other word of a place writes a home.
   pub nothing_else : WritesNothingElse h a e

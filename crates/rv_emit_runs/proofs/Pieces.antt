@@ -3,6 +3,10 @@ use Rattle.std.proofs.Common.{◌≡◌, ℕ, zero, suc, ◌+◌, ◌%◌, ◌<�
 use Rattle.std.proofs.lemmas.Bool.{cases_lt}
 use Rattle.std.proofs.lemmas.List.{get_or_past, length-append, length-map}
 use Rattle.std.proofs.lemmas.Option.{slice_get_within}
+use Rattle.rv_emit_runs.proofs.Maps.{jump_reach}
+use Rattle.memory_map.proofs.Facts.{map_facts}
+use Rattle.memory_map.specs.declared.map.Map.{Map}
+use Rattle.memory_map.specs.Maps.{most_words}
 use Rattle.rv_code.specs.declared.instruction.Instruction.{Instruction}
 use Rattle.rv_code.specs.declared.instruction.Instruction.TheVariants as instruction
 use Rattle.rv_code.specs.InForm.{IsBranchDistance, IsInForm, IsJumpDistance, IsRegister}
@@ -19,7 +23,7 @@ use Rattle.rv_emit_runs.specs.Placed.{PlacedAt, AreOf}
 use Rattle.rv_emit_sequence.specs.Sequences.{SequenceForm, counted}
 use Rattle.rv_emit_layout.specs.declared.layout.OwnedWord.{OwnedWord}
 use Rattle.rv_emit_layout.specs.Spelling.{spelled}
-use Rattle.rv_emit_layout.specs.Layouts.{LayoutForm, distance, label_at, lying, owned_words, piece_code, width, words_before, words_from, IsLayoutOf, IsNearEnough}
+use Rattle.rv_emit_layout.specs.Layouts.{LayoutForm, distance, label_at, lying, owned_words, piece_code, width, words_before, words_from, IsLayoutOf, IsNearEnough, most_pieces}
 use Rattle.rv_emit_layout.proofs.Layouts.{words_more}
 use Rattle.rv_emit_layout.proofs.Spelled.{spelled_is}
 use Rattle.rv_emit_runs.proofs.Lists.{all_at}
@@ -74,10 +78,10 @@ words_step far (p ∷ more) (suc n) x e =
     omega (arith, later, flag, here)
 
 -- A label stands in the code or directly behind it.
-pub label_within : (s : SequenceForm) (l : LayoutForm) (first : ℕ) → IsLayoutOf s l → first + words_before l.far s.pieces (length s.pieces) ≤ 262144 → (b : ℕ) → first + label_at s.labels l.offsets b ≤ 262144
-label_within s l first layout all b = by_order (cases_lt (slice_index s.labels b) (length s.pieces + 1))
+pub label_within : (most : ℕ) (s : SequenceForm) (l : LayoutForm) (first : ℕ) → IsLayoutOf s l → first + words_before l.far s.pieces (length s.pieces) ≤ most → (b : ℕ) → first + label_at s.labels l.offsets b ≤ most
+label_within most s l first layout all b = by_order (cases_lt (slice_index s.labels b) (length s.pieces + 1))
   where
-    by_order : (slice_index s.labels b < length s.pieces + 1) ⊎ (length s.pieces + 1 ≤ slice_index s.labels b) → first + label_at s.labels l.offsets b ≤ 262144
+    by_order : (slice_index s.labels b < length s.pieces + 1) ⊎ (length s.pieces + 1 ≤ slice_index s.labels b) → first + label_at s.labels l.offsets b ≤ most
     by_order (inl low) =
         let is : label_at s.labels l.offsets b ≡ words_before l.far s.pieces (slice_index s.labels b) = layout.offsets (slice_index s.labels b) (omega (arith, low)) in
         let more : words_before l.far s.pieces (slice_index s.labels b) ≤ words_before l.far s.pieces (length s.pieces) = words_more l.far s.pieces (slice_index s.labels b) (length s.pieces) (omega (arith, low)) in
@@ -89,32 +93,32 @@ label_within s l first layout all b = by_order (cases_lt (slice_index s.labels b
 
 -- ---- Distances
 
-distances : (first a b : ℕ) → first + a ≤ 262144 → first + b ≤ 262144 → distance a b ≡ machine_distance (first + a) (first + b)
-distances first a b la lb = by_order (cases_lt b a)
+distances : (regions : Map) (first a b : ℕ) → first + a ≤ most_words regions → first + b ≤ most_words regions → distance a b ≡ machine_distance (first + a) (first + b)
+distances regions first a b la lb = by_order (cases_lt b a)
   where
     by_order : (b < a) ⊎ (a ≤ b) → distance a b ≡ machine_distance (first + a) (first + b)
-    by_order (inl lt) = omega (arith, lt, la, lb)
-    by_order (inr ge) = omega (arith, ge, la, lb)
+    by_order (inl lt) = omega (arith, lt, la, lb, (map_facts regions).few)
+    by_order (inr ge) = omega (arith, ge, la, lb, (map_facts regions).few)
 
-distances_again : (first a b : ℕ) → first + a + 1 ≤ 262144 → first + b ≤ 262144 → subtracted (distance a b) 4 ≡ machine_distance (first + a + 1) (first + b)
-distances_again first a b la lb = by_order (cases_lt b a)
+distances_again : (regions : Map) (first a b : ℕ) → first + a + 1 ≤ most_words regions → first + b ≤ most_words regions → subtracted (distance a b) 4 ≡ machine_distance (first + a + 1) (first + b)
+distances_again regions first a b la lb = by_order (cases_lt b a)
   where
     by_order : (b < a) ⊎ (a ≤ b) → subtracted (distance a b) 4 ≡ machine_distance (first + a + 1) (first + b)
-    by_order (inl lt) = omega (arith, lt, la, lb)
-    by_order (inr ge) = omega (arith, ge, la, lb)
+    by_order (inl lt) = omega (arith, lt, la, lb, (map_facts regions).few)
+    by_order (inr ge) = omega (arith, ge, la, lb, (map_facts regions).few)
 
-call_distance : (first a b : ℕ) → first + a ≤ 262144 → b ≤ 262144 → distance ((first + a) % 4294967296) b ≡ machine_distance (first + a) b
-call_distance first a b la lb = by_order (cases_lt b (first + a))
+call_distance : (regions : Map) (first a b : ℕ) → first + a ≤ most_words regions → b ≤ most_words regions → distance ((first + a) % 4294967296) b ≡ machine_distance (first + a) b
+call_distance regions first a b la lb = by_order (cases_lt b (first + a))
   where
     by_order : (b < first + a) ⊎ (first + a ≤ b) → distance ((first + a) % 4294967296) b ≡ machine_distance (first + a) b
-    by_order (inl lt) = omega (arith, lt, la, lb)
-    by_order (inr ge) = omega (arith, ge, la, lb)
+    by_order (inl lt) = omega (arith, lt, la, lb, (map_facts regions).few)
+    by_order (inr ge) = omega (arith, ge, la, lb, (map_facts regions).few)
 
--- A distance between two words of the code is one that a jump has.
-jump_fits : (a b : ℕ) → a < 262144 → b ≤ 262144 → (b < 262144) ⊎ (1 ≤ a) → IsJumpDistance (machine_distance a b)
+-- A distance between two words within the reach of a jump is one that a jump has.
+jump_fits : (a b : ℕ) → a < jump_reach → b ≤ jump_reach → (b < jump_reach) ⊎ (1 ≤ a) → IsJumpDistance (machine_distance a b)
 jump_fits a b la lb inside = by_order inside (cases_lt b a)
   where
-    by_order : (b < 262144) ⊎ (1 ≤ a) → (b < a) ⊎ (a ≤ b) → IsJumpDistance (machine_distance a b)
+    by_order : (b < jump_reach) ⊎ (1 ≤ a) → (b < a) ⊎ (a ≤ b) → IsJumpDistance (machine_distance a b)
     by_order (inl low) (inl lt) = (omega (arith, lt, la, lb), inr (omega (arith, lt, la, lb), omega (arith, lt, la, lb)))
     by_order (inl low) (inr ge) = (omega (arith, ge, la, lb), inl (omega (arith, ge, low)))
     by_order (inr some) (inl lt) = (omega (arith, lt, la, lb), inr (omega (arith, lt, la, lb), omega (arith, lt, la, lb)))
@@ -132,10 +136,11 @@ Goes (Call f) = Unit {0}
 -- What is known where a piece of a function stands: its index among the pieces, and the words before it, its own, and those behind.
 pub record Here (p : Program) (owners : List ℕ) (s : SequenceForm) (l : LayoutForm) (first : ℕ) (firsts : List ℕ) (n : ℕ) (x : PlacedPiece) : Type 0 where
   pub layout : IsLayoutOf s l
-  pub stands : StandsIn p.words owners s l first firsts
+  pub stands : StandsIn p.map p.words owners s l first firsts
   pub stops : HasStops p.stops s l first
   pub get : slice_get s.pieces n ≡ Some x
   pub form : IsSpelled x.piece
+  pub reach : most_words p.map ≤ jump_reach
   pub front : List OwnedWord
   pub back : List OwnedWord
   pub words : p.words ≡ map (λ (w : OwnedWord). w.word) (front ++ (owned_words x.owner (piece_code (lying s l first firsts) (get_or l.far n false) (slice_index l.offsets n) x.piece) ++ back))
@@ -153,15 +158,15 @@ module _ (p : Program) (owners : List ℕ) (s : SequenceForm) (l : LayoutForm) (
   step : words_before l.far s.pieces (n + 1) ≡ words_before l.far s.pieces n + width (get_or l.far n false) x.piece
   step = words_step l.far s.pieces n x here.get
 
-  within : first + words_before l.far s.pieces (n + 1) ≤ 262144
+  within : first + words_before l.far s.pieces (n + 1) ≤ most_words p.map
   within =
       let low : n < length s.pieces = slice_get_within s.pieces n x here.get in
       let more : words_before l.far s.pieces (n + 1) ≤ words_before l.far s.pieces (length s.pieces) = words_more l.far s.pieces (n + 1) (length s.pieces) (omega (arith, low)) in
-      let all : first + words_before l.far s.pieces (length s.pieces) ≤ 262144 = here.stands.low in
+      let all : first + words_before l.far s.pieces (length s.pieces) ≤ most_words p.map = here.stands.low in
       omega (arith, more, all)
 
-  label_low : (b : ℕ) → first + label_at s.labels l.offsets b ≤ 262144
-  label_low b = label_within s l first here.layout here.stands.low b
+  label_low : (b : ℕ) → first + label_at s.labels l.offsets b ≤ most_words p.map
+  label_low b = label_within (most_words p.map) s l first here.layout here.stands.low b
 
   -- An instruction whose word stands there.
   word_there : (i : Instruction) (owner : ℕ) (b : Bool) (m : ℕ) (front back : List OwnedWord) → length front ≡ m → p.words ≡ map (λ (w : OwnedWord). w.word) (front ++ (record { word = spelled i; owner = owner }) ∷ back) → IsInForm i → is_stop p.stops (address_of m) ≡ b → IsAt p m b i
@@ -191,20 +196,20 @@ module _ (p : Program) (owners : List ℕ) (s : SequenceForm) (l : LayoutForm) (
 
   -- A jump to a label, and a call.
   jump_there : (to : ℕ) (b : Bool) → p.words ≡ map (λ (w : OwnedWord). w.word) (here.front ++ (record { word = spelled (instruction.Jal 0 (distance (slice_index l.offsets n) (label_at s.labels l.offsets to))); owner = x.owner }) ∷ here.back)
-      → at + 1 ≤ 262144 → 1 ≤ at → is_stop p.stops (address_of at) ≡ b → IsAt p at b (instruction.Jal 0 (machine_distance at (first + label_at s.labels l.offsets to)))
+      → at + 1 ≤ most_words p.map → 1 ≤ at → is_stop p.stops (address_of at) ≡ b → IsAt p at b (instruction.Jal 0 (machine_distance at (first + label_at s.labels l.offsets to)))
   jump_there to b words low some stop =
-      let same : distance (slice_index l.offsets n) (label_at s.labels l.offsets to) ≡ machine_distance at (first + label_at s.labels l.offsets to) = ap (λ k. distance k (label_at s.labels l.offsets to)) offset ∙ distances first (words_before l.far s.pieces n) (label_at s.labels l.offsets to) (omega (arith, low)) (label_low to) in
+      let same : distance (slice_index l.offsets n) (label_at s.labels l.offsets to) ≡ machine_distance at (first + label_at s.labels l.offsets to) = ap (λ k. distance k (label_at s.labels l.offsets to)) offset ∙ distances p.map first (words_before l.far s.pieces n) (label_at s.labels l.offsets to) (omega (arith, low)) (label_low to) in
       word_there (instruction.Jal 0 (machine_distance at (first + label_at s.labels l.offsets to))) x.owner b at here.front here.back here.begin
       (subst (λ d. p.words ≡ map (λ (w : OwnedWord). w.word) (here.front ++ (record { word = spelled (instruction.Jal 0 d); owner = x.owner }) ∷ here.back)) same words)
-      (omega arith, jump_fits at (first + label_at s.labels l.offsets to) (omega (arith, low)) (label_low to) (inr some)) stop
+      (omega arith, jump_fits at (first + label_at s.labels l.offsets to) (omega (arith, low, here.reach)) (omega (arith, label_low to, here.reach)) (inr some)) stop
 
   call_there : (f : ℕ) (b : Bool) → p.words ≡ map (λ (w : OwnedWord). w.word) (here.front ++ (record { word = spelled (instruction.Jal 1 (distance ((first + slice_index l.offsets n) % 4294967296) (slice_index firsts f))); owner = x.owner }) ∷ here.back)
-      → at + 1 ≤ 262144 → 1 ≤ at → is_stop p.stops (address_of at) ≡ b → IsAt p at b (instruction.Jal 1 (machine_distance at (slice_index firsts f)))
+      → at + 1 ≤ most_words p.map → 1 ≤ at → is_stop p.stops (address_of at) ≡ b → IsAt p at b (instruction.Jal 1 (machine_distance at (slice_index firsts f)))
   call_there f b words low some stop =
-      let same : distance ((first + slice_index l.offsets n) % 4294967296) (slice_index firsts f) ≡ machine_distance at (slice_index firsts f) = ap (λ k. distance ((first + k) % 4294967296) (slice_index firsts f)) offset ∙ call_distance first (words_before l.far s.pieces n) (slice_index firsts f) (omega (arith, low)) (here.stands.functions f) in
+      let same : distance ((first + slice_index l.offsets n) % 4294967296) (slice_index firsts f) ≡ machine_distance at (slice_index firsts f) = ap (λ k. distance ((first + k) % 4294967296) (slice_index firsts f)) offset ∙ call_distance p.map first (words_before l.far s.pieces n) (slice_index firsts f) (omega (arith, low)) (here.stands.functions f) in
       word_there (instruction.Jal 1 (machine_distance at (slice_index firsts f))) x.owner b at here.front here.back here.begin
       (subst (λ d. p.words ≡ map (λ (w : OwnedWord). w.word) (here.front ++ (record { word = spelled (instruction.Jal 1 d); owner = x.owner }) ∷ here.back)) same words)
-      (omega arith, jump_fits at (slice_index firsts f) (omega (arith, low)) (here.stands.functions f) (inr some)) stop
+      (omega arith, jump_fits at (slice_index firsts f) (omega (arith, low, here.reach)) (omega (arith, here.stands.functions f, here.reach)) (inr some)) stop
 
   -- A piece stands there, up to the next one.
   piece_there : (q : Piece) → x.piece ≡ q → PieceAt p targets at x.is_stop q (first + words_before l.far s.pieces (n + 1))
@@ -229,7 +234,7 @@ module _ (p : Program) (owners : List ℕ) (s : SequenceForm) (l : LayoutForm) (
           let wide : words_before l.far s.pieces (n + 1) ≡ words_before l.far s.pieces n + 1 = width_as (Branch op a b to) e ∙ ap (λ f. words_before l.far s.pieces n + width f (Branch op a b to)) flag in
           let fits = within in
           let words = subst (λ f. p.words ≡ map (λ (w : OwnedWord). w.word) (here.front ++ (owned_words x.owner (piece_code (lying s l first firsts) f (slice_index l.offsets n) (Branch op a b to)) ++ here.back))) flag (code_is (Branch op a b to) e) in
-          let same : distance (slice_index l.offsets n) (label_at s.labels l.offsets to.0) ≡ machine_distance at (first + (label_at s.labels l.offsets to.0)) = ap (λ k. distance k (label_at s.labels l.offsets to.0)) offset ∙ distances first (words_before l.far s.pieces n) (label_at s.labels l.offsets to.0) (omega (arith, wide, fits)) (label_low to.0) in
+          let same : distance (slice_index l.offsets n) (label_at s.labels l.offsets to.0) ≡ machine_distance at (first + (label_at s.labels l.offsets to.0)) = ap (λ k. distance k (label_at s.labels l.offsets to.0)) offset ∙ distances p.map first (words_before l.far s.pieces n) (label_at s.labels l.offsets to.0) (omega (arith, wide, fits)) (label_low to.0) in
           let form : IsBranchDistance (machine_distance at (first + (label_at s.labels l.offsets to.0))) = subst IsBranchDistance same (near_as (Branch op a b to) e flag) in
           inl (
             word_there (instruction.Branch op a b (machine_distance at (first + (label_at s.labels l.offsets to.0)))) x.owner x.is_stop at here.front here.back here.begin
@@ -243,14 +248,14 @@ module _ (p : Program) (owners : List ℕ) (s : SequenceForm) (l : LayoutForm) (
           let two : width (get_or l.far n false) x.piece ≡ 2 = ap (λ (r : Piece). width (get_or l.far n false) r) e ∙ ap (λ f. width f (Branch op a b to)) flag in
           let words = subst (λ f. p.words ≡ map (λ (w : OwnedWord). w.word) (here.front ++ (owned_words x.owner (piece_code (lying s l first firsts) f (slice_index l.offsets n) (Branch op a b to)) ++ here.back))) flag (code_is (Branch op a b to) e) in
           let one : OwnedWord = record { word = spelled (instruction.Branch (opposite op) a b 8); owner = x.owner } in
-          let same : subtracted (distance (slice_index l.offsets n) (label_at s.labels l.offsets to.0)) 4 ≡ machine_distance (at + 1) (first + (label_at s.labels l.offsets to.0)) = ap (λ k. subtracted (distance k (label_at s.labels l.offsets to.0)) 4) offset ∙ distances_again first (words_before l.far s.pieces n) (label_at s.labels l.offsets to.0) (omega (arith, wide, fits)) (label_low to.0) in
+          let same : subtracted (distance (slice_index l.offsets n) (label_at s.labels l.offsets to.0)) 4 ≡ machine_distance (at + 1) (first + (label_at s.labels l.offsets to.0)) = ap (λ k. subtracted (distance k (label_at s.labels l.offsets to.0)) 4) offset ∙ distances_again p.map first (words_before l.far s.pieces n) (label_at s.labels l.offsets to.0) (omega (arith, wide, fits)) (label_low to.0) in
           let count : length (here.front ++ one ∷ []) ≡ at + 1 = length-append here.front (one ∷ []) ∙ ap (λ k. k + 1) here.begin in
           let later = subst (λ d. p.words ≡ map (λ (w : OwnedWord). w.word) (here.front ++ one ∷ (record { word = spelled (instruction.Jal 0 d); owner = x.owner }) ∷ here.back)) same words in
           inr (
             word_there (instruction.Branch (opposite op) a b 8) x.owner x.is_stop at here.front _ here.begin words (spelled_ok.0, spelled_ok.1, (refl, inl (omega arith))) stop_is,
             word_there (instruction.Jal 0 (machine_distance (at + 1) (first + (label_at s.labels l.offsets to.0)))) x.owner false (at + 1) (here.front ++ one ∷ []) here.back count
                 (later ∙ ap (λ ws. map (λ (w : OwnedWord). w.word) ws) (sym (append_assoc here.front (one ∷ []) ((record { word = spelled (instruction.Jal 0 (machine_distance (at + 1) (first + (label_at s.labels l.offsets to.0)))); owner = x.owner }) ∷ here.back))))
-                (omega arith, jump_fits (at + 1) (first + (label_at s.labels l.offsets to.0)) (omega (arith, wide, fits)) (label_low to.0) (inr (omega arith))) (here.stops.two n x here.get two),
+                (omega arith, jump_fits (at + 1) (first + (label_at s.labels l.offsets to.0)) (omega (arith, wide, fits, here.reach)) (omega (arith, label_low to.0, here.reach)) (inr (omega arith))) (here.stops.two n x here.get two),
             omega (arith, wide),
           )
 
@@ -285,10 +290,11 @@ module _ (p : Program) (owners : List ℕ) (s : SequenceForm) (l : LayoutForm) (
 -- What is known of the code of a function.
 pub record FunctionThere (p : Program) (owners : List ℕ) (s : SequenceForm) (l : LayoutForm) (first : ℕ) (firsts : List ℕ) : Type 0 where
   pub layout : IsLayoutOf s l
-  pub few : length s.pieces ≤ 262144
-  pub stands : StandsIn p.words owners s l first firsts
+  pub few : length s.pieces ≤ most_pieces
+  pub stands : StandsIn p.map p.words owners s l first firsts
   pub stops : HasStops p.stops s l first
   pub forms : AreSpelled s.pieces
+  pub reach : most_words p.map ≤ jump_reach
   pub inside : (k : ℕ) (x : PlacedPiece) → slice_get s.pieces k ≡ Some x → Goes x.piece → 1 ≤ first + words_before l.far s.pieces k
 
 -- The words from a piece on stand behind others.
@@ -309,7 +315,7 @@ module _ (p : Program) (owners : List ℕ) (s : SequenceForm) (l : LayoutForm) (
   one_there n x rest dropped from =
       let get : slice_get s.pieces n ≡ Some x = get_dropped s.pieces n x rest dropped in
       let low : n < length s.pieces = slice_get_within s.pieces n x get in
-      let few : length s.pieces ≤ 262144 = there.few in
+      let few : length s.pieces ≤ most_pieces = there.few in
       let next : counted (n + 1) ≡ n + 1 = omega (arith, low, few) in
       let code : List OwnedWord = owned_words x.owner (piece_code (lying s l first firsts) (get_or l.far n false) (slice_index l.offsets n) x.piece) in
       let begin = from.begin in
@@ -319,6 +325,7 @@ module _ (p : Program) (owners : List ℕ) (s : SequenceForm) (l : LayoutForm) (
         stops = there.stops;
         get = get;
         form = all_at (λ (y : PlacedPiece). IsSpelled y.piece) s.pieces n x there.forms get;
+        reach = there.reach;
         front = from.front;
         back = words_from (lying s l first firsts) l.far (counted (n + 1)) rest ++ back;
         words = from.words ∙ ap (λ ws. map (λ (w : OwnedWord). w.word) (from.front ++ ws)) (append_assoc code (words_from (lying s l first firsts) l.far (counted (n + 1)) rest) back);

@@ -11,7 +11,7 @@ use Rattle.rv_emit_runs.specs.Pieces.{Targets}
 use Rattle.rv_emit_runs.specs.Placed.{PlacedAt}
 use Rattle.rv_emit_code.specs.Blocks.{block_code}
 use Rattle.rv_emit_sequence.specs.Sequences.{Ground, SequenceForm, Standing, counted, standing_code, standing_pieces, all_pieces, numbered, first_label, first_pieces, last_pieces, AreLabelled, Holds, IsSequenceOf, IsStanding}
-use Rattle.rv_emit_layout.specs.Layouts.{LayoutForm, label_at, words_before}
+use Rattle.rv_emit_layout.specs.Layouts.{LayoutForm, label_at, words_before, most_pieces}
 use Rattle.rv_emit_runs.specs.Placing.{IsBlockPlaced, IsFunctionPlaced}
 use Rattle.rv_emit_runs.specs.EmitPlacedStanding.{targets_of}
 use Rattle.rv_emit_runs.proofs.States.{placed_within}
@@ -47,7 +47,7 @@ module _ (p : Program) (owners : List ℕ) (s : SequenceForm) (l : LayoutForm) (
   -- A label that is that of so many pieces stands behind their words.
   label_is : (n k : ℕ) → slice_index s.labels n ≡ counted k → k ≤ length s.pieces → first + words_before l.far s.pieces k ≡ first + label_at s.labels l.offsets n
   label_is n k e low =
-      let few : length s.pieces ≤ 262144 = there.few in
+      let few : length s.pieces ≤ most_pieces = there.few in
       let is : slice_index s.labels n ≡ k = e ∙ (omega (arith, low, few)) in
       let offset : label_at s.labels l.offsets n ≡ words_before l.far s.pieces k = ap (λ m. slice_index l.offsets m) is ∙ there.layout.offsets k low in
       omega (arith, offset)
@@ -87,7 +87,7 @@ module _ (p : Program) (owners : List ℕ) (s : SequenceForm) (l : LayoutForm) (
           subst (λ j. PlacedAt p t (t.label n) (standing_pieces g s.numbers x) j) to (subst (λ i. PlacedAt p t i (standing_pieces g s.numbers x) (first + words_before l.far s.pieces (length found.front + length (standing_pieces g s.numbers x)))) from
           (part_there p owners s l first firsts there found.front (standing_pieces g s.numbers x) (found.back ++ last_pieces g) pieces)) in
           let end_is : slice_index s.ends n ≡ length found.front + length (standing_pieces g s.numbers x) =
-          ap (λ m. slice_index s.ends m) (sym found.number) ∙ found.end ∙ (let low : length s.pieces ≤ 262144 = there.few in omega (arith, total, inner, count, low)) in
+          ap (λ m. slice_index s.ends m) (sym found.number) ∙ found.end ∙ (let low : length s.pieces ≤ most_pieces = there.few in omega (arith, total, inner, count, low)) in
           let ends : t.label x.next ≡ until n = sym to ∙ ap (λ m. first + words_before l.far s.pieces m) (sym end_is) in
           let block : x.block ≡ b = (let both : Some x.block ≡ Some b = sym found.is.block ∙ ap (λ m. slice_get f.blocks m) found.number ∙ e in cc) in
           let known : x.known ≡ sequence.at n = found.is.known ∙ ap (λ m. sequence.at m) found.number in
@@ -124,7 +124,7 @@ module _ (p : Program) (owners : List ℕ) (s : SequenceForm) (l : LayoutForm) (
 
   at_until : (n low high : ℕ) (x : PiecesOf s low high n) → high ≤ length s.pieces → until n ≡ first + words_before l.far s.pieces (x.from + x.count)
   at_until n low high x le =
-      let few : length s.pieces ≤ 262144 = there.few in
+      let few : length s.pieces ≤ most_pieces = there.few in
       let below = x.below in
       let is : slice_index s.ends n ≡ x.from + x.count = x.end ∙ (omega (arith, below, le, few)) in
       ap (λ m. first + words_before l.far s.pieces m) is

@@ -1,6 +1,7 @@
 -- The code of an end that returns does the unit's step.
 use Rattle.std.proofs.Common.{◌≡◌, ℕ, ◌+◌, sym, subst, arith, refl, Option, Some, None, Bool, false, List, [], ◌∷◌, ◌++◌, length}
 use Rattle.std.specs.Prelude.{option_map}
+use Rattle.rv_emit_runs.proofs.Maps.{regions_kept}
 use Rattle.rv_machine.specs.State.{State}
 use Rattle.graph_core.specs.declared.value.Value.TheVariants.{Odd}
 use Rattle.graph_core.specs.Graphs.{Operand, Return, UnitForm}
@@ -70,7 +71,7 @@ abbrev pub IsWordIfAny : Option Operand → Type 0
 IsWordIfAny None = Unit {0}
 IsWordIfAny (Some a) = IsWord a
 
-module _ (p : Program) (codes : ℕ → FunctionCode) (u : UnitForm) (valid : (k : ℕ) → IsFunctionCode u (codes k)) (addresses : ℕ → ℕ) (goes_on : Activation → ℕ → Type 0) (t : Targets) (inside : AreInCode t) (main : EndsMain p) where
+module _ (p : Program) (codes : ℕ → FunctionCode) (u : UnitForm) (valid : (k : ℕ) → IsFunctionCode u (codes k)) (addresses : ℕ → ℕ) (goes_on : Activation → ℕ → Type 0) (t : Targets) (inside : AreInCode p.map t) (main : EndsMain p) where
   module _ (s : State) (i : ℕ) (b : Bool) (held : List Held) (c : Configuration) (h : Holding) (all : HoldsAll codes u addresses (Resumes p codes goes_on) held c h) (stands : Stands p s i h) (end next j : ℕ) (follows : j ≡ t.label next)
       (ending : CodeAt p (t.label end) false (leaving_code (codes c.here.function).saved (codes c.here.function).size)) where
     returns_with : (v : Option Operand) → AreOperandsOfEnd u.statics (codes c.here.function).graph (Return v) → IsWordIfAny v
@@ -80,7 +81,7 @@ module _ (p : Program) (codes : ℕ → FunctionCode) (u : UnitForm) (valid : (k
     returns_with None legal fits there =
         let more : 4 + length (leaving_code (codes c.here.function).saved (codes c.here.function).size) ≡ 0 + (4 + length (leaving_code (codes c.here.function).saved (codes c.here.function).size)) = omega arith in
         subst (λ n. DoesReturn p s i b n codes u addresses goes_on c (leave c Odd)) more
-        (return_done p codes u valid addresses goes_on t inside s i b c h (all_reheld codes u valid addresses (Resumes p codes goes_on) held [] c h h all (λ q kept. refl) refl refl tt tt) stands end next j 9 there follows ending main Odd tt)
+        (return_done p codes u valid addresses goes_on t inside s i b c h (all_reheld codes u valid addresses (Resumes p codes goes_on) held [] c h h all (λ q kept. refl) refl refl refl tt tt) stands end next j 9 there follows ending main Odd tt)
     returns_with (Some a) legal fits there =
         let f : FunctionCode = codes c.here.function in
         let w : Setting = setting_of u addresses held f in
@@ -94,7 +95,7 @@ module _ (p : Program) (codes : ℕ → FunctionCode) (u : UnitForm) (valid : (k
         let first : WordsFirst p t i b code (leaving f.saved f.size (behind b code) end next (room_behind f.storage.base source)) j = words_first p t i b code (leaving f.saved f.size (behind b code) end next (room_behind f.storage.base source)) j
         (subst (λ q. PiecesAt p t i b (words code ++ leaving f.saved f.size q end next (room_behind f.storage.base source)) j) (begins_is b code) there) in
         let one = code_does p s i h b code stands first.code_there brings.can in
-        let all1 = all_reheld codes u valid addresses (Resumes p codes goes_on) held [] c h g all (λ q kept. brings.kept q (kept_no_a0 q kept) kept.left.t0) brings.memory brings.input tt tt in
+        let all1 = all_reheld codes u valid addresses (Resumes p codes goes_on) held [] c h g all (λ q kept. brings.kept q (kept_no_a0 q kept) kept.left.t0) (regions_kept code h) brings.memory brings.input tt tt in
         returned_behind p s i b (length code) (i + length code) (behind b code) g (4 + length (leaving_code f.saved f.size)) codes u addresses goes_on c (leave c v) one
         (return_done p codes u valid addresses goes_on t inside one.state (i + length code) (behind b code) c g all1 one.stands end next j (room_behind f.storage.base source) first.rest_there follows ending main v
         (subst (λ x. Means addresses c.memory v x) (sym brings.value) (operand_means w c h a storage all.here legal)))

@@ -2,6 +2,10 @@
 use Rattle.std.proofs.Common.{◌≡◌, ◌≢◌, ℕ, ◌+◌, ◌≤◌, ◌⊎◌, inl, inr, sym, ap, ◌∙◌, subst, arith, refl, Option, Some, None, Bool, true, false, cond, not, List, [], ◌∷◌, length}
 use Rattle.std.specs.Prelude.{◌==◌, ◌||◌, nat_le, nat_lt, option_map}
 use Rattle.std.specs.Int.{cast_signed, w32}
+use Rattle.rv_emit_layout.proofs.Bound.{code_has_room}
+use Rattle.rv_emit_storage.specs.UnitMaps.{map_of_unit}
+use Rattle.memory_map.specs.declared.map.Map.{Map}
+use Rattle.memory_map.specs.Maps.{most_words, bytes_end, stack_start, stack_end}
 use Rattle.rv_code.specs.declared.instruction.Instruction.TheVariants.{Lui, Store, Immediate, Register as OnRegisters}
 use Rattle.rv_code.specs.declared.instruction.ImmediateOperation.TheVariants.{Addi}
 use Rattle.rv_code.specs.declared.instruction.StoreOperation.TheVariants.{Sw}
@@ -54,15 +58,15 @@ use Rattle.rv_emit_runs.proofs.Stepping.{AllCome}
 -- ---- The function is left
 
 -- By its end, or where that is repeated.
-pub leave_goes : (p : Program) (t : Targets) (s : State) (i : ℕ) (b : Bool) (h : Holding) (saved : List ℕ) (size end next room j index : ℕ) → AreInCode t → CanLeave saved size h → Stands p s i h → PiecesAt p t i b (leaving saved size b end next room) j → j ≡ t.label next
-    → CodeAt p (t.label end) false (leaving_code saved size) → word_at h.memory (h.registers 2) ≡ address_of index → index ≤ 262144 → GoesTo p s b (1 + length (leaving_code saved size)) index (done_by_all (leaving_front saved size) h)
-leave_goes p t s i b h saved size end next room j index inside can stands there follows ending returns low =
+pub leave_goes : (regions : Map) (p : Program) (t : Targets) (s : State) (i : ℕ) (b : Bool) (h : Holding) (saved : List ℕ) (size end next room j index : ℕ) → AreInCode p.map t → CanLeave saved size h → Stands p s i h → PiecesAt p t i b (leaving saved size b end next room) j → j ≡ t.label next
+    → CodeAt p (t.label end) false (leaving_code saved size) → word_at h.memory (h.registers 2) ≡ address_of index → index ≤ most_words regions → GoesTo p s b (1 + length (leaving_code saved size)) index (done_by_all (leaving_front saved size) h)
+leave_goes regions p t s i b h saved size end next room j index inside can stands there follows ending returns low =
     by_test (next == end || (not (nat_le (length saved) 9) || not (nat_le (length saved + 3 + words_of_moving size) room))) there
   where
     by_test : (c : Bool) → PiecesAt p t i b (cond c (going b end next) (words (leaving_code saved size))) j → GoesTo p s b (1 + length (leaving_code saved size)) index (done_by_all (leaving_front saved size) h)
     by_test true at =
         let first : GoesTo p s b (length (going b end next)) (t.label end) h = going_goes p t s i h b end next j inside stands at follows in
-        let second = leaving_returns p first.reaches.state (t.label end) false h saved size index can first.reaches.stands ending returns low in
+        let second = leaving_returns regions p first.reaches.state (t.label end) false h saved size index can first.reaches.stands ending returns low in
         record {
           count = first.count + length (leaving_code saved size);
           few = let most = first.few in let short = going_short b end next in omega (arith, most, short);
@@ -71,7 +75,7 @@ leave_goes p t s i b h saved size end next room j index inside can stands there 
     by_test false at = record {
       count = length (leaving_code saved size);
       few = omega arith;
-      reaches = leaving_returns p s i b h saved size index can stands (words_alone p t i b (leaving_code saved size) j at).0 returns low;
+      reaches = leaving_returns regions p s i b h saved size index can stands (words_alone p t i b (leaving_code saved size) j at).0 returns low;
     }
 
 -- A result is written by three words or less.
@@ -120,8 +124,8 @@ module _ (p : Program) (codes : ℕ → FunctionCode) (u : UnitForm) (valid : (k
       record {
         none = all.here.fetch.none;
         aligned = all.here.aligned;
-        low = all.here.low;
-        high = all.here.high;
+        low = subst (λ m. stack_start m ≤ h.registers 2) (sym all.here.map) all.here.low;
+        high = subst (λ m. h.registers 2 + (codes c.here.function).size ≤ stack_end m) (sym all.here.map) all.here.high;
         kept = let most = fits.kept in let room = storage.room in omega (arith, most, room);
         registers = fits.registers;
         depth = let deep = all.depth in omega (arith, deep);
@@ -155,7 +159,7 @@ module _ (p : Program) (codes : ℕ → FunctionCode) (u : UnitForm) (valid : (k
         no_t0 q (inr (least, most)) = λ e. omega (arith, least, e)
 
     caller_frame : HoldsFrame (setting_of u addresses [] (codes a.function)) (record { memory = c.memory; input = c.input; here = a; waiting = waiting }) t
-    caller_frame = frame_found (setting_of u addresses [] (codes a.function)) (record { memory = c.memory; input = c.input; here = a; waiting = waiting }) (behind_frame f h) t [] found_none left.sp found_gp found_home left.memory tt tt both.0.frame
+    caller_frame = frame_found (setting_of u addresses [] (codes a.function)) (record { memory = c.memory; input = c.input; here = a; waiting = waiting }) (behind_frame f h) t [] found_none left.sp found_gp found_home left.map left.memory tt tt both.0.frame
 
     ended_objects : HoldsObjects addresses later t.memory
     ended_objects = objects_ended addresses c.here.first_object c.memory t.memory caller_frame.objects
@@ -163,8 +167,9 @@ module _ (p : Program) (codes : ℕ → FunctionCode) (u : UnitForm) (valid : (k
     ended_frame : HoldsFrame (setting_of u addresses [] (codes a.function)) (record { memory = later; input = c.input; here = a; waiting = waiting }) t
     ended_frame = frame_those (setting_of u addresses [] (codes a.function)) (record { memory = c.memory; input = c.input; here = a; waiting = waiting }) t later (those_ended c.here.first_object c.memory) ended_objects caller_frame
 
-    leaves : LeavesAbove (codes a.function) addresses c.memory (behind_frame f h) t
+    leaves : LeavesAbove (map_of_unit u) (codes a.function) addresses c.memory (behind_frame f h) t
     leaves = record {
+      map = left.map;
       sp = left.sp;
       none = found_none;
       gp = found_gp;
@@ -176,7 +181,7 @@ module _ (p : Program) (codes : ℕ → FunctionCode) (u : UnitForm) (valid : (k
 
     caller_all : HoldsAll codes u addresses (Resumes p codes goes_on) [] (record { memory = later; input = c.input; here = a; waiting = waiting }) t
     caller_all =
-        let grown = grown_those addresses c.memory later (those_ended c.here.first_object c.memory) (let same = length_ended c.here.first_object c.memory in omega (arith, same)) in
+        let grown = grown_those (map_of_unit u) addresses c.memory later (those_ended c.here.first_object c.memory) (let same = length_ended c.here.first_object c.memory in omega (arith, same)) in
         record {
           here = ended_frame;
           waiting = waiting_kept codes u valid addresses addresses (Resumes p codes goes_on) c.memory later 0 grown ended_frame.laid waiting (codes a.function) a.first_object (behind_frame f h) t c.input c.input (valid a.function) leaves (omega arith) (let many = both.0.objects in omega (arith, many)) ended_objects both.1;
@@ -186,7 +191,7 @@ module _ (p : Program) (codes : ℕ → FunctionCode) (u : UnitForm) (valid : (k
           input = left.input ∙ all.input;
           below = λ n o is live.
               let was : IsEndedOr c.here.first_object c.memory n o = ended_or c.here.first_object c.memory n o is in
-              subst (λ s. (addresses n + bytes_of o ≤ 5242880) ⊎ (s ≤ addresses n)) (sym left.sp)
+              subst (λ s. (addresses n + bytes_of o ≤ bytes_end (map_of_unit u)) ⊎ (s ≤ addresses n)) (sym left.sp)
               (both.0.below n o (was.low live) (was.is ∙ ap (λ q. Some q) (was.live live)) live);
         }
 
@@ -237,7 +242,7 @@ module _ (p : Program) (codes : ℕ → FunctionCode) (u : UnitForm) (valid : (k
 
   -- ---- The return
 
-  module _ (t : Targets) (inside : AreInCode t) (s : State) (i : ℕ) (b : Bool) (c : Configuration) (h : Holding) (all : HoldsAll codes u addresses (Resumes p codes goes_on) [] c h) (stands : Stands p s i h) (end next j room : ℕ)
+  module _ (t : Targets) (inside : AreInCode p.map t) (s : State) (i : ℕ) (b : Bool) (c : Configuration) (h : Holding) (all : HoldsAll codes u addresses (Resumes p codes goes_on) [] c h) (stands : Stands p s i h) (end next j room : ℕ)
       (there : PiecesAt p t i b (leaving (codes c.here.function).saved (codes c.here.function).size b end next room) j) (follows : j ≡ t.label next) (ending : CodeAt p (t.label end) false (leaving_code (codes c.here.function).saved (codes c.here.function).size))
       (main : EndsMain p) (v : Value) (means : Means addresses c.memory v (h.registers 10)) where
     leaves_front : Leaves (codes c.here.function).saved (codes c.here.function).size h
@@ -256,7 +261,7 @@ module _ (p : Program) (codes : ℕ → FunctionCode) (u : UnitForm) (valid : (k
         let two = both c h g a waiting all waits leaves_front.left in
         let wait = two.0 in
         let gone : GoesTo p s b (1 + length (leaving_code (codes c.here.function).saved (codes c.here.function).size)) wait.index g =
-        leave_goes p t s i b h (codes c.here.function).saved (codes c.here.function).size end next room j wait.index inside (can_leave c h all) stands there follows ending wait.returns wait.low in
+        leave_goes (map_of_unit u) p t s i b h (codes c.here.function).saved (codes c.here.function).size end next room j wait.index inside (can_leave c h all) stands there follows ending wait.returns wait.low in
         let later : Memory = ended_from c.here.first_object c.memory in
         let c1 : Configuration = record { memory = later; input = c.input; here = a; waiting = waiting } in
         let held = caller_all c h g a waiting all waits leaves_front.left in
@@ -286,7 +291,7 @@ module _ (p : Program) (codes : ℕ → FunctionCode) (u : UnitForm) (valid : (k
     from_main n is none =
         let top = subst (λ l. HoldsWaiting codes u addresses (Resumes p codes goes_on) c.memory c.input (codes c.here.function) c.here.first_object h l) none all.waiting in
         let gone : GoesTo p s b (1 + length (leaving_code (codes c.here.function).saved (codes c.here.function).size)) 3 g =
-        leave_goes p t s i b h (codes c.here.function).saved (codes c.here.function).size end next room j 3 inside (can_leave c h all) stands there follows ending top.0 (omega arith) in
+        leave_goes (map_of_unit u) p t s i b h (codes c.here.function).saved (codes c.here.function).size end next room j 3 inside (can_leave c h all) stands there follows ending top.0 (omega (arith, code_has_room (map_of_unit u))) in
         let one = code_does p gone.reaches.state 3 g false (Immediate Addi 17 0 10 ∷ []) gone.reaches.stands (main.0, tt) (tt, tt) in
         let g1 : Holding = done_by_all (Immediate Addi 17 0 10 ∷ []) g in
         let zero : g.registers 0 ≡ 0 = gone.reaches.stands.in_range.none in

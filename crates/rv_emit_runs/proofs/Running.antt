@@ -2,6 +2,11 @@
 use Rattle.std.proofs.Common.{◌≡◌, ◌≢◌, ℕ, ◌+◌, ◌<◌, ◌≤◌, sym, ap, ◌∙◌, subst, arith, refl, Some, true, false, not, List, [], ◌∷◌, ◌++◌, length, slice_get}
 use Rattle.std.specs.Prelude.{option_map, option_and_then}
 use Rattle.std.proofs.lemmas.Bool.{ne_eqb}
+use Rattle.rv_emit_runs.proofs.Maps.{program_map}
+use Rattle.rv_emit_layout.proofs.Bound.{code_has_room}
+use Rattle.rv_emit_storage.specs.UnitMaps.{map_of_unit}
+use Rattle.memory_map.proofs.Facts.{map_facts}
+use Rattle.memory_map.specs.Maps.{most_words, stack_start, stack_end}
 use Rattle.rv_code.specs.declared.instruction.Instruction.{Instruction as MachineInstruction}
 use Rattle.rv_code.specs.declared.instruction.Instruction.TheVariants as instruction
 use Rattle.rv_code.specs.declared.instruction.BranchOperation.TheVariants.{Bne}
@@ -41,7 +46,7 @@ no_objects n (b ∷ more) memory = refl
 
 -- The words before all functions: sp is the end of the stack, 1,024 activations may begin, and main is called.
 pub record StubAt (p : Program) (main : ℕ) : Type 0 where
-  pub sp : IsAt p 0 false (instruction.Lui 2 8192)
+  pub sp : IsAt p 0 false (instruction.Lui 2 (stack_end p.map / 4096))
   pub tp : IsAt p 1 false (instruction.Immediate Addi 4 0 1024)
   pub call : IsAt p 2 false (instruction.Jal 1 (distance 2 main))
 
@@ -55,9 +60,9 @@ pub record RunBegins (p : Program) (s : State) (most to : ℕ) (codes : ℕ → 
   pub all : HoldsAll codes u addresses resumes [] d holding
 
 module _ (codes : ℕ → FunctionCode) (u : UnitForm) (valid : (k : ℕ) → IsFunctionCode u (codes k)) (addresses : ℕ → ℕ) (resumes : Activation → ℕ → Type 0) (p : Program) (s : State) (h : Holding) (stands : Stands p s 0 h) (at : ℕ) (stub : StubAt p at)
-    (begin : CodeAt p at false (beginning_code (codes u.main).storage (codes u.main).graph (codes u.main).saved (codes u.main).size true)) (loaded : IsLoaded u (codes u.main).storage addresses h.memory) where
+    (begin : CodeAt p at false (beginning_code (codes u.main).storage (codes u.main).graph (codes u.main).saved (codes u.main).size true)) (loaded : IsLoaded u (codes u.main).storage addresses h.memory) (same_map : h.regions ≡ map_of_unit u) where
   abbrev t2 : Holding
-  t2 = done_by_all (instruction.Lui 2 8192 ∷ instruction.Immediate Addi 4 0 1024 ∷ []) h
+  t2 = done_by_all (instruction.Lui 2 (stack_end p.map / 4096) ∷ instruction.Immediate Addi 4 0 1024 ∷ []) h
 
   abbrev t3 : Holding
   t3 = writing 1 (address_of 3) t2
@@ -65,7 +70,7 @@ module _ (codes : ℕ → FunctionCode) (u : UnitForm) (valid : (k : ℕ) → Is
   abbrev g : Holding
   g = done_by_all (instruction.Immediate Addi 4 4 4294967295 ∷ []) t3
 
-  at_low : at < 262144
+  at_low : at < most_words p.map
   at_low = index_low p at false (instruction.Branch Bne 4 0 12) begin.0
 
   tp_is : t3.registers 4 ≡ 1024
@@ -75,6 +80,13 @@ module _ (codes : ℕ → FunctionCode) (u : UnitForm) (valid : (k : ℕ) → Is
   tp_less : g.registers 4 ≡ 1023
   unfolding operated_immediate
   tp_less = let is = tp_is in omega (arith, is)
+
+  -- sp is the end of the stack.
+  sp_is : g.registers 2 ≡ stack_end (map_of_unit u)
+  sp_is =
+      let same : stack_start p.map ≡ stack_start (map_of_unit u) = ap (λ m. stack_start m) (program_map p s 0 h stands ∙ same_map) in
+      let end : stack_end p.map / 4096 * 4096 ≡ stack_end (map_of_unit u) = omega (arith, same, (map_facts p.map).frames) in
+      end
 
   zero_is : g.registers 0 ≡ 0
   zero_is = stands.in_range.none
@@ -86,9 +98,9 @@ module _ (codes : ℕ → FunctionCode) (u : UnitForm) (valid : (k : ℕ) → Is
       let is = tp_is in
       let some : t3.registers 4 ≢ t3.registers 0 = λ e. omega (arith, is, zero, e) in
       let on : taken Bne (t3.registers 4) (t3.registers 0) ≡ true = ap not (ne_eqb (t3.registers 4) (t3.registers 0) some) in
-      let one = code_does p s 0 h false (instruction.Lui 2 8192 ∷ instruction.Immediate Addi 4 0 1024 ∷ []) stands (stub.sp, (stub.tp, tt)) (tt, (tt, tt)) in
-      let two = jump_does p one.state 2 t2 at false 1 (distance 2 at) one.stands stub.call (distance_leads 2 at (omega arith) (let lt = at_low in omega (arith, lt))) in
-      let three = branch_taken p two.state at t3 (at + 1 + 1 + 1) false Bne 4 0 12 two.stands begin.0 on (let lt = at_low in omega (arith, lt)) in
+      let one = code_does p s 0 h false (instruction.Lui 2 (stack_end p.map / 4096) ∷ instruction.Immediate Addi 4 0 1024 ∷ []) stands (stub.sp, (stub.tp, tt)) (tt, (tt, tt)) in
+      let two = jump_does p one.state 2 t2 at false 1 (distance 2 at) one.stands stub.call (distance_leads p.map 2 at (omega (arith, code_has_room p.map)) (let lt = at_low in omega (arith, lt))) in
+      let three = branch_taken p two.state at t3 (at + 1 + 1 + 1) false Bne 4 0 12 two.stands begin.0 on (let lt = at_low in omega (arith, lt, (map_facts p.map).few)) in
       let four = code_does p three.state (at + 1 + 1 + 1) t3 false (instruction.Immediate Addi 4 4 4294967295 ∷ []) three.stands (begin.1.1.1.0, tt) (tt, tt) in
       reaches_then p 2 (1 + (1 + 1)) (record { state = s; shown = false }) [] 2 false t2 [] (at + 1 + 1 + 1 + 1) false g one
       (reaches_then p 1 (1 + 1) (record { state = one.state; shown = false }) [] at false t3 [] (at + 1 + 1 + 1 + 1) false g two
@@ -104,34 +116,34 @@ module _ (codes : ℕ → FunctionCode) (u : UnitForm) (valid : (k : ℕ) → Is
     front = entering_code (codes u.main).saved (codes u.main).size ++ base_code true (codes u.main).storage.base
 
     begins_run : RunBegins p s (5 + length (entering_code (codes u.main).saved (codes u.main).size ++ base_code true (codes u.main).storage.base)) (at + 1 + 1 + 1 + 1 + length (entering_code (codes u.main).saved (codes u.main).size ++ base_code true (codes u.main).storage.base)) codes u resumes
-        (first codes u valid addresses resumes g input same_input loaded zero_is refl refl tp_less guarded.stands.in_range.words graph block)
+        (first codes u valid addresses resumes g input same_input loaded same_map zero_is sp_is refl tp_less guarded.stands.in_range.words graph block)
     begins_run =
         let there = guarded in
-        let can = starting_can codes u valid addresses resumes g input same_input loaded zero_is refl refl tp_less there.stands.in_range.words graph block in
+        let can = starting_can codes u valid addresses resumes g input same_input loaded same_map zero_is sp_is refl tp_less there.stands.in_range.words graph block in
         let code : CodeAt p (at + 1 + 1 + 1 + 1) false front = code_front p (at + 1 + 1 + 1 + 1) false front (bindings_code (codes u.main).storage (codes u.main).graph 0 (codes u.main).graph.parameters) begin.1.1.1.1 in
         let last = code_does p there.state (at + 1 + 1 + 1 + 1) g false front there.stands code can.0 in
         record {
-          addresses = now codes u valid addresses resumes g input same_input loaded zero_is refl refl tp_less there.stands.in_range.words;
+          addresses = now codes u valid addresses resumes g input same_input loaded same_map zero_is sp_is refl tp_less there.stands.in_range.words;
           count = 2 + (1 + (1 + 1)) + length front;
           few = omega arith;
-          holding = t4 codes u valid addresses resumes g input same_input loaded zero_is refl refl tp_less there.stands.in_range.words;
+          holding = t4 codes u valid addresses resumes g input same_input loaded same_map zero_is sp_is refl tp_less there.stands.in_range.words;
           reaches = subst (λ (q : Holding). Reaches p (2 + (1 + (1 + 1)) + length front) (record { state = s; shown = false }) [] (at + 1 + 1 + 1 + 1 + length front) false q) can.1
               (subst (λ q. Reaches p (2 + (1 + (1 + 1)) + length front) (record { state = s; shown = false }) [] (at + 1 + 1 + 1 + 1 + length front) q (done_by_all front g)) (behind_none front)
               (reaches_then p (2 + (1 + (1 + 1))) (length front) (record { state = s; shown = false }) [] (at + 1 + 1 + 1 + 1) false g [] (at + 1 + 1 + 1 + 1 + length front) (behind false front) (done_by_all front g) there last));
-          all = starts codes u valid addresses resumes g input same_input loaded zero_is refl refl tp_less there.stands.in_range.words graph block;
+          all = starts codes u valid addresses resumes g input same_input loaded same_map zero_is sp_is refl tp_less there.stands.in_range.words graph block;
         }
 
     -- It is the one in which the unit's run begins, of which the machine holds all.
-    is_first : enter u (first_memory u.statics) input u.main [] [] ≡ Some (first codes u valid addresses resumes g input same_input loaded zero_is refl refl tp_less guarded.stands.in_range.words graph block)
+    is_first : enter u (first_memory u.statics) input u.main [] [] ≡ Some (first codes u valid addresses resumes g input same_input loaded same_map zero_is sp_is refl tp_less guarded.stands.in_range.words graph block)
     is_first =
         ap (λ q. option_and_then (λ (z : Graph). option_map (begun (first_memory u.statics) input u.main [] [] z) (slice_get z.blocks 0)) q) has_graph
         ∙ ap (λ q. option_map (begun (first_memory u.statics) input u.main [] [] graph) q) has_block
         ∙ ap (λ m. Some (record (begun (first_memory u.statics) input u.main [] [] graph block) { memory = m })) (no_objects (length (first_memory u.statics)) graph.parameters (with_objects 1 graph (first_memory u.statics)))
-        ∙ ap (λ names. Some (record (first codes u valid addresses resumes g input same_input loaded zero_is refl refl tp_less guarded.stands.in_range.words graph block) { here = record (first codes u valid addresses resumes g input same_input loaded zero_is refl refl tp_less guarded.stands.in_range.words graph block).here { names = names } }))
+        ∙ ap (λ names. Some (record (first codes u valid addresses resumes g input same_input loaded same_map zero_is sp_is refl tp_less guarded.stands.in_range.words graph block) { here = record (first codes u valid addresses resumes g input same_input loaded same_map zero_is sp_is refl tp_less guarded.stands.in_range.words graph block).here { names = names } }))
         (no_names graph.parameters (λ x. Odd))
 
     pub run_begins : (d : Configuration) → enter u (first_memory u.statics) input u.main [] [] ≡ Some d
         → RunBegins p s (5 + length (entering_code (codes u.main).saved (codes u.main).size ++ base_code true (codes u.main).storage.base)) (at + 1 + 1 + 1 + 1 + length (entering_code (codes u.main).saved (codes u.main).size ++ base_code true (codes u.main).storage.base)) codes u resumes d
     run_begins d is =
-        let same : first codes u valid addresses resumes g input same_input loaded zero_is refl refl tp_less guarded.stands.in_range.words graph block ≡ d = some_same (sym is_first ∙ is) in
+        let same : first codes u valid addresses resumes g input same_input loaded same_map zero_is sp_is refl tp_less guarded.stands.in_range.words graph block ≡ d = some_same (sym is_first ∙ is) in
         subst (λ q. RunBegins p s (5 + length front) (at + 1 + 1 + 1 + 1 + length front) codes u resumes q) same begins_run

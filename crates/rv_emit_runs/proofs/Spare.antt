@@ -1,6 +1,10 @@
 -- A store to the first element of an object of the frame that has none: it writes the spare word behind the object, in which nothing is held.
 use Rattle.std.proofs.Common.{◌≡◌, ◌≢◌, ℕ, ◌+◌, ◌*◌, ◌%◌, ◌<◌, ◌≤◌, ◌⊎◌, ⊎_elim, inl, inr, sym, ap, ◌∙◌, subst, arith, true, Option, Some, None, List, [], ◌∷◌, ◌++◌, length, slice_get}
 use Rattle.std.proofs.lemmas.Bool.{cases_eq}
+use Rattle.rv_emit_runs.proofs.Maps.{regions_kept}
+use Rattle.rv_emit_storage.specs.UnitMaps.{map_of_unit}
+use Rattle.memory_map.proofs.Facts.{map_facts}
+use Rattle.memory_map.specs.Maps.{stack_start, stack_end}
 use Rattle.rv_code.specs.declared.instruction.Instruction.{Instruction as MachineInstruction}
 use Rattle.rv_code.specs.declared.instruction.Instruction.TheVariants as instruction
 use Rattle.rv_machine.specs.State.{word}
@@ -110,7 +114,7 @@ module _ (w : Setting) (c : Configuration) (h : Holding) (storage : IsStorage w)
           (frame.laid.apart m (c.here.first_object + k) p o apart is there alive live))
           (cases_eq m (c.here.first_object + k))
 
-  module _ (t : Holding) (kept : (q : ℕ) → IsLeft q → t.registers q ≡ h.registers q) (memory : t.memory ≡ with_bytes (size_of e) (w.addresses (c.here.first_object + k)) x h.memory) where
+  module _ (t : Holding) (same_map : t.regions ≡ h.regions) (kept : (q : ℕ) → IsLeft q → t.registers q ≡ h.registers q) (memory : t.memory ≡ with_bytes (size_of e) (w.addresses (c.here.first_object + k)) x h.memory) where
     home_apart : (home : Home) → IsHomeAmong w.slots home → value_of_home w.storage t home ≡ value_of_home w.storage h home
     home_apart (Register r) among = kept r (home_left r among)
     home_apart (Slot j) lt = ap (λ s. word_at t.memory (s + slot_at w.storage j)) (kept 2 left_2) ∙ ap (λ (m : ℕ → ℕ). word_at m (h.registers 2 + slot_at w.storage j)) memory ∙ slot_apart j lt
@@ -123,8 +127,9 @@ module _ (w : Setting) (c : Configuration) (h : Holding) (storage : IsStorage w)
           fetch = can_fetch_stays w.storage w.held h t kept frame.fetch;
           scratch = frame.scratch;
           aligned = ap (λ s. s % 4) sp ∙ frame.aligned;
-          low = subst (λ s. 16777216 ≤ s) (sym sp) frame.low;
-          high = subst (λ s. s + w.size ≤ 33554432) (sym sp) frame.high;
+          map = same_map ∙ frame.map;
+          low = subst (λ s. stack_start (map_of_unit w.unit) ≤ s) (sym sp) frame.low;
+          high = subst (λ s. s + w.size ≤ stack_end (map_of_unit w.unit)) (sym sp) frame.high;
           homes = λ home among. subst (λ y. Means w.addresses c.memory (c.here.names (home_number home)) y) (sym (home_apart home among)) (frame.homes home among);
           objects = subst (λ (m : ℕ → ℕ). HoldsObjects w.addresses c.memory m) (sym memory) objects_apart;
           laid = frame.laid;
@@ -136,7 +141,7 @@ module _ (w : Setting) (c : Configuration) (h : Holding) (storage : IsStorage w)
               let end = has.high in
               let here = at in
               let far = frame.low in
-              array_stays w c.memory c.memory h.memory t.memory m all (those_same c.memory) (λ b least most. ap (λ (f : ℕ → ℕ). f b) memory ∙ spare_apart b (inl (omega (arith, most, end, here, far)))) has;
+              array_stays w c.memory c.memory h.memory t.memory m all (those_same c.memory) (λ b least most. ap (λ (f : ℕ → ℕ). f b) memory ∙ spare_apart b (inl (omega (arith, most, end, here, far, (map_facts (map_of_unit w.unit)).apart)))) has;
         }
 
   -- So it is behind the words that store a register there.
@@ -147,10 +152,11 @@ module _ (w : Setting) (c : Configuration) (h : Holding) (storage : IsStorage w)
       let s : MachineInstruction = instruction.Store (store_operation e) rs r.base r.offset in
       let last : done_by_all (r.code ++ s ∷ []) h ≡ done_by_all (s ∷ []) u = done_by_both r.code (s ∷ []) h in
       let here = at in
-      let inside : IsDataAt (size_of e) a =
+      let inside : IsDataAt (map_of_unit w.unit) (size_of e) a =
       (size_whole e a (frame.laid.aligned (c.here.first_object + k) o there), inr (let far = frame.low in omega (arith, here, far), let few = (size_low e).1 in let top = frame.high in omega (arith, here, few, high, top))) in
-      let found : IsDataAt (store_size (store_operation e)) (word (u.registers r.base + r.offset)) =
-      subst (λ q. IsDataAt q (word (u.registers r.base + r.offset))) (sym (store_size_is e)) (subst (IsDataAt (size_of e)) (sym finds.there) inside) in
+      let found : IsDataAt u.regions (store_size (store_operation e)) (word (u.registers r.base + r.offset)) =
+      subst (λ m. IsDataAt m (store_size (store_operation e)) (word (u.registers r.base + r.offset))) (sym (regions_kept r.code h ∙ frame.map))
+      (subst (λ q. IsDataAt (map_of_unit w.unit) q (word (u.registers r.base + r.offset))) (sym (store_size_is e)) (subst (IsDataAt (map_of_unit w.unit) (size_of e)) (sym finds.there) inside)) in
       let kept : (q : ℕ) → IsLeft q → (done_by_all (storing e r rs) h).registers q ≡ h.registers q = λ q left. ap (λ (y : Holding). y.registers q) last ∙ finds.kept q left.t0 left.t2 in
       let made : (done_by_all (storing e r rs) h).memory ≡ with_bytes (size_of e) a x h.memory =
       ap (λ (y : Holding). y.memory) last
@@ -160,7 +166,7 @@ module _ (w : Setting) (c : Configuration) (h : Holding) (storage : IsStorage w)
       ∙ ap (λ (m : ℕ → ℕ). with_bytes (size_of e) a x m) finds.memory in
       record {
         can = can_do_both r.code (s ∷ []) h finds.can (found, tt);
-        frame = spare_framed (done_by_all (storing e r rs) h) kept made;
+        frame = spare_framed (done_by_all (storing e r rs) h) (regions_kept (storing e r rs) h) kept made;
         kept = λ q none left. kept q left;
         outside = λ b out beside. ap (λ (m : ℕ → ℕ). m b) made ∙ spare_apart b (⊎_elim (λ (below : b < h.registers 2 + (w.storage.slots + 4 * w.slots)). inl (omega (arith, below, here, low))) (λ (past : h.registers 2 + w.size ≤ b). inr (omega (arith, past, here, high))) beside);
         input = ap (λ (y : Holding). y.input) last ∙ finds.input;

@@ -2,6 +2,8 @@
 use Rattle.std.proofs.Common.{◌≡◌, ℕ, ◌+◌, ◌%◌, ◌<◌, ◌≤◌, inl, ⊎_elim, Bool, List, [], ◌∷◌, ◌++◌, map, sym, subst, arith}
 use Rattle.std.specs.List.{AllByRecursion}
 use Rattle.std.specs.Option.{option_map_or}
+use Rattle.memory_map.proofs.Facts.{map_facts}
+use Rattle.memory_map.specs.declared.map.Map.{Map}
 use Rattle.graph_core.specs.Graphs.{Block, Graph, Instruction}
 use Rattle.graph_core.specs.Uses.{target_of}
 use Rattle.rv_emit_words.specs.declared.piece.Held.{Held}
@@ -81,5 +83,5 @@ sequence_spelled g ground f is_main s is sequence =
     (leaving_fits g.saved g.size (no_code 0 []) ground.saved ground.size (record { pieces = tt; held = tt })).pieces)
 
 -- What stands before all functions.
-pub stub_spelled : (main : ℕ) → AreSpelled (with_stub main (no_code 0 [])).pieces
-stub_spelled main = ((omega arith, omega arith), ((omega arith, omega arith, inl (omega arith)), (tt, ((omega arith, omega arith, inl (omega arith)), (tt, tt)))))
+pub stub_spelled : (regions : Map) (main : ℕ) → AreSpelled (with_stub regions main (no_code 0 [])).pieces
+stub_spelled regions main = ((omega arith, omega (arith, (map_facts regions).whole)), ((omega arith, omega arith, inl (omega arith)), (tt, ((omega arith, omega arith, inl (omega arith)), (tt, tt)))))

@@ -1,6 +1,10 @@
 -- Where a run begins the machine comes to hold the activation of main: the words before all functions set sp and tp and call it, and its own make its frame and set gp.
 use Rattle.std.proofs.Common.{◌≡◌, ℕ, zero, suc, ◌+◌, ◌-◌, ◌*◌, ◌%◌, ◌<◌, ◌≤◌, ◌⊎◌, ⊎_elim, inl, inr, sym, ap, ◌∙◌, subst, arith, refl, Some, None, true, cond, List, [], ◌∷◌, ◌++◌, length, length-append, map, slice_get}
 use Rattle.std.proofs.lemmas.Bool.{le-ltb}
+use Rattle.rv_emit_runs.proofs.Maps.{regions_kept}
+use Rattle.rv_emit_storage.specs.UnitMaps.{map_of_unit}
+use Rattle.memory_map.proofs.Facts.{map_facts}
+use Rattle.memory_map.specs.Maps.{bytes_end, stack_start, stack_end}
 use Rattle.graph_core.specs.declared.value.Value.TheVariants.{Odd}
 use Rattle.graph_core.specs.declared.value.Shadow.TheVariants as shadow
 use Rattle.graph_core.specs.Graphs.{Block, Graph, UnitForm, StaticObject}
@@ -43,12 +47,22 @@ static_size statics (x ∷ all) k (suc n) o e = static_size statics all (k + 1) 
 
 -- What the machine holds where the words before all functions begin: nothing but static memory and the input is looked at.
 module _ (codes : ℕ → FunctionCode) (u : UnitForm) (valid : (k : ℕ) → IsFunctionCode u (codes k)) (addresses : ℕ → ℕ) (resumes : Activation → ℕ → Type 0) (h : Holding) (input : List ℕ) (same_input : h.input ≡ input) (loaded : IsLoaded u (codes u.main).storage addresses h.memory)
-    (zero_is : h.registers 0 ≡ 0) (sp_is : h.registers 2 ≡ 33554432) (ra : h.registers 1 ≡ address_of 3) (tp : h.registers 4 ≡ 1023) (words : (q : ℕ) → h.registers q < 4294967296) where
+    (same_map : h.regions ≡ map_of_unit u) (zero_is : h.registers 0 ≡ 0) (sp_is : h.registers 2 ≡ stack_end (map_of_unit u)) (ra : h.registers 1 ≡ address_of 3) (tp : h.registers 4 ≡ 1023) (words : (q : ℕ) → h.registers q < 4294967296) where
   abbrev pub f : FunctionCode
   f = codes u.main
 
   fits : IsFunctionCode u (codes u.main)
   fits = valid u.main
+
+  -- The regions are those of the unit.
+  start_is : stack_start h.regions ≡ stack_start (map_of_unit u)
+  start_is = ap (λ m. stack_start m) same_map
+
+  statics_below : bytes_end (map_of_unit u) ≤ stack_start (map_of_unit u)
+  statics_below = (map_facts (map_of_unit u)).apart
+
+  stack_whole : stack_end (map_of_unit u) % 4096 ≡ 0
+  stack_whole = (map_facts (map_of_unit u)).frames
 
   can_enter : CanEnter (codes u.main).saved (codes u.main).size h
   can_enter =
@@ -58,10 +72,10 @@ module _ (codes : ℕ → FunctionCode) (u : UnitForm) (valid : (k : ℕ) → Is
       record {
         words = words;
         none = zero_is;
-        aligned = omega (arith, sp_is);
+        aligned = omega (arith, sp_is, stack_whole);
         whole = fits.aligned;
-        low = omega (arith, sp_is, small);
-        high = omega (arith, sp_is);
+        low = omega (arith, sp_is, small, start_is);
+        high = omega (arith, sp_is, start_is);
         room = omega (arith, kept, whole);
         registers = fits.registers;
       }
@@ -81,29 +95,29 @@ module _ (codes : ℕ → FunctionCode) (u : UnitForm) (valid : (k : ℕ) → Is
   abbrev pub memory : Memory
   memory = first_memory u.statics ++ map (new_object 1) (codes u.main).graph.objects
 
-  top : t.registers 2 + (codes u.main).size ≡ 33554432
+  top : t.registers 2 + (codes u.main).size ≡ stack_end (map_of_unit u)
   top = enters.by.sp ∙ sp_is
 
   aligned : t.registers 2 % 4 ≡ 0
-  aligned = let a = top in let b = fits.aligned in omega (arith, a, b)
+  aligned = let a = top in let b = fits.aligned in omega (arith, a, b, stack_whole)
 
-  low : 16777216 ≤ t.registers 2
+  low : stack_start (map_of_unit u) ≤ t.registers 2
   low = let a = top in let small = fits.small in omega (arith, a, small)
 
-  high : t.registers 2 + (codes u.main).size ≤ 33554432
+  high : t.registers 2 + (codes u.main).size ≤ stack_end (map_of_unit u)
   high = let a = top in omega (arith, a)
 
-  lies : (n : ℕ) (o : Object) → slice_get (first_memory u.statics) n ≡ Some o → o.live ≡ true → (addresses n + bytes_of o ≤ 5242880) ⊎ (t.registers 2 + (codes u.main).size ≤ addresses n)
+  lies : (n : ℕ) (o : Object) → slice_get (first_memory u.statics) n ≡ Some o → o.live ≡ true → (addresses n + bytes_of o ≤ bytes_end (map_of_unit u)) ⊎ (t.registers 2 + (codes u.main).size ≤ addresses n)
   lies n o is live = inl (loaded.static n o is)
 
-  kept_memory : (b : ℕ) → b < 5242880 → t.memory b ≡ h.memory b
-  kept_memory b lt = enters.by.memory b (inl (let far = low in omega (arith, lt, far)))
+  kept_memory : (b : ℕ) → b < bytes_end (map_of_unit u) → t.memory b ≡ h.memory b
+  kept_memory b lt = enters.by.memory b (inl (let far = low in omega (arith, lt, far, statics_below)))
 
   objects_kept : HoldsObjects now memory t.memory
   objects_kept = objects_new u (codes u.main) fits addresses (first_memory u.statics) 1 (t.registers 2) h.memory t.memory aligned low high loaded.laid lies loaded.objects
       (λ n o is live b least most. kept_memory b (let static = loaded.static n o is in omega (arith, most, static)))
 
-  grown : Grown addresses now (first_memory u.statics) memory (t.registers 2 + (codes u.main).size)
+  grown : Grown (map_of_unit u) addresses now (first_memory u.statics) memory (t.registers 2 + (codes u.main).size)
   grown = grown_new u (codes u.main) fits addresses (first_memory u.statics) 1 (t.registers 2) h.memory t.memory aligned low high loaded.laid lies
 
   sets : Brings (base_code true (codes u.main).storage.base) t 3 3 (codes u.main).storage.base
@@ -135,7 +149,7 @@ module _ (codes : ℕ → FunctionCode) (u : UnitForm) (valid : (k : ℕ) → Is
             subst (λ x. (x + 4 * words_of (bytes_of o) ≤ array_bytes_at (codes u.main).storage n) ⊎ (array_bytes_at (codes u.main).storage n + 4 * words_of (length all) ≤ x)) (sym both.1)
             (subst (λ size. (addresses k + 4 * words_of size ≤ array_bytes_at (codes u.main).storage n) ⊎ (array_bytes_at (codes u.main).storage n + 4 * words_of (length all) ≤ addresses k)) (sym both.0.bytes)
             (has.apart k both.0.object both.0.is (both.0.live live))))
-            (λ (new : (length (first_memory u.statics) ≤ k) × (16777216 ≤ now k) × (now k + bytes_of o ≤ t.registers 2 + (codes u.main).size)). inr (omega (arith, end, new.1)))
+            (λ (new : (length (first_memory u.statics) ≤ k) × (stack_start (map_of_unit u) ≤ now k) × (now k + bytes_of o ≤ t.registers 2 + (codes u.main).size)). inr (omega (arith, end, new.1, statics_below)))
             (grown.were k o there live);
       }
 
@@ -164,8 +178,9 @@ module _ (codes : ℕ → FunctionCode) (u : UnitForm) (valid : (k : ℕ) → Is
       fetch = record { fits = loaded.fits; none = sets.kept 0 (λ e. cc) (λ e. cc) ∙ enters.by.kept 0 (λ e. cc) (λ e. cc) ∙ zero_is; gp = sets.value; all = tt; left = tt };
       scratch = tt;
       aligned = ap (λ s. s % 4) sp4 ∙ aligned;
-      low = subst (λ s. 16777216 ≤ s) (sym sp4) low;
-      high = subst (λ s. s + (codes u.main).size ≤ 33554432) (sym sp4) high;
+      map = regions_kept (base_code true (codes u.main).storage.base) t ∙ enters.by.map ∙ same_map;
+      low = subst (λ s. stack_start (map_of_unit u) ≤ s) (sym sp4) low;
+      high = subst (λ s. s + (codes u.main).size ≤ stack_end (map_of_unit u)) (sym sp4) high;
       homes = λ home among. tt;
       objects = subst (λ (m : ℕ → ℕ). HoldsObjects now memory m) (sym sets.memory) objects_kept;
       laid = laid_new u (codes u.main) fits addresses (first_memory u.statics) 1 (t.registers 2) h.memory t.memory aligned low high loaded.laid lies;
@@ -192,7 +207,7 @@ module _ (codes : ℕ → FunctionCode) (u : UnitForm) (valid : (k : ℕ) → Is
       objects = let size = length-append (first_memory u.statics) (map (new_object 1) (codes u.main).graph.objects) in let each = length_mapped (new_object 1) (codes u.main).graph.objects in omega (arith, size, each);
       input = sets.input ∙ enters.by.input ∙ same_input;
       below = λ n o is live.
-          subst (λ s. (now n + bytes_of o ≤ 5242880) ⊎ (s ≤ now n)) (sym sp4) (below_new u (codes u.main) fits addresses (first_memory u.statics) 1 (t.registers 2) h.memory t.memory aligned low high loaded.laid lies n o is live);
+          subst (λ s. (now n + bytes_of o ≤ bytes_end (map_of_unit u)) ⊎ (s ≤ now n)) (sym sp4) (below_new u (codes u.main) fits addresses (first_memory u.statics) 1 (t.registers 2) h.memory t.memory aligned low high loaded.laid lies n o is live);
     }
 
     -- The words can be done, and lead there.

@@ -40,7 +40,7 @@ pub record StubThere (p : Program) (t : Targets) (main : ℕ) : Type 0 where
   pub ends : EndsMain p
   pub owned : t.owner 2 ≡ 0
 
-stub_is : (p : Program) (t : Targets) (main : ℕ) → PlacedAt p t 0 (with_stub main (no_code 0 [])).pieces 5 → StubThere p t main
+stub_is : (p : Program) (t : Targets) (main : ℕ) → PlacedAt p t 0 (with_stub p.map main (no_code 0 [])).pieces 5 → StubThere p t main
 stub_is p t main (k1, (a1, n1), o1, (k2, (a2, n2), o2, (k3, (a3, n3), o3, (k4, (a4, n4), o4, (k5, (a5, n5), o5, end))))) =
     let is1 : k1 ≡ 1 = omega (arith, n1) in
     let is2 : k2 ≡ 2 = omega (arith, n1, n2) in

@@ -2,6 +2,10 @@
 use Rattle.std.proofs.Common.{◌≡◌, ℕ, ◌+◌, ◌%◌, ◌≤◌, inl, inr, sym, ap, ◌∙◌, subst, arith, refl, Option, Some, None, Bool, true, false, ◌||◌, List, [], ◌∷◌, length, map}
 use Rattle.std.specs.Prelude.{◌==◌, option_map, slice_index}
 use Rattle.std.proofs.lemmas.Bool.{eqb-true}
+use Rattle.rv_emit_runs.proofs.Maps.{code_map}
+use Rattle.rv_emit_storage.specs.UnitMaps.{map_of_unit}
+use Rattle.memory_map.proofs.Facts.{map_facts}
+use Rattle.memory_map.specs.Maps.{most_words, stack_start, stack_end}
 use Rattle.rv_machine.specs.State.{State}
 use Rattle.rv_machine.specs.Run.{is_stop}
 use Rattle.graph_core.specs.Memory.{Memory}
@@ -81,7 +85,7 @@ module _ (h : HomedForm) (valid : IsValid h.unit) (homed : HaveHomes h) (e : Emi
   -- ---- The stack
 
   -- The address to which an activation returns is behind the word of a call, which belongs to the place of the one that waits.
-  returns_to : (x : Activation) (index : ℕ) → index ≤ 262144 → Resumes (program_in h e code) (codes_in h e code) (GoesOn h e code) x index → ReturnsTo e x.place (address_of index)
+  returns_to : (x : Activation) (index : ℕ) → index ≤ most_words e.map → Resumes (program_in h e code) (codes_in h e code) (GoesOn h e code) x index → ReturnsTo e x.place (address_of index)
   returns_to x index low resumes =
       let goes = resumes.rest in
       let same : resumes.target ≡ goes.target = one_home (codes_in h e code x.function).slots resumes.target goes.target resumes.among goes.among (sym resumes.wants ∙ goes.wants) in
@@ -90,15 +94,20 @@ module _ (h : HomedForm) (valid : IsValid h.unit) (homed : HaveHomes h) (e : Emi
       let here : index ≡ goes.call + 1 = omega (arith, is, many) in
       record { index = goes.call; low = omega (arith, low, here); is = ap address_of here; owned = goes.owned }
 
-  top_frame : (m : ℕ → ℕ) (sp : ℕ) (x : Activation) (waiting : List Activation) → IsStack e (codes_in h e code) addresses m sp x waiting → IsFrame (codes_in h e code x.function) addresses sp x
+  top_frame : (m : ℕ → ℕ) (sp : ℕ) (x : Activation) (waiting : List Activation) → IsStack e (codes_in h e code) addresses m sp x waiting → IsFrame e.map (codes_in h e code x.function) addresses sp x
   top_frame m sp x [] stack = stack.0
   top_frame m sp x (y ∷ waiting) stack = stack.0
 
   whole_size : (f : ℕ) → (codes_in h e code f).size % 16 ≡ 0
   whole_size f = omega arith
 
-  frame_is : (held : List Held) (c : Configuration) (g : Holding) → HoldsFrame (setting_of (over_homes h) addresses held (codes_in h e code c.here.function)) c g → g.registers 2 % 16 ≡ 0 → IsFrame (codes_in h e code c.here.function) addresses (g.registers 2) c.here
-  frame_is held c g frame aligned = record { aligned = aligned; low = frame.low; high = frame.high; objects = frame.own }
+  frame_is : (held : List Held) (c : Configuration) (g : Holding) → HoldsFrame (setting_of (over_homes h) addresses held (codes_in h e code c.here.function)) c g → g.registers 2 % 16 ≡ 0 → IsFrame e.map (codes_in h e code c.here.function) addresses (g.registers 2) c.here
+  frame_is held c g frame aligned = record {
+    aligned = aligned;
+    low = subst (λ m. stack_start m ≤ g.registers 2) (code_map h e code) frame.low;
+    high = subst (λ m. g.registers 2 + (codes_in h e code c.here.function).size ≤ stack_end m) (code_map h e code) frame.high;
+    objects = frame.own;
+  }
 
   stack_is : (memory : Memory) (input : List ℕ) (held : List Held) (x : Activation) (waiting : List Activation) (g : Holding)
       → HoldsFrame (setting_of (over_homes h) addresses held (codes_in h e code x.function)) (record { memory = memory; input = input; here = x; waiting = waiting }) g
@@ -106,13 +115,14 @@ module _ (h : HomedForm) (valid : IsValid h.unit) (homed : HaveHomes h) (e : Emi
       → IsStack e (codes_in h e code) addresses g.memory (g.registers 2) x waiting
   stack_is memory input held x [] g frame (returns, top) =
       let whole = whole_size x.function in
-      (frame_is held (record { memory = memory; input = input; here = x; waiting = [] }) g frame (omega (arith, top, whole)), returns, top)
+      (frame_is held (record { memory = memory; input = input; here = x; waiting = [] }) g frame (omega (arith, top, whole, (map_facts (map_of_unit (over_homes h))).frames)), returns,
+      subst (λ m. g.registers 2 + (codes_in h e code x.function).size ≡ stack_end m) (code_map h e code) top)
   stack_is memory input held x (y ∷ waiting) g frame (wait, others) =
       let later = stack_is memory input [] y waiting (behind_frame (codes_in h e code x.function) g) wait.frame others in
       let above = (top_frame g.memory (g.registers 2 + (codes_in h e code x.function).size) y waiting later).aligned in
       let whole = whole_size x.function in (
         frame_is held (record { memory = memory; input = input; here = x; waiting = y ∷ waiting }) g frame (omega (arith, above, whole)),
-        subst (λ a. ReturnsTo e y.place a) (sym wait.returns) (returns_to y wait.index wait.low wait.code),
+        subst (λ a. ReturnsTo e y.place a) (sym wait.returns) (returns_to y wait.index (subst (λ m. wait.index ≤ most_words m) (code_map h e code) wait.low) wait.code),
         later,
       )
 
@@ -127,6 +137,7 @@ module _ (h : HomedForm) (valid : IsValid h.unit) (homed : HaveHomes h) (e : Emi
       let same : there.0 ≡ index = omega (arith, address) in
       record {
         addresses = addresses;
+        map = stands.map;
         place = placed_so e.stops stop.0 d.here.place s.pc stop.1 (sym there.2 ∙ ap (λ i. slice_index e.owners i) same ∙ owned) (stop.2 ∙ sym stands.pc);
         depth = ap (λ (z : Holding). z.registers 4 + (length d.waiting + 1)) stands.holds ∙ all.depth;
         statics = λ n lt.
@@ -135,7 +146,7 @@ module _ (h : HomedForm) (valid : IsValid h.unit) (homed : HaveHomes h) (e : Emi
         stack = subst (λ (z : Holding). IsStack e (codes_in h e code) addresses z.memory (z.registers 2) d.here d.waiting) (sym stands.holds) (stack_is d.memory d.input held d.here d.waiting g all.here all.waiting);
         homes = λ home among. subst (λ (z : Holding). Means addresses d.memory (d.here.names (home_number home)) (value_of_home (codes_in h e code d.here.function).storage z home)) (sym stands.holds) (all.here.homes home among);
         objects = subst (λ (z : Holding). HoldsObjects addresses d.memory z.memory) (sym stands.holds) all.here.objects;
-        laid = all.here.laid;
+        laid = subst (λ m. AreLaid m addresses d.memory) (code_map h e code) all.here.laid;
         sizes = λ n o is. (all.here.static n o is).0;
         range = subst AreInRange (sym stands.holds) stands.in_range;
       }

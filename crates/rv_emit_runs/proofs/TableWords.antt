@@ -15,7 +15,7 @@ use Rattle.rv_emit_runs.specs.Placed.{PlacedAt, placed_pieces}
 use Rattle.rv_emit_runs.proofs.Appended.{BothPlaced, both_placed, marked_there}
 use Rattle.rv_emit_runs.proofs.Lists.{get_some}
 use Rattle.rv_emit_sequence.specs.Sequences.{SequenceForm}
-use Rattle.rv_emit_layout.specs.Layouts.{LayoutForm, width, words_before}
+use Rattle.rv_emit_layout.specs.Layouts.{LayoutForm, width, words_before, most_pieces}
 use Rattle.rv_emit_layout.specs.Tracing.{piece_address, with_writers}
 use Rattle.rv_emit_runs.specs.EmitPlacedStanding.{targets_of}
 use Rattle.rv_emit_runs.specs.Writing.{IsWriter, IsWriting}
@@ -124,7 +124,7 @@ module _ (p : Program) (owners : List ℕ) (s : SequenceForm) (y : LayoutForm) (
       let counts = length-append ahead (mine ++ back) in
       let parts = length-append mine back in
       let mine_count : length mine ≡ length code = writer_count n place stops code in
-      let most : length s.pieces ≤ 262144 = there.few in
+      let most : length s.pieces ≤ most_pieces = there.few in
       let none : 0 + length ahead ≡ length ahead = omega arith in
       let mine_low : length ahead + length mine ≤ 4294967295 = omega (arith, total, counts, parts, most) in
       let code_low : length ahead + length code ≤ 4294967295 = omega (arith, total, counts, parts, mine_count, most) in

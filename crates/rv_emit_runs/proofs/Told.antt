@@ -44,10 +44,10 @@ objects_many u addresses is =
 -- ---- All of it
 
 module _ (h : HomedForm) (valid : IsValid h.unit) (homed : HaveHomes h) (e : EmittedForm) (emitted : IsEmittedOf h e) where
-  function_told : (f : ℕ) (g : Graph) → slice_get h.unit.graphs f ≡ Some g → IsTold h (arranged emitted.coded) e f
+  function_told : (f : ℕ) (g : Graph) → slice_get h.unit.graphs f ≡ Some g → IsTold h (arranged emitted.statics emitted.coded) e f
   function_told f g is = by_laid (laid_at h emitted.statics 0 h.unit.graphs emitted.coded.all (let few : length h.unit.graphs ≤ 256 = valid.functions in omega (arith, few)) emitted.code.laid f g is)
     where
-      by_laid : LaidAt h emitted.statics emitted.coded.all 0 f g → IsTold h (arranged emitted.coded) e f
+      by_laid : LaidAt h emitted.statics emitted.coded.all 0 f g → IsTold h (arranged emitted.statics emitted.coded) e f
       by_laid found =
           let here : 0 + f ≡ f = omega arith in
           let few : length h.unit.graphs ≤ 256 = valid.functions in
@@ -55,8 +55,8 @@ module _ (h : HomedForm) (valid : IsValid h.unit) (homed : HaveHomes h) (e : Emi
           let graph : g ≡ graph_at h.unit f = sym (graph_is h.unit f g is) in
           let laid : IsLaidOf emitted.statics (graph_at h.unit f) (homes_in h f) (f == h.unit.main) found.laid =
           subst (λ q. IsLaidOf emitted.statics q (homes_in h f) (f == h.unit.main) found.laid) graph (subst (λ j. IsLaidOf emitted.statics g (homes_in h j) (j == h.unit.main) found.laid) here found.is) in
-          let ground : ground_for emitted.statics (graph_at h.unit f) (homes_in h f) found.laid ≡ ground_at h valid homed emitted.statics emitted.addresses (arranged emitted.coded) refl f =
-          ground_is h valid homed emitted.statics emitted.addresses (arranged emitted.coded) refl f (slice_get_within h.unit.graphs f g is) (f == h.unit.main) found.laid laid in
+          let ground : ground_for emitted.statics (graph_at h.unit f) (homes_in h f) found.laid ≡ ground_at h valid homed emitted.statics emitted.addresses (arranged emitted.statics emitted.coded) refl f =
+          ground_is h valid homed emitted.statics emitted.addresses (arranged emitted.statics emitted.coded) refl f (slice_get_within h.unit.graphs f g is) (f == h.unit.main) found.laid laid in
           record {
             code = told_by (slice_index emitted.coded.firsts (0 + f)) (parameters_in h.unit.graphs (0 + f)) found.laid;
             is = ap (λ l. slice_get l f) emitted.functions ∙ told_there h.unit.graphs emitted.coded.firsts emitted.coded.all 0 f found.laid (omega (arith, few, count)) found.there;
@@ -66,7 +66,7 @@ module _ (h : HomedForm) (valid : IsValid h.unit) (homed : HaveHomes h) (e : Emi
           }
 
   -- What is told is where all stands as it was arranged.
-  pub emitted_tells : Tells h (arranged emitted.coded) e
+  pub emitted_tells : Tells h (arranged emitted.statics emitted.coded) e
   emitted_tells = record {
     many = objects_many h.unit e.statics (emitted.objects ∙ emitted.addresses.objects);
     statics = have_all h.unit e.statics (emitted.objects ∙ emitted.addresses.objects);

@@ -3,6 +3,7 @@ use Rattle.std.proofs.Common.{◌≡◌, ℕ, zero, suc, ◌+◌, ◌-◌, ◌%�
 use Rattle.std.specs.List.{AllByRecursion}
 use Rattle.std.proofs.lemmas.Bool.{true≢false}
 use Rattle.std.proofs.lemmas.List.{length-append, length-map}
+use Rattle.rv_emit_layout.specs.Layouts.{most_pieces}
 use Rattle.rv_code.specs.declared.instruction.Instruction.{Instruction}
 use Rattle.rv_code.specs.declared.instruction.Instruction.TheVariants.{Load, Immediate, Jalr}
 use Rattle.rv_code.specs.declared.instruction.LoadOperation.TheVariants.{Lw}
@@ -93,7 +94,7 @@ in_blocks g s blocks (y ∷ more) i k x labelled low few e =
         (later.0, later.1, omega (arith, from, outside, count), omega (arith, to, outside, count))
 
 -- Stops begin in blocks.
-pub stops_in_blocks : (g : Ground) (f : Graph) (is_main : Bool) (s : SequenceForm) → IsSequenceOf g f is_main s → length s.pieces ≤ 262144 → StopsAreInBlocks s
+pub stops_in_blocks : (g : Ground) (f : Graph) (is_main : Bool) (s : SequenceForm) → IsSequenceOf g f is_main s → length s.pieces ≤ most_pieces → StopsAreInBlocks s
 stops_in_blocks g f is_main s sequence few k x e flag = by_first (in_parts (first_pieces g f is_main) (all_pieces g s.numbers sequence.standing ++ last_pieces g) k x (ap (λ l. slice_get l k) (sym whole) ∙ e))
   where
     whole : s.pieces ≡ first_pieces g f is_main ++ (all_pieces g s.numbers sequence.standing ++ last_pieces g)

@@ -5,6 +5,11 @@ use Rattle.std.specs.Option.{option_map_or}
 use Rattle.std.proofs.lemmas.Bool.{cases_lt}
 use Rattle.std.proofs.lemmas.List.{length-append, length-map}
 use Rattle.std.proofs.lemmas.Option.{slice_get_within}
+use Rattle.rv_emit_layout.proofs.Bound.{code_has_room}
+use Rattle.rv_emit_runs.proofs.Maps.{emitted_in_reach}
+use Rattle.rv_emit_storage.specs.UnitMaps.{map_of_unit}
+use Rattle.memory_map.proofs.Facts.{map_facts}
+use Rattle.memory_map.specs.Maps.{most_words, stack_end, bytes_size}
 use Rattle.rv_code.specs.declared.instruction.Instruction.TheVariants.{Lui}
 use Rattle.rv_machine.specs.Run.{is_stop}
 use Rattle.graph_core.specs.Graphs.{Block}
@@ -99,14 +104,14 @@ pub laid_is : (c : CodedForm) (f : ℕ) (l : LaidForm) → slice_get c.all f ≡
 laid_is c f l e = sym (ap (λ (o : Option LaidForm). option_map_or (λ (l : LaidForm). l) o no_laid) e)
 
 -- Where the parts of code stand.
-abbrev pub arranged : CodedForm → Arrangement
-arranged c = record {
-  base = 4196352;
+abbrev pub arranged : StaticForm → CodedForm → Arrangement
+arranged s c = record {
+  base = s.base;
   function = λ f. slice_index c.firsts f;
   label = λ f b. slice_index c.firsts f + label_at (laid_of c f).sequence.labels (laid_of c f).layout.offsets b;
 }
 
-module _ (h : HomedForm) (valid : IsValid h.unit) (homed : HaveHomes h) (e : EmittedForm) (emitted : IsEmittedOf h e) (short : length e.code ≤ 262144) (are : AreAddressesOf h.unit emitted.statics) (words : AllByRecursion IsInWords h.unit.graphs) where
+module _ (h : HomedForm) (valid : IsValid h.unit) (homed : HaveHomes h) (e : EmittedForm) (emitted : IsEmittedOf h e) (short : length e.code ≤ most_words e.map) (are : AreAddressesOf h.unit emitted.statics) (words : AllByRecursion IsInWords h.unit.graphs) where
   abbrev c : CodedForm
   c = emitted.coded
 
@@ -114,18 +119,18 @@ module _ (h : HomedForm) (valid : IsValid h.unit) (homed : HaveHomes h) (e : Emi
   s = emitted.statics
 
   abbrev a : Arrangement
-  a = arranged emitted.coded
+  a = arranged emitted.statics emitted.coded
 
   abbrev p : Program
   p = program_of e short
 
   has : HasCode p e.owners c
-  has = record { words = emitted.words; own = emitted.owners; stops = ap (λ l. map (λ (x : PlacedStop). x.address) l) emitted.stops }
+  has = record { reach = emitted_in_reach h e emitted; words = emitted.words; own = emitted.owners; stops = ap (λ l. map (λ (x : PlacedStop). x.address) l) emitted.stops }
 
   few : length h.unit.graphs ≤ 4294967295
   few = let functions : length h.unit.graphs ≤ 256 = valid.functions in omega (arith, functions)
 
-  all_together : FitTogether c.all c.firsts
+  all_together : FitTogether e.map c.all c.firsts
   all_together = together h s c emitted.code p e.owners has few
 
   -- The code of each function that there is stands.
@@ -133,32 +138,32 @@ module _ (h : HomedForm) (valid : IsValid h.unit) (homed : HaveHomes h) (e : Emi
   placed f low = unit_placed h s c emitted.code p e.owners has few f (graph_at h.unit f) (can_stand h valid homed s are a refl words f low) (graph_there h.unit f low)
 
   firsts_are : (k : ℕ) → slice_index c.firsts k ≡ slice_index (firsts_from 5 c.all) k
-  firsts_are k = ap (λ (l : List ℕ). slice_index l k) (emitted.code.firsts ∙ ap (λ n. firsts_from n c.all) (stub_words h.unit.main))
+  firsts_are k = ap (λ (l : List ℕ). slice_index l k) (emitted.code.firsts ∙ ap (λ n. firsts_from n c.all) (stub_words h.unit))
 
-  end_low : (k : ℕ) (l : LaidForm) → slice_get c.all k ≡ Some l → slice_index (firsts_from 5 c.all) k + l.layout.words ≤ 262144
+  end_low : (k : ℕ) (l : LaidForm) → slice_get c.all k ≡ Some l → slice_index (firsts_from 5 c.all) k + l.layout.words ≤ most_words e.map
   end_low k l at =
-      let fit : Fits l (slice_index c.firsts k) = all_together.fits k l at in
+      let fit : Fits e.map l (slice_index c.firsts k) = all_together.fits k l at in
       let low = fit.low in
       let count = fit.layout.words in
       let is = firsts_are k in
       omega (arith, low, count, is)
 
-  begin_low : (k : ℕ) → slice_index c.firsts k ≤ 262144
-  begin_low k = let low = firsts_low c.all 5 k (omega arith) end_low in let is = firsts_are k in omega (arith, low, is)
+  begin_low : (k : ℕ) → slice_index c.firsts k ≤ most_words e.map
+  begin_low k = let low = firsts_low (most_words e.map) c.all 5 k (omega (arith, code_has_room e.map)) end_low in let is = firsts_are k in omega (arith, low, is)
 
   begin_high : (k : ℕ) (l : LaidForm) → slice_get c.all k ≡ Some l → 5 ≤ slice_index c.firsts k
-  begin_high k l at = let high = firsts_grow c.all 5 k l (λ i q e. let low = end_low i q e in omega (arith, low)) at in let is = firsts_are k in omega (arith, high, is)
+  begin_high k l at = let high = firsts_grow c.all 5 k l (λ i q e. let low = end_low i q e in omega (arith, low, (map_facts e.map).few)) at in let is = firsts_are k in omega (arith, high, is)
 
   -- ---- Targets
 
-  labels_low : (f b : ℕ) → a.label f b ≤ 262144
+  labels_low : (f b : ℕ) → a.label f b ≤ most_words e.map
   labels_low f b = by_found (slice_get c.all f) refl
     where
-      by_found : (found : Option LaidForm) → slice_get c.all f ≡ found → slice_index c.firsts f + label_at (option_map_or (λ (l : LaidForm). l) found no_laid).sequence.labels (option_map_or (λ (l : LaidForm). l) found no_laid).layout.offsets b ≤ 262144
+      by_found : (found : Option LaidForm) → slice_get c.all f ≡ found → slice_index c.firsts f + label_at (option_map_or (λ (l : LaidForm). l) found no_laid).sequence.labels (option_map_or (λ (l : LaidForm). l) found no_laid).layout.offsets b ≤ most_words e.map
       by_found None at = let low = begin_low f in omega (arith, low)
-      by_found (Some l) at = let fit : Fits l (slice_index c.firsts f) = all_together.fits f l at in label_within l.sequence l.layout (slice_index c.firsts f) fit.layout fit.low b
+      by_found (Some l) at = let fit : Fits e.map l (slice_index c.firsts f) = all_together.fits f l at in label_within (most_words e.map) l.sequence l.layout (slice_index c.firsts f) fit.layout fit.low b
 
-  all_inside : (f : ℕ) → AreInCode (targets_in e a f)
+  all_inside : (f : ℕ) → AreInCode e.map (targets_in e a f)
   all_inside f = record { labels = labels_low f; functions = begin_low }
 
   -- ---- Functions
@@ -193,9 +198,9 @@ module _ (h : HomedForm) (valid : IsValid h.unit) (homed : HaveHomes h) (e : Emi
   -- ---- Stops
 
   stops_told : AllByRecursion (IsStopOfOne c.all c.firsts) (stops_of_all c.firsts 0 c.all)
-  stops_told = functions_told c.all c.firsts c.all 0 (let some : length c.all ≤ 4294967295 = all_together.few in omega (arith, some))
+  stops_told = functions_told e.map c.all c.firsts c.all 0 (let some : length c.all ≤ 4294967295 = all_together.few in omega (arith, some))
       (λ k m at. let here : k ≡ 0 + k = omega arith in subst (λ j. slice_get c.all j ≡ Some m) here at)
-      (λ k m at. let here : k ≡ 0 + k = omega arith in subst (λ j. Fits m (slice_index c.firsts j)) here (all_together.fits k m at))
+      (λ k m at. let here : k ≡ 0 + k = omega arith in subst (λ j. Fits e.map m (slice_index c.firsts j)) here (all_together.fits k m at))
 
   -- A stop is the first word of its place.
   stop_is : (x : PlacedStop) → Among x e.stops → (index : ℕ) × (x.address ≡ address_of index) × (slice_index e.owners index ≡ x.place)
@@ -223,17 +228,17 @@ module _ (h : HomedForm) (valid : IsValid h.unit) (homed : HaveHomes h) (e : Emi
   -- ---- What stands before all functions
 
   abbrev stub : SequenceForm
-  stub = stub_form h.unit.main
+  stub = stub_of h.unit
 
   abbrev stub_layout : LayoutForm
-  stub_layout = layout_of (stub_form h.unit.main)
+  stub_layout = layout_of (stub_of h.unit)
 
   stub_unflagged : NoStops stub.pieces
   stub_unflagged = (refl, (refl, (refl, (refl, (refl, tt)))))
 
   stub_goes : (k : ℕ) (x : PlacedPiece) → slice_get stub.pieces k ≡ Some x → Goes x.piece → 1 ≤ 0 + words_before stub_layout.far stub.pieces k
   stub_goes zero x at goes =
-      let same : record { piece = Word (Lui 2 8192); owner = 0; is_stop = false; writes = None } ≡ x = cc in
+      let same : record { piece = Word (Lui 2 (stack_end (map_of_unit h.unit) / 4096)); owner = 0; is_stop = false; writes = None } ≡ x = cc in
       absurd (subst (λ (y : PlacedPiece). Goes y.piece) (sym same) goes)
   stub_goes (suc k) x at goes = omega arith
 
@@ -250,19 +255,22 @@ module _ (h : HomedForm) (valid : IsValid h.unit) (homed : HaveHomes h) (e : Emi
       words = has.words ∙ ap (λ l. map (λ (w : OwnedWord). w.word) l) emitted.code.words;
       owners = has.own ∙ ap (λ l. map (λ (w : OwnedWord). w.owner) l) emitted.code.words;
       begin = refl;
-      low = omega arith;
+      low = omega (arith, code_has_room e.map);
       functions = begin_low;
     };
     stops = record {
       one = λ k x at. let low = stub_before k x at in let some = width_some (get_or stub_layout.far k false) x.piece in none_early (0 + words_before stub_layout.far stub.pieces k) (omega (arith, low, some)) ∙ sym (unflagged_at stub.pieces k x stub_unflagged at);
       two = λ k x at wide. let low = stub_before k x at in none_early (0 + words_before stub_layout.far stub.pieces k + 1) (omega (arith, low, wide));
     };
-    forms = stub_spelled h.unit.main;
+    forms = stub_spelled (map_of_unit h.unit) h.unit.main;
+    reach = emitted_in_reach h e emitted;
     inside = stub_goes;
   }
 
-  stub_is : PlacedAt p (targets_in e a h.unit.main) 0 (with_stub h.unit.main (no_code 0 [])).pieces 5
-  stub_is = part_there p e.owners stub stub_layout 0 c.firsts stub_there [] stub.pieces [] (sym (append-nil stub.pieces))
+  stub_is : PlacedAt p (targets_in e a h.unit.main) 0 (with_stub e.map h.unit.main (no_code 0 [])).pieces 5
+  stub_is =
+      subst (λ m. PlacedAt p (targets_in e a h.unit.main) 0 (with_stub m h.unit.main (no_code 0 [])).pieces 5) (sym emitted.map)
+      (part_there p e.owners stub stub_layout 0 c.firsts stub_there [] stub.pieces [] (sym (append-nil stub.pieces)))
 
   -- ---- All of it
 
@@ -270,6 +278,7 @@ module _ (h : HomedForm) (valid : IsValid h.unit) (homed : HaveHomes h) (e : Emi
   pub code_is : e.initial ≡ initial_bytes h.unit → AllByRecursion (λ b. b < 256) e.initial → IsCode h e
   code_is initial bytes = record {
     arrangement = a;
+    map = emitted.map;
     short = short;
     inside = all_inside;
     stub = stub_is;
@@ -277,13 +286,13 @@ module _ (h : HomedForm) (valid : IsValid h.unit) (homed : HaveHomes h) (e : Emi
     stops = stop_is;
     words = words;
     bytes = bytes;
-    few_bytes = subst (λ l. length l ≤ 1048576) (sym initial) (initial_few h.unit valid);
-    base = omega arith;
+    few_bytes = subst (λ l. length l ≤ bytes_size) (sym initial) (initial_few h.unit valid);
+    base = let is = are.base in omega (arith, is, (map_facts (map_of_unit h.unit)).apart, (map_facts (map_of_unit h.unit)).whole);
     initial = initial;
   }
 
   -- It stands as it was arranged.
-  pub arrangement_is : (initial : e.initial ≡ initial_bytes h.unit) (bytes : AllByRecursion (λ b. b < 256) e.initial) → (code_is initial bytes).arrangement ≡ arranged emitted.coded
+  pub arrangement_is : (initial : e.initial ≡ initial_bytes h.unit) (bytes : AllByRecursion (λ b. b < 256) e.initial) → (code_is initial bytes).arrangement ≡ arranged emitted.statics emitted.coded
   unfolding code_is
   arrangement_is initial bytes = refl
 

@@ -3,6 +3,9 @@ use Rattle.std.proofs.Common.{◌≡◌, ℕ, zero, suc, ◌+◌, ◌<◌, ◌�
 use Rattle.std.specs.Option.{option_map_or}
 use Rattle.std.specs.List.{AllByRecursion}
 use Rattle.std.proofs.lemmas.Option.{same_Some}
+use Rattle.rv_emit_runs.proofs.Maps.{emitted_in_reach}
+use Rattle.memory_map.proofs.Facts.{map_facts}
+use Rattle.memory_map.specs.Maps.{most_words}
 use Rattle.rv_code.specs.declared.instruction.Instruction.{Instruction}
 use Rattle.graph_core.specs.Graphs.{Block, Graph}
 use Rattle.graph_core.specs.Paths.{Among, front, behind}
@@ -68,12 +71,12 @@ kept_owned g (Some p) own = inr own
 
 -- ---- All of it
 
-module _ (h : HomedForm) (valid : IsValid h.unit) (e : EmittedForm) (emitted : IsEmittedOf h e) (short : length e.code ≤ 262144) where
+module _ (h : HomedForm) (valid : IsValid h.unit) (e : EmittedForm) (emitted : IsEmittedOf h e) (short : length e.code ≤ most_words e.map) where
   few : length h.unit.graphs ≤ 4294967295
   few = let functions : length h.unit.graphs ≤ 256 = valid.functions in omega (arith, functions)
 
   has : HasCode (program_of e short) e.owners emitted.coded
-  has = record { words = emitted.words; own = emitted.owners; stops = ap (λ l. map (λ (x : PlacedStop). x.address) l) emitted.stops }
+  has = record { reach = emitted_in_reach h e emitted; words = emitted.words; own = emitted.owners; stops = ap (λ l. map (λ (x : PlacedStop). x.address) l) emitted.stops }
 
   pieces_owned : (f : ℕ) (g : Graph) (is_main : Bool) (l : LaidForm) → slice_get h.unit.graphs f ≡ Some g → IsLaidOf emitted.statics g (homes_in h f) is_main l → AreOwned (IsOwnedBy g) l.sequence.pieces
   pieces_owned f g is_main l at is =
@@ -93,11 +96,11 @@ module _ (h : HomedForm) (valid : IsValid h.unit) (e : EmittedForm) (emitted : I
           let count : length emitted.coded.all ≡ length h.unit.graphs = laid_count h emitted.statics 0 h.unit.graphs emitted.coded.all emitted.code.laid in
           let is : IsLaidOf emitted.statics g (homes_in h f) (f == h.unit.main) laid.laid = subst (λ j. IsLaidOf emitted.statics g (homes_in h j) (j == h.unit.main) laid.laid) here laid.is in
           let one : FunctionIn emitted.coded.words emitted.coded.firsts f laid.laid = found h emitted.statics emitted.coded emitted.code (program_of e short) e.owners has few f laid.laid laid.there in
-          let fit : Fits laid.laid (slice_index emitted.coded.firsts f) = fits h emitted.statics emitted.coded emitted.code (program_of e short) e.owners has few f laid.laid laid.there in
+          let fit : Fits e.map laid.laid (slice_index emitted.coded.firsts f) = fits h emitted.statics emitted.coded emitted.code (program_of e short) e.owners has few f laid.laid laid.there in
           let words = function_words laid.laid.sequence laid.laid.layout (slice_index emitted.coded.firsts f) emitted.coded.firsts in
           let size : length words ≡ words_before laid.laid.layout.far laid.laid.sequence.pieces (length laid.laid.sequence.pieces) = function_count laid.laid.sequence laid.laid.layout (slice_index emitted.coded.firsts f) emitted.coded.firsts one.few in
           let all : laid.laid.layout.words ≡ words_before laid.laid.layout.far laid.laid.sequence.pieces (length laid.laid.sequence.pieces) = fit.layout.words in
-          let most : slice_index emitted.coded.firsts f + words_before laid.laid.layout.far laid.laid.sequence.pieces (length laid.laid.sequence.pieces) ≤ 262144 = fit.low in
+          let most : slice_index emitted.coded.firsts f + words_before laid.laid.layout.far laid.laid.sequence.pieces (length laid.laid.sequence.pieces) ≤ most_words e.map = fit.low in
           let code_is : told_by (slice_index emitted.coded.firsts f) (parameters_in h.unit.graphs f) laid.laid ≡ code =
           same_Some (told_by (slice_index emitted.coded.firsts f) (parameters_in h.unit.graphs f) laid.laid) code
           (sym (ap (λ l. slice_get l f) emitted.functions ∙ told_there h.unit.graphs emitted.coded.firsts emitted.coded.all 0 f laid.laid (omega (arith, few, count)) laid.there ∙ ap (λ j. Some (told_by (slice_index emitted.coded.firsts j) (parameters_in h.unit.graphs j) laid.laid)) here) ∙ told) in
@@ -107,4 +110,4 @@ module _ (h : HomedForm) (valid : IsValid h.unit) (e : EmittedForm) (emitted : I
           subst (λ own. IsOwnedBy g (slice_index own i)) (sym (emitted.owners ∙ ap (λ ws. map (λ (w : OwnedWord). w.owner) ws) one.words))
           (word_owner (IsOwnedBy g) one.before words one.behind i
           (words_owned (IsOwnedBy g) (lying laid.laid.sequence laid.laid.layout (slice_index emitted.coded.firsts f) emitted.coded.firsts) laid.laid.layout.far 0 laid.laid.sequence.pieces (pieces_owned f g (f == h.unit.main) laid.laid at is))
-          (omega (arith, low, first, begin, most)) (omega (arith, high, end, begin, size, all, most)))
+          (omega (arith, low, first, begin, most, (map_facts e.map).few)) (omega (arith, high, end, begin, size, all, most, (map_facts e.map).few)))

@@ -1,14 +1,18 @@
 -- The code of each function of a unit stands in the code of the machine.
 use Rattle.std.proofs.Common.{◌≡◌, ℕ, zero, suc, ◌+◌, ◌<◌, ◌≤◌, ◌==◌, Some, List, [], ◌∷◌, ◌++◌, length, map, slice_get, slice_index, refl, sym, ap, ◌∙◌, subst, arith}
 use Rattle.std.proofs.lemmas.List.{length-append, length-map}
-use Rattle.graph_core.specs.Graphs.{Graph}
+use Rattle.rv_emit_layout.proofs.Bound.{code_has_room}
+use Rattle.rv_emit_runs.proofs.Maps.{jump_reach}
+use Rattle.memory_map.proofs.Facts.{map_facts}
+use Rattle.memory_map.specs.Maps.{most_words}
+use Rattle.graph_core.specs.Graphs.{Graph, UnitForm}
 use Rattle.graph_homes.specs.Homed.{HomedForm, homes_in}
 use Rattle.rv_emit_tables.specs.declared.emitted.PlacedStop.{PlacedStop}
 use Rattle.rv_emit_steps.specs.Programs.{Program}
 use Rattle.rv_emit_sequence.specs.Sequences.{counted, IsSequenceOf}
 use Rattle.rv_emit_layout.specs.declared.layout.OwnedWord.{OwnedWord}
-use Rattle.rv_emit_layout.specs.Layouts.{function_words, layout_of, words_before}
-use Rattle.rv_emit_layout.specs.Laid.{CodedForm, LaidForm, StaticForm, firsts_from, ground_for, stops_of_all, stub_form, AreLaid, IsCodeOf, IsLaidOf}
+use Rattle.rv_emit_layout.specs.Layouts.{function_words, layout_of, words_before, most_pieces}
+use Rattle.rv_emit_layout.specs.Laid.{CodedForm, LaidForm, StaticForm, firsts_from, ground_for, stops_of_all, stub_of, AreLaid, IsCodeOf, IsLaidOf}
 use Rattle.rv_emit_runs.specs.Placing.{IsFunctionPlaced}
 use Rattle.rv_emit_runs.specs.EmitPlacedStanding.{AreSpelled, HasStops, targets_of}
 use Rattle.rv_emit_runs.proofs.Functions.{AreLayouts, FunctionIn, function_count, function_in}
@@ -63,13 +67,13 @@ firsts_grow (x ∷ more) n (suc k) m fits e =
     omega (arith, next, later)
 
 -- All begin within the code.
-pub firsts_low : (all : List LaidForm) (n k : ℕ) → n ≤ 262144 → ((i : ℕ) (q : LaidForm) → slice_get all i ≡ Some q → slice_index (firsts_from n all) i + q.layout.words ≤ 262144) → slice_index (firsts_from n all) k ≤ 262144
-firsts_low [] n zero low fits = low
-firsts_low [] n (suc k) low fits = omega arith
-firsts_low (x ∷ more) n zero low fits = low
-firsts_low (x ∷ more) n (suc k) low fits =
-    let fit : n + x.layout.words ≤ 262144 = fits 0 x refl in
-    firsts_low more (counted (n + x.layout.words)) k (omega (arith, fit)) (λ i q e. fits (suc i) q e)
+pub firsts_low : (most : ℕ) (all : List LaidForm) (n k : ℕ) → n ≤ most → ((i : ℕ) (q : LaidForm) → slice_get all i ≡ Some q → slice_index (firsts_from n all) i + q.layout.words ≤ most) → slice_index (firsts_from n all) k ≤ most
+firsts_low most [] n zero low fits = low
+firsts_low most [] n (suc k) low fits = omega arith
+firsts_low most (x ∷ more) n zero low fits = low
+firsts_low most (x ∷ more) n (suc k) low fits =
+    let fit : n + x.layout.words ≤ most = fits 0 x refl in
+    firsts_low most more (counted (n + x.layout.words)) k (omega (arith, fit)) (λ i q e. fits (suc i) q e)
 
 -- The words of functions before others are as many as stand before these.
 firsts_apart : (all : List LaidForm) (n : ℕ) → ((k : ℕ) (l : LaidForm) → slice_get all k ≡ Some l → slice_index (firsts_from n all) k + l.layout.words ≤ 4294967295) → (j k : ℕ) (l m : LaidForm) → j < k → slice_get all j ≡ Some l → slice_get all k ≡ Some m
@@ -88,14 +92,15 @@ firsts_apart (x ∷ more) n fits (suc j) (suc k) l m lt a b = firsts_apart more 
 -- ---- All functions
 
 -- The stub has five words.
-pub stub_words : (main : ℕ) → (layout_of (stub_form main)).words ≡ 5
-stub_words main = refl
+pub stub_words : (u : UnitForm) → (layout_of (stub_of u)).words ≡ 5
+stub_words u = refl
 
-stub_count : (main : ℕ) (firsts : List ℕ) → length (function_words (stub_form main) (layout_of (stub_form main)) 0 firsts) ≡ 5
-stub_count main firsts = refl
+stub_count : (u : UnitForm) (firsts : List ℕ) → length (function_words (stub_of u) (layout_of (stub_of u)) 0 firsts) ≡ 5
+stub_count u firsts = refl
 
--- A program has the words of code, and its stops.
+-- A program has the words of code, and its stops. A jump leads from anywhere in it to anywhere in it.
 pub record HasCode (p : Program) (owners : List ℕ) (c : CodedForm) : Type 0 where
+  pub reach : most_words p.map ≤ jump_reach
   pub words : p.words ≡ map (λ (w : OwnedWord). w.word) c.words
   pub own : owners ≡ map (λ (w : OwnedWord). w.owner) c.words
   pub stops : p.stops ≡ map (λ (s : PlacedStop). s.address) (stops_of_all c.firsts 0 c.all)
@@ -115,16 +120,16 @@ pub record Placed (h : HomedForm) (s : StaticForm) (p : Program) (owners : List 
 
 module _ (h : HomedForm) (s : StaticForm) (c : CodedForm) (code : IsCodeOf h s c) (p : Program) (owners : List ℕ) (has : HasCode p owners c) (few : length h.unit.graphs ≤ 4294967295) where
   abbrev front : List OwnedWord
-  front = function_words (stub_form h.unit.main) (layout_of (stub_form h.unit.main)) 0 c.firsts
+  front = function_words (stub_of h.unit) (layout_of (stub_of h.unit)) 0 c.firsts
 
-  short : length c.words ≤ 262144
+  short : length c.words ≤ most_words p.map
   short = let e : length p.words ≡ length c.words = ap (λ (l : List ℕ). length l) has.words ∙ length-map c.words (λ (w : OwnedWord). w.word) in let low = p.short in omega (arith, e, low)
 
   count : length c.all ≡ length h.unit.graphs
   count = laid_count h s 0 h.unit.graphs c.all code.laid
 
   agrees : (k : ℕ) → slice_index c.firsts (0 + k) ≡ slice_index (firsts_from 5 c.all) k
-  agrees k = (let e : 0 + k ≡ k = omega arith in ap (λ j. slice_index c.firsts j) e) ∙ ap (λ (l : List ℕ). slice_index l k) (code.firsts ∙ ap (λ n. firsts_from n c.all) (stub_words h.unit.main))
+  agrees k = (let e : 0 + k ≡ k = omega arith in ap (λ j. slice_index c.firsts j) e) ∙ ap (λ (l : List ℕ). slice_index l k) (code.firsts ∙ ap (λ n. firsts_from n c.all) (stub_words h.unit))
 
   -- The words of each function stand in the code.
   pub found : (k : ℕ) (l : LaidForm) → slice_get c.all k ≡ Some l → FunctionIn c.words c.firsts k l
@@ -132,10 +137,10 @@ module _ (h : HomedForm) (s : StaticForm) (c : CodedForm) (code : IsCodeOf h s c
       let here : 0 + k ≡ k = omega arith in
       subst (λ j. FunctionIn c.words c.firsts j l) here
       (subst (λ w. FunctionIn w c.firsts (0 + k) l) (sym code.words)
-      (function_in c.firsts c.all 0 5 front (stub_count h.unit.main c.firsts) (omega (arith, count, few)) agrees (subst (λ w. length w ≤ 262144) code.words short) (layouts_of h s 0 h.unit.graphs c.all code.laid) k l e))
+      (function_in c.firsts c.all 0 5 front (stub_count h.unit c.firsts) (omega (arith, count, few)) agrees (subst (λ w. length w ≤ most_pieces) code.words (omega (arith, short, (map_facts p.map).few))) (layouts_of h s 0 h.unit.graphs c.all code.laid) k l e))
 
   -- They fit in it.
-  pub fits : (k : ℕ) (l : LaidForm) → slice_get c.all k ≡ Some l → Fits l (slice_index c.firsts k)
+  pub fits : (k : ℕ) (l : LaidForm) → slice_get c.all k ≡ Some l → Fits p.map l (slice_index c.firsts k)
   fits k l e =
       let at : FunctionIn c.words c.firsts k l = found k l e in
       let size : length (function_words l.sequence l.layout (slice_index c.firsts k) c.firsts) ≡ words_before l.layout.far l.sequence.pieces (length l.sequence.pieces) = function_count l.sequence l.layout (slice_index c.firsts k) c.firsts at.few in
@@ -144,9 +149,9 @@ module _ (h : HomedForm) (s : StaticForm) (c : CodedForm) (code : IsCodeOf h s c
       let begin = at.begin in
       record { layout = at.layout; low = omega (arith, size, all, inner, begin, short) }
 
-  ends_low : (k : ℕ) (l : LaidForm) → slice_get c.all k ≡ Some l → slice_index (firsts_from 5 c.all) k + l.layout.words ≤ 262144
+  ends_low : (k : ℕ) (l : LaidForm) → slice_get c.all k ≡ Some l → slice_index (firsts_from 5 c.all) k + l.layout.words ≤ most_words p.map
   ends_low k l e =
-      let fit : Fits l (slice_index c.firsts k) = fits k l e in
+      let fit : Fits p.map l (slice_index c.firsts k) = fits k l e in
       let low = fit.low in
       let words = fit.layout.words in
       let is : slice_index c.firsts k ≡ slice_index (firsts_from 5 c.all) k = (let z : k ≡ 0 + k = omega arith in ap (λ j. slice_index c.firsts j) z ∙ agrees k) in
@@ -155,7 +160,7 @@ module _ (h : HomedForm) (s : StaticForm) (c : CodedForm) (code : IsCodeOf h s c
   firsts_is : (k : ℕ) → slice_index c.firsts k ≡ slice_index (firsts_from 5 c.all) k
   firsts_is k = let z : k ≡ 0 + k = omega arith in ap (λ j. slice_index c.firsts j) z ∙ agrees k
 
-  pub together : FitTogether c.all c.firsts
+  pub together : FitTogether p.map c.all c.firsts
   together = record {
     few = omega (arith, count, few);
     fits = fits;
@@ -163,7 +168,7 @@ module _ (h : HomedForm) (s : StaticForm) (c : CodedForm) (code : IsCodeOf h s c
         let words = (fits j l a).layout.words in
         let one = firsts_is j in
         let two = firsts_is k in
-        let gap = firsts_apart c.all 5 (λ i q e. let low = ends_low i q e in omega (arith, low)) j k l m lt a b in
+        let gap = firsts_apart c.all 5 (λ i q e. let low = ends_low i q e in omega (arith, low, (map_facts p.map).few)) j k l m lt a b in
         omega (arith, words, one, two, gap);
   }
 
@@ -178,12 +183,12 @@ module _ (h : HomedForm) (s : StaticForm) (c : CodedForm) (code : IsCodeOf h s c
           let blocks : length g.blocks < 4294967295 = can.few in
           let sequence : IsSequenceOf (ground_for s g (homes_in h f) laid.laid) g (f == h.unit.main) laid.laid.sequence = is.sequence blocks in
           let at : FunctionIn c.words c.firsts f laid.laid = found f laid.laid laid.there in
-          let fit : Fits laid.laid (slice_index c.firsts f) = fits f laid.laid laid.there in
-          let first : 5 ≤ slice_index c.firsts f = (let grows = firsts_grow c.all 5 f laid.laid (λ i q e. let low = ends_low i q e in omega (arith, low)) laid.there in let one = firsts_is f in omega (arith, grows, one)) in
+          let fit : Fits p.map laid.laid (slice_index c.firsts f) = fits f laid.laid laid.there in
+          let first : 5 ≤ slice_index c.firsts f = (let grows = firsts_grow c.all 5 f laid.laid (λ i q e. let low = ends_low i q e in omega (arith, low, (map_facts p.map).few)) laid.there in let one = firsts_is f in omega (arith, grows, one)) in
           let ends : length laid.laid.sequence.ends ≡ length g.blocks = sequence.end_count in
           let stops : HasStops p.stops laid.laid.sequence laid.laid.layout (slice_index c.firsts f) =
           subst (λ q. HasStops q laid.laid.sequence laid.laid.layout (slice_index c.firsts f)) (sym has.stops)
-          (has_stops c.all c.firsts together f laid.laid laid.there (stops_in_blocks (ground_for s g (homes_in h f) laid.laid) g (f == h.unit.main) laid.laid.sequence sequence at.few) (omega (arith, ends, blocks))) in
+          (has_stops p.map c.all c.firsts together f laid.laid laid.there (stops_in_blocks (ground_for s g (homes_in h f) laid.laid) g (f == h.unit.main) laid.laid.sequence sequence at.few) (omega (arith, ends, blocks))) in
           let there : FunctionThere p owners laid.laid.sequence laid.laid.layout (slice_index c.firsts f) c.firsts = record {
             layout = fit.layout;
             few = at.few;
@@ -194,10 +199,11 @@ module _ (h : HomedForm) (s : StaticForm) (c : CodedForm) (code : IsCodeOf h s c
               owners = has.own ∙ ap (λ ws. map (λ (w : OwnedWord). w.owner) ws) at.words;
               begin = at.begin;
               low = fit.low;
-              functions = λ k. let one = firsts_is k in let low = firsts_low c.all 5 k (omega arith) ends_low in omega (arith, one, low);
+              functions = λ k. let one = firsts_is k in let low = firsts_low (most_words p.map) c.all 5 k (omega (arith, code_has_room p.map)) ends_low in omega (arith, one, low);
             };
             stops = stops;
             forms = can.spelled laid.laid is;
+            reach = has.reach;
             inside = λ k x at goes. omega (arith, first);
           } in
           record {

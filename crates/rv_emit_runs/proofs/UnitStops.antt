@@ -3,6 +3,8 @@ use Rattle.std.proofs.Common.{◌≡◌, ◌≢◌, ℕ, zero, suc, ◌+◌, ◌
 use Rattle.std.specs.List.{AllByRecursion}
 use Rattle.std.proofs.lemmas.Bool.{cases_eq, cases_lt, true≢false}
 use Rattle.std.proofs.lemmas.Option.{slice_get_within}
+use Rattle.memory_map.specs.declared.map.Map.{Map}
+use Rattle.memory_map.specs.Maps.{most_words}
 use Rattle.rv_machine.specs.Run.{is_stop}
 use Rattle.rv_emit_tables.specs.declared.emitted.PlacedStop.{PlacedStop}
 use Rattle.graph_core.specs.Paths.{Among}
@@ -20,27 +22,27 @@ use Rattle.rv_emit_runs.proofs.Stops.{blocks_told, block_told, no_stop_there, st
 pub use Rattle.base_laws.proofs.Lists.{all_so as all_more}
 
 -- A function has its layout and fits in the code, behind so many words.
-pub record Fits (l : LaidForm) (first : ℕ) : Type 0 where
+pub record Fits (regions : Map) (l : LaidForm) (first : ℕ) : Type 0 where
   pub layout : IsLayoutOf l.sequence l.layout
-  pub low : first + words_before l.layout.far l.sequence.pieces (length l.sequence.pieces) ≤ 262144
+  pub low : first + words_before l.layout.far l.sequence.pieces (length l.sequence.pieces) ≤ most_words regions
 
 -- ---- Each stop is that of a piece
 
-pub functions_told : (whole : List LaidForm) (firsts : List ℕ) (all : List LaidForm) (f : ℕ) → f + length all ≤ 4294967295 → ((k : ℕ) (l : LaidForm) → slice_get all k ≡ Some l → slice_get whole (f + k) ≡ Some l) → ((k : ℕ) (l : LaidForm) → slice_get all k ≡ Some l → Fits l (slice_index firsts (f + k)))
+pub functions_told : (regions : Map) (whole : List LaidForm) (firsts : List ℕ) (all : List LaidForm) (f : ℕ) → f + length all ≤ 4294967295 → ((k : ℕ) (l : LaidForm) → slice_get all k ≡ Some l → slice_get whole (f + k) ≡ Some l) → ((k : ℕ) (l : LaidForm) → slice_get all k ≡ Some l → Fits regions l (slice_index firsts (f + k)))
     → AllByRecursion (IsStopOfOne whole firsts) (stops_of_all firsts f all)
-functions_told whole firsts [] f few part fits = tt
-functions_told whole firsts (l ∷ more) f few part fits =
+functions_told regions whole firsts [] f few part fits = tt
+functions_told regions whole firsts (l ∷ more) f few part fits =
     let here : f + 0 ≡ f = omega arith in
-    let fit : Fits l (slice_index firsts f) = subst (λ j. Fits l (slice_index firsts j)) here (fits 0 l refl) in
+    let fit : Fits regions l (slice_index firsts f) = subst (λ j. Fits regions l (slice_index firsts j)) here (fits 0 l refl) in
     let next : counted (f + 1) ≡ f + 1 = omega (arith, few) in
     all_append (IsStopOfOne whole firsts) (stops_of_blocks l.sequence l.layout (slice_index firsts f) 0 (counted (length l.sequence.ends))) (stops_of_all firsts (counted (f + 1)) more)
     (all_more (IsStopOf l.sequence l.layout (slice_index firsts f)) (IsStopOfOne whole firsts)
     (λ x is. record { function = f; laid = l; there = subst (λ j. slice_get whole j ≡ Some l) here (part 0 l refl); is = is })
     (stops_of_blocks l.sequence l.layout (slice_index firsts f) 0 (counted (length l.sequence.ends)))
-    (blocks_told l.sequence l.layout (slice_index firsts f) fit.layout fit.low 0 (counted (length l.sequence.ends))))
-    (functions_told whole firsts more (counted (f + 1)) (omega (arith, few, next))
+    (blocks_told regions l.sequence l.layout (slice_index firsts f) fit.layout fit.low 0 (counted (length l.sequence.ends))))
+    (functions_told regions whole firsts more (counted (f + 1)) (omega (arith, few, next))
     (λ k m e. let shift : counted (f + 1) + k ≡ f + suc k = omega (arith, next) in subst (λ j. slice_get whole j ≡ Some m) (sym shift) (part (suc k) m e))
-    (λ k m e. let shift : counted (f + 1) + k ≡ f + suc k = omega (arith, next) in subst (λ j. Fits m (slice_index firsts j)) (sym shift) (fits (suc k) m e)))
+    (λ k m e. let shift : counted (f + 1) + k ≡ f + suc k = omega (arith, next) in subst (λ j. Fits regions m (slice_index firsts j)) (sym shift) (fits (suc k) m e)))
 
 -- ---- Each piece of a block that is a stop is told
 
@@ -69,9 +71,9 @@ words_apart far pieces i k x e lt =
     omega (arith, step, more)
 
 -- What is known of all functions: each fits, and none overlaps another.
-pub record FitTogether (all : List LaidForm) (firsts : List ℕ) : Type 0 where
+pub record FitTogether (regions : Map) (all : List LaidForm) (firsts : List ℕ) : Type 0 where
   pub few : length all ≤ 4294967295
-  pub fits : (k : ℕ) (l : LaidForm) → slice_get all k ≡ Some l → Fits l (slice_index firsts k)
+  pub fits : (k : ℕ) (l : LaidForm) → slice_get all k ≡ Some l → Fits regions l (slice_index firsts k)
   pub apart : (j k : ℕ) (l m : LaidForm) → j < k → slice_get all j ≡ Some l → slice_get all k ≡ Some m → slice_index firsts j + words_before l.layout.far l.sequence.pieces (length l.sequence.pieces) ≤ slice_index firsts k
 
 pub same_laid : (all : List LaidForm) (k : ℕ) (l m : LaidForm) → slice_get all k ≡ Some l → slice_get all k ≡ Some m → l ≡ m
@@ -81,7 +83,7 @@ same_piece : (all : List PlacedPiece) (k : ℕ) (x y : PlacedPiece) → slice_ge
 same_piece all k x y a b = (let e : Some x ≡ Some y = sym a ∙ b in cc)
 
 -- A word of a piece of a function is no first word of another one.
-module _ (all : List LaidForm) (firsts : List ℕ) (together : FitTogether all firsts) (f k : ℕ) (l : LaidForm) (x : PlacedPiece) (get : slice_get all f ≡ Some l) (at : slice_get l.sequence.pieces k ≡ Some x) where
+module _ (regions : Map) (all : List LaidForm) (firsts : List ℕ) (together : FitTogether regions all firsts) (f k : ℕ) (l : LaidForm) (x : PlacedPiece) (get : slice_get all f ≡ Some l) (at : slice_get l.sequence.pieces k ≡ Some x) where
   abbrev begins : ℕ
   begins = slice_index firsts f + words_before l.layout.far l.sequence.pieces k
 
@@ -138,39 +140,39 @@ module _ (all : List LaidForm) (firsts : List ℕ) (together : FitTogether all f
 abbrev pub StopsAreInBlocks : SequenceForm → Type 0
 StopsAreInBlocks s = (k : ℕ) (x : PlacedPiece) → slice_get s.pieces k ≡ Some x → x.is_stop ≡ true → (b : ℕ) × (b < length s.ends) × (slice_index s.labels b ≤ k) × (k < slice_index s.ends b)
 
-pub has_stops : (all : List LaidForm) (firsts : List ℕ) → FitTogether all firsts → (f : ℕ) (l : LaidForm) → slice_get all f ≡ Some l → StopsAreInBlocks l.sequence → length l.sequence.ends ≤ 4294967295
+pub has_stops : (regions : Map) (all : List LaidForm) (firsts : List ℕ) → FitTogether regions all firsts → (f : ℕ) (l : LaidForm) → slice_get all f ≡ Some l → StopsAreInBlocks l.sequence → length l.sequence.ends ≤ 4294967295
     → HasStops (map (λ (s : PlacedStop). s.address) (stops_of_all firsts 0 all)) l.sequence l.layout (slice_index firsts f)
-has_stops all firsts together f l get inside few = record {
+has_stops regions all firsts together f l get inside few = record {
   one = λ k x at. by_flag k x at x.is_stop refl;
   two = λ k x at wide.
       no_stop_there (stops_of_all firsts 0 all) (address_of (slice_index firsts f + words_before l.layout.far l.sequence.pieces k + 1))
       (all_more (IsStopOfOne all firsts) (λ (s : PlacedStop). s.address ≢ address_of (slice_index firsts f + words_before l.layout.far l.sequence.pieces k + 1))
-      (λ s of e. let own = its_own all firsts together f k l x get at 1 (omega (arith, wide)) s of e in let none : 1 ≡ 0 = own.0 in absurd (omega (arith, none))) (stops_of_all firsts 0 all) told);
+      (λ s of e. let own = its_own regions all firsts together f k l x get at 1 (omega (arith, wide)) s of e in let none : 1 ≡ 0 = own.0 in absurd (omega (arith, none))) (stops_of_all firsts 0 all) told);
 }
   where
     told : AllByRecursion (IsStopOfOne all firsts) (stops_of_all firsts 0 all)
-    told = functions_told all firsts all 0 (let some : length all ≤ 4294967295 = together.few in omega (arith, some))
+    told = functions_told regions all firsts all 0 (let some : length all ≤ 4294967295 = together.few in omega (arith, some))
         (λ k m e. let here : k ≡ 0 + k = omega arith in subst (λ j. slice_get all j ≡ Some m) here e)
-        (λ k m e. let here : k ≡ 0 + k = omega arith in subst (λ j. Fits m (slice_index firsts j)) here (together.fits k m e))
+        (λ k m e. let here : k ≡ 0 + k = omega arith in subst (λ j. Fits regions m (slice_index firsts j)) here (together.fits k m e))
 
     same_number : (n : ℕ) → n ≡ 0 + n
     same_number n = omega arith
 
     by_flag : (k : ℕ) (x : PlacedPiece) → slice_get l.sequence.pieces k ≡ Some x → (b : Bool) → x.is_stop ≡ b → is_stop (map (λ (s : PlacedStop). s.address) (stops_of_all firsts 0 all)) (address_of (slice_index firsts f + words_before l.layout.far l.sequence.pieces k)) ≡ x.is_stop
     by_flag k x at true flag =
-        let fit : Fits l (slice_index firsts f) = together.fits f l get in
+        let fit : Fits regions l (slice_index firsts f) = together.fits f l get in
         let block = inside k x at flag in
         let low : block.0 < length l.sequence.ends = block.1 in
         stop_there (stops_of_all firsts 0 all) (record { place = x.owner; address = piece_address l.layout (slice_index firsts f) k }) (address_of (slice_index firsts f + words_before l.layout.far l.sequence.pieces k))
         (function_told firsts all 0 (let some : length all ≤ 4294967295 = together.few in omega (arith, some)) f l (record { place = x.owner; address = piece_address l.layout (slice_index firsts f) k }) get
         (subst (λ m. Among (record { place = x.owner; address = piece_address l.layout (slice_index firsts f) k }) (stops_of_blocks l.sequence l.layout (slice_index firsts m) 0 (counted (length l.sequence.ends)))) (same_number f)
-        (block_told l.sequence l.layout (slice_index firsts f) fit.layout fit.low 0 (counted (length l.sequence.ends)) block.0 k x at flag (omega arith) (omega (arith, low, few)) block.2 block.3)))
-        (address_is l.sequence l.layout (slice_index firsts f) fit.layout fit.low k x at) ∙ sym flag
+        (block_told regions l.sequence l.layout (slice_index firsts f) fit.layout fit.low 0 (counted (length l.sequence.ends)) block.0 k x at flag (omega arith) (omega (arith, low, few)) block.2 block.3)))
+        (address_is regions l.sequence l.layout (slice_index firsts f) fit.layout fit.low k x at) ∙ sym flag
     by_flag k x at false flag =
         no_stop_there (stops_of_all firsts 0 all) (address_of (slice_index firsts f + words_before l.layout.far l.sequence.pieces k))
         (all_more (IsStopOfOne all firsts) (λ (s : PlacedStop). s.address ≢ address_of (slice_index firsts f + words_before l.layout.far l.sequence.pieces k))
         (λ s of e.
         let here : s.address ≡ address_of (slice_index firsts f + words_before l.layout.far l.sequence.pieces k + 0) = e ∙ (omega arith) in
-        let own = its_own all firsts together f k l x get at 0 (width_some (get_or l.layout.far k false) x.piece) s of here in
+        let own = its_own regions all firsts together f k l x get at 0 (width_some (get_or l.layout.far k false) x.piece) s of here in
         absurd (true≢false (sym own.1 ∙ flag)))
         (stops_of_all firsts 0 all) told) ∙ sym flag

@@ -80,7 +80,7 @@ module _ (h : HomedForm) (valid : IsValid h.unit) (homed : HaveHomes h) (e : Emi
   comes_by_all input bytes n =
       let start = comes_to_first h valid homed e code input bytes in
       let c : Configuration = first h valid homed e code input bytes in
-      let s : State = started e.code e.initial input in
+      let s : State = started e.map e.code e.initial input in
       let R = SameSeen h e code.arrangement in
       let events_from : Comes R (seen (over_homes h) n c) (events (program_in h e code).stops (record { state = s; shown = false })) =
       comes_later R start.count (seen (over_homes h) n c) (events (program_in h e code).stops (record { state = s; shown = false })) (events (program_in h e code).stops start.point) start.leads.by (all_comes n c start.point start.related) in
@@ -94,4 +94,4 @@ module _ (h : HomedForm) (valid : IsValid h.unit) (homed : HaveHomes h) (e : Emi
 
   -- As far as both go, whatever their bounds.
   pub agrees_throughout : AgreesThroughout h e code.arrangement
-  agrees_throughout input bytes n limit = comes_agree (SameSeen h e code.arrangement) (seen_run (over_homes h) input n) (emitted_run e input) (comes_by_all input bytes n) (run_grows (stop_addresses e) (started e.code e.initial input)) limit
+  agrees_throughout input bytes n limit = comes_agree (SameSeen h e code.arrangement) (seen_run (over_homes h) input n) (emitted_run e input) (comes_by_all input bytes n) (run_grows (stop_addresses e) (started e.map e.code e.initial input)) limit

@@ -5,6 +5,8 @@ use Rattle.std.specs.List.{AllByRecursion}
 use Rattle.std.proofs.lemmas.Bool.{cases_eq, cases_lt, le-leb}
 use Rattle.std.proofs.lemmas.List.{length-append, length-map, length-replicate}
 use Rattle.std.proofs.lemmas.Option.{none-some, same_Some, slice_get_within}
+use Rattle.rv_emit_runs.proofs.Maps.{emitted_in_reach}
+use Rattle.memory_map.specs.Maps.{most_words}
 use Rattle.rv_code.specs.declared.instruction.Instruction.{Instruction as MachineInstruction}
 use Rattle.graph_core.specs.Graphs.{Block, Graph, Instruction}
 use Rattle.graph_core.specs.Paths.{Among, front, behind}
@@ -27,7 +29,7 @@ use Rattle.rv_emit_runs.proofs.Appended.{BothPlaced, both_placed, marked_there}
 use Rattle.rv_emit_code.specs.Ends.{words}
 use Rattle.rv_emit_code.specs.Leaving.{words_of_moving}
 use Rattle.rv_emit_sequence.specs.Sequences.{AreLabelled, AreOnce, Ground, IsSequenceOf, IsStanding, SequenceForm, Standing, all_pieces, counted, first_pieces, last_pieces, numbers_from, standing_code, standing_pieces}
-use Rattle.rv_emit_layout.specs.Layouts.{LayoutForm, label_at, width, words_before, IsLayoutOf}
+use Rattle.rv_emit_layout.specs.Layouts.{LayoutForm, label_at, width, words_before, IsLayoutOf, most_pieces}
 use Rattle.rv_emit_layout.specs.Tracing.{piece_address, with_writers}
 use Rattle.rv_emit_runs.specs.Laid.{Arrangement, code_of, graph_at, program_of, IsInWords}
 use Rattle.rv_emit_runs.proofs.Frames.{graph_is, graph_there}
@@ -262,7 +264,7 @@ module _ (p : Program) (owners : List ℕ) (g : Ground) (f : Graph) (is_main : B
         let joint = length-append ahead w.inner in
         let total = ap (λ (q : List PlacedPiece). length q) pieces in
         let counts = length-append ahead ((w.inner ++ mine) ++ back) in
-        let most : length s.pieces ≤ 262144 = there.few in
+        let most : length s.pieces ≤ most_pieces = there.few in
         let begin : s.begin ≡ counted (length (first_pieces g f is_main)) = sequence.begin in
         let some : 1 ≤ length w.code = writing_some g.storage (home_at g.storage x) w.code w.writes in
         let others : AreOthers wanted back = all_append (λ (z : PlacedPiece). z.writes ≢ Some wanted) w.back (last_pieces g) w.other (others_by wanted 0 0 (last_pieces g) (inr (omega arith)) (last_untold g.storage g.entry (words_of_moving g.size) g.saved g.size)) in
@@ -299,15 +301,15 @@ module _ (p : Program) (owners : List ℕ) (g : Ground) (f : Graph) (is_main : B
 
 -- ---- All of them
 
-module _ (h : HomedForm) (valid : IsValid h.unit) (homed : HaveHomes h) (e : EmittedForm) (emitted : IsEmittedOf h e) (short : length e.code ≤ 262144) (words_in : AllByRecursion IsInWords h.unit.graphs) (countable : AreCountable h) where
+module _ (h : HomedForm) (valid : IsValid h.unit) (homed : HaveHomes h) (e : EmittedForm) (emitted : IsEmittedOf h e) (short : length e.code ≤ most_words e.map) (words_in : AllByRecursion IsInWords h.unit.graphs) (countable : AreCountable h) where
   abbrev a : Arrangement
-  a = arranged emitted.coded
+  a = arranged emitted.statics emitted.coded
 
   abbrev p : Program
   p = program_of e short
 
   has : HasCode p e.owners emitted.coded
-  has = record { words = emitted.words; own = emitted.owners; stops = ap (λ l. map (λ (x : PlacedStop). x.address) l) emitted.stops }
+  has = record { reach = emitted_in_reach h e emitted; words = emitted.words; own = emitted.owners; stops = ap (λ l. map (λ (x : PlacedStop). x.address) l) emitted.stops }
 
   few : length h.unit.graphs ≤ 4294967295
   few = let functions : length h.unit.graphs ≤ 256 = valid.functions in omega (arith, functions)
@@ -363,5 +365,5 @@ module _ (h : HomedForm) (valid : IsValid h.unit) (homed : HaveHomes h) (e : Emi
       subst (λ (q : Graph). IsToldWriter h a e code f l (instructions_before q.blocks l + length before) (place_behind before b.place) (home_of h f x)) same
       (writer f low code told l b (ap (λ (q : Graph). slice_get q.blocks l) same ∙ block) before more i x parts target)
 
-pub tells_writers : (h : HomedForm) → IsValid h.unit → HaveHomes h → (e : EmittedForm) → (emitted : IsEmittedOf h e) → length e.code ≤ 262144 → AllByRecursion IsInWords h.unit.graphs → AreCountable h → TellWriters h (arranged emitted.coded) e
+pub tells_writers : (h : HomedForm) → IsValid h.unit → HaveHomes h → (e : EmittedForm) → (emitted : IsEmittedOf h e) → length e.code ≤ most_words e.map → AllByRecursion IsInWords h.unit.graphs → AreCountable h → TellWriters h (arranged emitted.statics emitted.coded) e
 tells_writers h valid homed e emitted short words_in countable f g code is told l b block before more i x parts target = emitted_writers h valid homed e emitted short words_in countable f g code is told l b block before more i x parts target

@@ -1,6 +1,8 @@
 -- A function as its words stand in the code of the machine.
 use Rattle.std.specs.Prelude.{◌≡◌, ℕ, ◌+◌, ◌≤◌, false, Some, List, ◌++◌, length, map, slice_get, slice_index, get_or}
 use Rattle.std.specs.List.{AllByRecursion}
+use Rattle.memory_map.specs.Maps.{most_words}
+use Rattle.memory_map.specs.declared.map.Map.{Map}
 use Rattle.rv_code.specs.InForm.{IsInForm, IsRegister}
 use Rattle.rv_machine.specs.Run.{is_stop}
 use Rattle.rv_emit_words.specs.declared.piece.Piece.{Piece}
@@ -23,14 +25,14 @@ abbrev pub AreSpelled : List PlacedPiece → Type 0
 AreSpelled pieces = AllByRecursion (λ (x : PlacedPiece). IsSpelled x.piece) pieces
 
 -- The words of a function stand among those of the code, behind so many others, and belong to places as its pieces do.
-pub record StandsIn (all own : List ℕ) (s : SequenceForm) (l : LayoutForm) (first : ℕ) (firsts : List ℕ) : Type 0 where
+pub record StandsIn (regions : Map) (all own : List ℕ) (s : SequenceForm) (l : LayoutForm) (first : ℕ) (firsts : List ℕ) : Type 0 where
   pub before : List OwnedWord
   pub behind : List OwnedWord
   pub words : all ≡ map (λ (w : OwnedWord). w.word) (before ++ (function_words s l first firsts ++ behind))
   pub owners : own ≡ map (λ (w : OwnedWord). w.owner) (before ++ (function_words s l first firsts ++ behind))
   pub begin : length before ≡ first
-  pub low : first + words_before l.far s.pieces (length s.pieces) ≤ 262144
-  pub functions : (f : ℕ) → slice_index firsts f ≤ 262144
+  pub low : first + words_before l.far s.pieces (length s.pieces) ≤ most_words regions
+  pub functions : (f : ℕ) → slice_index firsts f ≤ most_words regions
 
 -- There is a stop at the first word of each piece that is one, and at no other word of the function.
 pub record HasStops (stops : List ℕ) (s : SequenceForm) (l : LayoutForm) (first : ℕ) : Type 0 where

@@ -2,7 +2,7 @@
 use Rattle.std.specs.Prelude.{◌≡◌, ℕ, ◌-◌, ◌<◌, ◌≤◌, ◌==◌, Some, None, List, [], ◌++◌, length, map, take, drop, slice_get, slice_index}
 use Rattle.std.specs.Option.{option_map_or}
 use Rattle.std.specs.List.{AllByRecursion}
-use Rattle.rv_machine.specs.State.{bytes_size, stack_size}
+use Rattle.memory_map.specs.Maps.{bytes_size, most_words, stack_size}
 use Rattle.rv_machine.specs.Table.{zeros}
 use Rattle.graph_core.specs.Graphs.{Instruction, Marker, Note, Move, Operate, Truncate, Same, Address, Load, Store, Zero, CopyWords, Call, End, Jump, Branch, Return, Block, Graph, UnitForm}
 use Rattle.graph_core.specs.Paths.{Among}
@@ -14,6 +14,7 @@ use Rattle.rv_emit_tables.specs.declared.emitted.PlacedStop.{PlacedStop}
 use Rattle.rv_emit_tables.specs.Emitted.{EmittedForm}
 use Rattle.rv_emit_words.specs.declared.piece.Held.{Held}
 use Rattle.rv_emit_storage.specs.Storages.{StorageForm}
+use Rattle.rv_emit_storage.specs.UnitMaps.{map_of_unit}
 use Rattle.rv_emit_steps.specs.Holding.{memory_of}
 use Rattle.rv_emit_steps.specs.Programs.{Program, address_of}
 use Rattle.rv_emit_steps.specs.Frames.{IsWord, IsWordIn}
@@ -72,8 +73,8 @@ abbrev pub stop_addresses : EmittedForm → List ℕ
 stop_addresses e = map (λ (s : PlacedStop). s.address) e.stops
 
 -- the code as it lies in memory
-abbrev pub program_of : (e : EmittedForm) → length e.code ≤ 262144 → Program
-program_of e short = record { words = e.code; stops = stop_addresses e; short = short }
+abbrev pub program_of : (e : EmittedForm) → length e.code ≤ most_words e.map → Program
+program_of e short = record { words = e.code; stops = stop_addresses e; map = e.map; short = short }
 
 -- where labels of a function and functions stand, and whose the words are
 abbrev pub targets_in : EmittedForm → Arrangement → (function : ℕ) → Targets
@@ -81,7 +82,7 @@ targets_in e a f = record { label = a.label f; function = a.function; owner = λ
 
 -- the byte at each address as a run begins: static memory begins with the initial bytes, and all else is zero
 abbrev pub first_bytes : EmittedForm → (address : ℕ) → ℕ
-first_bytes e = memory_of (e.initial ++ zeros (bytes_size - length e.initial)) (zeros stack_size)
+first_bytes e = memory_of e.map (e.initial ++ zeros (bytes_size - length e.initial)) (zeros stack_size)
 
 -- ---- Where it stands
 
@@ -145,21 +146,22 @@ pub record IsInWords (g : Graph) : Type 0 where
 
 -- ---- The code of a unit
 
--- A unit with homes has this code: its parts stand where they are to stand, as they are made; each stop is the first word of its place; static memory begins with the initial bytes of the unit; and
+-- A unit with homes has this code: its memory is the unit's; its parts stand where they are to stand, as they are made; each stop is the first word of its place; static memory begins with the initial bytes of the unit; and
 -- the unit's numbers are in range.
 pub record IsCode (h : HomedForm) (e : EmittedForm) : Type 0 where
   pub arrangement : Arrangement
-  pub short : length e.code ≤ 262144
-  pub inside : (f : ℕ) → AreInCode (targets_in e arrangement f)
+  pub map : e.map ≡ map_of_unit h.unit
+  pub short : length e.code ≤ most_words e.map
+  pub inside : (f : ℕ) → AreInCode e.map (targets_in e arrangement f)
   -- what stands before all functions
-  pub stub : PlacedAt (program_of e short) (targets_in e arrangement h.unit.main) 0 (with_stub h.unit.main (no_code 0 [])).pieces 5
+  pub stub : PlacedAt (program_of e short) (targets_in e arrangement h.unit.main) 0 (with_stub e.map h.unit.main (no_code 0 [])).pieces 5
   pub functions : (f : ℕ) → f < length h.unit.graphs → IsFunctionAt h arrangement (program_of e short) (targets_in e arrangement f) f
   -- a stop is the first word of its place
   pub stops : (s : PlacedStop) → Among s e.stops → (index : ℕ) × (s.address ≡ address_of index) × (slice_index e.owners index ≡ s.place)
   -- constants and the initial bytes are in range
   pub words : AllByRecursion IsInWords h.unit.graphs
   pub bytes : AllByRecursion (λ b. b < 256) e.initial
-  pub few_bytes : length e.initial ≤ 1048576
+  pub few_bytes : length e.initial ≤ bytes_size
   pub base : arrangement.base < 4294967296
   -- static memory begins with the unit's initial bytes
   pub initial : e.initial ≡ initial_bytes h.unit

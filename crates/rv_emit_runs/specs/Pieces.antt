@@ -1,5 +1,7 @@
 -- Where pieces of code stand in the code of the machine.
 use Rattle.std.specs.Prelude.{◌≡◌, ℕ, ◌+◌, ◌≤◌, ◌⊎◌, Bool, false, List, [], ◌∷◌}
+use Rattle.memory_map.specs.Maps.{most_words}
+use Rattle.memory_map.specs.declared.map.Map.{Map}
 use Rattle.rv_code.specs.declared.instruction.Instruction.TheVariants as instruction
 use Rattle.rv_code.specs.declared.instruction.BranchOperation.{BranchOperation}
 use Rattle.rv_emit_words.specs.declared.piece.Piece.{Piece}
@@ -14,9 +16,9 @@ pub record Targets : Type 0 where
   pub owner : ℕ → ℕ
 
 -- They stand in the code or directly behind it.
-pub record AreInCode (t : Targets) : Type 0 where
-  pub labels : (l : ℕ) → t.label l ≤ 262144
-  pub functions : (f : ℕ) → t.function f ≤ 262144
+pub record AreInCode (regions : Map) (t : Targets) : Type 0 where
+  pub labels : (l : ℕ) → t.label l ≤ most_words regions
+  pub functions : (f : ℕ) → t.function f ≤ most_words regions
 
 -- A branch in one word, which goes to its label.
 abbrev pub IsNear : Program → Targets → (index : ℕ) → (stops : Bool) → BranchOperation → (left right to behind : ℕ) → Type 0

@@ -13,7 +13,7 @@ use Rattle.rv_emit_runs.specs.Standing.{SameSeen}
 
 -- The run of the machine over the code: its events in at most so many instructions.
 abbrev pub emitted_run : EmittedForm → (input : List ℕ) → (limit : ℕ) → List MachineEvent
-emitted_run e input limit = run (stop_addresses e) limit (started e.code e.initial input)
+emitted_run e input limit = run (stop_addresses e) limit (started e.map e.code e.initial input)
 
 -- On each input of bytes, and for each number of steps of the unit, the machine comes by all that is seen of the unit over homes, event by event and in order. What is seen of the unit ends
 -- before a wild step, so nothing is asked behind that.

@@ -1,6 +1,7 @@
 -- What the machine holds of activations that wait: the frames above the innermost one, as their code finds them again.
 use Rattle.std.specs.Prelude.{◌≡◌, ℕ, ◌+◌, ◌*◌, ◌%◌, ◌≤◌, ◌<◌, ◌⊎◌, ◌≢◌, true, Some, List, [], ◌∷◌, length, slice_get}
 use Rattle.std.specs.List.{AllByRecursion}
+use Rattle.memory_map.specs.Maps.{bytes_end, most_words, stack_end}
 use Rattle.graph_core.specs.Graphs.{Graph, UnitForm}
 use Rattle.graph_core.specs.declared.graph.MemoryObject.{MemoryObject}
 use Rattle.graph_core.specs.Values.{size_of}
@@ -9,6 +10,7 @@ use Rattle.graph_core.specs.Runs.{Activation, Configuration}
 use Rattle.graph_homes.specs.Homed.{IsHomeRegister}
 use Rattle.rv_emit_words.specs.declared.piece.Held.{Held}
 use Rattle.rv_emit_storage.specs.Storages.{StorageForm, object_at}
+use Rattle.rv_emit_storage.specs.UnitMaps.{map_of_unit}
 use Rattle.rv_emit_steps.specs.Holding.{Holding, with_register, word_at}
 use Rattle.rv_emit_steps.specs.Programs.{address_of}
 use Rattle.rv_emit_steps.specs.Frames.{Setting, IsStorage, HoldsFrame}
@@ -63,17 +65,17 @@ behind_frame f h = record h { registers = with_register 2 (h.registers 2 + f.siz
 -- lie in static memory, or above the inner one's frame.
 pub record Waits (codes : ℕ → FunctionCode) (u : UnitForm) (addresses : ℕ → ℕ) (resumes : Activation → ℕ → Type 0) (memory : Memory) (input : List ℕ) (f : FunctionCode) (first : ℕ) (h : Holding) (a : Activation) (waiting : List Activation) : Type 0 where
   pub index : ℕ
-  pub low : index ≤ 262144
+  pub low : index ≤ most_words (map_of_unit u)
   pub returns : word_at h.memory (h.registers 2) ≡ address_of index
   pub code : resumes a index
   pub frame : HoldsFrame (setting_of u addresses [] (codes a.function)) (record { memory = memory; input = input; here = a; waiting = waiting }) (behind_frame f h)
-  pub room : 33554432 ≤ h.registers 2 + f.size + 16384 * (length waiting + 1)
+  pub room : stack_end (map_of_unit u) ≤ h.registers 2 + f.size + 16384 * (length waiting + 1)
   pub objects : a.first_object + length (codes a.function).graph.objects ≤ length memory
-  pub below : (n : ℕ) (o : Object) → n < first → slice_get memory n ≡ Some o → o.live ≡ true → (addresses n + bytes_of o ≤ 5242880) ⊎ (h.registers 2 + f.size ≤ addresses n)
+  pub below : (n : ℕ) (o : Object) → n < first → slice_get memory n ≡ Some o → o.live ≡ true → (addresses n + bytes_of o ≤ bytes_end (map_of_unit u)) ⊎ (h.registers 2 + f.size ≤ addresses n)
 
 -- All of them, from the innermost on. The outermost activation is that of main, which lies at the top of the stack and returns to the word behind its call.
 abbrev pub HoldsWaiting : (codes : ℕ → FunctionCode) → UnitForm → (addresses : ℕ → ℕ) → (resumes : Activation → ℕ → Type 0) → Memory → (input : List ℕ) → FunctionCode → (first : ℕ) → Holding → List Activation → Type 0
-HoldsWaiting codes u addresses resumes memory input f first h [] = (word_at h.memory (h.registers 2) ≡ address_of 3) × (h.registers 2 + f.size ≡ 33554432)
+HoldsWaiting codes u addresses resumes memory input f first h [] = (word_at h.memory (h.registers 2) ≡ address_of 3) × (h.registers 2 + f.size ≡ stack_end (map_of_unit u))
 HoldsWaiting codes u addresses resumes memory input f first h (a ∷ waiting) =
     Waits codes u addresses resumes memory input f first h a waiting × HoldsWaiting codes u addresses resumes memory input (codes a.function) a.first_object (behind_frame f h) waiting
 
@@ -83,7 +85,7 @@ pub record HoldsAll (codes : ℕ → FunctionCode) (u : UnitForm) (addresses : �
   pub here : HoldsFrame (setting_of u addresses held (codes c.here.function)) c h
   pub waiting : HoldsWaiting codes u addresses resumes c.memory c.input (codes c.here.function) c.here.first_object h c.waiting
   pub depth : h.registers 4 + (length c.waiting + 1) ≡ 1024
-  pub room : 33554432 ≤ h.registers 2 + 16384 * (length c.waiting + 1)
+  pub room : stack_end (map_of_unit u) ≤ h.registers 2 + 16384 * (length c.waiting + 1)
   pub objects : c.here.first_object + length (codes c.here.function).graph.objects ≤ length c.memory
   pub input : h.input ≡ c.input
-  pub below : (n : ℕ) (o : Object) → slice_get c.memory n ≡ Some o → o.live ≡ true → (addresses n + bytes_of o ≤ 5242880) ⊎ (h.registers 2 ≤ addresses n)
+  pub below : (n : ℕ) (o : Object) → slice_get c.memory n ≡ Some o → o.live ≡ true → (addresses n + bytes_of o ≤ bytes_end (map_of_unit u)) ⊎ (h.registers 2 ≤ addresses n)

@@ -23,6 +23,7 @@ returns-clause-code c =
     let u = unit_view c.args.homed.now.unit in
     let fits = statics_fit u c.requires.valid in
     record {
+      map = c.map_of_unit.ensures;
       statics = static_view c.in_ok-statics.statics;
       coded = coded_view c.in_ok-coded.coded;
       code = c.in_ok-coded.ensures.code;
@@ -33,7 +34,7 @@ returns-clause-code c =
           ∙ ap (λ fs. told_of_all u.graphs fs 0 (map laid_view c.deref-2.result.now)) c.deref-3.ensures.value
           ∙ ap (λ all. told_of_all u.graphs c.in_ok-coded.coded.firsts.items 0 (map laid_view all)) c.deref-2.ensures.value;
       objects = refl;
-      addresses = record { objects = c.in_ok-statics.ensures.objects fits; arrays = c.in_ok-statics.ensures.arrays fits };
+      addresses = record { objects = c.in_ok-statics.ensures.objects fits; arrays = c.in_ok-statics.ensures.arrays fits; base = c.in_ok-statics.ensures.base };
       initial = c.in_ok-initial_bytes.ensures.exact fits (c.in_ok-statics.ensures.objects fits) c.requires.valid.relocations;
       bytes = c.in_ok-initial_bytes.ensures.bytes;
     }
