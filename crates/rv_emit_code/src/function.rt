@@ -154,7 +154,8 @@ pub fn begin_of_function(
     Ok(code.pieces)
 }
 
-/// The code before all functions in such a memory: it calls `main`, which has this number, and ends the run with its result.
+/// The code before all functions, over these regions of memory: it calls `main`, which has this number, and ends the
+/// run with its result.
 #[tactic(auto, using(crate::proofs::Stops::no_stops))]
 pub fn stub(alloc: Global, regions: Map, main: u32) -> Result<Vec<PlacedPiece>, AllocError>
     ensures few { IfOk result (λ pieces. words_in pieces.items ≤ 5) }

@@ -3,7 +3,8 @@ use Rattle.std.proofs.Common.{◌≡◌, ◌≤◌, ℕ, ◌+◌, List, [], ◌�
 use Rattle.graph_core.specs.Graphs.{UnitForm}
 use Rattle.graph_core.specs.Memory.{static_bytes}
 use Rattle.graph_core.specs.Validity.{IsValid, taken_by, total}
-use Rattle.graph_homes.specs.Statics.{statics_start}
+use Rattle.memory_map.proofs.Facts.{map_facts}
+use Rattle.rv_emit_storage.specs.UnitMaps.{map_of_unit}
 use Rattle.rv_emit_storage.specs.Placed.{FitsStatics}
 
 total_append : (xs ys : List ℕ) → total taken_by (xs ++ ys) ≡ total taken_by xs + total taken_by ys
@@ -15,7 +16,6 @@ total_map size [] = omega arith
 total_map size (x ∷ xs) = omega (arith, total_map size xs)
 
 pub statics_fit : (u : UnitForm) → IsValid u → FitsStatics u
-unfolding statics_start
 statics_fit u v =
     let few : total (λ o. taken_by (static_bytes o)) u.statics + total (λ (b : List ℕ). taken_by (length b)) u.array_bytes ≤ 1048576 = v.statics in
-    omega (arith, few, total_append (map static_bytes u.statics) (map (λ (b : List ℕ). length b) u.array_bytes), total_map static_bytes u.statics, total_map (λ (b : List ℕ). length b) u.array_bytes)
+    omega (arith, few, total_append (map static_bytes u.statics) (map (λ (b : List ℕ). length b) u.array_bytes), total_map static_bytes u.statics, total_map (λ (b : List ℕ). length b) u.array_bytes, (map_facts (map_of_unit u)).apart, (map_facts (map_of_unit u)).whole)

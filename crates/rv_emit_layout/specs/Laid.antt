@@ -143,7 +143,7 @@ pub record IsCodeOf (h : HomedForm) (s : StaticForm) (c : CodedForm) : Type 0 wh
 
 -- What is emitted is such code: its words, their owners, its stops, and what is told of its functions. Its memory is the unit's. Static memory begins with the unit's initial bytes, which are bytes, and what lies there has its addresses.
 pub record IsEmittedOf (h : HomedForm) (e : EmittedForm) : Type 0 where
-  pub map : e.map ≡ map_of_unit h.unit
+  pub regions : e.map ≡ map_of_unit h.unit
   pub statics : StaticForm
   pub coded : CodedForm
   pub code : IsCodeOf h statics coded

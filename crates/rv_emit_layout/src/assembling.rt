@@ -90,7 +90,8 @@ fn code_of(
 ) -> Result<Coded, AllocError>
     requires valid { IsValid (homed_view homed.now).unit }
     ensures each { IfOk result (λ c. length c.all.items ≡ length homed.now.unit.graphs.items) }
-    ensures few { is_planned ≡ false → IfOk result (λ c. length c.words.items ≤ most_words (map_of_unit (homed_view homed.now).unit)) }
+    ensures few { is_planned ≡ false
+        → IfOk result (λ c. length c.words.items ≤ most_words (map_of_unit (homed_view homed.now).unit)) }
     ensures code { IfOk result (λ c. IsCodeOf (homed_view homed.now) (static_view statics.now) (coded_view c)) }
 {
     let before = stub_sequence(alloc, map_of_unit(&homed.unit), homed.unit.main)?;

@@ -143,7 +143,8 @@ fn shortened(alloc: Global, sequence: &Sequence) -> Result<Layout, AllocError>
 /// Where the pieces of a function stand, each branch of one word near enough to where it leads.
 pub fn layout_of(alloc: Global, sequence: &Sequence) -> Result<Layout, AllocError>
     ensures exact { IfOk result (λ layout. layout_view layout ≡ layout_of (sequence_view sequence.now)) }
-    ensures layout { IfOk result (λ layout. length sequence.now.pieces.items ≤ most_pieces → IsLayoutOf (sequence_view sequence.now) (layout_view layout)) }
+    ensures layout { IfOk result (λ layout. length sequence.now.pieces.items ≤ most_pieces
+        → IsLayoutOf (sequence_view sequence.now) (layout_view layout)) }
 {
     let layout = shortened(alloc, sequence)?;
     Ok(layout)

@@ -1,7 +1,6 @@
 -- The code with which a function begins makes its frame, in which its objects lie, and binds its parameters; what waits stands as it stood.
 use Rattle.std.proofs.Common.{◌≡◌, ◌≢◌, ℕ, ◌+◌, ◌-◌, ◌*◌, ◌%◌, ◌<◌, ◌≤◌, ◌⊎◌, ⊎_elim, inl, inr, sym, ap, ◌∙◌, subst, arith, refl, Option, Some, None, Bool, true, false, cond, List, [], ◌∷◌, ◌++◌, length, length-append, map, slice_get, slice_index}
 use Rattle.std.proofs.lemmas.Bool.{le-ltb}
-use Rattle.rv_emit_runs.proofs.Maps.{regions_kept}
 use Rattle.rv_emit_storage.specs.UnitMaps.{map_of_unit}
 use Rattle.memory_map.proofs.Facts.{map_facts}
 use Rattle.memory_map.specs.declared.map.Map.{Map}
@@ -20,7 +19,7 @@ use Rattle.rv_emit_storage.specs.Storages.{home_at, object_at, array_bytes_at}
 use Rattle.rv_emit_steps.specs.Holding.{Holding, word_at}
 use Rattle.rv_emit_steps.specs.Doing.{done_by_all, CanDoAll}
 use Rattle.rv_emit_steps.specs.Programs.{address_of}
-use Rattle.rv_emit_steps.proofs.Placing.{done_by_both, can_do_both}
+use Rattle.rv_emit_steps.proofs.Placing.{done_by_both, can_do_both, regions_stay}
 use Rattle.rv_emit_steps.specs.EmitMovesDoing.{Brings}
 use Rattle.rv_emit_steps.specs.Meaning.{Means, HoldsObjects}
 use Rattle.rv_emit_steps.specs.Frames.{Setting, HasArray, HoldsFrame}
@@ -279,7 +278,7 @@ module _ (codes : ℕ → FunctionCode) (u : UnitForm) (valid : (k : ℕ) → Is
     t4 = done_by_all (base_code is_main (codes function).storage.base) t
 
     frame4 : HoldsFrame w (bare graph block wanted) t4
-    frame4 = frame_found w (bare graph block wanted) t t4 [] (sets.kept 0 (λ e. cc) (λ e. cc)) (sets.kept 2 (λ e. cc) (λ e. cc)) (sets.value ∙ sym framed.fetch.gp) (λ r is. sets.kept r (λ e. low_no_home 3 r (omega arith) is (sym e)) (home_no_scratch r is).1) (regions_kept (base_code is_main (codes function).storage.base) t) sets.memory tt tt framed
+    frame4 = frame_found w (bare graph block wanted) t t4 [] (sets.kept 0 (λ e. cc) (λ e. cc)) (sets.kept 2 (λ e. cc) (λ e. cc)) (sets.value ∙ sym framed.fetch.gp) (λ r is. sets.kept r (λ e. low_no_home 3 r (omega arith) is (sym e)) (home_no_scratch r is).1) (regions_stay (base_code is_main (codes function).storage.base) t) sets.memory tt tt framed
 
     given4 : AreGiven now memory t4 0 vs
     given4 = given_grown (map_of_unit u) addresses now c.memory memory (t.registers 2 + (codes function).size) h t4 0 vs (omega (arith, many, few)) grown

@@ -3,9 +3,7 @@ use Rattle.std.proofs.Common.{◌≡◌, ◌≢◌, ℕ, ◌+◌, ◌<◌, ◌�
 use Rattle.std.specs.Prelude.{◌==◌, option_map, option_and_then}
 use Rattle.std.specs.List.{AllByRecursion}
 use Rattle.std.proofs.lemmas.Bool.{eqb-true, eq-eqb, ne_eqb, cases_lt}
-use Rattle.rv_emit_runs.proofs.Maps.{regions_kept}
 use Rattle.rv_emit_storage.specs.UnitMaps.{map_of_unit}
-use Rattle.memory_map.proofs.Facts.{map_facts}
 use Rattle.memory_map.specs.Maps.{most_words}
 use Rattle.rv_code.specs.declared.instruction.Instruction.{Instruction as MachineInstruction}
 use Rattle.rv_code.specs.declared.instruction.Instruction.TheVariants as instruction
@@ -28,7 +26,7 @@ use Rattle.rv_emit_steps.specs.Programs.{Program, address_of, distance, IsAt, Co
 use Rattle.rv_emit_steps.specs.Points.{Reaches}
 use Rattle.rv_emit_steps.proofs.Calling.{ends_too_deep}
 use Rattle.rv_emit_steps.proofs.Jumping.{distance_leads, jump_does, branch_taken, branch_not_taken}
-use Rattle.rv_emit_steps.proofs.Placing.{reaches_then, reaches_end}
+use Rattle.rv_emit_steps.proofs.Placing.{reaches_then, reaches_end, regions_stay}
 use Rattle.rv_emit_steps.proofs.Registers.{register_other}
 use Rattle.rv_emit_steps.proofs.Standing.{index_low}
 use Rattle.rv_emit_steps.proofs.Straight.{code_does}
@@ -108,7 +106,7 @@ module _ (codes : ℕ → FunctionCode) (u : UnitForm) (valid : (k : ℕ) → Is
   abbrev t1 : Holding
   t1 = writing 1 (address_of (i + length (passing_code (codes c.here.function).storage 0 held arguments) + 1)) t0
 
-  at_low : at < most_words p.map
+  at_low : at < 1000000000
   at_low = index_low p at false (instruction.Branch Bne 4 0 12) begin.0
 
   -- The machine where the function begins.
@@ -117,7 +115,7 @@ module _ (codes : ℕ → FunctionCode) (u : UnitForm) (valid : (k : ℕ) → Is
       let first = code_does p s i h b passing stands code pass.can in
       let low = index_low p k (behind b passing) (instruction.Jal 1 (distance k at)) jump in
       reaches_then p (length passing) 1 (record { state = s; shown = b }) [] k (behind b passing) t0 [] at false t1 first
-      (jump_does p first.state k t0 at (behind b passing) 1 (distance k at) first.stands jump (distance_leads p.map k at low (let lt = at_low in omega (arith, lt))))
+      (jump_does p first.state k t0 at (behind b passing) 1 (distance k at) first.stands jump (distance_leads k at low (let lt = at_low in omega (arith, lt))))
 
   low_found : (q : ℕ) → q ≤ 4 → q ≢ 1 → t1.registers q ≡ h.registers q
   low_found q le n1 = register_other 1 (address_of (k + 1)) q t0.registers n1 ∙ pass.kept q (λ e. omega (arith, le, e)) (inl (omega (arith, le)))
@@ -126,7 +124,7 @@ module _ (codes : ℕ → FunctionCode) (u : UnitForm) (valid : (k : ℕ) → Is
   home_found r is = register_other 1 (address_of (k + 1)) r t0.registers (λ e. low_no_home 1 r (omega arith) is (sym e)) ∙ pass.kept r (home_no_t0 r is) (⊎_elim (λ (l : r < 10). inl (omega (arith, l))) (λ (u2 : 17 < r). inr u2) (home_no_argument r is))
 
   all1 : HoldsAll codes u addresses resumes [] c t1
-  all1 = all_found codes u valid addresses resumes held c h t1 all low_found home_found (regions_kept (passing_code (codes c.here.function).storage 0 held arguments) h) pass.memory pass.input
+  all1 = all_found codes u valid addresses resumes held c h t1 all low_found home_found (regions_stay (passing_code (codes c.here.function).storage 0 held arguments) h) pass.memory pass.input
 
   abbrev values : List Value
   values = map (value u.statics c.here.names) (map (placed_operand (home_at (codes c.here.function).storage)) arguments)
@@ -175,7 +173,7 @@ module _ (codes : ℕ → FunctionCode) (u : UnitForm) (valid : (k : ℕ) → Is
         let zero : t1.registers 0 ≡ 0 = all1.here.fetch.none in
         let some : t1.registers 4 ≢ t1.registers 0 = λ e. free (omega (arith, depth, e, zero)) in
         let on : taken Bne (t1.registers 4) (t1.registers 0) ≡ true = ap not (ne_eqb (t1.registers 4) (t1.registers 0) some) in
-        let one = branch_taken p entered.state at t1 (at + 1 + 1 + 1) false Bne 4 0 12 entered.stands begin.0 on (let lt = at_low in omega (arith, lt, (map_facts p.map).few)) in
+        let one = branch_taken p entered.state at t1 (at + 1 + 1 + 1) false Bne 4 0 12 entered.stands begin.0 on (let lt = at_low in omega (arith, lt)) in
         let two = code_does p one.state (at + 1 + 1 + 1) t1 false (instruction.Immediate Addi 4 4 4294967295 ∷ []) one.stands (begin.1.1.1.0, tt) (tt, tt) in
         reaches_then p (length passing + 1) (1 + 1) (record { state = s; shown = b }) [] at false t1 [] (at + 1 + 1 + 1 + 1) false g entered
         (reaches_then p 1 1 (record { state = entered.state; shown = false }) [] (at + 1 + 1 + 1) false t1 [] (at + 1 + 1 + 1 + 1) false g one two)

@@ -3,7 +3,7 @@ use Rattle.std.proofs.Common.{◌≡◌, ℕ, ◌+◌, ◌<◌, ◌≤◌, sym, 
 use Rattle.std.specs.Prelude.{◌==◌, option_map}
 use Rattle.std.specs.List.{AllByRecursion, list_any}
 use Rattle.std.proofs.lemmas.Option.{slice_get_within}
-use Rattle.rv_emit_runs.proofs.Maps.{code_map}
+use Rattle.rv_emit_runs.proofs.Maps.{code_map, index_inside}
 use Rattle.rv_emit_storage.specs.UnitMaps.{map_of_unit}
 use Rattle.memory_map.specs.Maps.{most_words}
 use Rattle.rv_code.specs.declared.instruction.Instruction.{Instruction as MachineInstruction}
@@ -25,7 +25,6 @@ use Rattle.rv_emit_storage.specs.Storages.{home_at}
 use Rattle.rv_emit_words.specs.Growing.{CodeState, with_code, forgotten}
 use Rattle.rv_emit_instructions.specs.Code.{with_instruction}
 use Rattle.rv_emit_steps.specs.Programs.{distance, CodeAt, behind}
-use Rattle.rv_emit_steps.proofs.Standing.{index_low}
 use Rattle.rv_emit_steps.specs.Points.{Point}
 use Rattle.rv_emit_steps.proofs.Steps.{going_on}
 use Rattle.rv_emit_code.specs.Beginning.{beginning_behind}
@@ -280,7 +279,7 @@ module _ (h : HomedForm) (valid : IsValid h.unit) (homed : HaveHomes h) (e : Emi
     -- The index behind the call is one of the code, or that behind it.
     low_index : r.index + length (passing_code (codes_in h e code c.here.function).storage 0 r.held arguments) + 1 ≤ most_words (map_of_unit (over_homes h))
     low_index =
-        let low_call = index_low (program_in h e code) (r.index + length passing) (behind q.shown passing) (instruction.Jal 1 (distance (r.index + length passing) (code.arrangement.function function))) there.calls in
+        let low_call = index_inside (program_in h e code) (r.index + length passing) (behind q.shown passing) (instruction.Jal 1 (distance (r.index + length passing) (code.arrangement.function function))) there.calls in
         let same : most_words (map_of_unit (over_homes h)) ≡ most_words e.map = ap (λ m. most_words m) (code_map h e code) in
         omega (arith, low_call, same)
 

@@ -2,6 +2,7 @@
 use Rattle.std.proofs.Common.{◌≡◌, ℕ, zero, suc, ◌-◌, ◌<◌, sym, ap, ◌∙◌, arith, refl, Option, Some, None, Bool, true, false, cond, not}
 use Rattle.std.specs.Prelude.{◌==◌, nat_lt, int_lt, pos, negsuc, option_map}
 use Rattle.std.proofs.lemmas.Bool.{eqb-true, ne_eqb, lt-ltb, le-ltb}
+use Rattle.memory_map.specs.declared.map.Map.{Map}
 use mir.Val.{sel}
 use Rattle.word_base.specs.Words.{signed, word_of_test}
 use Rattle.word_base.specs.WordOperations.{operated}
@@ -53,7 +54,7 @@ false_word addresses memory v c t means is = by_some (is_true v) refl is
     by_some None e f = cc
     by_some (Some d) e f = let g : not d ≡ t = cc in ap not (true_word addresses memory v c d means e) ∙ g
 
-module _ (addresses : ℕ → ℕ) (memory : Memory) (laid : AreLaid addresses memory) where
+module _ {regions : Map} (addresses : ℕ → ℕ) (memory : Memory) (laid : AreLaid regions addresses memory) where
   less_word : (a b : Value) (x y : ℕ) → x < 4294967296 → y < 4294967296 → Means addresses memory a x → Means addresses memory b y → Means addresses memory (operate Slt a b) (word_of_test (int_lt (signed x) (signed y)))
   unfolding operated
   less_word a b x y hx hy ma mb = operation_means addresses memory laid Slt a b x y hx hy ma mb

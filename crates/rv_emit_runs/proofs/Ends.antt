@@ -2,7 +2,6 @@
 use Rattle.std.proofs.Common.{◌≡◌, ℕ, ◌+◌, ◌-◌, ◌≤◌, sym, ap, ◌∙◌, subst, arith, refl, Option, Some, None, Bool, true, false, cond, not, List, [], ◌∷◌, ◌++◌, length, slice_get}
 use Rattle.std.specs.Prelude.{◌==◌}
 use Rattle.std.proofs.lemmas.Bool.{eqb-true}
-use Rattle.rv_emit_runs.proofs.Maps.{regions_kept}
 use Rattle.rv_code.specs.declared.instruction.Instruction.TheVariants as instruction
 use Rattle.rv_code.specs.declared.instruction.BranchOperation.{BranchOperation}
 use Rattle.rv_code.specs.declared.instruction.ImmediateOperation.TheVariants.{Addi}
@@ -28,7 +27,7 @@ use Rattle.rv_emit_steps.specs.Doing.{done_by_all}
 use Rattle.rv_emit_steps.specs.Programs.{Program, behind, Stands}
 use Rattle.rv_emit_steps.specs.Points.{Reaches}
 use Rattle.rv_emit_steps.proofs.Leading.{leads_nowhere}
-use Rattle.rv_emit_steps.proofs.Placing.{code_front, reaches_then, done_by_both, can_do_both}
+use Rattle.rv_emit_steps.proofs.Placing.{code_front, reaches_then, done_by_both, can_do_both, regions_stay}
 use Rattle.rv_emit_steps.proofs.Straight.{code_does}
 use Rattle.rv_emit_steps.specs.EmitMovesDoing.{IsReadable, value_of}
 use Rattle.rv_emit_steps.proofs.Computing.{both_found, BothFound}
@@ -192,7 +191,7 @@ module _ (p : Program) (t : Targets) (s : State) (i : ℕ) (b : Bool) (w : Setti
   loaded_frame : (room : ℕ) → HoldsFrame (with_held (loading_held w.storage.base room loads w.held) w) c (done_by_all (loading_code w.storage.base room loads w.held) h)
   loaded_frame room =
       let l = loaded room in
-      frame_reheld w c h (done_by_all (loading_code w.storage.base room loads w.held) h) (loading_held w.storage.base room loads w.held) l.kept (regions_kept (loading_code w.storage.base room loads w.held) h) l.memory l.all l.scratch frame
+      frame_reheld w c h (done_by_all (loading_code w.storage.base room loads w.held) h) (loading_held w.storage.base room loads w.held) l.kept (regions_stay (loading_code w.storage.base room loads w.held) h) l.memory l.all l.scratch frame
 
   -- A jump.
   jump_behind : (to : ℕ) → PiecesAt p t i b (words (loading_code w.storage.base 8 loads w.held) ++ going (behind b (loading_code w.storage.base 8 loads w.held)) to next) j
@@ -252,7 +251,7 @@ module _ (p : Program) (t : Targets) (s : State) (i : ℕ) (b : Bool) (w : Setti
         few = let long = pieces_long p t (i + length code) (behind b code) (going_by op q1 q2 if_true if_false next) j first.rest_there in let most = two.few in omega (arith, long, most);
         holding = v;
         reaches = reaches_then p (length code) two.count (record { state = s; shown = b }) [] (i + length code) (behind b code) v [] (t.label (cond test if_true if_false)) false v one two.reaches;
-        frame = frame_stays (with_held held w) c u v found.kept found.memory framed;
+        frame = frame_stays (with_held held w) c u v (regions_stay fetch u) found.kept found.memory framed;
         kept = λ q kept. found.kept q kept.left ∙ l.kept q kept;
         memory = found.memory ∙ l.memory;
         input = found.input ∙ l.input;

@@ -1,7 +1,6 @@
 -- The words that make a frame store the return address and the registers that the frame keeps, below what waits.
 use Rattle.std.proofs.Common.{◌≡◌, ◌≢◌, ℕ, ◌+◌, ◌*◌, ◌%◌, ◌<◌, ◌≤◌, ◌⊎◌, inl, inr, sym, ap, ◌∙◌, subst, arith, refl, List, [], ◌∷◌, length}
 use Rattle.std.specs.List.{AllByRecursion}
-use Rattle.rv_emit_runs.proofs.Maps.{regions_kept}
 use Rattle.memory_map.proofs.Facts.{map_facts}
 use Rattle.memory_map.specs.Maps.{stack_start, stack_end}
 use Rattle.word_base.specs.Arithmetic.{subtracted}
@@ -13,7 +12,7 @@ use Rattle.graph_homes.specs.Homed.{IsHomeRegister}
 use Rattle.rv_emit_steps.specs.Holding.{Holding, word_at, with_bytes, IsDataAt}
 use Rattle.rv_emit_steps.specs.Doing.{done_by_all, CanDoAll, storing}
 use Rattle.rv_emit_steps.proofs.Apart.{byte_outside, word_stored}
-use Rattle.rv_emit_steps.proofs.Placing.{done_by_both, can_do_both}
+use Rattle.rv_emit_steps.proofs.Placing.{done_by_both, can_do_both, regions_stay}
 use Rattle.rv_emit_steps.specs.EmitMovesDoing.{Brings}
 use Rattle.rv_emit_steps.proofs.Elements.{word_kept}
 use Rattle.rv_emit_code.specs.Beginning.{saving_code, entering_code}
@@ -115,7 +114,7 @@ entering_enters saved size h can =
     let down : word (h.registers 2 + subtracted 0 size) + size ≡ h.registers 2 = omega (arith, low, high, top) in
     let sp : h1.registers 2 + size ≡ h.registers 2 = ap (λ x. x + size) one.value ∙ down in
     let a : ℕ = h1.registers 2 in
-    let same : h1.regions ≡ h.regions = regions_kept front h in
+    let same : h1.regions ≡ h.regions = regions_stay front h in
     let start : stack_start h1.regions ≡ stack_start h.regions = ap (λ m. stack_start m) same in
     let at : word (h1.registers 2 + 0) ≡ h1.registers 2 = omega (arith, sp, high, top) in
     let whole : h1.registers 2 % 4 ≡ 0 = let z = can.whole in let y = can.aligned in omega (arith, sp, z, y) in
@@ -137,7 +136,7 @@ entering_enters saved size h can =
           (saved_same saved (a + 4) t.memory h.registers h1.registers can.registers (λ r is. one.kept r (home_no_scratch r is).0 (home_no_scratch r is).1) two.have);
       memory = λ b out. two.memory b (past sp2 out) ∙ ap (λ (m : ℕ → ℕ). m b) made ∙ byte_outside 4 a (h1.registers 1) h1.memory b (short sp2 out) ∙ ap (λ (m : ℕ → ℕ). m b) one.memory;
       input = two.input ∙ one.input;
-      map = regions_kept (saving_code saved 4) h2 ∙ same;
+      map = regions_stay (saving_code saved 4) h2 ∙ same;
     } in
     record {
       can = can_do_both front back h one.can (there, two.can);

@@ -312,7 +312,7 @@ module _ (u : UnitForm) (valid : IsValid u) (e : EmittedForm) (same_map : e.map 
             let b2 : first_bytes e (static_at u n + i * 4 + 2) ≡ (static_at u r.object + r.offset) / 65536 % 256 = byte 2 (omega arith) in
             let b3 : first_bytes e (static_at u n + i * 4 + 3) ≡ (static_at u r.object + r.offset) / 16777216 % 256 = byte 3 (omega arith) in
             let at = (known r.object z there).1 in
-            ((known r.object z there).0, le, omega (arith, b0, b1, b2, b3, at, high, le))
+            ((known r.object z there).0, le, omega (arith, b0, b1, b2, b3, at, high, le, (map_facts (map_of_unit u)).apart, (map_facts (map_of_unit u)).whole))
 
         by_test : (b : Bool) → nat_le r.offset (static_bytes z) ≡ b → HoldsBits addresses memory 4 (cond b (Pointer r.object (static_bytes z) r.offset) Odd) (word_at (first_bytes e) (static_at u n + i * 4))
         by_test true le = in_it (leb-true r.offset (static_bytes z) le)

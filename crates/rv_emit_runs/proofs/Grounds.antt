@@ -3,6 +3,8 @@ use Rattle.std.proofs.Common.{◌≡◌, ℕ, zero, suc, ◌+◌, ◌<◌, ◌�
 use Rattle.std.specs.List.{AllByRecursion, filter, flat_map}
 use Rattle.std.specs.Prelude.{replicate}
 use Rattle.std.proofs.lemmas.List.{drop_at, get_or-drop, length-append, length-replicate, length-take-le, take_at}
+use Rattle.rv_emit_storage.proofs.UnitMaps.{statics_begin}
+use Rattle.memory_map.specs.Maps.{bytes_start}
 use Rattle.rv_emit_storage.specs.UnitMaps.{map_of_unit}
 use Rattle.memory_map.proofs.Facts.{map_facts}
 use Rattle.graph_homes.specs.declared.home.Home.{Home}
@@ -82,8 +84,9 @@ addresses_low (x ∷ more) a (suc n) low = addresses_low more (a + taken_by x) n
 arrays_low : (u : UnitForm) → IsValid u → (s : StaticForm) → AreAddressesOf u s → (n : ℕ) → slice_index s.arrays n < 4294967296
 arrays_low u valid s are n =
     let fits : FitsStatics u = statics_fit u valid in
+    let start : statics_start ≡ bytes_start (map_of_unit u) = statics_begin u in
     subst (λ k. k < 4294967296) (sym (ap (λ l. slice_index l n) are.arrays ∙ get_or-drop (length u.statics) (static_addresses u) n 0))
-    (addresses_low (static_sizes u) statics_start (length u.statics + n) fits)
+    (addresses_low (static_sizes u) statics_start (length u.statics + n) (omega (arith, fits, start)))
 
 padded_count : (n : ℕ) (bytes : List ℕ) → length (padded n bytes) ≡ n
 padded_count n bytes =

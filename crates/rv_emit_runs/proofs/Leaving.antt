@@ -1,7 +1,6 @@
 -- The code with which a function ends restores what its frame keeps, leaves the frame and returns.
 use Rattle.std.proofs.Common.{◌≡◌, ◌≢◌, ℕ, ◌+◌, ◌*◌, ◌%◌, ◌<◌, ◌≤◌, inl, inr, sym, ap, ◌∙◌, subst, arith, refl, Bool, true, false, cond, List, [], ◌∷◌, ◌++◌, length, length-append}
 use Rattle.std.specs.List.{AllByRecursion}
-use Rattle.rv_emit_runs.proofs.Maps.{regions_kept}
 use Rattle.memory_map.proofs.Facts.{map_facts}
 use Rattle.memory_map.specs.declared.map.Map.{Map}
 use Rattle.memory_map.specs.Maps.{most_words, stack_start, stack_end, code_start}
@@ -18,7 +17,7 @@ use Rattle.rv_emit_steps.specs.Holding.{Holding, word_at, with_register, IsDataA
 use Rattle.rv_emit_steps.specs.Doing.{done_by_all, CanDoAll, writing}
 use Rattle.rv_emit_steps.specs.Programs.{Program, address_of, IsAt, CodeAt, behind, Stands}
 use Rattle.rv_emit_steps.specs.Points.{Reaches}
-use Rattle.rv_emit_steps.proofs.Placing.{code_front, code_rest, done_by_both, can_do_both, reaches_then}
+use Rattle.rv_emit_steps.proofs.Placing.{code_front, code_rest, done_by_both, can_do_both, reaches_then, regions_stay}
 use Rattle.rv_emit_steps.proofs.Registers.{register_other}
 use Rattle.rv_emit_steps.proofs.Jumping.{return_does}
 use Rattle.rv_emit_steps.proofs.Straight.{code_does}
@@ -131,7 +130,7 @@ leaving_leaves saved size h can =
     let at : word (h2.registers 2 + 0) ≡ h.registers 2 = omega (arith, sp2, high, whole) in
     let v3 : ℕ = word_at h2.memory (word (h2.registers 2 + 0)) in
     let h3 : Holding = writing 1 v3 h2 in
-    let same : h2.regions ≡ h.regions = regions_kept back h1 in
+    let same : h2.regions ≡ h.regions = regions_stay back h1 in
     let inside : IsDataAt h.regions 4 (word (h2.registers 2 + 0)) = let a = can.aligned in let l = can.low in (omega (arith, at, a), inr (omega (arith, at, l), omega (arith, at, high, room))) in
     let there : IsDataAt h2.regions 4 (word (h2.registers 2 + 0)) = subst (λ m. IsDataAt m 4 (word (h2.registers 2 + 0))) (sym same) inside in
     let four : Brings (moving_code size) h3 2 2 (word (h3.registers 2 + size)) = moved h3 size (omega (arith, high, whole)) none2 in
@@ -146,7 +145,7 @@ leaving_leaves saved size h can =
           ∙ restored_agree saved (h.registers 2 + 4) h.memory h.memory h.registers h1.registers q can.registers (λ b low high. refl) (inl (register_other 4 v1 q h.registers n4));
       memory = four.memory ∙ two.memory;
       input = four.input ∙ two.input;
-      map = regions_kept (moving_code size) h3 ∙ same;
+      map = regions_stay (moving_code size) h3 ∙ same;
     } in
     record {
       can = (tt, can_do_both back last h1 two.can (there, four.can));

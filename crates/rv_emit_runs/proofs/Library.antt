@@ -3,7 +3,6 @@ use Rattle.std.proofs.Common.{◌≡◌, ◌≢◌, ℕ, ◌+◌, ◌%◌, ◌<�
 use Rattle.std.specs.Prelude.{option_map}
 use Rattle.std.specs.Int.{cast_signed, w32}
 use Rattle.std.specs.List.{AllByRecursion}
-use Rattle.rv_emit_runs.proofs.Maps.{regions_kept}
 use Rattle.rv_code.specs.declared.instruction.Instruction.{Instruction as MachineInstruction}
 use Rattle.rv_code.specs.declared.instruction.Instruction.TheVariants.{Immediate, Ecall}
 use Rattle.rv_code.specs.declared.instruction.ImmediateOperation.TheVariants.{Addi}
@@ -25,7 +24,7 @@ use Rattle.rv_emit_steps.specs.Doing.{done_by_all, writing}
 use Rattle.rv_emit_steps.specs.Programs.{Program, IsAt, CodeAt, behind, Stands}
 use Rattle.rv_emit_steps.specs.Points.{Ends, Reaches}
 use Rattle.rv_emit_steps.proofs.Calling.{end_of_input_read, byte_read, byte_put, ends_with_status}
-use Rattle.rv_emit_steps.proofs.Placing.{code_front, code_rest, done_by_both, can_do_both, reaches_then, reaches_end}
+use Rattle.rv_emit_steps.proofs.Placing.{code_front, code_rest, done_by_both, can_do_both, reaches_then, reaches_end, regions_stay}
 use Rattle.rv_emit_steps.proofs.Registers.{register_other}
 use Rattle.rv_emit_steps.proofs.Straight.{code_does}
 use Rattle.rv_emit_steps.specs.EmitMovesDoing.{HoldsAll as HoldsAllOf, value_of}
@@ -110,7 +109,7 @@ module _ (p : Program) (s : State) (i : ℕ) (b : Bool) (w : Setting) (c : Confi
         named = omega (arith, zero, small);
         first = λ a more is. other 10 (λ e. cc) ∙ (subst (λ l. ArePassed w.storage h t 0 l) is pass.passed).0;
         kept = λ q kept. other q (kept_no_a7 q kept) ∙ pass.kept q kept.left.t0 (⊎_elim (λ (l : q < 10). inl (omega (arith, l))) (λ (u : 17 < q). inr u) kept.arguments);
-        map = regions_kept passing h;
+        map = regions_stay passing h;
         memory = pass.memory;
         input = pass.input;
         held = held_forgotten 17 held t g (λ q ne scr. other q ne) (all_left held pass.scratch) pass.all_held;

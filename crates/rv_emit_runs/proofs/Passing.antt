@@ -19,7 +19,7 @@ use Rattle.rv_emit_words.specs.Operands.{bringing}
 use Rattle.rv_emit_instructions.specs.Calls.{argument_register, passed, passed_from}
 use Rattle.rv_emit_steps.specs.Holding.{Holding, word_at}
 use Rattle.rv_emit_steps.specs.Doing.{done_by_all, CanDoAll}
-use Rattle.rv_emit_steps.proofs.Placing.{done_by_both, can_do_both}
+use Rattle.rv_emit_steps.proofs.Placing.{done_by_both, can_do_both, regions_stay}
 use Rattle.rv_emit_steps.specs.EmitMovesDoing.{Brings, CanFetch, HoldsAll, IsLeft, IsReadable, value_of}
 use Rattle.rv_emit_steps.proofs.Computing.{left_0, left_2, left_3, readable_stays}
 use Rattle.rv_emit_steps.specs.Frames.{Setting, IsStorage, AreScratch, HoldsFrame}
@@ -75,10 +75,10 @@ abbrev pub AreReadable : StorageForm → (before h : Holding) → List Operand �
 AreReadable g before h [] = Unit {0}
 AreReadable g before h (a ∷ more) = IsReadable g h (source_of g a) × (value_of g h (source_of g a) ≡ value_of g before (source_of g a)) × AreReadable g before h more
 
-still_readable : (g : StorageForm) (before h t : Holding) (all : List Operand) → ((q : ℕ) → IsLeft q → IsNoArgument q → t.registers q ≡ h.registers q) → t.memory ≡ h.memory → AreHomeSources g all → AreReadable g before h all → AreReadable g before t all
-still_readable g before h t [] kept memory homes all = tt
-still_readable g before h t (a ∷ more) kept memory homes all =
-    (readable_stays g h t (source_of g a) (kept 2 left_2 (inl (omega arith))) all.0, source_same g h t (source_of g a) kept memory homes.0 all.0 ∙ all.1, still_readable g before h t more kept memory homes.1 all.2)
+still_readable : (g : StorageForm) (before h t : Holding) (all : List Operand) → t.regions ≡ h.regions → ((q : ℕ) → IsLeft q → IsNoArgument q → t.registers q ≡ h.registers q) → t.memory ≡ h.memory → AreHomeSources g all → AreReadable g before h all → AreReadable g before t all
+still_readable g before h t [] same_map kept memory homes all = tt
+still_readable g before h t (a ∷ more) same_map kept memory homes all =
+    (readable_stays g h t (source_of g a) same_map (kept 2 left_2 (inl (omega arith))) all.0, source_same g h t (source_of g a) kept memory homes.0 all.0 ∙ all.1, still_readable g before h t more same_map kept memory homes.1 all.2)
 
 pub all_pass : (g : StorageForm) (before : Holding) (n : ℕ) (all : List Operand) (held : List Held) (h : Holding) → n + length all ≤ 8 → CanFetch g held h → AreScratch held → HoldsWords h → AreHomeSources g all → AreReadable g before h all
     → Passes g (passing_code g n held all) (passing_held n held all) h before n all
@@ -109,7 +109,7 @@ all_pass g before n (a ∷ more) held h few can scratch range homes readable =
       bytes = λ b. subst (λ (m : ℕ → ℕ). m b < 256) (sym brings.memory) (range.bytes b);
     } in
     let rest : Passes g (passing_code g (n + 1) later more) (passing_held (n + 1) later more) t before (n + 1) more =
-    all_pass g before (n + 1) more later t (omega (arith, few)) fetch (scratch_forgotten r held scratch) words homes.1 (still_readable g before h t more kept brings.memory homes.1 readable.2) in
+    all_pass g before (n + 1) more later t (omega (arith, few)) fetch (scratch_forgotten r held scratch) words homes.1 (still_readable g before h t more (regions_stay front h) kept brings.memory homes.1 readable.2) in
     let back = passing_code g (n + 1) later more in
     let both : done_by_all (front ++ back) h ≡ done_by_all back t = done_by_both front back h in
     record {

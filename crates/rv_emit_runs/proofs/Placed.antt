@@ -1,7 +1,6 @@
 -- Pieces that stand in the code: words among them, and where control goes from jumps and branches.
 use Rattle.std.proofs.Common.{◌≡◌, ℕ, ◌+◌, ◌-◌, ◌<◌, ◌≤◌, ◌⊎◌, inl, inr, sym, ap, ◌∙◌, subst, arith, refl, List, [], ◌∷◌, ◌++◌, length, Bool, true, false, not}
 use Rattle.memory_map.proofs.Facts.{map_facts}
-use Rattle.memory_map.specs.declared.map.Map.{Map}
 use Rattle.memory_map.specs.Maps.{most_words}
 use Rattle.rv_code.specs.declared.instruction.Instruction.{Instruction}
 use Rattle.rv_code.specs.declared.instruction.Instruction.TheVariants as instruction
@@ -83,12 +82,12 @@ pub record GoesTo (p : Program) (s : State) (b : Bool) (most to : ℕ) (h : Hold
   pub reaches : Reaches p count (record { state = s; shown = b }) [] to false h
 
 -- The two words of a far branch.
-eight_leads : (regions : Map) (i : ℕ) → i < most_words regions → word (address_of i + 8) ≡ address_of (i + 2)
-eight_leads regions i low = omega (arith, low, (map_facts regions).few)
+eight_leads : (i : ℕ) → i < 1000000000 → word (address_of i + 8) ≡ address_of (i + 2)
+eight_leads i low = omega arith
 
 -- A jump goes to its label.
 pub jump_goes : (p : Program) (s : State) (i : ℕ) (h : Holding) (b : Bool) (to : ℕ) → Stands p s i h → IsAt p i b (instruction.Jal 0 (distance i to)) → to ≤ most_words p.map → Reaches p 1 (record { state = s; shown = b }) [] to false h
-jump_goes p s i h b to stands at fits = jump_does p s i h to b 0 (distance i to) stands at (distance_leads p.map i to (index_low p i b (instruction.Jal 0 (distance i to)) at) fits)
+jump_goes p s i h b to stands at fits = jump_does p s i h to b 0 (distance i to) stands at (distance_leads i to (index_low p i b (instruction.Jal 0 (distance i to)) at) (omega (arith, fits, (map_facts p.map).few)))
 
 -- As many may be said to be more.
 pub goes_within : {p : Program} {s : State} {b : Bool} {most more to : ℕ} {h : Holding} → most ≤ more → GoesTo p s b most to h → GoesTo p s b more to h
@@ -113,7 +112,7 @@ taken_goes p t s i h b op l r to j stands (inl (at, next)) fits test = record {
   count = 1;
   few = omega (arith, next);
   reaches = branch_taken p s i h (t.label to) b op l r (distance i (t.label to)) stands at test
-      (distance_leads p.map i (t.label to) (index_low p i b (instruction.Branch op l r (distance i (t.label to))) at) fits);
+      (distance_leads i (t.label to) (index_low p i b (instruction.Branch op l r (distance i (t.label to))) at) (omega (arith, fits, (map_facts p.map).few)));
 }
 taken_goes p t s i h b op l r to j stands (inr (at, over, next)) fits test =
     let first = branch_not_taken p s i h b (opposite op) l r 8 stands at (opposite_taken op (h.registers l) (h.registers r) ∙ ap not test) in
@@ -127,4 +126,4 @@ not_taken_goes p t s i h b op l r to j stands (inl (at, next)) test =
     subst (λ n. Reaches p 1 (record { state = s; shown = b }) [] n false h) (sym next) (branch_not_taken p s i h b op l r (distance i (t.label to)) stands at test)
 not_taken_goes p t s i h b op l r to j stands (inr (at, over, next)) test =
     subst (λ n. Reaches p 1 (record { state = s; shown = b }) [] n false h) (sym next)
-    (branch_taken p s i h (i + 2) b (opposite op) l r 8 stands at (opposite_taken op (h.registers l) (h.registers r) ∙ ap not test) (eight_leads p.map i (index_low p i b (instruction.Branch (opposite op) l r 8) at)))
+    (branch_taken p s i h (i + 2) b (opposite op) l r 8 stands at (opposite_taken op (h.registers l) (h.registers r) ∙ ap not test) (eight_leads i (index_low p i b (instruction.Branch (opposite op) l r 8) at)))

@@ -1,7 +1,6 @@
 -- The code of an end that returns does the unit's step.
 use Rattle.std.proofs.Common.{◌≡◌, ℕ, ◌+◌, sym, subst, arith, refl, Option, Some, None, Bool, false, List, [], ◌∷◌, ◌++◌, length}
 use Rattle.std.specs.Prelude.{option_map}
-use Rattle.rv_emit_runs.proofs.Maps.{regions_kept}
 use Rattle.rv_machine.specs.State.{State}
 use Rattle.graph_core.specs.declared.value.Value.TheVariants.{Odd}
 use Rattle.graph_core.specs.Graphs.{Operand, Return, UnitForm}
@@ -16,7 +15,7 @@ use Rattle.rv_emit_steps.specs.Holding.{Holding}
 use Rattle.rv_emit_steps.specs.Doing.{done_by_all}
 use Rattle.rv_emit_steps.specs.Programs.{Program, CodeAt, behind, Stands}
 use Rattle.rv_emit_steps.specs.Points.{Reaches}
-use Rattle.rv_emit_steps.proofs.Placing.{reaches_then, reaches_end}
+use Rattle.rv_emit_steps.proofs.Placing.{reaches_then, reaches_end, regions_stay}
 use Rattle.rv_emit_steps.proofs.Straight.{code_does}
 use Rattle.rv_emit_steps.specs.EmitMovesDoing.{Brings, IsReadable, value_of}
 use Rattle.rv_emit_steps.specs.Meaning.{Means}
@@ -95,7 +94,7 @@ module _ (p : Program) (codes : ℕ → FunctionCode) (u : UnitForm) (valid : (k
         let first : WordsFirst p t i b code (leaving f.saved f.size (behind b code) end next (room_behind f.storage.base source)) j = words_first p t i b code (leaving f.saved f.size (behind b code) end next (room_behind f.storage.base source)) j
         (subst (λ q. PiecesAt p t i b (words code ++ leaving f.saved f.size q end next (room_behind f.storage.base source)) j) (begins_is b code) there) in
         let one = code_does p s i h b code stands first.code_there brings.can in
-        let all1 = all_reheld codes u valid addresses (Resumes p codes goes_on) held [] c h g all (λ q kept. brings.kept q (kept_no_a0 q kept) kept.left.t0) (regions_kept code h) brings.memory brings.input tt tt in
+        let all1 = all_reheld codes u valid addresses (Resumes p codes goes_on) held [] c h g all (λ q kept. brings.kept q (kept_no_a0 q kept) kept.left.t0) (regions_stay code h) brings.memory brings.input tt tt in
         returned_behind p s i b (length code) (i + length code) (behind b code) g (4 + length (leaving_code f.saved f.size)) codes u addresses goes_on c (leave c v) one
         (return_done p codes u valid addresses goes_on t inside one.state (i + length code) (behind b code) c g all1 one.stands end next j (room_behind f.storage.base source) first.rest_there follows ending main v
         (subst (λ x. Means addresses c.memory v x) (sym brings.value) (operand_means w c h a storage all.here legal)))

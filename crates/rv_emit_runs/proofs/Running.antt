@@ -1,9 +1,7 @@
 -- A run begins: the words before all functions and those with which main begins come, in as many instructions, unseen, to where the machine holds the first configuration of the unit's run.
-use Rattle.std.proofs.Common.{◌≡◌, ◌≢◌, ℕ, ◌+◌, ◌<◌, ◌≤◌, sym, ap, ◌∙◌, subst, arith, refl, Some, true, false, not, List, [], ◌∷◌, ◌++◌, length, slice_get}
+use Rattle.std.proofs.Common.{◌≡◌, ◌≢◌, ℕ, ◌+◌, ◌<◌, ◌≤◌, sym, ap, ◌∙◌, subst, arith, refl, Some, true, false, not, List, [], ◌∷◌, ◌++◌, length, slice_get, ◌*◌, ◌/◌}
 use Rattle.std.specs.Prelude.{option_map, option_and_then}
 use Rattle.std.proofs.lemmas.Bool.{ne_eqb}
-use Rattle.rv_emit_runs.proofs.Maps.{program_map}
-use Rattle.rv_emit_layout.proofs.Bound.{code_has_room}
 use Rattle.rv_emit_storage.specs.UnitMaps.{map_of_unit}
 use Rattle.memory_map.proofs.Facts.{map_facts}
 use Rattle.memory_map.specs.Maps.{most_words, stack_start, stack_end}
@@ -26,7 +24,7 @@ use Rattle.rv_emit_steps.specs.Programs.{Program, address_of, distance, IsAt, Co
 use Rattle.rv_emit_steps.specs.Points.{Reaches}
 use Rattle.rv_emit_steps.proofs.Jumping.{distance_leads, jump_does, branch_taken}
 use Rattle.rv_emit_steps.proofs.Placing.{code_front, reaches_then}
-use Rattle.rv_emit_steps.proofs.Standing.{index_low}
+use Rattle.rv_emit_steps.proofs.Standing.{index_low, regions_there}
 use Rattle.rv_emit_steps.proofs.Straight.{code_does}
 use Rattle.rv_emit_code.specs.Beginning.{base_code, entering_code, bindings_code, beginning_code}
 use Rattle.rv_emit_runs.specs.Loaded.{IsLoaded}
@@ -70,7 +68,7 @@ module _ (codes : ℕ → FunctionCode) (u : UnitForm) (valid : (k : ℕ) → Is
   abbrev g : Holding
   g = done_by_all (instruction.Immediate Addi 4 4 4294967295 ∷ []) t3
 
-  at_low : at < most_words p.map
+  at_low : at < 1000000000
   at_low = index_low p at false (instruction.Branch Bne 4 0 12) begin.0
 
   tp_is : t3.registers 4 ≡ 1024
@@ -84,7 +82,7 @@ module _ (codes : ℕ → FunctionCode) (u : UnitForm) (valid : (k : ℕ) → Is
   -- sp is the end of the stack.
   sp_is : g.registers 2 ≡ stack_end (map_of_unit u)
   sp_is =
-      let same : stack_start p.map ≡ stack_start (map_of_unit u) = ap (λ m. stack_start m) (program_map p s 0 h stands ∙ same_map) in
+      let same : stack_start p.map ≡ stack_start (map_of_unit u) = ap (λ m. stack_start m) (sym (regions_there p s 0 h stands) ∙ same_map) in
       let end : stack_end p.map / 4096 * 4096 ≡ stack_end (map_of_unit u) = omega (arith, same, (map_facts p.map).frames) in
       end
 
@@ -99,8 +97,8 @@ module _ (codes : ℕ → FunctionCode) (u : UnitForm) (valid : (k : ℕ) → Is
       let some : t3.registers 4 ≢ t3.registers 0 = λ e. omega (arith, is, zero, e) in
       let on : taken Bne (t3.registers 4) (t3.registers 0) ≡ true = ap not (ne_eqb (t3.registers 4) (t3.registers 0) some) in
       let one = code_does p s 0 h false (instruction.Lui 2 (stack_end p.map / 4096) ∷ instruction.Immediate Addi 4 0 1024 ∷ []) stands (stub.sp, (stub.tp, tt)) (tt, (tt, tt)) in
-      let two = jump_does p one.state 2 t2 at false 1 (distance 2 at) one.stands stub.call (distance_leads p.map 2 at (omega (arith, code_has_room p.map)) (let lt = at_low in omega (arith, lt))) in
-      let three = branch_taken p two.state at t3 (at + 1 + 1 + 1) false Bne 4 0 12 two.stands begin.0 on (let lt = at_low in omega (arith, lt, (map_facts p.map).few)) in
+      let two = jump_does p one.state 2 t2 at false 1 (distance 2 at) one.stands stub.call (distance_leads 2 at (omega arith) (let lt = at_low in omega (arith, lt))) in
+      let three = branch_taken p two.state at t3 (at + 1 + 1 + 1) false Bne 4 0 12 two.stands begin.0 on (let lt = at_low in omega (arith, lt)) in
       let four = code_does p three.state (at + 1 + 1 + 1) t3 false (instruction.Immediate Addi 4 4 4294967295 ∷ []) three.stands (begin.1.1.1.0, tt) (tt, tt) in
       reaches_then p 2 (1 + (1 + 1)) (record { state = s; shown = false }) [] 2 false t2 [] (at + 1 + 1 + 1 + 1) false g one
       (reaches_then p 1 (1 + 1) (record { state = one.state; shown = false }) [] at false t3 [] (at + 1 + 1 + 1 + 1) false g two

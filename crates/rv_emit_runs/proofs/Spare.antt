@@ -1,7 +1,6 @@
 -- A store to the first element of an object of the frame that has none: it writes the spare word behind the object, in which nothing is held.
 use Rattle.std.proofs.Common.{◌≡◌, ◌≢◌, ℕ, ◌+◌, ◌*◌, ◌%◌, ◌<◌, ◌≤◌, ◌⊎◌, ⊎_elim, inl, inr, sym, ap, ◌∙◌, subst, arith, true, Option, Some, None, List, [], ◌∷◌, ◌++◌, length, slice_get}
 use Rattle.std.proofs.lemmas.Bool.{cases_eq}
-use Rattle.rv_emit_runs.proofs.Maps.{regions_kept}
 use Rattle.rv_emit_storage.specs.UnitMaps.{map_of_unit}
 use Rattle.memory_map.proofs.Facts.{map_facts}
 use Rattle.memory_map.specs.Maps.{stack_start, stack_end}
@@ -23,7 +22,7 @@ use Rattle.rv_emit_instructions.specs.Memory.{Reach, store_operation, storing}
 use Rattle.rv_emit_steps.specs.Holding.{Holding, word_at, with_bytes, IsDataAt}
 use Rattle.rv_emit_steps.specs.Doing.{done_by_all, CanDoAll}
 use Rattle.rv_emit_steps.proofs.Apart.{byte_outside}
-use Rattle.rv_emit_steps.proofs.Placing.{done_by_both, can_do_both}
+use Rattle.rv_emit_steps.proofs.Placing.{done_by_both, can_do_both, regions_stay}
 use Rattle.rv_emit_steps.specs.EmitMovesDoing.{IsLeft, value_of_home}
 use Rattle.rv_emit_steps.proofs.Computing.{left_2, can_fetch_stays}
 use Rattle.rv_emit_steps.specs.Meaning.{Means, HoldsObjects}
@@ -155,7 +154,7 @@ module _ (w : Setting) (c : Configuration) (h : Holding) (storage : IsStorage w)
       let inside : IsDataAt (map_of_unit w.unit) (size_of e) a =
       (size_whole e a (frame.laid.aligned (c.here.first_object + k) o there), inr (let far = frame.low in omega (arith, here, far), let few = (size_low e).1 in let top = frame.high in omega (arith, here, few, high, top))) in
       let found : IsDataAt u.regions (store_size (store_operation e)) (word (u.registers r.base + r.offset)) =
-      subst (λ m. IsDataAt m (store_size (store_operation e)) (word (u.registers r.base + r.offset))) (sym (regions_kept r.code h ∙ frame.map))
+      subst (λ m. IsDataAt m (store_size (store_operation e)) (word (u.registers r.base + r.offset))) (sym (regions_stay r.code h ∙ frame.map))
       (subst (λ q. IsDataAt (map_of_unit w.unit) q (word (u.registers r.base + r.offset))) (sym (store_size_is e)) (subst (IsDataAt (map_of_unit w.unit) (size_of e)) (sym finds.there) inside)) in
       let kept : (q : ℕ) → IsLeft q → (done_by_all (storing e r rs) h).registers q ≡ h.registers q = λ q left. ap (λ (y : Holding). y.registers q) last ∙ finds.kept q left.t0 left.t2 in
       let made : (done_by_all (storing e r rs) h).memory ≡ with_bytes (size_of e) a x h.memory =
@@ -166,7 +165,7 @@ module _ (w : Setting) (c : Configuration) (h : Holding) (storage : IsStorage w)
       ∙ ap (λ (m : ℕ → ℕ). with_bytes (size_of e) a x m) finds.memory in
       record {
         can = can_do_both r.code (s ∷ []) h finds.can (found, tt);
-        frame = spare_framed (done_by_all (storing e r rs) h) (regions_kept (storing e r rs) h) kept made;
+        frame = spare_framed (done_by_all (storing e r rs) h) (regions_stay (storing e r rs) h) kept made;
         kept = λ q none left. kept q left;
         outside = λ b out beside. ap (λ (m : ℕ → ℕ). m b) made ∙ spare_apart b (⊎_elim (λ (below : b < h.registers 2 + (w.storage.slots + 4 * w.slots)). inl (omega (arith, below, here, low))) (λ (past : h.registers 2 + w.size ≤ b). inr (omega (arith, past, here, high))) beside);
         input = ap (λ (y : Holding). y.input) last ∙ finds.input;

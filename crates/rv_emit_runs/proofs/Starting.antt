@@ -1,7 +1,6 @@
 -- Where a run begins the machine comes to hold the activation of main: the words before all functions set sp and tp and call it, and its own make its frame and set gp.
 use Rattle.std.proofs.Common.{◌≡◌, ℕ, zero, suc, ◌+◌, ◌-◌, ◌*◌, ◌%◌, ◌<◌, ◌≤◌, ◌⊎◌, ⊎_elim, inl, inr, sym, ap, ◌∙◌, subst, arith, refl, Some, None, true, cond, List, [], ◌∷◌, ◌++◌, length, length-append, map, slice_get}
 use Rattle.std.proofs.lemmas.Bool.{le-ltb}
-use Rattle.rv_emit_runs.proofs.Maps.{regions_kept}
 use Rattle.rv_emit_storage.specs.UnitMaps.{map_of_unit}
 use Rattle.memory_map.proofs.Facts.{map_facts}
 use Rattle.memory_map.specs.Maps.{bytes_end, stack_start, stack_end}
@@ -15,7 +14,7 @@ use Rattle.rv_emit_storage.specs.Storages.{object_at, array_bytes_at}
 use Rattle.rv_emit_steps.specs.Holding.{Holding, word_at}
 use Rattle.rv_emit_steps.specs.Doing.{done_by_all, CanDoAll}
 use Rattle.rv_emit_steps.specs.Programs.{address_of}
-use Rattle.rv_emit_steps.proofs.Placing.{done_by_both, can_do_both}
+use Rattle.rv_emit_steps.proofs.Placing.{done_by_both, can_do_both, regions_stay}
 use Rattle.rv_emit_steps.specs.EmitMovesDoing.{Brings}
 use Rattle.rv_emit_steps.specs.Meaning.{size_at, HoldsObjects}
 use Rattle.rv_emit_steps.specs.Frames.{HasArray, HoldsFrame}
@@ -178,7 +177,7 @@ module _ (codes : ℕ → FunctionCode) (u : UnitForm) (valid : (k : ℕ) → Is
       fetch = record { fits = loaded.fits; none = sets.kept 0 (λ e. cc) (λ e. cc) ∙ enters.by.kept 0 (λ e. cc) (λ e. cc) ∙ zero_is; gp = sets.value; all = tt; left = tt };
       scratch = tt;
       aligned = ap (λ s. s % 4) sp4 ∙ aligned;
-      map = regions_kept (base_code true (codes u.main).storage.base) t ∙ enters.by.map ∙ same_map;
+      map = regions_stay (base_code true (codes u.main).storage.base) t ∙ enters.by.map ∙ same_map;
       low = subst (λ s. stack_start (map_of_unit u) ≤ s) (sym sp4) low;
       high = subst (λ s. s + (codes u.main).size ≤ stack_end (map_of_unit u)) (sym sp4) high;
       homes = λ home among. tt;

@@ -22,7 +22,7 @@ use Rattle.rv_emit_words.specs.declared.piece.Held.{Held}
 use Rattle.rv_emit_steps.specs.Holding.{AreInRange, Holding}
 use Rattle.rv_emit_steps.specs.Programs.{address_of, Stands}
 use Rattle.rv_emit_steps.specs.EmitMovesDoing.{value_of_home}
-use Rattle.rv_emit_steps.specs.Meaning.{Means, HoldsObjects}
+use Rattle.rv_emit_steps.specs.Meaning.{Means, HoldsObjects, AreLaid}
 use Rattle.rv_emit_steps.specs.Frames.{HoldsFrame}
 use Rattle.rv_emit_runs.specs.Keeping.{IsTargetAmong}
 use Rattle.rv_emit_runs.specs.Returns.{Resumes, answer_code}

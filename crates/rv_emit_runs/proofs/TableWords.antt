@@ -104,7 +104,7 @@ module _ (p : Program) (owners : List ℕ) (s : SequenceForm) (y : LayoutForm) (
       let words_last : words_before y.far s.pieces last ≡ words_before y.far s.pieces (length ahead) + (length inner + length code - 1) =
       narrow_words y.far s.pieces ahead (inner ++ mine) back pieces all_narrow (length inner + length code - 1) (omega (arith, both_count, mine_count)) in
       let found = get_some s.pieces last (omega (arith, total, counts, parts, both_count, mine_count, some)) in
-      let address : piece_address y first last ≡ address_of (first + words_before y.far s.pieces last) = address_is s y first there.layout there.stands.low last found.0 found.1 in
+      let address : piece_address y first last ≡ address_of (first + words_before y.far s.pieces last) = address_is p.map s y first there.layout there.stands.low last found.0 found.1 in
       let same : first + words_before y.far s.pieces last ≡ end - 1 = omega (arith, words_last, ends, from, some) in
       record {
         index = end - 1;

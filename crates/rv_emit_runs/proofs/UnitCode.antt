@@ -1,5 +1,5 @@
 -- What is emitted is code of the unit: it stands where it is to stand, as the run of the code asks.
-use Rattle.std.proofs.Common.{◌≡◌, ◌≢◌, ℕ, zero, suc, ◌+◌, ◌-◌, ◌<◌, ◌≤◌, inl, inr, ⊎_elim, ◌==◌, Bool, false, Option, Some, None, List, [], ◌∷◌, ◌++◌, length, map, slice_get, slice_index, get_or, refl, sym, ap, ◌∙◌, subst, arith, append-nil}
+use Rattle.std.proofs.Common.{◌≡◌, ◌≢◌, ℕ, zero, suc, ◌+◌, ◌-◌, ◌<◌, ◌≤◌, inl, inr, ⊎_elim, ◌==◌, Bool, false, Option, Some, None, List, [], ◌∷◌, ◌++◌, length, map, slice_get, slice_index, get_or, refl, sym, ap, ◌∙◌, subst, arith, append-nil, ◌/◌}
 use Rattle.std.specs.List.{AllByRecursion}
 use Rattle.std.specs.Option.{option_map_or}
 use Rattle.std.proofs.lemmas.Bool.{cases_lt}
@@ -36,7 +36,7 @@ use Rattle.rv_emit_runs.specs.Laid.{Arrangement, graph_at, program_of, targets_i
 use Rattle.rv_emit_runs.proofs.Calls.{called_there}
 use Rattle.rv_emit_runs.proofs.Frames.{graph_there}
 use Rattle.rv_emit_runs.proofs.Lists.{all_among}
-use Rattle.rv_emit_layout.specs.Laid.{CodedForm, LaidForm, StaticForm, firsts_from, ground_for, stops_of_all, stub_form, words_of_all, IsEmittedOf}
+use Rattle.rv_emit_layout.specs.Laid.{CodedForm, LaidForm, StaticForm, firsts_from, ground_for, stops_of_all, stub_of, words_of_all, IsEmittedOf}
 use Rattle.rv_emit_layout.specs.Laid.{AreAddressesOf}
 use Rattle.rv_emit_runs.specs.Room.{StandApart}
 use Rattle.rv_emit_runs.proofs.Rooms.{end_length}
@@ -152,7 +152,7 @@ module _ (h : HomedForm) (valid : IsValid h.unit) (homed : HaveHomes h) (e : Emi
   begin_low k = let low = firsts_low (most_words e.map) c.all 5 k (omega (arith, code_has_room e.map)) end_low in let is = firsts_are k in omega (arith, low, is)
 
   begin_high : (k : ℕ) (l : LaidForm) → slice_get c.all k ≡ Some l → 5 ≤ slice_index c.firsts k
-  begin_high k l at = let high = firsts_grow c.all 5 k l (λ i q e. let low = end_low i q e in omega (arith, low, (map_facts e.map).few)) at in let is = firsts_are k in omega (arith, high, is)
+  begin_high k l at = let high = firsts_grow c.all 5 k l (λ i q told. let low = end_low i q told in omega (arith, low, (map_facts e.map).few)) at in let is = firsts_are k in omega (arith, high, is)
 
   -- ---- Targets
 
@@ -269,7 +269,7 @@ module _ (h : HomedForm) (valid : IsValid h.unit) (homed : HaveHomes h) (e : Emi
 
   stub_is : PlacedAt p (targets_in e a h.unit.main) 0 (with_stub e.map h.unit.main (no_code 0 [])).pieces 5
   stub_is =
-      subst (λ m. PlacedAt p (targets_in e a h.unit.main) 0 (with_stub m h.unit.main (no_code 0 [])).pieces 5) (sym emitted.map)
+      subst (λ m. PlacedAt p (targets_in e a h.unit.main) 0 (with_stub m h.unit.main (no_code 0 [])).pieces 5) (sym emitted.regions)
       (part_there p e.owners stub stub_layout 0 c.firsts stub_there [] stub.pieces [] (sym (append-nil stub.pieces)))
 
   -- ---- All of it
@@ -278,7 +278,7 @@ module _ (h : HomedForm) (valid : IsValid h.unit) (homed : HaveHomes h) (e : Emi
   pub code_is : e.initial ≡ initial_bytes h.unit → AllByRecursion (λ b. b < 256) e.initial → IsCode h e
   code_is initial bytes = record {
     arrangement = a;
-    map = emitted.map;
+    map = emitted.regions;
     short = short;
     inside = all_inside;
     stub = stub_is;

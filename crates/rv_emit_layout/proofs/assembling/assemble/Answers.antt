@@ -23,7 +23,7 @@ returns-clause-code c =
     let u = unit_view c.args.homed.now.unit in
     let fits = statics_fit u c.requires.valid in
     record {
-      map = c.map_of_unit.ensures;
+      regions = c.map_of_unit.ensures;
       statics = static_view c.in_ok-statics.statics;
       coded = coded_view c.in_ok-coded.coded;
       code = c.in_ok-coded.ensures.code;
