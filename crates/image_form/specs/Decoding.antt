@@ -23,15 +23,18 @@ use Rattle.image_form.specs.declared.variables.Variable.{Variable}
 use Rattle.image_form.specs.declared.verdicts.Verdict.{Verdict}
 use Rattle.image_form.specs.declared.verdicts.Verdict.TheVariants.{Home, Recovered, Noncurrent, Nonresident}
 use Rattle.image_form.specs.declared.verdicts.VisibleRow.{VisibleRow}
+use Rattle.image_form.specs.declared.verdicts.CallRow.{CallRow}
+use Rattle.image_form.specs.declared.members.Member.{Member}
+use Rattle.image_form_sections.specs.Versions.{version_of, version_number}
 use Rattle.image_form.specs.Form.{Form}
-use Rattle.image_form.specs.Numbers.{mode_number, function_numbers, place_numbers, no_function, variable_numbers, change_numbers, flow_numbers, assigned_numbers, row_numbers, node_numbers}
+use Rattle.image_form.specs.Numbers.{mode_number, function_numbers, place_numbers, no_function, variable_numbers, change_numbers, flow_numbers, assigned_numbers, row_numbers, call_numbers, member_numbers, node_numbers}
 use Rattle.image_form_sections.specs.Sections.{Sections}
 
 -- The mode of a number.
 abbrev pub mode_of : ℕ → Mode
 mode_of n = if n == 0 then Slots else Registers
 
--- The function of five numbers.
+-- The function of its numbers; one that is not there is 0.
 abbrev pub function_of : List ℕ → Function
 function_of ns = record {
   name_length = slice_index ns 0;
@@ -39,6 +42,7 @@ function_of ns = record {
   end = slice_index ns 2;
   frame = slice_index ns 3;
   entry = slice_index ns 4;
+  saved = slice_index ns 5;
 }
 
 -- The place of four numbers.
@@ -104,12 +108,36 @@ verdict_of n change first second =
     slice_index_or (Home ∷ Recovered change first ∷ Noncurrent change first (writer_of second) ∷ []) n
     (Nonresident change first (writer_of second))
 
--- The visible row of six numbers.
+-- The place of a number, if there is one.
+abbrev pub quiet_of : ℕ → Option ℕ
+quiet_of n = if n == 0 then None else Some n
+
+-- The visible row of its numbers; one that is not there is 0.
 abbrev pub row_of : List ℕ → VisibleRow
 row_of ns = record {
   place = slice_index ns 0;
   variable = slice_index ns 1;
   verdict = verdict_of (slice_index ns 2) (slice_index ns 3) (slice_index ns 4) (slice_index ns 5);
+  quiet = quiet_of (slice_index ns 6);
+}
+
+-- The row of a call of seven numbers.
+abbrev pub call_of : List ℕ → CallRow
+call_of ns = record {
+  address = slice_index ns 0;
+  variable = slice_index ns 1;
+  verdict = verdict_of (slice_index ns 2) (slice_index ns 3) (slice_index ns 4) (slice_index ns 5);
+  path_form = slice_index ns 6;
+}
+
+-- The member of five numbers.
+abbrev pub member_of : List ℕ → Member
+member_of ns = record {
+  structure = slice_index ns 0;
+  name_length = slice_index ns 1;
+  offset = slice_index ns 2;
+  element = element_of (slice_index ns 3);
+  count = slice_index ns 4;
 }
 
 -- The operation of a number, from 3 on; the greatest one stands for all above it.
@@ -141,6 +169,7 @@ word_of ns = slice_index ns 0
 -- The image that the sections say.
 unfoldable pub decoded : Sections → Form
 decoded s = record {
+  version = version_of s.version;
   mode = mode_of s.mode;
   code = map word_of s.code;
   initial = s.initial;
@@ -152,6 +181,8 @@ decoded s = record {
   flow = map flow_of s.flow;
   assigned = map assigned_of s.assigned;
   rows = map row_of s.rows;
+  calls = map call_of s.calls;
+  members = map member_of s.members;
   nodes = map node_of s.nodes;
   names = s.names;
 }
@@ -163,17 +194,20 @@ word_numbers n = n ∷ []
 -- The sections that say an image.
 abbrev pub sections_of : Form → Sections
 sections_of f = record {
+  version = version_number f.version;
   mode = mode_number f.mode;
   code = map word_numbers f.code;
   initial = f.initial;
-  functions = map function_numbers f.functions;
+  functions = map (function_numbers f.version.level) f.functions;
   places = map place_numbers f.places;
   owners = map word_numbers f.owners;
   variables = map variable_numbers f.variables;
   changes = map change_numbers f.changes;
   flow = map flow_numbers f.flow;
   assigned = map assigned_numbers f.assigned;
-  rows = map row_numbers f.rows;
+  rows = map (row_numbers f.version.level) f.rows;
+  calls = map call_numbers f.calls;
+  members = map member_numbers f.members;
   nodes = map node_numbers f.nodes;
   names = f.names;
 }

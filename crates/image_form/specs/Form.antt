@@ -10,9 +10,13 @@ use Rattle.image_form.specs.declared.tables.Function.{Function}
 use Rattle.image_form.specs.declared.tables.Place.{Place}
 use Rattle.image_form.specs.declared.variables.Variable.{Variable}
 use Rattle.image_form.specs.declared.verdicts.VisibleRow.{VisibleRow}
+use Rattle.image_form.specs.declared.verdicts.CallRow.{CallRow}
+use Rattle.image_form.specs.declared.members.Member.{Member}
+use Rattle.image_form_sections.specs.declared.version.Version.{Version}
 
 -- The sections of an image, each a list.
 pub record Form : Type 0 where
+  pub version : Version
   pub mode : Mode
   pub code : List ℕ
   pub initial : List ℕ
@@ -24,12 +28,15 @@ pub record Form : Type 0 where
   pub flow : List FlowPair
   pub assigned : List AssignedPair
   pub rows : List VisibleRow
+  pub calls : List CallRow
+  pub members : List Member
   pub nodes : List Node
   pub names : List ℕ
 
 -- What an image says.
 abbrev pub form : Image → Form
 form m = record {
+  version = m.version;
   mode = m.mode;
   code = m.code.items;
   initial = m.initial.items;
@@ -41,6 +48,8 @@ form m = record {
   flow = m.flow.items;
   assigned = m.assigned.items;
   rows = m.rows.items;
+  calls = m.calls.items;
+  members = m.members.items;
   nodes = m.nodes.items;
   names = m.names.items;
 }

@@ -7,6 +7,7 @@ pub mod Numbers
 pub mod RawRecords
 pub mod Reading
 pub mod Rules
+pub mod RulesOfCalls
 pub mod RulesOfChanges
 pub mod RulesOfFunctions
 pub mod RulesOfNames
@@ -22,6 +23,7 @@ pub use Rattle.image_form_sections.specs.Breaches
 pub use Rattle.image_form_sections.specs.Checking
 pub use Rattle.image_form_sections.specs.Layouts
 pub use Rattle.image_form_sections.specs.Letters
+pub use Rattle.image_form_sections.specs.Masks
 pub use Rattle.image_form_sections.specs.Order
 pub use Rattle.image_form_sections.specs.Sections
 pub use Rattle.image_form_sections.specs.TestsOfChanges
@@ -30,3 +32,4 @@ pub use Rattle.image_form_sections.specs.TestsOfNames
 pub use Rattle.image_form_sections.specs.TestsOfNodes
 pub use Rattle.image_form_sections.specs.TestsOfTables
 pub use Rattle.image_form_sections.specs.TestsOfVariables
+pub use Rattle.image_form_sections.specs.Versions

@@ -1,5 +1,5 @@
 -- The numbers that stand for each record, in the order of its fields.
-use Rattle.std.specs.Prelude.{ℕ, List, [], ◌∷◌, unwrap_or}
+use Rattle.std.specs.Prelude.{ℕ, Bool, List, [], ◌∷◌, unwrap_or, if◌then◌else◌}
 use Rattle.debug_records.specs.declared.mode.Mode.{Mode}
 use Rattle.debug_records.specs.declared.mode.Mode.TheVariants.{Slots, Registers}
 use Rattle.image_form.specs.declared.recipes.Node.{Node}
@@ -23,6 +23,10 @@ use Rattle.image_form.specs.declared.variables.Variable.{Variable}
 use Rattle.image_form.specs.declared.verdicts.Verdict.{Verdict}
 use Rattle.image_form.specs.declared.verdicts.Verdict.TheVariants.{Home, Recovered, Noncurrent, Nonresident}
 use Rattle.image_form.specs.declared.verdicts.VisibleRow.{VisibleRow}
+use Rattle.image_form.specs.declared.verdicts.CallRow.{CallRow}
+use Rattle.image_form.specs.declared.members.Member.{Member}
+use Rattle.image_form_sections.specs.declared.version.Level.{Level}
+use Rattle.image_form_sections.specs.Versions.{has_quiet, has_callers}
 pub use Rattle.image_form_sections.specs.Bounds.{no_function}
 
 -- The number of a mode.
@@ -30,9 +34,13 @@ abbrev pub mode_number : Mode → ℕ
 mode_number Slots = 0
 mode_number Registers = 1
 
+-- A last number, where a version has it.
+abbrev pub last_if : Bool → ℕ → List ℕ
+last_if has n = if has then n ∷ [] else []
+
 -- The numbers of a function.
-abbrev pub function_numbers : Function → List ℕ
-function_numbers f = f.name_length ∷ f.first ∷ f.end ∷ f.frame ∷ f.entry ∷ []
+abbrev pub function_numbers : Level → Function → List ℕ
+function_numbers level f = f.name_length ∷ f.first ∷ f.end ∷ f.frame ∷ f.entry ∷ last_if (has_callers level) f.saved
 
 -- The numbers of a place.
 abbrev pub place_numbers : Place → List ℕ
@@ -87,16 +95,28 @@ flow_numbers p = p.from ∷ p.to ∷ []
 abbrev pub assigned_numbers : AssignedPair → List ℕ
 assigned_numbers p = p.place ∷ p.variable ∷ []
 
--- The verdict, the change, the node or the start place, and the writer's address, 0 where there is none.
+-- The verdict, the change, the node or the start place, and the writer's address, 0 where there is none; then more numbers.
+abbrev pub verdict_then : Verdict → (more : List ℕ) → List ℕ
+verdict_then Home more = 0 ∷ 0 ∷ 0 ∷ 0 ∷ more
+verdict_then (Recovered change node) more = 1 ∷ change ∷ node ∷ 0 ∷ more
+verdict_then (Noncurrent change start writer) more = 2 ∷ change ∷ start ∷ unwrap_or writer 0 ∷ more
+verdict_then (Nonresident change start writer) more = 3 ∷ change ∷ start ∷ unwrap_or writer 0 ∷ more
+
+-- The numbers of a verdict.
 abbrev pub verdict_numbers : Verdict → List ℕ
-verdict_numbers Home = 0 ∷ 0 ∷ 0 ∷ 0 ∷ []
-verdict_numbers (Recovered change node) = 1 ∷ change ∷ node ∷ 0 ∷ []
-verdict_numbers (Noncurrent change start writer) = 2 ∷ change ∷ start ∷ unwrap_or writer 0 ∷ []
-verdict_numbers (Nonresident change start writer) = 3 ∷ change ∷ start ∷ unwrap_or writer 0 ∷ []
+verdict_numbers v = verdict_then v []
 
 -- The numbers of a visible row.
-abbrev pub row_numbers : VisibleRow → List ℕ
-row_numbers r = r.place ∷ r.variable ∷ verdict_numbers r.verdict
+abbrev pub row_numbers : Level → VisibleRow → List ℕ
+row_numbers level r = r.place ∷ r.variable ∷ verdict_then r.verdict (last_if (has_quiet level) (unwrap_or r.quiet 0))
+
+-- The numbers of the row of a call.
+abbrev pub call_numbers : CallRow → List ℕ
+call_numbers r = r.address ∷ r.variable ∷ verdict_then r.verdict (r.path_form ∷ [])
+
+-- The numbers of a member.
+abbrev pub member_numbers : Member → List ℕ
+member_numbers m = m.structure ∷ m.name_length ∷ m.offset ∷ element_number m.element ∷ m.count ∷ []
 
 -- The number of an operation.
 abbrev pub operation_number : Operation → ℕ

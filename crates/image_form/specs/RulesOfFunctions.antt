@@ -1,10 +1,12 @@
 -- The rules of functions.
-use Rattle.std.specs.Prelude.{◌≡◌, ℕ, ◌+◌, ◌*◌, ◌%◌, ◌<◌, ◌≤◌, length}
+use Rattle.std.specs.Prelude.{◌≡◌, ℕ, ◌+◌, ◌*◌, ◌%◌, ◌<◌, ◌≤◌, false, length}
 use Rattle.std.specs.List.{AllByRecursion}
 use Rattle.image_form.specs.declared.tables.Function.{Function}
 use Rattle.image_form.specs.Form.{Form}
 use Rattle.image_form.specs.Lists.{EachToNext}
 unfoldable pub use Rattle.image_form_sections.specs.Bounds.{code_start}
+use Rattle.image_form_sections.specs.Masks.{masked, mask_of}
+use Rattle.image_form_sections.specs.Versions.{has_callers}
 
 -- The address behind the last code word.
 abbrev pub code_end : Form → ℕ
@@ -30,9 +32,13 @@ pub record IsFunction (f : Form) (g : Function) : Type 0 where
   pub frame_some : 16 ≤ g.frame
   pub frame_small : g.frame ≤ 16384
   pub entry_is_place : IsPlaceNumber f g.entry
+  -- The registers that it saves are of those that keep scalars.
+  pub saves_homes : g.saved ≡ mask_of (masked g.saved)
 
 pub record FunctionRules (f : Form) : Type 0 where
   pub each : AllByRecursion (IsFunction f) f.functions
   -- They stand in order and do not overlap.
   pub apart : EachToNext (λ g h. g.end ≤ h.first) f.functions
   pub entries_ascend : EachToNext (λ g h. g.entry < h.entry) f.functions
+  -- Only some versions tell which registers are saved.
+  pub none_saved : has_callers f.version.level ≡ false → AllByRecursion (λ g. g.saved ≡ 0) f.functions

@@ -1,5 +1,5 @@
 -- The rules of visible rows.
-use Rattle.std.specs.Prelude.{◌≡◌, ◌≢◌, ℕ, ◌<◌, Option, Some, None, slice_get, IsSomeAnd, length, ⊤}
+use Rattle.std.specs.Prelude.{◌≡◌, ◌≢◌, ℕ, ◌<◌, false, Option, Some, None, slice_get, IsSomeAnd, length, ⊤}
 use Rattle.std.specs.List.{AllByRecursion}
 use Rattle.debug_records.specs.declared.change.Kind.{Kind}
 use Rattle.debug_records.specs.declared.change.Kind.TheVariants.{Removed}
@@ -9,6 +9,7 @@ use Rattle.image_form.specs.Form.{Form, numbered}
 use Rattle.image_form.specs.Lists.{EachToNext}
 use Rattle.image_form.specs.RulesOfChanges.{IsPairBefore}
 use Rattle.image_form.specs.RulesOfFunctions.{IsCodeAddress, IsPlaceNumber}
+use Rattle.image_form_sections.specs.Versions.{has_quiet}
 
 -- The variable belongs to the function of the place.
 abbrev pub IsVisible : Form → ℕ → ℕ → Type 0
@@ -33,7 +34,18 @@ IsVerdict f variable (Recovered change node) =
 IsVerdict f variable (Noncurrent change start writer) = IsEvidence f variable change start writer
 IsVerdict f variable (Nonresident change start writer) = IsEvidence f variable change start writer
 
+-- A quiet path begins at a place. None is told of a variable that is shown.
+abbrev pub IsQuietStart : Form → Verdict → Option ℕ → Type 0
+IsQuietStart f v None = ⊤
+IsQuietStart f Home (Some start) = ⊥
+IsQuietStart f (Recovered change node) (Some start) = ⊥
+IsQuietStart f (Noncurrent change start writer) (Some quiet) = IsPlaceNumber f quiet
+IsQuietStart f (Nonresident change start writer) (Some quiet) = IsPlaceNumber f quiet
+
 pub record RowRules (f : Form) : Type 0 where
   pub visible : AllByRecursion (λ r. IsVisible f r.place r.variable) f.rows
   pub verdicts : AllByRecursion (λ r. IsVerdict f r.variable r.verdict) f.rows
+  pub quiet : AllByRecursion (λ r. IsQuietStart f r.verdict r.quiet) f.rows
+  -- Only some versions tell where quiet paths begin.
+  pub none_quiet : has_quiet f.version.level ≡ false → AllByRecursion (λ r. r.quiet ≡ None) f.rows
   pub ascend : EachToNext (λ r s. IsPairBefore r.place r.variable s.place s.variable) f.rows

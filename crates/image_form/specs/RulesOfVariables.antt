@@ -8,8 +8,10 @@ use Rattle.image_form.specs.Form.{Form}
 use Rattle.image_form.specs.Lists.{EachToNext}
 unfoldable pub use Rattle.image_form_sections.specs.Bounds.{static_start, static_size}
 
-abbrev pub IsStaticAddress : ℕ → Type 0
-IsStaticAddress address = (static_start ≤ address) × (address < static_start + static_size)
+-- An address of static memory, in the map of the image's version.
+abbrev pub IsStaticAddress : Form → ℕ → Type 0
+IsStaticAddress f address =
+    (static_start f.version.map ≤ address) × (address < static_start f.version.map + static_size)
 
 -- The registers that keep scalars: s1, and s2 to s11, t3 to t6.
 abbrev pub IsHomeRegister : ℕ → Type 0
@@ -27,15 +29,15 @@ IsKeptInFunction f k (Register number) = (k < length f.functions) × IsHomeRegis
 IsKeptInFunction f k (Slot offset) = IsFrameOffset f k offset
 
 -- A static variable may be kept there.
-abbrev pub IsKeptStatically : Storage → Type 0
-IsKeptStatically (Static address) = IsStaticAddress address
-IsKeptStatically (Frame offset) = ⊥
-IsKeptStatically (Register number) = ⊥
-IsKeptStatically (Slot offset) = ⊥
+abbrev pub IsKeptStatically : Form → Storage → Type 0
+IsKeptStatically f (Static address) = IsStaticAddress f address
+IsKeptStatically f (Frame offset) = ⊥
+IsKeptStatically f (Register number) = ⊥
+IsKeptStatically f (Slot offset) = ⊥
 
 -- Static memory is for static variables; the others belong to a function that is there.
 abbrev pub IsKept : Form → Option ℕ → Storage → Type 0
-IsKept f None storage = IsKeptStatically storage
+IsKept f None storage = IsKeptStatically f storage
 IsKept f (Some k) storage = IsKeptInFunction f k storage
 
 -- Only a variable in memory may be an array: a home has count 0.

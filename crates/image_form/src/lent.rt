@@ -5,23 +5,25 @@ ghost use Rattle.image_form.specs.Decoding.{sections_of};
 ghost use Rattle.image_form.specs.Form.{Form};
 ghost use Rattle.image_form_sections.specs.Layouts.{sections_in};
 ghost use Rattle.image_form.specs.Lent.{are_bytes, image_in};
-ghost use Rattle.image_form.specs.Numbers.{assigned_numbers, change_numbers, flow_numbers, function_numbers, node_numbers, place_numbers, row_numbers, variable_numbers};
+ghost use Rattle.image_form.specs.Numbers.{assigned_numbers, call_numbers, change_numbers, flow_numbers, function_numbers, member_numbers, node_numbers, place_numbers, row_numbers, variable_numbers};
 ghost use Rattle.image_form.specs.Reading.{read_of};
 ghost use Rattle.image_form.specs.Rules.{IsImage};
 ghost use Rattle.image_form_sections.specs.Sections.{sections_at};
 ghost use Rattle.image_form.specs.Spelling.{header, spelled, spelling};
 
 use crate::name_lookup::{behind_names, name_in};
+use crate::members::Member;
 use crate::numbers::{
-    ChangeRecord, FunctionRecord, Header, NodeRecord, PlaceRecord, RowRecord, VariableRecord,
+    CallRecord, ChangeRecord, FunctionRecord, Header, MemberRecord, NodeRecord, PlaceRecord,
+    RowRecord, VariableRecord,
 };
 use crate::recipes::Node;
 use crate::records::{Record, mode_of};
 use crate::tables::{AssignedPair, Change, FlowPair, Function, Place};
 use crate::variables::Variable;
-use crate::verdicts::VisibleRow;
+use crate::verdicts::{CallRow, VisibleRow};
 use debug_records::Mode;
-use image_form_sections::{HEADER_SIZE, Layout, layout_of};
+use image_form_sections::{Layout, Version, layout_of, level_of, version_of};
 
 /// The image that bytes spell, read where it lies.
 ///
@@ -37,7 +39,7 @@ pub struct View<'a> {
 
 #[tactic(auto, unfolding(crate::specs::Decoding::decoded), using(crate::proofs::Got::counted, crate::proofs::Got::got_mapped))]
 impl<'a> View<'a> {
-    ghost use Rattle.image_form.specs.RawRecords.{header_numbers, numbers_of_change, numbers_of_function, numbers_of_node, numbers_of_place, numbers_of_row, numbers_of_variable};
+    ghost use Rattle.image_form.specs.RawRecords.{header_numbers, numbers_of_call, numbers_of_change, numbers_of_function, numbers_of_member, numbers_of_node, numbers_of_place, numbers_of_row, numbers_of_variable};
     ghost use Rattle.image_form.specs.Views.{name_of, viewed};
 
     /// The view of bytes that spell an image, whose sections are these.
@@ -71,6 +73,13 @@ impl<'a> View<'a> {
         &self.layout
     }
 
+    /// The version of the image.
+    pub fn version(&self) -> Version
+        ensures { result ≡ (viewed self.now).version }
+    {
+        version_of(self.layout.version)
+    }
+
     /// Where the compiler put scalars.
     pub fn mode(&self) -> Mode
         ensures { result ≡ (viewed self.now).mode }
@@ -82,7 +91,8 @@ impl<'a> View<'a> {
     pub fn code_bytes(&self) -> &'a [u8]
         ensures { result.now ≡ spelled (viewed self.now).code }
     {
-        &self.bytes[HEADER_SIZE..HEADER_SIZE + 4 * self.code_count()]
+        let header = level_of(self.layout.version).header_size();
+        &self.bytes[header..header + 4 * self.code_count()]
     }
 
     /// The bytes that lie in static memory when the program starts.
@@ -171,6 +181,22 @@ impl<'a> View<'a> {
         self.layout.rows.len()
     }
 
+    /// How many rows of calls there are.
+    pub fn call_count(&self) -> usize
+        ensures count { result ≡ length (viewed self.now).calls }
+        ensures few { result < 2 ^ 32 }
+    {
+        self.layout.calls.len()
+    }
+
+    /// How many members of structures there are.
+    pub fn member_count(&self) -> usize
+        ensures count { result ≡ length (viewed self.now).members }
+        ensures few { result < 2 ^ 32 }
+    {
+        self.layout.members.len()
+    }
+
     /// How many recipe nodes there are.
     pub fn node_count(&self) -> usize
         ensures count { result ≡ length (viewed self.now).nodes }
@@ -251,6 +277,22 @@ impl<'a> View<'a> {
         VisibleRow::take(&self.layout.rows, n)
     }
 
+    /// The n-th row of a call.
+    pub fn call_at(&self, n: usize) -> CallRow
+        requires { n < length (viewed self.now).calls }
+        ensures { slice_get (viewed self.now).calls n ≡ Some result }
+    {
+        CallRow::take(&self.layout.calls, n)
+    }
+
+    /// The n-th member of a structure.
+    pub fn member_at(&self, n: usize) -> Member
+        requires { n < length (viewed self.now).members }
+        ensures { slice_get (viewed self.now).members n ≡ Some result }
+    {
+        Member::take(&self.layout.members, n)
+    }
+
     /// The n-th recipe node.
     pub fn node_at(&self, n: usize) -> Node
         requires { n < length (viewed self.now).nodes }
@@ -261,9 +303,28 @@ impl<'a> View<'a> {
 
     /// The numbers of the header.
     pub fn header(&self) -> Header
-        ensures { header_numbers result ≡ header (viewed self.now) }
+        ensures { let f = viewed self.now in header_numbers f.version.level result ≡ header f }
     {
-        Header::of_bytes(self.bytes)
+        let layout = self.sections();
+        Header {
+            version: layout.version,
+            length: self.bytes.len() as u32,
+            mode: layout.mode,
+            code: layout.code.len() as u32,
+            initial: layout.initial.len() as u32,
+            functions: layout.functions.len() as u32,
+            places: layout.places.len() as u32,
+            variables: layout.variables.len() as u32,
+            changes: layout.changes.len() as u32,
+            flow: layout.flow.len() as u32,
+            assigned: layout.assigned.len() as u32,
+            rows: layout.rows.len() as u32,
+            nodes: layout.nodes.len() as u32,
+            names: layout.names.len() as u32,
+            zero: 0,
+            calls: layout.calls.len() as u32,
+            members: layout.members.len() as u32,
+        }
     }
 
     /// The n-th code word.
@@ -285,7 +346,8 @@ impl<'a> View<'a> {
     /// The numbers of the n-th function.
     pub fn function(&self, n: u32) -> FunctionRecord
         requires { n < length (viewed self.now).functions }
-        ensures { slice_get (map function_numbers (viewed self.now).functions) n ≡ Some (numbers_of_function result) }
+        ensures { let f = viewed self.now in let level = f.version.level in
+            slice_get (map (function_numbers level) f.functions) n ≡ Some (numbers_of_function level result) }
     {
         let row = n as usize;
         let table = &self.sections().functions;
@@ -295,6 +357,7 @@ impl<'a> View<'a> {
             end: table.number(row, 2),
             frame: table.number(row, 3),
             entry: table.number(row, 4),
+            saved: table.number(row, 5),
         }
     }
 
@@ -351,7 +414,8 @@ impl<'a> View<'a> {
     /// The numbers of the n-th visible row.
     pub fn row(&self, n: u32) -> RowRecord
         requires { n < length (viewed self.now).rows }
-        ensures { slice_get (map row_numbers (viewed self.now).rows) n ≡ Some (numbers_of_row result) }
+        ensures { let f = viewed self.now in let level = f.version.level in
+            slice_get (map (row_numbers level) f.rows) n ≡ Some (numbers_of_row level result) }
     {
         let row = n as usize;
         let table = &self.sections().rows;
@@ -362,6 +426,41 @@ impl<'a> View<'a> {
             change: table.number(row, 3),
             a: table.number(row, 4),
             b: table.number(row, 5),
+            c: table.number(row, 6),
+        }
+    }
+
+    /// The numbers of the n-th row of a call.
+    pub fn call(&self, n: u32) -> CallRecord
+        requires { n < length (viewed self.now).calls }
+        ensures { slice_get (map call_numbers (viewed self.now).calls) n ≡ Some (numbers_of_call result) }
+    {
+        let row = n as usize;
+        let table = &self.sections().calls;
+        CallRecord {
+            address: table.number(row, 0),
+            variable: table.number(row, 1),
+            verdict: table.number(row, 2),
+            change: table.number(row, 3),
+            a: table.number(row, 4),
+            b: table.number(row, 5),
+            d: table.number(row, 6),
+        }
+    }
+
+    /// The numbers of the n-th member of a structure.
+    pub fn member(&self, n: u32) -> MemberRecord
+        requires { n < length (viewed self.now).members }
+        ensures { slice_get (map member_numbers (viewed self.now).members) n ≡ Some (numbers_of_member result) }
+    {
+        let row = n as usize;
+        let table = &self.sections().members;
+        MemberRecord {
+            structure: table.number(row, 0),
+            name_length: table.number(row, 1),
+            offset: table.number(row, 2),
+            element: table.number(row, 3),
+            count: table.number(row, 4),
         }
     }
 

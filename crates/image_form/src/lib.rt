@@ -3,6 +3,7 @@
 
 mod format;
 mod lent;
+mod members;
 mod name_lookup;
 mod numbers;
 mod reading;
@@ -14,14 +15,16 @@ mod verdicts;
 mod writing;
 
 pub use format::Image;
-pub use image_form_sections::ImageErr;
+pub use image_form_sections::{ImageErr, Level, Version};
 pub use lent::View;
+pub use members::Member;
 pub use numbers::{
-    ChangeRecord, FunctionRecord, Header, NodeRecord, PlaceRecord, RowRecord, VariableRecord,
+    CallRecord, ChangeRecord, FunctionRecord, Header, MemberRecord, NodeRecord, PlaceRecord,
+    RowRecord, VariableRecord,
 };
 pub use reading::{read, view};
 pub use recipes::Node;
 pub use tables::{AssignedPair, Change, FlowPair, Function, Place};
 pub use variables::{ElementType, Storage, Variable};
-pub use verdicts::{Verdict, VisibleRow};
+pub use verdicts::{CallRow, Verdict, VisibleRow};
 pub use writing::{spell, spelling_is_unique, write};

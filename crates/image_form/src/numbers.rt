@@ -1,11 +1,5 @@
 //! The header and the records of an image as the numbers that they are spelled by, in the order of the file.
 
-ghost use Rattle.std.specs.Prelude.{◌≡◌, ◌≤◌, length};
-ghost use Rattle.image_form.specs.RawRecords.{header_numbers};
-ghost use Rattle.image_form_sections.specs.Sections.{numbers_at};
-
-use image_form_sections::number_at;
-
 /// The numbers of a header behind its first four bytes.
 #[derive(Clone, Copy)]
 pub struct Header {
@@ -34,32 +28,10 @@ pub struct Header {
     pub names: u32,
     /// 0.
     pub zero: u32,
-}
-
-impl Header {
-    /// The header at the front of bytes.
-    pub fn of_bytes(bytes: &[u8]) -> Header
-        requires { 64 ≤ length bytes.now }
-        ensures { header_numbers result ≡ numbers_at 15 4 bytes.now }
-    {
-        Header {
-            version: number_at(bytes, 4),
-            length: number_at(bytes, 8),
-            mode: number_at(bytes, 12),
-            code: number_at(bytes, 16),
-            initial: number_at(bytes, 20),
-            functions: number_at(bytes, 24),
-            places: number_at(bytes, 28),
-            variables: number_at(bytes, 32),
-            changes: number_at(bytes, 36),
-            flow: number_at(bytes, 40),
-            assigned: number_at(bytes, 44),
-            rows: number_at(bytes, 48),
-            nodes: number_at(bytes, 52),
-            names: number_at(bytes, 56),
-            zero: number_at(bytes, 60),
-        }
-    }
+    /// How many rows of calls there are, 0 where the version does not tell.
+    pub calls: u32,
+    /// How many members of structures there are, 0 where the version does not tell.
+    pub members: u32,
 }
 
 /// The numbers of a function.
@@ -70,6 +42,8 @@ pub struct FunctionRecord {
     pub end: u32,
     pub frame: u32,
     pub entry: u32,
+    /// The mask of the registers that it saves, 0 where the version does not tell.
+    pub saved: u32,
 }
 
 /// The numbers of a place.
@@ -118,6 +92,34 @@ pub struct RowRecord {
     pub a: u32,
     /// The address of the code word that wrote, or 0.
     pub b: u32,
+    /// The place at which a quiet path begins, or 0.
+    pub c: u32,
+}
+
+/// The numbers of a row of a call.
+#[derive(Clone, Copy)]
+pub struct CallRecord {
+    /// The address to which the call returns.
+    pub address: u32,
+    pub variable: u32,
+    pub verdict: u32,
+    pub change: u32,
+    /// The node of a recipe, or the start place of a path.
+    pub a: u32,
+    /// The address of the code word that wrote, or 0.
+    pub b: u32,
+    /// The form of the path.
+    pub d: u32,
+}
+
+/// The numbers of a member of a structure.
+#[derive(Clone, Copy)]
+pub struct MemberRecord {
+    pub structure: u32,
+    pub name_length: u32,
+    pub offset: u32,
+    pub element: u32,
+    pub count: u32,
 }
 
 /// The numbers of a node.

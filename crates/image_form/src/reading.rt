@@ -15,7 +15,7 @@ ghost use Rattle.image_form_sections.specs.Sections.{sections_at};
 use crate::format::Image;
 use crate::lent::View;
 use crate::records::{mode_of, take_records};
-use image_form_sections::{ImageErr, Layout, checked};
+use image_form_sections::{ImageErr, Layout, checked, version_of};
 use std::alloc::{AllocError, Global};
 
 /// The image that the bytes spell.
@@ -72,6 +72,7 @@ fn image_of(alloc: Global, layout: &Layout<'_>) -> Result<Image, AllocError>
     ensures { IfOk result (λ image. form image ≡ decoded (sections_in layout.now)) }
 {
     Ok(Image {
+        version: version_of(layout.version),
         mode: mode_of(layout.mode),
         code: take_records(alloc, &layout.code)?,
         initial: layout.initial.to_vec(alloc)?,
@@ -83,6 +84,8 @@ fn image_of(alloc: Global, layout: &Layout<'_>) -> Result<Image, AllocError>
         flow: take_records(alloc, &layout.flow)?,
         assigned: take_records(alloc, &layout.assigned)?,
         rows: take_records(alloc, &layout.rows)?,
+        calls: take_records(alloc, &layout.calls)?,
+        members: take_records(alloc, &layout.members)?,
         nodes: take_records(alloc, &layout.nodes)?,
         names: layout.names.to_vec(alloc)?,
     })

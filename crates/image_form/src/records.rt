@@ -1,30 +1,32 @@
 //! Records as numbers of 32 bits, little endian, and back.
 
 ghost use Rattle.std.specs.Prelude.{◌≡◌, ℕ, ◌++◌, List, [], IfOk, OnOk, map, slice_index_or};
-ghost use Rattle.image_form.specs.Decoding.{assigned_of, change_of, element_of, flow_of, function_of, kind_of, computed_of, mode_of, node_of, operation_of, owner_of, place_of, row_of, storage_of, truncation_of, variable_of, verdict_of, word_numbers, word_of, writer_of};
+ghost use Rattle.image_form.specs.Decoding.{assigned_of, call_of, change_of, element_of, flow_of, function_of, kind_of, computed_of, member_of, mode_of, node_of, operation_of, owner_of, place_of, quiet_of, row_of, storage_of, truncation_of, variable_of, verdict_of, word_numbers, word_of, writer_of};
 ghost use Rattle.image_form_sections.specs.Layouts.{rows_in};
-ghost use Rattle.image_form.specs.Numbers.{assigned_numbers, change_numbers, element_number, flow_numbers, function_numbers, kind_number, node_numbers, operation_number, place_numbers, row_numbers, storage_number, storage_value, truncation_number, variable_numbers};
+ghost use Rattle.image_form.specs.Numbers.{assigned_numbers, call_numbers, change_numbers, element_number, flow_numbers, function_numbers, kind_number, last_if, member_numbers, node_numbers, operation_number, place_numbers, row_numbers, storage_number, storage_value, truncation_number, variable_numbers, verdict_numbers};
 ghost use Rattle.image_form.specs.Spelling.{section, spelled};
+ghost use Rattle.image_form_sections.specs.declared.version.Level.{Level};
 
+use crate::members::Member;
 use crate::recipes::Node;
 use crate::tables::{AssignedPair, Change, FlowPair, Function, Place};
 use crate::variables::{ElementType, Storage, Variable};
-use crate::verdicts::{Verdict, VisibleRow};
+use crate::verdicts::{CallRow, Verdict, VisibleRow};
 use byteorder::{ByteOrder, LittleEndian};
 use debug_records::{Kind, Mode};
-use image_form_sections::{NO_FUNCTION, Table};
+use image_form_sections::{Level, NO_FUNCTION, Table};
 use std::alloc::{AllocError, Global};
 use word_base::{Operation, Truncation};
 
-/// A record of a table, which is spelled as numbers.
+/// A record of a table, which is spelled as numbers, by the level of the version.
 pub trait Record: Drop {
-    ghost numbers: { Self → List ℕ };
+    ghost numbers: { Level → Self → List ℕ };
 
     ghost of_numbers: { List ℕ → Self };
 
     /// Writes the record's numbers at the end.
-    fn put(&self, out: &mut Vec<u8>) -> Result<(), AllocError>
-        ensures { OnOk result (out.new.items ≡ out.old.items ++ spelled (numbers self.now)) };
+    fn put(&self, level: Level, out: &mut Vec<u8>) -> Result<(), AllocError>
+        ensures { OnOk result (out.new.items ≡ out.old.items ++ spelled (numbers level self.now)) };
 
     /// The record that a row of numbers says.
     fn take(table: &Table<'_>, row: usize) -> Self
@@ -43,12 +45,22 @@ pub fn put_numbers(out: &mut Vec<u8>, numbers: &[u32]) -> Result<(), AllocError>
     Ok(())
 }
 
+/// Writes a last number at the end, where a version has it.
+fn put_last(out: &mut Vec<u8>, has: bool, number: u32) -> Result<(), AllocError>
+    ensures { OnOk result (out.new.items ≡ out.old.items ++ spelled (last_if has number)) }
+{
+    if has {
+        put_numbers(out, &[number])?;
+    }
+    Ok(())
+}
+
 /// Writes the records of a table at the end.
-pub fn put_records<R: Record>(out: &mut Vec<u8>, records: &[R]) -> Result<(), AllocError>
-    ensures { OnOk result (out.new.items ≡ out.old.items ++ section R.numbers records.now) }
+pub fn put_records<R: Record>(out: &mut Vec<u8>, level: Level, records: &[R]) -> Result<(), AllocError>
+    ensures { OnOk result (out.new.items ≡ out.old.items ++ section (R.numbers level) records.now) }
 {
     for record in records {
-        record.put(out)?;
+        record.put(level, out)?;
     }
     Ok(())
 }
@@ -65,11 +77,11 @@ pub fn take_records<R: Record>(alloc: Global, table: &Table<'_>) -> Result<Vec<R
 }
 
 impl Record for u32 {
-    ghost numbers = { word_numbers };
+    ghost numbers = { λ _. word_numbers };
 
     ghost of_numbers = { word_of };
 
-    fn put(&self, out: &mut Vec<u8>) -> Result<(), AllocError> {
+    fn put(&self, _level: Level, out: &mut Vec<u8>) -> Result<(), AllocError> {
         put_numbers(out, &[*self])
     }
 
@@ -83,17 +95,17 @@ impl Record for Function {
 
     ghost of_numbers = { function_of };
 
-    fn put(&self, out: &mut Vec<u8>) -> Result<(), AllocError> {
-        put_numbers(
-            out,
-            &[
-                self.name_length,
-                self.first,
-                self.end,
-                self.frame,
-                self.entry,
-            ],
-        )
+    fn put(&self, level: Level, out: &mut Vec<u8>) -> Result<(), AllocError> {
+        let Self {
+            name_length,
+            first,
+            end,
+            frame,
+            entry,
+            saved,
+        } = *self;
+        put_numbers(out, &[name_length, first, end, frame, entry])?;
+        put_last(out, level.has_callers(), saved)
     }
 
     fn take(table: &Table<'_>, row: usize) -> Function {
@@ -103,16 +115,17 @@ impl Record for Function {
             end: table.number(row, 2),
             frame: table.number(row, 3),
             entry: table.number(row, 4),
+            saved: table.number(row, 5),
         }
     }
 }
 
 impl Record for Place {
-    ghost numbers = { place_numbers };
+    ghost numbers = { λ _. place_numbers };
 
     ghost of_numbers = { place_of };
 
-    fn put(&self, out: &mut Vec<u8>) -> Result<(), AllocError> {
+    fn put(&self, _level: Level, out: &mut Vec<u8>) -> Result<(), AllocError> {
         put_numbers(
             out,
             &[self.position, self.line, self.function, self.address],
@@ -130,11 +143,11 @@ impl Record for Place {
 }
 
 impl Record for Variable {
-    ghost numbers = { variable_numbers };
+    ghost numbers = { λ _. variable_numbers };
 
     ghost of_numbers = { variable_of };
 
-    fn put(&self, out: &mut Vec<u8>) -> Result<(), AllocError> {
+    fn put(&self, _level: Level, out: &mut Vec<u8>) -> Result<(), AllocError> {
         put_numbers(
             out,
             &[
@@ -163,11 +176,11 @@ impl Record for Variable {
 }
 
 impl Record for Change {
-    ghost numbers = { change_numbers };
+    ghost numbers = { λ _. change_numbers };
 
     ghost of_numbers = { change_of };
 
-    fn put(&self, out: &mut Vec<u8>) -> Result<(), AllocError> {
+    fn put(&self, _level: Level, out: &mut Vec<u8>) -> Result<(), AllocError> {
         put_numbers(
             out,
             &[
@@ -191,11 +204,11 @@ impl Record for Change {
 }
 
 impl Record for FlowPair {
-    ghost numbers = { flow_numbers };
+    ghost numbers = { λ _. flow_numbers };
 
     ghost of_numbers = { flow_of };
 
-    fn put(&self, out: &mut Vec<u8>) -> Result<(), AllocError> {
+    fn put(&self, _level: Level, out: &mut Vec<u8>) -> Result<(), AllocError> {
         put_numbers(out, &[self.from, self.to])
     }
 
@@ -208,11 +221,11 @@ impl Record for FlowPair {
 }
 
 impl Record for AssignedPair {
-    ghost numbers = { assigned_numbers };
+    ghost numbers = { λ _. assigned_numbers };
 
     ghost of_numbers = { assigned_of };
 
-    fn put(&self, out: &mut Vec<u8>) -> Result<(), AllocError> {
+    fn put(&self, _level: Level, out: &mut Vec<u8>) -> Result<(), AllocError> {
         put_numbers(out, &[self.place, self.variable])
     }
 
@@ -229,34 +242,10 @@ impl Record for VisibleRow {
 
     ghost of_numbers = { row_of };
 
-    fn put(&self, out: &mut Vec<u8>) -> Result<(), AllocError> {
-        let Self {
-            place,
-            variable,
-            verdict,
-        } = *self;
-        match verdict {
-            Verdict::Home => put_numbers(out, &[place, variable, 0, 0, 0, 0]),
-            Verdict::Recovered { change, node } => {
-                put_numbers(out, &[place, variable, 1, change, node, 0])
-            }
-            Verdict::Noncurrent {
-                change,
-                start,
-                writer,
-            } => {
-                let address = writer.unwrap_or(NO_WRITER);
-                put_numbers(out, &[place, variable, 2, change, start, address])
-            }
-            Verdict::Nonresident {
-                change,
-                start,
-                writer,
-            } => {
-                let address = writer.unwrap_or(NO_WRITER);
-                put_numbers(out, &[place, variable, 3, change, start, address])
-            }
-        }
+    fn put(&self, level: Level, out: &mut Vec<u8>) -> Result<(), AllocError> {
+        put_numbers(out, &[self.place, self.variable])?;
+        put_numbers(out, &verdict_numbers(self.verdict))?;
+        put_last(out, level.has_quiet(), self.quiet.unwrap_or(NO_QUIET))
     }
 
     fn take(table: &Table<'_>, row: usize) -> VisibleRow {
@@ -269,16 +258,71 @@ impl Record for VisibleRow {
                 table.number(row, 4),
                 table.number(row, 5),
             ),
+            quiet: quiet_of(table.number(row, 6)),
+        }
+    }
+}
+
+impl Record for CallRow {
+    ghost numbers = { λ _. call_numbers };
+
+    ghost of_numbers = { call_of };
+
+    fn put(&self, _level: Level, out: &mut Vec<u8>) -> Result<(), AllocError> {
+        put_numbers(out, &[self.address, self.variable])?;
+        put_numbers(out, &verdict_numbers(self.verdict))?;
+        put_numbers(out, &[self.path_form])
+    }
+
+    fn take(table: &Table<'_>, row: usize) -> CallRow {
+        CallRow {
+            address: table.number(row, 0),
+            variable: table.number(row, 1),
+            verdict: verdict_of(
+                table.number(row, 2),
+                table.number(row, 3),
+                table.number(row, 4),
+                table.number(row, 5),
+            ),
+            path_form: table.number(row, 6),
+        }
+    }
+}
+
+impl Record for Member {
+    ghost numbers = { λ _. member_numbers };
+
+    ghost of_numbers = { member_of };
+
+    fn put(&self, _level: Level, out: &mut Vec<u8>) -> Result<(), AllocError> {
+        let Self {
+            structure,
+            name_length,
+            offset,
+            element,
+            count,
+        } = *self;
+        let element = element_number(element);
+        put_numbers(out, &[structure, name_length, offset, element, count])
+    }
+
+    fn take(table: &Table<'_>, row: usize) -> Member {
+        Member {
+            structure: table.number(row, 0),
+            name_length: table.number(row, 1),
+            offset: table.number(row, 2),
+            element: element_of(table.number(row, 3)),
+            count: table.number(row, 4),
         }
     }
 }
 
 impl Record for Node {
-    ghost numbers = { node_numbers };
+    ghost numbers = { λ _. node_numbers };
 
     ghost of_numbers = { node_of };
 
-    fn put(&self, out: &mut Vec<u8>) -> Result<(), AllocError> {
+    fn put(&self, _level: Level, out: &mut Vec<u8>) -> Result<(), AllocError> {
         match *self {
             Node::Constant(value) => put_numbers(out, &[0, value, 0]),
             Node::Variable(variable) => put_numbers(out, &[1, variable, 0]),
@@ -327,6 +371,28 @@ fn computed_of(number: u32, first: u32, second: u32) -> Node
 
 /// Stands for no writer in a visible row.
 const NO_WRITER: u32 = 0;
+
+/// Stands for no place in a visible row.
+const NO_QUIET: u32 = 0;
+
+fn verdict_numbers(verdict: Verdict) -> [u32; 4]
+    ensures { result ≡ verdict_numbers verdict }
+{
+    match verdict {
+        Verdict::Home => [0, 0, 0, 0],
+        Verdict::Recovered { change, node } => [1, change, node, 0],
+        Verdict::Noncurrent {
+            change,
+            start,
+            writer,
+        } => [2, change, start, writer.unwrap_or(NO_WRITER)],
+        Verdict::Nonresident {
+            change,
+            start,
+            writer,
+        } => [3, change, start, writer.unwrap_or(NO_WRITER)],
+    }
+}
 
 fn element_number(element: ElementType) -> u32
     ensures { result ≡ element_number element }
@@ -469,6 +535,16 @@ fn writer_of(number: u32) -> Option<u32>
     ensures { result ≡ writer_of number }
 {
     if number == NO_WRITER {
+        None
+    } else {
+        Some(number)
+    }
+}
+
+fn quiet_of(number: u32) -> Option<u32>
+    ensures { result ≡ quiet_of number }
+{
+    if number == NO_QUIET {
         None
     } else {
         Some(number)

@@ -15,6 +15,8 @@ pub struct Function {
     pub frame: u32,
     /// The number of its entry place.
     pub entry: u32,
+    /// The mask of the registers that it saves, 0 where the version does not tell.
+    pub saved: u32,
 }
 
 /// A place of the source text, where the debugger may stop.

@@ -33,4 +33,17 @@ pub struct VisibleRow {
     pub place: u32,
     pub variable: u32,
     pub verdict: Verdict,
+    /// The place at which a quiet path begins, if there is one and the version tells.
+    pub quiet: Option<u32>,
+}
+
+/// The verdict on a variable of a function that waits for a call.
+#[derive(Clone, Copy)]
+pub struct CallRow {
+    /// The address to which the call returns.
+    pub address: u32,
+    pub variable: u32,
+    pub verdict: Verdict,
+    /// Which form the path of the verdict has.
+    pub path_form: u32,
 }

@@ -3,4 +3,5 @@ pub mod FirstAt
 pub mod Inside
 pub mod Octets
 pub mod RowLaws
+pub mod SectionLaws
 pub mod Unfit

@@ -1,21 +1,23 @@
--- The addresses and numbers that the format fixes.
+-- The addresses and numbers that the format fixes; the addresses are those of a map of memory.
 use Rattle.std.specs.Prelude.{ℕ, ◌+◌, ◌*◌}
+use Rattle.memory_map.specs.Maps as maps
+use Rattle.memory_map.specs.declared.map.Map.{Map}
 
 -- The address of the first code word.
 unfoldable pub code_start : ℕ
-code_start = 0x00010000
+code_start = maps.code_start
 
 -- The address of the w-th code word.
 abbrev pub word_address : ℕ → ℕ
 word_address w = code_start + 4 * w
 
 -- The address at which static memory begins.
-unfoldable pub static_start : ℕ
-static_start = 0x00400000
+unfoldable pub static_start : Map → ℕ
+static_start m = maps.bytes_start m
 
 -- How many bytes static memory has.
 unfoldable pub static_size : ℕ
-static_size = 1048576
+static_size = maps.bytes_size
 
 -- The greatest number of 32 bits stands for no function.
 abbrev pub no_function : ℕ

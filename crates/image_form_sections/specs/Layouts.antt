@@ -16,6 +16,7 @@ rows_in t = rows_at t.width t.count t.bytes.now
 -- The sections of a layout.
 abbrev pub sections_in : Layout → Sections
 sections_in l = record {
+  version = l.version;
   mode = l.mode;
   code = rows_in l.code;
   initial = l.initial.now;
@@ -27,6 +28,8 @@ sections_in l = record {
   flow = rows_in l.flow;
   assigned = rows_in l.assigned;
   rows = rows_in l.rows;
+  calls = rows_in l.calls;
+  members = rows_in l.members;
   nodes = rows_in l.nodes;
   names = l.names.now;
 }

@@ -3,6 +3,7 @@ pub mod Breaches
 pub mod Checking
 pub mod Layouts
 pub mod Letters
+pub mod Masks
 pub mod Order
 pub mod Sections
 pub mod TestsOfChanges
@@ -11,3 +12,4 @@ pub mod TestsOfNames
 pub mod TestsOfNodes
 pub mod TestsOfTables
 pub mod TestsOfVariables
+pub mod Versions

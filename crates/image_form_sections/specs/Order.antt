@@ -1,13 +1,16 @@
 -- The table of the sections: in which order they stand, how many bytes a record of each has, and where the header says how
 -- many records there are.
-use Rattle.std.specs.Prelude.{ℕ, ◌+◌, ◌*◌, List, [], ◌∷◌, take, sum_by}
+use Rattle.std.specs.Prelude.{ℕ, ◌+◌, ◌*◌, ◌||◌, Bool, true, false, if◌then◌else◌, List, [], ◌∷◌, take, sum_by}
 use Rattle.image_form_sections.specs.declared.section.Section.{Section}
-use Rattle.image_form_sections.specs.declared.section.Section.TheVariants.{Code, Initial, Functions, Places, Owners, Variables, Changes, Flow, Assigned, Rows, Nodes, Names}
+use Rattle.image_form_sections.specs.declared.section.Section.TheVariants.{Code, Initial, Functions, Places, Owners, Variables, Changes, Flow, Assigned, Rows, Calls, Members, Nodes, Names}
+use Rattle.image_form_sections.specs.declared.version.Level.{Level}
+use Rattle.image_form_sections.specs.Versions.{has_quiet, has_callers, header_size}
 
 -- The sections in the order of the file.
 abbrev pub order : List Section
 order =
-    Code ∷ Initial ∷ Functions ∷ Places ∷ Owners ∷ Variables ∷ Changes ∷ Flow ∷ Assigned ∷ Rows ∷ Nodes ∷ Names ∷ []
+    Code ∷ Initial ∷ Functions ∷ Places ∷ Owners ∷ Variables ∷ Changes ∷ Flow ∷ Assigned ∷ Rows ∷ Calls ∷ Members ∷ Nodes
+    ∷ Names ∷ []
 
 -- How many sections stand before one.
 abbrev pub number_of : Section → ℕ
@@ -21,23 +24,27 @@ number_of Changes = 6
 number_of Flow = 7
 number_of Assigned = 8
 number_of Rows = 9
-number_of Nodes = 10
-number_of Names = 11
+number_of Calls = 10
+number_of Members = 11
+number_of Nodes = 12
+number_of Names = 13
 
--- How many bytes a record has.
-abbrev pub record_size : Section → ℕ
-record_size Code = 4
-record_size Initial = 1
-record_size Functions = 20
-record_size Places = 16
-record_size Owners = 4
-record_size Variables = 32
-record_size Changes = 20
-record_size Flow = 8
-record_size Assigned = 8
-record_size Rows = 24
-record_size Nodes = 12
-record_size Names = 1
+-- How many bytes a record has, in a version of this level.
+abbrev pub record_size : Level → Section → ℕ
+record_size level Code = 4
+record_size level Initial = 1
+record_size level Functions = if has_callers level then 24 else 20
+record_size level Places = 16
+record_size level Owners = 4
+record_size level Variables = 32
+record_size level Changes = 20
+record_size level Flow = 8
+record_size level Assigned = 8
+record_size level Rows = if has_quiet level then 28 else 24
+record_size level Calls = 28
+record_size level Members = 20
+record_size level Nodes = 12
+record_size level Names = 1
 
 -- The byte of the header at which the number of records stands. A code word has one owner, so both have one count.
 abbrev pub count_offset : Section → ℕ
@@ -51,13 +58,36 @@ count_offset Changes = 36
 count_offset Flow = 40
 count_offset Assigned = 44
 count_offset Rows = 48
+count_offset Calls = 64
+count_offset Members = 68
 count_offset Nodes = 52
 count_offset Names = 56
 
+-- The header of each version tells of the section.
+abbrev pub is_always : Section → Bool
+is_always Code = true
+is_always Initial = true
+is_always Functions = true
+is_always Places = true
+is_always Owners = true
+is_always Variables = true
+is_always Changes = true
+is_always Flow = true
+is_always Assigned = true
+is_always Rows = true
+is_always Calls = false
+is_always Members = false
+is_always Nodes = true
+is_always Names = true
+
+-- The header of a version of this level tells of the section.
+abbrev pub is_told : Level → Section → Bool
+is_told level section = is_always section || has_callers level
+
 -- The byte behind the header and sections of so many records each.
-abbrev pub behind : (Section → ℕ) → List Section → ℕ
-behind count sections = 64 + sum_by (λ s. record_size s * count s) sections
+abbrev pub behind : Level → (Section → ℕ) → List Section → ℕ
+behind level count sections = header_size level + sum_by (λ s. record_size level s * count s) sections
 
 -- The byte at which a section begins: behind the header and the sections before it.
-abbrev pub start : (Section → ℕ) → Section → ℕ
-start count section = behind count (take (number_of section) order)
+abbrev pub start : Level → (Section → ℕ) → Section → ℕ
+start level count section = behind level count (take (number_of section) order)

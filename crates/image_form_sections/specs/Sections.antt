@@ -1,9 +1,11 @@
 -- The sections of an image as numbers, before they are understood: a row of numbers for each record.
-use Rattle.std.specs.Prelude.{ℕ, zero, suc, ◌+◌, ◌*◌, ◌/◌, List, [], ◌∷◌, length, take, drop, slice_index, slice_index_or}
+use Rattle.std.specs.Prelude.{ℕ, zero, suc, ◌+◌, ◌*◌, ◌/◌, if◌then◌else◌, List, [], ◌∷◌, length, take, drop, slice_index, slice_index_or}
 use Rattle.std.specs.Int.{w32, from_le_bytes}
-use Rattle.image_form_sections.specs.Order.{count_offset, record_size, start}
+use Rattle.image_form_sections.specs.Order.{count_offset, is_told, record_size, start}
 use Rattle.image_form_sections.specs.declared.section.Section.{Section}
-use Rattle.image_form_sections.specs.declared.section.Section.TheVariants.{Code, Initial, Functions, Places, Owners, Variables, Changes, Flow, Assigned, Rows, Nodes, Names}
+use Rattle.image_form_sections.specs.declared.section.Section.TheVariants.{Code, Initial, Functions, Places, Owners, Variables, Changes, Flow, Assigned, Rows, Calls, Members, Nodes, Names}
+use Rattle.image_form_sections.specs.declared.version.Version.{Version}
+use Rattle.image_form_sections.specs.Versions.{version_of}
 
 -- The number whose four bytes begin at a byte.
 unfoldable pub number_at : List ℕ → ℕ → ℕ
@@ -24,6 +26,7 @@ abbrev pub cell : List (List ℕ) → ℕ → ℕ → ℕ
 cell rows i k = slice_index (slice_index_or rows i []) k
 
 pub record Sections : Type 0 where
+  pub version : ℕ
   pub mode : ℕ
   pub code : List (List ℕ)
   pub initial : List ℕ
@@ -35,6 +38,8 @@ pub record Sections : Type 0 where
   pub flow : List (List ℕ)
   pub assigned : List (List ℕ)
   pub rows : List (List ℕ)
+  pub calls : List (List ℕ)
+  pub members : List (List ℕ)
   pub nodes : List (List ℕ)
   pub names : List ℕ
 
@@ -50,24 +55,31 @@ count_of s Changes = length s.changes
 count_of s Flow = length s.flow
 count_of s Assigned = length s.assigned
 count_of s Rows = length s.rows
+count_of s Calls = length s.calls
+count_of s Members = length s.members
 count_of s Nodes = length s.nodes
 count_of s Names = length s.names
 
--- How many records the header says that a section has.
+-- The version that the header says.
+abbrev pub version_told : List ℕ → Version
+version_told bytes = version_of (number_at bytes 4)
+
+-- How many records the header says that a section has: none where it does not tell of the section.
 abbrev pub count_told : List ℕ → Section → ℕ
-count_told bytes which = number_at bytes (count_offset which)
+count_told bytes which = if is_told (version_told bytes).level which then number_at bytes (count_offset which) else 0
 
 -- The bytes from the first one of a section on.
 abbrev pub bytes_from : List ℕ → Section → List ℕ
-bytes_from bytes which = drop (start (count_told bytes) which) bytes
+bytes_from bytes which = drop (start (version_told bytes).level (count_told bytes) which) bytes
 
 -- The rows of a section, as many as the header says.
 abbrev pub rows_of : List ℕ → Section → List (List ℕ)
-rows_of bytes which = rows_at (record_size which / 4) (count_told bytes which) (bytes_from bytes which)
+rows_of bytes which = rows_at (record_size (version_told bytes).level which / 4) (count_told bytes which) (bytes_from bytes which)
 
 -- The sections of bytes, by the counts of the header.
 unfoldable pub sections_at : List ℕ → Sections
 sections_at bytes = record {
+  version = number_at bytes 4;
   mode = number_at bytes 12;
   code = rows_of bytes Code;
   initial = take (count_told bytes Initial) (bytes_from bytes Initial);
@@ -79,6 +91,8 @@ sections_at bytes = record {
   flow = rows_of bytes Flow;
   assigned = rows_of bytes Assigned;
   rows = rows_of bytes Rows;
+  calls = rows_of bytes Calls;
+  members = rows_of bytes Members;
   nodes = rows_of bytes Nodes;
   names = bytes_from bytes Names;
 }

@@ -1,5 +1,5 @@
 -- The tests of changes, of the pairs of flow and assignments, and of visible rows.
-use Rattle.std.specs.Prelude.{ℕ, ◌-◌, Bool, ◌&&◌, ◌==◌, nat_lt, nat_le, if◌then◌else◌, List, [], ◌∷◌, length}
+use Rattle.std.specs.Prelude.{ℕ, ◌-◌, Bool, ◌&&◌, ◌||◌, ◌==◌, nat_lt, nat_le, if◌then◌else◌, List, [], ◌∷◌, length}
 use Rattle.image_form_sections.specs.Sections.{Sections, cell}
 use Rattle.image_form_sections.specs.TestsOfTables.{within, is_not_below, is_pair_above, is_place, is_code_address}
 
@@ -44,8 +44,13 @@ is_writer s i =
     if nat_lt (cell s.rows i 2) 2 then cell s.rows i 5 == 0
     else (if cell s.changes (cell s.rows i 3 - 1) 1 == 0 then cell s.rows i 5 == 0 else is_code_address s (cell s.rows i 5))
 
--- The place, the variable, the verdict, the change, the node or start place, and the writer of the i-th visible row.
+-- The place at which a quiet path begins: 0 where there is none, and where a value is shown.
+unfoldable pub is_quiet_start : Sections → ℕ → Bool
+is_quiet_start s i = cell s.rows i 6 == 0 || (nat_le 2 (cell s.rows i 2) && is_place s (cell s.rows i 6))
+
+-- The place, the variable, the verdict, the change, the node or start place, the writer and the quiet path's begin of the i-th
+-- visible row.
 abbrev pub row_tests : Sections → ℕ → List Bool
 row_tests s i =
     (is_place s (cell s.rows i 0) && is_not_below s.rows 0 i) ∷ is_visible s i ∷ nat_le (cell s.rows i 2) 3 ∷ is_change s i
-    ∷ is_node_or_start s i ∷ is_writer s i ∷ []
+    ∷ is_node_or_start s i ∷ is_writer s i ∷ is_quiet_start s i ∷ []

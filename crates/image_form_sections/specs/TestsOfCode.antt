@@ -4,6 +4,7 @@ use Rattle.std.specs.List.{position_from}
 use Rattle.std.specs.Option.{option_map_or}
 use Rattle.image_form_sections.specs.Bounds.{code_start}
 use Rattle.image_form_sections.specs.Bounds.{word_address}
+use Rattle.image_form_sections.specs.Masks.{masked, mask_of}
 use Rattle.image_form_sections.specs.Sections.{Sections, cell}
 use Rattle.image_form_sections.specs.TestsOfTables.{within, previous, is_above, is_not_below, is_place, is_code_address, is_in_function}
 
@@ -20,11 +21,16 @@ is_end s i =
 unfoldable pub is_frame : ℕ → Bool
 is_frame size = size % 16 == 0 && within 16 16384 size
 
--- The name's length, the first address, the end address, the frame size and the entry place of the i-th function.
+-- A mask of registers that keep scalars alone.
+unfoldable pub is_mask : ℕ → Bool
+is_mask mask = mask == mask_of (masked mask)
+
+-- The name's length, the first address, the end address, the frame size, the entry place and the saved registers of the i-th
+-- function.
 abbrev pub function_tests : Sections → ℕ → List Bool
 function_tests s i =
     within 1 63 (cell s.functions i 0) ∷ is_first s i ∷ is_end s i ∷ is_frame (cell s.functions i 3)
-    ∷ (is_place s (cell s.functions i 4) && is_above s.functions 4 i) ∷ []
+    ∷ (is_place s (cell s.functions i 4) && is_above s.functions 4 i) ∷ is_mask (cell s.functions i 5) ∷ []
 
 -- The first place with that address is the i-th.
 unfoldable pub is_first_place : Sections → ℕ → ℕ → Bool

@@ -3,6 +3,7 @@ use Rattle.std.specs.Prelude.{ℕ, zero, suc, ◌+◌, ◌%◌, Bool, not, ◌&&
 use Rattle.image_form_sections.specs.Bounds.{no_function}
 use Rattle.image_form_sections.specs.Bounds.{static_start, static_size}
 use Rattle.image_form_sections.specs.Sections.{Sections, cell}
+use Rattle.image_form_sections.specs.Versions.{map_of}
 use Rattle.image_form_sections.specs.TestsOfTables.{within, is_above}
 
 -- The i-th variable belongs to no function.
@@ -39,13 +40,15 @@ is_storage s i = if is_static s i then cell s.variables i 4 == 0 else within 1 3
 unfoldable pub is_home_register : ℕ → Bool
 is_home_register r = r == 9 || within 18 31 r
 
-unfoldable pub is_static_address : ℕ → Bool
-is_static_address address = nat_le static_start address && nat_lt address (static_start + static_size)
+-- An address of static memory, in the map of the version.
+unfoldable pub is_static_address : Sections → ℕ → Bool
+is_static_address s address =
+    nat_le (static_start (map_of s.version)) address && nat_lt address (static_start (map_of s.version) + static_size)
 
 -- The storage's value: an address, a register of homes, or an offset in the function's frame.
 unfoldable pub is_value : Sections → ℕ → Bool
 is_value s i =
-    if cell s.variables i 4 == 0 then is_static_address (cell s.variables i 5)
+    if cell s.variables i 4 == 0 then is_static_address s (cell s.variables i 5)
     else (if cell s.variables i 4 == 2 then is_home_register (cell s.variables i 5)
     else (cell s.variables i 5 % 4 == 0 && nat_lt (cell s.variables i 5) (cell s.functions (cell s.variables i 1) 3)))
 

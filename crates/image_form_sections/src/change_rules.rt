@@ -2,7 +2,7 @@
 
 ghost use Rattle.std.specs.Prelude.{◌≡◌, ⊤};
 ghost use Rattle.image_form_sections.specs.Layouts.{rows_in, sections_in};
-ghost use Rattle.image_form_sections.specs.TestsOfChanges.{assigned_tests, change_tests, flow_tests, is_change, is_node_or_start, is_visible, is_writer, row_tests};
+ghost use Rattle.image_form_sections.specs.TestsOfChanges.{assigned_tests, change_tests, flow_tests, is_change, is_node_or_start, is_quiet_start, is_visible, is_writer, row_tests};
 
 use crate::layout::Layout;
 use crate::rule::{Rule, is_code_address, is_not_below, is_pair_above, is_place};
@@ -109,6 +109,8 @@ impl Rule for VisibleRule<'_, '_> {
             Some(4)
         } else if !is_writer(self.layout, row) {
             Some(5)
+        } else if !is_quiet_start(self.layout, row) {
+            Some(6)
         } else {
             None
         }
@@ -168,4 +170,12 @@ fn is_writer(layout: &Layout<'_>, row: usize) -> bool
     } else {
         is_code_address(layout, writer)
     }
+}
+
+#[tactic(auto, unfolding(crate::specs::TestsOfChanges::is_quiet_start))]
+fn is_quiet_start(layout: &Layout<'_>, row: usize) -> bool
+    ensures { result ≡ is_quiet_start (sections_in layout.now) row }
+{
+    let begin = layout.rows.number(row, 6);
+    begin == 0 || (layout.rows.number(row, 2) >= 2 && is_place(layout, begin))
 }

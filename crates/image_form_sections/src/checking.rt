@@ -6,6 +6,7 @@ ghost use Rattle.image_form_sections.specs.Checking.{breach_of_program, breach_o
 ghost use Rattle.image_form_sections.specs.Layouts.{sections_in};
 ghost use Rattle.image_form_sections.specs.Order.{record_size, start};
 ghost use Rattle.image_form_sections.specs.Sections.{count_of, sections_at};
+ghost use Rattle.image_form_sections.specs.Versions.{level_of};
 ghost use Rattle.image_form_sections.specs.declared.section.Section.TheVariants.{Names};
 
 use crate::change_rules::{AssignedRule, ChangeRule, FlowRule, VisibleRule};
@@ -16,7 +17,7 @@ use crate::layout::{Layout, layout_of};
 use crate::name_rules::first_misfit;
 use crate::node_rules::{NodeRule, first_nodes};
 use crate::rule::first_fault;
-use crate::section::{Section, start};
+use crate::section::{Counts, Section, start};
 use crate::variable_rules::VariableRule;
 use debug_records::Code;
 use std::alloc::Global;
@@ -44,13 +45,14 @@ fn breach(
     section: Section,
     broken: Option<(usize, usize)>,
 ) -> Result<(), ImageErr>
-    requires start { start (count_of (sections_in layout.now)) section < 2 ^ 63 }
+    requires start { start (level_of layout.now.version) (count_of (sections_in layout.now)) section < 2 ^ 63 }
     requires broken { IfSome broken (λ b. (b.0 < 2 ^ 32) × (b.1 < 8)) }
-    ensures { Gives (λ _. tt) result (breach_in code (start (count_of (sections_in layout.now)) section) (record_size section) broken) }
+    ensures { let level = level_of layout.now.version in let at = start level (count_of (sections_in layout.now)) section in
+        Gives (λ _. tt) result (breach_in code at (record_size level section) broken) }
 {
     match broken {
         Some((row, field)) => {
-            let at = start(layout, section) + section.record_size() * row + 4 * field;
+            let at = start(layout, section) + section.record_size(layout.level()) * row + 4 * field;
             Err(ImageErr::Refused(code, at))
         }
         None => Ok(()),
@@ -59,7 +61,7 @@ fn breach(
 
 #[tactic(auto, unfolding(crate::specs::Checking::breach_of_program))]
 fn check_program(alloc: Global, layout: &Layout<'_>) -> Result<(), ImageErr>
-    requires { start (count_of (sections_in layout.now)) Names < 2 ^ 63 }
+    requires { start (level_of layout.now.version) (count_of (sections_in layout.now)) Names < 2 ^ 63 }
     ensures { Gives (λ _. tt) result (breach_of_program (sections_in layout.now)) }
 {
     let broken = first_fault(&FunctionRule { layout }, layout.functions.len());
@@ -85,7 +87,7 @@ fn check_program(alloc: Global, layout: &Layout<'_>) -> Result<(), ImageErr>
 
 #[tactic(auto, unfolding(crate::specs::Checking::breach_of_tables))]
 fn check_tables(alloc: Global, layout: &Layout<'_>) -> Result<(), ImageErr>
-    requires { start (count_of (sections_in layout.now)) Names < 2 ^ 63 }
+    requires { start (level_of layout.now.version) (count_of (sections_in layout.now)) Names < 2 ^ 63 }
     ensures { Gives (λ _. tt) result (breach_of_tables (sections_in layout.now)) }
 {
     let broken = first_fault(&FlowRule { layout }, layout.flow.len());

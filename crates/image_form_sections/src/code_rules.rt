@@ -3,7 +3,7 @@
 ghost use Rattle.std.specs.Prelude.{◌≡◌, ◌+◌, ◌<◌, ◌^◌, IfOk, ⊤};
 ghost use Rattle.image_form_sections.specs.Layouts.{HoldsFirstPlaces, rows_in, sections_in};
 ghost use Rattle.image_form_sections.specs.Bounds.{word_address};
-ghost use Rattle.image_form_sections.specs.TestsOfCode.{function_tests, is_end, is_first, is_first_place, is_frame, is_marked, is_owner, is_place_address, owner_tests, place_tests};
+ghost use Rattle.image_form_sections.specs.TestsOfCode.{function_tests, is_end, is_first, is_first_place, is_frame, is_marked, is_mask, is_owner, is_place_address, owner_tests, place_tests};
 
 use crate::layout::Layout;
 use crate::rule::{
@@ -38,10 +38,30 @@ impl Rule for FunctionRule<'_, '_> {
             Some(3)
         } else if !is_place(self.layout, functions.number(row, 4)) || !is_above(functions, 4, row) {
             Some(4)
+        } else if !is_mask(functions.number(row, 5)) {
+            Some(5)
         } else {
             None
         }
     }
+}
+
+/// The registers that keep scalars.
+const HOME_REGISTERS: [u32; 15] = [9, 18, 19, 20, 21, 22, 23, 24, 25, 26, 27, 28, 29, 30, 31];
+
+/// Whether the registers of a mask keep scalars.
+#[tactic(auto, unfolding(crate::specs::TestsOfCode::is_mask))]
+fn is_mask(mask: u32) -> bool
+    ensures { result ≡ is_mask mask }
+{
+    let mut homes: u64 = 0;
+    for register in &HOME_REGISTERS {
+        let bit = 2u64.pow(*register);
+        if mask as u64 / bit % 2 == 1 {
+            homes += bit;
+        }
+    }
+    mask as u64 == homes
 }
 
 #[tactic(auto, unfolding(crate::specs::TestsOfCode::is_first))]

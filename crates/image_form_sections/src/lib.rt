@@ -13,12 +13,14 @@ mod rule;
 mod section;
 mod table;
 mod variable_rules;
+mod version;
 
 pub use checking::checked;
 pub use fault::ImageErr;
-pub use header::{FORMAT_VERSION, HEADER_SIZE, MAGIC};
+pub use header::MAGIC;
 pub use layout::{Layout, layout_of};
 pub use name_rules::NameKind;
-pub use section::{Counts, Section, size, whole_size};
+pub use section::{Counts, ORDER, Section, size, whole_size};
 pub use table::{Table, number_at};
 pub use variable_rules::NO_FUNCTION;
+pub use version::{Level, Version, level_of, version_of};

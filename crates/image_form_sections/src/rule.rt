@@ -11,7 +11,7 @@ use crate::layout::Layout;
 use crate::table::Table;
 
 /// The address of the first code word.
-pub const CODE_START: u64 = 0x0001_0000;
+pub const CODE_START: u64 = memory_map::CODE_START as u64;
 
 /// The rule of a table: a test for each number of a row.
 pub trait Rule {

@@ -1,10 +1,12 @@
 //! The table of the sections: their order, the size of a record and where the header counts them.
 
 ghost use Rattle.std.specs.Prelude.{◌≡◌, ◌<◌, ◌^◌, ◌≤◌, ℕ, take};
-ghost use Rattle.image_form_sections.specs.Order.{behind, count_offset, number_of, order, record_size, start};
+ghost use Rattle.image_form_sections.specs.Order.{behind, count_offset, is_told, number_of, order, record_size, start};
+ghost use Rattle.image_form_sections.specs.Versions.{header_size};
 ghost use Rattle.image_form_sections.specs.declared.section.Section.{Section};
+ghost use Rattle.image_form_sections.specs.declared.version.Level.{Level};
 
-use crate::header::HEADER_SIZE;
+use crate::version::Level;
 
 /// A section of an image.
 #[derive(Clone, Copy)]
@@ -19,12 +21,16 @@ pub enum Section {
     Flow,
     Assigned,
     Rows,
+    /// The rows of calls.
+    Calls,
+    /// The members of structures.
+    Members,
     Nodes,
     Names,
 }
 
 /// The sections in the order of the file.
-pub const ORDER: [Section; 12] = [
+pub const ORDER: [Section; 14] = [
     Section::Code,
     Section::Initial,
     Section::Functions,
@@ -35,14 +41,16 @@ pub const ORDER: [Section; 12] = [
     Section::Flow,
     Section::Assigned,
     Section::Rows,
+    Section::Calls,
+    Section::Members,
     Section::Nodes,
     Section::Names,
 ];
 
 impl Section {
-    /// How many bytes a record has.
-    pub fn record_size(self) -> usize
-        ensures size { result ≡ record_size self }
+    /// How many bytes a record has, in a version of this level.
+    pub fn record_size(self, level: Level) -> usize
+        ensures size { result ≡ record_size level self }
         ensures small { result < 64 }
     {
         match self {
@@ -51,8 +59,12 @@ impl Section {
             Section::Flow | Section::Assigned => 8,
             Section::Nodes => 12,
             Section::Places => 16,
-            Section::Functions | Section::Changes => 20,
+            Section::Changes | Section::Members => 20,
+            Section::Functions if level.has_callers() => 24,
+            Section::Functions => 20,
+            Section::Rows if level.has_quiet() => 28,
             Section::Rows => 24,
+            Section::Calls => 28,
             Section::Variables => 32,
         }
     }
@@ -60,7 +72,7 @@ impl Section {
     /// The byte of the header at which the number of records stands.
     pub fn count_offset(self) -> usize
         ensures offset { result ≡ count_offset self }
-        ensures inside { result < 60 }
+        ensures inside { result < 76 }
     {
         match self {
             Section::Code | Section::Owners => 16,
@@ -74,56 +86,77 @@ impl Section {
             Section::Rows => 48,
             Section::Nodes => 52,
             Section::Names => 56,
+            Section::Calls => 64,
+            Section::Members => 68,
+        }
+    }
+
+    /// Whether the header of a version of this level tells of the section.
+    pub fn is_told(self, level: Level) -> bool
+        ensures { result ≡ is_told level self }
+    {
+        match self {
+            Section::Calls | Section::Members => level.has_callers(),
+            _ => true,
         }
     }
 }
 
-/// What has so many records in each section.
+/// What has so many records in each section, in a version of a level.
 pub trait Counts {
     // How many records each section has.
     ghost count: { Self → Section → ℕ };
 
+    // Which fields and sections its tables have.
+    ghost of_level: { Self → Level };
+
     /// How many records a section has.
     fn count(&self, section: Section) -> usize
         ensures { result ≡ count self.now section };
+
+    /// Which fields and sections the tables have.
+    fn level(&self) -> Level
+        ensures { result ≡ of_level self.now };
 }
 
 /// The byte behind the header and so many sections.
 fn behind<C: Counts>(counts: &C, sections: usize) -> usize
-    requires known { sections ≤ 12 }
-    requires small { behind (C.count counts.now) (take sections order) < 2 ^ 63 }
-    ensures { result ≡ behind (C.count counts.now) (take sections order) }
+    requires known { sections ≤ 14 }
+    requires small { behind (C.of_level counts.now) (C.count counts.now) (take sections order) < 2 ^ 63 }
+    ensures { result ≡ behind (C.of_level counts.now) (C.count counts.now) (take sections order) }
 {
-    let mut at = HEADER_SIZE;
+    let level = counts.level();
+    let mut at = level.header_size();
     for section in &ORDER[..sections] {
-        at += section.record_size() * counts.count(*section);
+        at += section.record_size(level) * counts.count(*section);
     }
     at
 }
 
 /// The byte at which a section begins.
 pub fn start<C: Counts>(counts: &C, section: Section) -> usize
-    requires small { start (C.count counts.now) section < 2 ^ 63 }
-    ensures { result ≡ start (C.count counts.now) section }
+    requires small { start (C.of_level counts.now) (C.count counts.now) section < 2 ^ 63 }
+    ensures { result ≡ start (C.of_level counts.now) (C.count counts.now) section }
 {
     behind(counts, section as usize)
 }
 
 /// How many bytes the header and all sections have.
 pub fn size<C: Counts>(counts: &C) -> usize
-    requires small { behind (C.count counts.now) order < 2 ^ 63 }
-    ensures { result ≡ behind (C.count counts.now) order }
+    requires small { behind (C.of_level counts.now) (C.count counts.now) order < 2 ^ 63 }
+    ensures { result ≡ behind (C.of_level counts.now) (C.count counts.now) order }
 {
     behind(counts, ORDER.len())
 }
 
 /// How many bytes the header and all sections have, however many records there are.
 pub fn whole_size<C: Counts>(counts: &C) -> u128
-    ensures { result ≡ behind (C.count counts.now) order }
+    ensures { result ≡ behind (C.of_level counts.now) (C.count counts.now) order }
 {
-    let mut at = HEADER_SIZE as u128;
+    let level = counts.level();
+    let mut at = level.header_size() as u128;
     for section in &ORDER {
-        at += section.record_size() as u128 * counts.count(*section) as u128;
+        at += section.record_size(level) as u128 * counts.count(*section) as u128;
     }
     at
 }

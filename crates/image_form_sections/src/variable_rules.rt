@@ -6,12 +6,7 @@ ghost use Rattle.image_form_sections.specs.TestsOfVariables.{group_at, group_bef
 
 use crate::layout::Layout;
 use crate::rule::{Rule, is_above};
-
-/// The first address of static memory.
-const STATIC_START: u32 = 0x0040_0000;
-
-/// How many bytes static memory has.
-const STATIC_SIZE: u32 = 1_048_576;
+use crate::version::map_of;
 
 /// Stands for no function in a variable's record.
 pub const NO_FUNCTION: u32 = u32::MAX;
@@ -128,10 +123,11 @@ fn is_home_register(register: u32) -> bool
 }
 
 #[tactic(auto, unfolding(crate::specs::TestsOfVariables::is_static_address, crate::specs::Bounds::static_start, crate::specs::Bounds::static_size))]
-fn is_static_address(address: u32) -> bool
-    ensures { result ≡ is_static_address address }
+fn is_static_address(layout: &Layout<'_>, address: u32) -> bool
+    ensures { result ≡ is_static_address (sections_in layout.now) address }
 {
-    STATIC_START <= address && address < STATIC_START + STATIC_SIZE
+    let map = map_of(layout.version);
+    map.bytes_start() <= address && address < map.bytes_end()
 }
 
 #[tactic(auto, unfolding(crate::specs::TestsOfVariables::is_value))]
@@ -141,7 +137,7 @@ fn is_value(layout: &Layout<'_>, row: usize) -> bool
     let storage = layout.variables.number(row, 4);
     let value = layout.variables.number(row, 5);
     if storage == 0 {
-        is_static_address(value)
+        is_static_address(layout, value)
     } else if storage == 2 {
         is_home_register(value)
     } else {
