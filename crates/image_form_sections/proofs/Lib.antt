@@ -1,6 +1,7 @@
 pub mod Broken
 pub mod FirstAt
 pub mod Inside
+pub mod MaskLaws
 pub mod Octets
 pub mod RowLaws
 pub mod SectionLaws

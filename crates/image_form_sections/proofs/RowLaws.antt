@@ -12,7 +12,8 @@ pub length-rows_at : (width n : ℕ) (bytes : List ℕ) → length (rows_at widt
 length-rows_at width zero bytes = refl
 length-rows_at width (suc n) bytes = ap suc (length-rows_at width n (drop (4 * width) bytes))
 
-number_of : (n at k : ℕ) (bytes : List ℕ) → k < n → get_or (numbers_at n at bytes) k 0 ≡ number_at bytes (at + 4 * k)
+-- A number behind others, where it stands.
+pub number_of : (n at k : ℕ) (bytes : List ℕ) → k < n → get_or (numbers_at n at bytes) k 0 ≡ number_at bytes (at + 4 * k)
 number_of zero at k bytes lt = absurd (omega (arith, lt))
 number_of (suc n) at zero bytes lt = ap (number_at bytes) (omega arith)
 number_of (suc n) at (suc k) bytes lt = number_of n (at + 4) k bytes (omega (arith, lt)) ∙ ap (number_at bytes) (omega arith)

@@ -1,5 +1,6 @@
 -- Laws of the table of sections.
-use Rattle.std.proofs.Common.{◌≡◌, ℕ, suc, ◌+◌, ◌*◌, ◌/◌, ◌^◌, ◌<◌, ◌≤◌, Bool, true, false, cond, List, [], ◌∷◌, ◌++◌, length, take, drop, refl, ap, ◌∙◌, arith}
+use Rattle.std.proofs.Common.{◌≡◌, ℕ, suc, ◌+◌, ◌*◌, ◌/◌, ◌^◌, ◌<◌, ◌≤◌, Bool, true, false, cond, List, [], ◌∷◌, ◌++◌, length, get_or, take, drop, refl, sym, ap, ◌∙◌, add-one, arith}
+use Rattle.std.proofs.Math.Seq.{take-suc}
 use Rattle.std.specs.Prelude.{◌||◌, sum_by}
 use Rattle.std.specs.List.{AllByRecursion}
 use Rattle.std.proofs.lemmas.List.Sums.{sum_by-cons, sum_by-append}
@@ -114,7 +115,7 @@ counts_within false Names told = omega arith
 pub count_within : (level : Level) (s : Section) → is_told level s ≡ true → count_offset s + 4 ≤ header_size level
 count_within level s told = counts_within (has_callers level) s told
 
-times_low : (a b c : ℕ) → a ≤ b → a * c ≤ b * c
+pub times_low : (a b c : ℕ) → a ≤ b → a * c ≤ b * c
 times_low a b c low = grind (arith, low)
 
 -- The numbers of a record lie in its bytes.
@@ -133,6 +134,12 @@ module _ (level : Level) (count : Section → ℕ) where
   -- The byte behind a section.
   pub behind_one : (before : List Section) (s : Section) → behind level count (before ++ s ∷ []) ≡ behind level count before + record_size level s * count s
   behind_one before s = omega (arith, behind_split before (s ∷ []), sum_by-cons bytes_of s [])
+
+  -- The byte behind one section more.
+  pub behind_next : (i : ℕ) (d : Section) → i < 14 → behind level count (take i order) + record_size level (get_or order i d) * count (get_or order i d) ≡ behind level count (take (i + 1) order)
+  behind_next i d low =
+      let longer : take (i + 1) order ≡ take i order ++ get_or order i d ∷ [] = rw add-one (take-suc order i d low) in
+      sym (ap (behind level count) longer ∙ behind_one (take i order) (get_or order i d))
 
   -- A section ends where the whole ends, or before.
   pub ends_inside : (s : Section) → start level count s + record_size level s * count s ≤ behind level count order

@@ -73,9 +73,10 @@ pub fn layout_of(bytes: &[u8]) -> Layout<'_>
     ensures sections { sections_in result ≡ sections_at bytes.now }
     ensures small { start (level_of result.version) (count_of (sections_in result)) Names < 2 ^ 63 }
 {
+    let version = number_at(bytes, VERSION);
     let initial = HeaderBytes { bytes }.count(Section::Initial);
     Layout {
-        version: number_at(bytes, VERSION),
+        version,
         mode: number_at(bytes, MODE),
         code: rows_of(bytes, Section::Code),
         initial: &bytes_from(bytes, Section::Initial)[..initial],

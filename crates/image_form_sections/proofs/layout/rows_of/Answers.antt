@@ -17,4 +17,4 @@ new-requires-clause-inside c =
     let section = c.args.section in
     let level = (version_told bytes).level in
     let left = length-drop (start level (count_told bytes) section) bytes in
-    rw (c.record_size.ensures.size, c.level.ensures, c.count.ensures, c.bytes_from.ensures) (omega (arith, left, numbers_inside level section (count_told bytes section), told_inside bytes section c.requires))
+    rw (c.record_size-width.ensures.size, c.level.ensures, c.count.ensures, c.bytes_from.ensures) (omega (arith, left, numbers_inside level section (count_told bytes section), told_inside bytes section c.requires))
