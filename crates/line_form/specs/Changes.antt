@@ -41,3 +41,8 @@ noncurrent_line name change places = hidden_value name (codes " noncurrent: ") c
 -- NAME nonresident: CHANGE, PATH, for a value whose home is another one's
 unfoldable pub nonresident_line : (name change : List ℕ) → (places : List ℕ) → List ℕ
 nonresident_line name change places = hidden_value name (codes " nonresident: ") change ++ path_text places
+
+-- NAME suspect: CHANGE, PATH, current PATH, for a value that its home holds on the second path and does not hold on the first
+unfoldable pub suspect_line : (name change : List ℕ) → (places current : List ℕ) → List ℕ
+suspect_line name change places current =
+    hidden_value name (codes " suspect: ") change ++ (path_text places ++ (codes ", current " ++ path_text current))

@@ -65,6 +65,10 @@ no_stop_line = codes "no stop"
 unfoldable pub no_locals_line : List ℕ
 no_locals_line = codes "no locals"
 
+-- no frame NUMBER, where there is no activation of the number
+unfoldable pub no_frame_line : ℕ → List ℕ
+no_frame_line number = codes "no frame " ++ decimal number
+
 -- a number with a space in front
 abbrev pub spaced_number : ℕ → List ℕ
 spaced_number n = codes " " ++ decimal n

@@ -2,6 +2,7 @@
 use Rattle.std.specs.Prelude.{ℕ, Bool, if◌then◌else◌, List, [], ◌∷◌, ◌++◌, flat_map, codes}
 use Rattle.line_form.specs.Decimal.{decimal}
 use Rattle.line_form.specs.Hexadecimal.{hexadecimal}
+use Rattle.line_form.specs.Lines.{value_line}
 
 -- a text with a comma and a space in front
 abbrev pub next_value : List ℕ → List ℕ
@@ -15,6 +16,14 @@ listed (value ∷ values) = value ++ flat_map next_value values
 -- {VALUE, VALUE}, or {VALUE, VALUE, ...} where there are more elements
 unfoldable pub array_text : List (List ℕ) → (more : Bool) → List ℕ
 array_text values more = codes "{" ++ (listed values ++ ((if more then codes ", ..." else []) ++ codes "}"))
+
+-- NAME = VALUE, of a member of a structure
+unfoldable pub member_text : (name value : List ℕ) → List ℕ
+member_text name value = value_line name value
+
+-- {NAME = VALUE, NAME = VALUE}, of these members
+unfoldable pub structure_text : (members : List (List ℕ)) → List ℕ
+structure_text members = codes "{" ++ (listed members ++ codes "}")
 
 -- null, the pointer to nothing
 unfoldable pub null_text : List ℕ

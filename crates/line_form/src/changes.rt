@@ -1,7 +1,7 @@
 //! The texts of changes, and the lines of the values that they concern.
 
 ghost use Rattle.std.specs.Prelude.{◌≡◌, ◌++◌, map, IfOk, OnOk};
-ghost use Rattle.line_form.specs.Changes.{change_line, change_text, hidden_value, kind_word, noncurrent_line, nonresident_line, path_text, recovered_line};
+ghost use Rattle.line_form.specs.Changes.{change_line, change_text, hidden_value, kind_word, noncurrent_line, nonresident_line, path_text, recovered_line, suspect_line};
 
 use crate::commands::push_places;
 use crate::shown::value_line;
@@ -137,5 +137,25 @@ pub fn nonresident_line(
 {
     let mut text = hidden_value(alloc, name, b" nonresident: ", change)?;
     push_path(alloc, &mut text, places)?;
+    Ok(text)
+}
+
+/// `NAME suspect: CHANGE, path PLACE PLACE .., current path PLACE PLACE ..`: the home of the variable may not hold its value, as the first
+/// path shows, and holds it on the second one.
+#[tactic(auto, unfolding(crate::specs::Changes::suspect_line))]
+pub fn suspect_line(
+    alloc: Global,
+    name: &[u8],
+    change: &[u8],
+    places: &[Place],
+    current: &[Place],
+) -> Result<Vec<u8>, AllocError>
+    ensures { IfOk result (λ text. text.items
+        ≡ suspect_line name.now change.now (map (λ p. p.0) places.now) (map (λ p. p.0) current.now)) }
+{
+    let mut text = hidden_value(alloc, name, b" suspect: ", change)?;
+    push_path(alloc, &mut text, places)?;
+    text.extend_from_slice(b", current ")?;
+    push_path(alloc, &mut text, current)?;
     Ok(text)
 }

@@ -1,7 +1,7 @@
 //! The lines that answer what is asked of places and activations.
 
 ghost use Rattle.std.specs.Prelude.{◌≡◌, ◌++◌, map, IfOk, OnOk};
-ghost use Rattle.line_form.specs.Lines.{break_line, frame_line, no_function_line, no_locals_line, no_place_line, spaced, spaced_number};
+ghost use Rattle.line_form.specs.Lines.{break_line, frame_line, no_frame_line, no_function_line, no_locals_line, no_place_line, spaced, spaced_number};
 
 use debug_records::Place;
 use std::alloc::{AllocError, Global};
@@ -63,6 +63,14 @@ pub fn no_locals_line(alloc: Global) -> Result<Vec<u8>, AllocError>
     ensures { IfOk result (λ text. text.items ≡ no_locals_line) }
 {
     Vec::from_slice(alloc, b"no locals")
+}
+
+/// `no frame NUMBER`: there is no activation of this number.
+#[tactic(auto, unfolding(crate::specs::Lines::no_frame_line))]
+pub fn no_frame_line(alloc: Global, number: u32) -> Result<Vec<u8>, AllocError>
+    ensures { IfOk result (λ text. text.items ≡ no_frame_line number) }
+{
+    Ok(format!(in alloc; "no frame {number}")?.into_bytes())
 }
 
 /// `#NUMBER FUNCTION line LINE place PLACE`: an activation of this function stands there; the innermost one has number 0.

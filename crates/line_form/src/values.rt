@@ -1,8 +1,9 @@
-//! The texts of arrays and pointers.
+//! The texts of arrays, structures and pointers.
 
 ghost use Rattle.std.specs.Prelude.{◌≡◌, ◌++◌, [], map, flat_map, codes, if◌then◌else◌, IfOk, OnOk};
-ghost use Rattle.line_form.specs.Values.{array_text, frame_pointer, listed, literal_pointer, next_value, null_text, static_pointer, unknown_pointer};
+ghost use Rattle.line_form.specs.Values.{array_text, frame_pointer, listed, literal_pointer, member_text, next_value, null_text, static_pointer, structure_text, unknown_pointer};
 
+use crate::shown::value_line;
 use std::alloc::{AllocError, Global};
 
 /// Appends a text, with a comma and a space in front.
@@ -52,6 +53,25 @@ pub fn array_text(alloc: Global, values: &[Vec<u8>], more: bool) -> Result<Vec<u
     let mut text = Vec::from_slice(alloc, b"{")?;
     push_listed(&mut text, values)?;
     text.extend_from_slice(array_end(more))?;
+    Ok(text)
+}
+
+/// `NAME = VALUE`, a member of a structure.
+#[tactic(auto, unfolding(crate::specs::Values::member_text))]
+pub fn member_text(alloc: Global, name: &[u8], value: &[u8]) -> Result<Vec<u8>, AllocError>
+    ensures { IfOk result (λ text. text.items ≡ member_text name.now value.now) }
+{
+    value_line(alloc, name, value)
+}
+
+/// `{NAME = VALUE, NAME = VALUE}`, a structure of these members.
+#[tactic(auto, unfolding(crate::specs::Values::structure_text))]
+pub fn structure_text(alloc: Global, members: &[Vec<u8>]) -> Result<Vec<u8>, AllocError>
+    ensures { IfOk result (λ text. text.items ≡ structure_text (map (λ v. v.items) members.now)) }
+{
+    let mut text = Vec::from_slice(alloc, b"{")?;
+    push_listed(&mut text, members)?;
+    text.extend_from_slice(b"}")?;
     Ok(text)
 }
 
