@@ -93,11 +93,7 @@ pub fn version_of(number: u32) -> Version
 pub fn map_of(number: u32) -> Map
     ensures { result ≡ map_of number }
 {
-    if number % 2 == 1 {
-        Map::One
-    } else {
-        Map::Two
-    }
+    if number % 2 == 1 { Map::One } else { Map::Two }
 }
 
 /// The level of the version of a number; the greatest one stands for all above it.

@@ -114,9 +114,11 @@ module _ (h : HomedForm) (valid : IsValid h.unit) (homed : HaveHomes h) (e : Emi
       → HoldsWaiting (codes_in h e code) (over_homes h) addresses (Resumes (program_in h e code) (codes_in h e code) (GoesOn h e code)) memory input (codes_in h e code x.function) x.first_object g waiting
       → IsStack e (codes_in h e code) addresses g.memory (g.registers 2) x waiting
   stack_is memory input held x [] g frame (returns, top) =
-      let whole = whole_size x.function in
-      (frame_is held (record { memory = memory; input = input; here = x; waiting = [] }) g frame (omega (arith, top, whole, (map_facts (map_of_unit (over_homes h))).frames)), returns,
-      subst (λ m. g.registers 2 + (codes_in h e code x.function).size ≡ stack_end m) (code_map h e code) top)
+      let whole = whole_size x.function in (
+        frame_is held (record { memory = memory; input = input; here = x; waiting = [] }) g frame (omega (arith, top, whole, (map_facts (map_of_unit (over_homes h))).frames)),
+        returns,
+        subst (λ m. g.registers 2 + (codes_in h e code x.function).size ≡ stack_end m) (code_map h e code) top,
+      )
   stack_is memory input held x (y ∷ waiting) g frame (wait, others) =
       let later = stack_is memory input [] y waiting (behind_frame (codes_in h e code x.function) g) wait.frame others in
       let above = (top_frame g.memory (g.registers 2 + (codes_in h e code x.function).size) y waiting later).aligned in
