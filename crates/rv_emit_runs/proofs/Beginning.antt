@@ -1,10 +1,10 @@
 -- The code with which a function begins makes its frame, in which its objects lie, and binds its parameters; what waits stands as it stood.
 use Rattle.std.proofs.Common.{◌≡◌, ◌≢◌, ℕ, ◌+◌, ◌-◌, ◌*◌, ◌%◌, ◌<◌, ◌≤◌, ◌⊎◌, ⊎_elim, inl, inr, sym, ap, ◌∙◌, subst, arith, refl, Option, Some, None, Bool, true, false, cond, List, [], ◌∷◌, ◌++◌, length, length-append, map, slice_get, slice_index}
 use Rattle.std.proofs.lemmas.Bool.{le-ltb}
-use Rattle.rv_emit_storage.specs.UnitMaps.{map_of_unit}
-use Rattle.memory_map.proofs.Facts.{map_facts}
 use Rattle.memory_map.specs.declared.map.Map.{Map}
 use Rattle.memory_map.specs.Maps.{most_words, bytes_end, bytes_start, stack_start, stack_end}
+use Rattle.memory_map.proofs.Facts.{map_facts}
+use Rattle.rv_emit_storage.specs.UnitMaps.{map_of_unit}
 use Rattle.rv_code.specs.declared.instruction.Instruction.{Instruction as MachineInstruction}
 use Rattle.graph_core.specs.declared.value.Value.{Value}
 use Rattle.graph_core.specs.declared.value.Value.TheVariants.{Odd}

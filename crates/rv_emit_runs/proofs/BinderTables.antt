@@ -5,8 +5,8 @@ use Rattle.std.specs.Option.{option_map_or}
 use Rattle.std.proofs.lemmas.Bool.{le-ltb, lt-ltb}
 use Rattle.std.proofs.lemmas.List.{length-append, length-replicate}
 use Rattle.std.proofs.lemmas.Option.{same_Some, slice_get_within}
-use Rattle.rv_emit_runs.proofs.Maps.{emitted_in_reach}
 use Rattle.memory_map.specs.Maps.{most_words}
+use Rattle.rv_emit_runs.proofs.Maps.{emitted_in_reach}
 use Rattle.rv_code.specs.declared.instruction.Instruction.{Instruction}
 use Rattle.rv_code.specs.declared.instruction.Instruction.TheVariants as instruction
 use Rattle.graph_core.specs.Graphs.{Binding, ToScalar, ToObject, Graph}

@@ -3,9 +3,9 @@ use Rattle.std.proofs.Common.{◌≡◌, ℕ, ◌+◌, ◌<◌, ◌≤◌, sym, 
 use Rattle.std.specs.Prelude.{◌==◌, option_map}
 use Rattle.std.specs.List.{AllByRecursion, list_any}
 use Rattle.std.proofs.lemmas.Option.{slice_get_within}
+use Rattle.memory_map.specs.Maps.{most_words}
 use Rattle.rv_emit_runs.proofs.Maps.{code_map, index_inside}
 use Rattle.rv_emit_storage.specs.UnitMaps.{map_of_unit}
-use Rattle.memory_map.specs.Maps.{most_words}
 use Rattle.rv_code.specs.declared.instruction.Instruction.{Instruction as MachineInstruction}
 use Rattle.rv_code.specs.declared.instruction.Instruction.TheVariants as instruction
 use Rattle.rv_code.specs.declared.instruction.ImmediateOperation.TheVariants.{Addi}

@@ -4,8 +4,8 @@ use Rattle.std.specs.Option.{option_map_or}
 use Rattle.std.specs.List.{AllByRecursion}
 use Rattle.std.proofs.lemmas.List.{length-append, length-map, map-append}
 use Rattle.std.proofs.lemmas.Option.{slice_get_within}
-use Rattle.rv_emit_runs.proofs.Maps.{emitted_in_reach}
 use Rattle.memory_map.specs.Maps.{most_words}
+use Rattle.rv_emit_runs.proofs.Maps.{emitted_in_reach}
 use Rattle.graph_core.specs.Graphs.{Block, Graph}
 use Rattle.graph_core.specs.Validity.{markers_in, markers_of_blocks, markers_of, AreAllDifferent, IsValid}
 use Rattle.graph_homes.specs.Homed.{HomedForm, homes_in}

@@ -4,9 +4,9 @@ use Rattle.std.specs.Prelude.{replicate, slice_index}
 use Rattle.std.specs.List.{AllByRecursion}
 use Rattle.std.proofs.lemmas.Bool.{eq-eqb, cases_lt}
 use Rattle.std.proofs.lemmas.List.{length-replicate}
+use Rattle.memory_map.specs.Maps.{bytes_start, stack_start}
 use Rattle.rv_emit_runs.proofs.Maps.{code_map}
 use Rattle.rv_emit_storage.specs.UnitMaps.{map_of_unit}
-use Rattle.memory_map.specs.Maps.{bytes_start, stack_start}
 use Rattle.rv_code.specs.declared.instruction.Instruction.{Instruction as MachineInstruction}
 use Rattle.rv_machine.specs.State.{State, bytes_size, stack_size}
 use Rattle.rv_machine.specs.Table.{started, zeros}

@@ -5,11 +5,11 @@ use Rattle.std.specs.Option.{option_map_or}
 use Rattle.std.specs.List.{flat_map}
 use Rattle.std.proofs.lemmas.Bool.{cases_lt, leb-true}
 use Rattle.std.proofs.lemmas.Option.{slice_get_within}
+use Rattle.memory_map.specs.Maps.{bytes_end, bytes_start}
+use Rattle.memory_map.proofs.Facts.{map_facts}
 use Rattle.rv_emit_storage.proofs.UnitMaps.{statics_begin}
 use Rattle.rv_emit_runs.proofs.Maps.{over_homes_map}
 use Rattle.rv_emit_storage.specs.UnitMaps.{map_of_unit}
-use Rattle.memory_map.proofs.Facts.{map_facts}
-use Rattle.memory_map.specs.Maps.{bytes_end, bytes_start}
 use Rattle.rv_machine.specs.State.{bytes_size, stack_size}
 use Rattle.rv_machine.specs.Table.{zeros}
 use Rattle.graph_core.specs.declared.value.Value.{Value}

@@ -3,10 +3,10 @@ use Rattle.std.proofs.Common.{◌≡◌, ℕ, zero, suc, ◌+◌, ◌<◌, ◌�
 use Rattle.std.specs.List.{AllByRecursion, filter, flat_map}
 use Rattle.std.specs.Prelude.{replicate}
 use Rattle.std.proofs.lemmas.List.{drop_at, get_or-drop, length-append, length-replicate, length-take-le, take_at}
-use Rattle.rv_emit_storage.proofs.UnitMaps.{statics_begin}
 use Rattle.memory_map.specs.Maps.{bytes_start}
-use Rattle.rv_emit_storage.specs.UnitMaps.{map_of_unit}
 use Rattle.memory_map.proofs.Facts.{map_facts}
+use Rattle.rv_emit_storage.proofs.UnitMaps.{statics_begin}
+use Rattle.rv_emit_storage.specs.UnitMaps.{map_of_unit}
 use Rattle.graph_homes.specs.declared.home.Home.{Home}
 use Rattle.graph_homes.specs.declared.home.Home.TheVariants.{Register, Slot}
 use Rattle.graph_core.specs.Graphs.{Graph, StaticObject, UnitForm}

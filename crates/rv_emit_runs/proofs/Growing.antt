@@ -4,9 +4,9 @@ use Rattle.std.specs.Prelude.{map, option_map, nat_lt, replicate}
 use Rattle.std.proofs.lemmas.Bool.{lt-ltb, le-ltb}
 use Rattle.std.proofs.lemmas.List.{length-replicate}
 use Rattle.std.proofs.lemmas.Option.{slice_get_within}
-use Rattle.rv_emit_storage.specs.UnitMaps.{map_of_unit}
-use Rattle.memory_map.proofs.Facts.{map_facts}
 use Rattle.memory_map.specs.Maps.{bytes_end, stack_start, stack_end}
+use Rattle.memory_map.proofs.Facts.{map_facts}
+use Rattle.rv_emit_storage.specs.UnitMaps.{map_of_unit}
 use Rattle.graph_core.specs.declared.graph.MemoryObject.{MemoryObject}
 use Rattle.graph_core.specs.declared.value.Value.{Value}
 use Rattle.graph_core.specs.declared.value.Value.TheVariants.{Number, Pointer, Odd}

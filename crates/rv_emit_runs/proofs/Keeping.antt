@@ -1,10 +1,10 @@
 -- Behind a step of the innermost activation the machine holds all activations.
 use Rattle.std.proofs.Common.{◌≡◌, ◌≢◌, ℕ, ◌+◌, ◌*◌, ◌%◌, ◌<◌, ◌≤◌, ◌⊎◌, ⊎_elim, inl, inr, sym, ap, ◌∙◌, subst, arith, refl, Option, Some, None, List, [], length}
 use Rattle.std.proofs.lemmas.Bool.{cases_eq}
-use Rattle.rv_emit_storage.specs.UnitMaps.{map_of_unit}
-use Rattle.memory_map.proofs.Facts.{map_facts}
 use Rattle.memory_map.specs.declared.map.Map.{Map}
 use Rattle.memory_map.specs.Maps.{bytes_end, stack_end}
+use Rattle.memory_map.proofs.Facts.{map_facts}
+use Rattle.rv_emit_storage.specs.UnitMaps.{map_of_unit}
 use Rattle.graph_core.specs.Graphs.{UnitForm}
 use Rattle.graph_core.specs.Memory.{Memory, bytes_of}
 use Rattle.graph_core.specs.Paths.{Among}

@@ -3,8 +3,8 @@ use Rattle.std.proofs.Common.{◌≡◌, ◌≢◌, ℕ, ◌+◌, ◌-◌, ◌*�
 use Rattle.std.specs.Prelude.{◌==◌, nat_le}
 use Rattle.std.specs.Option.{option_map_or}
 use Rattle.std.proofs.lemmas.Bool.{eq-eqb}
-use Rattle.rv_emit_storage.specs.UnitMaps.{map_of_unit}
 use Rattle.memory_map.specs.Maps.{stack_start, stack_end}
+use Rattle.rv_emit_storage.specs.UnitMaps.{map_of_unit}
 use Rattle.rv_code.specs.declared.instruction.Instruction.{Instruction}
 use Rattle.rv_code.specs.declared.instruction.Instruction.TheVariants.{Immediate}
 use Rattle.rv_code.specs.declared.instruction.ImmediateOperation.TheVariants.{Addi}

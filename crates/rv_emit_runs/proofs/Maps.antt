@@ -1,6 +1,8 @@
 -- The memory of the code of a unit: over homes it is the same, and a jump leads from anywhere in the code to anywhere in it.
 use Rattle.std.proofs.Common.{◌≡◌, ℕ, ◌<◌, ◌≤◌, Bool, length, ◌∙◌, ap, arith, refl, sym}
 use Rattle.std.proofs.lemmas.Option.{slice_get_within}
+use Rattle.memory_map.specs.declared.map.Map.{Map}
+use Rattle.memory_map.specs.Maps.{most_words}
 use Rattle.graph_core.specs.Graphs.{UnitForm}
 use Rattle.graph_homes.specs.Homed.{HomedForm, over_homes}
 use Rattle.rv_emit_tables.specs.Emitted.{EmittedForm}
@@ -9,8 +11,6 @@ use Rattle.rv_code.specs.declared.instruction.Instruction.{Instruction}
 use Rattle.rv_code.specs.Encoding.{encoded}
 use Rattle.rv_emit_steps.specs.Programs.{Program, IsAt}
 use Rattle.rv_emit_runs.specs.Laid.{IsCode}
-use Rattle.memory_map.specs.Maps.{most_words}
-use Rattle.memory_map.specs.declared.map.Map.{Map}
 use Rattle.rv_emit_storage.specs.UnitMaps.{map_of_unit}
 
 -- A unit over homes has the memory of the unit.

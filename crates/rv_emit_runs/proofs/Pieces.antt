@@ -3,10 +3,10 @@ use Rattle.std.proofs.Common.{◌≡◌, ℕ, zero, suc, ◌+◌, ◌%◌, ◌<�
 use Rattle.std.proofs.lemmas.Bool.{cases_lt}
 use Rattle.std.proofs.lemmas.List.{get_or_past, length-append, length-map}
 use Rattle.std.proofs.lemmas.Option.{slice_get_within}
-use Rattle.rv_emit_runs.proofs.Maps.{jump_reach}
-use Rattle.memory_map.proofs.Facts.{map_facts}
 use Rattle.memory_map.specs.declared.map.Map.{Map}
 use Rattle.memory_map.specs.Maps.{most_words}
+use Rattle.memory_map.proofs.Facts.{map_facts}
+use Rattle.rv_emit_runs.proofs.Maps.{jump_reach}
 use Rattle.rv_code.specs.declared.instruction.Instruction.{Instruction}
 use Rattle.rv_code.specs.declared.instruction.Instruction.TheVariants as instruction
 use Rattle.rv_code.specs.InForm.{IsBranchDistance, IsInForm, IsJumpDistance, IsRegister}

@@ -1,7 +1,7 @@
 -- Pieces that stand in the code: words among them, and where control goes from jumps and branches.
 use Rattle.std.proofs.Common.{◌≡◌, ℕ, ◌+◌, ◌-◌, ◌<◌, ◌≤◌, ◌⊎◌, inl, inr, sym, ap, ◌∙◌, subst, arith, refl, List, [], ◌∷◌, ◌++◌, length, Bool, true, false, not}
-use Rattle.memory_map.proofs.Facts.{map_facts}
 use Rattle.memory_map.specs.Maps.{most_words}
+use Rattle.memory_map.proofs.Facts.{map_facts}
 use Rattle.rv_code.specs.declared.instruction.Instruction.{Instruction}
 use Rattle.rv_code.specs.declared.instruction.Instruction.TheVariants as instruction
 use Rattle.rv_code.specs.declared.instruction.BranchOperation.{BranchOperation}

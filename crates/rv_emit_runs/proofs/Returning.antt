@@ -2,10 +2,10 @@
 use Rattle.std.proofs.Common.{◌≡◌, ◌≢◌, ℕ, ◌+◌, ◌≤◌, ◌⊎◌, inl, inr, sym, ap, ◌∙◌, subst, arith, refl, Option, Some, None, Bool, true, false, cond, not, List, [], ◌∷◌, length}
 use Rattle.std.specs.Prelude.{◌==◌, ◌||◌, nat_le, nat_lt, option_map}
 use Rattle.std.specs.Int.{cast_signed, w32}
-use Rattle.rv_emit_layout.proofs.Bound.{code_has_room}
-use Rattle.rv_emit_storage.specs.UnitMaps.{map_of_unit}
 use Rattle.memory_map.specs.declared.map.Map.{Map}
 use Rattle.memory_map.specs.Maps.{most_words, bytes_end, stack_start, stack_end}
+use Rattle.rv_emit_layout.proofs.Bound.{code_has_room}
+use Rattle.rv_emit_storage.specs.UnitMaps.{map_of_unit}
 use Rattle.rv_code.specs.declared.instruction.Instruction.TheVariants.{Lui, Store, Immediate, Register as OnRegisters}
 use Rattle.rv_code.specs.declared.instruction.ImmediateOperation.TheVariants.{Addi}
 use Rattle.rv_code.specs.declared.instruction.StoreOperation.TheVariants.{Sw}

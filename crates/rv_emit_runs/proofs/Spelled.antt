@@ -2,8 +2,8 @@
 use Rattle.std.proofs.Common.{◌≡◌, ℕ, ◌+◌, ◌%◌, ◌<◌, ◌≤◌, inl, ⊎_elim, Bool, List, [], ◌∷◌, ◌++◌, map, sym, subst, arith}
 use Rattle.std.specs.List.{AllByRecursion}
 use Rattle.std.specs.Option.{option_map_or}
-use Rattle.memory_map.proofs.Facts.{map_facts}
 use Rattle.memory_map.specs.declared.map.Map.{Map}
+use Rattle.memory_map.proofs.Facts.{map_facts}
 use Rattle.graph_core.specs.Graphs.{Block, Graph, Instruction}
 use Rattle.graph_core.specs.Uses.{target_of}
 use Rattle.rv_emit_words.specs.declared.piece.Held.{Held}

@@ -2,10 +2,10 @@
 use Rattle.std.proofs.Common.{◌≡◌, ℕ, ◌+◌, ◌%◌, ◌≤◌, inl, inr, sym, ap, ◌∙◌, subst, arith, refl, Option, Some, None, Bool, true, false, ◌||◌, List, [], ◌∷◌, length, map}
 use Rattle.std.specs.Prelude.{◌==◌, option_map, slice_index}
 use Rattle.std.proofs.lemmas.Bool.{eqb-true}
+use Rattle.memory_map.specs.Maps.{most_words, stack_start, stack_end}
+use Rattle.memory_map.proofs.Facts.{map_facts}
 use Rattle.rv_emit_runs.proofs.Maps.{code_map}
 use Rattle.rv_emit_storage.specs.UnitMaps.{map_of_unit}
-use Rattle.memory_map.proofs.Facts.{map_facts}
-use Rattle.memory_map.specs.Maps.{most_words, stack_start, stack_end}
 use Rattle.rv_machine.specs.State.{State}
 use Rattle.rv_machine.specs.Run.{is_stop}
 use Rattle.graph_core.specs.Memory.{Memory}

@@ -5,11 +5,11 @@ use Rattle.std.specs.Option.{option_map_or}
 use Rattle.std.proofs.lemmas.Bool.{cases_lt}
 use Rattle.std.proofs.lemmas.List.{length-append, length-map}
 use Rattle.std.proofs.lemmas.Option.{slice_get_within}
+use Rattle.memory_map.specs.Maps.{most_words, stack_end, bytes_size}
+use Rattle.memory_map.proofs.Facts.{map_facts}
 use Rattle.rv_emit_layout.proofs.Bound.{code_has_room}
 use Rattle.rv_emit_runs.proofs.Maps.{emitted_in_reach}
 use Rattle.rv_emit_storage.specs.UnitMaps.{map_of_unit}
-use Rattle.memory_map.proofs.Facts.{map_facts}
-use Rattle.memory_map.specs.Maps.{most_words, stack_end, bytes_size}
 use Rattle.rv_code.specs.declared.instruction.Instruction.TheVariants.{Lui}
 use Rattle.rv_machine.specs.Run.{is_stop}
 use Rattle.graph_core.specs.Graphs.{Block}

@@ -3,9 +3,9 @@ use Rattle.std.proofs.Common.{◌≡◌, ℕ, zero, suc, ◌+◌, ◌<◌, ◌�
 use Rattle.std.specs.Option.{option_map_or}
 use Rattle.std.specs.List.{AllByRecursion}
 use Rattle.std.proofs.lemmas.Option.{same_Some}
-use Rattle.rv_emit_runs.proofs.Maps.{emitted_in_reach}
-use Rattle.memory_map.proofs.Facts.{map_facts}
 use Rattle.memory_map.specs.Maps.{most_words}
+use Rattle.memory_map.proofs.Facts.{map_facts}
+use Rattle.rv_emit_runs.proofs.Maps.{emitted_in_reach}
 use Rattle.rv_code.specs.declared.instruction.Instruction.{Instruction}
 use Rattle.graph_core.specs.Graphs.{Block, Graph}
 use Rattle.graph_core.specs.Paths.{Among, front, behind}

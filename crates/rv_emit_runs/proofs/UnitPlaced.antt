@@ -1,10 +1,10 @@
 -- The code of each function of a unit stands in the code of the machine.
 use Rattle.std.proofs.Common.{◌≡◌, ℕ, zero, suc, ◌+◌, ◌<◌, ◌≤◌, ◌==◌, Some, List, [], ◌∷◌, ◌++◌, length, map, slice_get, slice_index, refl, sym, ap, ◌∙◌, subst, arith}
 use Rattle.std.proofs.lemmas.List.{length-append, length-map}
+use Rattle.memory_map.specs.Maps.{most_words}
+use Rattle.memory_map.proofs.Facts.{map_facts}
 use Rattle.rv_emit_layout.proofs.Bound.{code_has_room}
 use Rattle.rv_emit_runs.proofs.Maps.{jump_reach}
-use Rattle.memory_map.proofs.Facts.{map_facts}
-use Rattle.memory_map.specs.Maps.{most_words}
 use Rattle.graph_core.specs.Graphs.{Graph, UnitForm}
 use Rattle.graph_homes.specs.Homed.{HomedForm, homes_in}
 use Rattle.rv_emit_tables.specs.declared.emitted.PlacedStop.{PlacedStop}

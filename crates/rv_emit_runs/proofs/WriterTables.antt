@@ -5,8 +5,8 @@ use Rattle.std.specs.List.{AllByRecursion}
 use Rattle.std.proofs.lemmas.Bool.{cases_eq, cases_lt, le-leb}
 use Rattle.std.proofs.lemmas.List.{length-append, length-map, length-replicate}
 use Rattle.std.proofs.lemmas.Option.{none-some, same_Some, slice_get_within}
-use Rattle.rv_emit_runs.proofs.Maps.{emitted_in_reach}
 use Rattle.memory_map.specs.Maps.{most_words}
+use Rattle.rv_emit_runs.proofs.Maps.{emitted_in_reach}
 use Rattle.rv_code.specs.declared.instruction.Instruction.{Instruction as MachineInstruction}
 use Rattle.graph_core.specs.Graphs.{Block, Graph, Instruction}
 use Rattle.graph_core.specs.Paths.{Among, front, behind}

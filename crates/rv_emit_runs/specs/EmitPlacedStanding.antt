@@ -1,8 +1,8 @@
 -- A function as its words stand in the code of the machine.
 use Rattle.std.specs.Prelude.{◌≡◌, ℕ, ◌+◌, ◌≤◌, false, Some, List, ◌++◌, length, map, slice_get, slice_index, get_or}
 use Rattle.std.specs.List.{AllByRecursion}
-use Rattle.memory_map.specs.Maps.{most_words}
 use Rattle.memory_map.specs.declared.map.Map.{Map}
+use Rattle.memory_map.specs.Maps.{most_words}
 use Rattle.rv_code.specs.InForm.{IsInForm, IsRegister}
 use Rattle.rv_machine.specs.Run.{is_stop}
 use Rattle.rv_emit_words.specs.declared.piece.Piece.{Piece}

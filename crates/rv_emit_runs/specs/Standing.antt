@@ -1,8 +1,8 @@
 -- What the machine holds where it stands at a stop of a unit over homes, and when it shows what the unit shows.
 use Rattle.std.specs.Prelude.{◌≡◌, ℕ, ◌+◌, ◌%◌, ◌<◌, ◌≤◌, Some, List, [], ◌∷◌, length, slice_get, slice_index}
 use Rattle.std.specs.Int.{cast_signed, w32}
-use Rattle.memory_map.specs.Maps.{most_words, stack_end, stack_start}
 use Rattle.memory_map.specs.declared.map.Map.{Map}
+use Rattle.memory_map.specs.Maps.{most_words, stack_end, stack_start}
 use Rattle.rv_machine.specs.State.{State, reg}
 use Rattle.rv_machine.specs.Run.{MachineEvent, Byte, Arrival, Exit, TooDeep}
 use Rattle.graph_core.specs.Graphs.{StaticObject}
