@@ -8,7 +8,7 @@ ghost use Rattle.graph_core.specs.WellMarked.{AreWellMarked};
 ghost use Rattle.pass_law.specs.Keeps.{Keeps};
 ghost use Rattle.pass_law.specs.HandedIn.{AreHandedIn, IsHandedIn, IsNoPass};
 ghost use Rattle.pass_law.specs.PassRunsKept.{KeepsShape};
-ghost use Rattle.pass_law.specs.Leading.{IsFirst, Lead};
+ghost use Rattle.pass_law.specs.Leading.{IsFirst, IsLawfulStep, Lead};
 
 use crate::pass_runs_pass::UnitPass;
 use debug_records::PassName;
@@ -82,7 +82,7 @@ fn apply_one(
     pass.apply(alloc, unit)
 }
 
-/// Runs the passes of these names on a valid unit, in order, each by one step; of two passes of one name the first is taken. What is made of a well marked unit keeps what that unit does. None where a name is no pass's, where the log has 2^31
+/// Runs the passes of these names on a valid unit, in order, each by one step; of two passes of one name the first is taken. What is made of a well marked unit keeps what that unit does, and so does what each step makes of the unit before it. None where a name is no pass's, where the log has 2^31
 /// changes before a pass, or where a pass makes no unit. No names give the unit back.
 pub fn run_passes(
     alloc: Global,
@@ -94,6 +94,9 @@ pub fn run_passes(
     ensures made { IfOk result (λ made. IfSome made (λ v. IsValid (unit_view v))) }
     ensures kept { IfOk result (λ made. IfSome made (λ v. KeepsShape (unit_view unit) (unit_view v))) }
     ensures led { IfOk result (λ made. IfSome made (λ v. Lead (λ p. named p) (λ p. steps p) passes.now (map letters names.now) (unit_view unit) (unit_view v))) }
+    ensures lawful { AreWellMarked (unit_view unit) → IfOk result (λ made. IfSome made (λ v.
+        Lead (λ p. named p) (λ p. IsLawfulStep (steps p)) passes.now (map letters names.now) (unit_view unit)
+        (unit_view v))) }
     ensures keeps { AreWellMarked (unit_view unit) → IfOk result (λ made. IfSome made (λ v. Keeps (unit_view unit) (unit_view v))) }
     ensures nothing { names.now ≡ [] → IfOk result (λ made. made ≡ Some unit) }
 {
