@@ -19,3 +19,4 @@ mod NeverGrow
 mod WorkedOften
 mod WorkedLeast
 mod WorkedLeft
+mod CountedPaths

@@ -1,12 +1,17 @@
 //! Laws of what the passes make.
 
+ghost use Rattle.std.specs.Prelude.{◌≡◌, ℕ, List, []};
 ghost use Rattle.std.specs.List.{AllByRecursion};
-ghost use Rattle.graph_core.specs.Graphs.{Graph, UnitForm};
+ghost use Rattle.graph_core.specs.Computations.{Computation};
+ghost use Rattle.graph_core.specs.Graphs.{End, Graph, UnitForm};
+ghost use Rattle.graph_core.specs.Paths.{History, Path};
 ghost use Rattle.graph_core.specs.WellMarked.{AreWellMarked};
-ghost use Rattle.motion_pass_laws.specs.Often.{DoesNoMore, IsOnceAhead};
+ghost use Rattle.motion_pass.specs.Counts.{IsPath, times_along};
+ghost use Rattle.motion_pass_laws.specs.Often.{DoesNoMore, IsOnceAhead, times};
 ghost use Rattle.motion_pass_laws.specs.Optimal.{IsOptimal};
 ghost use Rattle.pass_law.specs.Kept.{EachFunction};
 ghost use Rattle.cdbg_passes.specs.Bounds.{AreLeftForBounds, NeverGrows};
+ghost use Rattle.cdbg_passes.specs.Counting.{NamesPath, blocks_on};
 ghost use Rattle.cdbg_passes.specs.Earned.{AreEarned};
 ghost use Rattle.cdbg_passes.specs.NothingLeft.{AreOptimal, ComputeNothingAgain, HasNoCopies, HasNoDead};
 ghost use Rattle.cdbg_passes.specs.Steps.{MovesCode, PropagatesCopies, RemovesDead};
@@ -40,6 +45,17 @@ pub fn no_pass_is_idle()
 pub fn motion_is_optimal()
     ensures optimal { (u v : UnitForm) → AreWellMarked u → MovesCode u v → AreOptimal u.graphs v.graphs }
     ensures more { (g h : Graph) → IsOptimal g h → DoesNoMore g h }
+{}
+
+/// A law: along a list of blocks `counts` counts what is said of paths. The blocks on each path to the end of a block
+/// are a path from the entry, each list that is one names such a path, and along it the blocks do a computation as
+/// often as it was done on the path.
+pub fn counts_tell_times()
+    ensures path { (g : Graph) (history : History) (n : ℕ) (f : End) (way : Path g history n [] f)
+        → IsPath g.blocks (blocks_on way) }
+    ensures named { (g : Graph) (blocks : List ℕ) → IsPath g.blocks blocks → NamesPath g blocks }
+    ensures times { (g : Graph) (e : Computation) (history : History) (n : ℕ) (f : End) (way : Path g history n [] f)
+        → times_along g.blocks e (blocks_on way) ≡ times e history }
 {}
 
 /// A law: no function grows by copy propagation or by the removal of dead assignments.
