@@ -78,3 +78,4 @@ pub mod UnitFactsScalars
 pub mod Marked
 pub mod Built
 pub mod Every
+pub mod BuiltMarked
