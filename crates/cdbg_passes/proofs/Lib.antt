@@ -20,3 +20,4 @@ mod WorkedOften
 mod WorkedLeast
 mod WorkedLeft
 mod CountedPaths
+pub mod OnTrail
