@@ -1,17 +1,14 @@
 -- Units that are as they were built, in slots: they are well marked, their slots show all variables, and their tables keep every rule of images.
 use Rattle.std.proofs.Common.{◌≡◌, ◌≢◌, ℕ, ◌^◌, ◌+◌, ◌<◌, ◌≤◌, ◌++◌, List, [], ◌∷◌, length, map, refl, sym, ap, ◌∙◌, subst, arith}
-use Rattle.std.specs.List.{AllByRecursion, Contains}
+use Rattle.std.specs.List.{AllByRecursion}
 use Rattle.debug_records.specs.declared.change.Kind.TheVariants.{Removed}
-use Rattle.places.specs.declared.flow.Assignment.{Assignment}
 use Rattle.places.specs.declared.table.PlaceTable.{PlaceTable}
 use Rattle.c_tree.specs.Programs.{ProgramTree}
-use Rattle.c_flow.specs.Assigns.{assignments_of_program}
 use Rattle.c_type_laws.specs.Laws.{IsWellFormed}
 use Rattle.c_flow.specs.Rows.{row_view, rows_of_program}
 use Rattle.graph_core.specs.Graphs.{Graph, Logged, UnitForm}
 use Rattle.graph_core.specs.Paths.{Among, front, behind}
 use Rattle.graph_core.specs.Validity.{IsValid}
-use Rattle.graph_core.specs.WellMarked.{AreWellMarked}
 use Rattle.graph_homes.specs.declared.home.Home.TheVariants.{Register, Slot}
 use Rattle.graph_homes.specs.Homed.{HomedForm, home_of}
 use Rattle.home_assign.specs.Sharing.{change_of}
@@ -21,11 +18,7 @@ use Rattle.currency.specs.declared.verdict.PlaceVerdict.{PlaceVerdict}
 use Rattle.currency.specs.Visible.{sight, sights_from}
 use Rattle.graph_build_laws.specs.Built.{IsBuilt}
 use Rattle.image_build.proofs.Rows.{IsPlainUnitOf, shown_home}
-use Rattle.image_truth_units.specs.Timing.{KeepTime}
-use Rattle.image_truth_units.specs.Notes.{KeepNotes}
-use Rattle.image_truth_units.proofs.Marked.{KeepPlaces, are_well_marked}
-use Rattle.image_truth_units.proofs.TimedUnits.{keep_time}
-use Rattle.image_truth_units.proofs.Units.{keep_notes}
+use Rattle.image_truth_units.proofs.BuiltMarked.{built_marked}
 use Rattle.places.specs.declared.table.PlaceRow.{PlaceRow}
 use Rattle.c_type_laws.specs.Names.{HasNames}
 use Rattle.c_type_laws.specs.Spots.{HasSpots}
@@ -65,40 +58,6 @@ use Rattle.image_build.proofs.Tables as tables
 use Rattle.image_build.proofs.Tables.{rows_few}
 use Rattle.image_build.specs.ProgramImageShown.{AreShownAt, IsPlainUnit, ShowsAll}
 use Rattle.image_build.specs.Tables.{HasShapeOf}
-use Rattle.base_laws.proofs.Lists.{one_behind_again as one_behind}
-use Rattle.graph_core.proofs.Among.{contains_among}
-
--- ---- What is kept
-
-among_contains : {A : Type 0} (xs : List A) (a : A) → Among a xs → Contains xs a
-among_contains [] a there = elim there [ ]
-among_contains (x ∷ xs) a front = (0, omega arith, refl)
-among_contains (x ∷ xs) a (behind there) = one_behind x xs a (among_contains xs a there)
-
-both : (u : UnitForm) → KeepTime u → KeepNotes u → KeepPlaces u
-both u time notes k g is = (let t = time k g is in let n = notes k g is in record {
-  entry_calls = t.entry_calls;
-  leaves = t.leaves;
-  zeroes = t.zeroes;
-  copies = t.copies;
-  zeroes_first = t.zeroes_first;
-  copies_first = t.copies_first;
-  written_where = n.written_where;
-  noted_where = n.noted_where;
-  noted = n.noted;
-  right = n.right;
-  behind_write = n.behind_write;
-  calls = n.calls;
-  local = n.local;
-  local_at_end = n.local_at_end;
-})
-
--- The unit that is built of a well-formed program is well marked.
-pub well_marked : (p : ProgramTree) (u : UnitForm) → IsWellFormed p → IsBuilt p u → IsValid u → AreWellMarked u
-well_marked p u formed built valid =
-    let has = λ (a : Assignment) (among : Among a (assignments_of_program p)). contains_among u.assignments a ((built.assignments a).1 (among_contains (assignments_of_program p) a among)) in
-    let only = λ (a : Assignment) (among : Among a u.assignments). contains_among (assignments_of_program p) a ((built.assignments a).0 (among_contains u.assignments a among)) in
-    are_well_marked u valid built.follows (both u (keep_time p u formed built.forms) (keep_notes p u formed built.forms has only valid))
 
 -- ---- No change in slots
 
@@ -133,7 +92,7 @@ nothing_removed (c ∷ log) is change among = cc
 
 pub plain_unit : (p : ProgramTree) (h : HomedForm) → IsWellFormed p → IsValid h.unit → HasShapeOf p h.unit → IsPlainUnit p h → IsPlainUnitOf p h
 plain_unit p h formed valid shape plain = record {
-  marked = well_marked p h.unit formed plain.built valid;
+  marked = built_marked p h.unit formed plain.built;
   unremoved = nothing_removed h.unit.log plain.unchanged;
   slots = plain.slots;
   flow = record { steps_are = shape.steps; assignments_are = shape.assignments };

@@ -9,6 +9,7 @@ ghost use Rattle.c_type_laws.specs.Spots.{HasSpots};
 ghost use Rattle.debug_records.specs.Change.{letters};
 ghost use Rattle.graph_core.specs.Graphs.{unit_view};
 ghost use Rattle.graph_core.specs.Validity.{IsValid};
+ghost use Rattle.graph_core.specs.WellMarked.{AreWellMarked};
 ghost use Rattle.graph_homes.specs.Homed.{HaveHomes, homed_view};
 ghost use Rattle.image_form.specs.Form.{form};
 ghost use Rattle.image_form.specs.Rules.{IsImage};
@@ -32,7 +33,8 @@ use pass_law::{UnitPass, run_passes};
 use rv_emit::emit;
 use std::alloc::{AllocError, Global};
 
-/// The unit of a program, behind the passes of these names, of which each in its turn made a step. None where a pass makes no unit.
+/// The unit of a program, behind the passes of these names, of which each in its turn made a step. It is well marked: so is the one that is built of the program (`built_units_are_marked`), and each pass keeps it so.
+/// None where a pass makes no unit.
 pub fn unit_of(
     alloc: Global,
     program: &Program,
@@ -42,6 +44,7 @@ pub fn unit_of(
     requires fits { Fits32 (program_view program.now) }
     requires laws { IsWellFormed (program_view program.now) }
     ensures valid { IfOk result (λ o. IfSome o (λ u. IsValid (unit_view u))) }
+    ensures marked { IfOk result (λ o. IfSome o (λ u. AreWellMarked (unit_view u))) }
     ensures shape { IfOk result (λ o. IfSome o (λ u. HasShapeOf (program_view program.now) (unit_view u))) }
     ensures comes { IfOk result (λ o. IfSome o (λ u. ComesOf (λ p. named p) (λ p. steps p) passes.now (map letters names.now) (program_view program.now) (unit_view u))) }
     ensures total { names.now ≡ [] → IfOk result (λ o. IfNone o ⊥) }

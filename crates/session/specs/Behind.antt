@@ -13,7 +13,9 @@ use Rattle.image_build.specs.Explained.{ExplainsAll}
 use Rattle.image_build.specs.Made.{IsHomed, IsMadeOf}
 
 module _ {P : Type 0} (named : P → PassName) (steps : P → UnitForm → UnitForm → Type 0) (handed_in : List P) where
-  -- AN IMAGE COMES OF A PROGRAM behind passes of these names, with homes of the mode: it is made of a unit with such homes, and to that unit the passes lead, each in its turn by one step. Whatever its rows say to hide variables is
+  -- AN IMAGE COMES OF A PROGRAM behind passes of these names, with homes of the mode: it is made of a unit with such
+  -- homes, and to that unit the passes lead, each in its turn by one step, on a trail on which what a pass of the program
+  -- logs is earned and what code motion makes is computationally optimal. Whatever its rows say to hide variables is
   -- explained by its own tables.
   pub record ComesOfProgram (p : ProgramTree) (names : List Text) (mode : Mode) (form : Form) : Type 0 where
     pub homed : HomedForm

@@ -130,7 +130,9 @@ pub fn session<S: Shelf, K: Sink>(
 
     // Under the name of the image a `debug` or a `compile` that is done, or that failed at a line and not at the save,
     // leaves an image that is truthful to the source and comes of it behind just the passes that the words name, each
-    // in its turn by one step; and one that is cut off the first part of such an image, or what stood there.
+    // in its turn by one step; and one that is cut off the first part of such an image, or what stood there. Of these
+    // steps each change that a pass of the program logs is earned, and what code motion makes is computationally
+    // optimal.
     ensures saved { (asked : JobGiven) → AreServed (λ p. named p) passes.now (map string_bytes words.now) asked
         → result ≡ Done → S.tells shelf.old ≡ true
         → HasSaved (λ p. named p) (λ p. steps p) passes.now (S.held shelf.old) (S.held shelf.new) asked }

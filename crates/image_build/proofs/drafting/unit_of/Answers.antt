@@ -2,8 +2,8 @@ use Rattle.std.proofs.Common.{map}
 use Rattle.c_tree.specs.Programs.{program_view}
 use Rattle.debug_records.specs.Change.{letters}
 use Rattle.graph_core.specs.Graphs.{unit_view}
-use Rattle.image_build.proofs.Behind.{built_by, comes_by}
-use Rattle.image_build.proofs.Plain.{well_marked}
+use Rattle.image_truth_units.proofs.BuiltMarked.{built_marked}
+use Rattle.image_build.proofs.Behind.{built_by, comes_by, marked_by}
 use Rattle.image_build.proofs.Units.{shaped_by}
 use Rattle.image_build.proofs.drafting.unit_of.Goals as goal
 
@@ -31,4 +31,10 @@ returns-clause-comes g c =
     let u = unit_view c.in_ok-unit.unit in
     let built = c.in_ok-unit.ensures.built in
     comes_by (λ p. (goal.UnitPass-dyn g (p.vtable, p.value)).named p.value) (λ p. (goal.UnitPass-dyn g (p.vtable, p.value)).steps p.value) c.args.passes.now (map letters c.args.names.now) p
-    u c.run_passes.result built c.run_passes.ensures.led (c.run_passes.ensures.keeps (well_marked p u c.requires.laws built c.in_ok-unit.ensures.valid))
+    u c.run_passes.result built (c.run_passes.ensures.lawful (built_marked p u c.requires.laws built)) (c.run_passes.ensures.keeps (built_marked p u c.requires.laws built))
+
+pub returns-clause-marked : goal.returns-clause-marked
+returns-clause-marked g c =
+    let p = program_view c.args.program.now in
+    let u = unit_view c.in_ok-unit.unit in
+    marked_by u c.run_passes.result (c.run_passes.ensures.keeps (built_marked p u c.requires.laws c.in_ok-unit.ensures.built))
