@@ -33,8 +33,9 @@ use pass_law::{UnitPass, run_passes};
 use rv_emit::emit;
 use std::alloc::{AllocError, Global};
 
-/// The unit of a program, behind the passes of these names, of which each in its turn made a step. It is well marked: so is the one that is built of the program (`built_units_are_marked`), and each pass keeps it so.
-/// None where a pass makes no unit.
+/// The unit of a program, after the passes of these names, of which each in its turn made a step. It is well marked: so
+/// is the one that is built of the program (`built_units_are_marked`), and each pass keeps it so. None where a pass makes
+/// no unit.
 pub fn unit_of(
     alloc: Global,
     program: &Program,

@@ -82,8 +82,10 @@ fn apply_one(
     pass.apply(alloc, unit)
 }
 
-/// Runs the passes of these names on a valid unit, in order, each by one step; of two passes of one name the first is taken. What is made of a well marked unit keeps what that unit does, and so does what each step makes of the unit before it. None where a name is no pass's, where the log has 2^31
-/// changes before a pass, or where a pass makes no unit. No names give the unit back.
+/// Runs the passes of these names on a valid unit, in order, each by one step; of two passes of one name the first is
+/// taken. What is made of a well marked unit keeps what that unit does, and so does what each step makes of the unit
+/// before it. None where a name is no pass's, where the log has 2^31 changes before a pass, or where a pass makes no
+/// unit. No names give the unit back.
 pub fn run_passes(
     alloc: Global,
     passes: &[Box<dyn UnitPass>],
