@@ -11,7 +11,7 @@ use Rattle.image_form.specs.declared.tables.Place.{Place}
 use Rattle.image_form.specs.Rules.{IsImage}
 use Rattle.image_form.specs.RulesOfFunctions.{IsPlaceNumber}
 use Rattle.image_form.specs.RulesOfPlaces.{IsInFunction, word_address}
-use Rattle.rv_machine.specs.State.{State, reg, word}
+use Rattle.rv_machine.specs.State.{State, reg, word, code_start}
 use Rattle.stop_engine_view.specs.Reading.{frames, frames_from, frame_of, greatest_depth, is_stack_address, owner_of}
 use Rattle.stop_engine_view.specs.Callers.{calling_place, return_address}
 
@@ -29,18 +29,18 @@ owner_at m w image some = elim (cases_lt w (length m.owners)) [
 
 -- the owner of a word of code, if it has one, is a place of the image
 pub owner_number : (m : Form) (a : ℕ) → IsImage m → owner_of m a ≢ 0 → IsPlaceNumber m (owner_of m a)
-owner_number m a image some = by_test (a % 4 == 0 && nat_le 65536 a) refl
+owner_number m a image some = by_test (a % 4 == 0 && nat_le code_start a) refl
   where
-    by_test : (b : Bool) → (a % 4 == 0 && nat_le 65536 a) ≡ b → IsPlaceNumber m (owner_of m a)
+    by_test : (b : Bool) → (a % 4 == 0 && nat_le code_start a) ≡ b → IsPlaceNumber m (owner_of m a)
     by_test true t =
-        let is : owner_of m a ≡ slice_index m.owners ((a - 65536) / 4) = rw t refl in
-        subst (IsPlaceNumber m) (sym is) (owner_at m ((a - 65536) / 4) image (λ none. some (is ∙ none)))
+        let is : owner_of m a ≡ slice_index m.owners ((a - code_start) / 4) = rw t refl in
+        subst (IsPlaceNumber m) (sym is) (owner_at m ((a - code_start) / 4) image (λ none. some (is ∙ none)))
     by_test false t = absurd (some (rw t refl))
 
 pub calling_number : (m : Form) (s : State) (sp : ℕ) → IsImage m → calling_place m s sp ≢ 0 → IsPlaceNumber m (calling_place m s sp)
-calling_number m s sp image some = by_test (is_stack_address sp && sp % 4 == 0) refl
+calling_number m s sp image some = by_test (is_stack_address s sp && sp % 4 == 0) refl
   where
-    by_test : (b : Bool) → (is_stack_address sp && sp % 4 == 0) ≡ b → IsPlaceNumber m (calling_place m s sp)
+    by_test : (b : Bool) → (is_stack_address s sp && sp % 4 == 0) ≡ b → IsPlaceNumber m (calling_place m s sp)
     by_test true t =
         let is : calling_place m s sp ≡ owner_of m (word (return_address s sp + 4294967292)) = rw t refl in
         subst (IsPlaceNumber m) (sym is) (owner_number m (word (return_address s sp + 4294967292)) image (λ none. some (is ∙ none)))
@@ -49,9 +49,9 @@ calling_number m s sp image some = by_test (is_stack_address sp && sp % 4 == 0) 
 -- an activation, and those that called it
 pub frames_next : (n : ℕ) (m : Form) (s : State) (place sp : ℕ) → frames_from (suc n) m s place sp
     ≡ place ∷ (if calling_place m s sp == 0 then [] else frames_from n m s (calling_place m s sp) (word (sp + frame_of m place)))
-frames_next n m s place sp = by_test (is_stack_address sp && sp % 4 == 0) refl
+frames_next n m s place sp = by_test (is_stack_address s sp && sp % 4 == 0) refl
   where
-    by_test : (b : Bool) → (is_stack_address sp && sp % 4 == 0) ≡ b → frames_from (suc n) m s place sp
+    by_test : (b : Bool) → (is_stack_address s sp && sp % 4 == 0) ≡ b → frames_from (suc n) m s place sp
         ≡ place ∷ (if calling_place m s sp == 0 then [] else frames_from n m s (calling_place m s sp) (word (sp + frame_of m place)))
     by_test true t = rw t refl
     by_test false t = rw t refl

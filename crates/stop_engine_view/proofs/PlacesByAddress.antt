@@ -13,13 +13,14 @@ use Rattle.image_form.specs.RulesOfFunctions.{IsFunction, code_start}
 use Rattle.image_form.specs.RulesOfPlaces.{IsPlace, word_address}
 use Rattle.image_form.specs.Spelling.{size}
 use Rattle.image_form.proofs.TableLaws.{each_at}
+use Rattle.rv_machine.specs.State as machine
 use Rattle.stop_engine_view.specs.Reading.{place_from}
 
 -- the address of a word of the code
 pub record IsWordOf (m : Form) (a : ℕ) : Type 0 where
   pub aligned : a % 4 ≡ 0
-  pub starts : 65536 ≤ a
-  pub ends : a < 65536 + 4 * length m.code
+  pub starts : machine.code_start ≤ a
+  pub ends : a < machine.code_start + 4 * length m.code
 
 in_function-word : (m : Form) (k a : ℕ) (o : Option Function) → IsImage m → a % 4 ≡ 0 → slice_get m.functions k ≡ o → IsSomeAnd o (λ g. (g.first ≤ a) × (a < g.end)) → IsWordOf m a
 unfolding code_start
@@ -73,22 +74,22 @@ place_from-tail n p ps a distinct at_a = by_result (place_from n ps a) refl wher
 
 -- a place that is entered in a table, before the others
 pub entered-step : (n w : ℕ) (p : Place) (ps : List Place) (table : List ℕ) → AreDistinct (λ (q : Place). q.address) (p ∷ ps)
-    → p.address % 4 ≡ 0 → 65536 ≤ p.address → (p.address - 65536) / 4 < length table
-    → unwrap_or (place_from (n + 1) ps (word_address w)) (slice_index (slice_set table ((p.address - 65536) / 4) n) w)
+    → p.address % 4 ≡ 0 → machine.code_start ≤ p.address → (p.address - machine.code_start) / 4 < length table
+    → unwrap_or (place_from (n + 1) ps (word_address w)) (slice_index (slice_set table ((p.address - machine.code_start) / 4) n) w)
     ≡ unwrap_or (place_from n (p ∷ ps) (word_address w)) (slice_index table w)
 unfolding code_start
-entered-step n w p ps table distinct aligned starts within = by_test (p.address == 65536 + 4 * w) refl where
-  by_test : (b : Bool) → (p.address == 65536 + 4 * w) ≡ b
-      → unwrap_or (place_from (n + 1) ps (65536 + 4 * w)) (slice_index (slice_set table ((p.address - 65536) / 4) n) w)
-      ≡ unwrap_or (if p.address == 65536 + 4 * w then Some n else place_from (n + 1) ps (65536 + 4 * w)) (slice_index table w)
+entered-step n w p ps table distinct aligned starts within = by_test (p.address == machine.code_start + 4 * w) refl where
+  by_test : (b : Bool) → (p.address == machine.code_start + 4 * w) ≡ b
+      → unwrap_or (place_from (n + 1) ps (machine.code_start + 4 * w)) (slice_index (slice_set table ((p.address - machine.code_start) / 4) n) w)
+      ≡ unwrap_or (if p.address == machine.code_start + 4 * w then Some n else place_from (n + 1) ps (machine.code_start + 4 * w)) (slice_index table w)
   by_test true t =
-      let here : p.address ≡ 65536 + 4 * w = grind (arith, nat_tests) in
-      let others = place_from-tail (n + 1) p ps (65536 + 4 * w) distinct here in
-      let index : (p.address - 65536) / 4 ≡ w = omega arith in
+      let here : p.address ≡ machine.code_start + 4 * w = grind (arith, nat_tests) in
+      let others = place_from-tail (n + 1) p ps (machine.code_start + 4 * w) distinct here in
+      let index : (p.address - machine.code_start) / 4 ≡ w = omega arith in
       rw (t, others, index) (get_or-set_same table w n 0 (rw (← index) within))
   by_test false t =
-      let elsewhere : w ≢ (p.address - 65536) / 4 = grind (arith, nat_tests) in
-      rw (t, get_or-set_other table ((p.address - 65536) / 4) w n 0 elsewhere) refl
+      let elsewhere : w ≢ (p.address - machine.code_start) / 4 = grind (arith, nat_tests) in
+      rw (t, get_or-set_other table ((p.address - machine.code_start) / 4) w n 0 elsewhere) refl
 
 -- the number of a place fits 32 bits
 pub places-fit : (m : Form) → IsImage m → length m.places + 1 < 2 ^ 32
@@ -100,12 +101,12 @@ pub place-at_word : (m : Form) (i : ℕ) (d : Place) → IsImage m → i < lengt
 place-at_word m i d image within = place-is_word m i (slice_index_or m.places i d) image (slice_get-get_or m.places i d within)
 
 -- the index of the word at an address lies in the code
-pub word-within : (m : Form) (a : ℕ) → IsWordOf m a → (a - 65536) / 4 < length m.code
-word-within m a word = let starts : 65536 ≤ a = word.starts in let ends : a < 65536 + 4 * length m.code = word.ends in omega arith
+pub word-within : (m : Form) (a : ℕ) → IsWordOf m a → (a - machine.code_start) / 4 < length m.code
+word-within m a word = let starts : machine.code_start ≤ a = word.starts in let ends : a < machine.code_start + 4 * length m.code = word.ends in omega arith
 
 -- a table with one more place of the image
 pub entered-more : (m : Form) (table : List ℕ) (i w : ℕ) (d : Place) → IsImage m → i < length m.places → length table ≡ length m.code
-    → unwrap_or (place_from (i + 1 + 1) (drop (i + 1) m.places) (word_address w)) (slice_index (slice_set table (((slice_index_or m.places i d).address - 65536) / 4) (i + 1)) w)
+    → unwrap_or (place_from (i + 1 + 1) (drop (i + 1) m.places) (word_address w)) (slice_index (slice_set table (((slice_index_or m.places i d).address - machine.code_start) / 4) (i + 1)) w)
     ≡ unwrap_or (place_from (i + 1) (drop i m.places) (word_address w)) (slice_index table w)
 entered-more m table i w d image within entries =
     let p = slice_index_or m.places i d in

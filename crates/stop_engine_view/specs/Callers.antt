@@ -1,7 +1,7 @@
 -- The call that made an activation.
 use Rattle.std.specs.Prelude.{ℕ, ◌+◌, ◌-◌, ◌%◌, ◌==◌, ◌&&◌, if◌then◌else◌}
 use Rattle.image_form.specs.Form.{Form}
-use Rattle.rv_machine.specs.State.{State, word}
+use Rattle.rv_machine.specs.State.{State, word, stack_start}
 use Rattle.rv_machine.specs.Memory.{word_in}
 use Rattle.stop_engine_view.specs.Reading.{is_stack_address, owner_of}
 
@@ -11,9 +11,9 @@ place_before m a = owner_of m (word (a + 4294967292))
 
 -- The address to which an activation returns lies where its frame starts.
 abbrev pub return_address : State → (sp : ℕ) → ℕ
-return_address s sp = word_in s.stack (sp - 16777216)
+return_address s sp = word_in s.stack (sp - stack_start s.map)
 
 -- The place of the call that made the activation whose frame starts there, or 0 where there is none: where the frame does not start at
 -- an aligned address of the stack, or the word in front of the return address belongs to no place.
 abbrev pub calling_place : Form → State → (sp : ℕ) → ℕ
-calling_place m s sp = if is_stack_address sp && sp % 4 == 0 then place_before m (return_address s sp) else 0
+calling_place m s sp = if is_stack_address s sp && sp % 4 == 0 then place_before m (return_address s sp) else 0

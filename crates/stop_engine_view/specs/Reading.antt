@@ -5,7 +5,7 @@ use Rattle.std.specs.Int.{cast_signed, w32}
 use Rattle.image_form.specs.Form.{Form, numbered}
 use Rattle.image_form.specs.declared.tables.Function.{Function}
 use Rattle.image_form.specs.declared.tables.Place.{Place}
-use Rattle.rv_machine.specs.State.{State, reg, word}
+use Rattle.rv_machine.specs.State.{State, reg, word, code_start, stack_start, stack_end}
 use Rattle.rv_machine.specs.Memory.{word_in}
 
 -- the number of the first place with this address, counted on from a number
@@ -21,19 +21,19 @@ place_at m address = place_from 1 m.places address
 abbrev pub depth : State → ℕ
 depth s = word (1024 + (4294967296 - reg s 4))
 
--- whether sp (register 2) is an address of the stack
-abbrev pub is_stack_address : ℕ → Bool
-is_stack_address a = nat_le 16777216 a && nat_lt a 33554432
+-- whether an address is one of the stack
+abbrev pub is_stack_address : State → ℕ → Bool
+is_stack_address s a = nat_le (stack_start s.map) a && nat_lt a (stack_end s.map)
 
 -- The word in a slot of the innermost activation: it lies at an offset from sp. Where it does not lie wholly in the stack it reads as 0.
 abbrev pub slot_word : State → ℕ → ℕ
 slot_word s offset =
-    if is_stack_address (reg s 2) && nat_le (reg s 2 + offset + 4) 33554432
-    then word_in s.stack (reg s 2 - 16777216 + offset) else 0
+    if is_stack_address s (reg s 2) && nat_le (reg s 2 + offset + 4) (stack_end s.map)
+    then word_in s.stack (reg s 2 - stack_start s.map + offset) else 0
 
 -- the place that a code word belongs to, by the word's address, or 0 for none
 abbrev pub owner_of : Form → ℕ → ℕ
-owner_of m a = if a % 4 == 0 && nat_le 65536 a then slice_index m.owners ((a - 65536) / 4) else 0
+owner_of m a = if a % 4 == 0 && nat_le code_start a then slice_index m.owners ((a - code_start) / 4) else 0
 
 -- the size of the frame of a place's function
 abbrev pub frame_of : Form → ℕ → ℕ
@@ -45,9 +45,10 @@ frame_of m place = option_map_or (λ (p : Place). option_map_or (λ (f : Functio
 abbrev pub frames_from : ℕ → Form → State → (place sp : ℕ) → List ℕ
 frames_from zero m s place sp = []
 frames_from (suc n) m s place sp =
-    place ∷ (if is_stack_address sp && sp % 4 == 0
-    then (if owner_of m (word (word_in s.stack (sp - 16777216) + 4294967292)) == 0 then []
-    else frames_from n m s (owner_of m (word (word_in s.stack (sp - 16777216) + 4294967292))) (word (sp + frame_of m place)))
+    place ∷ (if is_stack_address s sp && sp % 4 == 0
+    then (if owner_of m (word (word_in s.stack (sp - stack_start s.map) + 4294967292)) == 0 then []
+    else frames_from n m s (owner_of m (word (word_in s.stack (sp - stack_start s.map) + 4294967292)))
+        (word (sp + frame_of m place)))
     else [])
 
 -- how many activations may be live: not to be computed with
