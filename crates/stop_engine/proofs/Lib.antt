@@ -9,3 +9,4 @@ mod StopTables
 mod ActivationLaws
 mod VisibleLaws
 mod StopsByLine
+mod CodeWords

@@ -12,6 +12,7 @@ use Rattle.image_form.specs.declared.tables.Place.{Place}
 use Rattle.image_form.specs.Lists.{AreDistinct}
 use Rattle.image_form.specs.Rules.{IsImage}
 use Rattle.image_form.specs.RulesOfFunctions.{IsFunction, IsPlaceNumber, code_start}
+use Rattle.memory_map.specs.Maps as maps
 use Rattle.image_form.specs.RulesOfPlaces.{word_address}
 use Rattle.image_form.proofs.TableLaws.{each_at}
 use Rattle.rv_machine.specs.Run.{is_stop}
@@ -77,14 +78,14 @@ entries-address m a i p (f ∷ functions) image at_i here each =
     rw (entry-address m a i f.entry p image at_i here f_is.entry_is_place, entries-address m a i p functions image at_i here each.1) refl
 
 -- what a table has at the address of a word
-entry_at-word : (table : List ℕ) (a : ℕ) → a % 4 ≡ 0 → 65536 ≤ a → entry_at table a ≡ slice_index table ((a - 65536) / 4)
+entry_at-word : (table : List ℕ) (a : ℕ) → a % 4 ≡ 0 → maps.code_start ≤ a → entry_at table a ≡ slice_index table ((a - maps.code_start) / 4)
 entry_at-word table a aligned starts = grind (arith, nat_tests)
 
 -- it has none at another address
-entry_at-elsewhere : (table : List ℕ) (a : ℕ) → ¬ ((a % 4 ≡ 0) × (65536 ≤ a)) → entry_at table a ≡ 0
-entry_at-elsewhere table a elsewhere = by_tests (a % 4 == 0) refl (nat_le 65536 a) refl
+entry_at-elsewhere : (table : List ℕ) (a : ℕ) → ¬ ((a % 4 ≡ 0) × (maps.code_start ≤ a)) → entry_at table a ≡ 0
+entry_at-elsewhere table a elsewhere = by_tests (a % 4 == 0) refl (nat_le maps.code_start a) refl
   where
-    by_tests : (b : Bool) → (a % 4 == 0) ≡ b → (c : Bool) → nat_le 65536 a ≡ c → entry_at table a ≡ 0
+    by_tests : (b : Bool) → (a % 4 == 0) ≡ b → (c : Bool) → nat_le maps.code_start a ≡ c → entry_at table a ≡ 0
     by_tests true t true u = absurd (elsewhere (grind (arith, nat_tests), grind (arith, nat_tests)))
     by_tests true t false u = rw (t, u) refl
     by_tests false t c u = rw t refl
@@ -93,12 +94,12 @@ entry_at-elsewhere table a elsewhere = by_tests (a % 4 == 0) refl (nat_le 65536 
 pub record EntersPlaces (m : Form) (table : List ℕ) : Type 0 where
   pub entries : (w : ℕ) → slice_index table w ≡ (if is_entry_address m (word_address w) then 0 else unwrap_or (place_at m (word_address w)) 0)
 
-entered-at : (m : Form) (table : List ℕ) (a : ℕ) → EntersPlaces m table → a % 4 ≡ 0 → 65536 ≤ a
+entered-at : (m : Form) (table : List ℕ) (a : ℕ) → EntersPlaces m table → a % 4 ≡ 0 → maps.code_start ≤ a
     → entry_at table a ≡ (if is_entry_address m a then 0 else unwrap_or (place_at m a) 0)
 unfolding code_start
 entered-at m table a enters aligned starts =
-    let address : word_address ((a - 65536) / 4) ≡ a = omega arith in
-    entry_at-word table a aligned starts ∙ (rw address at (enters.entries ((a - 65536) / 4)))
+    let address : word_address ((a - maps.code_start) / 4) ≡ a = omega arith in
+    entry_at-word table a aligned starts ∙ (rw address at (enters.entries ((a - maps.code_start) / 4)))
 
 -- what a table tells at an address
 record TellsAt (m : Form) (table : List ℕ) (a : ℕ) : Type 0 where
@@ -106,16 +107,16 @@ record TellsAt (m : Form) (table : List ℕ) (a : ℕ) : Type 0 where
   some : entry_at table a ≢ 0 → (is_stop (stop_addresses m) a ≡ true) × (place_at m a ≡ Some (entry_at table a))
 
 tells-nothing : (m : Form) (table : List ℕ) (a : ℕ) → IsImage m → EntersPlaces m table → place_at m a ≡ None → TellsAt m table a
-tells-nothing m table a image enters e = by_tests (a % 4 == 0) refl (nat_le 65536 a) refl
+tells-nothing m table a image enters e = by_tests (a % 4 == 0) refl (nat_le maps.code_start a) refl
   where
     no_stop : is_stop (stop_addresses m) a ≡ false
     no_stop = is_stop-stops_from m.functions 1 m.places a image.places.addresses_differ ∙ ap (stops_there m.functions) e
 
-    no_entry : (b : Bool) → is_entry_address m a ≡ b → a % 4 ≡ 0 → 65536 ≤ a → entry_at table a ≡ 0
+    no_entry : (b : Bool) → is_entry_address m a ≡ b → a % 4 ≡ 0 → maps.code_start ≤ a → entry_at table a ≡ 0
     no_entry true t aligned starts = entered-at m table a enters aligned starts ∙ (rw t refl)
     no_entry false t aligned starts = entered-at m table a enters aligned starts ∙ (rw (t, e) refl)
 
-    by_tests : (b : Bool) → (a % 4 == 0) ≡ b → (c : Bool) → nat_le 65536 a ≡ c → TellsAt m table a
+    by_tests : (b : Bool) → (a % 4 == 0) ≡ b → (c : Bool) → nat_le maps.code_start a ≡ c → TellsAt m table a
     by_tests true t true u =
         record { none = λ _. no_stop; some = λ some. absurd (some (no_entry (is_entry_address m a) refl (grind (arith, nat_tests)) (grind (arith, nat_tests)))) }
     by_tests true t false u = record { none = λ _. no_stop; some = λ some. absurd (some (entry_at-elsewhere table a (λ both. absurd (grind (arith, nat_tests, both))))) }
@@ -177,27 +178,27 @@ numbered-place ps (suc j) p some place = let index : suc j - 1 ≡ j = omega ari
 
 -- a table from which the entry of one function is struck, before the others
 struck-step : (m : Form) (table : List ℕ) (w : ℕ) (f : Function) (rest : List Function) (p : Place) → numbered m.places f.entry ≡ Some p
-    → p.address % 4 ≡ 0 → 65536 ≤ p.address → (p.address - 65536) / 4 < length table
-    → (if is_entry_of m rest (word_address w) then 0 else slice_index (slice_set table ((p.address - 65536) / 4) 0) w)
+    → p.address % 4 ≡ 0 → maps.code_start ≤ p.address → (p.address - maps.code_start) / 4 < length table
+    → (if is_entry_of m rest (word_address w) then 0 else slice_index (slice_set table ((p.address - maps.code_start) / 4) 0) w)
     ≡ (if is_entry_of m (f ∷ rest) (word_address w) then 0 else slice_index table w)
 unfolding code_start
-struck-step m table w f rest p entry aligned starts within = rw entry (by_tests (p.address == 65536 + 4 * w) refl (is_entry_of m rest (65536 + 4 * w)) refl)
+struck-step m table w f rest p entry aligned starts within = rw entry (by_tests (p.address == maps.code_start + 4 * w) refl (is_entry_of m rest (maps.code_start + 4 * w)) refl)
   where
-    by_tests : (b : Bool) → (p.address == 65536 + 4 * w) ≡ b → (c : Bool) → is_entry_of m rest (65536 + 4 * w) ≡ c
-        → (if is_entry_of m rest (65536 + 4 * w) then 0 else slice_index (slice_set table ((p.address - 65536) / 4) 0) w)
-        ≡ (if (p.address == 65536 + 4 * w) || is_entry_of m rest (65536 + 4 * w) then 0 else slice_index table w)
+    by_tests : (b : Bool) → (p.address == maps.code_start + 4 * w) ≡ b → (c : Bool) → is_entry_of m rest (maps.code_start + 4 * w) ≡ c
+        → (if is_entry_of m rest (maps.code_start + 4 * w) then 0 else slice_index (slice_set table ((p.address - maps.code_start) / 4) 0) w)
+        ≡ (if (p.address == maps.code_start + 4 * w) || is_entry_of m rest (maps.code_start + 4 * w) then 0 else slice_index table w)
     by_tests true t true u = rw (t, u) refl
     by_tests true t false u =
-        let here : p.address ≡ 65536 + 4 * w = grind (arith, nat_tests) in
-        let index : (p.address - 65536) / 4 ≡ w = omega arith in
+        let here : p.address ≡ maps.code_start + 4 * w = grind (arith, nat_tests) in
+        let index : (p.address - maps.code_start) / 4 ≡ w = omega arith in
         rw (t, u, index) (get_or-set_same table w 0 0 (rw (← index) within))
     by_tests false t c u =
-        let elsewhere : w ≢ (p.address - 65536) / 4 = grind (arith, nat_tests) in
-        rw (t, get_or-set_other table ((p.address - 65536) / 4) w 0 0 elsewhere) refl
+        let elsewhere : w ≢ (p.address - maps.code_start) / 4 = grind (arith, nat_tests) in
+        rw (t, get_or-set_other table ((p.address - maps.code_start) / 4) w 0 0 elsewhere) refl
 
 -- a table from which one more entry is struck
 pub struck-more : (m : Form) (table : List ℕ) (i w : ℕ) (f : Function) (p : Place) → IsImage m → slice_get m.functions i ≡ Some f → slice_get m.places (f.entry - 1) ≡ Some p → length table ≡ length m.code
-    → (if is_entry_of m (drop (i + 1) m.functions) (word_address w) then 0 else slice_index (slice_set table ((p.address - 65536) / 4) 0) w)
+    → (if is_entry_of m (drop (i + 1) m.functions) (word_address w) then 0 else slice_index (slice_set table ((p.address - maps.code_start) / 4) 0) w)
     ≡ (if is_entry_of m (drop i m.functions) (word_address w) then 0 else slice_index table w)
 struck-more m table i w f p image function place entries =
     let number = entry-place m i f image function in

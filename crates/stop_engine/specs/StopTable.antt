@@ -5,13 +5,14 @@ use Rattle.std.specs.Option.{option_map_or}
 use Rattle.image_form.specs.Form.{Form, numbered}
 use Rattle.image_form.specs.declared.tables.Function.{Function}
 use Rattle.image_form.specs.declared.tables.Place.{Place}
+use Rattle.memory_map.specs.Maps.{code_start}
 use Rattle.rv_machine.specs.Run.{is_stop}
 use Rattle.stop_engine_view.specs.Run.{stop_addresses}
 use Rattle.stop_engine_view.specs.Reading.{place_at}
 
 -- what a table with an entry for each code word has at an address, and 0 where no word begins there
 abbrev pub entry_at : List ℕ → ℕ → ℕ
-entry_at table a = if a % 4 == 0 && nat_le 65536 a then slice_index table ((a - 65536) / 4) else 0
+entry_at table a = if a % 4 == 0 && nat_le code_start a then slice_index table ((a - code_start) / 4) else 0
 
 -- a function's entry is at this address
 abbrev pub is_entry_address : Form → ℕ → Bool

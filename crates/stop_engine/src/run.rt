@@ -64,10 +64,10 @@ impl<'a> Run<'a> {
         requires { IsImage (viewed image.now) }
         ensures { IfOk result (λ run. run ≡ fresh_run (viewed image.now) input.now limit) }
     {
-        let words = code_words(alloc, image)?;
+        let regions = image.version().map;
         Ok(Run {
             table: StopTable::new(alloc, image)?,
-            machine: Machine::load(alloc, &words, image.initial(), input)?,
+            machine: Machine::load(alloc, regions, image.code_bytes(), image.initial(), input)?,
             limit,
             left: limit,
             standing: Standing::Fresh,
@@ -135,18 +135,6 @@ impl<'a> Run<'a> {
     {
         self.limit
     }
-}
-
-/// The code words of an image. `AllocError` where memory for them was refused.
-fn code_words(alloc: Global, image: &View<'_>) -> Result<Vec<u32>, AllocError>
-    ensures { IfOk result (λ words. words.items ≡ (viewed image.now).code) }
-{
-    let count = image.code_count();
-    let mut words = Vec::with_capacity(alloc, count)?;
-    for i in 0..count {
-        words.push(image.code_at(i))?;
-    }
-    Ok(words)
 }
 
 /// The place of the stop at which a run halted, if it halted at one.

@@ -4,15 +4,16 @@ ghost use Rattle.std.specs.Prelude.{◌≡◌, ℕ, ◌-◌, ◌/◌, ◌≤◌,
 ghost use Rattle.image_form.specs.Rules.{IsImage};
 ghost use Rattle.image_form.specs.RulesOfPlaces.{word_address};
 ghost use Rattle.image_form.specs.Views.{viewed};
+ghost use Rattle.memory_map.specs.Maps.{code_start};
 ghost use Rattle.rv_machine.specs.Run.{is_stop};
 ghost use Rattle.stop_engine.specs.StopTable.{entry_at, is_entry_address};
 ghost use Rattle.stop_engine_view.specs.Reading.{place_at};
 ghost use Rattle.stop_engine_view.specs.Run.{stop_addresses};
 
 use image_form::View;
+use memory_map::CODE_START;
 use std::alloc::{AllocError, Global};
 use std::marker::Model;
-use stop_engine_tables::CODE_START;
 
 /// An image with a table of its stop places, which finds the place of an address by one look-up.
 #[derive(Drop)]
@@ -94,8 +95,8 @@ fn strike_entries(image: &View<'_>, table: &mut [u32])
 
 /// The index of the code word at an address.
 fn word_of(address: u32) -> usize
-    requires { 65536 ≤ address }
-    ensures { result ≡ (address - 65536) / 4 }
+    requires { code_start ≤ address }
+    ensures { result ≡ (address - code_start) / 4 }
 {
     ((address - CODE_START) / 4) as usize
 }

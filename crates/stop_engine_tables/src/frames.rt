@@ -8,8 +8,9 @@ ghost use Rattle.rv_machine.specs.State.{word};
 ghost use Rattle.stop_engine_view.specs.Callers.{calling_place, place_before, return_address};
 ghost use Rattle.stop_engine_view.specs.Reading.{frame_of, frames, greatest_depth, is_stack_address, owner_of};
 
-use crate::reading::{CODE_START, STACK_END, STACK_START, stack_pointer, word_in};
+use crate::reading::{stack_pointer, word_in};
 use image_form::View;
+use memory_map::CODE_START;
 use rv_machine::Machine;
 use std::alloc::{AllocError, Global};
 
@@ -33,7 +34,7 @@ pub fn owner_of(image: &View<'_>, address: u32) -> u32
 /// The address that is stored where a frame starts, in the stack.
 #[tactic(auto, using(crate::proofs::Slots::word_in_rest), unfolding(rv_machine::specs::Reading::stack_rest))]
 fn return_address(machine: &Machine, frame: u32) -> u32
-    requires { is_stack_address frame ≡ true }
+    requires { is_stack_address machine.now frame ≡ true }
     ensures { result ≡ return_address machine.now frame }
 {
     word_in(machine.stack_from(frame), 0)
@@ -45,10 +46,11 @@ pub fn calling_place(image: &View<'_>, machine: &Machine, frame: u32) -> u32
     ensures place { result ≡ calling_place (viewed image.now) machine.now frame }
     ensures number { result ≢ 0 → IsPlaceNumber (viewed image.now) result }
 {
-    if frame < STACK_START {
+    let regions = machine.regions();
+    if frame < regions.stack_start() {
         return 0;
     }
-    if frame >= STACK_END {
+    if frame >= regions.stack_end() {
         return 0;
     }
     if frame % 4 != 0 {

@@ -9,6 +9,6 @@ mod tables;
 mod variable_lists;
 
 pub use frames::{calling_place, frame_of, frame_places, greatest_depth, owner_of};
-pub use reading::{CODE_START, depth, slot_word, stack_pointer};
+pub use reading::{depth, slot_word, stack_pointer};
 pub use tables::{NameStarts, Tables, tables_of};
 pub use variable_lists::VariableLists;

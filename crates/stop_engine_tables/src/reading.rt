@@ -16,15 +16,6 @@ const STACK_POINTER: usize = 2;
 /// The register that counts how many activations may still begin.
 const THREAD_POINTER: usize = 4;
 
-/// The address of the first code word.
-pub const CODE_START: u32 = 0x0001_0000;
-
-/// The address at which the stack begins.
-pub const STACK_START: u32 = 0x0100_0000;
-
-/// The address behind its end.
-pub const STACK_END: u32 = 0x0200_0000;
-
 /// The depth of the innermost activation, 1 for the first of main.
 pub fn depth(machine: &Machine) -> u32
     ensures { result ≡ depth machine.now }
@@ -63,14 +54,15 @@ pub fn word_in(bytes: &[u8], index: usize) -> u32
 pub fn slot_word(machine: &Machine, offset: u32) -> u32
     ensures { result ≡ slot_word machine.now offset }
 {
+    let regions = machine.regions();
     let frame = machine.registers()[STACK_POINTER];
-    if frame < STACK_START {
+    if frame < regions.stack_start() {
         return 0;
     }
-    if frame >= STACK_END {
+    if frame >= regions.stack_end() {
         return 0;
     }
-    if u64::from(frame) + u64::from(offset) + 4 > u64::from(STACK_END) {
+    if u64::from(frame) + u64::from(offset) + 4 > u64::from(regions.stack_end()) {
         return 0;
     }
     word_in(machine.stack_from(frame), offset as usize)
