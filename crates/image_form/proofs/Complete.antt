@@ -1,5 +1,5 @@
 -- The spelling of an image is read.
-use Rattle.std.proofs.Common.{◌≡◌, ℕ, ◌+◌, ◌%◌, ◌<◌, Bool, true, false, ltb, List, [], ◌∷◌, ◌++◌, length, get_or, take, None, Ok, refl, sym, ap, ◌∙◌, arith, subst}
+use Rattle.std.proofs.Common.{◌≡◌, ℕ, ◌+◌, ◌%◌, ◌<◌, ◌≤◌, Bool, true, false, cond, ltb, List, [], ◌∷◌, ◌++◌, length, get_or, take, None, Ok, refl, sym, ap, ◌∙◌, arith, subst}
 use Rattle.std.specs.Prelude.{codes, map}
 use Rattle.std.specs.List.{AllByRecursion}
 use Rattle.std.specs.Str.{bytes_eq}
@@ -10,22 +10,27 @@ use Rattle.image_form.specs.Decoding.{decoded, word_numbers, sections_of}
 use Rattle.image_form.specs.Form.{Form}
 use Rattle.image_form.specs.Numbers.{function_numbers, place_numbers, variable_numbers, change_numbers, flow_numbers, assigned_numbers, row_numbers, node_numbers}
 use Rattle.image_form.specs.Reading.{read_of}
-use Rattle.image_form_sections.specs.Checking.{size_told, header_checks, breach_of_program, breach_of_tables, checked_of}
+use Rattle.image_form_sections.specs.Checking.{size_told, long_checks, header_checks, breach_of_program, breach_of_tables, checked_of}
 use Rattle.image_form.specs.Rules.{IsImage}
-use Rattle.image_form_sections.specs.Sections.{number_at, numbers_at, sections_at}
-use Rattle.image_form.specs.Spelling.{size, header, body, section, spelled, spelling}
+use Rattle.image_form_sections.specs.Sections.{number_at, version_told, count_told, sections_at}
+use Rattle.image_form.specs.Spelling.{size, header, long_header, spelling}
 use Rattle.image_form_sections.specs.TestsOfChanges.{change_tests, flow_tests, assigned_tests, row_tests}
 use Rattle.image_form_sections.specs.TestsOfCode.{function_tests, place_tests, owner_tests}
 use Rattle.image_form_sections.specs.TestsOfNodes.{node_tests}
 use Rattle.image_form_sections.specs.TestsOfVariables.{variable_tests}
+use Rattle.memory_map.specs.Maps.{most_words}
+use Rattle.image_form_sections.specs.declared.section.Section.TheVariants.{Code, Initial, Functions, Places, Rows, Members, Names}
+use Rattle.image_form_sections.specs.declared.version.Version.{Version}
+use Rattle.image_form_sections.specs.Order.{order, behind}
+use Rattle.image_form_sections.specs.Versions.{is_read, has_callers, has_structures, header_size}
+use Rattle.image_form.proofs.Counts.{records_inside}
 use Rattle.image_form.proofs.ChangesKept.{changes_complete, flow_complete, assigned_complete}
 use Rattle.image_form.proofs.FunctionsKept.{functions_complete}
 use Rattle.image_form.proofs.Kept.{AllTrue, none_broken}
 use Rattle.image_form.proofs.NamesKept.{names_complete}
 use Rattle.image_form.proofs.NodesKept.{nodes_complete}
-use Rattle.image_form.proofs.OneSpelling.{header_back, sections_back, decoded_back, few_functions, row_sized, node_sized, mode_fits}
+use Rattle.image_form.proofs.OneSpelling.{is_told, header_sized, header_number, short_number, version_is, count_is, counts_are, length-spelling, sections_back, decoded_back, few_functions, mode_fits}
 use Rattle.image_form.proofs.PlacesKept.{places_complete, owners_complete}
-use Rattle.image_form.proofs.ReadBack.{length-spelled, length-section}
 use Rattle.image_form.proofs.RowsKept.{rows_complete}
 use Rattle.image_form.proofs.VariablesKept.{variables_complete}
 
@@ -45,7 +50,7 @@ module _ (f : Form) (image : IsImage f) where
   program_kept =
       let s = sections_of f in
       rw (
-        none_of_section (function_tests s) function_numbers f.functions (functions_complete f image.functions),
+        none_of_section (function_tests s) (function_numbers f.version.level) f.functions (functions_complete f image.functions),
         none_of_section (place_tests s) place_numbers f.places (places_complete f image.places),
         none_of_section (owner_tests s) word_numbers f.owners (owners_complete f image.owners),
         none_of_section (variable_tests s) variable_numbers f.variables (variables_complete f (few_functions f image) image.variables),
@@ -59,91 +64,75 @@ module _ (f : Form) (image : IsImage f) where
       rw (
         none_of_section (flow_tests s) flow_numbers f.flow (flow_complete f image.flow),
         none_of_section (assigned_tests s) assigned_numbers f.assigned (assigned_complete f image.assigned),
-        none_of_section (row_tests s) row_numbers f.rows (rows_complete f image.rows),
+        none_of_section (row_tests s) (row_numbers f.version.level) f.rows (rows_complete f image.rows),
         none_of_section (node_tests s) node_numbers f.nodes (nodes_complete f image.nodes),
         names_complete f image.names,
       ) refl
-
-  length-body : length (body f) + 64 ≡ size f
-  unfolding size
-  length-body =
-      let names = f.names in
-      let nodes = section node_numbers f.nodes ++ names in
-      let rows = section row_numbers f.rows ++ nodes in
-      let assigned = section assigned_numbers f.assigned ++ rows in
-      let flow = section flow_numbers f.flow ++ assigned in
-      let changes = section change_numbers f.changes ++ flow in
-      let variables = section variable_numbers f.variables ++ changes in
-      let owners = spelled f.owners ++ variables in
-      let places = section place_numbers f.places ++ owners in
-      let functions = section function_numbers f.functions ++ places in
-      let initial = f.initial ++ functions in
-      omega (
-        arith,
-        length-append (spelled f.code) initial,
-        length-append f.initial functions,
-        length-append (section function_numbers f.functions) places,
-        length-append (section place_numbers f.places) owners,
-        length-append (spelled f.owners) variables,
-        length-append (section variable_numbers f.variables) changes,
-        length-append (section change_numbers f.changes) flow,
-        length-append (section flow_numbers f.flow) assigned,
-        length-append (section assigned_numbers f.assigned) rows,
-        length-append (section row_numbers f.rows) nodes,
-        length-append (section node_numbers f.nodes) names,
-        length-spelled f.code,
-        length-spelled f.owners,
-        length-section 5 function_numbers (λ x. refl) f.functions,
-        length-section 4 place_numbers (λ x. refl) f.places,
-        length-section 8 variable_numbers (λ x. refl) f.variables,
-        length-section 5 change_numbers (λ x. refl) f.changes,
-        length-section 2 flow_numbers (λ x. refl) f.flow,
-        length-section 2 assigned_numbers (λ x. refl) f.assigned,
-        length-section 6 row_numbers row_sized f.rows,
-        length-section 3 node_numbers node_sized f.nodes,
-      )
-
-  pub length-spelling : length (spelling f) ≡ size f
-  unfolding spelling
-  length-spelling =
-      let magic : length (codes "CDBG") ≡ 4 = refl in
-      omega (arith, magic, length-append (codes "CDBG") (spelled (header f) ++ body f), length-append (spelled (header f)) (body f), length-spelled (header f), length-body)
 
   magic_kept : bytes_eq (codes "CDBG") (take 4 (spelling f)) ≡ true
   unfolding spelling
   magic_kept = refl
 
-  header_number : (i : ℕ) → get_or (numbers_at 15 4 (spelling f)) i 0 ≡ get_or (header f) i 0
-  header_number i = ap (λ (l : List ℕ). get_or l i 0) (header_back f image)
-
-  -- The header asks for as many bytes as there are.
   pub told_size : size_told (spelling f) ≡ length (spelling f)
   unfolding size_told size
-  told_size =
-      let at = header_number in
-      omega (arith, at 3, at 4, at 5, at 6, at 7, at 8, at 9, at 10, at 11, at 12, at 13, length-spelling, image.owners.one_each)
+  told_size = (λ i. behind (version_is f (is_told f image) i).level (counts_are f (is_told f image) i) order) ∙ sym (length-spelling f)
+
+  -- The numbers that only some headers have keep their rules.
+  long_kept : (b : Bool) → has_callers f.version.level ≡ b → AllByRecursion (λ c. c.kept ≡ true) (cond b (long_checks (spelling f)) [])
+  unfolding has_structures
+  long_kept false lacks = tt
+  long_kept true has =
+      let size : header_size f.version.level ≡ 80 = ap (λ (b : Bool). cond b 80 64) has in
+      let there : 19 ≤ length (header f) = omega (arith, size, header_sized f) in
+      let zero_at : (i : ℕ) → i < 4 → get_or (long_header f) i 0 ≡ get_or (length f.calls ∷ length f.members ∷ 0 ∷ 0 ∷ []) i 0 = λ i low. ap (λ (b : Bool). get_or (cond b (length f.calls ∷ length f.members ∷ 0 ∷ 0 ∷ []) []) i 0) has in
+      let members : count_told (spelling f) Members ≡ 0 = count_is f (is_told f image) Members ∙ ap length (image.members.structures refl) in (
+        eq-eqb _ _ members,
+        (
+          eq-eqb _ _ (header_number f (is_told f image) 17 (omega (arith, there)) ∙ zero_at 2 (omega arith)),
+          (eq-eqb _ _ (header_number f (is_told f image) 18 (omega (arith, there)) ∙ zero_at 3 (omega arith)), tt),
+        ),
+      )
+
+  header_inside : header_size f.version.level ≤ length (spelling f)
+  unfolding size
+  header_inside = omega (arith, length-spelling f)
 
   checks_kept : first_breach (header_checks (spelling f)) ≡ Ok tt
   checks_kept =
-      let at = header_number in
+      let at = short_number f (is_told f image) in
+      let count = count_is f (is_told f image) in
       let sizes = image.sizes in
-      let total : number_at (spelling f) 8 ≡ length (spelling f) = at 1 ∙ sym length-spelling in
-      let told = told_size in
+      let version : is_read (number_at (spelling f) 4) ≡ true = ap is_read (at 0 (omega arith)) ∙ sizes.version in
+      let total : number_at (spelling f) 8 ≡ length (spelling f) = at 1 (omega arith) ∙ sym (length-spelling f) in
+      let level = ap (λ (v : Version). v.level) (version_is f (is_told f image)) in
+      let own : header_size (version_told (spelling f)).level ≡ header_size f.version.level = ap header_size level in
+      let long = header_inside in
       let mode = mode_fits f.mode in
-      let words : number_at (spelling f) 20 % 4 ≡ 0 = ap (λ (n : ℕ). n % 4) (at 4) ∙ sizes.initial_words in
+      let most : most_words (version_told (spelling f)).map ≡ most_words f.version.map = ap (λ (v : Version). most_words v.map) (version_is f (is_told f image)) in
+      let words : count_told (spelling f) Initial % 4 ≡ 0 = ap (λ (n : ℕ). n % 4) (count Initial) ∙ sizes.initial_words in
+      let last = ap has_callers level in
       all_kept (header_checks (spelling f)) (
         magic_kept,
         (
-          eq-eqb _ _ (at 0),
+          version,
           (
-            and_from _ _ (eq-eqb _ _ total) (eq-eqb _ _ told),
+            le-leb _ _ (omega (arith, own, long)),
             (
-              le-leb _ _ (omega (arith, at 2, mode)),
+              and_from _ _ (eq-eqb _ _ total) (eq-eqb _ _ told_size),
               (
-                le-leb _ _ (omega (arith, at 3, sizes.code)),
+                le-leb _ _ (omega (arith, at 2 (omega arith), mode)),
                 (
-                  and_from _ _ (le-leb _ _ (omega (arith, at 4, sizes.initial))) (eq-eqb _ _ words),
-                  (le-leb _ _ (omega (arith, at 5, sizes.some_function)), (le-leb _ _ (omega (arith, at 6, sizes.some_place)), (le-leb _ _ (omega (arith, at 11, sizes.rows)), (eq-eqb _ _ (at 14), tt)))),
+                  le-leb _ _ (omega (arith, count Code, sizes.code, most)),
+                  (
+                    and_from _ _ (le-leb _ _ (omega (arith, count Initial, sizes.initial))) (eq-eqb _ _ words),
+                    (
+                      le-leb _ _ (omega (arith, count Functions, sizes.some_function)),
+                      (
+                        le-leb _ _ (omega (arith, count Places, sizes.some_place)),
+                        (le-leb _ _ (omega (arith, count Rows, sizes.rows)), (eq-eqb _ _ (at 14 (omega arith)), long_kept (has_callers (version_told (spelling f)).level) (sym last))),
+                      ),
+                    ),
+                  ),
                 ),
               ),
             ),
@@ -154,7 +143,7 @@ module _ (f : Form) (image : IsImage f) where
   pub image_read : read_of (spelling f) ≡ Ok f
   unfolding read_of checked_of
   image_read =
-      let long : ltb (length (spelling f)) 64 ≡ false = le-ltb _ _ (omega (arith, length-spelling, length-body)) in
+      let long : ltb (length (spelling f)) 64 ≡ false = le-ltb _ _ (omega (arith, length-spelling f, records_inside f Names)) in
       let back = sections_back f image in
       let program : breach_of_program (sections_at (spelling f)) ≡ Ok tt = ap breach_of_program back ∙ program_kept in
       let tables : breach_of_tables (sections_at (spelling f)) ≡ Ok tt = ap breach_of_tables back ∙ tables_kept in

@@ -1,14 +1,15 @@
 pub mod ChangesKept
 pub mod Complete
-pub mod Gathered
-pub mod InTurn
+pub mod Counts
 pub mod FunctionsKept
+pub mod Gathered
 pub mod Got
 pub mod Kept
 pub mod NamesGot
 pub mod NamesKept
 pub mod NodesKept
 pub mod OneSpelling
+pub mod Parts
 pub mod PlacesKept
 pub mod Positions
 pub mod Raw
@@ -20,3 +21,4 @@ pub mod SpelledRows
 pub mod TableLaws
 pub mod Told
 pub mod VariablesKept
+pub mod VersionLaws

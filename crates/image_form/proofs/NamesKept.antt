@@ -155,7 +155,7 @@ or_empty (c ∷ cs) is = is
 module _ (f : Form) where
   tests_are : name_tests (sections_of f) ≡ tests_of Identifier (function_name_lengths f) ++ (tests_of Identifier (variable_name_lengths f) ++ tests_of Letters (pass_name_lengths f))
   tests_are =
-      let a = tests_by_lengths Identifier function_numbers (λ g. g.name_length) (λ x. refl) f.functions in
+      let a = tests_by_lengths Identifier (function_numbers f.version.level) (λ g. g.name_length) (λ x. refl) f.functions in
       let b = tests_by_lengths Identifier variable_numbers (λ v. v.name_length) (λ x. refl) f.variables in
       let c = tests_by_lengths Letters change_numbers (λ c. c.pass_length) (λ x. refl) f.changes in
       (λ i. a i ++ (b i ++ c i))

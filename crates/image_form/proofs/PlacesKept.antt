@@ -36,14 +36,14 @@ module _ (f : Form) where
   in_function_is : (k address : ℕ) (g : Function) → slice_get f.functions k ≡ Some g → is_in_function (sections_of f) k address ≡ true → IsInFunction f k address
   unfolding is_in_function
   in_function_is k address g at kept =
-      let t = rw (row_is function_numbers f.functions k g at) at kept in
+      let t = rw (row_is (function_numbers f.version.level) f.functions k g at) at kept in
       rw at (grind (arith, nat_tests, t), grind (arith, nat_tests, t))
 
   in_function_kept : (k address : ℕ) → IsInFunction f k address → is_in_function (sections_of f) k address ≡ true
   unfolding is_in_function
   in_function_kept k address inside =
       let g = some_and (slice_get f.functions k) _ inside in
-      rw (row_is function_numbers f.functions k g.0 g.1) (grind (arith, nat_tests, g.2))
+      rw (row_is (function_numbers f.version.level) f.functions k g.0 g.1) (grind (arith, nat_tests, g.2))
 
   first_place_at : (i address : ℕ) → is_first_place (sections_of f) i address ≡ true → position_from (λ q. slice_index q 3 == address) 0 (map place_numbers f.places) ≡ Some i
   unfolding is_first_place
@@ -52,11 +52,11 @@ module _ (f : Form) where
   one_sound : (i : ℕ) (p : Place) → slice_get f.places i ≡ Some p → AllTrue (place_tests (sections_of f) i) → IsPlace f p × (is_first_place (sections_of f) i p.address ≡ true)
   unfolding is_place_address is_not_below is_above
   one_sound i p at kept =
-      let k = rw (row_is place_numbers f.places i p at, length-map f.functions function_numbers) at kept in
+      let k = rw (row_is place_numbers f.places i p at, length-map f.functions (function_numbers f.version.level)) at kept in
       let here : p.function < length f.functions = grind (arith, nat_tests, k.1.1.0) in
       let outer = and_parts _ _ k.1.1.1.0 in
       let inner = and_parts _ _ outer.0 in
-      let d : Function = record { name_length = 0; first = 0; end = 0; frame = 0; entry = 0 } in (
+      let d : Function = record { name_length = 0; first = 0; end = 0; frame = 0; entry = 0; saved = 0 } in (
         record {
           line_from_one = grind (arith, nat_tests, k.1.0);
           address_aligned = eqb-true _ _ inner.0;
@@ -110,7 +110,7 @@ module _ (f : Form) where
   one_complete zero p at is rules =
       let here = number_there f.functions p.function _ is.in_function in
       let address = address_kept 0 p at is rules in
-      rw (row_is place_numbers f.places 0 p at, length-map f.functions function_numbers) (refl, (grind (arith, nat_tests, is.line_from_one), (grind (arith, nat_tests, here), (address, tt))))
+      rw (row_is place_numbers f.places 0 p at, length-map f.functions (function_numbers f.version.level)) (refl, (grind (arith, nat_tests, is.line_from_one), (grind (arith, nat_tests, here), (address, tt))))
   one_complete (suc j) p at is rules =
       let before = before_at f.places j p at in
       let above = next_at _ f.places rules.positions_ascend j before.0 p before.1 at in
@@ -118,7 +118,7 @@ module _ (f : Form) where
       let function = next_at _ f.places rules.functions_do_not_fall j before.0 p before.1 at in
       let here = number_there f.functions p.function _ is.in_function in
       let address = address_kept (suc j) p at is rules in
-      rw (row_is place_numbers f.places j before.0 before.1, row_is place_numbers f.places (suc j) p at, length-map f.functions function_numbers) (
+      rw (row_is place_numbers f.places j before.0 before.1, row_is place_numbers f.places (suc j) p at, length-map f.functions (function_numbers f.version.level)) (
         grind (arith, nat_tests, above),
         (grind (arith, nat_tests, is.line_from_one, line), (grind (arith, nat_tests, here, function), (address, tt))),
       )
@@ -135,7 +135,7 @@ module _ (f : Form) where
   no_place = record { position = 0; line = 0; function = 0; address = 0 }
 
   no_code : Function
-  no_code = record { name_length = 0; first = 0; end = 0; frame = 0; entry = 0 }
+  no_code = record { name_length = 0; first = 0; end = 0; frame = 0; entry = 0; saved = 0 }
 
   own_sound : (w n : ℕ) → slice_get f.owners w ≡ Some n → PlaceRules f → is_owner (sections_of f) w ≡ true → n ≢ 0 → IsOwner f w n
   unfolding is_owner is_place

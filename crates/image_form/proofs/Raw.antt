@@ -5,9 +5,14 @@ use Rattle.image_form_sections.specs.declared.layout.Layout.{Layout}
 use Rattle.image_form.specs.Decoding.{sections_of}
 use Rattle.image_form.specs.Form.{Form}
 use Rattle.image_form_sections.specs.Layouts.{rows_in, sections_in}
-use Rattle.image_form.specs.Numbers.{function_numbers, place_numbers, variable_numbers, change_numbers, flow_numbers, assigned_numbers, row_numbers, node_numbers}
+use Rattle.image_form.specs.Numbers.{function_numbers, last_if, place_numbers, variable_numbers, change_numbers, flow_numbers, assigned_numbers, row_numbers, call_numbers, member_numbers, node_numbers}
+use Rattle.image_form.specs.declared.tables.Function.{Function}
+use Rattle.image_form.specs.declared.verdicts.VisibleRow.{VisibleRow}
+use Rattle.image_form_sections.specs.declared.version.Level.{Level}
+use Rattle.image_form_sections.specs.declared.version.Level.TheVariants.{Plain, Quiet, Callers}
+use Rattle.image_form_sections.specs.Versions.{has_quiet, has_callers}
 use Rattle.image_form_sections.specs.Sections.{cell, Sections}
-use Rattle.image_form.proofs.OneSpelling.{row_sized, node_sized}
+use Rattle.image_form.proofs.OneSpelling.{row_sized, call_sized, node_sized}
 
 -- The first numbers that g gives.
 abbrev firsts : ℕ → (ℕ → ℕ) → List ℕ
@@ -31,9 +36,23 @@ row_told : {A : Type 0} (numbers : A → List ℕ) (width : ℕ) → ((x : A) �
     → (n : ℕ) → n < length xs → slice_get (map numbers xs) n ≡ Some (firsts width (λ k. cell rows n k))
 row_told numbers width sized xs rows told n low = record_got numbers width sized xs n low ∙ ap (λ (r : List (List ℕ)). Some (firsts width (λ k. cell r n k))) told
 
+-- The numbers of a function, by the level of its version.
+function_cells : (level : Level) (gs : List Function) (rows : List (List ℕ)) → map (function_numbers level) gs ≡ rows → (n : ℕ) → n < length gs
+    → slice_get (map (function_numbers level) gs) n ≡ Some (cell rows n 0 ∷ cell rows n 1 ∷ cell rows n 2 ∷ cell rows n 3 ∷ cell rows n 4 ∷ last_if (has_callers level) (cell rows n 5))
+function_cells Plain gs rows told n low = row_told (function_numbers Plain) 5 (λ x. refl) gs rows told n low
+function_cells Quiet gs rows told n low = row_told (function_numbers Quiet) 5 (λ x. refl) gs rows told n low
+function_cells Callers gs rows told n low = row_told (function_numbers Callers) 6 (λ x. refl) gs rows told n low
+
+-- The numbers of a visible row.
+visible_cells : (level : Level) (rs : List VisibleRow) (rows : List (List ℕ)) → map (row_numbers level) rs ≡ rows → (n : ℕ) → n < length rs
+    → slice_get (map (row_numbers level) rs) n ≡ Some (cell rows n 0 ∷ cell rows n 1 ∷ cell rows n 2 ∷ cell rows n 3 ∷ cell rows n 4 ∷ cell rows n 5 ∷ last_if (has_quiet level) (cell rows n 6))
+visible_cells Plain rs rows told n low = row_told (row_numbers Plain) 6 (row_sized Plain) rs rows told n low
+visible_cells Quiet rs rows told n low = row_told (row_numbers Quiet) 7 (row_sized Quiet) rs rows told n low
+visible_cells Callers rs rows told n low = row_told (row_numbers Callers) 7 (row_sized Callers) rs rows told n low
+
 module _ (f : Form) (l : Layout) (told : sections_of f ≡ sections_in l) (n : ℕ) where
-  pub function_raw : n < length f.functions → slice_get (map function_numbers f.functions) n ≡ Some (firsts 5 (λ k. cell (rows_in l.functions) n k))
-  function_raw = row_told function_numbers 5 (λ x. refl) f.functions (rows_in l.functions) (ap (λ (s : Sections). s.functions) told) n
+  pub function_raw : n < length f.functions → slice_get (map (function_numbers f.version.level) f.functions) n ≡ Some (let rows = rows_in l.functions in cell rows n 0 ∷ cell rows n 1 ∷ cell rows n 2 ∷ cell rows n 3 ∷ cell rows n 4 ∷ last_if (has_callers f.version.level) (cell rows n 5))
+  function_raw = function_cells f.version.level f.functions (rows_in l.functions) (ap (λ (s : Sections). s.functions) told) n
 
   pub place_raw : n < length f.places → slice_get (map place_numbers f.places) n ≡ Some (firsts 4 (λ k. cell (rows_in l.places) n k))
   place_raw = row_told place_numbers 4 (λ x. refl) f.places (rows_in l.places) (ap (λ (s : Sections). s.places) told) n
@@ -50,8 +69,14 @@ module _ (f : Form) (l : Layout) (told : sections_of f ≡ sections_in l) (n : �
   pub assigned_raw : n < length f.assigned → slice_get (map assigned_numbers f.assigned) n ≡ Some (firsts 2 (λ k. cell (rows_in l.assigned) n k))
   assigned_raw = row_told assigned_numbers 2 (λ x. refl) f.assigned (rows_in l.assigned) (ap (λ (s : Sections). s.assigned) told) n
 
-  pub row_raw : n < length f.rows → slice_get (map row_numbers f.rows) n ≡ Some (firsts 6 (λ k. cell (rows_in l.rows) n k))
-  row_raw = row_told row_numbers 6 row_sized f.rows (rows_in l.rows) (ap (λ (s : Sections). s.rows) told) n
+  pub row_raw : n < length f.rows → slice_get (map (row_numbers f.version.level) f.rows) n ≡ Some (let rows = rows_in l.rows in cell rows n 0 ∷ cell rows n 1 ∷ cell rows n 2 ∷ cell rows n 3 ∷ cell rows n 4 ∷ cell rows n 5 ∷ last_if (has_quiet f.version.level) (cell rows n 6))
+  row_raw = visible_cells f.version.level f.rows (rows_in l.rows) (ap (λ (s : Sections). s.rows) told) n
+
+  pub call_raw : n < length f.calls → slice_get (map call_numbers f.calls) n ≡ Some (firsts 7 (λ k. cell (rows_in l.calls) n k))
+  call_raw = row_told call_numbers 7 call_sized f.calls (rows_in l.calls) (ap (λ (s : Sections). s.calls) told) n
+
+  pub member_raw : n < length f.members → slice_get (map member_numbers f.members) n ≡ Some (firsts 5 (λ k. cell (rows_in l.members) n k))
+  member_raw = row_told member_numbers 5 (λ x. refl) f.members (rows_in l.members) (ap (λ (s : Sections). s.members) told) n
 
   pub node_raw : n < length f.nodes → slice_get (map node_numbers f.nodes) n ≡ Some (firsts 3 (λ k. cell (rows_in l.nodes) n k))
   node_raw = row_told node_numbers 3 node_sized f.nodes (rows_in l.nodes) (ap (λ (s : Sections). s.nodes) told) n

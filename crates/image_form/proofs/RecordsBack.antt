@@ -1,5 +1,5 @@
 -- Each record of an image is what its numbers say.
-use Rattle.std.proofs.Common.{◌≡◌, ℕ, ◌<◌, false, List, [], ◌∷◌, length, Option, Some, None, refl, ap, arith}
+use Rattle.std.proofs.Common.{◌≡◌, ℕ, ◌<◌, ◌≤◌, Bool, true, false, List, [], ◌∷◌, length, get_or, Option, Some, None, refl, sym, ap, ◌∙◌, arith}
 use Rattle.std.specs.Prelude.{unwrap_or, IsSomeAnd, ◌==◌}
 use Rattle.std.specs.List.{AllByRecursion}
 use Rattle.std.proofs.lemmas.Bool.{ne_eqb}
@@ -22,11 +22,16 @@ use Rattle.image_form.specs.declared.variables.Variable.{Variable}
 use Rattle.image_form.specs.declared.verdicts.Verdict.{Verdict}
 use Rattle.image_form.specs.declared.verdicts.Verdict.TheVariants.{Home, Recovered, Noncurrent, Nonresident}
 use Rattle.image_form.specs.declared.verdicts.VisibleRow.{VisibleRow}
-use Rattle.image_form.specs.Decoding.{mode_of, owner_of, element_of, storage_of, variable_of, kind_of, change_of, writer_of, row_of, node_of}
+use Rattle.image_form.specs.declared.tables.Function.{Function}
+use Rattle.image_form.specs.declared.members.Member.{Member}
+use Rattle.image_form_sections.specs.declared.version.Level.{Level}
+use Rattle.image_form_sections.specs.declared.version.Level.TheVariants.{Plain, Quiet, Callers}
+use Rattle.image_form_sections.specs.Versions.{has_quiet, has_callers}
+use Rattle.image_form.specs.Decoding.{mode_of, owner_of, element_of, storage_of, variable_of, kind_of, change_of, writer_of, quiet_of, row_of, function_of, member_of, node_of}
 use Rattle.image_form.specs.Form.{Form, numbered}
-use Rattle.image_form.specs.Numbers.{mode_number, no_function, element_number, storage_number, storage_value, variable_numbers, kind_number, change_numbers, verdict_numbers, row_numbers, operation_number, truncation_number, node_numbers}
+use Rattle.image_form.specs.Numbers.{mode_number, no_function, element_number, storage_number, storage_value, variable_numbers, kind_number, change_numbers, verdict_then, last_if, row_numbers, function_numbers, member_numbers, operation_number, truncation_number, node_numbers}
 use Rattle.image_form.specs.RulesOfFunctions.{code_start}
-use Rattle.image_form.specs.RulesOfRows.{IsWriter, IsEvidence, IsVerdict}
+use Rattle.image_form.specs.RulesOfRows.{IsWriter, IsEvidence, IsVerdict, IsQuietStart}
 use Rattle.image_form.specs.RulesOfVariables.{IsVariable, IsKept}
 pub use Rattle.base_laws.proofs.Lists.{number_there}
 
@@ -136,16 +141,67 @@ writer_back f kind (Some address) valid = let other : (address == 0) ≡ false =
 evidence_back : (f : Form) (variable change start : ℕ) (writer : Option ℕ) → IsEvidence f variable change start writer → writer_of (unwrap_or writer 0) ≡ writer
 evidence_back f variable change start writer valid = let c = some_and (numbered f.changes change) _ valid.0 in writer_back f c.0.kind writer c.2.1
 
-with_verdict : ℕ → ℕ → Verdict → VisibleRow
-with_verdict place variable verdict = record { place = place; variable = variable; verdict = verdict }
+with_verdict : ℕ → ℕ → Verdict → Option ℕ → VisibleRow
+with_verdict place variable verdict quiet = record { place = place; variable = variable; verdict = verdict; quiet = quiet }
 
-verdict_back : (f : Form) (place variable : ℕ) (v : Verdict) → IsVerdict f variable v → row_of (place ∷ variable ∷ verdict_numbers v) ≡ with_verdict place variable v
+verdict_back : (f : Form) (place variable : ℕ) (v : Verdict) (more : List ℕ) → IsVerdict f variable v
+    → row_of (place ∷ variable ∷ verdict_then v more) ≡ with_verdict place variable v (quiet_of (get_or more 0 0))
 unfolding with_verdict
-verdict_back f place variable Home valid = refl
-verdict_back f place variable (Recovered change node) valid = refl
-verdict_back f place variable (Noncurrent change start writer) valid = ap (λ (w : Option ℕ). with_verdict place variable (Noncurrent change start w)) (evidence_back f variable change start writer valid)
-verdict_back f place variable (Nonresident change start writer) valid = ap (λ (w : Option ℕ). with_verdict place variable (Nonresident change start w)) (evidence_back f variable change start writer valid)
+verdict_back f place variable Home more valid = refl
+verdict_back f place variable (Recovered change node) more valid = refl
+verdict_back f place variable (Noncurrent change start writer) more valid =
+    ap (λ (w : Option ℕ). with_verdict place variable (Noncurrent change start w) (quiet_of (get_or more 0 0))) (evidence_back f variable change start writer valid)
+verdict_back f place variable (Nonresident change start writer) more valid =
+    ap (λ (w : Option ℕ). with_verdict place variable (Nonresident change start w) (quiet_of (get_or more 0 0))) (evidence_back f variable change start writer valid)
 
-pub row_back : (f : Form) (r : VisibleRow) → IsVerdict f r.variable r.verdict → row_of (row_numbers r) ≡ r
+-- The number of a place is not 0.
+quiet_there : (f : Form) (v : Verdict) (start : ℕ) → IsQuietStart f v (Some start) → 1 ≤ start
+quiet_there f Home start valid = absurd valid
+quiet_there f (Recovered change node) start valid = absurd valid
+quiet_there f (Noncurrent change start writer) quiet valid = valid.0
+quiet_there f (Nonresident change start writer) quiet valid = valid.0
+
+quiet_back : (f : Form) (has : Bool) (v : Verdict) (quiet : Option ℕ) → IsQuietStart f v quiet → (has ≡ false → quiet ≡ None)
+    → quiet_of (get_or (last_if has (unwrap_or quiet 0)) 0 0) ≡ quiet
+quiet_back f false v quiet valid none = let is = none refl in rw is refl
+quiet_back f true v None valid none = refl
+quiet_back f true v (Some start) valid none =
+    let there = quiet_there f v start valid in
+    let other : (start == 0) ≡ false = ne_eqb start 0 (λ e. omega (arith, e, there)) in
+    rw other refl
+
+pub row_back : (f : Form) (level : Level) (r : VisibleRow) → IsVerdict f r.variable r.verdict → IsQuietStart f r.verdict r.quiet → (has_quiet level ≡ false → r.quiet ≡ None)
+    → row_of (row_numbers level r) ≡ r
 unfolding with_verdict
-row_back f r valid = verdict_back f r.place r.variable r.verdict valid
+row_back f level r valid quiet none =
+    verdict_back f r.place r.variable r.verdict (last_if (has_quiet level) (unwrap_or r.quiet 0)) valid
+    ∙ ap (with_verdict r.place r.variable r.verdict) (quiet_back f (has_quiet level) r.verdict r.quiet quiet none)
+
+-- A function's saved registers are 0 where they are not told.
+pub function_back : (level : Level) (g : Function) → (has_callers level ≡ false → g.saved ≡ 0) → function_of (function_numbers level g) ≡ g
+function_back Plain g none = λ i. record {
+  name_length = g.name_length;
+  first = g.first;
+  end = g.end;
+  frame = g.frame;
+  entry = g.entry;
+  saved = sym (none refl) i;
+}
+function_back Quiet g none = λ i. record {
+  name_length = g.name_length;
+  first = g.first;
+  end = g.end;
+  frame = g.frame;
+  entry = g.entry;
+  saved = sym (none refl) i;
+}
+function_back Callers g none = refl
+
+pub member_back : (m : Member) → member_of (member_numbers m) ≡ m
+member_back m = λ i. record {
+  structure = m.structure;
+  name_length = m.name_length;
+  offset = m.offset;
+  element = element_back m.element i;
+  count = m.count;
+}

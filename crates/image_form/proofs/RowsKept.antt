@@ -1,8 +1,8 @@
 -- Visible rows keep their rules where their numbers keep their tests.
-use Rattle.std.proofs.Common.{◌≡◌, ◌≢◌, ℕ, zero, suc, ◌-◌, ◌<◌, true, ◌&&◌, [], ◌∷◌, length, get_or, Option, Some, None, refl, ap, arith}
-use Rattle.std.specs.Prelude.{map, slice_get, unwrap_or, ◌==◌, nat_le, nat_lt, if◌then◌else◌}
+use Rattle.std.proofs.Common.{◌≡◌, ◌≢◌, ℕ, zero, suc, ◌-◌, ◌<◌, Bool, true, false, ◌&&◌, List, [], ◌∷◌, length, get_or, Option, Some, None, refl, ap, arith}
+use Rattle.std.specs.Prelude.{map, slice_get, unwrap_or, ◌==◌, ◌||◌, nat_le, nat_lt, if◌then◌else◌}
 use Rattle.std.specs.List.{AllByRecursion}
-use Rattle.std.proofs.lemmas.Bool.{eq-eqb, eqb-true, and_parts, and_from}
+use Rattle.std.proofs.lemmas.Bool.{eq-eqb, ne_eqb, eqb-true, and_parts, and_from}
 use Rattle.std.proofs.lemmas.Bool.Decides.{nat_tests}
 use Rattle.std.proofs.lemmas.List.{length-map}
 use Rattle.std.proofs.lemmas.Option.{slice_get_within, slice_get-get_or}
@@ -18,13 +18,14 @@ use Rattle.image_form.specs.declared.verdicts.Verdict.TheVariants.{Home, Recover
 use Rattle.image_form.specs.declared.verdicts.VisibleRow.{VisibleRow}
 use Rattle.image_form.specs.Decoding.{sections_of, word_numbers}
 use Rattle.image_form.specs.Form.{Form, numbered}
-use Rattle.image_form.specs.Numbers.{place_numbers, no_function, variable_numbers, kind_number, change_numbers, verdict_numbers, row_numbers, node_numbers}
+use Rattle.image_form.specs.Numbers.{place_numbers, no_function, variable_numbers, kind_number, change_numbers, verdict_then, last_if, row_numbers, node_numbers}
 use Rattle.image_form.specs.RulesOfChanges.{IsPairBefore}
 use Rattle.image_form.specs.RulesOfFunctions.{IsCodeAddress, IsPlaceNumber, code_start}
 use Rattle.image_form.specs.RulesOfPlaces.{IsPlace, PlaceRules}
-use Rattle.image_form.specs.RulesOfRows.{IsVisible, IsWriter, IsVerdict, RowRules}
+use Rattle.image_form.specs.RulesOfRows.{IsVisible, IsWriter, IsVerdict, IsQuietStart, RowRules}
+use Rattle.image_form_sections.specs.Versions.{has_quiet}
 use Rattle.image_form_sections.specs.Sections.{cell}
-use Rattle.image_form_sections.specs.TestsOfChanges.{is_visible, is_change, is_node_or_start, is_writer, row_tests}
+use Rattle.image_form_sections.specs.TestsOfChanges.{is_visible, is_change, is_node_or_start, is_writer, is_quiet_start, row_tests}
 use Rattle.image_form_sections.specs.TestsOfTables.{within, is_place, is_not_below, is_pair_above, is_code_address}
 use Rattle.image_form.proofs.Kept.{AllTrue, row_is, next_from, next_at, before_at, at_each}
 use Rattle.image_form.proofs.RecordsBack.{some_and, number_there}
@@ -39,6 +40,10 @@ TellsWriter (Nonresident change start writer) = writer ≢ Some 0
 
 abbrev pub TellsWriters : Form → Type 0
 TellsWriters f = AllByRecursion (λ r. TellsWriter r.verdict) f.rows
+
+-- No quiet path begins at the number that stands for none, nor in a version that does not tell.
+abbrev pub TellsQuiet : Form → Type 0
+TellsQuiet f = AllByRecursion (λ r. r.quiet ≢ Some 0) f.rows × (has_quiet f.version.level ≡ false → AllByRecursion (λ r. r.quiet ≡ None) f.rows)
 
 no_place : Place
 no_place = record { position = 0; line = 0; function = 0; address = 0 }
@@ -144,99 +149,134 @@ module _ (f : Form) where
   writer_complete Replaced (Some a) is = code_complete a is.1
 
   -- What a verdict may name.
-  verdict_sound : (i place variable : ℕ) (v : Verdict) → get_or (map row_numbers f.rows) i [] ≡ place ∷ variable ∷ verdict_numbers v → TellsWriter v
+  verdict_sound : (i place variable : ℕ) (v : Verdict) (more : List ℕ) → get_or (map (row_numbers f.version.level) f.rows) i [] ≡ place ∷ variable ∷ verdict_then v more → TellsWriter v
       → is_change (sections_of f) i ≡ true → is_node_or_start (sections_of f) i ≡ true → is_writer (sections_of f) i ≡ true → IsVerdict f variable v
   unfolding is_change is_node_or_start is_writer
-  verdict_sound i place variable Home row told change node writer = tt
-  verdict_sound i place variable (Recovered n k) row told change node writer =
+  verdict_sound i place variable Home more row told change node writer = tt
+  verdict_sound i place variable (Recovered n k) more row told change node writer =
       let c = change_sound n variable (rw (row, length-map f.changes change_numbers) at change) in
       let there = rw (row, length-map f.nodes node_numbers) at node in
       (rw c.1 c.2, grind (arith, nat_tests, there))
-  verdict_sound i place variable (Noncurrent n start w) row told change node writer =
+  verdict_sound i place variable (Noncurrent n start w) more row told change node writer =
       let c = change_sound n variable (rw (row, length-map f.changes change_numbers) at change) in
       let its = writer_sound c.0.kind w told (rw (row, c.3) at writer) in
       (rw c.1 (c.2, its), place_sound start (rw row at node))
-  verdict_sound i place variable (Nonresident n start w) row told change node writer =
+  verdict_sound i place variable (Nonresident n start w) more row told change node writer =
       let c = change_sound n variable (rw (row, length-map f.changes change_numbers) at change) in
       let its = writer_sound c.0.kind w told (rw (row, c.3) at writer) in
       (rw c.1 (c.2, its), place_sound start (rw row at node))
 
-  verdict_complete : (i place variable : ℕ) (v : Verdict) → get_or (map row_numbers f.rows) i [] ≡ place ∷ variable ∷ verdict_numbers v → IsVerdict f variable v
+  verdict_complete : (i place variable : ℕ) (v : Verdict) (more : List ℕ) → get_or (map (row_numbers f.version.level) f.rows) i [] ≡ place ∷ variable ∷ verdict_then v more → IsVerdict f variable v
       → (is_change (sections_of f) i ≡ true) × (is_node_or_start (sections_of f) i ≡ true) × (is_writer (sections_of f) i ≡ true)
   unfolding is_change is_node_or_start is_writer
-  verdict_complete i place variable Home row is = rw row (refl, refl, refl)
-  verdict_complete i place variable (Recovered n k) row is =
+  verdict_complete i place variable Home more row is = rw row (refl, refl, refl)
+  verdict_complete i place variable (Recovered n k) more row is =
       let c = some_and (numbered f.changes n) _ is.0 in
       let its = change_complete n variable c.0 c.1 c.2 in
       let there = is.1 in
       rw (row, length-map f.changes change_numbers, length-map f.nodes node_numbers, its.0) (refl, grind (arith, nat_tests, there), refl)
-  verdict_complete i place variable (Noncurrent n start w) row is =
+  verdict_complete i place variable (Noncurrent n start w) more row is =
       let c = some_and (numbered f.changes n) _ is.0 in
       let its = change_complete n variable c.0 c.1 c.2.0 in
       let writer = writer_complete c.0.kind w c.2.1 in
       rw (row, length-map f.changes change_numbers, its.0, its.1, writer) (refl, place_complete start is.1, refl)
-  verdict_complete i place variable (Nonresident n start w) row is =
+  verdict_complete i place variable (Nonresident n start w) more row is =
       let c = some_and (numbered f.changes n) _ is.0 in
       let its = change_complete n variable c.0 c.1 c.2.0 in
       let writer = writer_complete c.0.kind w c.2.1 in
       rw (row, length-map f.changes change_numbers, its.0, its.1, writer) (refl, place_complete start is.1, refl)
 
-  verdict_known : (v : Verdict) → nat_le (get_or (verdict_numbers v) 0 0) 3 ≡ true
-  verdict_known Home = refl
-  verdict_known (Recovered change node) = refl
-  verdict_known (Noncurrent change start writer) = refl
-  verdict_known (Nonresident change start writer) = refl
+  verdict_known : (v : Verdict) (more : List ℕ) → nat_le (get_or (verdict_then v more) 0 0) 3 ≡ true
+  verdict_known Home more = refl
+  verdict_known (Recovered change node) more = refl
+  verdict_known (Noncurrent change start writer) more = refl
+  verdict_known (Nonresident change start writer) more = refl
 
-  one_sound : (i : ℕ) (r : VisibleRow) → slice_get f.rows i ≡ Some r → length f.functions < no_function → PlaceRules f → TellsWriter r.verdict → AllTrue (row_tests (sections_of f) i)
-      → IsVisible f r.place r.variable × IsVerdict f r.variable r.verdict
-  unfolding is_visible
-  one_sound i r at few rules told kept =
-      let row = row_is row_numbers f.rows i r at in
-      let place = place_sound r.place (rw row at (and_parts (is_place (sections_of f) (cell (map row_numbers f.rows) i 0)) (is_not_below (map row_numbers f.rows) 0 i) kept.0).0) in
-      let visible = and_parts (nat_lt r.variable (length f.variables) && cell (map variable_numbers f.variables) r.variable 1 == cell (map place_numbers f.places) (r.place - 1) 2) (is_pair_above (map row_numbers f.rows) i) (rw (row, length-map f.variables variable_numbers) at kept.1.0) in
+  -- The place at which a quiet path begins, as the last number of a row.
+  quiet_sound : (has : Bool) (v : Verdict) (quiet : Option ℕ) → quiet ≢ Some 0 → (has ≡ false → quiet ≡ None)
+      → (get_or (verdict_then v (last_if has (unwrap_or quiet 0))) 4 0 == 0 || (nat_le 2 (get_or (verdict_then v (last_if has (unwrap_or quiet 0))) 0 0) && is_place (sections_of f) (get_or (verdict_then v (last_if has (unwrap_or quiet 0))) 4 0))) ≡ true
+      → IsQuietStart f v quiet
+  quiet_sound has v None told none kept = tt
+  quiet_sound false v (Some c) told none kept = absurd (let never = none refl in cc)
+  quiet_sound true v (Some c) told none kept = go v (ne_eqb c 0 (λ e. told (ap Some e))) kept
+    where
+      go : (v : Verdict) → (c == 0) ≡ false
+          → (get_or (verdict_then v (c ∷ [])) 4 0 == 0 || (nat_le 2 (get_or (verdict_then v (c ∷ [])) 0 0) && is_place (sections_of f) (get_or (verdict_then v (c ∷ [])) 4 0))) ≡ true
+          → IsQuietStart f v (Some c)
+      go Home other kept = absurd (let never = rw other at kept in cc)
+      go (Recovered change node) other kept = absurd (let never = rw other at kept in cc)
+      go (Noncurrent change start writer) other kept = place_sound c (rw other at kept)
+      go (Nonresident change start writer) other kept = place_sound c (rw other at kept)
+
+  quiet_complete : (has : Bool) (v : Verdict) (quiet : Option ℕ) → IsQuietStart f v quiet
+      → (get_or (verdict_then v (last_if has (unwrap_or quiet 0))) 4 0 == 0 || (nat_le 2 (get_or (verdict_then v (last_if has (unwrap_or quiet 0))) 0 0) && is_place (sections_of f) (get_or (verdict_then v (last_if has (unwrap_or quiet 0))) 4 0))) ≡ true
+  quiet_complete false Home quiet is = refl
+  quiet_complete false (Recovered change node) quiet is = refl
+  quiet_complete false (Noncurrent change start writer) quiet is = refl
+  quiet_complete false (Nonresident change start writer) quiet is = refl
+  quiet_complete true Home None is = refl
+  quiet_complete true (Recovered change node) None is = refl
+  quiet_complete true (Noncurrent change start writer) None is = refl
+  quiet_complete true (Nonresident change start writer) None is = refl
+  quiet_complete true Home (Some c) is = absurd is
+  quiet_complete true (Recovered change node) (Some c) is = absurd is
+  quiet_complete true (Noncurrent change start writer) (Some c) is = let other : (c == 0) ≡ false = ne_eqb c 0 (λ e. omega (arith, e, is.0)) in rw other (place_complete c is)
+  quiet_complete true (Nonresident change start writer) (Some c) is = let other : (c == 0) ≡ false = ne_eqb c 0 (λ e. omega (arith, e, is.0)) in rw other (place_complete c is)
+
+  one_sound : (i : ℕ) (r : VisibleRow) → slice_get f.rows i ≡ Some r → length f.functions < no_function → PlaceRules f → TellsWriter r.verdict → r.quiet ≢ Some 0 → (has_quiet f.version.level ≡ false → r.quiet ≡ None) → AllTrue (row_tests (sections_of f) i)
+      → IsVisible f r.place r.variable × IsVerdict f r.variable r.verdict × IsQuietStart f r.verdict r.quiet
+  unfolding is_visible is_quiet_start
+  one_sound i r at few rules told quiet none kept =
+      let row = row_is (row_numbers f.version.level) f.rows i r at in
+      let place = place_sound r.place (rw row at (and_parts (is_place (sections_of f) (cell (map (row_numbers f.version.level) f.rows) i 0)) (is_not_below (map (row_numbers f.version.level) f.rows) 0 i) kept.0).0) in
+      let visible = and_parts (nat_lt r.variable (length f.variables) && cell (map variable_numbers f.variables) r.variable 1 == cell (map place_numbers f.places) (r.place - 1) 2) (is_pair_above (map (row_numbers f.version.level) f.rows) i) (rw (row, length-map f.variables variable_numbers) at kept.1.0) in
       let parts = and_parts (nat_lt r.variable (length f.variables)) (cell (map variable_numbers f.variables) r.variable 1 == cell (map place_numbers f.places) (r.place - 1) 2) visible.0 in
       let there : r.variable < length f.variables = grind (arith, nat_tests, parts.0) in (
         visible_sound r.place r.variable few rules place there (eqb-true _ _ parts.1),
-        verdict_sound i r.place r.variable r.verdict row told kept.1.1.1.0 kept.1.1.1.1.0 kept.1.1.1.1.1.0,
+        verdict_sound i r.place r.variable r.verdict _ row told kept.1.1.1.0 kept.1.1.1.1.0 kept.1.1.1.1.1.0,
+        quiet_sound (has_quiet f.version.level) r.verdict r.quiet quiet none (rw row at kept.1.1.1.1.1.1.0),
       )
 
   next_sound : (j : ℕ) (r s : VisibleRow) → slice_get f.rows j ≡ Some r → slice_get f.rows (suc j) ≡ Some s → AllTrue (row_tests (sections_of f) (suc j)) → IsPairBefore r.place r.variable s.place s.variable
   unfolding is_visible is_pair_above
   next_sound j r s at_r at_s kept =
-      let k = rw (row_is row_numbers f.rows j r at_r, row_is row_numbers f.rows (suc j) s at_s) at kept.1.0 in
+      let k = rw (row_is (row_numbers f.version.level) f.rows j r at_r, row_is (row_numbers f.version.level) f.rows (suc j) s at_s) at kept.1.0 in
       grind (arith, nat_tests, k)
 
-  pub rows_sound : length f.functions < no_function → PlaceRules f → TellsWriters f → RowsKept → RowRules f
-  rows_sound few rules told kept =
-      let own = λ (i : ℕ) (r : VisibleRow) (at : slice_get f.rows i ≡ Some r). one_sound i r at few rules (each_at _ f.rows i r told at) (kept i (slice_get_within f.rows i r at)) in
+  pub rows_sound : length f.functions < no_function → PlaceRules f → TellsWriters f → TellsQuiet f → RowsKept → RowRules f
+  rows_sound few rules told quiet kept =
+      let own = λ (i : ℕ) (r : VisibleRow) (at : slice_get f.rows i ≡ Some r). one_sound i r at few rules (each_at _ f.rows i r told at) (each_at _ f.rows i r quiet.0 at) (λ none. each_at _ f.rows i r (quiet.1 none) at) (kept i (slice_get_within f.rows i r at)) in
       record {
         visible = each_from _ f.rows (λ i r at. (own i r at).0);
         verdicts = each_from _ f.rows (λ i r at. (own i r at).1);
+        quiet = each_from _ f.rows (λ i r at. (own i r at).2);
+        none_quiet = quiet.1;
         ascend = next_from _ f.rows (λ j r s at_r at_s. next_sound j r s at_r at_s (kept (suc j) (slice_get_within f.rows (suc j) s at_s)));
       }
 
-  above_complete : (i : ℕ) (r : VisibleRow) → slice_get f.rows i ≡ Some r → RowRules f → (is_not_below (map row_numbers f.rows) 0 i ≡ true) × (is_pair_above (map row_numbers f.rows) i ≡ true)
+  above_complete : (i : ℕ) (r : VisibleRow) → slice_get f.rows i ≡ Some r → RowRules f → (is_not_below (map (row_numbers f.version.level) f.rows) 0 i ≡ true) × (is_pair_above (map (row_numbers f.version.level) f.rows) i ≡ true)
   unfolding is_not_below is_pair_above
   above_complete zero r at rules = (grind (arith, nat_tests), refl)
   above_complete (suc j) r at rules =
       let before = before_at f.rows j r at in
       let above = next_at _ f.rows rules.ascend j before.0 r before.1 at in
-      rw (row_is row_numbers f.rows j before.0 before.1, row_is row_numbers f.rows (suc j) r at) (grind (arith, nat_tests, above), grind (arith, nat_tests, above))
+      rw (row_is (row_numbers f.version.level) f.rows j before.0 before.1, row_is (row_numbers f.version.level) f.rows (suc j) r at) (grind (arith, nat_tests, above), grind (arith, nat_tests, above))
 
   one_complete : (i : ℕ) (r : VisibleRow) → slice_get f.rows i ≡ Some r → RowRules f → AllTrue (row_tests (sections_of f) i)
-  unfolding is_visible
+  unfolding is_visible is_quiet_start
   one_complete i r at rules =
-      let row = row_is row_numbers f.rows i r at in
+      let row = row_is (row_numbers f.version.level) f.rows i r at in
       let visible = visible_complete r.place r.variable (each_at _ f.rows i r rules.visible at) in
-      let verdict = verdict_complete i r.place r.variable r.verdict row (each_at _ f.rows i r rules.verdicts at) in
+      let verdict = verdict_complete i r.place r.variable r.verdict _ row (each_at _ f.rows i r rules.verdicts at) in
       let above = above_complete i r at rules in
       let place = place_complete r.place visible.0 in
       let there = visible.1 in
-      let known : nat_le (cell (map row_numbers f.rows) i 2) 3 ≡ true = rw row (verdict_known r.verdict) in
-      let first : (is_place (sections_of f) (cell (map row_numbers f.rows) i 0) && is_not_below (map row_numbers f.rows) 0 i) ≡ true = and_from _ _ (rw row place) above.0 in
-      let second : (nat_lt (cell (map row_numbers f.rows) i 1) (length (map variable_numbers f.variables)) && cell (map variable_numbers f.variables) (cell (map row_numbers f.rows) i 1) 1 == cell (map place_numbers f.places) (cell (map row_numbers f.rows) i 0 - 1) 2) ≡ true =
+      let known : nat_le (cell (map (row_numbers f.version.level) f.rows) i 2) 3 ≡ true = rw row (verdict_known r.verdict _) in
+      let first : (is_place (sections_of f) (cell (map (row_numbers f.version.level) f.rows) i 0) && is_not_below (map (row_numbers f.version.level) f.rows) 0 i) ≡ true = and_from _ _ (rw row place) above.0 in
+      let second : (nat_lt (cell (map (row_numbers f.version.level) f.rows) i 1) (length (map variable_numbers f.variables)) && cell (map variable_numbers f.variables) (cell (map (row_numbers f.version.level) f.rows) i 1) 1 == cell (map place_numbers f.places) (cell (map (row_numbers f.version.level) f.rows) i 0 - 1) 2) ≡ true =
       rw (row, length-map f.variables variable_numbers) (and_from (nat_lt r.variable (length f.variables)) (cell (map variable_numbers f.variables) r.variable 1 == cell (map place_numbers f.places) (r.place - 1) 2) (grind (arith, nat_tests, there)) (eq-eqb _ _ visible.2)) in
-      (first, (and_from _ _ second above.1, (known, (verdict.0, (verdict.1, (verdict.2, tt))))))
+      let quiet = quiet_complete (has_quiet f.version.level) r.verdict r.quiet (each_at _ f.rows i r rules.quiet at) in
+      (first, (and_from _ _ second above.1, (known, (verdict.0, (verdict.1, (verdict.2, (rw row quiet, tt)))))))
 
   pub rows_complete : RowRules f → RowsKept
   rows_complete rules = at_each f.rows _ (λ i r at. one_complete i r at rules)

@@ -1,49 +1,61 @@
 -- What is read is an image, and the bytes are its spelling.
-use Rattle.std.proofs.Common.{◌≡◌, ◌≢◌, ℕ, zero, suc, ◌+◌, ◌*◌, ◌%◌, ◌<◌, ◌≤◌, Bool, true, false, cond, ltb, leb, List, [], ◌∷◌, ◌++◌, length, get_or, take, drop, Option, Some, None, Result, Ok, Err, refl, sym, ap, ◌∙◌, arith, subst, length-drop, take-append-drop}
-use Rattle.std.specs.Prelude.{codes, map, ◌==◌}
-use Rattle.std.specs.List.{AllByRecursion}
+use Rattle.std.proofs.Common.{◌≡◌, ◌≢◌, ℕ, zero, suc, ◌+◌, ◌-◌, ◌*◌, ◌/◌, ◌%◌, ◌<◌, ◌≤◌, Bool, true, false, cond, ltb, leb, List, [], ◌∷◌, ◌++◌, length, get_or, take, drop, Option, Some, None, Result, Ok, Err, refl, sym, ap, ◌∙◌, append_assoc, arith, subst, length-drop, take-append-drop}
+use Rattle.std.specs.Prelude.{codes, map, slice_get, sum_by, ◌==◌, ◌&&◌}
+use Rattle.std.specs.List.{AllByRecursion, flat_map}
 use Rattle.std.specs.Option.{option_map_or}
 use Rattle.std.proofs.lemmas.Bool.{leb-true, ltb-false, eqb-true, and_parts}
-use Rattle.std.proofs.lemmas.List.{length-map, length-take-le, drop-drop}
+use Rattle.std.proofs.lemmas.Grind.{flat_map-append}
+use Rattle.std.proofs.lemmas.List.{length-map, length-take-le, drop-drop, take_all}
 use Rattle.std.proofs.lemmas.Slice.Eq.{bytes_eq-Decides}
-use Rattle.debug_records.specs.declared.code.Code.{Code}
+use Rattle.byteorder.specs.Endian.{little_bytes}
+use Rattle.debug_records.specs.declared.code.Code.{Code as ErrorCode}
 use Rattle.debug_records.specs.declared.code.TheConstants.Code.{HEADER_SIZE, NODES_AND_NAMES}
+use Rattle.memory_map.specs.Maps.{most_words, bytes_size}
 use Rattle.image_form_sections.specs.Breaches.{Fault, ◌>>=◌, Check, first_breach, first_broken, breach_in}
-use Rattle.image_form.specs.Decoding.{verdict_of, word_of, function_of, place_of, variable_of, change_of, flow_of, assigned_of, row_of, node_of, word_numbers, decoded, sections_of}
-use Rattle.image_form.specs.Form.{Form}
-use Rattle.image_form.specs.Numbers.{mode_number, no_function, function_numbers, place_numbers, variable_numbers, change_numbers, flow_numbers, assigned_numbers, row_numbers, node_numbers}
-use Rattle.image_form_sections.specs.Order.{start}
-use Rattle.image_form_sections.specs.declared.section.Section.TheVariants.{Names}
-use Rattle.image_form.specs.Reading.{read_of}
-use Rattle.image_form_sections.specs.Checking.{size_told, header_checks, breach_of_program, breach_of_tables, checked_of}
-use Rattle.image_form.specs.Rules.{AllFit, SizeRules, FitRules, IsImage}
-use Rattle.image_form_sections.specs.Sections.{number_at, numbers_at, rows_at, Sections, count_of, sections_at}
-use Rattle.image_form.specs.Spelling.{size, header, body, spelled, spelling}
+use Rattle.image_form_sections.specs.Checking.{size_told, long_checks, header_checks, breach_of_program, breach_of_tables, checked_of}
+use Rattle.image_form_sections.specs.declared.section.Section.{Section}
+use Rattle.image_form_sections.specs.declared.section.Section.TheVariants.{Code, Initial, Functions, Places, Owners, Variables, Changes, Flow, Assigned, Rows, Calls, Members, Nodes, Names}
+use Rattle.image_form_sections.specs.declared.version.Level.{Level}
+use Rattle.image_form_sections.specs.Order.{order, record_size, behind, start}
+use Rattle.image_form_sections.specs.Sections.{number_at, numbers_at, rows_at, Sections, version_told, count_of, count_told, bytes_from, rows_of, sections_at}
 use Rattle.image_form_sections.specs.TestsOfChanges.{change_tests, flow_tests, assigned_tests, row_tests}
 use Rattle.image_form_sections.specs.TestsOfCode.{function_tests, place_tests, owner_tests}
 use Rattle.image_form_sections.specs.TestsOfNames.{name_tests, first_misfit}
 use Rattle.image_form_sections.specs.TestsOfNodes.{node_tests}
 use Rattle.image_form_sections.specs.TestsOfVariables.{variable_tests}
+use Rattle.image_form_sections.specs.Versions.{is_read, level_of, version_number, has_callers, has_structures, header_size}
+use Rattle.image_form_sections.proofs.Inside.{told_inside}
+use Rattle.image_form_sections.proofs.Octets.{AreBytes, AreBytes-drop, AreBytes-take, number_fits}
+use Rattle.image_form_sections.proofs.RowLaws.{length-rows_at}
+use Rattle.image_form_sections.proofs.SectionLaws.{bytes_of, behind_one, numbers_inside}
+use Rattle.image_form.specs.Decoding.{verdict_of, word_of, function_of, place_of, variable_of, change_of, flow_of, assigned_of, row_of, call_of, member_of, node_of, word_numbers, decoded, sections_of}
+use Rattle.image_form.specs.Form.{Form}
+use Rattle.image_form.specs.Numbers.{mode_number, no_function, function_numbers, place_numbers, variable_numbers, change_numbers, flow_numbers, assigned_numbers, row_numbers, call_numbers, member_numbers, node_numbers}
+use Rattle.image_form.specs.Reading.{read_of}
+use Rattle.image_form.specs.Rules.{AllFit, RecordsFit, SizeRules, FitRules, IsImage}
+use Rattle.image_form.specs.RulesOfCalls.{CallRules, MemberRules}
+use Rattle.image_form.specs.Spelling.{size, record_count, short_header, long_header, header, section_bytes, body, spelled, spelling}
 use Rattle.image_form.proofs.ChangesKept.{changes_sound, flow_sound, assigned_sound}
-use Rattle.image_form.proofs.FunctionsKept.{functions_sound}
+use Rattle.image_form.proofs.Counts.{less_functions}
+use Rattle.image_form.proofs.FunctionsKept.{TellsSaved, functions_sound}
 use Rattle.image_form.proofs.NamesKept.{names_sound}
 use Rattle.image_form.proofs.NodesKept.{nodes_sound}
+use Rattle.image_form.proofs.OneSpelling.{function_whole, row_whole}
+use Rattle.image_form.proofs.Parts.{parts_gathered}
 use Rattle.image_form.proofs.PlacesKept.{places_sound, owners_sound}
-use Rattle.image_form.proofs.RowsKept.{TellsWriter, TellsWriters, rows_sound}
+use Rattle.image_form.proofs.RowsKept.{TellsWriter, TellsWriters, TellsQuiet, rows_sound}
 use Rattle.image_form.proofs.VariablesKept.{TellsFunctions, variables_sound}
-use Rattle.image_form.proofs.InTurn.{in_turn, lies_in_turn}
+use Rattle.image_form.proofs.VersionLaws.{number_told, read_no_calls}
 use Rattle.image_form.proofs.Kept.{AllTrue, rows_kept, none_in}
 use Rattle.image_form.proofs.ReadBack.{section-words}
-use Rattle.image_form_sections.proofs.RowLaws.{length-rows_at}
 use Rattle.image_form.proofs.SpelledRows.{all_bytes, numbers_spelled, spelled_rows, rows_spelled, rows_fit, section-rows, records_fit}
-use Rattle.image_form_sections.proofs.Octets.{AreBytes, AreBytes-drop, AreBytes-take, number_fits}
-use Rattle.image_form.proofs.Told.{row_shape, plain_told, mode_told, variables_told, changes_told, visible_rows_told, nodes_told, owner_apart, writer_apart}
+use Rattle.image_form.proofs.Told.{ShapedRows, row_shape, plain_told, mode_told, function_told, saved_none, quiet_none, variables_told, changes_told, visible_rows_told, nodes_told, owner_apart, writer_apart, quiet_apart}
 
 bind_ok : {B : Type 0} (r : Result (Unit {0}) Fault) (k : Unit {0} → Result B Fault) (y : B) → (r >>= k) ≡ Ok y → (r ≡ Ok tt) × (k tt ≡ Ok y)
 bind_ok (Ok x) k y e = (refl, e)
 bind_ok (Err d) k y e = absurd cc
 
-kept_of : (code : Code) (start size : ℕ) (tests : ℕ → List Bool) (n : ℕ) → breach_in code start size (first_broken tests n 0) ≡ Ok tt → (i : ℕ) → i < n → AllTrue (tests i)
+kept_of : (code : ErrorCode) (start size : ℕ) (tests : ℕ → List Bool) (n : ℕ) → breach_in code start size (first_broken tests n 0) ≡ Ok tt → (i : ℕ) → i < n → AllTrue (tests i)
 kept_of code start size tests n e i lt =
     let same : 0 + i ≡ i = omega arith in
     subst (λ j. AllTrue (tests j)) same (rows_kept tests n 0 (none_in code start size (first_broken tests n 0) e) i lt)
@@ -94,7 +106,7 @@ tables_parts s e =
       assigned = kept_of _ _ _ (assigned_tests s) (length s.assigned) b.0;
       rows = kept_of _ _ _ (row_tests s) (length s.rows) c.0;
       nodes = kept_of _ _ _ (node_tests s) (length s.nodes) d.0;
-      names = no_misfit (start (count_of s) Names) (first_misfit (name_tests s) s.names) d.1;
+      names = no_misfit (start (level_of s.version) (count_of s) Names) (first_misfit (name_tests s) s.names) d.1;
     }
 
 kept_each : (checks : List Check) → first_breach checks ≡ Ok tt → AllByRecursion (λ c. c.kept ≡ true) checks
@@ -113,6 +125,11 @@ all_mapped : {A B : Type 0} (P : B → Type 0) (g : A → B) → ((x : A) → P 
 all_mapped P g each [] = tt
 all_mapped P g each (x ∷ xs) = (each x, all_mapped P g each xs)
 
+-- What holds of the record of each row that is there holds of each record.
+all_rows : {B : Type 0} (P : B → Type 0) (g : List ℕ → B) (rows : List (List ℕ)) → ((i : ℕ) (row : List ℕ) → slice_get rows i ≡ Some row → P (g row)) → AllByRecursion P (map g rows)
+all_rows P g [] each = tt
+all_rows P g (row ∷ rows) each = (each 0 row refl, all_rows P g rows (λ i r at. each (suc i) r at))
+
 verdict_apart : (n change first second : ℕ) → TellsWriter (verdict_of n change first second)
 verdict_apart zero change first second = tt
 verdict_apart (suc zero) change first second = tt
@@ -124,47 +141,162 @@ record IsKept (bytes : List ℕ) : Type 0 where
   are : AreBytes bytes
   long : 64 ≤ length bytes
   header_kept : AllByRecursion (λ c. c.kept ≡ true) (header_checks bytes)
-  program : ProgramKept (in_turn bytes)
-  tables : TablesKept (in_turn bytes)
+  program : ProgramKept (sections_at bytes)
+  tables : TablesKept (sections_at bytes)
+
+-- ---- the rows of a section, where they lie
+
+-- The bytes of each section, row by row.
+raw_bytes : Sections → Section → List ℕ
+raw_bytes s Code = spelled_rows s.code
+raw_bytes s Initial = s.initial
+raw_bytes s Functions = spelled_rows s.functions
+raw_bytes s Places = spelled_rows s.places
+raw_bytes s Owners = spelled_rows s.owners
+raw_bytes s Variables = spelled_rows s.variables
+raw_bytes s Changes = spelled_rows s.changes
+raw_bytes s Flow = spelled_rows s.flow
+raw_bytes s Assigned = spelled_rows s.assigned
+raw_bytes s Rows = spelled_rows s.rows
+raw_bytes s Calls = spelled_rows s.calls
+raw_bytes s Members = spelled_rows s.members
+raw_bytes s Nodes = spelled_rows s.nodes
+raw_bytes s Names = s.names
+
+-- An image's sections are spelled as their rows.
+section_raw : (f : Form) (s : Section) → section_bytes f s ≡ raw_bytes (sections_of f) s
+unfolding raw_bytes
+section_raw f Code = sym (section-words f.code) ∙ section-rows word_numbers f.code
+section_raw f Initial = refl
+section_raw f Functions = section-rows (function_numbers f.version.level) f.functions
+section_raw f Places = section-rows place_numbers f.places
+section_raw f Owners = sym (section-words f.owners) ∙ section-rows word_numbers f.owners
+section_raw f Variables = section-rows variable_numbers f.variables
+section_raw f Changes = section-rows change_numbers f.changes
+section_raw f Flow = section-rows flow_numbers f.flow
+section_raw f Assigned = section-rows assigned_numbers f.assigned
+section_raw f Rows = section-rows (row_numbers f.version.level) f.rows
+section_raw f Calls = section-rows call_numbers f.calls
+section_raw f Members = section-rows member_numbers f.members
+section_raw f Nodes = section-rows node_numbers f.nodes
+section_raw f Names = refl
 
 module _ (bytes : List ℕ) (kept : IsKept bytes) where
+  abbrev level : Level
+  level = (version_told bytes).level
+
+  length_kept : (number_at bytes 8 == length bytes && size_told bytes == length bytes) ≡ true
+  length_kept = kept.header_kept.1.1.1.0
+
   size_is : size_told bytes ≡ length bytes
-  size_is = eqb-true _ _ (and_parts (number_at bytes 8 == length bytes) (size_told bytes == length bytes) kept.header_kept.1.1.0).1
+  size_is = eqb-true _ _ (and_parts (number_at bytes 8 == length bytes) (size_told bytes == length bytes) length_kept).1
 
   total_is : number_at bytes 8 ≡ length bytes
-  total_is = eqb-true _ _ (and_parts (number_at bytes 8 == length bytes) (size_told bytes == length bytes) kept.header_kept.1.1.0).0
+  total_is = eqb-true _ _ (and_parts (number_at bytes 8 == length bytes) (size_told bytes == length bytes) length_kept).0
 
   mode_small : number_at bytes 12 ≤ 1
-  mode_small = leb-true _ _ kept.header_kept.1.1.1.0
+  mode_small = leb-true _ _ kept.header_kept.1.1.1.1.0
 
-  -- What the rows say is told by the rows.
-  told : sections_of (decoded (in_turn bytes)) ≡ in_turn bytes
-  unfolding decoded in_turn
+  zero_last : number_at bytes 60 ≡ 0
+  zero_last = eqb-true (number_at bytes 60) 0 kept.header_kept.1.1.1.1.1.1.1.1.1.1.0
+
+  long_kept : AllByRecursion (λ c. c.kept ≡ true) (cond (has_callers level) (long_checks bytes) [])
+  long_kept = kept.header_kept.1.1.1.1.1.1.1.1.1.1.1
+
+  -- The bytes from a section on are as many as those behind its begin.
+  left : (s : Section) → length (bytes_from bytes s) ≡ length bytes - start level (count_told bytes) s
+  left s = length-drop (start level (count_told bytes) s) bytes
+
+  are_from : (s : Section) → AreBytes (bytes_from bytes s)
+  are_from s = AreBytes-drop (start level (count_told bytes) s) bytes kept.are
+
+  inside : (s : Section) → record_size level s * count_told bytes s ≤ length (bytes_from bytes s)
+  inside s = omega (arith, told_inside bytes s size_is, left s)
+
+  rows_lie : (s : Section) → 4 * (record_size level s / 4) ≡ record_size level s → spelled_rows (rows_of bytes s) ≡ take (record_size level s * count_told bytes s) (bytes_from bytes s)
+  rows_lie s whole =
+      let width = record_size level s / 4 in
+      let count = count_told bytes s in
+      let low = numbers_inside level s count in
+      rows_spelled width count (bytes_from bytes s) (are_from s) (omega (arith, low, inside s)) ∙ ap (λ (n : ℕ). take (n * count) (bytes_from bytes s)) whole
+
+  names_end : length (bytes_from bytes Names) ≤ count_told bytes Names
+  unfolding size_told
+  names_end =
+      let last = behind_one level (count_told bytes) (take 13 order) Names in
+      omega (arith, last, left Names, size_is)
+
+  -- Each section lies where the header says.
+  lies : (s : Section) → raw_bytes (sections_at bytes) s ≡ take (record_size level s * count_told bytes s) (bytes_from bytes s)
+  unfolding raw_bytes sections_at
+  lies Code = rows_lie Code refl
+  lies Initial = ap (λ (n : ℕ). take n (bytes_from bytes Initial)) (omega arith)
+  lies Functions = rows_lie Functions (function_whole level)
+  lies Places = rows_lie Places refl
+  lies Owners = rows_lie Owners refl
+  lies Variables = rows_lie Variables refl
+  lies Changes = rows_lie Changes refl
+  lies Flow = rows_lie Flow refl
+  lies Assigned = rows_lie Assigned refl
+  lies Rows = rows_lie Rows (row_whole level)
+  lies Calls = rows_lie Calls refl
+  lies Members = rows_lie Members refl
+  lies Nodes = rows_lie Nodes refl
+  lies Names = sym (take_all (1 * count_told bytes Names) (bytes_from bytes Names) (omega (arith, names_end)))
+
+  behind_is : drop (header_size level) bytes ≡ flat_map (raw_bytes (sections_at bytes)) order
+  unfolding size_told
+  behind_is =
+      let all = sum_by (bytes_of level (count_told bytes)) order in
+      let few : length (drop (header_size level) bytes) ≤ all = omega (arith, length-drop (header_size level) bytes, size_is) in
+      sym (parts_gathered level (count_told bytes) bytes (raw_bytes (sections_at bytes)) lies ∙ take_all all (drop (header_size level) bytes) few)
+
+  -- ---- what the rows say is told by the rows
+
+  version_is : number_at bytes 4 ≡ version_number (version_told bytes)
+  version_is = sym (number_told (number_at bytes 4) kept.header_kept.1.0)
+
+  no_callers : has_callers level ≡ false
+  no_callers = read_no_calls (number_at bytes 4) kept.header_kept.1.0
+
+  calls_none : rows_of bytes Calls ≡ []
+  calls_none = ap (λ (b : Bool). rows_at 7 (cond b (number_at bytes 64) 0) (bytes_from bytes Calls)) no_callers
+
+  members_count : (b : Bool) → has_callers level ≡ b → AllByRecursion (λ c. c.kept ≡ true) (cond b (long_checks bytes) []) → count_told bytes Members ≡ 0
+  unfolding has_structures
+  members_count true has all = eqb-true (count_told bytes Members) 0 all.0
+  members_count false lacks all = ap (λ (b : Bool). cond b (number_at bytes 68) 0) lacks
+
+  members_none : rows_of bytes Members ≡ []
+  members_none = ap (λ (n : ℕ). rows_at 5 n (bytes_from bytes Members)) (members_count (has_callers level) refl long_kept)
+
+  shaped : (s : Section) → ShapedRows (record_size level s / 4) (rows_of bytes s)
+  shaped s = row_shape (record_size level s / 4) (count_told bytes s) (bytes_from bytes s)
+
+  plain : {A : Type 0} (s : Section) (numbers : A → List ℕ) (of_numbers : List ℕ → A) → ((b : List ℕ) → numbers (of_numbers (numbers_at (record_size level s / 4) 0 b)) ≡ numbers_at (record_size level s / 4) 0 b)
+      → map numbers (map of_numbers (rows_of bytes s)) ≡ rows_of bytes s
+  plain s numbers of_numbers told = plain_told (record_size level s / 4) (count_told bytes s) (bytes_from bytes s) numbers of_numbers told
+
+  told : sections_of (decoded (sections_at bytes)) ≡ sections_at bytes
+  unfolding decoded sections_at
   told =
-      let s = in_turn bytes in
-      let rest1 = drop 64 bytes in
-      let rest2 = drop (4 * number_at bytes 16) rest1 in
-      let rest3 = drop (number_at bytes 20) rest2 in
-      let rest4 = drop (20 * number_at bytes 24) rest3 in
-      let rest5 = drop (16 * number_at bytes 28) rest4 in
-      let rest6 = drop (4 * number_at bytes 16) rest5 in
-      let rest7 = drop (32 * number_at bytes 32) rest6 in
-      let rest8 = drop (20 * number_at bytes 36) rest7 in
-      let rest9 = drop (8 * number_at bytes 40) rest8 in
-      let rest10 = drop (8 * number_at bytes 44) rest9 in
-      let rest11 = drop (24 * number_at bytes 48) rest10 in
+      let s = sections_at bytes in
+      let version = sym version_is in
       let mode = mode_told (number_at bytes 12) mode_small in
-      let code = plain_told 1 (number_at bytes 16) rest1 word_numbers word_of (λ b. refl) in
-      let functions = plain_told 5 (number_at bytes 24) rest3 function_numbers function_of (λ b. refl) in
-      let places = plain_told 4 (number_at bytes 28) rest4 place_numbers place_of (λ b. refl) in
-      let owners = plain_told 1 (number_at bytes 16) rest5 word_numbers word_of (λ b. refl) in
-      let variables = variables_told s (row_shape 8 (number_at bytes 32) rest6) kept.program.variables in
-      let changes = changes_told s (row_shape 5 (number_at bytes 36) rest7) kept.program.changes in
-      let flow = plain_told 2 (number_at bytes 40) rest8 flow_numbers flow_of (λ b. refl) in
-      let assigned = plain_told 2 (number_at bytes 44) rest9 assigned_numbers assigned_of (λ b. refl) in
-      let rows = visible_rows_told s (row_shape 6 (number_at bytes 48) rest10) kept.tables.rows in
-      let nodes = nodes_told s (row_shape 3 (number_at bytes 52) rest11) kept.tables.nodes in
+      let code = plain Code word_numbers word_of (λ b. refl) in
+      let functions = plain Functions (function_numbers level) function_of (function_told level) in
+      let places = plain Places place_numbers place_of (λ b. refl) in
+      let owners = plain Owners word_numbers word_of (λ b. refl) in
+      let variables = variables_told s (shaped Variables) kept.program.variables in
+      let changes = changes_told s (shaped Changes) kept.program.changes in
+      let flow = plain Flow flow_numbers flow_of (λ b. refl) in
+      let assigned = plain Assigned assigned_numbers assigned_of (λ b. refl) in
+      let rows = visible_rows_told s level (shaped Rows) kept.tables.rows in
+      let calls : map call_numbers (map call_of (rows_of bytes Calls)) ≡ rows_of bytes Calls = ap (λ (rs : List (List ℕ)). map call_numbers (map call_of rs)) calls_none ∙ sym calls_none in
+      let members : map member_numbers (map member_of (rows_of bytes Members)) ≡ rows_of bytes Members = ap (λ (rs : List (List ℕ)). map member_numbers (map member_of rs)) members_none ∙ sym members_none in
+      let nodes = nodes_told s (shaped Nodes) kept.tables.nodes in
       (λ i. record {
+        version = version i;
         mode = mode i;
         code = code i;
         initial = s.initial;
@@ -176,310 +308,220 @@ module _ (bytes : List ℕ) (kept : IsKept bytes) where
         flow = flow i;
         assigned = assigned i;
         rows = rows i;
+        calls = calls i;
+        members = members i;
         nodes = nodes i;
         names = s.names;
       })
 
-  -- ---- the bytes are the spelling
-
-  -- The sections' bytes, row by row.
-  raw_body : Sections → List ℕ
-  raw_body s =
-      spelled_rows s.code
-      ++ (s.initial
-      ++ (spelled_rows s.functions
-      ++ (spelled_rows s.places
-      ++ (spelled_rows s.owners
-      ++ (spelled_rows s.variables
-      ++ (spelled_rows s.changes
-      ++ (spelled_rows s.flow
-      ++ (spelled_rows s.assigned
-      ++ (spelled_rows s.rows
-      ++ (spelled_rows s.nodes
-      ++ s.names))))))))))
-
-  body-rows : (f : Form) → body f ≡ raw_body (sections_of f)
-  unfolding raw_body
-  body-rows f = rw (
-    sym (section-words f.code) ∙ section-rows word_numbers f.code,
-    section-rows function_numbers f.functions,
-    section-rows place_numbers f.places,
-    sym (section-words f.owners) ∙ section-rows word_numbers f.owners,
-    section-rows variable_numbers f.variables,
-    section-rows change_numbers f.changes,
-    section-rows flow_numbers f.flow,
-    section-rows assigned_numbers f.assigned,
-    section-rows row_numbers f.rows,
-    section-rows node_numbers f.nodes,
-  ) refl
-
-  raw_is : raw_body (in_turn bytes) ≡ drop 64 bytes
-  unfolding raw_body in_turn size_told
-  raw_is =
-      let rest1 = drop 64 bytes in
-      let rest2 = drop (4 * number_at bytes 16) rest1 in
-      let rest3 = drop (number_at bytes 20) rest2 in
-      let rest4 = drop (20 * number_at bytes 24) rest3 in
-      let rest5 = drop (16 * number_at bytes 28) rest4 in
-      let rest6 = drop (4 * number_at bytes 16) rest5 in
-      let rest7 = drop (32 * number_at bytes 32) rest6 in
-      let rest8 = drop (20 * number_at bytes 36) rest7 in
-      let rest9 = drop (8 * number_at bytes 40) rest8 in
-      let rest10 = drop (8 * number_at bytes 44) rest9 in
-      let rest11 = drop (24 * number_at bytes 48) rest10 in
-      let l1 = length-drop 64 bytes in
-      let l2 = length-drop (4 * number_at bytes 16) rest1 in
-      let l3 = length-drop (number_at bytes 20) rest2 in
-      let l4 = length-drop (20 * number_at bytes 24) rest3 in
-      let l5 = length-drop (16 * number_at bytes 28) rest4 in
-      let l6 = length-drop (4 * number_at bytes 16) rest5 in
-      let l7 = length-drop (32 * number_at bytes 32) rest6 in
-      let l8 = length-drop (20 * number_at bytes 36) rest7 in
-      let l9 = length-drop (8 * number_at bytes 40) rest8 in
-      let l10 = length-drop (8 * number_at bytes 44) rest9 in
-      let l11 = length-drop (24 * number_at bytes 48) rest10 in
-      let a1 = AreBytes-drop 64 bytes kept.are in
-      let a2 = AreBytes-drop (4 * number_at bytes 16) rest1 a1 in
-      let a3 = AreBytes-drop (number_at bytes 20) rest2 a2 in
-      let a4 = AreBytes-drop (20 * number_at bytes 24) rest3 a3 in
-      let a5 = AreBytes-drop (16 * number_at bytes 28) rest4 a4 in
-      let a6 = AreBytes-drop (4 * number_at bytes 16) rest5 a5 in
-      let a7 = AreBytes-drop (32 * number_at bytes 32) rest6 a6 in
-      let a8 = AreBytes-drop (20 * number_at bytes 36) rest7 a7 in
-      let a9 = AreBytes-drop (8 * number_at bytes 40) rest8 a8 in
-      let a10 = AreBytes-drop (8 * number_at bytes 44) rest9 a9 in
-      let a11 = AreBytes-drop (24 * number_at bytes 48) rest10 a10 in
-      rw (
-        rows_spelled 1 (number_at bytes 16) rest1 a1 (omega (arith, size_is, l1)),
-        rows_spelled 5 (number_at bytes 24) rest3 a3 (omega (arith, size_is, l1, l2, l3)),
-        rows_spelled 4 (number_at bytes 28) rest4 a4 (omega (arith, size_is, l1, l2, l3, l4)),
-        rows_spelled 1 (number_at bytes 16) rest5 a5 (omega (arith, size_is, l1, l2, l3, l4, l5)),
-        rows_spelled 8 (number_at bytes 32) rest6 a6 (omega (arith, size_is, l1, l2, l3, l4, l5, l6)),
-        rows_spelled 5 (number_at bytes 36) rest7 a7 (omega (arith, size_is, l1, l2, l3, l4, l5, l6, l7)),
-        rows_spelled 2 (number_at bytes 40) rest8 a8 (omega (arith, size_is, l1, l2, l3, l4, l5, l6, l7, l8)),
-        rows_spelled 2 (number_at bytes 44) rest9 a9 (omega (arith, size_is, l1, l2, l3, l4, l5, l6, l7, l8, l9)),
-        rows_spelled 6 (number_at bytes 48) rest10 a10 (omega (arith, size_is, l1, l2, l3, l4, l5, l6, l7, l8, l9, l10)),
-        rows_spelled 3 (number_at bytes 52) rest11 a11 (omega (arith, size_is, l1, l2, l3, l4, l5, l6, l7, l8, l9, l10, l11)),
-        take-append-drop (12 * number_at bytes 52) rest11,
-        take-append-drop (24 * number_at bytes 48) rest10,
-        take-append-drop (8 * number_at bytes 44) rest9,
-        take-append-drop (8 * number_at bytes 40) rest8,
-        take-append-drop (20 * number_at bytes 36) rest7,
-        take-append-drop (32 * number_at bytes 32) rest6,
-        take-append-drop (4 * number_at bytes 16) rest5,
-        take-append-drop (16 * number_at bytes 28) rest4,
-        take-append-drop (20 * number_at bytes 24) rest3,
-        take-append-drop (number_at bytes 20) rest2,
-        take-append-drop (4 * number_at bytes 16) rest1,
-      ) refl
-
-  body_is : body (decoded (in_turn bytes)) ≡ drop 64 bytes
-  body_is = body-rows (decoded (in_turn bytes)) ∙ ap raw_body told ∙ raw_is
+  body_is : body (decoded (sections_at bytes)) ≡ drop (header_size level) bytes
+  body_is =
+      let f = decoded (sections_at bytes) in
+      let raw : section_bytes f ≡ raw_bytes (sections_of f) = λ i s. section_raw f s i in
+      ap (λ (part : Section → List ℕ). flat_map part order) raw ∙ ap (λ (s : Sections). flat_map (raw_bytes s) order) told ∙ sym behind_is
 
   -- ---- how many records there are
 
-  of_rows : {A : Type 0} (of_numbers : List ℕ → A) (width n : ℕ) (b : List ℕ) → length (map of_numbers (rows_at width n b)) ≡ n
-  of_rows of_numbers width n b = length-map (rows_at width n b) of_numbers ∙ length-rows_at width n b
+  of_rows : {A : Type 0} (of_numbers : List ℕ → A) (s : Section) → length (map of_numbers (rows_of bytes s)) ≡ count_told bytes s
+  of_rows of_numbers s = length-map (rows_of bytes s) of_numbers ∙ length-rows_at (record_size level s / 4) (count_told bytes s) (bytes_from bytes s)
 
-  record Counts (f : Form) : Type 0 where
-    code : length f.code ≡ number_at bytes 16
-    initial : length f.initial ≡ number_at bytes 20
-    functions : length f.functions ≡ number_at bytes 24
-    places : length f.places ≡ number_at bytes 28
-    owners : length f.owners ≡ number_at bytes 16
-    variables : length f.variables ≡ number_at bytes 32
-    changes : length f.changes ≡ number_at bytes 36
-    flow : length f.flow ≡ number_at bytes 40
-    assigned : length f.assigned ≡ number_at bytes 44
-    rows : length f.rows ≡ number_at bytes 48
-    nodes : length f.nodes ≡ number_at bytes 52
-    names : length f.names ≡ number_at bytes 56
+  count_is : (s : Section) → record_count (decoded (sections_at bytes)) s ≡ count_told bytes s
+  unfolding decoded sections_at
+  count_is Code = of_rows word_of Code
+  count_is Initial = length-take-le (count_told bytes Initial) (bytes_from bytes Initial) (let low = inside Initial in omega (arith, low))
+  count_is Functions = of_rows function_of Functions
+  count_is Places = of_rows place_of Places
+  count_is Owners = of_rows word_of Owners
+  count_is Variables = of_rows variable_of Variables
+  count_is Changes = of_rows change_of Changes
+  count_is Flow = of_rows flow_of Flow
+  count_is Assigned = of_rows assigned_of Assigned
+  count_is Rows = of_rows row_of Rows
+  count_is Calls = of_rows call_of Calls
+  count_is Members = of_rows member_of Members
+  count_is Nodes = of_rows node_of Nodes
+  count_is Names = let low = inside Names in omega (arith, low, names_end)
 
-  counts : Counts (decoded (in_turn bytes))
-  unfolding decoded in_turn size_told
-  counts =
-      let rest1 = drop 64 bytes in
-      let rest2 = drop (4 * number_at bytes 16) rest1 in
-      let rest3 = drop (number_at bytes 20) rest2 in
-      let rest4 = drop (20 * number_at bytes 24) rest3 in
-      let rest5 = drop (16 * number_at bytes 28) rest4 in
-      let rest6 = drop (4 * number_at bytes 16) rest5 in
-      let rest7 = drop (32 * number_at bytes 32) rest6 in
-      let rest8 = drop (20 * number_at bytes 36) rest7 in
-      let rest9 = drop (8 * number_at bytes 40) rest8 in
-      let rest10 = drop (8 * number_at bytes 44) rest9 in
-      let rest11 = drop (24 * number_at bytes 48) rest10 in
-      let l1 = length-drop 64 bytes in
-      let l2 = length-drop (4 * number_at bytes 16) rest1 in
-      let l3 = length-drop (number_at bytes 20) rest2 in
-      let l4 = length-drop (20 * number_at bytes 24) rest3 in
-      let l5 = length-drop (16 * number_at bytes 28) rest4 in
-      let l6 = length-drop (4 * number_at bytes 16) rest5 in
-      let l7 = length-drop (32 * number_at bytes 32) rest6 in
-      let l8 = length-drop (20 * number_at bytes 36) rest7 in
-      let l9 = length-drop (8 * number_at bytes 40) rest8 in
-      let l10 = length-drop (8 * number_at bytes 44) rest9 in
-      let l11 = length-drop (24 * number_at bytes 48) rest10 in
-      let l12 = length-drop (12 * number_at bytes 52) rest11 in
-      record {
-        code = of_rows word_of 1 (number_at bytes 16) rest1;
-        initial = length-take-le (number_at bytes 20) rest2 (omega (arith, size_is, l1, l2));
-        functions = of_rows function_of 5 (number_at bytes 24) rest3;
-        places = of_rows place_of 4 (number_at bytes 28) rest4;
-        owners = of_rows word_of 1 (number_at bytes 16) rest5;
-        variables = of_rows variable_of 8 (number_at bytes 32) rest6;
-        changes = of_rows change_of 5 (number_at bytes 36) rest7;
-        flow = of_rows flow_of 2 (number_at bytes 40) rest8;
-        assigned = of_rows assigned_of 2 (number_at bytes 44) rest9;
-        rows = of_rows row_of 6 (number_at bytes 48) rest10;
-        nodes = of_rows node_of 3 (number_at bytes 52) rest11;
-        names = omega (arith, size_is, l1, l2, l3, l4, l5, l6, l7, l8, l9, l10, l11, l12);
-      }
+  level_is : (decoded (sections_at bytes)).version.level ≡ level
+  unfolding decoded sections_at
+  level_is = refl
 
-  whole_size : size (decoded (in_turn bytes)) ≡ length bytes
+  map_is : (decoded (sections_at bytes)).version.map ≡ (version_told bytes).map
+  unfolding decoded sections_at
+  map_is = refl
+
+  whole_size : size (decoded (sections_at bytes)) ≡ length bytes
   unfolding size size_told
-  whole_size = omega (arith, size_is, counts.code, counts.initial, counts.functions, counts.places, counts.owners, counts.variables, counts.changes, counts.flow, counts.assigned, counts.rows, counts.nodes, counts.names)
+  whole_size =
+      let counts : record_count (decoded (sections_at bytes)) ≡ count_told bytes = λ i s. count_is s i in
+      (λ i. behind (level_is i) (counts i) order) ∙ size_is
 
-  mode_is : mode_number (decoded (in_turn bytes)).mode ≡ number_at bytes 12
-  unfolding decoded in_turn
+  mode_is : mode_number (decoded (sections_at bytes)).mode ≡ number_at bytes 12
+  unfolding decoded sections_at
   mode_is = mode_told (number_at bytes 12) mode_small
 
-  header_is : header (decoded (in_turn bytes)) ≡ numbers_at 15 4 bytes
-  header_is =
-      let version = eqb-true (number_at bytes 4) 1 kept.header_kept.1.0 in
-      let last = eqb-true (number_at bytes 60) 0 kept.header_kept.1.1.1.1.1.1.1.1.1.0 in
-      rw (version, last, mode_is, whole_size, total_is, counts.code, counts.initial, counts.functions, counts.places, counts.variables, counts.changes, counts.flow, counts.assigned, counts.rows, counts.nodes, counts.names) refl
+  number_is : version_number (decoded (sections_at bytes)).version ≡ number_at bytes 4
+  unfolding decoded sections_at
+  number_is = sym version_is
+
+  short_is : short_header (decoded (sections_at bytes)) ≡ numbers_at 15 4 bytes
+  short_is =
+      let f = decoded (sections_at bytes) in
+      let size = whole_size ∙ sym total_is in
+      let zero_is = sym zero_last in
+      (λ i.
+      number_is i ∷ size i ∷ mode_is i ∷ count_is Code i ∷ count_is Initial i ∷ count_is Functions i ∷ count_is Places i ∷ count_is Variables i ∷ count_is Changes i
+      ∷ count_is Flow i ∷ count_is Assigned i ∷ count_is Rows i ∷ count_is Nodes i ∷ count_is Names i ∷ zero_is i ∷ [])
+
+  -- The numbers that only some headers have.
+  long_is : (b : Bool) → has_callers level ≡ b → AllByRecursion (λ c. c.kept ≡ true) (cond b (long_checks bytes) [])
+      → long_header (decoded (sections_at bytes)) ≡ numbers_at (cond b 4 0) 64 bytes
+  long_is true has all =
+      let f = decoded (sections_at bytes) in
+      let calls : length f.calls ≡ number_at bytes 64 = count_is Calls ∙ ap (λ (b : Bool). cond b (number_at bytes 64) 0) has in
+      let members : length f.members ≡ number_at bytes 68 = count_is Members ∙ ap (λ (b : Bool). cond b (number_at bytes 68) 0) has in
+      let first = sym (eqb-true (number_at bytes 72) 0 all.1.0) in
+      let second = sym (eqb-true (number_at bytes 76) 0 all.1.1.0) in
+      let told_so : has_callers f.version.level ≡ true = ap has_callers level_is ∙ has in
+      ap (λ (b : Bool). cond b (length f.calls ∷ length f.members ∷ 0 ∷ 0 ∷ []) []) told_so ∙ (λ i. calls i ∷ members i ∷ first i ∷ second i ∷ [])
+  long_is false lacks all =
+      let f = decoded (sections_at bytes) in
+      let told_so : has_callers f.version.level ≡ false = ap has_callers level_is ∙ lacks in
+      ap (λ (b : Bool). cond b (length f.calls ∷ length f.members ∷ 0 ∷ 0 ∷ []) []) told_so
 
   magic_is : codes "CDBG" ≡ take 4 bytes
   magic_is = (bytes_eq-Decides (codes "CDBG") (take 4 bytes)).0 kept.header_kept.0
 
-  spelled_so : bytes ≡ spelling (decoded (in_turn bytes))
+  header_long : (b : Bool) → has_callers level ≡ b → (header_size level ≡ 64 + 4 * cond b 4 0) × (64 + 4 * cond b 4 0 ≤ length bytes)
+  header_long b is =
+      let whole : header_size level ≡ cond b 80 64 = ap (λ (c : Bool). cond c 80 64) is in
+      let there = leb-true (header_size level) (length bytes) kept.header_kept.1.1.0 in
+      let same = sum_of b in
+      (omega (arith, whole, same), omega (arith, whole, same, there))
+    where
+      sum_of : (b : Bool) → cond b 80 64 ≡ 64 + 4 * cond b 4 0
+      sum_of true = refl
+      sum_of false = refl
+
+  spelled_so : bytes ≡ spelling (decoded (sections_at bytes))
   unfolding spelling
   spelled_so =
-      let f = decoded (in_turn bytes) in
-      let head : spelled (header f) ≡ take 60 (drop 4 bytes) = ap spelled header_is ∙ numbers_spelled 15 4 bytes kept.are (omega (arith, kept.long)) in
-      let parts : codes "CDBG" ++ (spelled (header f) ++ body f) ≡ take 4 bytes ++ (take 60 (drop 4 bytes) ++ drop 64 bytes) = (λ i. magic_is i ++ (head i ++ body_is i)) in
-      let joined : take 4 bytes ++ (take 60 (drop 4 bytes) ++ drop 64 bytes) ≡ bytes =
-      ap (λ (r : List ℕ). take 4 bytes ++ r) (ap (λ (r : List ℕ). take 60 (drop 4 bytes) ++ r) (sym (drop-drop 60 4 bytes)) ∙ take-append-drop 60 (drop 4 bytes)) ∙ take-append-drop 4 bytes in
+      let f = decoded (sections_at bytes) in
+      let more : ℕ = cond (has_callers level) 4 0 in
+      let long = header_long (has_callers level) refl in
+      let short : spelled (short_header f) ≡ take 60 (drop 4 bytes) = ap spelled short_is ∙ numbers_spelled 15 4 bytes kept.are (omega (arith, kept.long)) in
+      let rest : spelled (long_header f) ≡ take (4 * more) (drop 64 bytes) = ap spelled (long_is (has_callers level) refl long_kept) ∙ numbers_spelled more 64 bytes kept.are (omega (arith, long.1)) in
+      let head : spelled (header f) ≡ take 60 (drop 4 bytes) ++ take (4 * more) (drop 64 bytes) = flat_map-append (little_bytes 4) (short_header f) (long_header f) ∙ (λ i. short i ++ rest i) in
+      let behind : drop (header_size level) bytes ≡ drop (4 * more) (drop 64 bytes) = ap (λ (n : ℕ). drop n bytes) long.0 ∙ sym (drop-drop (4 * more) 64 bytes) in
+      let parts : codes "CDBG" ++ (spelled (header f) ++ body f) ≡ take 4 bytes ++ ((take 60 (drop 4 bytes) ++ take (4 * more) (drop 64 bytes)) ++ drop (4 * more) (drop 64 bytes)) =
+      (λ i. magic_is i ++ (head i ++ (body_is ∙ behind) i)) in
+      let regrouped = append_assoc (take 60 (drop 4 bytes)) (take (4 * more) (drop 64 bytes)) (drop (4 * more) (drop 64 bytes)) in
+      let second : take (4 * more) (drop 64 bytes) ++ drop (4 * more) (drop 64 bytes) ≡ drop 60 (drop 4 bytes) = take-append-drop (4 * more) (drop 64 bytes) ∙ sym (drop-drop 60 4 bytes) in
+      let third = regrouped ∙ ap (λ (r : List ℕ). take 60 (drop 4 bytes) ++ r) second ∙ take-append-drop 60 (drop 4 bytes) in
+      let joined : take 4 bytes ++ ((take 60 (drop 4 bytes) ++ take (4 * more) (drop 64 bytes)) ++ drop (4 * more) (drop 64 bytes)) ≡ bytes =
+      ap (λ (r : List ℕ). take 4 bytes ++ r) third ∙ take-append-drop 4 bytes in
       sym (parts ∙ joined)
 
   -- ---- the image
 
-  sizes : SizeRules (decoded (in_turn bytes))
+  sizes : SizeRules (decoded (sections_at bytes))
   sizes =
-      let h = kept.header_kept.1.1.1 in
-      let initial = and_parts (leb (number_at bytes 20) 1048576) (number_at bytes 20 % 4 == 0) h.1.1.0 in
+      let h = kept.header_kept.1.1.1.1 in
+      let initial = and_parts (leb (count_told bytes Initial) bytes_size) (count_told bytes Initial % 4 == 0) h.1.1.0 in
+      let most : most_words (decoded (sections_at bytes)).version.map ≡ most_words (version_told bytes).map = ap most_words map_is in
       record {
-        code = omega (arith, counts.code, leb-true (number_at bytes 16) 262144 h.1.0);
-        initial = omega (arith, counts.initial, leb-true (number_at bytes 20) 1048576 initial.0);
-        initial_words = ap (λ (n : ℕ). n % 4) counts.initial ∙ eqb-true (number_at bytes 20 % 4) 0 initial.1;
-        some_function = omega (arith, counts.functions, leb-true 1 (number_at bytes 24) h.1.1.1.0);
-        some_place = omega (arith, counts.places, leb-true 1 (number_at bytes 28) h.1.1.1.1.0);
-        rows = omega (arith, counts.rows, leb-true (number_at bytes 48) 1000000 h.1.1.1.1.1.0);
+        version = ap is_read number_is ∙ kept.header_kept.1.0;
+        code = omega (arith, count_is Code, most, leb-true (count_told bytes Code) (most_words (version_told bytes).map) h.1.0);
+        initial = omega (arith, count_is Initial, leb-true (count_told bytes Initial) bytes_size initial.0);
+        initial_words = ap (λ (n : ℕ). n % 4) (count_is Initial) ∙ eqb-true (count_told bytes Initial % 4) 0 initial.1;
+        some_function = omega (arith, count_is Functions, leb-true 1 (count_told bytes Functions) h.1.1.1.0);
+        some_place = omega (arith, count_is Places, leb-true 1 (count_told bytes Places) h.1.1.1.1.0);
+        rows = omega (arith, count_is Rows, leb-true (count_told bytes Rows) 1000000 h.1.1.1.1.1.0);
         whole = omega (arith, whole_size, total_is, number_fits bytes 8 kept.are);
       }
 
-  -- Every number of every row fits.
-  record RawFits (s : Sections) : Type 0 where
-    code : AllByRecursion AllFit s.code
-    initial : AllByRecursion (λ b. b < 256) s.initial
-    functions : AllByRecursion AllFit s.functions
-    places : AllByRecursion AllFit s.places
-    owners : AllByRecursion AllFit s.owners
-    variables : AllByRecursion AllFit s.variables
-    changes : AllByRecursion AllFit s.changes
-    flow : AllByRecursion AllFit s.flow
-    assigned : AllByRecursion AllFit s.assigned
-    rows : AllByRecursion AllFit s.rows
-    nodes : AllByRecursion AllFit s.nodes
+  -- The numbers of records fit where the numbers of their rows do.
+  fit_from : {A : Type 0} (s : Section) (numbers : A → List ℕ) (xs : List A) → map numbers xs ≡ rows_of bytes s → RecordsFit numbers xs
+  fit_from s numbers xs same =
+      records_fit numbers xs (subst (AllByRecursion AllFit) (sym same) (rows_fit (record_size level s / 4) (count_told bytes s) (bytes_from bytes s) (are_from s)))
 
-  raw_fits : RawFits (in_turn bytes)
-  unfolding in_turn
-  raw_fits =
-      let rest1 = drop 64 bytes in
-      let rest2 = drop (4 * number_at bytes 16) rest1 in
-      let rest3 = drop (number_at bytes 20) rest2 in
-      let rest4 = drop (20 * number_at bytes 24) rest3 in
-      let rest5 = drop (16 * number_at bytes 28) rest4 in
-      let rest6 = drop (4 * number_at bytes 16) rest5 in
-      let rest7 = drop (32 * number_at bytes 32) rest6 in
-      let rest8 = drop (20 * number_at bytes 36) rest7 in
-      let rest9 = drop (8 * number_at bytes 40) rest8 in
-      let rest10 = drop (8 * number_at bytes 44) rest9 in
-      let rest11 = drop (24 * number_at bytes 48) rest10 in
-      let a1 = AreBytes-drop 64 bytes kept.are in
-      let a2 = AreBytes-drop (4 * number_at bytes 16) rest1 a1 in
-      let a3 = AreBytes-drop (number_at bytes 20) rest2 a2 in
-      let a4 = AreBytes-drop (20 * number_at bytes 24) rest3 a3 in
-      let a5 = AreBytes-drop (16 * number_at bytes 28) rest4 a4 in
-      let a6 = AreBytes-drop (4 * number_at bytes 16) rest5 a5 in
-      let a7 = AreBytes-drop (32 * number_at bytes 32) rest6 a6 in
-      let a8 = AreBytes-drop (20 * number_at bytes 36) rest7 a7 in
-      let a9 = AreBytes-drop (8 * number_at bytes 40) rest8 a8 in
-      let a10 = AreBytes-drop (8 * number_at bytes 44) rest9 a9 in
-      let a11 = AreBytes-drop (24 * number_at bytes 48) rest10 a10 in
-      record {
-        code = rows_fit 1 (number_at bytes 16) rest1 a1;
-        initial = all_bytes (take (number_at bytes 20) rest2) (AreBytes-take (number_at bytes 20) rest2 a2);
-        functions = rows_fit 5 (number_at bytes 24) rest3 a3;
-        places = rows_fit 4 (number_at bytes 28) rest4 a4;
-        owners = rows_fit 1 (number_at bytes 16) rest5 a5;
-        variables = rows_fit 8 (number_at bytes 32) rest6 a6;
-        changes = rows_fit 5 (number_at bytes 36) rest7 a7;
-        flow = rows_fit 2 (number_at bytes 40) rest8 a8;
-        assigned = rows_fit 2 (number_at bytes 44) rest9 a9;
-        rows = rows_fit 6 (number_at bytes 48) rest10 a10;
-        nodes = rows_fit 3 (number_at bytes 52) rest11 a11;
-      }
+  initial_bytes : AreBytes (decoded (sections_at bytes)).initial
+  unfolding decoded sections_at
+  initial_bytes = AreBytes-take (count_told bytes Initial) (bytes_from bytes Initial) (are_from Initial)
 
-  fits : FitRules (decoded (in_turn bytes))
+  fits : FitRules (decoded (sections_at bytes))
+  unfolding sections_at
   fits =
-      let f = decoded (in_turn bytes) in
-      let raw : RawFits (sections_of f) = subst RawFits (sym told) raw_fits in
+      let f = decoded (sections_at bytes) in
       record {
-        code = words_fit_alone f.code raw.code;
-        initial = raw.initial;
-        functions = records_fit function_numbers f.functions raw.functions;
-        places = records_fit place_numbers f.places raw.places;
-        owners = words_fit_alone f.owners raw.owners;
-        variables = records_fit variable_numbers f.variables raw.variables;
-        changes = records_fit change_numbers f.changes raw.changes;
-        flow = records_fit flow_numbers f.flow raw.flow;
-        assigned = records_fit assigned_numbers f.assigned raw.assigned;
-        rows = records_fit row_numbers f.rows raw.rows;
-        nodes = records_fit node_numbers f.nodes raw.nodes;
+        code = words_fit_alone f.code (fit_words Code f.code (ap (λ (s : Sections). s.code) told));
+        initial = all_bytes f.initial initial_bytes;
+        functions = fit_from Functions (function_numbers f.version.level) f.functions (ap (λ (s : Sections). s.functions) told);
+        places = fit_from Places place_numbers f.places (ap (λ (s : Sections). s.places) told);
+        owners = words_fit_alone f.owners (fit_words Owners f.owners (ap (λ (s : Sections). s.owners) told));
+        variables = fit_from Variables variable_numbers f.variables (ap (λ (s : Sections). s.variables) told);
+        changes = fit_from Changes change_numbers f.changes (ap (λ (s : Sections). s.changes) told);
+        flow = fit_from Flow flow_numbers f.flow (ap (λ (s : Sections). s.flow) told);
+        assigned = fit_from Assigned assigned_numbers f.assigned (ap (λ (s : Sections). s.assigned) told);
+        rows = fit_from Rows (row_numbers f.version.level) f.rows (ap (λ (s : Sections). s.rows) told);
+        calls = fit_from Calls call_numbers f.calls (ap (λ (s : Sections). s.calls) told);
+        members = fit_from Members member_numbers f.members (ap (λ (s : Sections). s.members) told);
+        nodes = fit_from Nodes node_numbers f.nodes (ap (λ (s : Sections). s.nodes) told);
       }
+    where
+      fit_words : (s : Section) (ns : List ℕ) → map word_numbers ns ≡ rows_of bytes s → AllByRecursion AllFit (map word_numbers ns)
+      fit_words s ns same = subst (AllByRecursion AllFit) (sym same) (rows_fit (record_size level s / 4) (count_told bytes s) (bytes_from bytes s) (are_from s))
 
-  few : length (decoded (in_turn bytes)).functions < no_function
-  unfolding size
-  few = omega (arith, sizes.whole)
+  few : length (decoded (sections_at bytes)).functions < no_function
+  few = less_functions (decoded (sections_at bytes)) sizes.whole
 
-  tells_functions : TellsFunctions (decoded (in_turn bytes))
+  tells_functions : TellsFunctions (decoded (sections_at bytes))
   unfolding decoded
-  tells_functions = all_mapped (λ v. v.function ≢ Some no_function) variable_of (λ row. owner_apart (get_or row 1 0)) (in_turn bytes).variables
+  tells_functions = all_mapped (λ v. v.function ≢ Some no_function) variable_of (λ row. owner_apart (get_or row 1 0)) (sections_at bytes).variables
 
-  tells_writers : TellsWriters (decoded (in_turn bytes))
+  tells_saved : TellsSaved (decoded (sections_at bytes))
+  unfolding decoded sections_at
+  tells_saved none = all_rows (λ g. g.saved ≡ 0) function_of (rows_of bytes Functions) (λ i row at. let b = shaped Functions i row at in rw b.1 (saved_none level b.0 none))
+
+  tells_writers : TellsWriters (decoded (sections_at bytes))
   unfolding decoded
-  tells_writers = all_mapped (λ r. TellsWriter r.verdict) row_of (λ row. verdict_apart (get_or row 2 0) (get_or row 3 0) (get_or row 4 0) (get_or row 5 0)) (in_turn bytes).rows
+  tells_writers = all_mapped (λ r. TellsWriter r.verdict) row_of (λ row. verdict_apart (get_or row 2 0) (get_or row 3 0) (get_or row 4 0) (get_or row 5 0)) (sections_at bytes).rows
 
-  image_is : IsImage (decoded (in_turn bytes))
+  tells_quiet : TellsQuiet (decoded (sections_at bytes))
+  unfolding decoded sections_at
+  tells_quiet = (
+    all_mapped (λ r. r.quiet ≢ Some 0) row_of (λ row. quiet_apart (get_or row 6 0)) (rows_of bytes Rows),
+    λ none. all_rows (λ r. r.quiet ≡ None) row_of (rows_of bytes Rows) (λ i row at. let b = shaped Rows i row at in rw b.1 (quiet_none level b.0 none)),
+  )
+
+  calls_rule : CallRules (decoded (sections_at bytes))
+  unfolding decoded sections_at
+  calls_rule = record { none = λ _. ap (map call_of) calls_none }
+
+  members_rule : MemberRules (decoded (sections_at bytes))
+  unfolding decoded sections_at
+  members_rule = record { none = λ _. ap (map member_of) members_none; structures = λ _. ap (map member_of) members_none }
+
+  image_is : IsImage (decoded (sections_at bytes))
   image_is =
-      let f = decoded (in_turn bytes) in
+      let f = decoded (sections_at bytes) in
       let program : ProgramKept (sections_of f) = subst ProgramKept (sym told) kept.program in
       let tables : TablesKept (sections_of f) = subst TablesKept (sym told) kept.tables in
-      let functions = functions_sound f (λ i lt. program.functions i (omega (arith, lt, length-map f.functions function_numbers))) in
+      let functions = functions_sound f tells_saved (λ i lt. program.functions i (omega (arith, lt, length-map f.functions (function_numbers f.version.level)))) in
       let places = places_sound f (λ i lt. program.places i (omega (arith, lt, length-map f.places place_numbers))) in
       record {
         sizes = sizes;
         fits = fits;
         functions = functions;
         places = places;
-        owners = owners_sound f functions places (counts.owners ∙ sym counts.code) (λ i lt. program.owners i (omega (arith, lt, length-map f.owners word_numbers)));
+        owners = owners_sound f functions places (count_is Owners ∙ sym (count_is Code)) (λ i lt. program.owners i (omega (arith, lt, length-map f.owners word_numbers)));
         variables = variables_sound f tells_functions (λ i lt. program.variables i (omega (arith, lt, length-map f.variables variable_numbers)));
         changes = changes_sound f (λ i lt. program.changes i (omega (arith, lt, length-map f.changes change_numbers)));
         flow = flow_sound f (λ i lt. tables.flow i (omega (arith, lt, length-map f.flow flow_numbers)));
         assigned = assigned_sound f (λ i lt. tables.assigned i (omega (arith, lt, length-map f.assigned assigned_numbers)));
-        rows = rows_sound f few places tells_writers (λ i lt. tables.rows i (omega (arith, lt, length-map f.rows row_numbers)));
+        rows = rows_sound f few places tells_writers tells_quiet (λ i lt. tables.rows i (omega (arith, lt, length-map f.rows (row_numbers f.version.level))));
+        calls = calls_rule;
+        members = members_rule;
         nodes = nodes_sound f (λ i lt. tables.nodes i (omega (arith, lt, length-map f.nodes node_numbers)));
         names = names_sound f functions tables.names;
       }
@@ -506,12 +548,11 @@ read_sound bytes f are e =
     let checks = bind_ok (first_breach (header_checks bytes)) _ read.0 long.1 in
     let program = bind_ok (breach_of_program (sections_at bytes)) _ read.0 checks.1 in
     let tables = bind_ok (breach_of_tables (sections_at bytes)) _ read.0 program.1 in
-    let turned = sym (lies_in_turn bytes) in
     let kept : IsKept bytes = record {
       are = are;
       long = ltb-false (length bytes) 64 long.0;
       header_kept = kept_each (header_checks bytes) checks.0;
-      program = program_parts (in_turn bytes) (ap breach_of_program turned ∙ program.0);
-      tables = tables_parts (in_turn bytes) (ap breach_of_tables turned ∙ tables.0);
+      program = program_parts (sections_at bytes) program.0;
+      tables = tables_parts (sections_at bytes) tables.0;
     } in
-    subst (λ (g : Form). IsImage g × (bytes ≡ spelling g)) (ap decoded (turned ∙ same_ok (sections_at bytes) read.0 tables.1) ∙ read.2) (image_is bytes kept, spelled_so bytes kept)
+    subst (λ (g : Form). IsImage g × (bytes ≡ spelling g)) (ap decoded (same_ok (sections_at bytes) read.0 tables.1) ∙ read.2) (image_is bytes kept, spelled_so bytes kept)

@@ -1,16 +1,21 @@
 -- Rows that keep their tests are what their records' numbers say.
-use Rattle.std.proofs.Common.{◌≡◌, ◌≢◌, ℕ, zero, suc, ◌+◌, ◌-◌, ◌*◌, ◌<◌, ◌≤◌, Bool, true, false, List, [], ◌∷◌, length, get_or, drop, Some, refl, sym, ◌∙◌, arith, subst, inl, inr}
+use Rattle.std.proofs.Common.{◌≡◌, ◌≢◌, ℕ, zero, suc, ◌+◌, ◌-◌, ◌*◌, ◌/◌, ◌<◌, ◌≤◌, Bool, true, false, List, [], ◌∷◌, length, get_or, drop, Some, None, refl, sym, ◌∙◌, arith, subst, inl, inr}
 use Rattle.std.specs.Prelude.{map, slice_get, unwrap_or, ◌==◌, nat_lt, if◌then◌else◌}
 use Rattle.std.proofs.lemmas.Bool.{eq-eqb, true≢false, eqb-true, leb-true, and_parts, cases_Bool}
 use Rattle.std.proofs.lemmas.Bool.Decides.{nat_tests}
 use Rattle.std.proofs.lemmas.Option.{slice_get_within, get_or_from_slice_get, same_Some}
-use Rattle.image_form.specs.Decoding.{mode_of, owner_of, element_of, storage_of, variable_of, kind_of, change_of, writer_of, row_of, operation_of, truncation_of, node_of}
-use Rattle.image_form.specs.Numbers.{mode_number, no_function, element_number, storage_number, storage_value, variable_numbers, kind_number, change_numbers, row_numbers, operation_number, truncation_number, node_numbers}
+use Rattle.image_form.specs.Decoding.{mode_of, owner_of, element_of, storage_of, variable_of, kind_of, change_of, writer_of, quiet_of, function_of, row_of, operation_of, truncation_of, node_of}
+use Rattle.image_form.specs.Numbers.{mode_number, no_function, element_number, storage_number, storage_value, variable_numbers, kind_number, change_numbers, function_numbers, row_numbers, operation_number, truncation_number, node_numbers}
 use Rattle.image_form_sections.specs.Sections.{number_at, numbers_at, rows_at, cell, Sections}
 use Rattle.image_form_sections.specs.TestsOfChanges.{change_tests, row_tests, is_change, is_node_or_start, is_writer}
 use Rattle.image_form_sections.specs.TestsOfNodes.{node_tests, is_right, is_operand, is_new_node}
 use Rattle.image_form_sections.specs.TestsOfTables.{within}
 use Rattle.image_form_sections.specs.TestsOfVariables.{variable_tests, is_storage}
+use Rattle.image_form_sections.specs.declared.section.Section.TheVariants.{Functions, Rows}
+use Rattle.image_form_sections.specs.declared.version.Level.{Level}
+use Rattle.image_form_sections.specs.declared.version.Level.TheVariants.{Plain, Quiet, Callers}
+use Rattle.image_form_sections.specs.Order.{record_size}
+use Rattle.image_form_sections.specs.Versions.{has_quiet, has_callers}
 use Rattle.image_form.proofs.Kept.{AllTrue}
 
 -- A row is some numbers of the bytes.
@@ -59,6 +64,30 @@ writer_apart n e = elim (cases_Bool (n == 0)) [
   | inl same ↦ let none = rw same at e in cc
   | inr apart ↦ let some = same_Some n 0 (rw apart at e) in let yes = eq-eqb n 0 some in true≢false (sym yes ∙ apart)
 ]
+
+quiet_told : (n : ℕ) → unwrap_or (quiet_of n) 0 ≡ n
+quiet_told n = writer_told n
+
+pub quiet_apart : (n : ℕ) → quiet_of n ≢ Some 0
+quiet_apart n = writer_apart n
+
+-- A function of a version of each level.
+pub function_told : (level : Level) (b : List ℕ) → function_numbers level (function_of (numbers_at (record_size level Functions / 4) 0 b)) ≡ numbers_at (record_size level Functions / 4) 0 b
+function_told Plain b = refl
+function_told Quiet b = refl
+function_told Callers b = refl
+
+-- Where the registers that are saved are not told, they are 0.
+pub saved_none : (level : Level) (b : List ℕ) → has_callers level ≡ false → (function_of (numbers_at (record_size level Functions / 4) 0 b)).saved ≡ 0
+saved_none Plain b none = refl
+saved_none Quiet b none = refl
+saved_none Callers b none = absurd cc
+
+-- Where quiet paths are not told, there are none.
+pub quiet_none : (level : Level) (b : List ℕ) → has_quiet level ≡ false → (row_of (numbers_at (record_size level Rows / 4) 0 b)).quiet ≡ None
+quiet_none Plain b none = refl
+quiet_none Quiet b none = absurd cc
+quiet_none Callers b none = absurd cc
 
 element_told : (n : ℕ) → n ≤ 6 → element_number (element_of n) ≡ n
 element_told zero le = refl
@@ -147,13 +176,38 @@ module _ (s : Sections) where
       let b = shape i row at in
       rw b.1 (change_told i b.0 (get_or_from_slice_get s.changes i row [] at ∙ b.1) (kept i (slice_get_within s.changes i row at))))
 
-  visible_told : (i : ℕ) (b : List ℕ) → get_or s.rows i [] ≡ numbers_at 6 0 b → AllTrue (row_tests s i) → row_numbers (row_of (numbers_at 6 0 b)) ≡ numbers_at 6 0 b
+  -- A row of a version of this level.
+  abbrev RowTold : Level → List ℕ → Type 0
+  RowTold level b = row_numbers level (row_of (numbers_at (record_size level Rows / 4) 0 b)) ≡ numbers_at (record_size level Rows / 4) 0 b
+
+  long_told : (i : ℕ) (b : List ℕ) → get_or s.rows i [] ≡ numbers_at 7 0 b → AllTrue (row_tests s i) → RowTold Quiet b
   unfolding is_change is_node_or_start is_writer
-  visible_told i b row kept =
+  long_told i b row kept =
       let k = rw row at kept in
       go (number_at b 8) refl (leb-true (number_at b 8) 3 k.1.1.0)
     where
-      go : (n : ℕ) → number_at b 8 ≡ n → n ≤ 3 → row_numbers (row_of (numbers_at 6 0 b)) ≡ numbers_at 6 0 b
+      go : (n : ℕ) → number_at b 8 ≡ n → n ≤ 3 → RowTold Quiet b
+      go zero is le =
+          let k = rw (row, is) at kept in
+          let e3 = eqb-true (number_at b 12) 0 k.1.1.1.0 in
+          let e4 = eqb-true (number_at b 16) 0 k.1.1.1.1.0 in
+          let e5 = eqb-true (number_at b 20) 0 k.1.1.1.1.1.0 in
+          rw (is, e3, e4, e5, quiet_told (number_at b 24)) refl
+      go (suc zero) is le =
+          let k = rw (row, is) at kept in
+          let e5 = eqb-true (number_at b 20) 0 k.1.1.1.1.1.0 in
+          rw (is, e5, quiet_told (number_at b 24)) refl
+      go (suc (suc zero)) is le = rw (is, writer_told (number_at b 20), quiet_told (number_at b 24)) refl
+      go (suc (suc (suc zero))) is le = rw (is, writer_told (number_at b 20), quiet_told (number_at b 24)) refl
+      go (suc (suc (suc (suc n)))) is le = absurd (omega (arith, le))
+
+  short_told : (i : ℕ) (b : List ℕ) → get_or s.rows i [] ≡ numbers_at 6 0 b → AllTrue (row_tests s i) → RowTold Plain b
+  unfolding is_change is_node_or_start is_writer
+  short_told i b row kept =
+      let k = rw row at kept in
+      go (number_at b 8) refl (leb-true (number_at b 8) 3 k.1.1.0)
+    where
+      go : (n : ℕ) → number_at b 8 ≡ n → n ≤ 3 → RowTold Plain b
       go zero is le =
           let k = rw (row, is) at kept in
           let e3 = eqb-true (number_at b 12) 0 k.1.1.1.0 in
@@ -168,10 +222,15 @@ module _ (s : Sections) where
       go (suc (suc (suc zero))) is le = rw (is, writer_told (number_at b 20)) refl
       go (suc (suc (suc (suc n)))) is le = absurd (omega (arith, le))
 
-  pub visible_rows_told : ShapedRows 6 s.rows → ((i : ℕ) → i < length s.rows → AllTrue (row_tests s i)) → map row_numbers (map row_of s.rows) ≡ s.rows
-  visible_rows_told shape kept = rows_told row_numbers row_of s.rows (λ i row at.
+  visible_told : (level : Level) (i : ℕ) (b : List ℕ) → get_or s.rows i [] ≡ numbers_at (record_size level Rows / 4) 0 b → AllTrue (row_tests s i) → RowTold level b
+  visible_told Plain i b row kept = short_told i b row kept
+  visible_told Quiet i b row kept = long_told i b row kept
+  visible_told Callers i b row kept = long_told i b row kept
+
+  pub visible_rows_told : (level : Level) → ShapedRows (record_size level Rows / 4) s.rows → ((i : ℕ) → i < length s.rows → AllTrue (row_tests s i)) → map (row_numbers level) (map row_of s.rows) ≡ s.rows
+  visible_rows_told level shape kept = rows_told (row_numbers level) row_of s.rows (λ i row at.
       let b = shape i row at in
-      rw b.1 (visible_told i b.0 (get_or_from_slice_get s.rows i row [] at ∙ b.1) (kept i (slice_get_within s.rows i row at))))
+      rw b.1 (visible_told level i b.0 (get_or_from_slice_get s.rows i row [] at ∙ b.1) (kept i (slice_get_within s.rows i row at))))
 
   node_told : (i : ℕ) (b : List ℕ) → get_or s.nodes i [] ≡ numbers_at 3 0 b → AllTrue (node_tests s i) → node_numbers (node_of (numbers_at 3 0 b)) ≡ numbers_at 3 0 b
   unfolding is_right

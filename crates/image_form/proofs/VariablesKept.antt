@@ -1,5 +1,5 @@
 -- Variables keep their rules where their rows keep their tests.
-use Rattle.std.proofs.Common.{◌≡◌, ◌≢◌, ℕ, zero, suc, ◌%◌, ◌<◌, ◌≤◌, true, false, not, ◌&&◌, [], ◌∷◌, length, get_or, Option, Some, None, refl, ap, arith, eqb}
+use Rattle.std.proofs.Common.{◌≡◌, ◌≢◌, ℕ, zero, suc, ◌+◌, ◌%◌, ◌<◌, ◌≤◌, true, false, not, ◌&&◌, [], ◌∷◌, length, get_or, Option, Some, None, refl, sym, ap, subst, arith, eqb}
 use Rattle.std.specs.Prelude.{map, slice_get, unwrap_or, ◌==◌, nat_le, nat_lt, if◌then◌else◌}
 use Rattle.std.specs.List.{AllByRecursion}
 use Rattle.std.proofs.lemmas.Bool.{ne_eqb, eq-eqb}
@@ -15,7 +15,11 @@ use Rattle.image_form.specs.declared.variables.Variable.{Variable}
 use Rattle.image_form.specs.Decoding.{sections_of}
 use Rattle.image_form.specs.Form.{Form}
 use Rattle.image_form.specs.Numbers.{function_numbers, no_function, element_number, storage_number, storage_value, variable_numbers}
-use Rattle.image_form.specs.RulesOfVariables.{IsVariable, IsKept, IsCount, IsNamed, IsFrameOffset, IsHomeRegister, IsStaticAddress, group_of, group, IsDeclaredBefore, VariableRules}
+use Rattle.image_form.specs.RulesOfVariables.{IsVariable, IsKept, IsCount, IsNamed, IsFrameOffset, IsHomeRegister, IsStaticAddress, group_of, group, IsDeclaredBefore, VariableRules, static_start, static_size}
+use Rattle.memory_map.specs.declared.map.Map.{Map}
+use Rattle.image_form_sections.specs.declared.version.Version.{Version}
+use Rattle.image_form_sections.specs.Versions.{map_of, version_number}
+use Rattle.image_form.proofs.VersionLaws.{version_back}
 use Rattle.image_form_sections.specs.Sections.{cell}
 use Rattle.image_form_sections.specs.TestsOfTables.{is_above}
 use Rattle.image_form_sections.specs.TestsOfVariables.{group_at, group_before, is_name_length, is_function, is_position, is_storage, is_home_register, is_static_address, is_value, is_count, variable_tests}
@@ -41,7 +45,7 @@ group_small None name_length = grind (arith, nat_tests)
 group_small (Some k) name_length = omega arith
 
 no_code : Function
-no_code = record { name_length = 0; first = 0; end = 0; frame = 0; entry = 0 }
+no_code = record { name_length = 0; first = 0; end = 0; frame = 0; entry = 0; saved = 0 }
 
 -- A function number that is told.
 told_apart : (k : ℕ) → Some k ≢ Some no_function → eqb k no_function ≡ false
@@ -55,47 +59,58 @@ home_complete : (r : ℕ) → IsHomeRegister r → is_home_register r ≡ true
 unfolding is_home_register
 home_complete r is = grind (arith, nat_tests, is)
 
-static_sound : (a : ℕ) → is_static_address a ≡ true → IsStaticAddress a
-unfolding is_static_address
-static_sound a kept = grind (arith, nat_tests, kept)
+-- The map of the number of an image's version.
+map_told : (f : Form) → map_of (version_number f.version) ≡ f.version.map
+map_told f = ap (λ (v : Version). v.map) (version_back f.version)
 
-static_complete : (a : ℕ) → IsStaticAddress a → is_static_address a ≡ true
+static_sound : (f : Form) (a : ℕ) → is_static_address (sections_of f) a ≡ true → IsStaticAddress f a
 unfolding is_static_address
-static_complete a is = grind (arith, nat_tests, is)
+static_sound f a kept =
+    let start = static_start f.version.map in
+    let told : (nat_le start a && nat_lt a (start + static_size)) ≡ true =
+    subst (λ (m : Map). (nat_le (static_start m) a && nat_lt a (static_start m + static_size)) ≡ true) (map_told f) kept in
+    grind (arith, nat_tests, told)
+
+static_complete : (f : Form) (a : ℕ) → IsStaticAddress f a → is_static_address (sections_of f) a ≡ true
+unfolding is_static_address
+static_complete f a is =
+    let start = static_start f.version.map in
+    let told : (nat_le start a && nat_lt a (start + static_size)) ≡ true = grind (arith, nat_tests, is) in
+    subst (λ (m : Map). (nat_le (static_start m) a && nat_lt a (static_start m + static_size)) ≡ true) (sym (map_told f)) told
 
 module _ (f : Form) where
   abbrev pub VariablesKept : Type 0
   VariablesKept = (i : ℕ) → i < length f.variables → AllTrue (variable_tests (sections_of f) i)
 
-  frame_sound : (k o : ℕ) → k < length f.functions → (o % 4 == 0 && nat_lt o (cell (map function_numbers f.functions) k 3)) ≡ true → IsFrameOffset f k o
+  frame_sound : (k o : ℕ) → k < length f.functions → (o % 4 == 0 && nat_lt o (cell (map (function_numbers f.version.level) f.functions) k 3)) ≡ true → IsFrameOffset f k o
   frame_sound k o there kept =
       let at = slice_get-get_or f.functions k no_code there in
-      let t = rw (row_is function_numbers f.functions k (get_or f.functions k no_code) at) at kept in
+      let t = rw (row_is (function_numbers f.version.level) f.functions k (get_or f.functions k no_code) at) at kept in
       rw at (grind (arith, nat_tests, t), grind (arith, nat_tests, t))
 
-  frame_complete : (k o : ℕ) → IsFrameOffset f k o → (o % 4 == 0 && nat_lt o (cell (map function_numbers f.functions) k 3)) ≡ true
+  frame_complete : (k o : ℕ) → IsFrameOffset f k o → (o % 4 == 0 && nat_lt o (cell (map (function_numbers f.version.level) f.functions) k 3)) ≡ true
   frame_complete k o is =
       let g = some_and (slice_get f.functions k) _ is in
-      rw (row_is function_numbers f.functions k g.0 g.1) (grind (arith, nat_tests, g.2))
+      rw (row_is (function_numbers f.version.level) f.functions k g.0 g.1) (grind (arith, nat_tests, g.2))
 
   kept_sound : (i name_length position count : ℕ) (function : Option ℕ) (element : ElementType) (storage : Storage)
       → get_or (map variable_numbers f.variables) i [] ≡ name_length ∷ unwrap_or function no_function ∷ position ∷ element_number element ∷ storage_number storage ∷ storage_value storage ∷ count ∷ 0 ∷ []
       → function ≢ Some no_function → AllTrue (variable_tests (sections_of f) i) → IsNamed function name_length × IsKept f function storage × IsCount storage count
   unfolding is_function is_storage is_value is_count
-  kept_sound i name_length position count None element (Static a) row told kept = let k = rw row at kept in (tt, static_sound a k.1.1.1.1.1.0, tt)
+  kept_sound i name_length position count None element (Static a) row told kept = let k = rw row at kept in (tt, static_sound f a k.1.1.1.1.1.0, tt)
   kept_sound i name_length position count None element (Frame o) row told kept = absurd (let k = rw row at kept in let never = k.1.1.1.1.0 in cc)
   kept_sound i name_length position count None element (Register r) row told kept = absurd (let k = rw row at kept in let never = k.1.1.1.1.0 in cc)
   kept_sound i name_length position count None element (Slot o) row told kept = absurd (let k = rw row at kept in let never = k.1.1.1.1.0 in cc)
   kept_sound i name_length position count (Some n) element (Static a) row told kept = absurd (let k = rw (row, told_apart n told) at kept in let never = k.1.1.1.1.0 in cc)
   kept_sound i name_length position count (Some n) element (Frame o) row told kept =
-      let k = rw (row, told_apart n told, length-map f.functions function_numbers) at kept in
+      let k = rw (row, told_apart n told, length-map f.functions (function_numbers f.version.level)) at kept in
       let there : n < length f.functions = grind (arith, nat_tests, k.1.0) in
       (grind (arith, nat_tests, k.1.0), frame_sound n o there k.1.1.1.1.1.0, tt)
   kept_sound i name_length position count (Some n) element (Register r) row told kept =
-      let k = rw (row, told_apart n told, length-map f.functions function_numbers) at kept in
+      let k = rw (row, told_apart n told, length-map f.functions (function_numbers f.version.level)) at kept in
       (grind (arith, nat_tests, k.1.0), (grind (arith, nat_tests, k.1.0), home_sound r k.1.1.1.1.1.0), grind (arith, nat_tests, k.1.1.1.1.1.1.0))
   kept_sound i name_length position count (Some n) element (Slot o) row told kept =
-      let k = rw (row, told_apart n told, length-map f.functions function_numbers) at kept in
+      let k = rw (row, told_apart n told, length-map f.functions (function_numbers f.version.level)) at kept in
       let there : n < length f.functions = grind (arith, nat_tests, k.1.0) in
       (grind (arith, nat_tests, k.1.0), frame_sound n o there k.1.1.1.1.1.0, grind (arith, nat_tests, k.1.1.1.1.1.1.0))
 
@@ -125,7 +140,7 @@ module _ (f : Form) where
       grind (arith, nat_tests, order, k.1.1.0)
     where
       go : (function : Option ℕ) → v.function ≡ function → function ≢ Some no_function
-          → (if unwrap_or v.function no_function == no_function then nat_le (group u) (group v) else (nat_le 1 v.name_length && nat_lt (unwrap_or v.function no_function) (length (map function_numbers f.functions)))) ≡ true
+          → (if unwrap_or v.function no_function == no_function then nat_le (group u) (group v) else (nat_le 1 v.name_length && nat_lt (unwrap_or v.function no_function) (length (map (function_numbers f.version.level) f.functions)))) ≡ true
           → group u ≤ group v
       go None is told kept = let t = rw is at kept in rw is (grind (arith, nat_tests, t))
       go (Some k) is told kept = let small = group_small u.function u.name_length in rw is small
@@ -144,7 +159,7 @@ module _ (f : Form) where
       → function ≢ Some no_function → IsKept f function storage → IsCount storage count
       → (is_storage (sections_of f) i ≡ true) × (is_value (sections_of f) i ≡ true) × (is_count (sections_of f) i ≡ true)
   unfolding is_storage is_value is_count
-  kept_complete i name_length position count None element (Static a) row told kept counted = rw row (refl, static_complete a kept, refl)
+  kept_complete i name_length position count None element (Static a) row told kept counted = rw row (refl, static_complete f a kept, refl)
   kept_complete i name_length position count None element (Frame o) row told kept counted = absurd kept
   kept_complete i name_length position count None element (Register r) row told kept counted = absurd kept
   kept_complete i name_length position count None element (Slot o) row told kept counted = absurd kept
@@ -161,7 +176,7 @@ module _ (f : Form) where
   named_complete : (i before : ℕ) (v : Variable) → slice_get f.variables i ≡ Some v → v.function ≢ Some no_function → IsVariable f v → group_before (sections_of f) i ≡ before → before ≤ group v
       → (is_name_length (sections_of f) i ≡ true) × (is_function (sections_of f) i ≡ true)
   unfolding is_name_length is_function
-  named_complete i before v at told is same order = rw (group_is i v at told, row_is variable_numbers f.variables i v at, same, length-map f.functions function_numbers) (go v.function refl told)
+  named_complete i before v at told is same order = rw (group_is i v at told, row_is variable_numbers f.variables i v at, same, length-map f.functions (function_numbers f.version.level)) (go v.function refl told)
     where
       go : (function : Option ℕ) → v.function ≡ function → function ≢ Some no_function
           → ((nat_le v.name_length 63 && not (v.name_length == 0 && before == 2)) ≡ true)

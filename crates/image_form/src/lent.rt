@@ -11,8 +11,8 @@ ghost use Rattle.image_form.specs.Rules.{IsImage};
 ghost use Rattle.image_form_sections.specs.Sections.{sections_at};
 ghost use Rattle.image_form.specs.Spelling.{header, spelled, spelling};
 
-use crate::name_lookup::{behind_names, name_in};
 use crate::members::Member;
+use crate::name_lookup::{behind_names, name_in};
 use crate::numbers::{
     CallRecord, ChangeRecord, FunctionRecord, Header, MemberRecord, NodeRecord, PlaceRecord,
     RowRecord, VariableRecord,

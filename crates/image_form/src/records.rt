@@ -56,7 +56,11 @@ fn put_last(out: &mut Vec<u8>, has: bool, number: u32) -> Result<(), AllocError>
 }
 
 /// Writes the records of a table at the end.
-pub fn put_records<R: Record>(out: &mut Vec<u8>, level: Level, records: &[R]) -> Result<(), AllocError>
+pub fn put_records<R: Record>(
+    out: &mut Vec<u8>,
+    level: Level,
+    records: &[R],
+) -> Result<(), AllocError>
     ensures { OnOk result (out.new.items ≡ out.old.items ++ section (R.numbers level) records.now) }
 {
     for record in records {
@@ -96,16 +100,18 @@ impl Record for Function {
     ghost of_numbers = { function_of };
 
     fn put(&self, level: Level, out: &mut Vec<u8>) -> Result<(), AllocError> {
-        let Self {
-            name_length,
-            first,
-            end,
-            frame,
-            entry,
-            saved,
-        } = *self;
-        put_numbers(out, &[name_length, first, end, frame, entry])?;
-        put_last(out, level.has_callers(), saved)
+        put_numbers(
+            out,
+            &[
+                self.name_length,
+                self.first,
+                self.end,
+                self.frame,
+                self.entry,
+            ],
+        )?;
+        put_last(out, level.has_callers(), self.saved)?;
+        Ok(())
     }
 
     fn take(table: &Table<'_>, row: usize) -> Function {

@@ -24,7 +24,11 @@ size_told bytes = behind (version_told bytes).level (count_told bytes) order
 -- The rules of the numbers that stand behind byte 64 of a header. Members stand only where structures may.
 abbrev pub long_checks : List ℕ → List Check
 long_checks bytes =
-    record { code = HEADER_NUMBERS; at = count_offset section.Members; kept = has_structures || count_told bytes section.Members == 0 }
+    record {
+      code = HEADER_NUMBERS;
+      at = count_offset section.Members;
+      kept = has_structures || count_told bytes section.Members == 0;
+    }
     ∷ record { code = HEADER_NUMBERS; at = 72; kept = number_at bytes 72 == 0 }
     ∷ record { code = HEADER_NUMBERS; at = 76; kept = number_at bytes 76 == 0 }
     ∷ []

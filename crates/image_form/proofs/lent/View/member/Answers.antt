@@ -1,0 +1,6 @@
+use Rattle.image_form.specs.Views.{viewed}
+use Rattle.image_form.proofs.Raw.{member_raw}
+use Rattle.image_form.proofs.lent.View.member.Goals as goal
+
+pub returns : goal.returns
+returns c = rw (c.number.ensures, c.number-2.ensures, c.number-3.ensures, c.number-4.ensures, c.number-5.ensures) (member_raw (viewed c.args.self.now) c.sections.result.now c.sections.ensures c.args.n c.requires)
