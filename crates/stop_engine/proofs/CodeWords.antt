@@ -24,7 +24,7 @@ word-back : (words : List ℕ) (k : ℕ) → AllFit words → k < length words �
 word-back words k fit lt =
     let at : 4 * k / 4 ≡ k = omega arith in
     let fits : get_or words k 0 < 4294967296 =
-        each_at (λ n. n < 4294967296) words k (get_or words k 0) fit (slice_get-get_or words k 0 lt) in
+    each_at (λ n. n < 4294967296) words k (get_or words k 0) fit (slice_get-get_or words k 0 lt) in
     ap (λ i. get_or words i 0) (sym at)
     ∙ word_is words (4 * k) (omega arith) (omega arith) (rw at fits)
     ∙ ap (λ bytes. word_in bytes (4 * k)) (sym (spelled-bytes words))

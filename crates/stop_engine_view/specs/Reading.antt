@@ -48,7 +48,7 @@ frames_from (suc n) m s place sp =
     place ∷ (if is_stack_address s sp && sp % 4 == 0
     then (if owner_of m (word (word_in s.stack (sp - stack_start s.map) + 4294967292)) == 0 then []
     else frames_from n m s (owner_of m (word (word_in s.stack (sp - stack_start s.map) + 4294967292)))
-        (word (sp + frame_of m place)))
+    (word (sp + frame_of m place)))
     else [])
 
 -- how many activations may be live: not to be computed with

@@ -25,8 +25,8 @@ returns c =
     let start : State = started m.version.map m.code m.initial c.args.input.now in
     let words = words-back m.code c.requires.fits.code in
     let machine : c.in_ok-load.field-0 ≡ start =
-        c.in_ok-load.ensures
-        ∙ (rw (c.version-regions.ensures, c.code_bytes.ensures, c.initial.ensures, words) refl) in
+    c.in_ok-load.ensures
+    ∙ (rw (c.version-regions.ensures, c.code_bytes.ensures, c.initial.ensures, words) refl) in
     let output = c.new-2.result.items in
     ap (λ (f : Form). run_state f limit limit Fresh c.in_ok-load.field-0 output) c.in_ok-new.ensures
     ∙ ap (λ (s : State). run_state m limit limit Fresh s output) machine
