@@ -1,8 +1,8 @@
 -- An image of few bytes has few records.
-use Rattle.std.proofs.Common.{ℕ, ◌+◌, ◌*◌, ◌^◌, ◌<◌, ◌≤◌, length, arith}
+use Rattle.std.proofs.Common.{◌+◌, ◌^◌, ◌<◌, ◌≤◌, length, arith}
 use Rattle.image_form_sections.specs.declared.section.Section.{Section}
 use Rattle.image_form_sections.specs.declared.section.Section.TheVariants.{Functions}
-use Rattle.image_form_sections.specs.Order.{record_size, start, behind, order}
+use Rattle.image_form_sections.specs.Order.{record_size, start}
 use Rattle.image_form_sections.specs.Versions.{header_size}
 use Rattle.image_form_sections.proofs.SectionLaws.{ends_inside, record_some, header_some, times_low}
 use Rattle.image_form.specs.Form.{Form}

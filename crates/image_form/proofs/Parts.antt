@@ -1,9 +1,9 @@
 -- Sections that lie one behind the other, in their order.
-use Rattle.std.proofs.Common.{◌≡◌, ℕ, zero, suc, ◌+◌, ◌*◌, ◌<◌, ◌≤◌, List, [], ◌∷◌, ◌++◌, length, take, drop, refl, sym, ap, ◌∙◌, append_assoc, arith}
+use Rattle.std.proofs.Common.{◌≡◌, ℕ, zero, suc, ◌+◌, ◌*◌, List, [], ◌∷◌, ◌++◌, length, take, drop, refl, sym, ap, ◌∙◌, append_assoc, arith}
 use Rattle.std.specs.Prelude.{sum_by}
 use Rattle.std.specs.List.{flat_map}
 use Rattle.std.proofs.lemmas.Grind.{flat_map-append}
-use Rattle.std.proofs.lemmas.List.{drop_at, drop-drop, length-append, take-append-drop}
+use Rattle.std.proofs.lemmas.List.{drop_at, drop-drop, length-append}
 use Rattle.std.proofs.lemmas.List.Concat.{flat_map-cons}
 use Rattle.std.proofs.lemmas.List.Sums.{sum_by-cons}
 use Rattle.std.proofs.Math.Seq.{take-add}
@@ -11,7 +11,7 @@ use Rattle.image_form_sections.specs.declared.section.Section.{Section}
 use Rattle.image_form_sections.specs.declared.version.Level.{Level}
 use Rattle.image_form_sections.specs.Order.{order, number_of, record_size, behind, start}
 use Rattle.image_form_sections.specs.Versions.{header_size}
-use Rattle.image_form_sections.proofs.SectionLaws.{stands, bytes_of, behind_one, behind_split}
+use Rattle.image_form_sections.proofs.SectionLaws.{stands, bytes_of, behind_one}
 
 module _ (level : Level) (count : Section → ℕ) (part : Section → List ℕ) where
   -- Parts of these sizes.

@@ -1,6 +1,5 @@
-use Rattle.std.proofs.Common.{◌≡◌, ◌+◌, ◌*◌, ◌-◌, ◌∙◌, ap, take, drop, length, arith}
+use Rattle.std.proofs.Common.{◌≡◌, ◌+◌, ◌*◌, ◌-◌, ◌∙◌, take, drop, length, arith}
 use Rattle.image_form.specs.Views.{viewed}
-use Rattle.image_form_sections.specs.Versions.{header_size}
 use Rattle.image_form.proofs.Got.{header_told, code_inside, code_spelled}
 use Rattle.image_form.proofs.lent.View.code_bytes.Goals as goal
 
